@@ -1,0 +1,9 @@
+pub mod DigitLemmas
+pub mod NumberLemmas
+pub mod HexLemmas
+pub mod EntryLineLemmas
+pub mod FieldLemmas
+pub mod LineOfLemmas
+pub mod AppendLemmas
+pub mod HeaderLemmas
+pub mod HashLemmas

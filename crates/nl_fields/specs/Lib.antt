@@ -1,0 +1,5 @@
+pub mod Digits
+pub mod Name
+pub mod EntryLine
+pub mod Header
+pub mod CommandHash

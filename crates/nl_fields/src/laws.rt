@@ -1,0 +1,54 @@
+//! What the definitions promise: each contract is a law, and each body is empty.
+ghost use Rattle.std.specs.Prelude.{◌≡◌, ◌↔◌, ℕ, ℤ, ◌+◌, ◌<◌, ◌≤◌, ◌^◌, List, length, Some, FitsSigned};
+ghost use Rattle.std.specs.Int.{w64};
+ghost use Rattle.nl_fields.specs.declared.entry.Entry.{Entry};
+ghost use Rattle.nl_fields.specs.declared.header.Header.{Header};
+ghost use Rattle.nl_fields.specs.Digits.{IsDigits, IsDecimal, digits_of, decimal_of};
+ghost use Rattle.nl_fields.specs.EntryLine.{IsEntry, IsEntryLine, line_of, entry_of, HasNoNewline};
+ghost use Rattle.nl_fields.specs.Header.{IsHeader, header_of};
+ghost use Rattle.nl_fields.specs.CommandHash.{IsHash, hash_of};
+
+/// A number has one decimal spelling, and a spelling one number.
+pub fn one_decimal()
+    ensures spelling { (n : ℤ) (k l : List ℕ) → IsDecimal n k → IsDecimal n l → k ≡ l }
+    ensures number { (m n : ℤ) (bytes : List ℕ) → IsDecimal m bytes → IsDecimal n bytes → m ≡ n }
+    ensures exists { (n : ℤ) → FitsSigned w64 n → IsDecimal n (decimal_of n) }
+{}
+
+/// A number has one hexadecimal spelling, and a spelling one number.
+pub fn one_hexadecimal()
+    ensures spelling { (n : ℕ) (k l : List ℕ) → IsDigits 16 n k → IsDigits 16 n l → k ≡ l }
+    ensures number { (m n : ℕ) (bytes : List ℕ) → IsDigits 16 m bytes → IsDigits 16 n bytes → m ≡ n }
+    ensures exists { (n : ℕ) → n < 2 ^ 64 → IsDigits 16 n (digits_of 16 n) }
+{}
+
+/// An entry has one line.
+pub fn one_line()
+    ensures line { (e : Entry) (k l : List ℕ) → IsEntryLine e k → IsEntryLine e l → k ≡ l }
+    ensures exists { (e : Entry) → IsEntry e → IsEntryLine e (line_of e) }
+    ensures reads_back { (e : Entry) → IsEntry e → entry_of (line_of e) ≡ Some e }
+{}
+
+/// A line is the line of one entry at most.
+pub fn one_entry()
+    ensures entry { (e f : Entry) (line : List ℕ) → IsEntryLine e line → IsEntryLine f line → e ≡ f }
+    ensures decides { (e : Entry) (line : List ℕ) → (entry_of line ≡ Some e) ↔ IsEntryLine e line }
+{}
+
+/// A line is short and stays one line.
+pub fn line_is_short()
+    ensures length { (e : Entry) (line : List ℕ) → IsEntryLine e line → length line + 1 ≤ 65599 }
+    ensures newline { (e : Entry) (line : List ℕ) → IsEntryLine e line → HasNoNewline line }
+{}
+
+/// A first line tells one thing.
+pub fn one_header()
+    ensures header { (line : List ℕ) (h k : Header) → IsHeader line h → IsHeader line k → h ≡ k }
+    ensures exists { (line : List ℕ) → IsHeader line (header_of line) }
+{}
+
+/// A command has one hash.
+pub fn one_hash()
+    ensures hash { (command : List ℕ) (h k : ℕ) → IsHash command h → IsHash command k → h ≡ k }
+    ensures exists { (command : List ℕ) → IsHash command (hash_of command) }
+{}

@@ -1,0 +1,24 @@
+//! Names, numbers, entry lines, first lines and command hashes of Ninja's build log.
+#![tactic(auto)]
+
+mod decimal;
+mod digits;
+mod entry;
+mod entry_line;
+mod hash;
+mod header;
+mod hex;
+pub mod laws;
+mod limits;
+mod name;
+#[cfg(test)]
+mod tests;
+
+pub use decimal::{read_i32, read_i64};
+pub use entry::{Entry, EntryRef};
+pub use entry_line::{append_entry, read_entry};
+pub use hash::command_hash;
+pub use header::{HEADER, Header, read_header};
+pub use hex::{append_hex64, read_hex64};
+pub use limits::{MAX_ENTRY_LINE, MAX_LINE, MAX_LOG, MAX_NAME};
+pub use name::{Name, NameFault, name_fault};

@@ -1,0 +1,177 @@
+//! What no clause says: values from outside, printed faults, and that each call succeeds.
+use super::*;
+use std::test::Fail;
+
+#[test]
+fn only_canonical_spellings_are_numbers(rt: HostRuntime) {
+    let rows: [(&[u8], Option<i32>, Option<i64>, Option<u64>); 14] = [
+        (b"", None, None, None),
+        (b"0", Some(0), Some(0), Some(0)),
+        (b"-0", None, None, None),
+        (b"+1", None, None, None),
+        (b"-", None, None, None),
+        (b"10", Some(10), Some(10), Some(16)),
+        (b"010", None, None, None),
+        (b"-2147483648", Some(-2147483648), Some(-2147483648), None),
+        (b"2147483648", None, Some(2147483648), Some(142929835592)),
+        (b"9223372036854775808", None, None, None),
+        (b"ab", None, None, Some(171)),
+        (b"AB", None, None, None),
+        (b"ffffffffffffffff", None, None, Some(18446744073709551615)),
+        (b"10000000000000000", None, Some(10000000000000000), None),
+    ];
+    for (text, small, wide, hash) in rows {
+        assert_eq!(rt; read_i32(text), small, "at {text:?}");
+        assert_eq!(rt; read_i64(text), wide, "at {text:?}");
+        assert_eq!(rt; read_hex64(text), hash, "at {text:?}");
+    }
+}
+
+#[test]
+fn commands_have_their_published_hashes(rt: HostRuntime) -> Result<(), Fail> {
+    let rows: [(&[u8], u64, &[u8]); 3] = [
+        (b"", 0x87c2bc0beaf1d91d, b"87c2bc0beaf1d91d"),
+        (b"cc\tx", 0x72274e7a30810c7b, b"72274e7a30810c7b"),
+        (b"\x01\0\0\0\0\0\0\0", 0x3a9d607d30e0111, b"3a9d607d30e0111"),
+    ];
+    for (command, hash, text) in rows {
+        assert_eq!(rt; command_hash(command), hash, "at {command:?}");
+        let mut out = Vec::new(rt.alloc());
+        append_hex64(hash, &mut out)?;
+        assert!(rt; out.as_slice() == text, "at {command:?}");
+    }
+    Ok(())
+}
+
+#[test]
+fn names_end_at_65536_bytes(rt: HostRuntime) -> Result<(), Fail> {
+    assert_eq!(rt; name_fault(b""), Some(NameFault::Empty));
+    assert_eq!(rt; name_fault(b"a\tb"), Some(NameFault::BadByte(1)));
+    assert_eq!(rt; name_fault(b"\xff\x80"), None);
+    let mut bytes = vec![in rt.alloc(); b'a'; 65_536]?;
+    assert_eq!(rt; name_fault(&bytes), None);
+    bytes.push(b'a')?;
+    assert_eq!(rt; name_fault(&bytes), Some(NameFault::TooLong));
+    let _ = bytes.pop();
+    bytes.push(b'\t')?;
+    assert_eq!(rt; name_fault(&bytes), Some(NameFault::BadByte(65_536)));
+    Ok(())
+}
+
+#[test]
+fn a_name_gives_its_bytes_back(rt: HostRuntime) -> Result<(), Fail> {
+    let name = Name::read(rt.alloc(), b"out/a.o")?;
+    let copy = name.copy(rt.alloc())?;
+    assert!(rt; copy.bytes() == b"out/a.o".as_slice());
+    let Ok(again) = Name::from_vec(name.into_vec()) else {
+        return Err("refused".into());
+    };
+    assert!(rt; again.bytes() == b"out/a.o".as_slice());
+    Ok(())
+}
+
+#[test]
+fn a_refused_vector_comes_back(rt: HostRuntime) -> Result<(), Fail> {
+    let bytes = b"a\nb".to_vec(rt.alloc())?;
+    let Err((bytes, fault)) = Name::from_vec(bytes) else {
+        return Err("accepted".into());
+    };
+    assert!(rt; bytes.as_slice() == b"a\nb".as_slice());
+    assert_eq!(rt; fault, NameFault::BadByte(1));
+    Ok(())
+}
+
+#[test]
+fn name_faults_print_what_is_wrong(rt: HostRuntime) -> Result<(), Fail> {
+    let rows = [
+        (NameFault::Empty, "empty name"),
+        (NameFault::BadByte(7), "bad byte in name at 7"),
+        (NameFault::TooLong, "name too long"),
+        (NameFault::OutOfMemory, "out of memory"),
+    ];
+    for (fault, text) in rows {
+        let printed = format!(in rt.alloc(); "{fault}")?;
+        assert!(rt; printed.as_str() == text);
+    }
+    Ok(())
+}
+
+#[test]
+fn first_lines_tell_the_version(rt: HostRuntime) -> Result<(), Fail> {
+    let rows: [(&[u8], Header); 9] = [
+        (b"# ninja log v5", Header::V5),
+        (b"# ninja log v6", Header::Other),
+        (b"# ninja log v4", Header::Other),
+        (b"# ninja log v05", Header::Other),
+        (b"# ninja log v", Header::NotALog),
+        (b"# ninja log v5 ", Header::NotALog),
+        (b"# ninja log v5\r", Header::NotALog),
+        (b"hello", Header::NotALog),
+        (b"", Header::NotALog),
+    ];
+    for (line, header) in rows {
+        assert_eq!(rt; read_header(line), header, "at {line:?}");
+    }
+    let mut long = vec![in rt.alloc(); b'1'; 262_130]?;
+    long.splice(0..0, b"# ninja log v".iter().copied())?;
+    assert_eq!(rt; long.len(), 262_143);
+    assert_eq!(rt; read_header(&long), Header::Other);
+    long.push(b'1')?;
+    assert_eq!(rt; read_header(&long), Header::NotALog);
+    assert!(rt; HEADER.as_slice() == b"# ninja log v5\n".as_slice());
+    Ok(())
+}
+
+#[test]
+fn entry_lines_are_written_as_they_were_read(rt: HostRuntime) -> Result<(), Fail> {
+    let lines: [&[u8]; 4] = [
+        b"1\t2\t3\ta\t72274e7a30810c7b",
+        b"0\t5\t1700000000000000000\tsp ace/\xff\t0",
+        b"-2147483648\t2147483647\t9223372036854775807\tmax\tffffffffffffffff",
+        b"2147483647\t-2147483648\t-9223372036854775808\tmin\t1",
+    ];
+    for line in lines {
+        let entry = Entry::of(rt.alloc(), &read_entry(line).ok_or("no entry")?)?;
+        let mut out = b"before".to_vec(rt.alloc())?;
+        append_entry(&entry.view(), &mut out)?;
+        assert!(rt;
+            out.strip_prefix(b"before".as_slice())
+                == Some([line, b"\n"].concat(rt.alloc())?.as_slice())
+        );
+    }
+    Ok(())
+}
+
+#[test]
+fn lines_in_another_form_are_no_entries(rt: HostRuntime) {
+    let lines: [&[u8]; 12] = [
+        b"",
+        b"1\t2\t3\tz",
+        b"1\t2\t3\tz\t1\t",
+        b"1\t2\t3\t\t1",
+        b"1\t2\t3\tz\0\t1",
+        b"007\t1\t1\to\ta",
+        b"-0\t1\t1\to\ta",
+        b" 1\t1\t1\to\ta",
+        b"1\t2147483648\t1\to\ta",
+        b"1\t1\t1\to\t00ab",
+        b"1\t1\t1\to\tAB",
+        b"1\t2\t3\tou4\t5\t6\tout\tab",
+    ];
+    for line in lines {
+        assert!(rt; read_entry(line).is_none(), "at {line:?}");
+    }
+}
+
+#[test]
+fn the_longest_entry_line_fits_its_room(rt: HostRuntime) -> Result<(), Fail> {
+    let name = vec![in rt.alloc(); b'n'; 65_536]?;
+    let entry = EntryRef::new(i32::MIN, i32::MIN, i64::MIN, &name, u64::MAX)?;
+    assert!(rt; entry.name() == name.as_slice());
+    let mut out = Vec::with_capacity(rt.alloc(), MAX_ENTRY_LINE)?;
+    append_entry(&entry, &mut out)?;
+    assert_eq!(rt; out.len(), 65_599);
+    assert_eq!(rt; out.capacity(), MAX_ENTRY_LINE);
+    assert_eq!(rt; (MAX_NAME, MAX_LINE, MAX_LOG), (65_536, 262_143, 1 << 40));
+    Ok(())
+}
