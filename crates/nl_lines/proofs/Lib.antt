@@ -1,0 +1,5 @@
+pub mod SplitLemmas
+pub mod LinesLemmas
+pub mod RunLemmas
+pub mod LimitLemmas
+pub mod WindowLemmas

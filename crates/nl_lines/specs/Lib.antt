@@ -1,0 +1,5 @@
+pub mod Source
+pub mod Split
+pub mod Lines
+pub mod Runs
+pub mod Window

@@ -1,0 +1,18 @@
+//! The lines of any source of bytes, through one window.
+#![tactic(auto)]
+
+pub mod laws;
+mod lines;
+mod pieces;
+mod read_source;
+mod slice_source;
+mod source;
+mod window;
+
+pub use lines::{Line, LineFault, Lines, MAX_LINE, MAX_LOG};
+pub use read_source::ReadSource;
+pub use slice_source::SliceSource;
+pub use source::{Source, SourceFault};
+
+#[cfg(test)]
+mod tests;

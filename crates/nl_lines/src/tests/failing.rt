@@ -1,0 +1,25 @@
+//! Readers that fail.
+use super::support::{FailingReader, PieceReader, expect_answers};
+use crate::{Line, LineFault, ReadSource, Source};
+use std::io::ErrorKind;
+use std::test::Fail;
+
+#[test]
+fn a_failed_read_is_no_end(rt: HostRuntime) -> Result<(), Fail> {
+    let wanted = [
+        Ok(Some(Line::Whole(b"# ninja log v5"))),
+        Err(LineFault::Read),
+        Err(LineFault::Failed),
+        Err(LineFault::Failed),
+    ];
+    for kind in [ErrorKind::Other, ErrorKind::Interrupted] {
+        for size in [1, 2, 3, 7, 16] {
+            let rest = b"# ninja log v5\n1";
+            let pieces = PieceReader { rest, size };
+            let mut source = ReadSource::new(FailingReader { pieces, kind });
+            expect_answers(&rt, rt.alloc(), &mut source, &wanted, 15)?;
+            assert_eq!(rt; source.failures(), 1);
+        }
+    }
+    Ok(())
+}
