@@ -1,0 +1,9 @@
+pub mod History
+pub mod Order
+pub mod Table
+pub mod Stamps
+pub mod Due
+pub mod LogUser
+pub mod Log
+pub mod Loading
+pub mod LoadSteps

@@ -1,0 +1,17 @@
+//! The last entry of each output, in the order in which each output first appears.
+#![tactic(auto)]
+
+mod due;
+pub mod laws;
+mod limits;
+mod loader;
+mod log_user;
+mod table;
+
+pub use due::is_due;
+pub use loader::{LoadFault, Loaded, load};
+pub use log_user::{KeepAll, KeepList, LogUser};
+pub use table::Table;
+
+#[cfg(test)]
+mod tests;
