@@ -1,0 +1,4 @@
+pub mod CallLemmas
+pub mod ImageLemmas
+mod MemFolderLemmas
+mod CallerLemmas

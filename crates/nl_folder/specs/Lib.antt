@@ -1,0 +1,10 @@
+pub mod DiskState
+pub mod CrashImages
+pub mod Calls
+pub mod Fuse
+pub mod Amounts
+pub mod Choices
+pub mod MemFile
+pub mod MemFolder
+pub mod LogReader
+pub mod Callers

@@ -1,0 +1,93 @@
+//! What a folder in memory is told: which call fails, and how much a write, a failure and a crash leave.
+ghost use Rattle.std.specs.Prelude.{◌≡◌, ◌≤◌, List, ℕ, length, drop, slice_get};
+ghost use Rattle.nl_folder.specs.Amounts.{amount_of, kept_len};
+
+use crate::fuse::burn;
+use crate::{Call, Fuse};
+use std::marker::Model;
+
+/// Numbers that are used up from the front.
+#[derive(Drop)]
+pub struct Numbers {
+    all: Vec<u64>,
+    next: usize,
+}
+
+impl Model for Numbers {
+    ghost Value = { List ℕ };
+
+    ghost view = { λ n. drop n.next n.all.items };
+
+    ghost invariant = { λ n. n.next ≤ length n.all.items };
+}
+
+impl Numbers {
+    pub fn new(all: Vec<u64>) -> Self
+        ensures { result ≡ all.items }
+    {
+        Numbers { all, next: 0 }
+    }
+
+    /// The number that is taken next.
+    pub fn first(&self) -> Option<u64>
+        ensures { result ≡ slice_get self.now 0 }
+    {
+        if self.next < self.all.len() {
+            Some(self.all[self.next])
+        } else {
+            None
+        }
+    }
+
+    /// Takes a number, where one is left.
+    pub fn advance(&mut self)
+        ensures { self.new ≡ drop 1 self.old }
+    {
+        if self.next < self.all.len() {
+            self.next += 1;
+        }
+    }
+}
+
+/// What is left of what a folder was told.
+#[derive(Drop)]
+pub struct Choices {
+    pub writes: Numbers,
+    pub fates: Numbers,
+    pub fuse: Option<Fuse>,
+    /// Of the two files that a crash may leave, the other one was the scratch, and else the log.
+    pub other_was_scratch: bool,
+}
+
+impl Choices {
+    ghost use Rattle.nl_folder.specs.Fuse.{fails_at};
+    ghost use Rattle.nl_folder.specs.Choices.{counted};
+
+    /// Counts a call, and answers whether it fails.
+    pub fn count(&mut self, call: Call) -> bool
+        ensures fails { result ≡ fails_at self.old.fuse call }
+        ensures counted { self.new ≡ counted call self.old }
+    {
+        burn(&mut self.fuse, call)
+    }
+}
+
+/// How many bytes are added: as many as the number says, between `least` and `most`.
+pub fn amount(number: Option<u64>, least: u64, most: usize) -> usize
+    ensures { result ≡ amount_of number least most }
+{
+    match number {
+        Some(number) => number.max(least).min(most as u64) as usize,
+        None => most,
+    }
+}
+
+/// How long a text of `old` bytes stays: `len` bytes and as many more as the number says.
+pub fn kept(number: Option<u64>, len: u64, old: usize) -> usize
+    ensures { result ≡ kept_len number len old }
+{
+    match number {
+        Some(number) => len.saturating_add(number).min(old as u64) as usize,
+        None => old,
+    }
+}

@@ -1,0 +1,51 @@
+//! The laws of crash images. Each is the contract of a function that does nothing.
+ghost use Rattle.std.specs.Prelude.{◌≡◌, ◌⊎◌, ◌≤◌, ℕ, List, None, Result, length};
+ghost use Rattle.nl_lines.specs.Lines.{max_log};
+ghost use Rattle.nl_folder.specs.DiskState.{Disk, File, IsPrefix, at_rest};
+ghost use Rattle.nl_folder.specs.CrashImages.{IsDisk, IsImage, IsImageOf};
+ghost use Rattle.nl_folder.specs.Calls.{log_grown, log_cut, log_synced, replaced, not_replaced, AppendsLog, CutsLog, SyncsLog, AppendsScratch, SyncsScratch, Replaces, Crashes};
+ghost use Rattle.nl_folder.specs.declared.folder.Fault.{Fault};
+
+/// A crash may leave what a read gives.
+pub fn what_a_read_gives_is_an_image()
+    ensures { (disk : Disk) → IsDisk disk → IsImage disk disk.visible }
+{}
+
+/// No image is longer than a log may be, and none of the other file is.
+pub fn every_image_is_within_the_limit()
+    ensures { (disk : Disk) (bs : List ℕ) → IsDisk disk → IsImage disk bs → length bs ≤ max_log }
+{}
+
+/// After a sync a crash leaves what a read gave, and nothing else.
+pub fn a_synced_log_has_one_image()
+    ensures { (disk : Disk) (bs : List ℕ) → IsImage (log_synced disk) bs → bs ≡ disk.visible }
+{}
+
+/// After an append a crash may leave a prefix of the new text that has the durable bytes, and of no other text.
+pub fn an_image_after_an_append_is_a_prefix()
+    ensures { (disk : Disk) (n : ℕ) (bytes bs : List ℕ) → disk.other ≡ None → IsImage (log_grown n bytes disk) bs
+        → IsPrefix bs (log_grown n bytes disk).visible × (disk.log.durable_len ≤ length bs) }
+{}
+
+/// After a cut a crash may leave what it could leave before, and prefixes of that from the cut on.
+pub fn an_image_after_a_cut_has_the_bytes_before_it()
+    ensures { (disk : Disk) (n kept : ℕ) (bs : List ℕ) → disk.other ≡ None → n ≤ disk.log.durable_len
+        → IsImage (log_cut n kept disk) bs → IsPrefix bs disk.log.longest × (n ≤ length bs) }
+{}
+
+/// After a replacement, and after one that failed, a crash may leave the scratch or the old log, each within its own lengths.
+pub fn a_replacement_leaves_either_file()
+    ensures { (disk : Disk) (bs : List ℕ) → IsImage (replaced disk) bs ⊎ IsImage (not_replaced disk) bs
+        → IsImageOf disk.scratch bs ⊎ IsImageOf disk.log bs }
+{}
+
+/// A folder without a record meets every row, whatever it answers.
+pub fn nothing_is_said_of_a_folder_without_a_record()
+    ensures appends { (bytes : List ℕ) (answer : Result ℕ Fault) → AppendsLog bytes answer None None }
+    ensures cuts { (n : ℕ) (answer : Result Unit Fault) → CutsLog n answer None None }
+    ensures syncs { (answer : Result Unit Fault) → SyncsLog answer None None }
+    ensures appends_scratch { (bytes : List ℕ) (answer : Result ℕ Fault) → AppendsScratch bytes answer None None }
+    ensures syncs_scratch { (answer : Result Unit Fault) → SyncsScratch answer None None }
+    ensures replaces { (answer : Result Unit Fault) → Replaces answer None None }
+    ensures crashes { Crashes None None }
+{}

@@ -1,0 +1,19 @@
+//! A folder with a log and a scratch, what a crash may leave of it, and one in memory that crashes as it is told.
+#![tactic(auto)]
+
+mod callers;
+mod choices;
+mod folder;
+mod fuse;
+pub mod laws;
+mod log_reader;
+mod mem_file;
+mod mem_folder;
+
+pub use folder::{Crashable, Fault, Folder};
+pub use fuse::{Call, Fuse};
+pub use log_reader::LogReader;
+pub use mem_folder::MemFolder;
+
+#[cfg(test)]
+mod tests;
