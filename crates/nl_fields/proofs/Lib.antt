@@ -1,3 +1,4 @@
+pub mod SearchLemmas
 pub mod DigitLemmas
 pub mod NumberLemmas
 pub mod HexLemmas

@@ -2,17 +2,16 @@
 ghost use Rattle.std.specs.Prelude.{◌≡◌, ℕ, ◌^◌, ◌≤◌, ◌<◌, IfSome, Some};
 ghost use Rattle.nl_fields.specs.Digits.{IsDigit, IsDigits, IsNext};
 
+// The letters come behind all digits, so one test sets them apart, which costs no branch.
 fn digit_value(digit: u8, base: u64) -> Option<u64>
     requires { base ≤ 16 }
     ensures value { IfSome result (λ d. IsDigit base d digit) }
     ensures accepts { (d : ℕ) → IsDigit base d digit → result ≡ Some d }
 {
-    let value = match digit {
-        b'0'..=b'9' => (digit - b'0') as u64,
-        b'a'..=b'f' => (digit - b'a') as u64 + 10,
-        _ => return None,
-    };
-    if value < base { Some(value) } else { None }
+    let zero: u8 = if digit < b'a' { b'0' } else { b'a' - 10 };
+    let limit = if digit < b'a' { base.min(10) } else { base };
+    let value = u64::from(digit.wrapping_sub(zero));
+    if value < limit { Some(value) } else { None }
 }
 
 // Nothing follows a leading zero.

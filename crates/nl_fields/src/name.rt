@@ -3,6 +3,7 @@ ghost use Rattle.std.specs.Prelude.{◌≡◌, ◌≢◌, ◌↔◌, List, ℕ, 
 ghost use Rattle.nl_fields.specs.Name.{HasFault, IsName, is_forbidden};
 
 use crate::limits::MAX_NAME;
+use memchr::memchr3;
 use std::alloc::{AllocError, Global};
 use std::marker::Model;
 use thiserror::Error;
@@ -34,16 +35,10 @@ impl Model for Name {
     ghost invariant = { λ name. IsName name.bytes.items };
 }
 
-fn is_forbidden(byte: u8) -> bool
-    ensures { result ≡ is_forbidden byte }
-{
-    matches!(byte, 0 | b'\t' | b'\n')
-}
-
 fn first_forbidden(bytes: &[u8]) -> Option<usize>
     ensures { result ≡ position is_forbidden bytes.now }
 {
-    bytes.iter().position(|byte| is_forbidden(*byte))
+    memchr3(0, b'\t', b'\n', bytes)
 }
 
 /// What is wrong with the bytes as a name; never want of memory.
