@@ -1,0 +1,111 @@
+//! First lines that are refused, by a reader and in a file.
+use nl_tool::{ToolFault, Words, check_to, run, show_to, status_of};
+use std::fs;
+use std::test::Fail;
+
+const REFUSED: [(&[u8], ToolFault, &str); 6] = [
+    (
+        b"# ninja log v6\n",
+        ToolFault::OtherVersion,
+        "log version not supported",
+    ),
+    (
+        b"# ninja log v05\n",
+        ToolFault::OtherVersion,
+        "log version not supported",
+    ),
+    (b"hello", ToolFault::NotALog, "not a ninja log"),
+    (b"\n", ToolFault::NotALog, "not a ninja log"),
+    (b"# ninja log v5 \n", ToolFault::NotALog, "not a ninja log"),
+    (b"# ninja log v6", ToolFault::NotALog, "not a ninja log"),
+];
+
+#[test]
+fn a_first_line_that_is_refused_prints_nothing(rt: HostRuntime) -> Result<(), Fail> {
+    let alloc = rt.alloc();
+    for (log, fault, text) in REFUSED {
+        let mut out = Vec::new(alloc);
+        assert!(rt;
+            show_to(alloc, log, &mut out) == Err(fault),
+            "show of {log:?}"
+        );
+        assert!(rt;
+            check_to(alloc, log, &mut out) == Err(fault),
+            "check of {log:?}"
+        );
+        assert!(rt; out.is_empty(), "at {log:?}");
+        assert!(rt; fault.to_string(alloc)?.as_str() == text, "at {log:?}");
+        assert!(rt; status_of(&fault) == 1, "at {log:?}");
+    }
+    Ok(())
+}
+
+#[test]
+fn a_file_that_is_refused_stays_as_it_is(rt: HostRuntime) -> Result<(), Fail> {
+    let alloc = rt.alloc();
+    for (log, fault, _) in REFUSED {
+        fs::write(&rt, "refused.log", log)?;
+        for words in [
+            Words::Show(Some("refused.log")),
+            Words::Check(Some("refused.log")),
+        ] {
+            assert!(rt; run(&rt, alloc, &words) == Err(fault), "at {log:?}");
+            assert!(rt;
+                fs::read(&rt, "refused.log")?.as_slice() == log,
+                "at {log:?}"
+            );
+        }
+    }
+    fs::remove_file(&rt, "refused.log")?;
+    Ok(())
+}
+
+#[test]
+fn a_missing_log_is_read_and_one_that_cannot_be_opened_is_not(rt: HostRuntime) -> Result<(), Fail> {
+    let alloc = rt.alloc();
+    let _ = fs::create_dir(&rt, "folder");
+    fs::write(&rt, "file", "# ninja log v5\n")?;
+    let cases = [
+        ("missing.log", Ok(())),
+        ("", Ok(())),
+        ("file", Ok(())),
+        ("folder", Err(ToolFault::Read)),
+        ("file/log", Err(ToolFault::Read)),
+    ];
+    for (path, wanted) in cases {
+        for words in [Words::Show(Some(path)), Words::Check(Some(path))] {
+            assert!(rt; run(&rt, alloc, &words) == wanted, "at {path}");
+        }
+    }
+    assert!(rt; fs::read(&rt, "missing.log").is_err());
+    fs::remove_file(&rt, "file")?;
+    fs::remove_dir(&rt, "folder")?;
+    Ok(())
+}
+
+#[test]
+fn a_command_that_is_only_named_is_not_there_yet(rt: HostRuntime) {
+    let record = Words::Record {
+        log: "named.log",
+        start: "1",
+        end: "2",
+        mtime: "3",
+        name: "n",
+        command: "c",
+    };
+    let recompact = Words::Recompact {
+        log: "named.log",
+        keep: "k",
+    };
+    let restat = Words::Restat {
+        log: "named.log",
+        times: "t",
+    };
+    for words in [record, recompact, restat, Words::Replay(None)] {
+        assert!(rt;
+            run(&rt, rt.alloc(), &words) == Err(ToolFault::NotYet),
+            "{words:?}"
+        );
+    }
+    assert!(rt; fs::read(&rt, "named.log").is_err());
+}

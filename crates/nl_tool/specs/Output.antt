@@ -1,0 +1,67 @@
+-- What the commands print (docs/CLI.md), and what a writer holds after them.
+use Rattle.std.specs.Prelude.{◌≡◌, ◌<◌, ◌++◌, ◌∷◌, [], Bool, List, ℕ, Option, None, Some, IfSome, Result, Ok, Err, codes, decimal, if◌then◌else◌, length, map}
+use Rattle.std.specs.Io.KnownBytes.{Appends, Keeps}
+use Rattle.nl_fields.specs.CommandHash.{IsHash}
+use Rattle.nl_fields.specs.Digits.{digits_of}
+use Rattle.nl_fields.specs.EntryLine.{line_of}
+use Rattle.nl_lines.specs.Split.{joined, torn_len}
+use Rattle.nl_table.specs.Due.{is_due}
+use Rattle.nl_table.specs.History.{logged, table}
+use Rattle.nl_table.specs.Log.{LogReading, Log, NotALog, OtherVersion, log_of, skipped_count}
+use Rattle.nl_tool.specs.declared.fault.ToolFault.{ToolFault}
+use Rattle.nl_tool.specs.declared.fault.ToolFault.TheVariants.{Write}
+
+-- known bytes grew by a prefix of the text, maybe an empty one, and the rest, which isn't empty, is missing
+pub record AppendsPrefixOf (old new : Option (List ℕ)) (text : List ℕ) : Type 0 where
+  pub prefix : List ℕ
+  pub rest : List ℕ
+  pub is : text ≡ prefix ++ rest
+  pub missing : 0 < length rest
+  pub appended : Appends old new prefix
+
+-- what a writer holds after a command that writes a text: on Ok all of it, after a failed write a part of it, else nothing more
+abbrev pub Prints : (List ℕ → Type 0) → Option (List ℕ) → Option (List ℕ) → Result (Unit {0}) ToolFault → Type 0
+Prints IsText old new (Ok done) = (text : List ℕ) × IsText text × Appends old new text
+Prints IsText old new (Err Write) = (text : List ℕ) × IsText text × AppendsPrefixOf old new text
+Prints IsText old new (Err fault) = Keeps old new
+
+-- the text of `hash`: the hash in its one spelling, and a newline
+pub record IsHashText (command text : List ℕ) : Type 0 where
+  pub hash : ℕ
+  pub is_hash : IsHash command hash
+  pub is : text ≡ digits_of 16 hash ++ 10 ∷ []
+
+-- the text of `show`: the line of each entry of the table, in order; none where there is no log
+abbrev pub shown_of : LogReading → Option (List ℕ)
+shown_of (Log version entries) = Some (joined (map line_of (table (logged version entries))))
+shown_of OtherVersion = None
+shown_of NotALog = None
+
+abbrev pub shown : List ℕ → Option (List ℕ)
+shown bytes = shown_of (log_of bytes)
+
+abbrev pub yes_or_no : Bool → List ℕ
+yes_or_no b = if b then codes "yes" else codes "no"
+
+-- six lines, each a key and a value
+abbrev pub report_lines : ℕ → ℕ → ℕ → ℕ → ℕ → List ℕ → List ℕ
+report_lines version total unique skipped torn due = codes "version " ++ decimal version ++ codes "\ntotal " ++ decimal total
+    ++ codes "\nunique " ++ decimal unique ++ codes "\nskipped " ++ decimal skipped ++ codes "\ntorn " ++ decimal torn
+    ++ codes "\ndue " ++ due ++ codes "\n"
+
+-- the six lines of `check`, by the counts
+abbrev pub report : ℕ → ℕ → ℕ → ℕ → ℕ → List ℕ
+report version total unique skipped torn = report_lines version total unique skipped torn (yes_or_no (is_due version total unique))
+
+-- the text of `check`, by the numbers of skipped lines and of torn bytes; none where there is no log
+abbrev pub checked_of : ℕ → ℕ → LogReading → Option (List ℕ)
+checked_of skipped torn (Log version entries) = Some (report version (length entries) (length (table (logged version entries))) skipped torn)
+checked_of skipped torn OtherVersion = None
+checked_of skipped torn NotALog = None
+
+abbrev pub checked : List ℕ → Option (List ℕ)
+checked bytes = checked_of (skipped_count bytes) (torn_len bytes) (log_of bytes)
+
+-- the text that the known bytes of a reader have
+abbrev pub IsTextFor : (List ℕ → Option (List ℕ)) → Option (List ℕ) → List ℕ → Type 0
+IsTextFor text_of known text = IfSome known (λ bytes. text_of bytes ≡ Some text)

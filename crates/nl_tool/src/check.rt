@@ -1,0 +1,53 @@
+//! The command `check`.
+ghost use Rattle.std.specs.Prelude.{◌≡◌, length, string_bytes, IfErr, IfOk, IfSome, IsErrOf};
+ghost use Rattle.nl_table.specs.Log.{log_of, NotALog, OtherVersion};
+ghost use Rattle.nl_tool.specs.Faults.{IsLogFault};
+ghost use Rattle.nl_tool.specs.Output.{checked, report, yes_or_no, IsTextFor, Prints};
+
+use crate::fault::ToolFault;
+use crate::loading::load_all;
+use crate::output::write_out;
+use nl_table::{Loaded, is_due};
+use std::alloc::{AllocError, Global};
+use std::io::{Read, Write};
+
+/// Writes six lines on the log that the reader gives: its version, how many entry lines, outputs, skipped lines and
+/// torn bytes it has, and whether it is due for recompaction.
+pub fn check_to<R: Read + Drop, W: Write>(
+    alloc: Global,
+    reader: R,
+    writer: &mut W,
+) -> Result<(), ToolFault>
+    ensures prints { Prints (IsTextFor checked (R.remaining reader)) (W.contents writer.old) (W.contents writer.new) result }
+    ensures not_a_log { IsErrOf result ToolFault.NotALog → IfSome (R.remaining reader) (λ bs. log_of bs ≡ NotALog) }
+    ensures other_version { IsErrOf result ToolFault.OtherVersion → IfSome (R.remaining reader) (λ bs. log_of bs ≡ OtherVersion) }
+    ensures faults { IfErr result IsLogFault }
+{
+    let loaded = load_all(alloc, reader)?;
+    let text = report_text(alloc, &loaded)?;
+    write_out(text.as_bytes(), writer)
+}
+
+fn report_text(alloc: Global, loaded: &Loaded) -> Result<String, AllocError>
+    ensures { IfOk result (λ text. string_bytes text
+        ≡ report loaded.now.version loaded.now.total (length loaded.now.table) loaded.now.skipped loaded.now.torn) }
+{
+    let Loaded {
+        version,
+        total,
+        skipped,
+        torn,
+        ..
+    } = loaded;
+    let unique = loaded.table.len() as u64;
+    let due = yes_or_no(is_due(*version, *total, unique));
+    format!(in alloc;
+        "version {version}\ntotal {total}\nunique {unique}\nskipped {skipped}\ntorn {torn}\ndue {due}\n"
+    )
+}
+
+fn yes_or_no(yes: bool) -> &'static str
+    ensures { result.now ≡ yes_or_no yes }
+{
+    if yes { "yes" } else { "no" }
+}

@@ -1,0 +1,17 @@
+//! The commands of `nlog`, each over any reader and writer.
+#![tactic(auto)]
+
+mod check;
+mod fault;
+mod hash;
+mod loading;
+mod output;
+mod program;
+mod show;
+
+pub use check::check_to;
+pub use fault::{ToolFault, status_of};
+pub use hash::hash_to;
+pub use nl_words::{Words, read_words};
+pub use program::run;
+pub use show::show_to;

@@ -1,0 +1,23 @@
+//! Loading the log that a reader gives.
+ghost use Rattle.std.specs.Prelude.{◌≡◌, IfErr, IfOk, IfSome, IsErrOf};
+ghost use Rattle.nl_table.specs.Log.{log_of, NotALog, OtherVersion};
+ghost use Rattle.nl_table.specs.Loading.{IsLoadOf};
+ghost use Rattle.nl_tool.specs.Faults.{IsLogFault};
+
+use crate::fault::ToolFault;
+use nl_lines::ReadSource;
+use nl_table::{Loaded, load};
+use std::alloc::Global;
+use std::io::Read;
+
+/// The table and the counts of the bytes that the reader has left.
+pub fn load_all<R: Read + Drop>(alloc: Global, reader: R) -> Result<Loaded, ToolFault>
+    ensures loaded { IfOk result (λ l. IfSome (R.remaining reader) (λ bs. IsLoadOf bs l)) }
+    ensures not_a_log { IsErrOf result ToolFault.NotALog → IfSome (R.remaining reader) (λ bs. log_of bs ≡ NotALog) }
+    ensures other_version { IsErrOf result ToolFault.OtherVersion → IfSome (R.remaining reader) (λ bs. log_of bs ≡ OtherVersion) }
+    ensures faults { IfErr result IsLogFault }
+    ensures write { IsErrOf result ToolFault.Write → ⊥ }
+{
+    let mut source = ReadSource::new(reader);
+    Ok(load(alloc, &mut source)?)
+}

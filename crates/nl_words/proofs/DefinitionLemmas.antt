@@ -1,0 +1,114 @@
+-- The program as a simple command: that it is one, and what the commands that it enters have.
+use Rattle.std.proofs.Common.{◌≡◌, ◌∙◌, Bool, true, false, List, [], ◌∷◌, Option, Some, None, option_map, refl, inl, inr, cond, codes, is_some, subst, sym, Result, Ok, Err, IsErrAnd, ap₂}
+use Rattle.std.specs.Prelude.{IfSome}
+use Rattle.std.specs.List.{find, list_all}
+use Rattle.std.specs.Option.{option_map_or}
+use Rattle.clap.specs.Words.{App, Row, Shape, Text, FailsBy, HasKind, Kinds, built, fault_of, first_of, is_simple, is_simple_and_free, subcommand_of, with_subcommand}
+use Rattle.clap.specs.Faults.{entered_fault, level_fault, walk_fault}
+use Rattle.clap.specs.Simple.{argument_words, entered, label_of, names_of, rows_at}
+use Rattle.clap.specs.declared.error.Error.{Error}
+use Rattle.clap.specs.Walk.{answers_to, nothing_held, stop_after, walk_from}
+use Rattle.clap.proofs.OnLiterals.{clap_on_literals}
+use Rattle.clap.proofs.WalkLemmas.{both}
+use Rattle.nl_words.specs.CommandLine.{HasEach, IsCommandName, IsWhole, nlog, required_of}
+use Rattle.nl_words.proofs.FullLemmas.{is_plain_rule}
+use Rattle.nl_words.proofs.RequiredLemmas.{has_required, level_required, none_fails}
+
+pub nlog_is_simple : is_simple nlog ≡ true
+unfolding clap_on_literals
+nlog_is_simple = refl
+
+pub nlog_is_free : is_simple_and_free nlog ≡ true
+unfolding clap_on_literals
+nlog_is_free = refl
+
+-- what is known of one of the program's commands, as clap built it
+record IsOwn (s : Shape) : Type 0 where
+  named : IsCommandName s.name
+  plain : list_all is_plain_rule s.rules ≡ true
+  negates : s.subcommand_negates_reqs ≡ false
+  needs : (rows : List Row) → has_required s.rules rows ≡ true → list_all (λ id. is_some (first_of id rows)) (required_of s.name) ≡ true
+
+abbrev AllOwn : List Shape → Type 0
+AllOwn [] = Unit {0}
+AllOwn (s ∷ ss) = IsOwn s × AllOwn ss
+
+found_own : (p : Shape → Bool) (ss : List Shape) → AllOwn ss → IfSome (find p ss) IsOwn
+found_own p [] h = tt
+found_own p (s ∷ ss) h = elim (p s) as (λ b. IfSome (cond b (Some s) (find p ss)) IsOwn) [ true ↦ h.0 | false ↦ found_own p ss h.1 ]
+
+each_there : (ids : List Text) (rows : List Row) → list_all (λ id. is_some (first_of id rows)) ids ≡ true → HasEach ids rows
+each_there [] rows e = tt
+each_there (id ∷ ids) rows e =
+    let parts = both (is_some (first_of id rows)) _ e in
+    (parts.0, each_there ids rows parts.1)
+
+-- what a parse without a fault entered
+entered_whole : (a : App) (stop : Option (Text × List Text)) → AllOwn a.subs → entered_fault a stop ≡ [] → IsWhole (entered a stop)
+entered_whole a None own e = tt
+entered_whole a (Some p) own e = go (find (λ s. answers_to p.0 (label_of s)) a.subs) (found_own _ a.subs own) e
+  where
+    go : (o : Option Shape) → IfSome o IsOwn → option_map_or (λ s. level_fault s [] nothing_held p.1 false []) o [] ≡ [] → IsWhole (option_map (λ s. rows_at s p.1) o)
+    go None own e = tt
+    go (Some s) own e =
+        let there = level_required s p.1 own.plain own.negates e in
+        (own.named, each_there (required_of s.name) _ (own.needs _ there))
+
+built_own : AllOwn (built nlog).subs
+unfolding clap_on_literals
+built_own = (
+  record { named = inl refl; plain = refl; negates = refl; needs = λ rows h. refl },
+  (
+    record { named = inr (inl refl); plain = refl; negates = refl; needs = λ rows h. refl },
+    (
+      record { named = inr (inr (inl refl)); plain = refl; negates = refl; needs = λ rows h. h },
+      (
+        record { named = inr (inr (inr (inl refl))); plain = refl; negates = refl; needs = λ rows h. h },
+        (
+          record { named = inr (inr (inr (inr (inl refl)))); plain = refl; negates = refl; needs = λ rows h. h },
+          (
+            record { named = inr (inr (inr (inr (inr (inl refl))))); plain = refl; negates = refl; needs = λ rows h. h },
+            (
+              record { named = inr (inr (inr (inr (inr (inr refl))))); plain = refl; negates = refl; needs = λ rows h. refl },
+              tt,
+            ),
+          ),
+        ),
+      ),
+    ),
+  ),
+)
+
+-- a command that was entered without a fault is one of the program's, and has what it requires
+pub nlog_whole : (words : List Text) → fault_of nlog words ≡ [] → IsWhole (subcommand_of nlog words)
+nlog_whole words e =
+    let top = (built nlog).top in
+    let names = names_of (built nlog) in
+    let given = argument_words nlog words in
+    let stop = stop_after top.rules names given in
+    let below = none_fails (walk_fault top names (walk_from nothing_held) given) _ e in
+    entered_whole (built nlog) stop built_own (none_fails (entered_fault (built nlog) stop) _ below.1).0
+
+-- the name is that of the one command which is not ruled out
+pub only_show : (name : Text) → IsCommandName name → (name ≡ codes "check" → ⊥) → (name ≡ codes "hash" → ⊥)
+    → (name ≡ codes "record" → ⊥) → (name ≡ codes "recompact" → ⊥) → (name ≡ codes "restat" → ⊥)
+    → (name ≡ codes "replay" → ⊥) → name ≡ codes "show"
+only_show name (inl h) a b c d e f = h
+only_show name (inr (inl h)) a b c d e f = absurd (a h)
+only_show name (inr (inr (inl h))) a b c d e f = absurd (b h)
+only_show name (inr (inr (inr (inl h)))) a b c d e f = absurd (c h)
+only_show name (inr (inr (inr (inr (inl h))))) a b c d e f = absurd (d h)
+only_show name (inr (inr (inr (inr (inr (inl h)))))) a b c d e f = absurd (e h)
+only_show name (inr (inr (inr (inr (inr (inr h)))))) a b c d e f = absurd (f h)
+
+-- an error that is passed on has the kind that it had
+pub fails_on : {T : Type 0} (r : Result T Error) (e : Error) (kinds : Kinds) → IsErrAnd r (λ x. x ≡ e)
+    → HasKind kinds e → FailsBy kinds r
+fails_on (Ok x) e kinds h k = absurd h
+fails_on (Err x) e kinds h k = subst (HasKind kinds) (sym h) k
+
+-- a command that was made by adding one to another, each by its name
+pub joined : (new old named sub sub_named : App) → new ≡ with_subcommand old sub.top → old ≡ named
+    → sub ≡ sub_named → new ≡ with_subcommand named sub_named.top
+joined new old named sub sub_named e f g =
+    e ∙ ap₂ (λ (x y : App). with_subcommand x y.top) f g

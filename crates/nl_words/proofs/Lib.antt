@@ -1,0 +1,4 @@
+pub mod ValueLemmas
+pub mod FullLemmas
+pub mod RequiredLemmas
+pub mod DefinitionLemmas

@@ -1,0 +1,119 @@
+-- The words of the program, as a simple command of `clap`, and the command that they name.
+use Rattle.std.specs.Prelude.{◌≡◌, ◌⊎◌, ⊤, List, [], Bool, true, false, Option, Some, None, codes, is_some, option_map, ◌∷◌, if◌then◌else◌}
+use Rattle.std.specs.Str.{bytes_eq}
+use Rattle.clap.specs.Words.{App, Row, Rule, Text, first_of, new_app, new_rule, with_rule, with_subcommand}
+use Rattle.nl_words.specs.declared.command_line.Words.{Words}
+use Rattle.nl_words.specs.declared.command_line.Words.TheVariants.{Show, Check, Hash, Record, Recompact, Restat, Replay}
+use Rattle.std.specs.Borrow.{Bor}
+
+-- a value that stands by its place
+abbrev pub positional : Text → Bool → Rule
+positional id required = record (new_rule id) { required = required }
+
+abbrev pub show : App
+show = with_rule (new_app (codes "show")) (positional (codes "LOG") false)
+
+abbrev pub check : App
+check = with_rule (new_app (codes "check")) (positional (codes "LOG") false)
+
+abbrev pub hash : App
+hash = with_rule (new_app (codes "hash")) (positional (codes "COMMAND") true)
+
+abbrev pub record_line : App
+record_line = with_rule (with_rule (with_rule (with_rule (with_rule (with_rule
+    (new_app (codes "record"))
+    (positional (codes "LOG") true))
+    (positional (codes "START") true))
+    (positional (codes "END") true))
+    (positional (codes "MTIME") true))
+    (positional (codes "NAME") true))
+    (positional (codes "COMMAND") true)
+
+abbrev pub recompact : App
+recompact = with_rule (with_rule (new_app (codes "recompact"))
+    (positional (codes "LOG") true))
+    (positional (codes "KEEP") true)
+
+abbrev pub restat : App
+restat = with_rule (with_rule (new_app (codes "restat"))
+    (positional (codes "LOG") true))
+    (positional (codes "TIMES") true)
+
+abbrev pub replay : App
+replay = with_rule (new_app (codes "replay")) (positional (codes "SCRIPT") false)
+
+-- the program by its name: it has a version and no subcommand `help`
+abbrev pub named : App
+named =
+    let a = new_app (codes "nlog") in
+    record a { top = record a.top { disable_help_subcommand = true; has_version = true } }
+
+-- the commands that change no file
+abbrev pub printing : App
+printing = with_subcommand (with_subcommand (with_subcommand named show.top) check.top) hash.top
+
+-- the program, with its commands in the order of its help
+abbrev pub nlog : App
+nlog = with_subcommand (with_subcommand (with_subcommand (with_subcommand printing
+    record_line.top) recompact.top) restat.top) replay.top
+
+-- the commands that the program has
+abbrev pub IsCommandName : Text → Type 0
+IsCommandName name = (name ≡ codes "show") ⊎ ((name ≡ codes "check") ⊎ ((name ≡ codes "hash")
+    ⊎ ((name ≡ codes "record") ⊎ ((name ≡ codes "recompact") ⊎ ((name ≡ codes "restat")
+    ⊎ (name ≡ codes "replay"))))))
+
+-- the values that a command can't be without
+abbrev pub hash_values : List Text
+hash_values = codes "COMMAND" ∷ []
+
+abbrev pub record_values : List Text
+record_values = codes "LOG" ∷ codes "START" ∷ codes "END" ∷ codes "MTIME" ∷ codes "NAME"
+    ∷ codes "COMMAND" ∷ []
+
+abbrev pub recompact_values : List Text
+recompact_values = codes "LOG" ∷ codes "KEEP" ∷ []
+
+abbrev pub restat_values : List Text
+restat_values = codes "LOG" ∷ codes "TIMES" ∷ []
+
+abbrev pub required_of : Text → List Text
+required_of name = if bytes_eq name (codes "hash") then hash_values
+    else (if bytes_eq name (codes "record") then record_values
+    else (if bytes_eq name (codes "recompact") then recompact_values
+    else (if bytes_eq name (codes "restat") then restat_values else [])))
+
+-- each of the values is there
+abbrev pub HasEach : List Text → List Row → Type 0
+HasEach [] rows = ⊤
+HasEach (id ∷ ids) rows = (is_some (first_of id rows) ≡ true) × HasEach ids rows
+
+-- a command that was entered is one of the program's, and has what it can't be without
+abbrev pub IsWhole : Option (Text × List Row) → Type 0
+IsWhole None = ⊤
+IsWhole (Some p) = IsCommandName p.0 × HasEach (required_of p.0) p.1
+
+-- a value that may be left out
+abbrev pub IsGiven : Text → List Row → Option (Bor Text) → Type 0
+IsGiven id rows text = option_map (λ s. s.now) text ≡ first_of id rows
+
+-- a value that is there
+abbrev pub IsThere : Text → List Row → Bor Text → Type 0
+IsThere id rows text = first_of id rows ≡ Some text.now
+
+-- the command and its values are those of the subcommand that was entered, with its rows
+abbrev pub IsSaid : Words → Option (Text × List Row) → Type 0
+IsSaid (Show log) None = log ≡ None
+IsSaid (Show log) (Some p) = (p.0 ≡ codes "show") × IsGiven (codes "LOG") p.1 log
+IsSaid (Check log) (Some p) = (p.0 ≡ codes "check") × IsGiven (codes "LOG") p.1 log
+IsSaid (Hash command) (Some p) = (p.0 ≡ codes "hash") × IsThere (codes "COMMAND") p.1 command
+IsSaid (Record log start end mtime name command) (Some p) = (p.0 ≡ codes "record")
+    × IsThere (codes "LOG") p.1 log × IsThere (codes "START") p.1 start
+    × IsThere (codes "END") p.1 end × IsThere (codes "MTIME") p.1 mtime
+    × IsThere (codes "NAME") p.1 name × IsThere (codes "COMMAND") p.1 command
+IsSaid (Recompact log keep) (Some p) = (p.0 ≡ codes "recompact")
+    × IsThere (codes "LOG") p.1 log × IsThere (codes "KEEP") p.1 keep
+IsSaid (Restat log times) (Some p) = (p.0 ≡ codes "restat")
+    × IsThere (codes "LOG") p.1 log × IsThere (codes "TIMES") p.1 times
+IsSaid (Replay script) (Some p) = (p.0 ≡ codes "replay") × IsGiven (codes "SCRIPT") p.1 script
+IsSaid _ None = ⊥

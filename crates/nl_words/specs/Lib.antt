@@ -1,0 +1,2 @@
+pub mod CommandLine
+pub use Rattle.clap.specs.Words

@@ -1,0 +1,120 @@
+//! The command that a command line names, and the values that it gives.
+ghost use Rattle.std.specs.Prelude.{◌≡◌, codes, is_some, map, string_bytes, true, IfOk};
+ghost use Rattle.clap.specs.Words.{first_of, found_of, rows_of, subcommand_of, subcommand_rows_of, FailsBy, fault_of};
+ghost use Rattle.nl_words.specs.CommandLine.{hash_values, nlog, record_values, recompact_values, restat_values, HasEach, IsGiven, IsSaid, IsThere, IsWhole};
+
+use crate::definition::nlog_command;
+use clap::{ArgMatches, Error};
+use std::alloc::Global;
+
+/// A command of the program with its values, as they were written.
+#[derive(Clone, Copy, Debug, PartialEq, Eq)]
+pub enum Words<'a> {
+    /// Also what a command line without a command means.
+    Show(Option<&'a str>),
+    Check(Option<&'a str>),
+    Hash(&'a str),
+    Record {
+        log: &'a str,
+        start: &'a str,
+        end: &'a str,
+        mtime: &'a str,
+        name: &'a str,
+        command: &'a str,
+    },
+    Recompact {
+        log: &'a str,
+        keep: &'a str,
+    },
+    Restat {
+        log: &'a str,
+        times: &'a str,
+    },
+    Replay(Option<&'a str>),
+}
+
+/// Reads a command line, of which the first word is the program's name.
+///
+/// Help and the version are an `Err` too: its text is what was asked for.
+pub fn read_words<'a>(alloc: Global, words: &'a [String]) -> Result<Words<'a>, Error>
+    ensures value { IfOk result (λ w. IsSaid w (subcommand_of nlog (map string_bytes words.entry.now))) }
+    ensures accepts { FailsBy (fault_of nlog (map string_bytes words.entry.now)) result }
+{
+    let matches = nlog_command(alloc)?.try_get_matches_from(words)?;
+    Ok(said(&matches))
+}
+
+/// The command that was entered, with its values.
+fn said<'a>(matches: &ArgMatches<'a>) -> Words<'a>
+    requires { IsWhole (subcommand_rows_of matches.now) }
+    ensures { IsSaid result (subcommand_rows_of matches.now) }
+{
+    let Some((name, inner)) = matches.subcommand() else {
+        return Words::Show(None);
+    };
+    match name {
+        "check" => Words::Check(optional(inner, "LOG")),
+        "hash" => hash_words(inner),
+        "record" => record_words(inner),
+        "recompact" => recompact_words(inner),
+        "restat" => restat_words(inner),
+        "replay" => Words::Replay(optional(inner, "SCRIPT")),
+        _ => Words::Show(optional(inner, "LOG")),
+    }
+}
+
+fn hash_words<'a>(inner: &ArgMatches<'a>) -> Words<'a>
+    requires { HasEach hash_values (rows_of (found_of inner.now)) }
+    ensures { IsSaid result (Some (codes "hash", rows_of (found_of inner.now))) }
+{
+    Words::Hash(value(inner, "COMMAND"))
+}
+
+fn record_words<'a>(inner: &ArgMatches<'a>) -> Words<'a>
+    requires { HasEach record_values (rows_of (found_of inner.now)) }
+    ensures { IsSaid result (Some (codes "record", rows_of (found_of inner.now))) }
+{
+    Words::Record {
+        log: value(inner, "LOG"),
+        start: value(inner, "START"),
+        end: value(inner, "END"),
+        mtime: value(inner, "MTIME"),
+        name: value(inner, "NAME"),
+        command: value(inner, "COMMAND"),
+    }
+}
+
+fn recompact_words<'a>(inner: &ArgMatches<'a>) -> Words<'a>
+    requires { HasEach recompact_values (rows_of (found_of inner.now)) }
+    ensures { IsSaid result (Some (codes "recompact", rows_of (found_of inner.now))) }
+{
+    Words::Recompact {
+        log: value(inner, "LOG"),
+        keep: value(inner, "KEEP"),
+    }
+}
+
+fn restat_words<'a>(inner: &ArgMatches<'a>) -> Words<'a>
+    requires { HasEach restat_values (rows_of (found_of inner.now)) }
+    ensures { IsSaid result (Some (codes "restat", rows_of (found_of inner.now))) }
+{
+    Words::Restat {
+        log: value(inner, "LOG"),
+        times: value(inner, "TIMES"),
+    }
+}
+
+/// The value of an argument that may be left out.
+fn optional<'a>(matches: &ArgMatches<'a>, id: &str) -> Option<&'a str>
+    ensures { IsGiven id.now (rows_of (found_of matches.now)) result }
+{
+    matches.get_str(id)
+}
+
+/// The value of an argument that is there.
+fn value<'a>(matches: &ArgMatches<'a>, id: &str) -> &'a str
+    requires { is_some (first_of id.now (rows_of (found_of matches.now))) ≡ true }
+    ensures { IsThere id.now (rows_of (found_of matches.now)) result }
+{
+    matches.get_str(id).unwrap()
+}

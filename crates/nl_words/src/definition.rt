@@ -1,0 +1,212 @@
+//! What the program takes, as a command of `clap`, with the texts of its help.
+ghost use Rattle.std.specs.Prelude.{◌≡◌, IfOk, false};
+ghost use Rattle.clap.specs.Words.{app_of, with_rule, with_subcommand};
+ghost use Rattle.clap.specs.declared.builder.command.Command.TheViews.{out-Command};
+ghost use Rattle.nl_words.specs.CommandLine.{check, hash, named, nlog, positional, printing, recompact, record_line, replay, restat, show};
+
+use clap::{Arg, Command};
+use std::alloc::{AllocError, Global};
+
+const VERSION: &str = "0.1.0";
+
+const AFTER: &str = "\
+Without a command, and with `show` or `check` without LOG, a log is read from standard input.
+A LOG that is missing is read as one without entries.
+
+An entry is one line: START, END, MTIME, NAME and HASH with a tab between neighbours. START and
+END are milliseconds since the build began. MTIME is the time stamp that the build recorded, in
+the unit of its file system (Ninja on Linux writes nanoseconds since 1970). HASH is the hash of
+the command, in hexadecimal.
+
+`record`, `recompact`, `restat` and `replay` are not in this version yet: their words are read,
+and then refused.
+
+Status: 0 done; 1 refused, and a line `nlog: ...` on standard error says why; 2 wrong words.";
+
+const LOG: &str = "A build log of Ninja, version 5";
+
+const OPTIONAL_LOG: &str = "A build log of Ninja, version 5; standard input where it is left out";
+
+/// The whole command line.
+pub fn nlog_command<'a>(alloc: Global) -> Result<Command<'a>, AllocError>
+    ensures { IfOk result (λ c. app_of c ≡ nlog) }
+{
+    let nlog = printing_commands(alloc)?;
+    let nlog = with_command(nlog, record_command(alloc)?)?;
+    let nlog = with_command(nlog, recompact_command(alloc)?)?;
+    let nlog = with_command(nlog, restat_command(alloc)?)?;
+    with_command(nlog, replay_command(alloc)?)
+}
+
+/// The program with the commands that change no file.
+fn printing_commands<'a>(alloc: Global) -> Result<Command<'a>, AllocError>
+    ensures { IfOk result (λ c. app_of c ≡ printing) }
+{
+    let nlog = with_command(named_command(alloc), show_command(alloc)?)?;
+    let nlog = with_command(nlog, check_command(alloc)?)?;
+    with_command(nlog, hash_command(alloc)?)
+}
+
+/// The program without its commands.
+fn named_command<'a>(alloc: Global) -> Command<'a>
+    ensures { app_of result ≡ named }
+{
+    Command::new(alloc, "nlog")
+        .version(VERSION)
+        .about("Reads and keeps build logs of Ninja, safe over crashes")
+        .after_help(AFTER)
+        .disable_help_subcommand(true)
+}
+
+/// The program with one more command.
+fn with_command<'a>(nlog: Command<'a>, command: Command<'a>) -> Result<Command<'a>, AllocError>
+    requires { (out-Command command).has_globals ≡ false }
+    ensures { IfOk result (λ c. app_of c ≡ with_subcommand (app_of nlog.entry) (app_of command.entry).top) }
+{
+    nlog.subcommand(command)
+}
+
+/// The command with one more value, which stands by its place.
+fn with_value<'a>(
+    alloc: Global,
+    command: Command<'a>,
+    id: &'a str,
+    required: bool,
+    help: &'a str,
+) -> Result<Command<'a>, AllocError>
+    ensures shape { IfOk result (λ c. app_of c ≡ with_rule (app_of command.entry) (positional id.entry.now required)) }
+    ensures local { IfOk result (λ c. (out-Command c).has_globals ≡ (out-Command command.entry).has_globals) }
+{
+    command.arg(Arg::new(alloc, id).required(required).help(help))
+}
+
+fn show_command<'a>(alloc: Global) -> Result<Command<'a>, AllocError>
+    ensures shape { IfOk result (λ c. app_of c ≡ show) }
+    ensures local { IfOk result (λ c. (out-Command c).has_globals ≡ false) }
+{
+    let command = Command::new(alloc, "show").about(
+        "Prints the last entry of each output, in the order in which the outputs first appear",
+    );
+    with_value(alloc, command, "LOG", false, OPTIONAL_LOG)
+}
+
+fn check_command<'a>(alloc: Global) -> Result<Command<'a>, AllocError>
+    ensures shape { IfOk result (λ c. app_of c ≡ check) }
+    ensures local { IfOk result (λ c. (out-Command c).has_globals ≡ false) }
+{
+    let command = Command::new(alloc, "check")
+        .about("Prints what a log holds: version, total, unique, skipped, torn, due")
+        .after_help(
+            "\
+version  the log's version
+total    how many of its lines are entries
+unique   how many outputs these entries have
+skipped  how many whole lines after the first are no entries
+torn     how many bytes stand after the last newline
+due      `yes` where a build would recompact the log, else `no`",
+        );
+    with_value(alloc, command, "LOG", false, OPTIONAL_LOG)
+}
+
+fn hash_command<'a>(alloc: Global) -> Result<Command<'a>, AllocError>
+    ensures shape { IfOk result (λ c. app_of c ≡ hash) }
+    ensures local { IfOk result (λ c. (out-Command c).has_globals ≡ false) }
+{
+    let command = Command::new(alloc, "hash").about(
+        "Prints the hash of a command as a log holds it, in hexadecimal",
+    );
+    with_value(
+        alloc,
+        command,
+        "COMMAND",
+        true,
+        "The command's text, as one word",
+    )
+}
+
+fn record_command<'a>(alloc: Global) -> Result<Command<'a>, AllocError>
+    ensures shape { IfOk result (λ c. app_of c ≡ record_line) }
+    ensures local { IfOk result (λ c. (out-Command c).has_globals ≡ false) }
+{
+    let command = Command::new(alloc, "record").about("Appends one entry to a log; prints nothing");
+    let command = with_value(alloc, command, "LOG", true, LOG)?;
+    let command = with_value(
+        alloc,
+        command,
+        "START",
+        true,
+        "When the command began, in milliseconds",
+    )?;
+    let command = with_value(
+        alloc,
+        command,
+        "END",
+        true,
+        "When the command ended, in milliseconds",
+    )?;
+    let command = with_value(
+        alloc,
+        command,
+        "MTIME",
+        true,
+        "The time stamp of the output",
+    )?;
+    let command = with_value(alloc, command, "NAME", true, "The name of the output")?;
+    with_value(
+        alloc,
+        command,
+        "COMMAND",
+        true,
+        "The command's text, as one word; its hash is recorded",
+    )
+}
+
+fn recompact_command<'a>(alloc: Global) -> Result<Command<'a>, AllocError>
+    ensures shape { IfOk result (λ c. app_of c ≡ recompact) }
+    ensures local { IfOk result (λ c. (out-Command c).has_globals ≡ false) }
+{
+    let command = Command::new(alloc, "recompact").about(
+        "Rewrites a log so that it holds the last entry of each output that KEEP names; prints nothing",
+    );
+    let command = with_value(alloc, command, "LOG", true, LOG)?;
+    with_value(
+        alloc,
+        command,
+        "KEEP",
+        true,
+        "A file with the name of one output a line",
+    )
+}
+
+fn restat_command<'a>(alloc: Global) -> Result<Command<'a>, AllocError>
+    ensures shape { IfOk result (λ c. app_of c ≡ restat) }
+    ensures local { IfOk result (λ c. (out-Command c).has_globals ≡ false) }
+{
+    let command = Command::new(alloc, "restat").about(
+        "Rewrites a log with the time stamps that TIMES gives; prints nothing",
+    );
+    let command = with_value(alloc, command, "LOG", true, LOG)?;
+    with_value(
+        alloc,
+        command,
+        "TIMES",
+        true,
+        "A file with a time stamp, a tab and a name a line",
+    )
+}
+
+fn replay_command<'a>(alloc: Global) -> Result<Command<'a>, AllocError>
+    ensures shape { IfOk result (λ c. app_of c ≡ replay) }
+    ensures local { IfOk result (λ c. (out-Command c).has_globals ≡ false) }
+{
+    let command = Command::new(alloc, "replay").about(
+        "Runs the events of a script on a log in memory, and prints the replies and that log",
+    );
+    with_value(
+        alloc,
+        command,
+        "SCRIPT",
+        false,
+        "The script; standard input where it is left out",
+    )
+}
