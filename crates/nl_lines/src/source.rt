@@ -1,5 +1,5 @@
 //! Where bytes come from, a piece at a time.
-ghost use Rattle.std.specs.Prelude.{◌≡◌, ◌≤◌, List, ℕ, Option, OnErr};
+ghost use Rattle.std.specs.Prelude.{◌≡◌, ◌≤◌, List, ℕ, Option, OnOk, OnErr};
 ghost use Rattle.std.specs.Io.{ReadsAtMost};
 ghost use Rattle.std.specs.Io.KnownBytes.{ReadConsumes};
 ghost use Rattle.nl_lines.specs.Source.{FailedBetween};
@@ -27,6 +27,7 @@ pub trait Source {
         ensures bound { ReadsAtMost result buf.new }
         ensures bytes { ReadConsumes (ahead self.old) (ahead self.new) result buf.new }
         ensures cause { OnErr result (FailedBetween (failures self.old) (failures self.new)) }
+        ensures steady { OnOk result (failures self.new ≡ failures self.old) }
         ensures rises { failures self.old ≤ failures self.new }
         ensures relation { keeps self.old self.new };
 
