@@ -5,8 +5,10 @@ ghost use Rattle.nl_fields.specs.declared.entry.Entry.{Entry};
 ghost use Rattle.nl_fields.specs.declared.header.Header.{Header};
 ghost use Rattle.nl_fields.specs.Digits.{IsDigits, IsDecimal, digits_of, decimal_of};
 ghost use Rattle.nl_fields.specs.EntryLine.{IsEntry, IsEntryLine, line_of, entry_of, HasNoNewline};
-ghost use Rattle.nl_fields.specs.Header.{IsHeader, header_of};
+ghost use Rattle.nl_fields.specs.Header.{IsHeader, header_line, header_of};
 ghost use Rattle.nl_fields.specs.CommandHash.{IsHash, hash_of};
+
+use crate::header::HEADER;
 
 /// A number has one decimal spelling, and a spelling one number.
 pub fn one_decimal()
@@ -39,6 +41,11 @@ pub fn one_entry()
 pub fn line_is_short()
     ensures length { (e : Entry) (line : List ℕ) → IsEntryLine e line → length line + 1 ≤ 65599 }
     ensures newline { (e : Entry) (line : List ℕ) → IsEntryLine e line → HasNoNewline line }
+{}
+
+/// The header that is written is the line of version 5 and its newline.
+pub fn header_is_its_line()
+    ensures { HEADER.now ≡ header_line }
 {}
 
 /// A first line tells one thing.
