@@ -1,5 +1,6 @@
 pub mod Digits
 pub mod Name
 pub mod EntryLine
+pub mod Fields
 pub mod Header
 pub mod CommandHash

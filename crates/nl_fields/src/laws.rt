@@ -1,10 +1,10 @@
 //! What the definitions promise: each contract is a law, and each body is empty.
-ghost use Rattle.std.specs.Prelude.{◌≡◌, ◌↔◌, ℕ, ℤ, ◌+◌, ◌<◌, ◌≤◌, ◌^◌, List, length, Some, FitsSigned};
+ghost use Rattle.std.specs.Prelude.{◌≡◌, ◌≢◌, ◌↔◌, ℕ, ℤ, ◌+◌, ◌<◌, ◌≤◌, ◌^◌, List, length, All, Some, FitsSigned};
 ghost use Rattle.std.specs.Int.{w64};
 ghost use Rattle.nl_fields.specs.declared.entry.Entry.{Entry};
 ghost use Rattle.nl_fields.specs.declared.header.Header.{Header};
 ghost use Rattle.nl_fields.specs.Digits.{IsDigits, IsDecimal, digits_of, decimal_of};
-ghost use Rattle.nl_fields.specs.EntryLine.{IsEntry, IsEntryLine, line_of, entry_of, HasNoNewline};
+ghost use Rattle.nl_fields.specs.EntryLine.{IsEntry, IsEntryLine, line_of, entry_of};
 ghost use Rattle.nl_fields.specs.Header.{IsHeader, header_line, header_of};
 ghost use Rattle.nl_fields.specs.CommandHash.{IsHash, hash_of};
 
@@ -40,7 +40,7 @@ pub fn one_entry()
 /// A line is short and stays one line.
 pub fn line_is_short()
     ensures length { (e : Entry) (line : List ℕ) → IsEntryLine e line → length line + 1 ≤ 65599 }
-    ensures newline { (e : Entry) (line : List ℕ) → IsEntryLine e line → HasNoNewline line }
+    ensures newline { (e : Entry) (line : List ℕ) → IsEntryLine e line → All (λ b. b ≢ 10) line }
 {}
 
 /// The header that is written is the line of version 5 and its newline.
