@@ -23,3 +23,23 @@ fn a_failed_read_is_no_end(rt: HostRuntime) -> Result<(), Fail> {
     }
     Ok(())
 }
+
+#[test]
+fn a_line_that_is_there_asks_for_no_more(rt: HostRuntime) -> Result<(), Fail> {
+    let wanted = [
+        Ok(Some(Line::Whole(b"a"))),
+        Ok(Some(Line::Whole(b"b"))),
+        Err(LineFault::Read),
+        Err(LineFault::Failed),
+    ];
+    // All comes in one read, and each later one fails.
+    let pieces = PieceReader {
+        rest: b"a\nb\n",
+        size: 4,
+    };
+    let mut source = ReadSource::new(FailingReader {
+        pieces,
+        kind: ErrorKind::Other,
+    });
+    expect_answers(&rt, rt.alloc(), &mut source, &wanted, 4)
+}
