@@ -8,9 +8,11 @@ N - M entries are those of later builds, in which some files are built far more 
 """
 import argparse, random, sys
 
-FOLDERS = ["lib/Target/X86", "lib/Transforms/Scalar", "lib/CodeGen/GlobalISel", "obj/content/browser/renderer_host",
-           "obj/third_party/blink/renderer/core/layout", "obj/services/network/public/cpp", "gen/protos/autofill/core",
-           "tools/clang/lib/Sema/CMakeFiles/clangSema.dir", "unittests/ExecutionEngine/Orc/CMakeFiles/OrcTests.dir"]
+FOLDERS = ["lib/Target/X86/CMakeFiles/LLVMX86CodeGen.dir", "lib/Transforms/Scalar/CMakeFiles/LLVMScalarOpts.dir",
+           "lib/CodeGen/GlobalISel/CMakeFiles/LLVMGlobalISel.dir", "obj/content/browser/renderer_host/renderer_host",
+           "obj/third_party/blink/renderer/core/layout/layout", "obj/services/network/public/cpp/network_service",
+           "gen/protos/autofill/core/browser/proto", "tools/clang/lib/Sema/CMakeFiles/clangSema.dir",
+           "unittests/ExecutionEngine/Orc/CMakeFiles/OrcJITTests.dir"]
 WORDS = ["Lower", "Select", "Build", "Frame", "Node", "Layout", "Inline", "Vector", "Loop", "Value", "Type", "Print"]
 SUFFIXES = [".cpp.o"] * 6 + [".o"] * 2 + [".pb.cc.o", ".inc", ".a", ".stamp"]
 
