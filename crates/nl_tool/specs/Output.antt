@@ -8,6 +8,8 @@ use Rattle.nl_lines.specs.Split.{joined, torn_len}
 use Rattle.nl_table.specs.Due.{is_due}
 use Rattle.nl_table.specs.History.{logged, table}
 use Rattle.nl_table.specs.Log.{LogReading, Log, NotALog, OtherVersion, log_of, skipped_count}
+use Rattle.nl_words.specs.declared.command_line.Words.{Words}
+use Rattle.nl_words.specs.declared.command_line.Words.TheVariants.{Show, Check, Hash}
 use Rattle.nl_tool.specs.declared.fault.ToolFault.{ToolFault}
 use Rattle.nl_tool.specs.declared.fault.ToolFault.TheVariants.{Write}
 
@@ -65,3 +67,10 @@ checked bytes = checked_of (skipped_count bytes) (torn_len bytes) (log_of bytes)
 -- the text that the known bytes of a reader have
 abbrev pub IsTextFor : (List ℕ → Option (List ℕ)) → Option (List ℕ) → List ℕ → Type 0
 IsTextFor text_of known text = IfSome known (λ bytes. text_of bytes ≡ Some text)
+
+-- the text of each command, by the known bytes of the log that it reads; the commands that are only named have none
+abbrev pub IsAnswer : Words → Option (List ℕ) → List ℕ → Type 0
+IsAnswer (Show log) known text = IsTextFor shown known text
+IsAnswer (Check log) known text = IsTextFor checked known text
+IsAnswer (Hash command) known text = IsHashText command.now text
+IsAnswer _ known text = ⊥

@@ -1,6 +1,7 @@
 //! What the program does once its words are read.
 ghost use Rattle.std.specs.Prelude.{◌≡◌, ◌↔◌, IfErr, IsErrOf};
-ghost use Rattle.nl_tool.specs.Faults.{IsFaultOf, IsLogFault, IsNamedOnly};
+ghost use Rattle.nl_tool.specs.Faults.{IsFaultOf, IsNamedOnly, ReadsLog};
+ghost use Rattle.nl_tool.specs.Output.{IsAnswer, Prints};
 
 use crate::check::check_to;
 use crate::fault::ToolFault;
@@ -8,7 +9,7 @@ use crate::hash::hash_to;
 use crate::show::show_to;
 use nl_words::Words;
 use std::alloc::Global;
-use std::io::ErrorKind;
+use std::io::{ErrorKind, Read, Write};
 use std::rt::{Files, Runtime};
 use std::{fs, io};
 
@@ -19,33 +20,47 @@ pub fn run<R: Runtime>(rt: &R, alloc: Global, words: &Words<'_>) -> Result<(), T
     ensures not_yet { IsErrOf result ToolFault.NotYet ↔ IsNamedOnly words.now }
 {
     match *words {
-        Words::Show(None) => show_to(alloc, rt.reader(), &mut io::writer(rt)),
-        Words::Show(Some(path)) => show_file(rt, alloc, path),
-        Words::Check(None) => check_to(alloc, rt.reader(), &mut io::writer(rt)),
-        Words::Check(Some(path)) => check_file(rt, alloc, path),
-        Words::Hash(command) => hash_to(alloc, command.as_bytes(), &mut io::writer(rt)),
+        Words::Show(Some(path)) => answer_file(rt, alloc, words, path),
+        Words::Check(Some(path)) => answer_file(rt, alloc, words, path),
+        _ => answer_to(alloc, words, rt.reader(), &mut io::writer(rt)),
+    }
+}
+
+/// Answers over the log at this path.
+fn answer_file<R: Files + Print>(
+    rt: &R,
+    alloc: Global,
+    words: &Words<'_>,
+    path: &str,
+) -> Result<(), ToolFault>
+    requires { ReadsLog words.now }
+    ensures faults { IfErr result (IsFaultOf words.now) }
+    ensures not_yet { IsErrOf result ToolFault.NotYet ↔ IsNamedOnly words.now }
+{
+    let mut out = io::writer(rt);
+    match open_log(rt, path)? {
+        Some(file) => answer_to(alloc, words, file, &mut out),
+        None => answer_to(alloc, words, io::empty(), &mut out),
+    }
+}
+
+/// Does what the words say, with this reader for the log.
+fn answer_to<R: Read + Drop, W: Write>(
+    alloc: Global,
+    words: &Words<'_>,
+    reader: R,
+    writer: &mut W,
+) -> Result<(), ToolFault>
+    ensures prints { Prints (IsAnswer words.now (R.remaining reader)) (W.contents writer.old) (W.contents writer.new) result }
+    ensures faults { IfErr result (IsFaultOf words.now) }
+    ensures not_yet { IsErrOf result ToolFault.NotYet ↔ IsNamedOnly words.now }
+{
+    match *words {
+        Words::Show(_) => show_to(alloc, reader, writer),
+        Words::Check(_) => check_to(alloc, reader, writer),
+        Words::Hash(command) => hash_to(alloc, command.as_bytes(), writer),
         Words::Record { .. } | Words::Recompact { .. } | Words::Restat { .. } | Words::Replay(_) =>
             Err(ToolFault::NotYet),
-    }
-}
-
-fn show_file<R: Files + Print>(rt: &R, alloc: Global, path: &str) -> Result<(), ToolFault>
-    ensures faults { IfErr result IsLogFault }
-{
-    let mut out = io::writer(rt);
-    match open_log(rt, path)? {
-        Some(file) => show_to(alloc, file, &mut out),
-        None => show_to(alloc, io::empty(), &mut out),
-    }
-}
-
-fn check_file<R: Files + Print>(rt: &R, alloc: Global, path: &str) -> Result<(), ToolFault>
-    ensures faults { IfErr result IsLogFault }
-{
-    let mut out = io::writer(rt);
-    match open_log(rt, path)? {
-        Some(file) => check_to(alloc, file, &mut out),
-        None => check_to(alloc, io::empty(), &mut out),
     }
 }
 
