@@ -53,7 +53,7 @@ fn named_command<'a>(alloc: Global) -> Command<'a>
 {
     Command::new(alloc, "nlog")
         .version(VERSION)
-        .about("Reads and keeps build logs of Ninja, safe over crashes")
+        .about("Reads and checks build logs of Ninja")
         .after_help(AFTER)
         .disable_help_subcommand(true)
 }
