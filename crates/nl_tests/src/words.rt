@@ -69,17 +69,20 @@ fn each_command_is_read_with_its_values(rt: HostRuntime) -> Result<(), Fail> {
 #[test]
 fn wrong_words_are_refused_by_their_kind(rt: HostRuntime) -> Result<(), Fail> {
     let alloc = rt.alloc();
-    let cases: [(&[&str], ErrorKind); 15] = [
+    let cases: [(&[&str], ErrorKind); 18] = [
         (&["frob"], ErrorKind::InvalidSubcommand),
         (&["help"], ErrorKind::InvalidSubcommand),
         (&["Show"], ErrorKind::InvalidSubcommand),
         (&["--frob"], ErrorKind::UnknownArgument),
         (&["show", "a", "b"], ErrorKind::UnknownArgument),
+        (&["--", "show"], ErrorKind::UnknownArgument),
         (&["hash", "-x"], ErrorKind::UnknownArgument),
         (
             &["record", "l", "-1", "2", "3", "n", "c"],
             ErrorKind::UnknownArgument,
         ),
+        (&["--help=x"], ErrorKind::TooManyValues),
+        (&["check", "--help=x"], ErrorKind::TooManyValues),
         (&["hash"], ErrorKind::MissingRequiredArgument),
         (
             &["record", "l", "1", "2", "3", "n"],
