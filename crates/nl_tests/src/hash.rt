@@ -1,6 +1,6 @@
 //! The command hash.
 use crate::support::Narrow;
-use nl_tool::{ToolFault, hash_to};
+use nl_tool::{ToolFault, Words, hash_to, run};
 use std::io::ErrorKind;
 use std::test::Fail;
 
@@ -40,4 +40,9 @@ fn a_full_writer_holds_what_it_took_of_a_hash(rt: HostRuntime) -> Result<(), Fai
         );
     }
     Ok(())
+}
+
+#[test]
+fn the_program_prints_the_hash_of_its_word(rt: HostRuntime) {
+    assert!(rt; run(&rt, rt.alloc(), &Words::Hash("cc x")) == Ok(()));
 }
