@@ -64,9 +64,11 @@ checked_of skipped torn NotALog = None
 abbrev pub checked : List ℕ → Option (List ℕ)
 checked bytes = checked_of (skipped_count bytes) (torn_len bytes) (log_of bytes)
 
--- the text that the known bytes of a reader have
-abbrev pub IsTextFor : (List ℕ → Option (List ℕ)) → Option (List ℕ) → List ℕ → Type 0
-IsTextFor text_of known text = IfSome known (λ bytes. text_of bytes ≡ Some text)
+-- the text is that of the bytes which a reader gave: the known ones where they are known
+pub record IsTextFor (text_of : List ℕ → Option (List ℕ)) (known : Option (List ℕ)) (text : List ℕ) : Type 0 where
+  pub bytes : List ℕ
+  pub given : IfSome known (λ bs. bs ≡ bytes)
+  pub is : text_of bytes ≡ Some text
 
 -- the text of each command, by the known bytes of the log that it reads; the commands that are only named have none
 abbrev pub IsAnswer : Words → Option (List ℕ) → List ℕ → Type 0

@@ -1,8 +1,8 @@
 //! Loading the log that a reader gives.
 ghost use Rattle.std.specs.Prelude.{◌≡◌, IfErr, IfOk, IfSome, IsErrOf};
 ghost use Rattle.nl_table.specs.Log.{log_of, NotALog, OtherVersion};
-ghost use Rattle.nl_table.specs.Loading.{IsLoadOf};
 ghost use Rattle.nl_tool.specs.Faults.{IsLogFault};
+ghost use Rattle.nl_tool.specs.Loading.{IsLoadFrom};
 
 use crate::fault::ToolFault;
 use nl_lines::ReadSource;
@@ -12,7 +12,7 @@ use std::io::Read;
 
 /// The table and the counts of the bytes that the reader has left.
 pub fn load_all<R: Read + Drop>(alloc: Global, reader: R) -> Result<Loaded, ToolFault>
-    ensures loaded { IfOk result (λ l. IfSome (R.remaining reader) (λ bs. IsLoadOf bs l)) }
+    ensures loaded { IfOk result (IsLoadFrom (R.remaining reader)) }
     ensures not_a_log { IsErrOf result ToolFault.NotALog → IfSome (R.remaining reader) (λ bs. log_of bs ≡ NotALog) }
     ensures other_version { IsErrOf result ToolFault.OtherVersion → IfSome (R.remaining reader) (λ bs. log_of bs ≡ OtherVersion) }
     ensures faults { IfErr result IsLogFault }
