@@ -1,4 +1,4 @@
--- Laws of the spelling of numbers: a spelling has one number, a number has one spelling, and each front of a
+-- Laws of the spelling of numbers: a spelling has one number, a number has one spelling, and each prefix of a
 -- spelling is the spelling of a number that is no larger.
 use Rattle.std.proofs.Common.{◌≡◌, ℕ, suc, ◌+◌, ◌-◌, ◌*◌, ◌%◌, ◌^◌, ◌<◌, ◌≤◌, List, [], ◌∷◌, ◌++◌, length, take, drop, get_or, refl, sym, ◌∙◌, ap, subst, inl, inr, ◌⊎◌, arith, length-append, add-one, ℤ, pos, negsuc, ◌-ℤ◌, Option, Some, None, FitsSigned, SomeIff, w64}
 use Rattle.std.proofs.lemmas.Int.{ints}
@@ -98,7 +98,7 @@ same_spelling left right = same_spelling_along left right refl
 some_base : {base d c : ℕ} → IsDigit base d c → 1 ≤ base
 some_base digit = omega (arith, digit.below)
 
--- a front of a spelling spells a number that is no larger
+-- a prefix of a spelling spells a number that is no larger
 pub front_of : {base n : ℕ} {bytes : List ℕ} → IsDigits base n bytes → (i : ℕ) → 0 < i → i ≤ length bytes → (m : ℕ) × (m ≤ n) × IsDigits base m (take i bytes)
 front_of {n = n} (one {c = c} digit) i low high = (n, omega arith, rw (take_all i (c ∷ []) low) (one digit))
 front_of {base = base} {n = n} (more {q = q} {d = d} {c = c} {ds = ds} spells some digit value) i low high =
