@@ -4,7 +4,7 @@ ghost use Rattle.std.specs.Int.{w64};
 ghost use Rattle.nl_fields.specs.declared.entry.Entry.{Entry};
 ghost use Rattle.nl_fields.specs.declared.header.Header.{Header};
 ghost use Rattle.nl_fields.specs.Digits.{IsDigits, IsDecimal, digits_of, decimal_of};
-ghost use Rattle.nl_fields.specs.EntryLine.{IsEntry, IsEntryLine, line_of, entry_of};
+ghost use Rattle.nl_fields.specs.EntryLine.{IsEntry, IsEntryLine, IsEntryLineFour, line_of, entry_of, entry_of_four};
 ghost use Rattle.nl_fields.specs.Header.{IsHeader, header_line, header_of};
 ghost use Rattle.nl_fields.specs.CommandHash.{IsHash, hash_of};
 
@@ -35,6 +35,13 @@ pub fn one_line()
 pub fn one_entry()
     ensures entry { (e f : Entry) (line : List ℕ) → IsEntryLine e line → IsEntryLine f line → e ≡ f }
     ensures decides { (e : Entry) (line : List ℕ) → (entry_of line ≡ Some e) ↔ IsEntryLine e line }
+{}
+
+/// A line is the version 4 line of one entry at most, and stays one line.
+pub fn one_entry_v4()
+    ensures entry { (e f : Entry) (line : List ℕ) → IsEntryLineFour e line → IsEntryLineFour f line → e ≡ f }
+    ensures decides { (e : Entry) (line : List ℕ) → (entry_of_four line ≡ Some e) ↔ IsEntryLineFour e line }
+    ensures newline { (e : Entry) (line : List ℕ) → IsEntryLineFour e line → All (λ b. b ≢ 10) line }
 {}
 
 /// A line is short and stays one line.

@@ -16,7 +16,7 @@ mod tests;
 
 pub use decimal::{read_i32, read_i64};
 pub use entry::{Entry, EntryRef};
-pub use entry_line::{append_entry, read_entry};
+pub use entry_line::{append_entry, read_entry, read_entry_v4};
 pub use hash::command_hash;
 pub use header::{HEADER, Header, read_header};
 pub use hex::{append_hex64, read_hex64};

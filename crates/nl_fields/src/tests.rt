@@ -98,10 +98,14 @@ fn name_faults_print_what_is_wrong(rt: HostRuntime) -> Result<(), Fail> {
 
 #[test]
 fn first_lines_tell_the_version(rt: HostRuntime) -> Result<(), Fail> {
-    let rows: [(&[u8], Header); 9] = [
+    let rows: [(&[u8], Header); 13] = [
         (b"# ninja log v5", Header::V5),
         (b"# ninja log v6", Header::Other),
-        (b"# ninja log v4", Header::Other),
+        (b"# ninja log v4", Header::V4),
+        (b"# ninja log v04", Header::Other),
+        (b"# ninja log v45", Header::Other),
+        (b"# ninja log v3", Header::Other),
+        (b"# ninja log v4\t", Header::NotALog),
         (b"# ninja log v05", Header::Other),
         (b"# ninja log v", Header::NotALog),
         (b"# ninja log v5 ", Header::NotALog),
@@ -160,6 +164,42 @@ fn lines_in_another_form_are_no_entries(rt: HostRuntime) {
     ];
     for line in lines {
         assert!(rt; read_entry(line).is_none(), "at {line:?}");
+    }
+}
+
+#[test]
+fn what_is_behind_the_fourth_tab_of_a_version_4_line_is_the_command(
+    rt: HostRuntime,
+) -> Result<(), Fail> {
+    let rows: [(&[u8], &[u8]); 4] = [
+        (b"1\t2\t3\ta\tcc\tx", b"cc\tx"),
+        (b"4\t5\t6\tb\t", b""),
+        (b"1\t2\t3\ta\tff", b"ff"),
+        (b"1\t2\t3\ta\t\0\xff\r", b"\0\xff\r"),
+    ];
+    for (line, command) in rows {
+        let entry = read_entry_v4(line).ok_or("no entry")?;
+        assert_eq!(rt; entry.hash, command_hash(command), "at {line:?}");
+    }
+    let entry = read_entry_v4(b"-1\t2\t3\tsp ace\tcc").ok_or("no entry")?;
+    assert_eq!(rt; (entry.start_ms, entry.end_ms, entry.mtime), (-1, 2, 3));
+    assert!(rt; entry.name() == b"sp ace".as_slice());
+    Ok(())
+}
+
+#[test]
+fn lines_in_another_form_are_no_version_4_entries(rt: HostRuntime) {
+    let lines: [&[u8]; 7] = [
+        b"",
+        b"1\t2\t3\ta",
+        b"1\t2\t3\t\tcc",
+        b"1\t2\t3\ta\0\tcc",
+        b"007\t1\t1\to\tcc",
+        b"1\t2147483648\t1\to\tcc",
+        b"1\t2\t3\ta\tc\nc",
+    ];
+    for line in lines {
+        assert!(rt; read_entry_v4(line).is_none(), "at {line:?}");
     }
 }
 

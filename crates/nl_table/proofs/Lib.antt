@@ -6,3 +6,4 @@ pub mod TouchLemmas
 pub mod FirstLineLemmas
 pub mod LoadLemmas
 pub mod LoadedLemmas
+pub mod CutLemmas

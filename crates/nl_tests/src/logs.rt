@@ -71,6 +71,12 @@ const SECOND_HEADER: Case = (
     "version 5\ntotal 1\nunique 1\nskipped 1\ntorn 0\ndue no\n",
 );
 
+const VERSION_4: Case = (
+    b"# ninja log v4\n1\t2\t3\ta\tcc\tx\n4\t5\t6\tb\t\n",
+    "1\t2\t3\ta\t72274e7a30810c7b\n4\t5\t6\tb\t87c2bc0beaf1d91d\n",
+    "version 4\ntotal 2\nunique 2\nskipped 0\ntorn 0\ndue yes\n",
+);
+
 #[test]
 fn a_log_of_each_kind_is_shown_and_checked(rt: HostRuntime) -> Result<(), Fail> {
     let alloc = rt.alloc();
@@ -86,6 +92,7 @@ fn a_log_of_each_kind_is_shown_and_checked(rt: HostRuntime) -> Result<(), Fail> 
         TORN_ENTRY,
         MERGED_LINE,
         SECOND_HEADER,
+        VERSION_4,
     ];
     for (at, (log, shown, checked)) in cases.iter().enumerate() {
         let mut out = Vec::new(alloc);

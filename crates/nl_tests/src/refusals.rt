@@ -3,7 +3,7 @@ use nl_tool::{ToolFault, Words, check_to, run, show_to, status_of};
 use std::fs;
 use std::test::Fail;
 
-const REFUSED: [(&[u8], ToolFault, &str); 6] = [
+const REFUSED: [(&[u8], ToolFault, &str); 9] = [
     (
         b"# ninja log v6\n",
         ToolFault::OtherVersion,
@@ -14,6 +14,17 @@ const REFUSED: [(&[u8], ToolFault, &str); 6] = [
         ToolFault::OtherVersion,
         "log version not supported",
     ),
+    (
+        b"# ninja log v04\n",
+        ToolFault::OtherVersion,
+        "log version not supported",
+    ),
+    (
+        b"# ninja log v3\n",
+        ToolFault::OtherVersion,
+        "log version not supported",
+    ),
+    (b"# ninja log v4", ToolFault::NotALog, "not a ninja log"),
     (b"hello", ToolFault::NotALog, "not a ninja log"),
     (b"\n", ToolFault::NotALog, "not a ninja log"),
     (b"# ninja log v5 \n", ToolFault::NotALog, "not a ninja log"),

@@ -7,9 +7,10 @@ use std::alloc::{AllocError, Global};
 use std::process::Abort;
 use std::test::Fail;
 
-// Total, skipped, whole and torn, and the lines of the table.
+// The version, then total, skipped, whole and torn, and the lines of the table.
 #[derive(Clone, Copy, Drop)]
 struct Want<'a> {
+    version: u8,
     counts: [u64; 4],
     lines: &'a [u8],
 }
@@ -58,29 +59,62 @@ fn a_log_is_loaded_in_pieces_of_each_size(rt: HostRuntime) -> Result<(), Fail> {
         ),
     ];
     for (bytes, counts, lines) in cases {
-        let want = Want { counts, lines };
-        expect_loaded(&rt, rt.alloc(), &mut SliceSource::new(bytes), want)?;
-        for size in [1, 2, 3, 7, 4096] {
-            let mut source = ReadSource::new(PieceReader {
-                rest: bytes,
-                size,
-                fails: false,
-            });
-            expect_loaded(&rt, rt.alloc(), &mut source, want)?;
-        }
+        let want = Want {
+            version: 5,
+            counts,
+            lines,
+        };
+        expect_in_pieces(&rt, rt.alloc(), bytes, want)?;
+    }
+    Ok(())
+}
+
+#[test]
+fn a_log_of_version_4_is_loaded_in_pieces_of_each_size(rt: HostRuntime) -> Result<(), Fail> {
+    let cases: [(&[u8], [u64; 4], &[u8]); 6] = [
+        (b"# ninja log v4\n", [0, 0, 15, 0], b""),
+        (
+            b"# ninja log v4\n1\t2\t3\ta\tcc\tx\n4\t5\t6\tb\t\n",
+            [2, 0, 37, 0],
+            b"1\t2\t3\ta\t72274e7a30810c7b\n4\t5\t6\tb\t87c2bc0beaf1d91d\n",
+        ),
+        (b"# ninja log v4\n1\t2\t3\ta\n", [0, 1, 23, 0], b""),
+        (
+            b"# ninja log v4\n1\t2\t3\ta\tcc\tx\n4\t5\t6\tb\tcc",
+            [1, 0, 28, 10],
+            b"1\t2\t3\ta\t72274e7a30810c7b\n",
+        ),
+        (
+            b"# ninja log v4\n# ninja log v4\n1\t2\t3\ta\tff\n1\t2\t4\ta\tcc\tx\n",
+            [2, 1, 54, 0],
+            b"1\t2\t4\ta\t72274e7a30810c7b\n",
+        ),
+        (b"# ninja log v5\n1\t2\t3\ta\tcc\tx\n", [0, 1, 28, 0], b""),
+    ];
+    for (bytes, counts, lines) in cases {
+        let version = if bytes.starts_with(b"# ninja log v4".as_slice()) {
+            4
+        } else {
+            5
+        };
+        let want = Want {
+            version,
+            counts,
+            lines,
+        };
+        expect_in_pieces(&rt, rt.alloc(), bytes, want)?;
     }
     Ok(())
 }
 
 #[test]
 fn another_first_line_is_refused_before_the_source_fails(rt: HostRuntime) -> Result<(), Fail> {
-    let cases: [(&[u8], LoadFault); 10] = [
+    let cases: [(&[u8], LoadFault); 12] = [
         (b"# ninja log v6\n", LoadFault::OtherVersion),
         (b"# ninja log v05\n", LoadFault::OtherVersion),
-        (
-            b"# ninja log v4\n1\t2\t3\ta\tcc\tx\n4\t5\t6\tb\t\n",
-            LoadFault::OtherVersion,
-        ),
+        (b"# ninja log v04\n", LoadFault::OtherVersion),
+        (b"# ninja log v3\n", LoadFault::OtherVersion),
+        (b"# ninja log v4 \n", LoadFault::NotALog),
         (b"hello\n", LoadFault::NotALog),
         (b"\n", LoadFault::NotALog),
         (b"\n# ninja log v5\n", LoadFault::NotALog),
@@ -107,8 +141,9 @@ fn another_first_line_is_refused_before_the_source_fails(rt: HostRuntime) -> Res
 
 #[test]
 fn a_torn_beginning_that_is_no_header_is_refused(rt: HostRuntime) {
-    let cases: [&[u8]; 4] = [
+    let cases: [&[u8]; 5] = [
         b"hello",
+        b"# ninja log v4",
         b"# ninja log v6",
         b"# ninja log v5 ",
         b"# ninja logs",
@@ -143,6 +178,7 @@ fn a_long_line_is_skipped_whole(rt: HostRuntime) -> Result<(), Fail> {
     append_line(b"", 262_144, &mut log)?;
     log.extend_from_slice(b"1\t2\t3\tz\t1\n")?;
     let want = Want {
+        version: 5,
         counts: [1, 2, 524_314, 0],
         lines: b"1\t2\t3\tz\t1\n",
     };
@@ -182,6 +218,24 @@ fn append_line(words: &[u8], len: usize, log: &mut Vec<u8>) -> Result<(), AllocE
     Ok(())
 }
 
+fn expect_in_pieces(
+    rt: &impl Abort,
+    alloc: Global,
+    bytes: &[u8],
+    want: Want<'_>,
+) -> Result<(), Fail> {
+    expect_loaded(rt, alloc, &mut SliceSource::new(bytes), want)?;
+    for size in [1, 2, 3, 7, 4096] {
+        let mut source = ReadSource::new(PieceReader {
+            rest: bytes,
+            size,
+            fails: false,
+        });
+        expect_loaded(rt, alloc, &mut source, want)?;
+    }
+    Ok(())
+}
+
 fn expect_loaded<S: Source>(
     rt: &impl Abort,
     alloc: Global,
@@ -191,7 +245,7 @@ fn expect_loaded<S: Source>(
     let loaded = load(alloc, source)?;
     let counts = [loaded.total, loaded.skipped, loaded.whole, loaded.torn];
     assert_eq!(rt; counts, want.counts);
-    assert_eq!(rt; loaded.version, 5);
+    assert_eq!(rt; loaded.version, want.version);
     assert_eq!(rt; lines(alloc, &loaded.table)?.as_slice(), want.lines);
     Ok(())
 }
