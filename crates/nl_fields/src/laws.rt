@@ -3,12 +3,22 @@ ghost use Rattle.std.specs.Prelude.{◌≡◌, ◌≢◌, ◌↔◌, ℕ, ℤ, �
 ghost use Rattle.std.specs.Int.{w64};
 ghost use Rattle.nl_fields.specs.declared.entry.Entry.{Entry};
 ghost use Rattle.nl_fields.specs.declared.header.Header.{Header};
+ghost use Rattle.nl_fields.specs.Limits.{max_name, max_line, max_entry_line, max_log};
 ghost use Rattle.nl_fields.specs.Digits.{IsDigits, IsDecimal, digits_of, decimal_of};
 ghost use Rattle.nl_fields.specs.EntryLine.{IsEntry, IsEntryLine, IsEntryLineFour, line_of, entry_of, entry_of_four};
-ghost use Rattle.nl_fields.specs.Header.{IsHeader, header_line, header_of};
+ghost use Rattle.nl_fields.specs.Header.{IsHeader, version_five, header_line, header_of};
 ghost use Rattle.nl_fields.specs.CommandHash.{IsHash, hash_of};
 
 use crate::header::HEADER;
+use crate::limits::{MAX_ENTRY_LINE, MAX_LINE, MAX_LOG, MAX_NAME};
+
+/// The limits are those of the format.
+pub fn the_limits()
+    ensures name { MAX_NAME ≡ max_name }
+    ensures line { MAX_LINE ≡ max_line }
+    ensures entry_line { MAX_ENTRY_LINE ≡ max_entry_line }
+    ensures log { MAX_LOG ≡ max_log }
+{}
 
 /// A number has one decimal spelling, and a spelling one number.
 pub fn one_decimal()
@@ -46,13 +56,15 @@ pub fn one_entry_v4()
 
 /// A line is short and stays one line.
 pub fn line_is_short()
-    ensures length { (e : Entry) (line : List ℕ) → IsEntryLine e line → length line + 1 ≤ 65599 }
+    ensures length { (e : Entry) (line : List ℕ) → IsEntryLine e line → length line + 1 ≤ max_entry_line }
     ensures newline { (e : Entry) (line : List ℕ) → IsEntryLine e line → All (λ b. b ≢ 10) line }
 {}
 
-/// The header that is written is the line of version 5 and its newline.
+/// The header that is written is the line of version 5 and its newline, and reads as such.
 pub fn header_is_its_line()
-    ensures { HEADER.now ≡ header_line }
+    ensures line { HEADER.now ≡ header_line }
+    ensures newline { All (λ b. b ≢ 10) version_five }
+    ensures reads_back { header_of version_five ≡ Header.V5 }
 {}
 
 /// A first line tells one thing.

@@ -1,4 +1,6 @@
 pub mod SplitLemmas
+pub mod PrefixLemmas
+pub mod NewlineLemmas
 pub mod LinesLemmas
 pub mod RunLemmas
 pub mod LimitLemmas

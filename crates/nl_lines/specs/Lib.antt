@@ -1,4 +1,5 @@
 pub mod Source
+pub mod Prefix
 pub mod Split
 pub mod Lines
 pub mod Runs

@@ -1,9 +1,14 @@
 -- When a device failed in a call, by the count of its failures before and after.
-use Rattle.std.specs.Prelude.{ℕ, ◌+◌, ◌-◌, ◌^◌, ◌<◌, min}
+use Rattle.std.proofs.Common.{arith}
+use Rattle.std.specs.Prelude.{ℕ, ◌+◌, ◌-◌, ◌^◌, ◌<◌, ◌≤◌, min}
 
 -- where a count of failures stands still
 abbrev pub last_count : ℕ
 last_count = 2 ^ 64 - 1
+
+-- a count of failures
+abbrev pub IsCount : ℕ → Type 0
+IsCount count = count ≤ last_count
 
 -- the count after one more failure: it rises by one, up to its last value
 abbrev pub one_more : ℕ → ℕ
@@ -12,3 +17,6 @@ one_more count = count + min 1 (last_count - count)
 -- it failed in between: its count rose, unless it stood at its last value already
 abbrev pub FailedBetween : ℕ → ℕ → Type 0
 FailedBetween before after = before < last_count → before < after
+
+pub none_is_count : IsCount 0
+none_is_count = omega arith

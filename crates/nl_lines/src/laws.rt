@@ -1,11 +1,19 @@
 //! The laws of lines and of what readers of lines give. Each is the contract of a function that does nothing.
-ghost use Rattle.std.specs.Prelude.{◌≡◌, ◌<◌, ◌≤◌, ◌+◌, ℕ, List, [], ◌∷◌, length, Option, None, Some, Ok, Err, map};
-ghost use Rattle.nl_lines.specs.Split.{SplitsInto, lines_of, rest_of, whole_len, torn_len};
-ghost use Rattle.nl_lines.specs.Lines.{Reader, TakesLine, TakesRest, Answers, fresh, max_log, text_left};
+ghost use Rattle.std.specs.Prelude.{◌≡◌, ◌⊎◌, ◌<◌, ◌≤◌, ◌+◌, ℕ, List, [], ◌∷◌, ◌++◌, length, take, All, Option, None, Some, Ok, Err, map};
+ghost use Rattle.nl_lines.specs.Prefix.{IsPrefix};
+ghost use Rattle.nl_lines.specs.Split.{NoNewline, EndsInNewline, SplitsInto, with_newline, joined, lines_of, rest_of, whole_len, torn_len};
+ghost use Rattle.nl_lines.specs.Lines.{Reader, TakesLine, TakesRest, Answers, fresh, max_line, max_log, text_left};
 ghost use Rattle.nl_lines.specs.Runs.{Run, shown_of, text_shown};
 ghost use Rattle.nl_lines.specs.declared.lines.Line.{Line};
 
+use crate::limits::{MAX_LINE, MAX_LOG};
 use crate::lines::LineFault;
+
+/// The limits are those of the format.
+pub fn the_limits()
+    ensures line { MAX_LINE ≡ max_line }
+    ensures log { MAX_LOG ≡ max_log }
+{}
 
 /// Each text is its lines and its rest.
 pub fn every_text_splits()
@@ -21,6 +29,40 @@ pub fn a_text_splits_one_way()
 /// The two lengths are that of the text.
 pub fn whole_and_torn()
     ensures { (text : List ℕ) → whole_len text + torn_len text ≡ length text }
+{}
+
+/// The whole lines of a text are its prefix of that length.
+pub fn the_whole_lines_are_a_prefix()
+    ensures { (text : List ℕ) → take (whole_len text) text ≡ joined (lines_of text) }
+{}
+
+/// A text of which no byte belongs to a whole line has none.
+pub fn without_whole_bytes_there_is_no_line()
+    ensures { (text : List ℕ) → whole_len text ≡ 0 → lines_of text ≡ [] }
+{}
+
+/// Lines that are joined are read as these lines, and what stands after them as before.
+pub fn joined_lines_come_back()
+    ensures lines { (lines : List (List ℕ)) (tail : List ℕ) → All NoNewline lines → lines_of (joined lines ++ tail) ≡ lines ++ lines_of tail }
+    ensures rest { (lines : List (List ℕ)) (tail : List ℕ) → All NoNewline lines → rest_of (joined lines ++ tail) ≡ rest_of tail }
+{}
+
+/// A text that ends in a newline has a line, and no rest.
+pub fn a_last_newline_leaves_no_rest()
+    ensures lines { (text : List ℕ) → EndsInNewline text → 1 ≤ length (lines_of text) }
+    ensures rest { (text : List ℕ) → EndsInNewline text → rest_of text ≡ [] }
+    ensures joined { (line : List ℕ) (lines : List (List ℕ)) → EndsInNewline (joined (line ∷ lines)) }
+{}
+
+/// A prefix that has all whole lines has the same lines, and a prefix of the rest.
+pub fn a_cut_rest_leaves_the_lines()
+    ensures lines { (text prefix : List ℕ) → IsPrefix prefix text → whole_len text ≤ length prefix → lines_of prefix ≡ lines_of text }
+    ensures rest { (text prefix : List ℕ) → IsPrefix prefix text → whole_len text ≤ length prefix → IsPrefix (rest_of prefix) (rest_of text) }
+{}
+
+/// A prefix of a line and its newline is all of it, or has no newline.
+pub fn a_prefix_of_a_line_is_whole_or_torn()
+    ensures { (line prefix : List ℕ) → NoNewline line → IsPrefix prefix (with_newline line) → (prefix ≡ with_newline line) ⊎ NoNewline prefix }
 {}
 
 /// A line that is given is the first line of the text that was still to be given, and the later ones are still to come.

@@ -2,6 +2,7 @@
 #![tactic(auto)]
 
 pub mod laws;
+mod limits;
 mod lines;
 mod pieces;
 mod read_source;
@@ -9,7 +10,8 @@ mod slice_source;
 mod source;
 mod window;
 
-pub use lines::{Line, LineFault, Lines, MAX_LINE, MAX_LOG};
+pub use limits::{MAX_LINE, MAX_LOG};
+pub use lines::{Line, LineFault, Lines};
 pub use read_source::ReadSource;
 pub use slice_source::SliceSource;
 pub use source::{Source, SourceFault};

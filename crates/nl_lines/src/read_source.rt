@@ -1,5 +1,6 @@
 //! A reader as a source of bytes.
 ghost use Rattle.std.specs.Prelude.{◌≡◌};
+ghost use Rattle.nl_lines.specs.Source.{IsCount};
 
 use crate::source::{Source, SourceFault};
 use std::io::Read;
@@ -9,6 +10,7 @@ use std::io::Read;
 pub struct ReadSource<R> {
     reader: R,
     failures: u64,
+    ghost is_count: { IsCount failures },
 }
 
 impl<R: Read> ReadSource<R> {
@@ -27,6 +29,8 @@ impl<R: Read> Source for ReadSource<R> {
     ghost ahead = { λ s. R.remaining s.reader };
 
     ghost failures = { λ s. s.failures };
+
+    ghost is_count = { λ s. s.is_count };
 
     ghost keeps = { λ s t. Unit {0} };
 

@@ -1,5 +1,6 @@
 //! A slice as a source of bytes.
 ghost use Rattle.std.specs.Prelude.{◌≡◌, Some};
+ghost use Rattle.nl_lines.specs.Source.{none_is_count};
 
 use crate::source::{Source, SourceFault};
 
@@ -22,6 +23,8 @@ impl Source for SliceSource<'_> {
     ghost ahead = { λ s. Some s.rest.now };
 
     ghost failures = { λ s. 0 };
+
+    ghost is_count = { λ s. none_is_count };
 
     ghost keeps = { λ s t. Unit {0} };
 

@@ -2,7 +2,7 @@
 ghost use Rattle.std.specs.Prelude.{◌≡◌, ◌≤◌, List, ℕ, Option, OnOk, OnErr};
 ghost use Rattle.std.specs.Io.{ReadsAtMost};
 ghost use Rattle.std.specs.Io.KnownBytes.{ReadConsumes};
-ghost use Rattle.nl_lines.specs.Source.{FailedBetween};
+ghost use Rattle.nl_lines.specs.Source.{FailedBetween, IsCount};
 
 use thiserror::Error;
 
@@ -34,6 +34,9 @@ pub trait Source {
     /// How often it has failed, up to `u64::MAX`.
     fn failures(&self) -> u64
         ensures { result ≡ failures self.now };
+
+    // The count stops at the last value of a `u64`.
+    ghost is_count: { (s : Self) → IsCount (failures s) };
 
     // Where nothing is read, the relation holds.
     ghost keeps_same: { (s : Self) → keeps s s };
