@@ -1,7 +1,8 @@
 //! The laws of crash images. Each is the contract of a function that does nothing.
-ghost use Rattle.std.specs.Prelude.{◌≡◌, ◌⊎◌, ◌≤◌, ℕ, List, None, Result, length};
+ghost use Rattle.std.specs.Prelude.{◌≡◌, ◌⊎◌, ◌≤◌, ◌++◌, ℕ, List, None, Result, length, take};
 ghost use Rattle.nl_lines.specs.Lines.{max_log};
-ghost use Rattle.nl_folder.specs.DiskState.{Disk, File, IsPrefix, at_rest};
+ghost use Rattle.nl_lines.specs.Prefix.{IsPrefix};
+ghost use Rattle.nl_folder.specs.DiskState.{Disk, File, at_rest};
 ghost use Rattle.nl_folder.specs.CrashImages.{IsDisk, IsImage, IsImageOf};
 ghost use Rattle.nl_folder.specs.Calls.{log_grown, log_cut, log_synced, replaced, not_replaced, AppendsLog, CutsLog, SyncsLog, AppendsScratch, SyncsScratch, Replaces, Crashes};
 ghost use Rattle.nl_folder.specs.declared.folder.Fault.{Fault};
@@ -25,6 +26,17 @@ pub fn a_synced_log_has_one_image()
 pub fn an_image_after_an_append_is_a_prefix()
     ensures { (disk : Disk) (n : ℕ) (bytes bs : List ℕ) → disk.other ≡ None → IsImage (log_grown n bytes disk) bs
         → IsPrefix bs (log_grown n bytes disk).visible × (disk.log.durable_len ≤ length bs) }
+{}
+
+/// After an append a crash may leave what it could leave before, and else what a read gave and a prefix of what was added.
+pub fn an_image_after_an_append_is_an_old_one_or_goes_on()
+    ensures { (disk : Disk) (n : ℕ) (bytes bs : List ℕ) → IsDisk disk → IsImage (log_grown n bytes disk) bs
+        → IsImage disk bs ⊎ ((more : List ℕ) × (bs ≡ disk.visible ++ more) × IsPrefix more (take n bytes)) }
+{}
+
+/// A log at rest is all that a crash may leave.
+pub fn a_log_at_rest_has_one_image()
+    ensures { (text bs : List ℕ) (scratch : File) → IsImage (at_rest text scratch) bs → bs ≡ text }
 {}
 
 /// After a cut a crash may leave what it could leave before, and prefixes of that from the cut on.

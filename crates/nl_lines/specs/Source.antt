@@ -20,3 +20,6 @@ FailedBetween before after = before < last_count → before < after
 
 pub none_is_count : IsCount 0
 none_is_count = omega arith
+
+pub one_more_is_count : (count : ℕ) → IsCount count → IsCount (one_more count)
+one_more_is_count count is = omega (arith, is)
