@@ -15,6 +15,9 @@ mod updates;
 // Many updates, against the reference.
 mod agreement;
 
+// A log of many outputs, long names among them.
+mod many;
+
 // Readers that give a log in pieces, and fail.
 mod sources;
 

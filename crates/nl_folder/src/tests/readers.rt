@@ -48,6 +48,22 @@ fn a_failed_read_of_the_log_is_a_failure_of_the_source(rt: HostRuntime) -> Resul
 }
 
 #[test]
+fn each_read_asks_the_folder_once(rt: HostRuntime) -> Result<(), Fail> {
+    for nth in [1, 2, 3] {
+        let fuse = Some(Fuse {
+            call: Call::Any,
+            nth,
+        });
+        let mut reader = LogReader::new(folder_of(rt.alloc(), b"abcde", &[], &[], fuse)?);
+        for read in [1, 2, 3] {
+            let answer = reader.read_some(&mut [0u8; 2]);
+            assert_eq!(rt; answer.is_err(), read == nth, "read {read} of {nth}");
+        }
+    }
+    Ok(())
+}
+
+#[test]
 fn callers_append_cut_and_survive_a_crash(rt: HostRuntime) -> Result<(), Fail> {
     let mut folder = folder_of(rt.alloc(), b"abc", &[1, 1], &[0], None)?;
     assert_eq!(rt; append_all(&mut folder, b"defg"), Ok(()));
