@@ -6,4 +6,6 @@ pub mod TouchLemmas
 pub mod FirstLineLemmas
 pub mod LoadLemmas
 pub mod LoadedLemmas
-pub mod CutLemmas
+pub mod LogLemmas
+pub mod LogTextLemmas
+pub mod ValidLemmas

@@ -5,5 +5,6 @@ pub mod Stamps
 pub mod Due
 pub mod LogUser
 pub mod Log
+pub mod LogText
 pub mod Loading
 pub mod LoadSteps
