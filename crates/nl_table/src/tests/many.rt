@@ -22,9 +22,9 @@ fn name(alloc: Global, number: u64) -> Result<Name, Fail> {
 
 fn entry(alloc: Global, number: u64) -> Result<Entry, Fail> {
     Ok(Entry {
-        start_ms: number as i32,
-        end_ms: (2 * number) as i32,
-        mtime: (3 * number) as i64,
+        start_ms: (number % 2000) as i32,
+        end_ms: (number % 2000 + 7) as i32,
+        mtime: (number % 2000 * 3) as i64,
         name: name(alloc, number % 1000)?,
         hash: number,
     })
