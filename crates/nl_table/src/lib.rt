@@ -2,6 +2,7 @@
 #![tactic(auto)]
 
 mod due;
+mod hasher;
 pub mod laws;
 mod limits;
 mod loader;

@@ -21,5 +21,8 @@ mod many;
 // Readers that give a log in pieces, and fail.
 mod sources;
 
+// How the hashes of names are spread.
+mod hashes;
+
 // What is loaded of a log, and what is refused.
 mod loading;
