@@ -2,6 +2,7 @@ pub mod SearchLemmas
 pub mod DigitLemmas
 pub mod NumberLemmas
 pub mod HexLemmas
+pub mod HexReadLemmas
 pub mod EntryLineLemmas
 pub mod FieldLemmas
 pub mod LineOfLemmas
