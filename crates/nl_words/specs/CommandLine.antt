@@ -1,7 +1,7 @@
 -- The words of the program, as a simple command of `clap`, and the command that they name.
 use Rattle.std.specs.Prelude.{◌≡◌, ◌⊎◌, ⊤, List, [], Bool, true, false, Option, Some, None, codes, is_some, option_map, ◌∷◌, if◌then◌else◌}
 use Rattle.std.specs.Str.{bytes_eq}
-use Rattle.clap.specs.Words.{App, Row, Rule, Text, first_of, new_app, new_rule, with_rule, with_subcommand}
+use Rattle.clap.specs.Words.{App, Row, Rule, Shape, Text, first_of, new_app, new_rule, with_rule, with_subcommand}
 use Rattle.nl_words.specs.declared.command_line.Words.{Words}
 use Rattle.nl_words.specs.declared.command_line.Words.TheVariants.{Show, Check, Hash, Record, Recompact, Restat, Replay}
 use Rattle.std.specs.Borrow.{Bor}
@@ -63,25 +63,19 @@ IsCommandName name = (name ≡ codes "show") ⊎ ((name ≡ codes "check") ⊎ (
     ⊎ ((name ≡ codes "record") ⊎ ((name ≡ codes "recompact") ⊎ ((name ≡ codes "restat")
     ⊎ (name ≡ codes "replay"))))))
 
--- the values that a command can't be without
-abbrev pub hash_values : List Text
-hash_values = codes "COMMAND" ∷ []
+-- the values that a command can't be without, by its rules
+abbrev pub required_ids : List Rule → List Text
+required_ids [] = []
+required_ids (a ∷ rules) = if a.required then a.id ∷ required_ids rules else required_ids rules
 
-abbrev pub record_values : List Text
-record_values = codes "LOG" ∷ codes "START" ∷ codes "END" ∷ codes "MTIME" ∷ codes "NAME"
-    ∷ codes "COMMAND" ∷ []
+-- those of the first of these commands that has the name
+abbrev pub required_in : List Shape → Text → List Text
+required_in [] name = []
+required_in (s ∷ shapes) name = if bytes_eq s.name name then required_ids s.rules else required_in shapes name
 
-abbrev pub recompact_values : List Text
-recompact_values = codes "LOG" ∷ codes "KEEP" ∷ []
-
-abbrev pub restat_values : List Text
-restat_values = codes "LOG" ∷ codes "TIMES" ∷ []
-
+-- those of the program's command of this name
 abbrev pub required_of : Text → List Text
-required_of name = if bytes_eq name (codes "hash") then hash_values
-    else (if bytes_eq name (codes "record") then record_values
-    else (if bytes_eq name (codes "recompact") then recompact_values
-    else (if bytes_eq name (codes "restat") then restat_values else [])))
+required_of name = required_in nlog.subs name
 
 -- each of the values is there
 abbrev pub HasEach : List Text → List Row → Type 0

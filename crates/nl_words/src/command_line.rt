@@ -1,7 +1,7 @@
 //! The command that a command line names, and the values that it gives.
 ghost use Rattle.std.specs.Prelude.{◌≡◌, codes, is_some, map, string_bytes, true, IfOk};
 ghost use Rattle.clap.specs.Words.{first_of, found_of, rows_of, subcommand_of, subcommand_rows_of, FailsBy, fault_of};
-ghost use Rattle.nl_words.specs.CommandLine.{hash_values, nlog, record_values, recompact_values, restat_values, HasEach, IsGiven, IsSaid, IsThere, IsWhole};
+ghost use Rattle.nl_words.specs.CommandLine.{nlog, required_of, HasEach, IsGiven, IsSaid, IsThere, IsWhole};
 
 use crate::definition::nlog_command;
 use clap::{ArgMatches, Error};
@@ -44,7 +44,7 @@ pub fn read_words<'a>(alloc: Global, words: &'a [String]) -> Result<Words<'a>, E
     Ok(said(&matches))
 }
 
-/// The command that was entered, with its values.
+// The command that was entered, with its values.
 fn said<'a>(matches: &ArgMatches<'a>) -> Words<'a>
     requires { IsWhole (subcommand_rows_of matches.now) }
     ensures { IsSaid result (subcommand_rows_of matches.now) }
@@ -64,14 +64,14 @@ fn said<'a>(matches: &ArgMatches<'a>) -> Words<'a>
 }
 
 fn hash_words<'a>(inner: &ArgMatches<'a>) -> Words<'a>
-    requires { HasEach hash_values (rows_of (found_of inner.now)) }
+    requires { HasEach (required_of (codes "hash")) (rows_of (found_of inner.now)) }
     ensures { IsSaid result (Some (codes "hash", rows_of (found_of inner.now))) }
 {
     Words::Hash(value(inner, "COMMAND"))
 }
 
 fn record_words<'a>(inner: &ArgMatches<'a>) -> Words<'a>
-    requires { HasEach record_values (rows_of (found_of inner.now)) }
+    requires { HasEach (required_of (codes "record")) (rows_of (found_of inner.now)) }
     ensures { IsSaid result (Some (codes "record", rows_of (found_of inner.now))) }
 {
     Words::Record {
@@ -85,7 +85,7 @@ fn record_words<'a>(inner: &ArgMatches<'a>) -> Words<'a>
 }
 
 fn recompact_words<'a>(inner: &ArgMatches<'a>) -> Words<'a>
-    requires { HasEach recompact_values (rows_of (found_of inner.now)) }
+    requires { HasEach (required_of (codes "recompact")) (rows_of (found_of inner.now)) }
     ensures { IsSaid result (Some (codes "recompact", rows_of (found_of inner.now))) }
 {
     Words::Recompact {
@@ -95,7 +95,7 @@ fn recompact_words<'a>(inner: &ArgMatches<'a>) -> Words<'a>
 }
 
 fn restat_words<'a>(inner: &ArgMatches<'a>) -> Words<'a>
-    requires { HasEach restat_values (rows_of (found_of inner.now)) }
+    requires { HasEach (required_of (codes "restat")) (rows_of (found_of inner.now)) }
     ensures { IsSaid result (Some (codes "restat", rows_of (found_of inner.now))) }
 {
     Words::Restat {
@@ -104,14 +104,14 @@ fn restat_words<'a>(inner: &ArgMatches<'a>) -> Words<'a>
     }
 }
 
-/// The value of an argument that may be left out.
+// The value of an argument that may be left out.
 fn optional<'a>(matches: &ArgMatches<'a>, id: &str) -> Option<&'a str>
     ensures { IsGiven id.now (rows_of (found_of matches.now)) result }
 {
     matches.get_str(id)
 }
 
-/// The value of an argument that is there.
+// The value of an argument that is there.
 fn value<'a>(matches: &ArgMatches<'a>, id: &str) -> &'a str
     requires { is_some (first_of id.now (rows_of (found_of matches.now))) ≡ true }
     ensures { IsThere id.now (rows_of (found_of matches.now)) result }

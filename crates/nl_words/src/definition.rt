@@ -11,21 +11,18 @@ const VERSION: &str = "0.1.0";
 
 const AFTER: &str = "\
 Without a command, and with `show` or `check` without LOG, a log is read from standard input.
-A LOG that is missing is read as one without entries.
+A LOG that is missing is read as one without entries, also where its name is mistyped.
 
-An entry is one line: START, END, MTIME, NAME and HASH with a tab between neighbours. START and
-END are milliseconds since the build began. MTIME is the time stamp that the build recorded, in
-the unit of its file system (Ninja on Linux writes nanoseconds since 1970). HASH is the hash of
-the command, in hexadecimal.
-
-`record`, `recompact`, `restat` and `replay` are not in this version yet: their words are read,
-and then refused.
+Examples:
+  nlog show build/.ninja_log
+  nlog check < .ninja_log
 
 Status: 0 done; 1 refused, and a line `nlog: ...` on standard error says why; 2 wrong words.";
 
-const LOG: &str = "A build log of Ninja, version 5";
+const LOG: &str = "A build log of Ninja, version 4 or 5";
 
-const OPTIONAL_LOG: &str = "A build log of Ninja, version 5; standard input where it is left out";
+const OPTIONAL_LOG: &str =
+    "A build log of Ninja, version 4 or 5; standard input where it is left out";
 
 /// The whole command line.
 pub fn nlog_command<'a>(alloc: Global) -> Result<Command<'a>, AllocError>
@@ -38,7 +35,7 @@ pub fn nlog_command<'a>(alloc: Global) -> Result<Command<'a>, AllocError>
     with_command(nlog, replay_command(alloc)?)
 }
 
-/// The program with the commands that change no file.
+// The program with the commands that change no file.
 fn printing_commands<'a>(alloc: Global) -> Result<Command<'a>, AllocError>
     ensures { IfOk result (λ c. app_of c ≡ printing) }
 {
@@ -47,18 +44,18 @@ fn printing_commands<'a>(alloc: Global) -> Result<Command<'a>, AllocError>
     with_command(nlog, hash_command(alloc)?)
 }
 
-/// The program without its commands.
+// The program without its commands.
 fn named_command<'a>(alloc: Global) -> Command<'a>
     ensures { app_of result ≡ named }
 {
     Command::new(alloc, "nlog")
         .version(VERSION)
-        .about("Reads and checks build logs of Ninja")
+        .about("Reads and checks build logs of Ninja, versions 4 and 5")
         .after_help(AFTER)
         .disable_help_subcommand(true)
 }
 
-/// The program with one more command.
+// The program with one more command.
 fn with_command<'a>(nlog: Command<'a>, command: Command<'a>) -> Result<Command<'a>, AllocError>
     requires { (out-Command command).has_globals ≡ false }
     ensures { IfOk result (λ c. app_of c ≡ with_subcommand (app_of nlog.entry) (app_of command.entry).top) }
@@ -66,7 +63,7 @@ fn with_command<'a>(nlog: Command<'a>, command: Command<'a>) -> Result<Command<'
     nlog.subcommand(command)
 }
 
-/// The command with one more value, which stands by its place.
+// The command with one more value, which stands by its place.
 fn with_value<'a>(
     alloc: Global,
     command: Command<'a>,
@@ -84,9 +81,21 @@ fn show_command<'a>(alloc: Global) -> Result<Command<'a>, AllocError>
     ensures shape { IfOk result (λ c. app_of c ≡ show) }
     ensures local { IfOk result (λ c. (out-Command c).has_globals ≡ false) }
 {
-    let command = Command::new(alloc, "show").about(
-        "Prints the last entry of each output, in the order in which the outputs first appear",
-    );
+    let command = Command::new(alloc, "show")
+        .about(
+            "Prints the last entry of each output, in the order in which the outputs first appear",
+        )
+        .after_help(
+            "\
+One line for each output: START, END, MTIME, NAME and HASH with a tab between neighbours.
+
+START  when its command began, in milliseconds since the build began
+END    when its command ended, in milliseconds since the build began
+MTIME  the time stamp that the build recorded, in the unit of its file system: Ninja on Linux
+       writes nanoseconds since 1970
+NAME   the output
+HASH   the hash of the command, in hexadecimal",
+        );
     with_value(alloc, command, "LOG", false, OPTIONAL_LOG)
 }
 
@@ -98,7 +107,7 @@ fn check_command<'a>(alloc: Global) -> Result<Command<'a>, AllocError>
         .about("Prints what a log holds: version, total, unique, skipped, torn, due")
         .after_help(
             "\
-version  the log's version
+version  4 or 5: the log's version
 total    how many of its lines are entries
 unique   how many outputs these entries have
 skipped  how many whole lines after the first are no entries
@@ -128,7 +137,9 @@ fn record_command<'a>(alloc: Global) -> Result<Command<'a>, AllocError>
     ensures shape { IfOk result (λ c. app_of c ≡ record_line) }
     ensures local { IfOk result (λ c. (out-Command c).has_globals ≡ false) }
 {
-    let command = Command::new(alloc, "record").about("Appends one entry to a log; prints nothing");
+    let command = Command::new(alloc, "record").about(
+        "Not in this version yet: appends one entry to a log; prints nothing",
+    );
     let command = with_value(alloc, command, "LOG", true, LOG)?;
     let command = with_value(
         alloc,
@@ -166,7 +177,7 @@ fn recompact_command<'a>(alloc: Global) -> Result<Command<'a>, AllocError>
     ensures local { IfOk result (λ c. (out-Command c).has_globals ≡ false) }
 {
     let command = Command::new(alloc, "recompact").about(
-        "Rewrites a log so that it holds the last entry of each output that KEEP names; prints nothing",
+        "Not in this version yet: rewrites a log with the last entry of each output that KEEP names; prints nothing",
     );
     let command = with_value(alloc, command, "LOG", true, LOG)?;
     with_value(
@@ -183,7 +194,7 @@ fn restat_command<'a>(alloc: Global) -> Result<Command<'a>, AllocError>
     ensures local { IfOk result (λ c. (out-Command c).has_globals ≡ false) }
 {
     let command = Command::new(alloc, "restat").about(
-        "Rewrites a log with the time stamps that TIMES gives; prints nothing",
+        "Not in this version yet: rewrites a log with the time stamps that TIMES gives; prints nothing",
     );
     let command = with_value(alloc, command, "LOG", true, LOG)?;
     with_value(
@@ -200,7 +211,7 @@ fn replay_command<'a>(alloc: Global) -> Result<Command<'a>, AllocError>
     ensures local { IfOk result (λ c. (out-Command c).has_globals ≡ false) }
 {
     let command = Command::new(alloc, "replay").about(
-        "Runs the events of a script on a log in memory, and prints the replies and that log",
+        "Not in this version yet: runs the events of a script on a log in memory, and prints the replies and that log",
     );
     with_value(
         alloc,
