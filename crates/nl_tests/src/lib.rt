@@ -13,12 +13,18 @@ mod sweeps;
 // The command hash: `hash`.
 #[cfg(test)]
 mod hash;
+// `run` and the whole program: which log is read, which text goes where, and the status.
+#[cfg(test)]
+mod runs;
 // Command lines: what each command reads, and each kind of wrong words.
 #[cfg(test)]
 mod words;
 // The texts and the status of the faults.
 #[cfg(test)]
 mod faults;
-// Readers and writers that fail.
+// Readers and writers that fail, for ever or for some calls.
 #[cfg(test)]
 mod support;
+// A runtime whose words and input are given, and which keeps what is printed.
+#[cfg(test)]
+mod taped;

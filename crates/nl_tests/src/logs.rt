@@ -77,6 +77,12 @@ const VERSION_4: Case = (
     "version 4\ntotal 2\nunique 2\nskipped 0\ntorn 0\ndue yes\n",
 );
 
+const VERSION_4_WITHOUT_A_COMMAND: Case = (
+    b"# ninja log v4\n1\t2\t3\ta\n",
+    "",
+    "version 4\ntotal 0\nunique 0\nskipped 1\ntorn 0\ndue yes\n",
+);
+
 #[test]
 fn a_log_of_each_kind_is_shown_and_checked(rt: HostRuntime) -> Result<(), Fail> {
     let alloc = rt.alloc();
@@ -93,6 +99,7 @@ fn a_log_of_each_kind_is_shown_and_checked(rt: HostRuntime) -> Result<(), Fail> 
         MERGED_LINE,
         SECOND_HEADER,
         VERSION_4,
+        VERSION_4_WITHOUT_A_COMMAND,
     ];
     for (at, (log, shown, checked)) in cases.iter().enumerate() {
         let mut out = Vec::new(alloc);

@@ -1,1 +1,2 @@
 pub mod OutputLemmas
+mod EndingLemmas

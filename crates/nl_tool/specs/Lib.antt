@@ -1,3 +1,4 @@
 pub mod Output
 pub mod Loading
 pub mod Faults
+pub mod Ending

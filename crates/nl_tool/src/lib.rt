@@ -2,6 +2,7 @@
 #![tactic(auto)]
 
 mod check;
+mod ending;
 mod fault;
 mod hash;
 mod loading;
@@ -10,8 +11,9 @@ mod program;
 mod show;
 
 pub use check::check_to;
+pub use ending::{run_line, run_program};
 pub use fault::{ToolFault, status_of};
 pub use hash::hash_to;
 pub use nl_words::{Words, read_words};
-pub use program::run;
+pub use program::{answer_to, run};
 pub use show::show_to;

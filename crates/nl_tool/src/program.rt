@@ -13,20 +13,29 @@ use std::io::{ErrorKind, Read, Write};
 use std::rt::{Files, Runtime};
 use std::{fs, io};
 
-/// Does what the words say. A log that is missing is read as one without bytes. The commands that change files, and
-/// `replay`, are only named so far.
+/// Does what the words say, with standard output for its text. LOG is read, or standard input where there is no LOG; a
+/// log that is missing is read as one without bytes. The commands that change files, and `replay`, are only named so far.
 pub fn run<R: Runtime>(rt: &R, alloc: Global, words: &Words<'_>) -> Result<(), ToolFault>
     ensures faults { IfErr result (IsFaultOf words.now) }
     ensures not_yet { IsErrOf result ToolFault.NotYet ↔ IsNamedOnly words.now }
 {
     match *words {
-        Words::Show(Some(path)) => answer_file(rt, alloc, words, path),
-        Words::Check(Some(path)) => answer_file(rt, alloc, words, path),
-        _ => answer_to(alloc, words, rt.reader(), &mut io::writer(rt)),
+        Words::Show(Some(path)) | Words::Check(Some(path)) => answer_file(rt, alloc, words, path),
+        Words::Show(None) | Words::Check(None) => answer_to(
+            alloc,
+            words,
+            rt.reader(),
+            &mut io::writer(rt),
+        ),
+        Words::Hash(_)
+        | Words::Record { .. }
+        | Words::Recompact { .. }
+        | Words::Restat { .. }
+        | Words::Replay(_) => answer_to(alloc, words, io::empty(), &mut io::writer(rt)),
     }
 }
 
-/// Answers over the log at this path.
+// Answers over the log at this path.
 fn answer_file<R: Files + Print>(
     rt: &R,
     alloc: Global,
@@ -44,8 +53,8 @@ fn answer_file<R: Files + Print>(
     }
 }
 
-/// Does what the words say, with this reader for the log.
-fn answer_to<R: Read + Drop, W: Write>(
+/// Does what the words say, with this reader for the log and this writer for the text.
+pub fn answer_to<R: Read + Drop, W: Write>(
     alloc: Global,
     words: &Words<'_>,
     reader: R,
@@ -64,7 +73,7 @@ fn answer_to<R: Read + Drop, W: Write>(
     }
 }
 
-/// The file of a log, or none where it is missing.
+// The file of a log, or none where it is missing.
 fn open_log<R: Files>(rt: &R, path: &str) -> Result<Option<R::File>, ToolFault>
     ensures fault { IfErr result (λ e. e ≡ ToolFault.Read) }
 {

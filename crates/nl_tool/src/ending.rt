@@ -1,0 +1,92 @@
+//! How the program ends: what it says of an answer, on which stream, and with which status.
+ghost use Rattle.std.specs.Prelude.{◌≡◌, ◌≤◌, ◌⊎◌, map, string_bytes};
+ghost use Rattle.clap.specs.Words.{fault_of, kind_of};
+ghost use Rattle.nl_tool.specs.Ending.{status_after, IsStatusBy, IsStatusOfKind};
+ghost use Rattle.nl_words.specs.CommandLine.{nlog};
+
+use crate::fault::{ToolFault, status_of};
+use crate::program::run;
+use clap::Error;
+use clap::error::ErrorKind;
+use nl_words::read_words;
+use std::alloc::Global;
+use std::rt::Runtime;
+use std::{env, io};
+
+const DONE: u8 = 0;
+
+const WRONG_WORDS: u8 = 2;
+
+/// The whole program: reads the words that it was given, does what they say, and answers the status to end with.
+pub fn run_program<R: Runtime + AllocGlobal>(rt: &R) -> u8
+    ensures status { result ≤ 2 }
+{
+    match given_words(rt) {
+        Ok(line) => run_line(rt, rt.alloc(), line.as_slice()),
+        Err(error) => refuse_line(rt, &error),
+    }
+}
+
+/// Does what a command line says, of which the first word is the program's name, and answers the status to end with.
+///
+/// The text of a command, help and the version go to standard output; why something was refused goes to standard error.
+pub fn run_line<R: Runtime>(rt: &R, alloc: Global, line: &[String]) -> u8
+    ensures status { IsStatusBy (fault_of nlog (map string_bytes line.now)) result }
+    ensures bound { result ≤ 2 }
+{
+    match read_words(alloc, line) {
+        Ok(words) => end(rt, run(rt, alloc, &words)),
+        Err(error) => explain(rt, &error),
+    }
+}
+
+fn given_words<R: Runtime + AllocGlobal>(rt: &R) -> io::Result<Vec<String>> {
+    Ok(env::args(rt)?.collect(rt.alloc())?)
+}
+
+fn end(rt: &impl Eprint, answer: Result<(), ToolFault>) -> u8
+    ensures status { result ≡ status_after answer }
+    ensures bound { result ≤ 1 }
+{
+    match answer {
+        Ok(()) => DONE,
+        Err(fault) => refuse(rt, fault),
+    }
+}
+
+// Says that a command was refused, and why.
+fn refuse(rt: &impl Eprint, fault: ToolFault) -> u8
+    ensures { result ≡ 1 }
+{
+    let _ = eprintln!(rt; "nlog: {fault}");
+    status_of(&fault)
+}
+
+// Says why the words could not be taken, as where they are no UTF-8.
+fn refuse_line(rt: &impl Eprint, error: &io::Error) -> u8
+    ensures { (result ≡ 1) ⊎ (result ≡ 2) }
+{
+    if error.kind() == io::ErrorKind::OutOfMemory {
+        return refuse(rt, ToolFault::Memory);
+    }
+    let _ = eprintln!(rt; "nlog: cannot read the words: {error}");
+    WRONG_WORDS
+}
+
+// Prints help or the version on standard output, and what is wrong with the words on standard error.
+fn explain(rt: &(impl Print + Eprint), error: &Error) -> u8
+    ensures status { IsStatusOfKind (kind_of error.now) result }
+    ensures bound { result ≤ 2 }
+{
+    match error.kind() {
+        ErrorKind::OutOfMemory => refuse(rt, ToolFault::Memory),
+        ErrorKind::DisplayHelp | ErrorKind::DisplayVersion => match error.print(rt) {
+            Ok(()) => DONE,
+            Err(_) => refuse(rt, ToolFault::Write),
+        },
+        _ => {
+            let _ = error.print(rt);
+            WRONG_WORDS
+        }
+    }
+}
