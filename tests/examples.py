@@ -1,0 +1,217 @@
+#!/usr/bin/env python3
+"""Runs the examples of README.md and docs/CLI.md with a built program, and compares what they print and how they end.
+
+    python3 tests/examples.py PROGRAM
+
+An example is a line `$ COMMAND` of an indented block, and the lines after it are what a terminal shows of it. What begins
+with `nlog:` or `error:` is wanted on standard error, the rest on standard output. The status is the one that docs/CLI.md
+gives: 2 with wrong words, 1 with a refusal, else 0; an example `$ echo $?` after it states another. The rows of the tables
+of messages are examples too: standard error begins with their text. `<TAB>` on a page is a tab.
+
+A paragraph that ends in "file `NAME` holds" (or "file `NAME`, without a newline at its end, holds") says that the block after
+it is that file. The examples of a page run in order in one folder, with the page's files.
+
+The script fails where an example differs, and where a page has none for a command that the program's help lists. Its last
+line is `N passed, M failed`.
+"""
+import os
+import re
+import shutil
+import subprocess
+import sys
+import tempfile
+
+TOP = os.path.dirname(os.path.dirname(os.path.abspath(__file__)))
+PAGES = ("README.md", "docs/CLI.md")
+SECONDS = 60
+
+# The head of a table of messages.
+MESSAGES = "| Text | Cause | Example |"
+# What the help says of a command that doesn't work yet.
+NOT_YET = "Not in this version yet"
+
+
+class Example:
+    """A command of a page, and what is wanted of it. Of a row of a table only the beginning of standard error is known."""
+
+    def __init__(self, where, command, shown, is_row=False):
+        at = re.search(r"(?m)^(nlog|error): ", shown)
+        at = at.start() if at else len(shown)
+        self.where, self.command, self.is_row = where, command, is_row
+        self.out, self.err = shown[:at], shown[at:]
+        self.status = status_with(self.err)
+
+    def differs(self, status, out, err):
+        """Says in what a run differs from this, or nothing."""
+        if status != self.status:
+            return f"status {status} in place of {self.status}; standard error: {err!r}"
+        if not self.is_row and out != self.out:
+            return f"standard output {out!r} in place of {self.out!r}"
+        if not (err.startswith(self.err) if self.is_row else err == self.err):
+            return f"standard error {err!r} in place of {self.err!r}"
+        return None
+
+
+def status_with(err):
+    """The status that docs/CLI.md gives to a text on standard error."""
+    if err.startswith(("error: ", "nlog: cannot read the words")):
+        return 2
+    return 1 if err else 0
+
+
+def lines_of(page):
+    with open(f"{TOP}/{page}", encoding="utf-8") as it:
+        return it.read().split("\n")
+
+
+def blocks(page):
+    """Gives the indented blocks of a page: the number of the first line, the paragraph before it, and its lines."""
+    paragraph, block, is_over = [], [], True
+    for number, line in enumerate([*lines_of(page), "."], 1):
+        if line.startswith("    ") or block and not line:
+            block.append(line[4:])
+            continue
+        if block:
+            yield number - len(block), " ".join(paragraph), block
+            block, is_over = [], True
+        if line and is_over:
+            paragraph = []
+        if line:
+            paragraph.append(line)
+        is_over = not line
+
+
+def stripped(lines):
+    """The text of these lines without the empty ones at its end."""
+    text = "".join(f"{it}\n" for it in lines).rstrip("\n")
+    return f"{text}\n".replace("<TAB>", "\t") if text else ""
+
+
+def file_of(paragraph, block):
+    """The name and the bytes of the file that a block gives, by the end of the paragraph before it."""
+    named = re.search(r"\b[Ff]ile `([\w.]+)`(, without a newline at its end,)? holds$", paragraph)
+    if not named or any(it.startswith("$ ") for it in block):
+        return None
+    text = stripped(block)
+    return named[1], (text.rstrip("\n") if named[2] else text).encode()
+
+
+def read_block(page, start, block):
+    """The examples of a block, in order."""
+    examples = []
+    starts = [i for i, line in enumerate(block) if line.startswith("$ ")]
+    for at, end in zip(starts, [*starts[1:], len(block)]):
+        command, shown = block[at][2:].replace("<TAB>", "\t"), stripped(block[at + 1 : end])
+        if command == "echo $?" and examples:
+            examples[-1].status = int(shown)
+        else:
+            examples.append(Example(f"{page}:{start + at}", command, shown))
+    return examples
+
+
+def read_rows(page):
+    """The examples in the rows of the tables of messages."""
+    is_table = False
+    for number, line in enumerate(lines_of(page), 1):
+        is_table = line == MESSAGES or is_table and line.startswith("|")
+        if not is_table or not line.startswith("| `"):
+            continue
+        cells = [it.strip().replace("\\|", "|") for it in re.split(r"(?<!\\)\|", line)]
+        text = re.match(r"`([^`]*)`", cells[1])[1]
+        shown = text if text.startswith(("error:", "nlog:")) else f"nlog: {text}\n"
+        for command in re.findall(r"`([^`]+)`", cells[3]):
+            yield Example(f"{page}:{number}", command, shown, is_row=True)
+
+
+def read_page(page):
+    """The files of a page, and its examples, first those of its blocks."""
+    files, examples = {}, []
+    for start, paragraph, block in blocks(page):
+        given = file_of(paragraph, block)
+        if given:
+            files[given[0]] = given[1]
+        else:
+            examples += read_block(page, start, block)
+    return files, [*examples, *read_rows(page)]
+
+
+def run(room, program, command):
+    """Runs a command in a folder, and returns its status, standard output and standard error."""
+    path = f"{os.path.dirname(program)}:{os.environ.get('PATH', os.defpath)}"
+    env = {"PATH": path, "HOME": room, "LANG": "C.UTF-8"}
+    how = {"cwd": room, "env": env, "stdin": subprocess.DEVNULL, "capture_output": True, "timeout": SECONDS}
+    try:
+        ran = subprocess.run(["bash", "-c", command], **how)
+    except subprocess.TimeoutExpired:
+        return None, "", f"it had not ended after {SECONDS} seconds"
+    return ran.returncode, ran.stdout.decode(errors="replace"), ran.stderr.decode(errors="replace")
+
+
+def fill(room, program, files):
+    """Puts a page's files into a folder, and the program and its stored input where README.md has them."""
+    os.makedirs(f"{room}/crates/nlog/out")
+    shutil.copyfile(f"{TOP}/crates/nlog/stdin", f"{room}/crates/nlog/stdin")
+    shutil.copy(program, f"{room}/crates/nlog/out/nlog")
+    for name, text in files.items():
+        with open(f"{room}/{name}", "wb") as it:
+            it.write(text)
+
+
+def commands_of(program):
+    """The commands that the program's help lists, each with the first words on it."""
+    with tempfile.TemporaryDirectory() as room:
+        out = run(room, program, "nlog --help")[1]
+    listed = re.search(r"(?m)^Commands:\n((?:  .*\n)+)", out)
+    return re.findall(r"(?m)^  ([a-z]+) +(.*)$", listed[1]) if listed else []
+
+
+def lacking(page, examples, commands):
+    """The words of which a page shows no example: on the page of the command line all, on the others those that work."""
+    is_whole = page == "docs/CLI.md"
+    words = [name for name, about in commands if is_whole or not about.startswith(NOT_YET)]
+    words += ["--help", "--version"] if is_whole else []
+    for word in words:
+        if not any(re.search(rf"(^|[/ (])nlog {word}(?![\w-])", it.command) for it in examples):
+            yield f"`nlog {word}`"
+    if not any(re.search(r"(^|[/ (])nlog( <.*)?$", it.command) for it in examples):
+        yield "`nlog` without a word"
+
+
+def try_page(page, program, commands):
+    """Tries a page, and returns how many of its examples passed, and what failed."""
+    files, examples = read_page(page)
+    failures = [f"{page} shows no example of {it}" for it in lacking(page, examples, commands)]
+    passed = 0
+    with tempfile.TemporaryDirectory(prefix="nlog-examples-") as room:
+        fill(room, program, files)
+        for example in examples:
+            why = example.differs(*run(room, program, example.command))
+            if why:
+                failures.append(f"{example.where}: {example.command}: {why}")
+            passed += not why
+    return passed, failures
+
+
+def main(words):
+    if len(words) != 1 or not os.path.isfile(words[0]):
+        print("examples.py: FAILED: the program to run is not there")
+        print("0 passed, 1 failed")
+        return 1
+    passed, failures = 0, []
+    with tempfile.TemporaryDirectory(prefix="nlog-program-") as folder:
+        program = shutil.copy(words[0], f"{folder}/nlog")
+        os.chmod(program, 0o755)
+        commands = commands_of(program)
+        if not commands:
+            failures.append("the program's help lists no commands")
+        for page in PAGES:
+            more, why = try_page(page, program, commands)
+            passed, failures = passed + more, failures + why
+    for it in failures:
+        print(f"examples.py: FAILED: {it}")
+    print(f"{passed} passed, {len(failures)} failed")
+    return 1 if failures else 0
+
+
+if __name__ == "__main__":
+    sys.exit(main(sys.argv[1:]))
