@@ -44,7 +44,10 @@ fn two_thousand_entries_of_a_thousand_outputs_are_loaded(rt: HostRuntime) -> Res
         plain.put(entry(alloc, number)?)?;
     }
     let loaded = load(alloc, &mut SliceSource::new(&log))?;
-    assert_eq!(rt; (loaded.total, loaded.skipped, loaded.table.len()), (2000, 0, 1000));
+    assert_eq!(rt;
+        (loaded.total, loaded.skipped, loaded.table.len()),
+        (2000, 0, 1000)
+    );
     assert!(rt; plain.is_same(&loaded.table));
     assert!(rt; plain.is_same(&table));
     Ok(())
