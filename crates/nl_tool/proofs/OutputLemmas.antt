@@ -1,16 +1,65 @@
--- A text that is written piece by piece.
-use Rattle.std.proofs.Common.{◌≡◌, ◌++◌, ◌∷◌, [], ◌+◌, ◌<◌, ◌∙◌, codes, List, ℕ, zero, suc, Some, None, map, take, drop, length, ◌-◌, add-one, ap, sym, append-nil, append_assoc, arith}
-use Rattle.std.specs.Prelude.{decimal, slice_get}
+-- A text that is written piece by piece, and a report.
+use Rattle.std.proofs.Common.{◌≡◌, ◌++◌, ◌∷◌, [], ◌+◌, ◌<◌, ◌∙◌, codes, List, ℕ, zero, suc, Some, None, map, take, drop, length, ◌-◌, add-one, ap, sym, append-nil, append_assoc, length-append, refl, Option, Result, Ok, Err, arith}
+use Rattle.std.specs.Prelude.{decimal, slice_get, OnErr}
 use Rattle.nl_fields.specs.declared.entry.Entry.{Entry}
 use Rattle.nl_fields.specs.EntryLine.{line_of}
 use Rattle.nl_lines.specs.Split.{joined}
-use Rattle.nl_tool.specs.Output.{report_lines}
+use Rattle.std.specs.Io.KnownBytes.{Appends}
+use Rattle.std.proofs.KnownBytes.{Appends-nil, Appends-trans}
+use Rattle.nl_tool.specs.Output.{AppendsPrefixOf, Moves, report_lines}
 use Rattle.std.proofs.lemmas.Grind.{common_steps}
 
 -- a piece of the rest is moved behind the prefix
 pub prefix-grows : (text prefix rest : List ℕ) (n : ℕ) → text ≡ prefix ++ rest
     → text ≡ (prefix ++ take n rest) ++ take (length rest - n) (drop n rest)
 prefix-grows text prefix rest n e = grind (arith, common_steps)
+
+-- a text was written where the rest that was held is written
+pub all_moved : (old mid new : Option (List ℕ)) (text held : List ℕ) → Moves old mid text held → Appends mid new held → Appends old new text
+all_moved old mid new text held moves appends = rw (moves.is) (Appends-trans old mid new moves.written held moves.appended appends)
+
+-- what is held is moved on
+pub moved_on : (old mid new : Option (List ℕ)) (text held left : List ℕ) → Moves old mid text held → Moves mid new held left → Moves old new text left
+moved_on old mid new text held left first next = record {
+  written = first.written ++ next.written;
+  is = first.is ∙ ap (λ rest. first.written ++ rest) next.is ∙ sym (append_assoc first.written next.written left);
+  appended = Appends-trans old mid new first.written next.written first.appended next.appended;
+}
+
+-- a line more is held
+pub held_more : (old new : Option (List ℕ)) (text held line : List ℕ) → Moves old new text held → Moves old new (text ++ line) (held ++ line)
+held_more old new text held line moves = record {
+  written = moves.written;
+  is = ap (λ front. front ++ line) moves.is ∙ append_assoc moves.written held line;
+  appended = moves.appended;
+}
+
+-- nothing is held of nothing
+pub nothing_moved : (known : Option (List ℕ)) → Moves known known [] []
+nothing_moved known = record { written = []; is = refl; appended = Appends-nil known }
+
+-- where a prefix of what was held is written, it ends a prefix of the text
+pub prefix_after : (old mid new : Option (List ℕ)) (whole text later held : List ℕ) → whole ≡ text ++ later → Moves old mid text held
+    → AppendsPrefixOf mid new held → AppendsPrefixOf old new whole
+prefix_after old mid new whole text later held is moves part = record {
+  prefix = moves.written ++ part.prefix;
+  rest = part.rest ++ later;
+  is = is ∙ ap (λ front. front ++ later) (moves.is ∙ ap (λ rest. moves.written ++ rest) part.is) ∙ simp append_assoc;
+  missing = omega (arith, part.missing, length-append part.rest later);
+  appended = Appends-trans old mid new moves.written part.prefix moves.appended part.appended;
+}
+
+-- what holds at any error
+pub on_err : {T E P : Type 0} (r : Result T E) → P → OnErr r P
+on_err (Ok x) p = tt
+on_err (Err e) p = p
+
+-- the lines of the entries before a place, and those of the others
+pub lines_split : (es : List Entry) (i : ℕ) → joined (map line_of es) ≡ joined (map line_of (take i es)) ++ joined (map line_of (drop i es))
+lines_split es zero = refl
+lines_split [] (suc i) = refl
+lines_split (x ∷ xs) (suc i) =
+    ap (λ rest. (line_of x ++ 10 ∷ []) ++ rest) (lines_split xs i) ∙ sym (append_assoc (line_of x ++ 10 ∷ []) (joined (map line_of (take i xs))) (joined (map line_of (drop i xs))))
 
 lines_next : (es : List Entry) (i : ℕ) (e : Entry) → slice_get es i ≡ Some e → joined (map line_of (take (suc i) es)) ≡ joined (map line_of (take i es)) ++ (line_of e ++ 10 ∷ [])
 lines_next [] i e is = cc

@@ -21,6 +21,12 @@ pub record AppendsPrefixOf (old new : Option (List ℕ)) (text : List ℕ) : Typ
   pub missing : 0 < length rest
   pub appended : Appends old new prefix
 
+-- a text is held but for its prefix, by which known bytes grew
+pub record Moves (old new : Option (List ℕ)) (text held : List ℕ) : Type 0 where
+  pub written : List ℕ
+  pub is : text ≡ written ++ held
+  pub appended : Appends old new written
+
 -- what a writer holds after a command that writes a text: on Ok all of it, after a failed write a part of it, else nothing more
 abbrev pub Prints : (List ℕ → Type 0) → Option (List ℕ) → Option (List ℕ) → Result (Unit {0}) ToolFault → Type 0
 Prints IsText old new (Ok done) = (text : List ℕ) × IsText text × Appends old new text

@@ -1,4 +1,4 @@
-//! Writing a text that was made whole.
+//! Writing a text, in as many writes as it takes.
 ghost use Rattle.std.specs.Prelude.{◌≡◌, OnOk, OnErr, IfErr};
 ghost use Rattle.std.specs.Io.KnownBytes.{Appends};
 ghost use Rattle.nl_tool.specs.Output.{AppendsPrefixOf};

@@ -1,18 +1,22 @@
 //! The command `show`.
-ghost use Rattle.std.specs.Prelude.{◌≡◌, map, IfErr, IfOk, IfSome, IsErrOf};
+ghost use Rattle.std.specs.Prelude.{◌≡◌, ◌+◌, ◌≤◌, [], map, vec_len, vec_capacity, IfErr, IfSome, IsErrOf, OnErr, OnOk};
+ghost use Rattle.std.specs.Io.KnownBytes.{Appends};
 ghost use Rattle.nl_fields.specs.EntryLine.{line_of};
 ghost use Rattle.nl_lines.specs.Split.{joined};
 ghost use Rattle.nl_table.specs.Log.{log_of, NotALog, OtherVersion};
 ghost use Rattle.nl_tool.specs.Faults.{IsLogFault};
-ghost use Rattle.nl_tool.specs.Output.{IsTextFor, Prints, shown};
+ghost use Rattle.nl_tool.specs.Output.{AppendsPrefixOf, IsTextFor, Moves, Prints, shown};
 
 use crate::fault::ToolFault;
 use crate::loading::load_all;
 use crate::output::write_out;
-use nl_fields::append_entry;
+use nl_fields::{MAX_ENTRY_LINE, append_entry};
 use nl_table::Table;
-use std::alloc::{AllocError, Global};
+use std::alloc::Global;
 use std::io::{Read, Write};
+
+// The bytes of lines that are held before they are written: more than the longest line.
+const PIECE: usize = 262_144;
 
 /// Writes the last entry of each output of the log that the reader gives, a line each.
 pub fn show_to<R: Read + Drop, W: Write>(
@@ -26,18 +30,40 @@ pub fn show_to<R: Read + Drop, W: Write>(
     ensures faults { IfErr result IsLogFault }
 {
     let loaded = load_all(alloc, reader)?;
-    let text = entry_lines(alloc, &loaded.table)?;
-    write_out(text.as_slice(), writer)
+    // All that the output takes is taken before the first write, so what can fail from here on is a write.
+    let piece = Vec::with_capacity(alloc, PIECE)?;
+    write_lines(&loaded.table, piece, writer)
 }
 
-fn entry_lines(alloc: Global, table: &Table) -> Result<Vec<u8>, AllocError>
-    ensures { IfOk result (λ text. text.items ≡ joined (map line_of table.now)) }
+// Writes the line of each entry, in order, as many at a time as the piece has room for.
+fn write_lines<W: Write>(table: &Table, mut piece: Vec<u8>, writer: &mut W) -> Result<(), ToolFault>
+    requires empty { piece.items ≡ [] }
+    requires room { MAX_ENTRY_LINE ≤ vec_capacity piece }
+    ensures ok { OnOk result (Appends (W.contents writer.old) (W.contents writer.new) (joined (map line_of table.now))) }
+    ensures prefix { OnErr result (AppendsPrefixOf (W.contents writer.old) (W.contents writer.new) (joined (map line_of table.now))) }
+    ensures fault { IfErr result (λ e. e ≡ ToolFault.Write) }
 {
-    let mut text = Vec::new(alloc);
     for place in 0..table.len() {
         if let Some(entry) = table.at(place) {
-            append_entry(&entry, &mut text)?;
+            make_room(&mut piece, writer)?;
+            append_entry(&entry, &mut piece).unwrap();
         }
     }
-    Ok(text)
+    write_out(piece.as_slice(), writer)
+}
+
+// Writes what is held where the longest line might not fit behind it.
+fn make_room<W: Write>(held: &mut Vec<u8>, writer: &mut W) -> Result<(), ToolFault>
+    requires { MAX_ENTRY_LINE ≤ vec_capacity held.old }
+    ensures room { OnOk result (vec_len held.new + MAX_ENTRY_LINE ≤ vec_capacity held.new) }
+    ensures moved { OnOk result (Moves (W.contents writer.old) (W.contents writer.new) held.old.items held.new.items) }
+    ensures prefix { OnErr result (AppendsPrefixOf (W.contents writer.old) (W.contents writer.new) held.old.items) }
+    ensures fault { IfErr result (λ e. e ≡ ToolFault.Write) }
+{
+    if held.capacity() - held.len() >= MAX_ENTRY_LINE {
+        return Ok(());
+    }
+    write_out(held.as_slice(), writer)?;
+    held.clear();
+    Ok(())
 }
