@@ -29,7 +29,7 @@ pub fn check_to<R: Read + Drop, W: Write>(
 }
 
 fn report_text(alloc: Global, loaded: &Loaded) -> Result<String, AllocError>
-    ensures { IfOk result (λ text. string_bytes text
+    ensures value { IfOk result (λ text. string_bytes text
         ≡ report loaded.now.version loaded.now.total (length loaded.now.table) loaded.now.skipped loaded.now.torn) }
 {
     let Loaded {

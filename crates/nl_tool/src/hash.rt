@@ -19,7 +19,7 @@ pub fn hash_to<W: Write>(alloc: Global, command: &[u8], writer: &mut W) -> Resul
 }
 
 fn hash_text(alloc: Global, command: &[u8]) -> Result<Vec<u8>, AllocError>
-    ensures { IfOk result (λ text. IsHashText command.now text.items) }
+    ensures value { IfOk result (λ text. IsHashText command.now text.items) }
 {
     let mut text = Vec::new(alloc);
     append_hex64(command_hash(command), &mut text)?;

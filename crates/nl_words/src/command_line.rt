@@ -47,7 +47,7 @@ pub fn read_words<'a>(alloc: Global, words: &'a [String]) -> Result<Words<'a>, E
 // The command that was entered, with its values.
 fn said<'a>(matches: &ArgMatches<'a>) -> Words<'a>
     requires { IsWhole (subcommand_rows_of matches.now) }
-    ensures { IsSaid result (subcommand_rows_of matches.now) }
+    ensures value { IsSaid result (subcommand_rows_of matches.now) }
 {
     let Some((name, inner)) = matches.subcommand() else {
         return Words::Show(None);
@@ -65,14 +65,14 @@ fn said<'a>(matches: &ArgMatches<'a>) -> Words<'a>
 
 fn hash_words<'a>(inner: &ArgMatches<'a>) -> Words<'a>
     requires { HasEach (required_of (codes "hash")) (rows_of (found_of inner.now)) }
-    ensures { IsSaid result (Some (codes "hash", rows_of (found_of inner.now))) }
+    ensures value { IsSaid result (Some (codes "hash", rows_of (found_of inner.now))) }
 {
     Words::Hash(value(inner, "COMMAND"))
 }
 
 fn record_words<'a>(inner: &ArgMatches<'a>) -> Words<'a>
     requires { HasEach (required_of (codes "record")) (rows_of (found_of inner.now)) }
-    ensures { IsSaid result (Some (codes "record", rows_of (found_of inner.now))) }
+    ensures value { IsSaid result (Some (codes "record", rows_of (found_of inner.now))) }
 {
     Words::Record {
         log: value(inner, "LOG"),
@@ -86,7 +86,7 @@ fn record_words<'a>(inner: &ArgMatches<'a>) -> Words<'a>
 
 fn recompact_words<'a>(inner: &ArgMatches<'a>) -> Words<'a>
     requires { HasEach (required_of (codes "recompact")) (rows_of (found_of inner.now)) }
-    ensures { IsSaid result (Some (codes "recompact", rows_of (found_of inner.now))) }
+    ensures value { IsSaid result (Some (codes "recompact", rows_of (found_of inner.now))) }
 {
     Words::Recompact {
         log: value(inner, "LOG"),
@@ -96,7 +96,7 @@ fn recompact_words<'a>(inner: &ArgMatches<'a>) -> Words<'a>
 
 fn restat_words<'a>(inner: &ArgMatches<'a>) -> Words<'a>
     requires { HasEach (required_of (codes "restat")) (rows_of (found_of inner.now)) }
-    ensures { IsSaid result (Some (codes "restat", rows_of (found_of inner.now))) }
+    ensures value { IsSaid result (Some (codes "restat", rows_of (found_of inner.now))) }
 {
     Words::Restat {
         log: value(inner, "LOG"),

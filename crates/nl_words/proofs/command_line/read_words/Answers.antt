@@ -25,7 +25,7 @@ returns-clause-value c =
     let words = map string_bytes c.args.words.now in
     let is_nlog : app_of c.in_ok-nlog_command.field-0 ≡ nlog = c.in_ok-nlog_command.ensures in
     let e = (c.in_ok-matches.ensures.matches (ap is_simple is_nlog ∙ nlog_is_simple)).1 ∙ ap (λ (a : App). subcommand_of a words) is_nlog in
-    subst (IsSaid c.said.result) e c.said.ensures
+    subst (IsSaid c.said.result) e c.said.ensures.value
 
 pub returns-clause-accepts : goal.returns-clause-accepts
 returns-clause-accepts c =

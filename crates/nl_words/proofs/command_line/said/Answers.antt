@@ -34,4 +34,4 @@ returns-in_default-name c =
     let whole = subst IsWhole e c.requires in
     let is_show : met.name.now ≡ codes "show" = only_show _ whole.0 other.not-check other.not-hash
     other.not-record other.not-recompact other.not-restat other.not-replay in
-    subst (IsSaid (Show c.optional-in_default-name.result)) (sym e) (is_show, c.optional-in_default-name.ensures)
+    record { value = subst (IsSaid (Show c.optional-in_default-name.result)) (sym e) (is_show, c.optional-in_default-name.ensures) }
