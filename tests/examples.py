@@ -6,7 +6,7 @@
 An example is a line `$ COMMAND` of an indented block, and the lines after it are what a terminal shows of it. What begins
 with `nlog:` or `error:` is wanted on standard error, the rest on standard output. The status is the one that docs/CLI.md
 gives: 2 with wrong words, 1 with a refusal, else 0; an example `$ echo $?` after it states another. The rows of the tables
-of messages are examples too: standard error begins with their text. `<TAB>` on a page is a tab.
+of messages are examples too: standard error begins with their text, and nothing is printed. `<TAB>` on a page is a tab.
 
 A paragraph that ends in "file `NAME` holds" (or "file `NAME`, without a newline at its end, holds") says that the block after
 it is that file. The examples of a page run in order in one folder, with the page's files.
@@ -32,7 +32,7 @@ NOT_YET = "Not in this version yet"
 
 
 class Example:
-    """A command of a page, and what is wanted of it. Of a row of a table only the beginning of standard error is known."""
+    """A command of a page, and what is wanted of it: of a row of a table the beginning of standard error, and no output."""
 
     def __init__(self, where, command, shown, is_row=False):
         at = re.search(r"(?m)^(nlog|error): ", shown)
@@ -45,7 +45,7 @@ class Example:
         """Says in what a run differs from this, or nothing."""
         if status != self.status:
             return f"status {status} in place of {self.status}; standard error: {err!r}"
-        if not self.is_row and out != self.out:
+        if out != self.out:
             return f"standard output {out!r} in place of {self.out!r}"
         if not (err.startswith(self.err) if self.is_row else err == self.err):
             return f"standard error {err!r} in place of {self.err!r}"
