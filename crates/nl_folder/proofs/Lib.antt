@@ -1,4 +1,4 @@
-pub mod CallLemmas
+pub mod ReadsAtLemmas
 pub mod ImageLemmas
 mod MemFolderLemmas
 mod CallerLemmas

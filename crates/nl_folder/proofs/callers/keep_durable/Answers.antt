@@ -1,5 +1,5 @@
 use Rattle.nl_folder.proofs.CallerLemmas.{on_err, MayKeep_same}
 use Rattle.nl_folder.proofs.callers.keep_durable.Goals as goal
 
-pub returns-in_err-sync_log-clause-fault : goal.returns-in_err-sync_log-clause-fault
-returns-in_err-sync_log-clause-fault g c = on_err _ (MayKeep_same c.args.len _ _ c.requires c.in_err-sync_log.ensures.disk)
+pub returns-in_err-sync_log-clause-left : goal.returns-in_err-sync_log-clause-left
+returns-in_err-sync_log-clause-left g c = on_err _ (MayKeep_same c.args.len _ _ c.requires c.in_err-sync_log.ensures.disk)
