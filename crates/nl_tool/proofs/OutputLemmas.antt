@@ -9,7 +9,7 @@ use Rattle.std.proofs.KnownBytes.{Appends-nil, Appends-trans}
 use Rattle.nl_tool.specs.Output.{AppendsPrefixOf, Moves, report_lines}
 use Rattle.std.proofs.lemmas.Grind.{common_steps}
 
--- a piece of the rest is moved behind the prefix
+-- a piece of the rest is moved to the end of the prefix
 pub prefix-grows : (text prefix rest : List ℕ) (n : ℕ) → text ≡ prefix ++ rest
     → text ≡ (prefix ++ take n rest) ++ take (length rest - n) (drop n rest)
 prefix-grows text prefix rest n e = grind (arith, common_steps)

@@ -10,7 +10,7 @@ use std::io::Write;
 pub fn write_out<W: Write>(text: &[u8], writer: &mut W) -> Result<(), ToolFault>
     ensures ok { OnOk result (Appends (W.contents writer.old) (W.contents writer.new) text.now) }
     ensures prefix { OnErr result (AppendsPrefixOf (W.contents writer.old) (W.contents writer.new) text.now) }
-    ensures fault { IfErr result (λ e. e ≡ ToolFault.Write) }
+    ensures faults { IfErr result (λ e. e ≡ ToolFault.Write) }
 {
     let mut rest = text;
     while !rest.is_empty() {

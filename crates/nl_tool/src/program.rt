@@ -75,7 +75,7 @@ pub fn answer_to<R: Read + Drop, W: Write>(
 
 // The file of a log, or none where it is missing.
 fn open_log<R: Files>(rt: &R, path: &str) -> Result<Option<R::File>, ToolFault>
-    ensures fault { IfErr result (λ e. e ≡ ToolFault.Read) }
+    ensures faults { IfErr result (λ e. e ≡ ToolFault.Read) }
 {
     match fs::open(rt, path) {
         Ok(file) => Ok(Some(file)),

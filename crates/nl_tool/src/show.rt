@@ -41,7 +41,7 @@ fn write_lines<W: Write>(table: &Table, mut piece: Vec<u8>, writer: &mut W) -> R
     requires room { MAX_ENTRY_LINE ≤ vec_capacity piece }
     ensures ok { OnOk result (Appends (W.contents writer.old) (W.contents writer.new) (joined (map line_of table.now))) }
     ensures prefix { OnErr result (AppendsPrefixOf (W.contents writer.old) (W.contents writer.new) (joined (map line_of table.now))) }
-    ensures fault { IfErr result (λ e. e ≡ ToolFault.Write) }
+    ensures faults { IfErr result (λ e. e ≡ ToolFault.Write) }
 {
     for place in 0..table.len() {
         if let Some(entry) = table.at(place) {
@@ -52,13 +52,13 @@ fn write_lines<W: Write>(table: &Table, mut piece: Vec<u8>, writer: &mut W) -> R
     write_out(piece.as_slice(), writer)
 }
 
-// Writes what is held where the longest line might not fit behind it.
+// Writes what is held where the longest line might not fit after it.
 fn make_room<W: Write>(held: &mut Vec<u8>, writer: &mut W) -> Result<(), ToolFault>
     requires { MAX_ENTRY_LINE ≤ vec_capacity held.old }
     ensures room { OnOk result (vec_len held.new + MAX_ENTRY_LINE ≤ vec_capacity held.new) }
     ensures moved { OnOk result (Moves (W.contents writer.old) (W.contents writer.new) held.old.items held.new.items) }
     ensures prefix { OnErr result (AppendsPrefixOf (W.contents writer.old) (W.contents writer.new) held.old.items) }
-    ensures fault { IfErr result (λ e. e ≡ ToolFault.Write) }
+    ensures faults { IfErr result (λ e. e ≡ ToolFault.Write) }
 {
     if held.capacity() - held.len() >= MAX_ENTRY_LINE {
         return Ok(());
