@@ -11,7 +11,7 @@ use Rattle.std.proofs.Math.Nat.{mul-le-mul_left, mul-le-mul_right}
 use Rattle.std.proofs.Math.Seq.{drop-cons}
 use Rattle.std.proofs.lemmas.Fmt.{decimal_by_steps}
 use Rattle.std.specs.Fmt.{decimal}
-use Rattle.nl_fields.specs.Digits.{digit_of, IsDigit, IsDigits, one, more, IsNext, IsDecimal}
+use Rattle.nl_fields.specs.Digits.{digit_of, IsDigit, IsDigits, one, more, IsDecimal}
 
 decimal_digit : (d : ℕ) → d < 10 → 48 + d ≡ digit_of d
 decimal_digit d small = grind (arith, nat_tests)
@@ -109,6 +109,10 @@ front_of {base = base} {n = n} (more {q = q} {d = d} {c = c} {ds = ds} spells so
       | inl past ↦ (n, omega arith, rw (take_all i (ds ++ c ∷ []) (omega (arith, length_push ds c))) (more spells some digit value))
     ]
 
+-- c is a further digit after the digits of v, and makes m of v
+abbrev pub IsNext : ℕ → ℕ → ℕ → ℕ → Type 0
+IsNext base v c m = (d : ℕ) × (1 ≤ v) × IsDigit base d c × (m ≡ base * v + d)
+
 -- What follows the digits of v in a spelling is a digit, v is at least 1, and the number so far is no larger.
 pub next_of : {base n v : ℕ} (ds : List ℕ) (c : ℕ) (rest : List ℕ) → IsDigits base n (ds ++ c ∷ rest) → IsDigits base v ds → (m : ℕ) × (m ≤ n) × IsNext base v c m
 next_of {base = base} {n = n} {v = v} ds c rest whole front =
@@ -176,7 +180,7 @@ behind_minus n (x ∷ rest) is whole =
 negated : (m : ℕ) → pos 0 -ℤ pos (suc m) ≡ negsuc m
 negated m = omega (arith, ints)
 
-pub magnitude_fits : (n : ℤ) (m : ℕ) → FitsSigned w64 n → n ≡ negsuc m → suc m < 2 ^ 64
+pub magnitude_fits : (n : ℤ) (m : ℕ) → FitsSigned w64 n → n ≡ negsuc m → suc m < 10 ^ 19
 magnitude_fits n m fits is =
     let bounded : FitsSigned w64 (negsuc m) = subst (λ (z : ℤ). FitsSigned w64 z) is fits in
     omega (arith, bounded.sfits)

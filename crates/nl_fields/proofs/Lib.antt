@@ -1,8 +1,8 @@
 pub mod SearchLemmas
 pub mod DigitLemmas
 pub mod NumberLemmas
+pub mod ReadLemmas
 pub mod HexLemmas
-pub mod HexReadLemmas
 pub mod EntryLineLemmas
 pub mod FieldLemmas
 pub mod LineOfLemmas

@@ -72,7 +72,7 @@ integer_of-decimal (negsuc n) bytes spelled = ap integer_of spelled.1 ∙ ap (λ
 
 -- ---- lengths
 
-pow-one : (base : ℕ) → base ^ suc zero ≡ base
+pub pow-one : (base : ℕ) → base ^ suc zero ≡ base
 pow-one base = pow-suc base zero ∙ ap (λ p. p * base) (pow-zero base) ∙ omega arith
 
 length-digits : {base n : ℕ} {bytes : List ℕ} → IsDigits base n bytes → (k : ℕ) → n < base ^ suc k → length bytes ≤ suc k
@@ -81,6 +81,10 @@ length-digits {base = base} {n = n} (more {q = q} {d = d} spells some digit valu
 length-digits {base = base} {n = n} (more {q = q} {d = d} {c = c} {ds = ds} spells some digit value) (suc k) fits =
     let less : base * q < base * base ^ suc k = omega (arith, value, fits, pow-suc base (suc k)) in
     omega (arith, length_push ds c, length-digits spells k (lt_of_mul-lt-mul_left base less))
+
+pub length_within : {base n : ℕ} {bytes : List ℕ} → IsDigits base n bytes → (longest : ℕ) → 1 ≤ longest → n < base ^ longest → length bytes ≤ longest
+length_within spelled zero some fits = absurd (omega arith)
+length_within spelled (suc k) some fits = length-digits spelled k fits
 
 pub length-hexadecimal : {n : ℕ} {bytes : List ℕ} → IsDigits 16 n bytes → n < 2 ^ 64 → length bytes ≤ 16
 length-hexadecimal spelled fits = length-digits spelled 15 (omega arith)

@@ -15,10 +15,6 @@ pub data IsDigits (base : ℕ) : ℕ → List ℕ → Type 0 where
   one : {n c : ℕ} → IsDigit base n c → IsDigits base n (c ∷ [])
   more : {n q d c : ℕ} {ds : List ℕ} → IsDigits base q ds → 1 ≤ q → IsDigit base d c → n ≡ base * q + d → IsDigits base n (ds ++ c ∷ [])
 
--- c is a further digit behind the digits of v, and makes m of v
-abbrev pub IsNext : ℕ → ℕ → ℕ → ℕ → Type 0
-IsNext base v c m = (d : ℕ) × (1 ≤ v) × IsDigit base d c × (m ≡ base * v + d)
-
 -- the bytes are the number in decimal, with a `-` before a negative one
 abbrev pub IsDecimal : ℤ → List ℕ → Type 0
 IsDecimal (pos n) bytes = IsDigits 10 n bytes

@@ -1,60 +1,15 @@
 //! Hashes in their one hexadecimal spelling.
 ghost use Rattle.std.specs.Prelude.{◌≡◌, ℕ, ◌+◌, ◌^◌, ◌<◌, ◌≤◌, ◌++◌, length, drop, IfSome, IsOk, Some, OnErr, OnOk, vec_len, vec_capacity};
-ghost use Rattle.nl_fields.specs.Digits.{IsDigit, IsDigits, digit_of, digits_of};
+ghost use Rattle.nl_fields.specs.Digits.{IsDigits, digit_of, digits_of};
 
+use crate::digits::read_digits;
 use std::alloc::AllocError;
-
-// The value of each byte as a digit, and 255 at a byte that is none. Which digits come can't be foreseen, so a table is
-// quicker than a test of letters.
-static VALUES: [u8; 256] = [
-    255, 255, 255, 255, 255, 255, 255, 255, 255, 255, 255, 255, 255, 255, 255, 255, 255, 255, 255,
-    255, 255, 255, 255, 255, 255, 255, 255, 255, 255, 255, 255, 255, 255, 255, 255, 255, 255, 255,
-    255, 255, 255, 255, 255, 255, 255, 255, 255, 255, 0, 1, 2, 3, 4, 5, 6, 7, 8, 9, 255, 255, 255,
-    255, 255, 255, 255, 255, 255, 255, 255, 255, 255, 255, 255, 255, 255, 255, 255, 255, 255, 255,
-    255, 255, 255, 255, 255, 255, 255, 255, 255, 255, 255, 255, 255, 255, 255, 255, 255, 10, 11,
-    12, 13, 14, 15, 255, 255, 255, 255, 255, 255, 255, 255, 255, 255, 255, 255, 255, 255, 255, 255,
-    255, 255, 255, 255, 255, 255, 255, 255, 255, 255, 255, 255, 255, 255, 255, 255, 255, 255, 255,
-    255, 255, 255, 255, 255, 255, 255, 255, 255, 255, 255, 255, 255, 255, 255, 255, 255, 255, 255,
-    255, 255, 255, 255, 255, 255, 255, 255, 255, 255, 255, 255, 255, 255, 255, 255, 255, 255, 255,
-    255, 255, 255, 255, 255, 255, 255, 255, 255, 255, 255, 255, 255, 255, 255, 255, 255, 255, 255,
-    255, 255, 255, 255, 255, 255, 255, 255, 255, 255, 255, 255, 255, 255, 255, 255, 255, 255, 255,
-    255, 255, 255, 255, 255, 255, 255, 255, 255, 255, 255, 255, 255, 255, 255, 255, 255, 255, 255,
-    255, 255, 255, 255, 255, 255, 255, 255, 255, 255, 255, 255, 255, 255, 255, 255, 255, 255, 255,
-    255, 255, 255, 255,
-];
 
 pub fn read_hex64(bytes: &[u8]) -> Option<u64>
     ensures value { IfSome result (λ n. IsDigits 16 n bytes.now) }
     ensures accepts { (n : ℕ) → n < 2 ^ 64 → IsDigits 16 n bytes.now → result ≡ Some n }
 {
-    if bytes.len() > 16 {
-        return None;
-    }
-    let (first, rest) = bytes.split_first()?;
-    let mut number = hex_value(*first)?;
-    if rest.is_empty() {
-        return Some(number);
-    }
-    // Nothing follows a leading zero.
-    if number == 0 {
-        return None;
-    }
-    for digit in rest {
-        number = 16 * number + hex_value(*digit)?;
-    }
-    Some(number)
-}
-
-fn hex_value(digit: u8) -> Option<u64>
-    ensures value { IfSome result (λ d. IsDigit 16 d digit) }
-    ensures accepts { (d : ℕ) → IsDigit 16 d digit → result ≡ Some d }
-{
-    let value = VALUES[digit as usize];
-    if value < 16 {
-        Some(u64::from(value))
-    } else {
-        None
-    }
+    read_digits(bytes, 16, 16)
 }
 
 fn hex_digit(value: u64) -> u8
