@@ -1,10 +1,11 @@
 #!/usr/bin/env python3
 """Writes a build log of version 5 that looks like that of a large C++ tree.
 
-    gen_log.py --entries N --outputs M [--seed S] > FILE
+    gen_log.py --entries N --outputs M [--names tree|short|long] [--seed S] > FILE
 
 The same arguments give the same bytes. All M outputs appear once, in order, as a full build leaves them; the other
-N - M entries are those of later builds, in which some files are built far more often than others.
+N - M entries are those of later builds, in which some files are built far more often than others. Names are those of
+a tree, of 50 to 90 bytes, or short ones of 6 bytes, or long ones of 200.
 """
 import argparse, random, sys
 
@@ -17,21 +18,27 @@ WORDS = ["Lower", "Select", "Build", "Frame", "Node", "Layout", "Inline", "Vecto
 SUFFIXES = [".cpp.o"] * 6 + [".o"] * 2 + [".pb.cc.o", ".inc", ".a", ".stamp"]
 
 
-def output(i, random_):
+def output(i, kind, random_):
+    if kind == "short":
+        return "o%05x" % i
     pick = lambda xs: xs[random_.randrange(len(xs))]
-    return "%s/%s%s%d%s" % (pick(FOLDERS), pick(WORDS), pick(WORDS), i, pick(SUFFIXES))
+    name = "%s/%s%s%d%s" % (pick(FOLDERS), pick(WORDS), pick(WORDS), i, pick(SUFFIXES))
+    if kind == "long":
+        return ("out/of/a/deep/tree/" * 11)[:199 - len(name)] + "/" + name
+    return name
 
 
 def main():
     args = argparse.ArgumentParser(description=__doc__, formatter_class=argparse.RawDescriptionHelpFormatter)
     args.add_argument("--entries", type=int, required=True)
     args.add_argument("--outputs", type=int, required=True)
+    args.add_argument("--names", choices=["tree", "short", "long"], default="tree")
     args.add_argument("--seed", type=int, default=1)
     args = args.parse_args()
     if not 0 < args.outputs <= args.entries:
         raise SystemExit("gen_log.py: 0 < outputs <= entries")
     random_ = random.Random(args.seed)
-    names = [output(i, random_) for i in range(args.outputs)]
+    names = [output(i, args.names, random_) for i in range(args.outputs)]
     hashes = [random_.getrandbits(64) for _ in names]
     write = sys.stdout.write
     write("# ninja log v5\n")
