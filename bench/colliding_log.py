@@ -1,7 +1,7 @@
 #!/usr/bin/env python3
 """Writes a log whose names all have one hash in nlog's table, to show what a hostile log costs.
 
-    colliding_log.py --names N > FILE          (up to 4,000,000)
+    colliding_log.py --names N > FILE          (up to 1,000,000)
 
 A name has 12 letters, three for each of the four sums, and its hash is the xor of what the sums give. So the sums are
 searched apart: first the pairs of the first two sums that agree in some bits, and those of the last two, and then the
@@ -40,10 +40,10 @@ def main():
     args = argparse.ArgumentParser(description=__doc__, formatter_class=argparse.RawDescriptionHelpFormatter)
     args.add_argument("--names", type=int, required=True)
     wanted = args.parse_args().names
-    if not 0 < wanted <= 4000000:
-        raise SystemExit("colliding_log.py: 0 < names <= 4000000")
+    if not 0 < wanted <= 1000000:
+        raise SystemExit("colliding_log.py: 0 < names <= 1000000")
     began = time.process_time()
-    bits = 31 - wanted.bit_length()
+    bits = min(16, 31 - wanted.bit_length())
     lanes = [list(given_by(lane)) for lane in range(4)]
     by_rest, tried = {}, 0
     for rest, a, b in pairs(lanes[0], lanes[1], bits):

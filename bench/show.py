@@ -3,8 +3,8 @@
 
     show.py [-n ROUNDS] LOG NAME=COMMAND [NAME=COMMAND ..]
 
-The first command is the yardstick. For each: the least processor time (user and system), the median over the rounds of
-its time over the yardstick's in the same round, and the peak of its memory.
+The first command is the yardstick. For each: the least processor time (user and system), the median (and quartiles)
+over the rounds of its time over the yardstick's in the same round, and the peak of its memory, if it is above Python's.
 """
 import argparse, os, shlex, statistics, subprocess
 
@@ -30,9 +30,9 @@ def main():
         once(words, args.log)
     rounds = [[once(words, args.log) for _, words in commands] for _ in range(args.n)]
     for i, (name, _) in enumerate(commands):
-        ratio = statistics.median(r[i][0] / r[0][0] for r in rounds)
-        print("%-12s cpu %7.1f ms   ratio %.2f   memory %6.1f MB" % (
-            name, min(r[i][0] for r in rounds), ratio, max(r[i][1] for r in rounds) / 1e3))
+        low, ratio, high = statistics.quantiles([r[i][0] / r[0][0] for r in rounds], n=4)
+        print("%-12s cpu %7.1f ms   ratio %.2f (%.2f to %.2f)   memory %6.1f MB" % (
+            name, min(r[i][0] for r in rounds), ratio, low, high, max(r[i][1] for r in rounds) / 1e3))
 
 
 main()
