@@ -1,0 +1,11 @@
+pub mod RepresentsLemmas
+pub mod AppendLemmas
+pub mod FillLemmas
+pub mod StateLemmas
+pub mod StepLemmas
+pub mod RewriteLemmas
+pub mod EdgeLemmas
+pub mod AgainLemmas
+pub mod RestLemmas
+pub mod OpenLemmas
+pub mod TimesLemmas

@@ -1,0 +1,4 @@
+pub mod Machine
+pub mod Represents
+pub mod Opened
+pub mod Parts

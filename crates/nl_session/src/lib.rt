@@ -1,0 +1,20 @@
+//! A build log that is kept open over a folder.
+#![tactic(auto)]
+
+mod append;
+mod callers;
+mod edge;
+mod events;
+mod fault;
+pub mod laws;
+mod log;
+mod opening;
+mod repair;
+mod restat;
+mod rewrite;
+mod state;
+
+pub use events::Reply;
+pub use fault::LogFault;
+pub use log::Log;
+pub use state::LogState;
