@@ -1,4 +1,4 @@
-//! Tests of the program's commands over words, readers, writers and files.
+//! Tests that cross crates: the program's commands over words, readers, writers and files, and the session over a folder.
 #![tactic(auto)]
 
 // Logs by kind, with what `show` and `check` print of each.
@@ -22,6 +22,9 @@ mod words;
 // The texts and the status of the faults.
 #[cfg(test)]
 mod faults;
+// The session over a folder in memory.
+#[cfg(test)]
+mod session;
 // Readers and writers that fail, for ever or for some calls.
 #[cfg(test)]
 mod support;
