@@ -1,9 +1,12 @@
 //! Callers of the log of any folder, which show that its contracts say enough.
-ghost use Rattle.std.specs.Prelude.{◌≡◌, ◌≢◌, Some, IfErr, OnOk, IsErrOf};
+ghost use Rattle.std.specs.Prelude.{◌≡◌, ◌≢◌, ◌++◌, Some, IfErr, OnOk, IsErrOf};
+ghost use Rattle.nl_fields.specs.EntryLine.{line_of};
+ghost use Rattle.nl_lines.specs.Split.{with_newline};
 ghost use Rattle.nl_lines.specs.Source.{FailedBetween};
 ghost use Rattle.nl_table.specs.Log.{log_of};
 ghost use Rattle.nl_folder.specs.DiskState.{Disk};
-ghost use Rattle.nl_session.specs.Parts.{AnswersAs};
+ghost use Rattle.nl_session.specs.Opened.{opened_bytes};
+ghost use Rattle.nl_session.specs.Parts.{AnswersAs, IsLeft};
 ghost use Rattle.nl_session.specs.declared.state.LogState.{LogState};
 
 use crate::{Log, LogFault};
@@ -19,6 +22,7 @@ pub fn record_once<F: Folder, U: LogUser>(
 ) -> Result<(), LogFault>
     requires closed { log.old.state ≡ LogState.Closed }
     ensures closed { OnOk result (log.new.state ≡ LogState.Closed) }
+    ensures contents { (d : Disk) → F.disk log.old.reader.folder ≡ Some d → OnOk result (IsLeft (opened_bytes (U.is_dead user.now) d.visible ++ with_newline (line_of entry.now)) (F.disk log.new.reader.folder)) }
     ensures states { IfErr result (λ why. (why ≢ LogFault.NotOpen) × (why ≢ LogFault.AlreadyOpen) × (why ≢ LogFault.Broken)) }
     ensures cause { IsErrOf result LogFault.Fault → FailedBetween (F.failures log.old.reader.folder) (F.failures log.new.reader.folder) }
 {

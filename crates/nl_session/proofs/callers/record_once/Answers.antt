@@ -1,0 +1,23 @@
+use Rattle.std.proofs.Common.{◌≡◌, ◌∙◌, ap, arith, length, List, ℕ, ◌++◌, Option, Some}
+use Rattle.std.specs.Prelude.{option_map}
+use Rattle.std.proofs.lemmas.List.{take_all}
+use Rattle.nl_fields.specs.EntryLine.{line_of}
+use Rattle.nl_lines.specs.Split.{with_newline}
+use Rattle.nl_folder.specs.DiskState.{Disk, at_rest}
+use Rattle.nl_folder.specs.Calls.{log_grown, log_synced}
+use Rattle.nl_session.specs.Parts.{IsLeft}
+use Rattle.nl_session.proofs.FillLemmas.{on_ok}
+use Rattle.nl_session.proofs.callers.record_once.Goals as goal
+
+-- a text that is added to a log at rest and synced
+appended_rests : (text line : List ℕ) (opened recorded synced : Option Disk) → IsLeft text opened → recorded ≡ option_map (log_grown (length line) line) opened → synced ≡ option_map log_synced recorded → IsLeft (text ++ line) synced
+appended_rests text line opened recorded synced left grown durable = record {
+  scratch = left.scratch;
+  is = durable ∙ ap (option_map log_synced) (grown ∙ ap (option_map (log_grown (length line) line)) left.is) ∙ ap (λ (l : List ℕ). Some (at_rest (text ++ l) left.scratch)) (take_all (length line) line (omega arith));
+}
+
+pub returns-clause-contents : goal.returns-clause-contents
+returns-clause-contents g c d old =
+    let f = g.F.Folder in
+    on_ok c.stop.result _ (appended_rests _ (with_newline (line_of c.args.entry.now)) (f.disk c.open.new.self.reader.folder) (f.disk c.record.new.self.reader.folder) (f.disk c.stop.new.self.reader.folder)
+    (c.in_ok-open.ensures.contents d old) c.in_ok-record.ensures.contents ((λ i. f.disk (c.stop.ensures.folder i).folder) ∙ c.in_ok-sync.ensures.contents))
