@@ -165,7 +165,7 @@ minus_is_no_digit {d = d} digit = grind (arith, nat_tests, digit.byte, digit.bel
 tail_of : (xs ys : List ℕ) → ◌≡◌ {A = List ℕ} (45 ∷ xs) (45 ∷ ys) → xs ≡ ys
 tail_of xs ys is = cc
 
--- behind a `-` stand the digits of the number without its sign
+-- after a `-` stand the digits of the number without its sign
 negative_of : (n : ℤ) (digits : List ℕ) → IsDecimal n (45 ∷ digits) → (m : ℕ) × (n ≡ negsuc m) × IsDigits 10 (suc m) digits
 negative_of (pos n) digits whole = absurd (minus_is_no_digit (first_of 45 digits whole).1)
 negative_of (negsuc m) digits whole = (m, refl, rw (tail_of digits whole.0 whole.1) whole.2)
@@ -185,7 +185,7 @@ magnitude_fits n m fits is =
     let bounded : FitsSigned w64 (negsuc m) = subst (λ (z : ℤ). FitsSigned w64 z) is fits in
     omega (arith, bounded.sfits)
 
--- what is answered for the digits behind a `-`
+-- what is answered for the digits after a `-`
 pub negation_answered : (r : Option ℤ) (magnitude : ℕ) (n : ℤ) (m : ℕ) → SomeIff r (FitsSigned w64 (pos 0 -ℤ pos magnitude)) (pos 0 -ℤ pos magnitude) → FitsSigned w64 n → n ≡ negsuc m → magnitude ≡ suc m → r ≡ Some n
 negation_answered (Some x) magnitude n m answer fits is same = ap Some (answer.1 ∙ ap (λ k. pos 0 -ℤ pos k) same ∙ negated m ∙ sym is)
 negation_answered None magnitude n m answer fits is same =

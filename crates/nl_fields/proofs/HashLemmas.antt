@@ -56,7 +56,7 @@ pub little_endian-append_zeros : (bytes zeros : List ℕ) → little_endian zero
 little_endian-append_zeros [] zeros none = none
 little_endian-append_zeros (byte ∷ bytes) zeros none = ap (λ n. byte + 256 * n) (little_endian-append_zeros bytes zeros none)
 
--- the groups of 8 and what is behind them are the whole
+-- the groups of 8 and what is after them are the whole
 pub groups_and_rest : (k : ℕ) (bytes : List ℕ) → bytes ≡ concat (first_chunks 8 k bytes) ++ drop (k * 8) bytes
 groups_and_rest zero bytes = refl
 groups_and_rest (suc k) bytes =
@@ -77,7 +77,7 @@ no_bytes : (n : ℕ) → little_endian (replicate n 0) ≡ 0
 no_bytes zero = refl
 no_bytes (suc n) = omega (arith, no_bytes n)
 
--- the rest with zeros behind it
+-- the rest with zeros after it
 pub rest_hashed : (hash : ℕ) (rest group : List ℕ) (k result : ℕ) → hash < 2 ^ 64 → k < 2 ^ 64 → 0 < length rest → length rest < 8 → group ≡ rest ++ replicate (8 - length rest) 0 →
     k ≡ from_le_bytes w64 group → result ≡ times (bit_xor hash k) → result ≡ with_rest hash rest
 rest_hashed hash [] group k result fits fits_k some short padded read at_result = absurd (omega arith)

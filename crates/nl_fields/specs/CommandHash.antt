@@ -54,6 +54,6 @@ pub record IsHash (bytes : List ℕ) (hash : ℕ) : Type 0 where
   pub short : length rest < 8
   pub value : hash ≡ hash_over (length bytes) groups rest
 
--- the hash of a command: over as many groups of 8 bytes as it has, and what is behind them
+-- the hash of a command: over as many groups of 8 bytes as it has, and what is after them
 unfoldable pub hash_of : List ℕ → ℕ
 hash_of bytes = hash_over (length bytes) (first_chunks 8 (length bytes / 8) bytes) (drop (length bytes / 8 * 8) bytes)

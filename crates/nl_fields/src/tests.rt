@@ -168,7 +168,7 @@ fn lines_in_another_form_are_no_entries(rt: HostRuntime) {
 }
 
 #[test]
-fn what_is_behind_the_fourth_tab_of_a_version_4_line_is_the_command(
+fn what_is_after_the_fourth_tab_of_a_version_4_line_is_the_command(
     rt: HostRuntime,
 ) -> Result<(), Fail> {
     let rows: [(&[u8], &[u8]); 4] = [

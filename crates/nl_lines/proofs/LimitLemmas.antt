@@ -9,7 +9,7 @@ use Rattle.nl_lines.specs.declared.lines.LineFault.TheVariants.{TooLarge}
 use Rattle.nl_lines.proofs.LinesLemmas.{TakesLine-text_left, TakesRest-text_left, PassesLimit-text_left}
 use Rattle.nl_lines.proofs.RunLemmas.{reading_not_ended}
 
--- the text behind a line ends where the text did
+-- the text after a line ends where the text did
 behind_line : (s : Reader) (a : Option (List ℕ)) (t : Reader) (d : Option (List ℕ)) (line : List ℕ) → TakesLine s a t d line → (text : List ℕ) → text_left s a ≡ Some text → (left : List ℕ) × (text_left t d ≡ Some left) × (s.position + length text ≡ t.position + length left)
 behind_line s a t d line takes text is =
     let left = TakesLine-text_left s a t d line takes text is in

@@ -14,7 +14,7 @@ use Rattle.nl_lines.proofs.LinesLemmas.{TakesLine-text_left, TakesRest-text_left
 pub reading_not_ended : (p : Phase) → p ≡ Reading → p ≡ Ended → ⊥
 reading_not_ended p reading ended = cc
 
--- what is shown of a text that stands behind `at` bytes
+-- what is shown of a text that stands after `at` bytes
 abbrev shown_behind : ℕ → List ℕ → List Shown
 shown_behind at text = map line_shown (lines_of text) ++ rest_shown (at + whole_len text) (rest_of text)
 
