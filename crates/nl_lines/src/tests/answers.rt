@@ -5,7 +5,7 @@ use std::alloc::Global;
 use std::process::Abort;
 use std::test::Fail;
 
-/// Compares the answers over pieces of each size, and over all at once.
+// Compares the answers over pieces of each size, and over all at once.
 fn expect_in_any_pieces(
     rt: &impl Abort,
     alloc: Global,
