@@ -1,4 +1,11 @@
 pub mod Machine
 pub mod Represents
+pub mod States
 pub mod Opened
 pub mod Parts
+pub mod Headline
+pub mod Reopening
+pub mod Runs
+pub mod Answers
+pub mod Grows
+pub mod Smooth

@@ -1,6 +1,7 @@
 //! A build log that is kept open over a folder.
 #![tactic(auto)]
 
+mod answers;
 mod append;
 mod callers;
 mod edge;
@@ -14,7 +15,7 @@ mod restat;
 mod rewrite;
 mod state;
 
-pub use events::Reply;
+pub use events::{Event, Outcome, Reply, run_events};
 pub use fault::LogFault;
 pub use log::Log;
 pub use state::LogState;

@@ -1,0 +1,48 @@
+-- What a crash leaves: a step of the machine, and a log that opens as one that was found.
+use Rattle.std.proofs.Common.{◌≡◌, ◌∙◌, ℕ, Bool, List, [], refl, sym, ap, subst, Option, Some, None}
+use Rattle.std.specs.Prelude.{IfSome, IsSomeAnd, option_map}
+use Rattle.nl_fields.specs.declared.entry.Entry.{Entry}
+use Rattle.nl_table.specs.History.{plus}
+use Rattle.nl_folder.specs.DiskState.{Disk, at_rest, empty_file}
+use Rattle.nl_folder.specs.CrashImages.{IsImage}
+use Rattle.nl_folder.specs.Calls.{crashed, Crashes}
+use Rattle.nl_folder.proofs.ImageLemmas.{at_rest_unique}
+use Rattle.nl_session.specs.declared.state.LogState.{LogState}
+use Rattle.nl_session.specs.declared.state.LogState.TheVariants.{Closed}
+use Rattle.nl_session.specs.declared.events.Reply.TheVariants.{Done}
+use Rattle.nl_session.specs.Machine.{CrashesNow, State, durable_at}
+use Rattle.nl_session.specs.States.{IsAt, Goes}
+use Rattle.nl_session.specs.Opened.{OpenedAs, OpensAs, Reopens, StaysAtRest}
+use Rattle.nl_lines.proofs.PrefixLemmas.{prefix_nil}
+use Rattle.nl_session.proofs.StateLemmas.{Carries_alone}
+use Rattle.nl_session.proofs.AgainLemmas.{some_and}
+use Rattle.nl_session.proofs.RestLemmas.{as_rest}
+
+pub crash_goes : (s : State) (before now : Option Disk) (was is : Bool) (mode : LogState) (held after : List Entry) → Crashes before now → IsAt before was mode held s → Goes CrashesNow Done s now is Closed after
+crash_goes s before now was is mode held after crash at =
+    let image : IsImage at.honest crash.image = subst (λ (o : Option Disk). IfSome o (λ d. IsImage d crash.image)) at.is crash.is_image in
+    let l = at.represents.bytes.images crash.image image in
+    record {
+      next = durable_at (plus s.durable l.prefix) Closed;
+      step = (l.prefix, l.is_prefix, refl);
+      at = record {
+        honest = at_rest crash.image empty_file;
+        is = crash.left ∙ ap (option_map (crashed crash.image)) at.is;
+        represents = record { bytes = Carries_alone crash.image empty_file (plus s.durable l.prefix) l.represents; prefix = prefix_nil []; ready = λ o. absurd (cc o) };
+        mode_is = refl;
+        table_is = λ o. absurd (cc o);
+      };
+    }
+
+
+pub rest_crashed : (old new : Option Disk) → Crashes old new → StaysAtRest old new
+rest_crashed old new crash d is rest =
+    let image : crash.image ≡ d.visible = rest.only crash.image (subst (λ (o : Option Disk). IfSome o (λ disk. IsImage disk crash.image)) is crash.is_image) in
+    let e : Disk = crashed crash.image d in
+    some_and new e _ (crash.left ∙ ap (option_map (crashed crash.image)) is) (as_rest d e rest image (λ bs left. at_rest_unique crash.image bs empty_file left ∙ image))
+
+pub crash_reopens : (old new : Option Disk) → Crashes old new → (dead : List ℕ → Bool) → Reopens dead old new
+crash_reopens old new crash dead d is =
+    let image : IsImage d crash.image = subst (λ (o : Option Disk). IfSome o (λ disk. IsImage disk crash.image)) is crash.is_image in
+    some_and new (crashed crash.image d) (OpensAs dead d) (crash.left ∙ ap (option_map (crashed crash.image)) is) (λ bs left.
+      subst (OpenedAs dead d) (sym (at_rest_unique crash.image bs empty_file left)) (record { found = crash.image; image = image; same = refl; log = λ log. log }))
