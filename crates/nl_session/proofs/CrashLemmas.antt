@@ -1,6 +1,6 @@
 -- What a crash leaves: a step of the machine, and a log that opens as one that was found.
-use Rattle.std.proofs.Common.{◌≡◌, ◌∙◌, ℕ, Bool, List, [], refl, sym, ap, subst, Option, Some, None}
-use Rattle.std.specs.Prelude.{IfSome, IsSomeAnd, option_map}
+use Rattle.std.proofs.Common.{◌≡◌, ◌∙◌, ℕ, Bool, List, [], refl, sym, ap, subst, Option}
+use Rattle.std.specs.Prelude.{IfSome, option_map}
 use Rattle.nl_fields.specs.declared.entry.Entry.{Entry}
 use Rattle.nl_table.specs.History.{plus}
 use Rattle.nl_folder.specs.DiskState.{Disk, at_rest, empty_file}

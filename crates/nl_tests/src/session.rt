@@ -10,3 +10,7 @@ mod calls;
 mod folder_calls;
 // A recompaction of many entries.
 mod many;
+// Runs of events, with crashes and faults.
+mod events;
+// Opening again after failed opens.
+mod reopening;

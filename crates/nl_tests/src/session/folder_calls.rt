@@ -59,7 +59,11 @@ fn each_call_asks_the_folder_as_often_as_it_must(rt: HostRuntime) -> Result<(), 
             let all = *open + *calls + *each * *entries;
             for nth in 1..all + 2 {
                 let wanted = if nth <= all { 1 } else { 0 };
-                assert_eq!(rt; failures(alloc, *bytes, nth, step)?, wanted, "at {at}, call {nth} of {all}");
+                assert_eq!(rt;
+                    failures(alloc, *bytes, nth, step)?,
+                    wanted,
+                    "at {at}, call {nth} of {all}"
+                );
             }
         }
     }
