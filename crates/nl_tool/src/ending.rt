@@ -1,5 +1,7 @@
 //! How the program ends: what it says of an answer, on which stream, and with which status.
-ghost use Rattle.std.specs.Prelude.{◌≡◌, ◌≤◌, ◌⊎◌, map, string_bytes};
+ghost use Rattle.std.specs.Prelude.{◌≡◌, ◌≢◌, ◌≤◌, map, string_bytes};
+ghost use Rattle.std.specs.IoError.{error_kind};
+ghost use Rattle.std.specs.declared.io.ErrorKind.TheVariants.{OutOfMemory};
 ghost use Rattle.clap.specs.Words.{fault_of, kind_of};
 ghost use Rattle.nl_tool.specs.Ending.{status_after, IsStatusBy, IsStatusOfKind};
 ghost use Rattle.nl_words.specs.CommandLine.{nlog};
@@ -64,13 +66,17 @@ fn refuse(rt: &impl Eprint, fault: ToolFault) -> u8
 
 // Says why the words could not be taken, as where they are no UTF-8.
 fn refuse_line(rt: &impl Eprint, error: &io::Error) -> u8
-    ensures { (result ≡ 1) ⊎ (result ≡ 2) }
+    ensures memory { error_kind error.now ≡ OutOfMemory → result ≡ 1 }
+    ensures status { error_kind error.now ≢ OutOfMemory → result ≡ 2 }
+    ensures bound { result ≤ 2 }
 {
-    if error.kind() == io::ErrorKind::OutOfMemory {
-        return refuse(rt, ToolFault::Memory);
+    match error.kind() {
+        io::ErrorKind::OutOfMemory => refuse(rt, ToolFault::Memory),
+        _ => {
+            let _ = eprintln!(rt; "nlog: cannot read the words: {error}");
+            WRONG_WORDS
+        }
     }
-    let _ = eprintln!(rt; "nlog: cannot read the words: {error}");
-    WRONG_WORDS
 }
 
 // Prints help or the version on standard output, and what is wrong with the words on standard error.
