@@ -34,7 +34,6 @@ crash_goes s before now was is mode held after crash at =
       };
     }
 
-
 pub rest_crashed : (old new : Option Disk) → Crashes old new → StaysAtRest old new
 rest_crashed old new crash d is rest =
     let image : crash.image ≡ d.visible = rest.only crash.image (subst (λ (o : Option Disk). IfSome o (λ disk. IsImage disk crash.image)) is crash.is_image) in
@@ -45,4 +44,4 @@ pub crash_reopens : (old new : Option Disk) → Crashes old new → (dead : List
 crash_reopens old new crash dead d is =
     let image : IsImage d crash.image = subst (λ (o : Option Disk). IfSome o (λ disk. IsImage disk crash.image)) is crash.is_image in
     some_and new (crashed crash.image d) (OpensAs dead d) (crash.left ∙ ap (option_map (crashed crash.image)) is) (λ bs left.
-      subst (OpenedAs dead d) (sym (at_rest_unique crash.image bs empty_file left)) (record { found = crash.image; image = image; same = refl; log = λ log. log }))
+    subst (OpenedAs dead d) (sym (at_rest_unique crash.image bs empty_file left)) (record { found = crash.image; image = image; same = refl; log = λ log. log }))

@@ -1,6 +1,6 @@
 //! A source over a log, and the callers, over a folder in memory.
 use super::support::folder_of;
-use crate::callers::{append_all, keep_durable, sync_and_crash};
+use crate::callers::{keep_durable, sync_and_crash};
 use crate::{Call, Fault, Fuse, LogReader};
 use nl_lines::{Source, SourceFault};
 use std::alloc::AllocError;
@@ -64,9 +64,8 @@ fn each_read_asks_the_folder_once(rt: HostRuntime) -> Result<(), Fail> {
 }
 
 #[test]
-fn callers_append_cut_and_survive_a_crash(rt: HostRuntime) -> Result<(), Fail> {
-    let mut folder = folder_of(rt.alloc(), b"abc", &[1, 1], &[0], None)?;
-    assert_eq!(rt; append_all(&mut folder, b"defg"), Ok(()));
+fn callers_cut_and_survive_a_crash(rt: HostRuntime) -> Result<(), Fail> {
+    let mut folder = folder_of(rt.alloc(), b"abcdefg", &[], &[0], None)?;
     assert_eq!(rt; folder.log_bytes(), b"abcdefg".as_slice());
     assert_eq!(rt; keep_durable(&mut folder, 5), Ok(()));
     assert_eq!(rt; folder.log_bytes(), b"abcde".as_slice());
