@@ -1,8 +1,9 @@
 //! Why a command of the tool is refused, and the text that says so.
 ghost use Rattle.std.specs.Prelude.{◌≡◌, Some};
-ghost use Rattle.nl_tool.specs.Faults.{of_load_fault, text_of};
+ghost use Rattle.nl_tool.specs.Faults.{IsUpdateRefusal, of_load_fault, of_log_fault, text_of};
 ghost use Rattle.nl_tool.specs.declared.fault.ToolFault.TheVariants.{Memory};
 
+use nl_session::LogFault;
 use nl_table::LoadFault;
 use std::alloc::AllocError;
 use std::error::Error;
@@ -16,6 +17,18 @@ pub enum ToolFault {
     Read,
     Memory,
     Write,
+    /// A call of the log's folder failed.
+    Folder,
+    /// The index, from 0, of the first pair of TIMES whose mtime is negative.
+    NegativeTime(usize),
+    /// START, END or MTIME of `record` is no number in its one spelling, or out of its range.
+    BadNumber,
+    EmptyName,
+    /// The place, from 0, of the first byte that no name may have.
+    BadByte(usize),
+    LongName,
+    /// The number, from 1, of the first bad line of KEEP, TIMES or SCRIPT. Lines that are ignored are counted.
+    BadLine(u64),
     /// The command is named, and this version does not have it.
     NotYet,
 }
@@ -30,6 +43,13 @@ impl fmt::Display for ToolFault {
             ToolFault::Read => write!(f, "cannot read"),
             ToolFault::Memory => write!(f, "out of memory"),
             ToolFault::Write => write!(f, "cannot write"),
+            ToolFault::Folder => write!(f, "the folder failed"),
+            ToolFault::NegativeTime(index) => write!(f, "negative time at pair {index}"),
+            ToolFault::BadNumber => write!(f, "bad number"),
+            ToolFault::EmptyName => write!(f, "empty name"),
+            ToolFault::BadByte(at) => write!(f, "bad byte in name at {at}"),
+            ToolFault::LongName => write!(f, "name too long"),
+            ToolFault::BadLine(number) => write!(f, "bad line {number}"),
             ToolFault::NotYet => write!(f, "this version does not have that command yet"),
         }
     }
@@ -55,6 +75,21 @@ impl From<LoadFault> for ToolFault {
             LoadFault::Read => ToolFault::Read,
             LoadFault::OutOfMemory => ToolFault::Memory,
         }
+    }
+}
+
+/// The fault of an update that an open log, or the opening of a closed one, refused.
+pub fn of_log_fault(fault: LogFault) -> ToolFault
+    requires { IsUpdateRefusal fault }
+    ensures value { result ≡ of_log_fault fault }
+{
+    match fault {
+        LogFault::NegativeTime(index) => ToolFault::NegativeTime(index),
+        LogFault::NotALog => ToolFault::NotALog,
+        LogFault::OtherVersion => ToolFault::OtherVersion,
+        LogFault::OutOfMemory => ToolFault::Memory,
+        LogFault::Fault => ToolFault::Folder,
+        LogFault::NotOpen | LogFault::AlreadyOpen | LogFault::Broken => unreachable!(),
     }
 }
 
