@@ -1,2 +1,3 @@
+pub mod FileLemmas
 pub mod OutputLemmas
 mod EndingLemmas

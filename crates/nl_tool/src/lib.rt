@@ -5,10 +5,13 @@ mod check;
 mod ending;
 mod fault;
 mod hash;
+mod keep_file;
 mod loading;
 mod output;
+mod parts;
 mod program;
 mod show;
+mod times_file;
 
 pub use check::check_to;
 pub use ending::{run_line, run_program};

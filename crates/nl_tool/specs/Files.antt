@@ -1,0 +1,77 @@
+-- What the files KEEP and TIMES say: docs/CLI.md, "Files".
+use Rattle.std.specs.Prelude.{◌≡◌, ℕ, ◌+◌, ℤ, nat_le, Bool, ◌&&◌, List, [], ◌∷◌, ◌++◌, length, Option, None, Some, IfSome, bytes_eq, if◌then◌else◌}
+use Rattle.nl_fields.specs.Digits.{decimal_of, integer_of}
+use Rattle.nl_fields.specs.EntryLine.{before_tab, after_tab, is_within}
+use Rattle.nl_fields.specs.Name.{is_name}
+use Rattle.nl_lines.specs.Lines.{max_line}
+use Rattle.nl_lines.specs.Split.{lines_of, rest_of}
+
+-- what the lines of a file say: a part each, in order, or nothing, where the line of this number is the first bad one
+pub data FileReading (T : Type 0) : Type 0 where
+  Says : List T → FileReading T
+  BadAt : ℕ → FileReading T
+
+-- the lines and what follows the last newline
+abbrev pub file_lines : List ℕ → List (List ℕ)
+file_lines bytes = lines_of bytes ++ rest_of bytes ∷ []
+
+-- what lines say with this part before it
+abbrev pub before : {T : Type 0} → T → FileReading T → FileReading T
+before part (Says parts) = Says (part ∷ parts)
+before part (BadAt number) = BadAt number
+
+-- what the line of this number says before what the later ones say
+abbrev pub said_before : {T : Type 0} → Option T → ℕ → FileReading T → FileReading T
+said_before None number later = BadAt number
+said_before (Some part) number later = before part later
+
+-- the part that a line is, if it isn't too long
+abbrev pub part_on : {T : Type 0} → (List ℕ → Option T) → List ℕ → Option T
+part_on part_of line = if nat_le (length line) max_line then part_of line else None
+
+-- what lines say that are numbered from this number on, by the part that a line is; an empty one says nothing
+abbrev pub said_from : {T : Type 0} → (List ℕ → Option T) → ℕ → List (List ℕ) → FileReading T
+said_from part_of number [] = Says []
+said_from part_of number ([] ∷ lines) = said_from part_of (number + 1) lines
+said_from part_of number ((b ∷ line) ∷ lines) = said_before (part_on part_of (b ∷ line)) number (said_from part_of (number + 1) lines)
+
+-- what lines say with the line of this number behind them
+abbrev pub said_after : {T : Type 0} → (List ℕ → Option T) → ℕ → List ℕ → FileReading T → FileReading T
+said_after part_of number line (BadAt earlier) = BadAt earlier
+said_after part_of number [] (Says parts) = Says parts
+said_after part_of number (b ∷ line) (Says parts) = elim (part_on part_of (b ∷ line)) [ None ↦ BadAt number | Some part ↦ Says (parts ++ part ∷ []) ]
+
+-- what parts say, or the number of a bad line
+abbrev pub said_of : {T : Type 0} → List T → Option ℕ → FileReading T
+said_of parts None = Says parts
+said_of parts (Some number) = BadAt number
+
+-- what a file says
+abbrev pub said_by : {T : Type 0} → (List ℕ → Option T) → List ℕ → FileReading T
+said_by part_of bytes = said_from part_of 1 (file_lines bytes)
+
+-- a line of KEEP is a name
+abbrev pub name_on : List ℕ → Option (List ℕ)
+name_on line = if is_name line then Some line else None
+
+-- the text before the first tab is an mtime in its one spelling, what follows the tab is a name
+abbrev pub is_pair : List ℕ → List ℕ → Bool
+is_pair time name = is_within 63 (integer_of time) && (bytes_eq (decimal_of (integer_of time)) time && is_name name)
+
+-- a line of TIMES is an mtime, a tab and a name
+abbrev pub pair_on : List ℕ → Option (List ℕ × ℤ)
+pair_on line = if is_pair (before_tab line) (after_tab line) then Some (after_tab line, integer_of (before_tab line)) else None
+
+-- the names that KEEP holds
+abbrev pub keep_of : List ℕ → FileReading (List ℕ)
+keep_of bytes = said_by name_on bytes
+
+-- the pairs that TIMES holds
+abbrev pub times_of : List ℕ → FileReading (List ℕ × ℤ)
+times_of bytes = said_by pair_on bytes
+
+-- this holds of the bytes that a reader gave: the known ones where they are known
+pub record OfBytes (known : Option (List ℕ)) (Holds : List ℕ → Type 0) : Type 0 where
+  pub bytes : List ℕ
+  pub given : IfSome known (λ bs. bs ≡ bytes)
+  pub holds : Holds bytes
