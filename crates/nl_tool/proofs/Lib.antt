@@ -1,3 +1,4 @@
 pub mod FileLemmas
+pub mod ChangeLemmas
 pub mod OutputLemmas
 mod EndingLemmas

@@ -2,4 +2,5 @@ pub mod Output
 pub mod Loading
 pub mod Faults
 pub mod Files
+pub mod Updates
 pub mod Ending

@@ -1,6 +1,7 @@
 //! The commands of `nlog`, each over any reader and writer.
 #![tactic(auto)]
 
+mod change;
 mod check;
 mod ending;
 mod fault;
@@ -12,6 +13,7 @@ mod parts;
 mod program;
 mod show;
 mod times_file;
+mod update;
 
 pub use check::check_to;
 pub use ending::{run_line, run_program};
