@@ -19,6 +19,9 @@ mod runs;
 // Command lines: what each command reads, and each kind of wrong words.
 #[cfg(test)]
 mod words;
+// The commands that change a log, over a folder in memory: KEEP, TIMES, and what a bad one leaves.
+#[cfg(test)]
+mod engines;
 // The texts and the status of the faults.
 #[cfg(test)]
 mod faults;
