@@ -1,4 +1,5 @@
 pub mod Output
 pub mod Loading
 pub mod Faults
+pub mod Replay
 pub mod Ending

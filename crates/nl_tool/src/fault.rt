@@ -1,8 +1,9 @@
 //! Why a command of the tool is refused, and the text that says so.
 ghost use Rattle.std.specs.Prelude.{◌≡◌, Some};
-ghost use Rattle.nl_tool.specs.Faults.{IsUpdateRefusal, of_load_fault, of_log_fault, text_of};
+ghost use Rattle.nl_tool.specs.Faults.{IsUpdateRefusal, of_line_fault, of_load_fault, of_log_fault, text_of};
 ghost use Rattle.nl_tool.specs.declared.fault.ToolFault.TheVariants.{Memory};
 
+use nl_lines::LineFault;
 use nl_session::LogFault;
 use nl_table::LoadFault;
 use std::alloc::AllocError;
@@ -62,6 +63,17 @@ impl From<AllocError> for ToolFault {
 
     fn from(_error: AllocError) -> ToolFault {
         ToolFault::Memory
+    }
+}
+
+impl From<LineFault> for ToolFault {
+    ghost from_gives = { λ fault f. f ≡ of_line_fault fault };
+
+    fn from(fault: LineFault) -> ToolFault {
+        match fault {
+            LineFault::OutOfMemory => ToolFault::Memory,
+            LineFault::Read | LineFault::Failed | LineFault::TooLarge => ToolFault::Read,
+        }
     }
 }
 

@@ -8,6 +8,8 @@ mod hash;
 mod loading;
 mod output;
 mod program;
+mod replay;
+mod script;
 mod show;
 
 pub use check::check_to;
@@ -16,4 +18,5 @@ pub use fault::{ToolFault, status_of};
 pub use hash::hash_to;
 pub use nl_words::{Words, read_words};
 pub use program::{answer_to, run};
+pub use replay::replay_to;
 pub use show::show_to;
