@@ -18,10 +18,6 @@ fn each_fault_has_its_text_and_status_one(rt: HostRuntime) -> Result<(), Fail> {
         (ToolFault::BadByte(65_536), "bad byte in name at 65536"),
         (ToolFault::LongName, "name too long"),
         (ToolFault::BadLine(12), "bad line 12"),
-        (
-            ToolFault::NotYet,
-            "this version does not have that command yet",
-        ),
     ];
     for (fault, text) in cases.iter() {
         assert!(rt; fault.to_string(alloc)?.as_str() == *text);

@@ -25,6 +25,9 @@ mod engines;
 // The texts and the status of the faults.
 #[cfg(test)]
 mod faults;
+// Scripts: `replay`.
+#[cfg(test)]
+mod replay;
 // The session over a folder in memory.
 #[cfg(test)]
 mod session;
