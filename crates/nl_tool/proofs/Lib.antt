@@ -1,2 +1,3 @@
 pub mod OutputLemmas
 mod EndingLemmas
+mod PathLemmas
