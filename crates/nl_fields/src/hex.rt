@@ -7,6 +7,7 @@ use std::alloc::AllocError;
 
 static DIGITS: [u8; 16] = *b"0123456789abcdef";
 
+#[inline(always)]
 pub fn read_hex64(bytes: &[u8]) -> Option<u64>
     ensures value { IfSome result (λ n. IsDigits 16 n bytes.now) }
     ensures accepts { (n : ℕ) → n < 2 ^ 64 → IsDigits 16 n bytes.now → result ≡ Some n }
