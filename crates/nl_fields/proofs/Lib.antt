@@ -9,4 +9,4 @@ pub mod LineOfLemmas
 pub mod AppendLemmas
 pub mod HeaderLemmas
 pub mod HashLemmas
-mod LeadingLemmas
+pub mod LeadingLemmas

@@ -36,7 +36,7 @@ fn decimal_digit(byte: u8) -> Option<u64>
     ensures value { IfSome result (λ d. IsDigit 10 d byte) }
     ensures accepts { (d : ℕ) → IsDigit 10 d byte → result ≡ Some d }
 {
-    let value = u64::from(byte).wrapping_sub(48);
+    let value = u64::from(byte).wrapping_sub(u64::from(b'0'));
     if value < 10 { Some(value) } else { None }
 }
 
