@@ -14,7 +14,6 @@ import signal
 import sys
 
 from changes import CASES, FAILED, try_left
-from log_format import HEADER
 from trials import main, read, run
 
 
@@ -51,10 +50,9 @@ def try_limit(trials, program, case, room, most, is_killed, seen):
 
 def trial(trials, program, room):
     for number, case in enumerate(CASES):
-        longest = max(len(HEADER), *(len(it or b"") for it in case.left))
         for is_killed in (False, True):
             seen = set()
-            done = [try_limit(trials, program, case, f"{room}/{number}", most, is_killed, seen) for most in range(longest + 1)]
+            done = [try_limit(trials, program, case, f"{room}/{number}", most, is_killed, seen) for most in range(case.longest + 1)]
             trials.want(f"{case.name}: more room does no less", done, sorted(done))
             trials.check(f"{case.name}: done where there is room", done[-1] and not done[0])
 

@@ -48,11 +48,16 @@ def main(script, trial):
     if len(words) != 1 or not os.path.isfile(words[0]):
         trials.check("its one word is the path of the program", False, "it is not there")
         return trials.end()
-    with tempfile.TemporaryDirectory(prefix="nlog-trial-") as room:
-        program = shutil.copy(words[0], f"{room}/nlog")
+    with tempfile.TemporaryDirectory() as folder, tempfile.TemporaryDirectory(dir=in_memory()) as room:
+        program = shutil.copy(words[0], f"{folder}/nlog")
         os.chmod(program, 0o755)
         trial(trials, program, room)
     return trials.end()
+
+
+def in_memory():
+    """A folder in which a sync takes no time, where there is one: the trials make thousands."""
+    return "/dev/shm" if os.access("/dev/shm", os.W_OK | os.X_OK) else None
 
 
 def run(words, **how):
