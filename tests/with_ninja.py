@@ -87,6 +87,10 @@ def try_recompact(trials, build):
     trials.want("recompact: ends", build.nlog("recompact", LOG, "KEEP"), (0, b"", b""))
     trials.want("recompact: the log", (build.log().table, build.log().total), (before.table, len(OUTPUTS)))
     trials.check("recompact: Ninja has no work to do", build.is_idle(), repr(build.why()))
+    # The recipe of docs/CLI.md.
+    run(["sh", "-c", "ninja -t targets all | sed 's/: .*//' > KEEP"], cwd=build.room)
+    build.nlog("recompact", LOG, "KEEP")
+    trials.want("recompact by Ninja's own targets: the log", build.log().table, before.table)
     build.write_lines("KEEP", OUTPUTS[1:])
     build.nlog("recompact", LOG, "KEEP")
     trials.check("recompact without a.o: Ninja makes it again", UNKNOWN % b"a.o" in build.why(), repr(build.why()))
