@@ -40,5 +40,10 @@ else
     echo "test.sh: skipped: the examples by Rattle's own compiler (it built no program)"
 fi
 
+# Each says what it skips, and why: a formatter, strace, Ninja or a small disk may be missing.
+for trial in manual closed_streams short_writes system_calls full_disk with_ninja; do
+    part python3 "tests/$trial.py" crates/nlog/out/nlog
+done
+
 echo "$passed passed, $failed failed"
 ((failed == 0))

@@ -27,8 +27,6 @@ SECONDS = 60
 
 # The head of a table of messages.
 MESSAGES = "| Text | Cause | Example |"
-# What the help says of a command that doesn't work yet.
-NOT_YET = "Not in this version yet"
 
 
 class Example:
@@ -162,15 +160,13 @@ def commands_of(program):
     with tempfile.TemporaryDirectory() as room:
         out = run(room, program, "nlog --help")[1]
     listed = re.search(r"(?m)^Commands:\n((?:  .*\n)+)", out)
-    return re.findall(r"(?m)^  ([a-z]+) +(.*)$", listed[1]) if listed else []
+    return re.findall(r"(?m)^  ([a-z]+) ", listed[1]) if listed else []
 
 
 def lacking(page, examples, commands):
-    """The words of which a page shows no example: on the page of the command line all, on the others those that work."""
-    is_whole = page == "docs/CLI.md"
-    words = [name for name, about in commands if is_whole or not about.startswith(NOT_YET)]
-    words += ["--help", "--version"] if is_whole else []
-    for word in words:
+    """The words of which a page shows no example: each command, and on the page of the command line the options too."""
+    options = ["--help", "--version"] if page == "docs/CLI.md" else []
+    for word in [*commands, *options]:
         if not any(re.search(rf"(^|[/ (])nlog {word}(?![\w-])", it.command) for it in examples):
             yield f"`nlog {word}`"
     if not any(re.search(r"(^|[/ (])nlog( <.*)?$", it.command) for it in examples):

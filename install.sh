@@ -1,0 +1,44 @@
+#!/bin/sh
+# Proves and builds nlog, and puts the program and its page below PREFIX.
+set -eu
+
+usage="usage: ./install.sh PREFIX
+puts PREFIX/bin/nlog and PREFIX/share/man/man1/nlog.1; PREFIX is a folder, as /usr/local"
+
+if [ $# -ne 1 ]; then
+    echo "$usage" >&2
+    exit 2
+fi
+case $1 in
+    -h | --help)
+        echo "$usage"
+        exit 0
+        ;;
+    '' | -*)
+        echo "$usage" >&2
+        exit 2
+        ;;
+esac
+
+top=$(cd "$(dirname "$0")" && pwd)
+prefix=$1
+
+# Puts a file in the place of another at once, so that a program that runs stays whole.
+put() {
+    cp "$2" "$3.new"
+    chmod "$1" "$3.new"
+    mv -f "$3.new" "$3"
+}
+
+if ! command -v rt > /dev/null; then
+    echo "install.sh: the command rt of the Rattle toolchain isn't there; README.md names it" >&2
+    exit 1
+fi
+
+echo "install.sh: proving and building nlog, which takes minutes the first time"
+(cd "$top/crates/nlog" && rt run -- --version)
+
+mkdir -p "$prefix/bin" "$prefix/share/man/man1"
+put 755 "$top/crates/nlog/out/nlog" "$prefix/bin/nlog"
+put 644 "$top/man/nlog.1" "$prefix/share/man/man1/nlog.1"
+echo "install.sh: $prefix/bin/nlog and $prefix/share/man/man1/nlog.1 are there"

@@ -1,0 +1,180 @@
+#!/usr/bin/env python3
+"""Tries the system calls of the commands that change a log: their order, and what a kill or an error at each of them leaves.
+
+    python3 tests/system_calls.py PROGRAM
+
+Wants strace, and that it may trace. Where a command is killed as a call begins, or the call fails with EIO, for each call in
+turn, the log has to be one that the rules let it leave; later calls leave no less of the work; status 0 comes only of a log
+that is done; and the same command again does its work.
+"""
+import os
+import re
+import shutil
+import sys
+from concurrent.futures import ThreadPoolExecutor
+
+from changes import CASES, FAILED, RECORDED, UNREAD, try_left
+from log_format import HEADER, Log, line_of, text_of
+from trials import main, read, run
+
+# The calls that end the process: one that fails would leave it no way to end.
+ENDS = ("exit_group", "exit")
+CALL = re.compile(r"(\w+)\((.*?)\) += (\S+)")
+
+
+def lines_of(log):
+    return [HEADER, *(line_of(*it) for it in log.table.items())]
+
+
+def effects_wanted(case):
+    """What the command does to the files and the folder, in order, by docs/DISK_MODEL.md and docs/ARCHITECTURE.md."""
+    log = Log(case.start or b"")
+    sync = ["sync LOG", "sync folder"]
+
+    def rewrite(text):
+        writes = [f"write LOG.recompact {len(it)}" for it in lines_of(Log(text))]
+        return ["empty LOG.recompact", *writes, "sync LOG.recompact", "rename", *sync]
+
+    wanted = ["sync folder"] if case.start is None else [*sync]
+    if log.torn:
+        wanted += [f"cut LOG {log.whole}", *sync]
+    if log.whole == 0:
+        wanted += [f"write LOG {len(HEADER)}", *sync]
+    if log.is_due():
+        wanted += rewrite(text_of(log.table))
+    if case.change.words[0] == "record":
+        return [*wanted, f"write LOG {len(line_of(*RECORDED))}", *sync]
+    return [*wanted, *rewrite(case.done), *sync]
+
+
+def effect(call, room):
+    """What a call did to a file of the room, or None."""
+    parts = CALL.match(call)
+    if not parts or parts[3].startswith(("-", "?")) or room not in parts[2]:
+        return None
+    name, words, answer = parts[1], parts[2].replace(f"{room}/", ""), parts[3]
+    file = re.match(r"\d+<([^>]*)>", words)
+    file = "folder" if file and file[1] == room else file[1] if file else ""
+    if name in ("fsync", "fdatasync"):
+        return f"sync {file}"
+    if name in ("write", "pwrite64", "writev"):
+        return f"write {file} {answer}"
+    if name == "ftruncate":
+        return f"cut {file} {words.split(', ')[-1]}"
+    if name.startswith("rename"):
+        return "rename"
+    if "O_TRUNC" in words:
+        return "empty " + re.search(r'"([^"]*)"', words)[1]
+    return name if name in ("unlink", "unlinkat", "truncate", "link") else None
+
+
+def most_open(calls, room):
+    """How many files of the room were open at one time."""
+    now, most = set(), 0
+    for call in calls:
+        parts = CALL.match(call)
+        if parts and parts[1] in ("open", "openat") and room in parts[2] and parts[3][0].isdigit():
+            now.add(int(re.match(r"\d+", parts[3])[0]))
+        elif parts and parts[1] == "close":
+            now.discard(int(re.match(r"\d+", parts[2])[0]))
+        most = max(most, len(now))
+    return most
+
+
+def traced(program, case, room, inject=()):
+    """Runs a case in a new folder: how it ended, and its system calls."""
+    os.makedirs(room)
+    case.fill(room)
+    words = ["strace", "-y", "-o", f"{room}/TRACE", "-e", "signal=none", *inject, *case.words(program, room)]
+    status, out, err = run(words, cwd="/")
+    calls = [it for it in (read(f"{room}/TRACE") or b"").decode(errors="replace").split("\n") if re.match(r"\w+\(", it)]
+    return (status, out, err), calls
+
+
+class Sweep:
+    """A case, each call of which is disturbed in turn."""
+
+    def __init__(self, trials, program, case, room):
+        self.trials, self.program, self.case, self.room = trials, program, case, room
+        self.seen = set()
+
+    def undisturbed(self):
+        """Tries the case by itself, and gives its calls: the name, which of that name it is, and the line."""
+        room = f"{self.room}/whole"
+        ended, calls = traced(self.program, self.case, room)
+        name, trials = self.case.name, self.trials
+        trials.want(f"{name}: ends", ended, (0, b"", b""))
+        trials.want(f"{name}: the log", read(f"{room}/LOG"), self.case.done)
+        trials.want(f"{name}: its effects", [it for it in (effect(c, room) for c in calls) if it], effects_wanted(self.case))
+        trials.want(f"{name}: files that are open at one time", most_open(calls, room), 1)
+        counts = {}
+        for call in calls:
+            word = call.split("(")[0]
+            counts[word] = counts.get(word, 0) + 1
+            yield word, counts[word], call.replace(room, "ROOM")
+
+    def disturbed(self, at, how, call):
+        """Runs the case with one call disturbed: what is wrong with how it ended, and which of the logs it left."""
+        word, count, line = call
+        room = f"{self.room}/{how}{at:05d}"
+        inject = "signal=SIGKILL" if how == "kill" else "error=EIO"
+        (status, out, err), _ = traced(self.program, self.case, room, ["-e", f"inject={word}:{inject}:when={count}"])
+        left = read(f"{room}/LOG")
+        wrong = []
+        if out:
+            wrong.append(f"it printed {out!r}")
+        if left not in self.case.left:
+            wrong.append(f"it left {left!r}")
+        if status == 0 and left != self.case.done:
+            wrong.append("it ended with status 0 before its work was done")
+        if how == "kill" and status != -9:
+            wrong.append(f"it wasn't killed, but ended with status {status}")
+        if how == "error" and "ROOM" in line and word not in ("close", "execve"):
+            text = UNREAD if re.search(r"ROOM/(KEEP|TIMES)", line) else FAILED
+            if (status, err) != (1, text):
+                wrong.append(f"status {status} with {err!r} in place of 1 with {text!r}")
+        return wrong, left, read(f"{room}/LOG.recompact"), room
+
+    def judge(self, at, how, call, found):
+        """Tries what one run left, where no run before left the same, and gives its place among the logs that may be left."""
+        wrong, left, scratch, room = found
+        what = f"{self.case.name}: {how} at call {at}, {call[2][:120]}"
+        self.trials.check(what, not wrong, "; ".join(wrong))
+        if left in self.case.left and (left, scratch) not in self.seen:
+            self.seen.add((left, scratch))
+            try_left(self.trials, what, self.program, self.case, room)
+        shutil.rmtree(room)
+        return self.case.left.index(left) if left in self.case.left else 0
+
+
+def sweep(trials, program, case, room, pool, is_first):
+    """Disturbs each call of a case: from the program's beginning on for the first of a command, else from its first file on."""
+    it = Sweep(trials, program, case, room)
+    calls = list(it.undisturbed())
+    begin = 1 if is_first else next(i for i, call in enumerate(calls) if i and "ROOM" in call[2])
+    for how in ("kill", "error"):
+        chosen = [(i, c) for i, c in enumerate(calls) if i >= begin and (how == "kill" or c[0] not in ENDS)]
+        found = list(pool.map(lambda one: it.disturbed(one[0], how, one[1]), chosen))
+        places = [it.judge(at, how, call, one) for (at, call), one in zip(chosen, found)]
+        if how == "kill":
+            trials.check(f"{case.name}: a later kill leaves no less", places == sorted(places), str(places))
+    return len(calls) - begin
+
+
+def trial(trials, program, room):
+    if shutil.which("strace") is None:
+        return trials.skip("all of it", "strace isn't there")
+    if run(["strace", "-o", f"{room}/TRACE", "-e", "inject=write:error=EIO", "true"])[0] != 0:
+        return trials.skip("all of it", "strace may not trace here")
+    commands, count = set(), 0
+    with ThreadPoolExecutor(os.cpu_count()) as pool:
+        for number, case in enumerate(CASES):
+            word = case.change.words[0]
+            count += sweep(trials, program, case, f"{room}/{number}", pool, word not in commands)
+            commands.add(word)
+    print(f"system_calls.py: {len(CASES)} runs, of which {count} calls were disturbed, each by a kill and by an error")
+    return None
+
+
+if __name__ == "__main__":
+    sys.exit(main(__file__, trial))

@@ -1,0 +1,86 @@
+"""What the trials of this folder share: their words, what passed and what failed, and the last line."""
+import os
+import shutil
+import subprocess
+import sys
+import tempfile
+
+SECONDS = 120
+
+
+class Trials:
+    """What a script found. It ends by `end`, whose last line is `N passed, M failed`."""
+
+    def __init__(self, script):
+        self.script = os.path.basename(script)
+        self.passed, self.failed = 0, 0
+
+    def want(self, what, got, wanted):
+        """Passes where the two are equal."""
+        return self.check(what, got == wanted, f"{short(got)} in place of {short(wanted)}")
+
+    def check(self, what, is_good, why=""):
+        if is_good:
+            self.passed += 1
+        else:
+            self.failed += 1
+            print(f"{self.script}: FAILED: {what}{': ' if why else ''}{why}")
+        return is_good
+
+    def skip(self, what, why):
+        print(f"{self.script}: skipped: {what}: {why}")
+
+    def end(self):
+        print(f"{self.passed} passed, {self.failed} failed", flush=True)
+        return 1 if self.failed else 0
+
+
+def short(it):
+    """A value as a message shows it, without its middle where it is long."""
+    text = repr(it)
+    return text if len(text) < 400 else f"{text[:200]} .. {text[-180:]}"
+
+
+def main(script, trial):
+    """Runs a trial on the program that the words name, and gives the status to end with."""
+    trials = Trials(script)
+    words = sys.argv[1:]
+    if len(words) != 1 or not os.path.isfile(words[0]):
+        trials.check("its one word is the path of the program", False, "it is not there")
+        return trials.end()
+    with tempfile.TemporaryDirectory() as folder, tempfile.TemporaryDirectory(dir=in_memory()) as room:
+        program = shutil.copy(words[0], f"{folder}/nlog")
+        os.chmod(program, 0o755)
+        trial(trials, program, room)
+    return trials.end()
+
+
+def in_memory():
+    """A folder in which a sync takes no time, where there is one: the trials make thousands."""
+    return "/dev/shm" if os.access("/dev/shm", os.W_OK | os.X_OK) else None
+
+
+def run(words, **how):
+    """Runs a program: its status, standard output and standard error. Status None: it didn't end."""
+    how = {"stdin": subprocess.DEVNULL, "capture_output": True, "timeout": SECONDS, **how}
+    try:
+        ran = subprocess.run(words, **how)
+    except subprocess.TimeoutExpired:
+        return None, b"", f"it had not ended after {SECONDS} seconds".encode()
+    return ran.returncode, ran.stdout, ran.stderr
+
+
+def read(path):
+    """The bytes of a file, or None where it is missing."""
+    try:
+        with open(path, "rb") as it:
+            return it.read()
+    except FileNotFoundError:
+        return None
+
+
+def write(path, text):
+    """Makes a file of these bytes. None: makes none."""
+    if text is not None:
+        with open(path, "wb") as it:
+            it.write(text)
