@@ -37,6 +37,7 @@ fn a_log_that_is_missing_is_empty_until_it_is_appended_to(rt: HostRuntime) -> Re
         assert!(rt; buf.get(..count) == Some(wanted), "at {at}");
     }
     assert!(rt; folder.failures() == 0);
+    fs::remove_file(&rt, "missing.log")?;
     Ok(())
 }
 
@@ -59,6 +60,7 @@ fn a_cut_makes_no_log_longer(rt: HostRuntime) -> Result<(), Fail> {
         assert!(rt; fs::read(&rt, "cut.log")?.as_slice() == wanted, "at {len}");
     }
     assert!(rt; folder.failures() == 0);
+    fs::remove_file(&rt, "cut.log")?;
     Ok(())
 }
 
@@ -77,6 +79,7 @@ fn a_log_that_is_no_file_fails(rt: HostRuntime) -> Result<(), Fail> {
     let mut folder = DiskFolder::new(&rt, alloc, "gone/log")?;
     assert!(rt; folder.start_scratch() == Err(Fault));
     assert!(rt; !folder.has_scratch());
+    fs::remove_dir(&rt, "directory")?;
     Ok(())
 }
 
@@ -89,6 +92,7 @@ fn a_place_that_no_file_has_fails(rt: HostRuntime) -> Result<(), Fail> {
         assert!(rt; folder.read_log(at, &mut [0; 4]) == Err(Fault), "at {at}");
         assert!(rt; folder.failures() == failures, "at {at}");
     }
+    fs::remove_file(&rt, "short.log")?;
     Ok(())
 }
 
@@ -119,6 +123,7 @@ fn a_scratch_begins_empty_and_replaces_the_log(rt: HostRuntime) -> Result<(), Fa
     assert!(rt; !folder.is_settled() && !folder.has_scratch());
     assert!(rt; fs::read(&rt, "replaced.log")?.as_slice() == b"new".as_slice());
     assert!(rt; fs::metadata(&rt, "replaced.log.recompact").is_err());
+    fs::remove_file(&rt, "replaced.log")?;
     Ok(())
 }
 
@@ -138,5 +143,6 @@ fn a_session_over_real_files_leaves_its_bytes(rt: HostRuntime) -> Result<(), Fai
     log.recompact(&KeepAll)?;
     assert!(rt; fs::read(&rt, "session.log")?.as_slice() == LINES);
     assert!(rt; log.folder().failures() == 0);
+    fs::remove_file(&rt, "session.log")?;
     Ok(())
 }

@@ -161,6 +161,7 @@ fn each_call_asks_the_system_for_no_more_once_it_failed(rt: HostRuntime) -> Resu
             }
         }
     }
+    fs::remove_dir_all(&rt, "files")?;
     Ok(())
 }
 
@@ -210,5 +211,7 @@ fn a_write_that_takes_no_byte_is_a_failure(rt: HostRuntime) -> Result<(), Fail> 
         assert!(rt; ask(&mut folder, call) == Err(Fault), "{call:?}");
         assert!(rt; folder.failures() == failures, "{call:?}");
     }
+    fs::remove_file(&rt, "nothing.log")?;
+    fs::remove_file(&rt, "nothing.log.recompact")?;
     Ok(())
 }
