@@ -29,7 +29,11 @@ const CASES: &[(File<'static>, Result<(), ToolFault>, &[u8])] = &[
         b"# ninja log v5\n5\t6\t30\ta\tcc\n",
     ),
     (File::Keep(b"\na\tb"), Err(ToolFault::BadLine(2)), LOG),
-    (File::Keep(b"b\n\n\na\0\n\t\n"), Err(ToolFault::BadLine(4)), LOG),
+    (
+        File::Keep(b"b\n\n\na\0\n\t\n"),
+        Err(ToolFault::BadLine(4)),
+        LOG,
+    ),
     (
         File::Times(b"7\ta\n8\ta\n"),
         Ok(()),
@@ -41,7 +45,11 @@ const CASES: &[(File<'static>, Result<(), ToolFault>, &[u8])] = &[
         Ok(()),
         b"# ninja log v5\n5\t6\t30\ta\tcc\n3\t4\t20\tb\tbb\n",
     ),
-    (File::Times(b"7\ta\n007\tb\n"), Err(ToolFault::BadLine(2)), LOG),
+    (
+        File::Times(b"7\ta\n007\tb\n"),
+        Err(ToolFault::BadLine(2)),
+        LOG,
+    ),
     (File::Times(b"7 a\n"), Err(ToolFault::BadLine(1)), LOG),
     (File::Times(b"7\t\n"), Err(ToolFault::BadLine(1)), LOG),
     (File::Times(b"\ta\n"), Err(ToolFault::BadLine(1)), LOG),
@@ -66,9 +74,7 @@ fn folder_of(alloc: Global, log: &[u8]) -> Result<MemFolder, AllocError> {
 }
 
 #[test]
-fn a_record_stands_behind_the_header_that_an_empty_log_gets(
-    rt: HostRuntime,
-) -> Result<(), Fail> {
+fn a_record_stands_behind_the_header_that_an_empty_log_gets(rt: HostRuntime) -> Result<(), Fail> {
     let alloc = rt.alloc();
     let entry = EntryRef::new(1, 2, 3, b"out", command_hash(b"cc\tx"))?;
     let (folder, answer) = record_on(alloc, folder_of(alloc, b"")?, &entry);
@@ -95,9 +101,7 @@ fn a_file_of_names_or_times_says_what_becomes_of_a_log(rt: HostRuntime) -> Resul
 }
 
 #[test]
-fn a_line_past_the_limit_is_bad_with_its_newline_and_without(
-    rt: HostRuntime,
-) -> Result<(), Fail> {
+fn a_line_past_the_limit_is_bad_with_its_newline_and_without(rt: HostRuntime) -> Result<(), Fail> {
     let alloc = rt.alloc();
     let mut keep = Vec::from_slice(alloc, b"b\n")?;
     keep.resize(2 + 262_144, b'x')?;

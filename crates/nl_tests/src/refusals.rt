@@ -134,7 +134,10 @@ fn the_file_of_names_or_times_is_refused_before_the_log(rt: HostRuntime) -> Resu
         for (file, fault) in [("missing", ToolFault::Read), ("bad", bad_line)] {
             let recompact = Words::Recompact { log, keep: file };
             let restat = Words::Restat { log, times: file };
-            assert!(rt; run(&rt, rt.alloc(), &recompact) == Err(fault), "{log} {file}");
+            assert!(rt;
+                run(&rt, rt.alloc(), &recompact) == Err(fault),
+                "{log} {file}"
+            );
             assert!(rt; run(&rt, rt.alloc(), &restat) == Err(fault), "{log} {file}");
         }
     }

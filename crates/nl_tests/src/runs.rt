@@ -164,12 +164,7 @@ fn the_program_says_what_came_of_its_words(rt: HostRuntime) -> Result<(), Fail> 
         (&[b"nlog", b"check"], 0, INPUT_CHECKED, b""),
         (&[b"nlog", b"check", b"given.log"], 0, FILE_CHECKED, b""),
         (&[b"nlog", b"hash", b"cc\tx"], 0, HASH, b""),
-        (
-            &[b"nlog", b"replay"],
-            1,
-            b"",
-            b"nlog: bad line 1\n",
-        ),
+        (&[b"nlog", b"replay"], 1, b"", b"nlog: bad line 1\n"),
         (&[b"nlog", b"--version"], 0, b"nlog 0.1.0\n", b""),
         (&[b"nlog", b"frob"], 2, b"", NO_COMMAND),
         (&[b"nlog", b"hash"], 2, b"", NO_VALUE),

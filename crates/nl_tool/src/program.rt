@@ -89,12 +89,7 @@ fn answer_to<R: Read + Drop, W: Write>(
     }
 }
 
-fn record_in<R: Files>(
-    rt: &R,
-    alloc: Global,
-    log: &str,
-    entry: &EntryRef,
-) -> Result<(), ToolFault>
+fn record_in<R: Files>(rt: &R, alloc: Global, log: &str, entry: &EntryRef) -> Result<(), ToolFault>
     ensures faults { IfErr result IsRecordFault }
 {
     let folder = DiskFolder::new(rt, alloc, log)?;
