@@ -1,4 +1,6 @@
 pub mod FileLemmas
+mod KeepLemmas
+mod TimesLemmas
 pub mod ChangeLemmas
 pub mod OutputLemmas
 mod EndingLemmas

@@ -1,6 +1,6 @@
 use Rattle.std.proofs.Common.{◌≡◌, ap, Err}
 use Rattle.nl_tool.specs.declared.fault.ToolFault.TheVariants.{BadLine}
-use Rattle.nl_tool.proofs.FileLemmas.{is_err, index_keeps}
+use Rattle.nl_tool.proofs.KeepLemmas.{is_err, index_keeps}
 use Rattle.nl_tool.proofs.keep_file.read_keep.Goals as goal
 
 pub returns-in_err-names-clause-bad_line : goal.returns-in_err-names-clause-bad_line

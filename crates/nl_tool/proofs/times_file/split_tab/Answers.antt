@@ -1,6 +1,6 @@
 use Rattle.std.proofs.Common.{◌∙◌, ◌+◌, ◌-◌, length, drop, arith}
 use Rattle.std.proofs.lemmas.List.{take_all, length-drop}
-use Rattle.nl_tool.proofs.FileLemmas.{no_tab, at_tab}
+use Rattle.nl_tool.proofs.TimesLemmas.{no_tab, at_tab}
 use Rattle.nl_tool.proofs.times_file.split_tab.Goals as goal
 
 pub returns-in_err-tab-clause-none : goal.returns-in_err-tab-clause-none
