@@ -101,6 +101,15 @@ fn a_file_of_names_or_times_says_what_becomes_of_a_log(rt: HostRuntime) -> Resul
 }
 
 #[test]
+fn a_file_that_is_no_log_is_said_before_a_negative_time(rt: HostRuntime) -> Result<(), Fail> {
+    let alloc = rt.alloc();
+    let (folder, answer) = restat_on(alloc, folder_of(alloc, b"hello")?, b"-1\ta".as_slice());
+    assert!(rt; answer == Err(ToolFault::NotALog));
+    assert!(rt; folder.log_bytes() == b"hello".as_slice());
+    Ok(())
+}
+
+#[test]
 fn a_line_past_the_limit_is_bad_with_its_newline_and_without(rt: HostRuntime) -> Result<(), Fail> {
     let alloc = rt.alloc();
     let mut keep = Vec::from_slice(alloc, b"b\n")?;

@@ -1,5 +1,5 @@
 -- What the words of `record` say: docs/CLI.md, "`record`".
-use Rattle.std.specs.Prelude.{◌≡◌, ◌⊎◌, ℕ, ℤ, List, FitsSigned}
+use Rattle.std.specs.Prelude.{◌≡◌, ◌≢◌, ◌⊎◌, ℕ, ℤ, List, FitsSigned}
 use Rattle.std.specs.Int.{w32, w64}
 use Rattle.nl_fields.specs.declared.entry.Entry.{Entry}
 use Rattle.nl_fields.specs.declared.name.NameFault.{NameFault}
@@ -41,6 +41,7 @@ of_name_fault name.OutOfMemory = Memory
 pub record IsNoName (bytes : List ℕ) (fault : ToolFault) : Type 0 where
   pub why : NameFault
   pub has : HasFault bytes why
+  pub refused : why ≢ name.OutOfMemory
   pub is : fault ≡ of_name_fault why
 
 -- a number is none; or the numbers are right, and the name is none

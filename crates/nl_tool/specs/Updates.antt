@@ -1,5 +1,5 @@
 -- What the commands that change a log leave: docs/PROMISES.md.
-use Rattle.std.specs.Prelude.{◌≡◌, ◌⊎◌, ℕ, Bool, false, not, List, Option, IsSomeAnd, Result, Ok, Err}
+use Rattle.std.specs.Prelude.{◌≡◌, ◌⊎◌, ℕ, Bool, false, not, List, Option, Some, IsSomeAnd, Result, Ok, Err}
 use Rattle.nl_fields.specs.declared.entry.Entry.{Entry}
 use Rattle.nl_table.specs.History.{Update, History, Then, holds, table}
 use Rattle.nl_table.specs.Log.{history_of}
@@ -10,7 +10,7 @@ use Rattle.nl_session.specs.declared.fault.LogFault.{LogFault}
 use Rattle.nl_session.specs.declared.state.LogState.{LogState}
 use Rattle.nl_session.specs.declared.state.LogState.TheVariants.{Open}
 use Rattle.nl_session.specs.Machine.{State, MayHaveGained, all_of, durable_at, gained, opened}
-use Rattle.nl_session.specs.Opened.{opened_bytes}
+use Rattle.nl_session.specs.Opened.{IsLog, opened_bytes}
 use Rattle.nl_session.specs.Parts.{IsLeft}
 use Rattle.nl_session.specs.Represents.{Represents}
 use Rattle.nl_session.specs.States.{IsAt}
@@ -52,6 +52,15 @@ Leaves update start (Err fault) disk = OfAllFound (MayRepresent update start) di
 -- the bytes that are made of opened ones and their table are the log, and every crash leaves them so
 abbrev pub IsUpdated : (List Entry → List ℕ → List ℕ) → List ℕ → Option Disk → Type 0
 IsUpdated bytes found disk = IsSomeAnd (history_of (opened_bytes none_dead found)) (λ h. IsLeft (bytes (table h) (opened_bytes none_dead found)) disk)
+
+-- the bytes were a log, and the log is what an open leaves of it, whatever crash comes
+pub record IsOpened (found : Disk) (disk : Option Disk) : Type 0 where
+  pub log : IsLog found.visible
+  pub left : IsLeft (opened_bytes none_dead found.visible) disk
+
+-- nothing of an update was made: the disk is as it was, or opened
+abbrev pub IsUnmade : Disk → Option Disk → Type 0
+IsUnmade found disk = (disk ≡ Some found) ⊎ IsOpened found disk
 
 -- a file was read, and this holds of what it says
 pub record AsSaid {T : Type 0} (reading : List ℕ → FileReading T) (known : Option (List ℕ)) (Holds : List T → Type 0) : Type 0 where
