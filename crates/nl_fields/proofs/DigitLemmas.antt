@@ -166,7 +166,7 @@ tail_of : (xs ys : List ℕ) → ◌≡◌ {A = List ℕ} (45 ∷ xs) (45 ∷ ys
 tail_of xs ys is = cc
 
 -- after a `-` stand the digits of the number without its sign
-negative_of : (n : ℤ) (digits : List ℕ) → IsDecimal n (45 ∷ digits) → (m : ℕ) × (n ≡ negsuc m) × IsDigits 10 (suc m) digits
+pub negative_of : (n : ℤ) (digits : List ℕ) → IsDecimal n (45 ∷ digits) → (m : ℕ) × (n ≡ negsuc m) × IsDigits 10 (suc m) digits
 negative_of (pos n) digits whole = absurd (minus_is_no_digit (first_of 45 digits whole).1)
 negative_of (negsuc m) digits whole = (m, refl, rw (tail_of digits whole.0 whole.1) whole.2)
 
@@ -177,7 +177,7 @@ behind_minus n (x ∷ rest) is whole =
     let same : take (suc (length rest) - 1) rest ≡ rest = take_all (suc (length rest) - 1) rest (omega arith) in
     (parts.0, parts.1, rw same parts.2)
 
-negated : (m : ℕ) → pos 0 -ℤ pos (suc m) ≡ negsuc m
+pub negated : (m : ℕ) → pos 0 -ℤ pos (suc m) ≡ negsuc m
 negated m = omega (arith, ints)
 
 pub magnitude_fits : (n : ℤ) (m : ℕ) → FitsSigned w64 n → n ≡ negsuc m → suc m < 10 ^ 19

@@ -9,3 +9,4 @@ pub mod LineOfLemmas
 pub mod AppendLemmas
 pub mod HeaderLemmas
 pub mod HashLemmas
+pub mod LeadingLemmas

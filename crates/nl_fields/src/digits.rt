@@ -31,6 +31,7 @@ fn digit_value(digit: u8, base: u64) -> Option<u64>
 }
 
 // The length is looked at first, so that no digit needs a test of overflow.
+#[inline(always)]
 pub(crate) fn read_digits(digits: &[u8], base: u64, longest: usize) -> Option<u64>
     requires base { base ≤ 16 }
     requires some { 1 ≤ longest }

@@ -5,22 +5,26 @@ ghost use Rattle.nl_fields.specs.Digits.{IsDigits, digit_of, digits_of};
 use crate::digits::read_digits;
 use std::alloc::AllocError;
 
+static DIGITS: [u8; 16] = *b"0123456789abcdef";
+
+#[inline(always)]
 pub fn read_hex64(bytes: &[u8]) -> Option<u64>
     ensures value { IfSome result (λ n. IsDigits 16 n bytes.now) }
     ensures accepts { (n : ℕ) → n < 2 ^ 64 → IsDigits 16 n bytes.now → result ≡ Some n }
 {
-    read_digits(bytes, 16, 16)
+    // Most hashes have 16 digits, and for so many the loop is laid out digit by digit.
+    if bytes.len() == 16 {
+        read_digits(&bytes[..16], 16, 16)
+    } else {
+        read_digits(bytes, 16, 16)
+    }
 }
 
 fn hex_digit(value: u64) -> u8
     requires { value < 16 }
     ensures { result ≡ digit_of value }
 {
-    if value < 10 {
-        b'0' + value as u8
-    } else {
-        b'a' + (value - 10) as u8
-    }
+    DIGITS[value as usize]
 }
 
 // The digits stand at the end of the array, from the place on that is returned.

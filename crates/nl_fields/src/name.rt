@@ -1,5 +1,5 @@
 //! Names of outputs.
-ghost use Rattle.std.specs.Prelude.{◌≡◌, ◌≢◌, ◌↔◌, List, ℕ, IsOk, IfOk, IfErr, IfSome, IsNone, position};
+ghost use Rattle.std.specs.Prelude.{◌≡◌, ◌≢◌, ◌↔◌, ◌++◌, ◌∷◌, List, ℕ, IsOk, IfOk, IfErr, IfSome, IsSome, IsNone, position};
 ghost use Rattle.nl_fields.specs.Name.{HasFault, IsName, is_forbidden};
 
 use crate::limits::MAX_NAME;
@@ -56,6 +56,25 @@ pub fn name_fault(bytes: &[u8]) -> Option<NameFault>
         return Some(NameFault::TooLong);
     }
     None
+}
+
+/// The name up to the first tab, and what follows the tab.
+#[inline(always)]
+pub(crate) fn split_name(bytes: &[u8]) -> Option<(&[u8], &[u8])>
+    ensures found { IfSome result (λ r. IsName r.0.now × (bytes.now ≡ r.0.now ++ 9 ∷ r.1.now)) }
+    ensures accepts { (name rest : List ℕ) → IsName name → bytes.now ≡ name ++ 9 ∷ rest → IsSome result }
+{
+    let at = first_forbidden(bytes)?;
+    if bytes[at] != b'\t' {
+        return None;
+    }
+    if at == 0 {
+        return None;
+    }
+    if at > MAX_NAME {
+        return None;
+    }
+    Some((&bytes[..at], &bytes[at + 1..]))
 }
 
 impl Name {

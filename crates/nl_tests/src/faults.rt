@@ -11,10 +11,13 @@ fn each_fault_has_its_text_and_status_one(rt: HostRuntime) -> Result<(), Fail> {
         (ToolFault::Read, "cannot read"),
         (ToolFault::Memory, "out of memory"),
         (ToolFault::Write, "cannot write"),
-        (
-            ToolFault::NotYet,
-            "this version does not have that command yet",
-        ),
+        (ToolFault::Folder, "the folder failed"),
+        (ToolFault::NegativeTime(0), "negative time at pair 0"),
+        (ToolFault::BadNumber, "bad number"),
+        (ToolFault::EmptyName, "empty name"),
+        (ToolFault::BadByte(65_536), "bad byte in name at 65536"),
+        (ToolFault::LongName, "name too long"),
+        (ToolFault::BadLine(12), "bad line 12"),
     ];
     for (fault, text) in cases.iter() {
         assert!(rt; fault.to_string(alloc)?.as_str() == *text);

@@ -95,28 +95,55 @@ fn a_missing_log_is_read_and_one_that_cannot_be_opened_is_not(rt: HostRuntime) -
 }
 
 #[test]
-fn a_command_that_is_only_named_is_not_there_yet(rt: HostRuntime) {
-    let record = Words::Record {
-        log: "named.log",
-        start: "1",
-        end: "2",
-        mtime: "3",
-        name: "n",
-        command: "c",
-    };
-    let recompact = Words::Recompact {
-        log: "named.log",
-        keep: "k",
-    };
-    let restat = Words::Restat {
-        log: "named.log",
-        times: "t",
-    };
-    for words in [record, recompact, restat, Words::Replay(None)] {
-        assert!(rt;
-            run(&rt, rt.alloc(), &words) == Err(ToolFault::NotYet),
-            "{words:?}"
-        );
+fn a_word_of_record_that_is_refused_makes_no_log(rt: HostRuntime) -> Result<(), Fail> {
+    let mut long = String::new(rt.alloc());
+    for _ in 0..65_537 {
+        long.push('n')?;
     }
-    assert!(rt; fs::read(&rt, "named.log").is_err());
+    let cases: [(&str, &str, &str, &str, ToolFault); 8] = [
+        ("x", "2", "3", "a", ToolFault::BadNumber),
+        ("1", "2147483648", "3", "a", ToolFault::BadNumber),
+        ("1", "2", "007", "a", ToolFault::BadNumber),
+        ("1", "2", "", "", ToolFault::BadNumber),
+        ("1", "2", "3", "", ToolFault::EmptyName),
+        ("1", "2", "3", "a\tb", ToolFault::BadByte(1)),
+        ("1", "2", "3", "ab\n", ToolFault::BadByte(2)),
+        ("1", "2", "3", long.as_str(), ToolFault::LongName),
+    ];
+    for (start, end, mtime, name, fault) in cases.iter() {
+        let words = Words::Record {
+            log: "none.log",
+            start,
+            end,
+            mtime,
+            name,
+            command: "c",
+        };
+        assert!(rt; run(&rt, rt.alloc(), &words) == Err(*fault), "{fault}");
+    }
+    assert!(rt; fs::read(&rt, "none.log").is_err());
+    Ok(())
+}
+
+#[test]
+fn the_file_of_names_or_times_is_refused_before_the_log(rt: HostRuntime) -> Result<(), Fail> {
+    fs::write(&rt, "no.log", "hello")?;
+    fs::write(&rt, "bad", "\n\t\n")?;
+    let bad_line = ToolFault::BadLine(2);
+    for log in ["no.log", "none.log"] {
+        for (file, fault) in [("missing", ToolFault::Read), ("bad", bad_line)] {
+            let recompact = Words::Recompact { log, keep: file };
+            let restat = Words::Restat { log, times: file };
+            assert!(rt;
+                run(&rt, rt.alloc(), &recompact) == Err(fault),
+                "{log} {file}"
+            );
+            assert!(rt; run(&rt, rt.alloc(), &restat) == Err(fault), "{log} {file}");
+        }
+    }
+    assert!(rt; fs::read(&rt, "no.log")?.as_slice() == b"hello".as_slice());
+    assert!(rt; fs::read(&rt, "none.log").is_err());
+    fs::remove_file(&rt, "no.log")?;
+    fs::remove_file(&rt, "bad")?;
+    Ok(())
 }

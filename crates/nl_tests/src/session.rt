@@ -10,7 +10,7 @@ mod calls;
 mod folder_calls;
 // A recompaction of many entries.
 mod many;
-// Runs of events, with crashes and faults.
+// Runs of events: each event, each refusal of a state, and logs that no open takes.
 mod events;
 // Opening again after failed opens.
 mod reopening;

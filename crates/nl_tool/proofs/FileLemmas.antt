@@ -1,5 +1,5 @@
 -- What a file says, one line after another.
-use Rattle.std.proofs.Common.{◌≡◌, ◌∙◌, ℕ, ℤ, ◌+◌, ◌<◌, ◌≤◌, nat_le, Bool, true, false, cond, not, ◌&&◌, ◌||◌, ◌==◌, List, [], ◌∷◌, ◌++◌, length, take, drop, get_or, refl, sym, ap, subst, inl, inr, arith, length-append, leb-true, ltb-true, lt-ltb, ◌^◌, pos, negsuc, FitsSigned, w64, bytes_eq}
+use Rattle.std.proofs.Common.{◌≡◌, ◌∙◌, ℕ, ℤ, ◌+◌, ◌≤◌, nat_le, Bool, true, false, cond, not, ◌&&◌, ◌||◌, ◌==◌, List, [], ◌∷◌, ◌++◌, length, take, drop, get_or, refl, sym, ap, subst, inl, inr, arith, length-append, leb-true, ltb-true, lt-ltb, ◌^◌, pos, negsuc, FitsSigned, w64, bytes_eq}
 use Rattle.std.specs.Option.{option_map}
 use Rattle.std.proofs.lemmas.Bool.{and_parts}
 use Rattle.std.proofs.lemmas.Slice.Eq.{bytes_eq-Decides}
@@ -19,8 +19,8 @@ use Rattle.nl_fields.proofs.DigitLemmas.{same_decimal_spelling}
 use Rattle.nl_fields.proofs.NumberLemmas.{IsDecimal-decimal_of, integer_of-decimal}
 use Rattle.nl_fields.specs.Name.{is_name}
 use Rattle.memchr.specs.Find.{IsFirstByte}
-use Rattle.nl_lines.specs.Split.{SplitsInto, lines_of, rest_of}
-use Rattle.nl_lines.specs.Lines.{Reader, HasEnded, IsReading, TakesLine, TakesRest, TakesLines, TakesAll, fresh, lent_rest, max_line, max_log}
+use Rattle.nl_lines.specs.Split.{rest_of}
+use Rattle.nl_lines.specs.Lines.{Reader, HasEnded, IsReading, TakesLine, TakesRest, TakesLines, TakesAll, fresh, lent_rest, max_line}
 use Rattle.nl_lines.proofs.SplitLemmas.{SplitsInto_unique}
 use Rattle.nl_lines.proofs.LinesLemmas.{TakesLines_none, TakesLines_more, TakesLines_rest}
 use Rattle.nl_table.specs.History.{holds}
@@ -119,7 +119,7 @@ module _ {T : Type 0} (part_of : List ℕ → Option T) where
     pub Telling_end : TakesRest now b new c [] → OfBytes a (λ bytes. said_by part_of bytes ≡ said_of parts bad)
     Telling_end takes =
         all_said [] (TakesLines_rest fresh a now b telling.lines telling.given new c [] takes) parts bad
-            (said_more [] parts bad (count + 1) (nothing (said_of parts bad)) refl)
+        (said_more [] parts bad (count + 1) (nothing (said_of parts bad)) refl)
       where
         nothing : (reading : FileReading T) → reading ≡ said_after part_of (count + 1) [] reading
         nothing (Says ps) = refl

@@ -1,5 +1,5 @@
 -- What the commands that change a log leave: docs/PROMISES.md.
-use Rattle.std.specs.Prelude.{◌≡◌, ◌⊎◌, ℕ, Bool, false, not, List, ◌++◌, Option, IsSomeAnd, Result, Ok, Err, ⊤}
+use Rattle.std.specs.Prelude.{◌≡◌, ◌⊎◌, ℕ, Bool, false, not, List, Option, IsSomeAnd, Result, Ok, Err}
 use Rattle.nl_fields.specs.declared.entry.Entry.{Entry}
 use Rattle.nl_table.specs.History.{Update, History, Then, holds, table}
 use Rattle.nl_table.specs.Log.{history_of}

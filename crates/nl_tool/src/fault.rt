@@ -30,8 +30,6 @@ pub enum ToolFault {
     LongName,
     /// The number, from 1, of the first bad line of KEEP, TIMES or SCRIPT. Lines that are ignored are counted.
     BadLine(u64),
-    /// The command is named, and this version does not have it.
-    NotYet,
 }
 
 impl fmt::Display for ToolFault {
@@ -51,7 +49,6 @@ impl fmt::Display for ToolFault {
             ToolFault::BadByte(at) => write!(f, "bad byte in name at {at}"),
             ToolFault::LongName => write!(f, "name too long"),
             ToolFault::BadLine(number) => write!(f, "bad line {number}"),
-            ToolFault::NotYet => write!(f, "this version does not have that command yet"),
         }
     }
 }

@@ -12,10 +12,14 @@ const VERSION: &str = "0.1.0";
 const AFTER: &str = "\
 Without a command, and with `show` or `check` without LOG, a log is read from standard input.
 A LOG that is missing is read as one without entries, also where its name is mistyped.
+`record`, `recompact` and `restat` first repair a LOG that a crash cut off, and make what they
+change durable before they end.
 
 Examples:
   nlog show build/.ninja_log
   nlog check < .ninja_log
+  nlog record .ninja_log 0 1200 1700000001200000000 app.o 'cc -c app.c -o app.o'
+  ninja -t targets all | sed 's/: .*//' > keep && nlog recompact .ninja_log keep
 
 Status: 0 done; 1 refused, and a line `nlog: ...` on standard error says why; 2 wrong words.";
 
@@ -137,9 +141,15 @@ fn record_command<'a>(alloc: Global) -> Result<Command<'a>, AllocError>
     ensures shape { IfOk result (λ c. app_of c ≡ record_line) }
     ensures local { IfOk result (λ c. (out-Command c).has_globals ≡ false) }
 {
-    let command = Command::new(alloc, "record").about(
-        "Not in this version yet: appends one entry to a log; prints nothing",
-    );
+    let command = Command::new(alloc, "record")
+        .about("Adds one entry to a log; prints nothing")
+        .after_help(
+            "\
+The log is made where it is missing. START and END are from -2147483648 to 2147483647, MTIME is a
+64-bit number. A value that begins with `-` stands behind `--`, as in
+
+  nlog record -- .ninja_log -1 2 3 out 'cc out.c'",
+        );
     let command = with_value(alloc, command, "LOG", true, LOG)?;
     let command = with_value(
         alloc,
@@ -176,9 +186,13 @@ fn recompact_command<'a>(alloc: Global) -> Result<Command<'a>, AllocError>
     ensures shape { IfOk result (λ c. app_of c ≡ recompact) }
     ensures local { IfOk result (λ c. (out-Command c).has_globals ≡ false) }
 {
-    let command = Command::new(alloc, "recompact").about(
-        "Not in this version yet: rewrites a log with the last entry of each output that KEEP names; prints nothing",
-    );
+    let command = Command::new(alloc, "recompact")
+        .about("Rewrites a log with the last entry of each output that KEEP names; prints nothing")
+        .after_help(
+            "\
+KEEP has the name of one output a line; an empty line says nothing. The new log is written to
+LOG.recompact, and renamed over LOG.",
+        );
     let command = with_value(alloc, command, "LOG", true, LOG)?;
     with_value(
         alloc,
@@ -193,9 +207,14 @@ fn restat_command<'a>(alloc: Global) -> Result<Command<'a>, AllocError>
     ensures shape { IfOk result (λ c. app_of c ≡ restat) }
     ensures local { IfOk result (λ c. (out-Command c).has_globals ≡ false) }
 {
-    let command = Command::new(alloc, "restat").about(
-        "Not in this version yet: rewrites a log with the time stamps that TIMES gives; prints nothing",
-    );
+    let command = Command::new(alloc, "restat")
+        .about("Rewrites a log with the time stamps that TIMES gives; prints nothing")
+        .after_help(
+            "\
+TIMES has an MTIME, a tab and a NAME on each line; an empty line says nothing. The last line of a
+name counts, and names that the log lacks are passed over. The new log is written to
+LOG.recompact, and renamed over LOG.",
+        );
     let command = with_value(alloc, command, "LOG", true, LOG)?;
     with_value(
         alloc,
@@ -211,7 +230,7 @@ fn replay_command<'a>(alloc: Global) -> Result<Command<'a>, AllocError>
     ensures local { IfOk result (λ c. (out-Command c).has_globals ≡ false) }
 {
     let command = Command::new(alloc, "replay").about(
-        "Not in this version yet: runs the events of a script on a log in memory, and prints the replies and that log",
+        "Runs the events of a script on a log in memory, and prints the replies and that log",
     );
     with_value(
         alloc,

@@ -1,7 +1,7 @@
-//! Runs of events, over a folder in memory that crashes and fails as it was told.
-use super::scripts::{NONE, Step, names_of, times_of};
+//! Runs of events: each event, each refusal of a state, and logs that no open takes. What a script can say runs as one.
+use super::scripts::{Case, NONE, Step, folder_of, names_of, times_of};
 use nl_fields::{Entry, NameFault, read_entry};
-use nl_folder::{Call, Fuse, MemFolder};
+use nl_folder::{Call, MemFolder};
 use nl_session::{Event, LogFault, Outcome, Reply, run_events};
 use nl_table::KeepList;
 use std::alloc::Global;
@@ -23,37 +23,7 @@ pub fn event_of(alloc: Global, step: &Step) -> Result<Event, Fail> {
     })
 }
 
-// What a folder is told: its log, its writes and fates, and the call of it that fails; and then the events with their
-// replies, and the bytes at the end.
-type Case<'a> = (
-    (&'a [u8], &'a [u64], &'a [u64], (Call, u64)),
-    &'a [(Step<'a>, Result<(), LogFault>)],
-    &'a [u8],
-);
-
-const WRITES: &[u64] = &[100, 3, 1, 1, 1, 1, 1, 1, 1, 1, 1, 1, 1];
-
 const X: &[u8] = b"1\t2\t3\tx\ta";
-
-const WITH_X: &[u8] = b"# ninja log v5\n1\t2\t3\tx\ta\n";
-
-const RENAMED: &[(Step, Result<(), LogFault>)] = &[
-    (Step::Open, Ok(())),
-    (Step::Record(b"1\t2\t3\ta\ta1"), Ok(())),
-    (Step::Record(b"1\t2\t3\tb\tb2"), Ok(())),
-    (Step::Record(b"1\t2\t3\tc\tc3"), Ok(())),
-    (Step::Recompact(&[b"a", b"c"]), Err(LogFault::Fault)),
-    (Step::Crash, Ok(())),
-    (Step::Open, Ok(())),
-];
-
-const APPEND_FAILS: &[(Step, Result<(), LogFault>)] = &[
-    (Step::Open, Ok(())),
-    (Step::Record(X), Err(LogFault::Fault)),
-    (Step::Record(b"1\t2\t3\ty\tb"), Err(LogFault::Broken)),
-    (Step::Stop, Ok(())),
-    (Step::Open, Ok(())),
-];
 
 const REFUSALS: &[(Step, Result<(), LogFault>)] = &[
     (Step::Sync, Err(LogFault::NotOpen)),
@@ -74,94 +44,24 @@ const REFUSALS: &[(Step, Result<(), LogFault>)] = &[
 
 // The replies to the events over such a folder, and the bytes that it then has.
 fn answers(alloc: Global, case: &Case) -> Result<(Vec<Reply>, Outcome, MemFolder), Fail> {
-    let ((log, writes, fates, fuse), steps, _) = case;
+    let (log, fates, fuse, steps, _) = case;
     let mut events = Vec::new(alloc);
     for (step, _) in steps.iter() {
         events
             .push(event_of(alloc, step)?)
             .map_err(|_| NameFault::OutOfMemory)?;
     }
-    // A folder takes no longer log.
-    let log = &log[..log.len().min(1 << 20)];
-    let fuse = Some(Fuse {
-        call: fuse.0,
-        nth: fuse.1,
-    });
-    let folder = MemFolder::new(
-        alloc,
-        log.to_vec(alloc)?,
-        writes.to_vec(alloc)?,
-        fates.to_vec(alloc)?,
-        fuse,
-    );
+    let folder = folder_of(alloc, *log, *fates, *fuse)?;
     let (folder, replies, outcome) = run_events(alloc, folder, &events);
     Ok((replies, outcome, folder))
 }
 
 const CASES: &[Case<'static>] = &[
-    // A crash takes the second record, of which it leaves five bytes, and an open cuts them away.
-    (
-        (b"", WRITES, &[5], NONE),
-        &[
-            (Step::Open, Ok(())),
-            (Step::Record(X), Ok(())),
-            (Step::Sync, Ok(())),
-            (Step::Record(b"4\t5\t6\ty\tb"), Ok(())),
-            (Step::Crash, Ok(())),
-            (Step::Open, Ok(())),
-        ],
-        WITH_X,
-    ),
-    // No crash syncs first: the five bytes are there before the open.
-    (
-        (b"", WRITES, &[5], NONE),
-        &[
-            (Step::Open, Ok(())),
-            (Step::Record(X), Ok(())),
-            (Step::Sync, Ok(())),
-            (Step::Record(b"4\t5\t6\ty\tb"), Ok(())),
-            (Step::Crash, Ok(())),
-        ],
-        b"# ninja log v5\n1\t2\t3\tx\ta\n4\t5\t6",
-    ),
-    // Both sides of a rename whose sync failed.
-    (
-        (b"", &[], &[0, 100], (Call::SyncLog, 3)),
-        RENAMED,
-        b"# ninja log v5\n1\t2\t3\ta\ta1\n1\t2\t3\tb\tb2\n1\t2\t3\tc\tc3\n",
-    ),
-    (
-        (b"", &[], &[1, 100], (Call::SyncLog, 3)),
-        RENAMED,
-        b"# ninja log v5\n1\t2\t3\ta\ta1\n1\t2\t3\tc\tc3\n",
-    ),
-    // An open makes durable what it found.
-    (
-        (b"", &[], &[0], NONE),
-        &[
-            (Step::Open, Ok(())),
-            (Step::Record(X), Ok(())),
-            (Step::Stop, Ok(())),
-            (Step::Open, Ok(())),
-            (Step::Crash, Ok(())),
-            (Step::Open, Ok(())),
-        ],
-        WITH_X,
-    ),
-    // What a failed append added may be torn, or stand whole.
-    (
-        (b"", &[], &[4], (Call::AppendLog, 2)),
-        APPEND_FAILS,
-        b"# ninja log v5\n",
-    ),
-    (
-        (b"", &[], &[100], (Call::AppendLog, 2)),
-        APPEND_FAILS,
-        WITH_X,
-    ),
     // Each event once.
     (
-        (b"# ninja log v5\n", &[], &[], NONE),
+        b"# ninja log v5\n",
+        &[],
+        NONE,
         &[
             (Step::Open, Ok(())),
             (Step::Record(X), Ok(())),
@@ -176,12 +76,16 @@ const CASES: &[Case<'static>] = &[
     ),
     // The refusals of each state. The crash takes the first number.
     (
-        (b"", &[], &[0, 0], (Call::AppendLog, 2)),
+        b"",
+        &[0, 0],
+        (Call::AppendLog, 2),
         REFUSALS,
         b"# ninja log v5\n",
     ),
     (
-        (b"hello", &[], &[], NONE),
+        b"hello",
+        &[],
+        NONE,
         &[
             (Step::Open, Err(LogFault::NotALog)),
             (Step::Sync, Err(LogFault::NotOpen)),
@@ -189,26 +93,28 @@ const CASES: &[Case<'static>] = &[
         b"hello",
     ),
     (
-        (b"# ninja log v6\n", &[], &[], NONE),
+        b"# ninja log v6\n",
+        &[],
+        NONE,
         &[(Step::Open, Err(LogFault::OtherVersion))],
         b"# ninja log v6\n",
     ),
 ];
 
 #[test]
-fn what_was_acknowledged_stands_after_a_crash_or_a_fault(rt: HostRuntime) -> Result<(), Fail> {
+fn each_event_has_its_reply_and_leaves_its_bytes(rt: HostRuntime) -> Result<(), Fail> {
     for (at, case) in CASES.iter().enumerate() {
         let (replies, outcome, folder) = answers(rt.alloc(), case)?;
         assert!(rt; outcome == Outcome::Whole, "at {at}");
-        assert_eq!(rt; replies.len(), case.1.len(), "at {at}");
-        for (reply, (_, wanted)) in replies.iter().zip(case.1.iter()) {
+        assert_eq!(rt; replies.len(), case.3.len(), "at {at}");
+        for (reply, (_, wanted)) in replies.iter().zip(case.3.iter()) {
             let wanted = match wanted {
                 Ok(()) => Reply::Done,
                 Err(fault) => Reply::Refused(*fault),
             };
             assert!(rt; *reply == wanted, "at {at}");
         }
-        assert!(rt; folder.log_bytes() == case.2, "at {at}");
+        assert!(rt; folder.log_bytes() == case.4, "at {at}");
     }
     Ok(())
 }

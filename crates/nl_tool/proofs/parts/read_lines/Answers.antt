@@ -1,5 +1,4 @@
-use Rattle.std.proofs.Common.{rules, ◌≤◌, List, ℕ, length, sym, subst, arith, inl, inr}
-use Rattle.nl_lines.specs.Lines.{lent_rest, max_line}
+use Rattle.std.proofs.Common.{inl, inr}
 use Rattle.nl_tool.proofs.FileLemmas.{Telling_none, Telling_more, Telling_rest, Telling_reading, Telling_end, lent_is_short}
 use Rattle.nl_tool.proofs.parts.read_lines.Goals as goal
 
