@@ -66,7 +66,7 @@ def mount(disk):
     """Mounts a small disk, and tells why it can't."""
     os.makedirs(disk)
     status, _, err = run(["mount", "-t", "tmpfs", "-o", "size=64k", "tmpfs", disk])
-    return None if status == 0 else err.decode(errors="replace").strip()
+    return None if status == 0 else err.decode(errors="replace").split("\n")[0]
 
 
 def trial(trials, program, room):

@@ -17,7 +17,7 @@ TOP = os.path.dirname(os.path.dirname(os.path.abspath(__file__)))
 PAGE = f"{TOP}/man/nlog.1"
 SECTIONS = ["NAME", "SYNOPSIS", "DESCRIPTION", "COMMANDS", "FILES", "EXIT STATUS", "DIAGNOSTICS", "EXAMPLES", "CAVEATS", "SEE ALSO"]
 # How each formatter says what is wrong with a page.
-FORMATTERS = {"groff": ["groff", "-ww", "-man", "-Tutf8", "-z", PAGE], "mandoc": ["mandoc", "-Tlint", "-Wwarning", PAGE]}
+FORMATTERS = {"groff": ["groff", "-ww", "-man", "-Tutf8", "-z", PAGE], "mandoc": ["mandoc", "-Tlint", PAGE]}
 
 
 def plain(text):

@@ -3,9 +3,9 @@
 
     python3 tests/system_calls.py PROGRAM
 
-Wants strace, and that it may trace. Where a command is killed as a call begins, or the call fails with EIO, for each call in
-turn, the log has to be one that the rules let it leave; later calls leave no less of the work; status 0 comes only of a log
-that is done; and the same command again does its work.
+Wants strace, and that it may trace. Where a command is killed as a call begins, or the call fails with EIO or EINTR, for each
+call in turn, the log has to be one that the rules let it leave; later kills leave no less of the work; status 0 comes only of a
+log that is done, and never where a call on LOG met EIO; and the same command again does its work.
 """
 import os
 import re
@@ -17,6 +17,8 @@ from changes import CASES, FAILED, RECORDED, UNREAD, try_left
 from log_format import HEADER, Log, line_of, text_of
 from trials import main, read, run
 
+# How a call is disturbed. One that was interrupted may be made again.
+WAYS = {"kill": "signal=SIGKILL", "error": "error=EIO", "interrupt": "error=EINTR"}
 # The calls that end the process: one that fails would leave it no way to end.
 ENDS = ("exit_group", "exit")
 CALL = re.compile(r"(\w+)\((.*?)\) += (\S+)")
@@ -117,8 +119,7 @@ class Sweep:
         """Runs the case with one call disturbed: what is wrong with how it ended, and which of the logs it left."""
         word, count, line = call
         room = f"{self.room}/{how}{at:05d}"
-        inject = "signal=SIGKILL" if how == "kill" else "error=EIO"
-        (status, out, err), _ = traced(self.program, self.case, room, ["-e", f"inject={word}:{inject}:when={count}"])
+        (status, out, err), _ = traced(self.program, self.case, room, ["-e", f"inject={word}:{WAYS[how]}:when={count}"])
         left = read(f"{room}/LOG")
         wrong = []
         if out:
@@ -129,7 +130,7 @@ class Sweep:
             wrong.append("it ended with status 0 before its work was done")
         if how == "kill" and status != -9:
             wrong.append(f"it wasn't killed, but ended with status {status}")
-        if how == "error" and "ROOM" in line and word not in ("close", "execve"):
+        if how != "kill" and "ROOM" in line and word not in ("close", "execve") and (how == "error" or status != 0):
             text = UNREAD if re.search(r"ROOM/(KEEP|TIMES)", line) else FAILED
             if (status, err) != (1, text):
                 wrong.append(f"status {status} with {err!r} in place of 1 with {text!r}")
@@ -152,7 +153,7 @@ def sweep(trials, program, case, room, pool, is_first):
     it = Sweep(trials, program, case, room)
     calls = list(it.undisturbed())
     begin = 1 if is_first else next(i for i, call in enumerate(calls) if i and "ROOM" in call[2])
-    for how in ("kill", "error"):
+    for how in WAYS:
         chosen = [(i, c) for i, c in enumerate(calls) if i >= begin and (how == "kill" or c[0] not in ENDS)]
         found = list(pool.map(lambda one: it.disturbed(one[0], how, one[1]), chosen))
         places = [it.judge(at, how, call, one) for (at, call), one in zip(chosen, found)]
@@ -172,7 +173,7 @@ def trial(trials, program, room):
             word = case.change.words[0]
             count += sweep(trials, program, case, f"{room}/{number}", pool, word not in commands)
             commands.add(word)
-    print(f"system_calls.py: {len(CASES)} runs, of which {count} calls were disturbed, each by a kill and by an error")
+    print(f"system_calls.py: {count} calls of {len(CASES)} runs were disturbed, each in {len(WAYS)} ways")
     return None
 
 
