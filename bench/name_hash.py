@@ -7,34 +7,40 @@ reads names, a line each, and says how many different hashes they have, and how 
 """
 import sys
 
+SEED = 0x243F6A8885A308D3
 MULTIPLIER = 0x9E3779B97F4A7C15
 BITS = 64
 
 
-def turned(number, places):
-    return (number << places | number >> BITS - places) & 2**BITS - 1 if places else number
+def folded_multiply(a, b):
+    product = a * b
+    return product % 2**BITS ^ product >> BITS
 
 
-def folded(number):
-    return (number ^ number >> 32) & 2**32 - 1
+def read(data, at, size):
+    return int.from_bytes(data[at : at + size], "little")
 
 
-def sum_of(lane, data):
-    """One of the four sums, after it took these bytes."""
-    number = lane + 1
-    for byte in data:
-        number = (number ^ byte) * MULTIPLIER % 2**BITS
-    return number
+def short(data):
+    """Up to 8 bytes as one number, by reads that may overlap."""
+    size = len(data)
+    if size >= 4:
+        return read(data, 0, 4) | read(data, size - 4, 4) << 32
+    return data[0] | data[size // 2] << 8 | data[-1] << 16 if data else 0
 
 
 def name_hash(name):
-    """The map's 32 bits: the name's length in eight bytes and the name, dealt to four sums, which are turned and joined."""
-    data = len(name).to_bytes(8, "little") + name
-    whole = 0
-    for lane in range(4):
-        # The sum that would take the next byte is joined first, as it stands.
-        whole ^= turned(sum_of(lane, data[lane::4]), (lane - len(data)) % 4 * 16)
-    return folded(whole)
+    """The map's 32 bits, by the hasher of the library: docs/PERFORMANCE.md, "The hash of a name"."""
+    size = len(name)
+    if size <= 8:
+        state = folded_multiply(SEED ^ short(name), MULTIPLIER ^ 2 * size)
+    else:
+        state = (SEED + size) % 2**BITS
+        # The last 16 bytes are taken at the end, also where some of them were taken before.
+        for at in [*range(0, size - 16, 16), max(size - 16, 0)]:
+            second = size - 8 if at == max(size - 16, 0) else at + 8
+            state = folded_multiply(read(name, at, 8) ^ state, read(name, second, 8) ^ MULTIPLIER)
+    return (state ^ state >> 32) % 2**32
 
 
 def main():

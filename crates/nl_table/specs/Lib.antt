@@ -8,4 +8,3 @@ pub mod Log
 pub mod LogText
 pub mod Loading
 pub mod LoadSteps
-pub mod Hasher

@@ -2,11 +2,11 @@
 #![tactic(auto)]
 
 mod due;
-mod hasher;
 pub mod laws;
 mod limits;
 mod loader;
 mod log_user;
+mod output_key;
 mod table;
 
 pub use due::is_due;

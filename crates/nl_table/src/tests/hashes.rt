@@ -1,9 +1,9 @@
 //! How the hashes of names that are alike are spread.
 
-use crate::hasher::NameHasher;
+use crate::output_key::NameKey;
 use std::alloc::{AllocError, Global};
 use std::collections::HashSet;
-use std::hash::{Hash, Hasher};
+use std::hash::{FoldHasher, Hash, Hasher};
 use std::test::Fail;
 
 const KINDS: [&str; 5] = ["sequential", "short", "random", "long", "a tree's"];
@@ -50,8 +50,8 @@ fn name_of(alloc: Global, kind: &str, i: u64) -> Result<String, AllocError> {
 
 // The 32 bits by which the map finds a name.
 fn hash_of(name: &[u8]) -> u64 {
-    let mut hasher = NameHasher::default();
-    name.hash(&mut hasher);
+    let mut hasher = FoldHasher::default();
+    NameKey { bytes: name }.hash(&mut hasher);
     let hash = hasher.finish();
     (hash ^ (hash >> 32)) & 0xffff_ffff
 }
