@@ -1,9 +1,9 @@
 pub mod Replay
 pub mod Output
 pub mod Loading
+pub mod RecordWords
 pub mod Faults
 pub mod Files
 pub mod Updates
-pub mod RecordWords
 pub mod Paths
 pub mod Ending

@@ -6,7 +6,7 @@ use Rattle.nl_fields.specs.declared.name.NameFault.{NameFault}
 use Rattle.nl_fields.specs.declared.name.NameFault.TheVariants as name
 use Rattle.nl_fields.specs.CommandHash.{IsHash}
 use Rattle.nl_fields.specs.Digits.{IsDecimal}
-use Rattle.nl_fields.specs.Name.{HasFault}
+use Rattle.nl_fields.specs.Name.{HasFault, IsName}
 use Rattle.nl_tool.specs.declared.fault.ToolFault.{ToolFault}
 use Rattle.nl_tool.specs.declared.fault.ToolFault.TheVariants.{Memory, BadNumber, EmptyName, BadByte, LongName}
 
@@ -21,6 +21,11 @@ pub record AreNumbers (start end mtime : List ℕ) : Type 0 where
   pub time : ℤ
   pub time_fits : FitsSigned w64 time
   pub time_is : IsDecimal time mtime
+
+-- the words give an entry: three numbers and a name
+pub record GiveEntry (start end mtime name : List ℕ) : Type 0 where
+  pub numbers : AreNumbers start end mtime
+  pub named : IsName name
 
 -- the entry has these numbers and this name, and the hash of this command
 pub record IsEntryOf (start end mtime name command : List ℕ) (e : Entry) : Type 0 where

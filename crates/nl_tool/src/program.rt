@@ -1,6 +1,6 @@
 //! What the program does once its words are read.
-ghost use Rattle.std.specs.Prelude.{◌≡◌, IfErr};
-ghost use Rattle.nl_tool.specs.Faults.{IsFaultOf, IsPrinting, IsRecompactFault, IsRecordFault, IsRestatFault, ReadsLog};
+ghost use Rattle.std.specs.Prelude.{◌≡◌, IfErr, OnOk};
+ghost use Rattle.nl_tool.specs.Faults.{CanBeDone, IsFaultOf, IsPrinting, IsRecompactFault, IsRecordFault, IsRestatFault, ReadsLog};
 ghost use Rattle.nl_tool.specs.Output.{IsAnswer, Prints};
 
 use crate::check::check_to;
@@ -21,6 +21,7 @@ use std::{fs, io};
 /// Does what the words say, with standard output for its text. LOG or SCRIPT is read, or standard input where it is left
 /// out; a log that is missing is read as one without bytes.
 pub fn run<R: Runtime>(rt: &R, alloc: Global, words: &Words<'_>) -> Result<(), ToolFault>
+    ensures accepts { OnOk result (CanBeDone words.now) }
     ensures faults { IfErr result (IsFaultOf words.now) }
 {
     match *words {

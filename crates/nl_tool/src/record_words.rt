@@ -1,6 +1,6 @@
 //! The entry that the words of `record` give.
-ghost use Rattle.std.specs.Prelude.{◌≡◌, IfErr, IfOk};
-ghost use Rattle.nl_tool.specs.RecordWords.{IsEntryOf, IsWordFault, of_name_fault};
+ghost use Rattle.std.specs.Prelude.{◌≡◌, IfErr, IfOk, OnOk};
+ghost use Rattle.nl_tool.specs.RecordWords.{GiveEntry, IsEntryOf, IsWordFault, of_name_fault};
 
 use crate::fault::ToolFault;
 use nl_fields::{EntryRef, NameFault, command_hash, read_i32, read_i64};
@@ -14,6 +14,7 @@ pub fn entry_of<'a>(
     command: &str,
 ) -> Result<EntryRef<'a>, ToolFault>
     ensures value { IfOk result (IsEntryOf start.now end.now mtime.now name.entry.now command.now) }
+    ensures accepts { OnOk result (GiveEntry start.now end.now mtime.now name.entry.now) }
     ensures faults { IfErr result (IsWordFault start.now end.now mtime.now name.entry.now) }
 {
     let Some(start_ms) = read_i32(start.as_bytes()) else {
