@@ -7,7 +7,7 @@ use Rattle.nl_folder.proofs.ImageLemmas.{at_rest_unique}
 use Rattle.nl_session.specs.declared.events.Event.{Event}
 use Rattle.nl_session.specs.declared.events.Reply.{Reply}
 use Rattle.nl_session.specs.Runs.{BeginsAt, Ran, HeadlineOn, HadMemory}
-use Rattle.nl_tool.specs.Replay.{IsReplayText, printed}
+use Rattle.nl_tool.specs.Replay.{IsReplayOf, printed}
 
 -- an empty log that is at rest has the history of no entry
 pub begins_empty : BeginsAt (Began 5) (Some (at_rest [] empty_file))
@@ -21,11 +21,10 @@ begins_empty = record {
 pub replayed : (events : List Event) (replies : List Reply) (old : Option Disk) (new : Disk) (settled : Bool) (text : List ℕ) → old ≡ Some (at_rest [] empty_file)
     → ((start : History) → BeginsAt start old → HeadlineOn start (zip events replies) (Some new))
     → ((start : History) → BeginsAt start old → Ran start events replies (Some new) settled)
-    → length replies ≡ length events → HadMemory replies → text ≡ printed replies new.visible → IsReplayText text
+    → length replies ≡ length events → HadMemory replies → text ≡ printed replies new.visible → IsReplayOf events text
 replayed events replies old new settled text empty headline run each memory is =
     let begins : BeginsAt (Began 5) old = subst (BeginsAt (Began 5)) (sym empty) begins_empty in
     record {
-      events = events;
       replies = replies;
       disk = new;
       settled = settled;

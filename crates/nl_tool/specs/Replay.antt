@@ -47,10 +47,9 @@ log_line bytes = codes "log " ++ decimal (length bytes) ++ 10 ∷ []
 abbrev pub printed : List Reply → List ℕ → List ℕ
 printed replies log = flat_map reply_line replies ++ log_line log ++ log
 
--- The text of `replay`: some events had these replies, one each, over a folder whose log was empty; the machine may so answer,
--- and the headline holds of what they left on the disk.
-pub record IsReplayText (text : List ℕ) : Type 0 where
-  pub events : List Event
+-- The text of `replay` for these events: they had these replies, one each, over a folder whose log was empty; the machine may
+-- so answer, and the headline holds of what they left on the disk.
+pub record IsReplayOf (events : List Event) (text : List ℕ) : Type 0 where
   pub replies : List Reply
   pub disk : Disk
   pub settled : Bool
@@ -59,3 +58,8 @@ pub record IsReplayText (text : List ℕ) : Type 0 where
   pub ran : Ran (Began 5) events replies (Some disk) settled
   pub headline : Headline (Began 5) (zip events replies) disk
   pub is : text ≡ printed replies disk.visible
+
+-- the text of `replay`: that for some events
+pub record IsReplayText (text : List ℕ) : Type 0 where
+  pub events : List Event
+  pub is : IsReplayOf events text

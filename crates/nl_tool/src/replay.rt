@@ -2,7 +2,7 @@
 ghost use Rattle.std.specs.Prelude.{◌≡◌, Some, IfErr, IfOk};
 ghost use Rattle.nl_tool.specs.Faults.{IsReplayFault};
 ghost use Rattle.nl_tool.specs.Output.{Prints};
-ghost use Rattle.nl_tool.specs.Replay.{IsReplayText, printed, reply_words};
+ghost use Rattle.nl_tool.specs.Replay.{IsReplayOf, IsReplayText, printed, reply_words};
 
 use crate::fault::ToolFault;
 use crate::output::write_out;
@@ -30,7 +30,7 @@ pub fn replay_to<R: Read + Drop, W: Write>(
 
 // What is printed of a script.
 fn run_script(alloc: Global, script: Script) -> Result<Vec<u8>, AllocError>
-    ensures value { IfOk result (λ text. IsReplayText text.items) }
+    ensures value { IfOk result (λ text. IsReplayOf script.events.items text.items) }
 {
     let Script {
         writes,
