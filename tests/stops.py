@@ -1,18 +1,23 @@
 #!/usr/bin/env python3
 """A log that is stopped at each call of its folder in turn, by scripts for `replay`.
 
-The first call that fails is the nth, n counted up until none does. Then the power is lost, or the log closed, and it is opened again, with
-each of many fates of the bytes that weren't durable. What is found must be the table of one of the histories that docs/PROMISES.md allows
-for the replies: `Histories` follows durable and pending updates, and knows nothing of bytes.
-
     python3 tests/stops.py PROGRAM
+
+- The first call that fails is the nth, n counted up until none does. Then the power is lost, or the log closed, and it is opened again, with
+  each of many fates of the bytes that weren't durable. What is found must be the table of one of the histories that docs/PROMISES.md allows
+  for the replies: `Histories` follows durable and pending updates, and knows nothing of bytes.
+- What the power loss leaves is looked at before it is opened too: each of 48 texts, and no other.
+- Each of these texts is then opened with each call of that open failing in turn, so that its repair is stopped; the power is lost, or the
+  log closed, and it is opened again. That must leave what one open would have, byte for byte. A log that is due is stopped so too. A torn
+  header isn't: a script has one fuse, and it would take that to leave one (`nl_tests` and `system_calls.py` stop this repair).
+- A few runs are worked out by hand, with the bytes before the last open and after it.
 """
 import itertools
 import subprocess
 import sys
 
-from log_format import Log
-from trials import SECONDS, main
+from log_format import HEADER, Log, reading_of
+from trials import SECONDS, main, run, short
 
 HASH = 15
 TIMES = 1, 2, 3
@@ -29,6 +34,11 @@ EVENTS = [
     (b"stop", None),
     (b"open", None),
 ]
+
+
+# A log that is due, and what an open makes of it.
+DUE = HEADER + b"1\t2\t3\ta\tf\n" * 101
+DUE_OPENED = HEADER + b"1\t2\t3\ta\tf\n"
 
 
 def table_of(updates):
@@ -87,6 +97,10 @@ def replay(program, settings, events):
     return replies, log if size == b"log %d" % len(log) else b""
 
 
+def told(fate):
+    return b"fates" + b"".join(b"\t%d" % number for number in fate)
+
+
 def fates():
     """What is left of the call that failed, and at the crash: the file that was the log or the scratch, and bytes."""
     for count in range(81):
@@ -96,31 +110,154 @@ def fates():
             yield count, which, count
 
 
-def first_fault(program, nth):
-    replies, _ = replay(program, [b"fuse\tany\t%d" % nth], [event for event, _ in EVENTS])
+def first_fault(program, nth, events, fate=(0,)):
+    """The place of the first event that fails where the nth call does, or None."""
+    replies, _ = replay(program, [b"fuse\tany\t%d" % nth, told(fate)], events)
     return replies.index(b"S8 Fault") if b"S8 Fault" in replies else None
 
 
-def trial(trials, program, room):
+def followed(asked, replies):
+    """The tables that the replies allow."""
+    histories = Histories()
+    for (event, update), reply in zip(asked, replies):
+        histories.follow(event, update, reply)
+    return histories.tables()
+
+
+def try_found(trials, what, asked, ran):
+    """Tries the table of the log that is left, where the last event has gone well."""
+    replies, log = ran
+    if not replies or replies[-1] != b"ok" or reading_of(log) != "log":
+        trials.check(what, False, f"the last event: {replies[-1:]}, and the log {log}")
+        return
+    found, allowed = list(Log(log).table.items()), followed(asked, replies)
+    trials.check(what, found in allowed, f"{found} isn't among {allowed}")
+
+
+def try_stops(trials, program):
+    """Stops the events at each call, and gives the texts that a power loss left."""
+    trials.want("how many fates there are", len(set(fates())), 81 * 5)
+    left = set()
     for nth in itertools.count(1):
-        at = first_fault(program, nth)
+        at = first_fault(program, nth, [event for event, _ in EVENTS])
         if at is None:
             break
-        for end in (b"crash", b"stop"):
-            asked = EVENTS[: at + 1] + [(end, None), (b"open", None)]
-            for fate in fates():
-                settings = [b"fuse\tany\t%d" % nth, b"fates" + b"".join(b"\t%d" % number for number in fate)]
-                replies, log = replay(program, settings, [event for event, _ in asked])
-                histories = Histories()
-                for (event, update), reply in zip(asked, replies):
-                    histories.follow(event, update, reply)
-                what = f"call {nth}, {end.decode()}, fates {fate}"
-                if not replies or replies[-1] != b"ok":
-                    trials.check(what, False, f"the last open: {replies[-1:]}")
-                    continue
-                found = list(Log(log).table.items())
-                trials.check(what, found in histories.tables(), f"{found} isn't among {histories.tables()}")
-    trials.check("a run that no call stops", nth > 20, f"only {nth - 1} calls were stopped")
+        for end, fate in itertools.product((b"crash", b"stop"), fates()):
+            settings = [b"fuse\tany\t%d" % nth, told(fate)]
+            what = f"call {nth}, {end.decode()}, fates {fate}"
+            asked = [*EVENTS[: at + 1], (end, None), (b"open", None)]
+            try_found(trials, what, asked, replay(program, settings, [event for event, _ in asked]))
+            if end == b"crash":
+                asked.pop()
+                ran = replay(program, settings, [event for event, _ in asked])
+                try_found(trials, f"{what}, before the open", asked, ran)
+                left.add(ran[1])
+    trials.want("how many calls were stopped", nth - 1, 24)
+    return left
+
+
+def texts_left():
+    """What a power loss may leave of the log of these events: the bytes that were durable, and any number of those that weren't."""
+    a, b, c = (b"1\t2\t3\t%s\tf\n" % name for name in (b"a", b"b", b"c"))
+    texts = [HEADER[:count] for count in range(len(HEADER))]
+    for whole, line in (HEADER, a), (HEADER + a, b), (HEADER + b, c):
+        texts += [whole + line[:count] for count in range(len(line) + 1)]
+    return {*texts, HEADER + b + b"1\t2\t9\tc\tf\n"}
+
+
+def beginning(text):
+    """The events after which the log is this text, all of it durable, and the fate of the power loss that they end in."""
+    if not text:
+        return [], (0,)
+    *lines, torn = text[len(HEADER) :].split(b"\n")
+    events = [b"open", *(b"record\t" + line for line in lines), b"sync"]
+    if torn:
+        # Any record whose line begins so.
+        events.append(next(it for it, _ in EVENTS if it.startswith(b"record\t" + torn)))
+    return [*events, b"crash"], (len(torn),)
+
+
+def stacked(text):
+    """How an open of this text is stopped: the fates to try, how many calls there are, and the log when it is done."""
+    log = Log(text)
+    if not text:
+        # A read, a sync, the header line and a sync.
+        return fates_up_to(len(HEADER), 2), 4, HEADER
+    # Two reads and a sync; a cut and a sync.
+    calls = 5 if log.torn else 3
+    if log.is_due():
+        # A scratch with two lines, its sync, the rename and a sync.
+        return fates_up_to(3, 3), calls + 6, DUE_OPENED
+    return fates_up_to(max(1, log.torn), 2), calls, text[: log.whole]
+
+
+def fates_up_to(most, numbers):
+    """Lists of one number or more, each up to `most`."""
+    for count in range(1, numbers + 1):
+        yield from itertools.product(range(most + 1), repeat=count)
+
+
+def try_stacked(trials, program, text):
+    """Stops the open that repairs a text that a power loss left, at each of its calls."""
+    begin, spent = beginning(text)
+    what = short(text)
+    trials.want(f"{what}: the beginning", replay(program, [told(spent)], begin), ([b"ok"] * len(begin), text))
+    tried, calls, wanted = stacked(text)
+    tried, stopped = list(tried), 0
+    for nth in itertools.count(1):
+        at = first_fault(program, nth, [*begin, b"open"], spent)
+        if at is None:
+            break
+        if at < len(begin):
+            continue
+        stopped += 1
+        for (end, reply), fate in itertools.product(((b"crash", b"ok"), (b"stop", b"S1 NotOpen")), tried):
+            settings = [b"fuse\tany\t%d" % nth, told(spent + fate if begin else fate)]
+            ran = replay(program, settings, [*begin, b"open", end, b"open"])
+            replies = [*[b"ok"] * len(begin), b"S8 Fault", reply, b"ok"]
+            trials.want(f"{what}: call {stopped} of its open, {end.decode()}, fates {fate}", ran, (replies, wanted))
+    trials.want(f"{what}: how many calls of its open were stopped", stopped, calls)
+
+
+# The bytes and the fate of a script that leaves a whole log of 25 bytes, and 3 bytes behind it: 28 in all.
+WHOLE = b"# ninja log v5\n1\t2\t3\tx\ta\n"
+TORN = b"open\nrecord\t1\t2\t3\tx\ta\nsync\nrecord\t1\t2\t3\ty\tb\ncrash\n"
+DONE = b"ok\nok\nok\nok\nok\n"
+
+# A script, and what is printed of it.
+WORKED = [
+    (b"fates\t3\n" + TORN, DONE + b"log 28\n" + WHOLE + b"1\t2"),
+    (b"fates\t3\n" + TORN + b"open\n", DONE + b"ok\nlog 25\n" + WHOLE),
+    # The cut fails, and leaves a byte of the three. The power loss then leaves none,
+    (b"fates\t3\t1\t0\nfuse\tcut_log\t1\n" + TORN + b"open\n", DONE + b"S8 Fault\nlog 26\n" + WHOLE + b"1"),
+    (b"fates\t3\t1\t0\nfuse\tcut_log\t1\n" + TORN + b"open\ncrash\n", DONE + b"S8 Fault\nok\nlog 25\n" + WHOLE),
+    (b"fates\t3\t1\t0\nfuse\tcut_log\t1\n" + TORN + b"open\ncrash\nopen\n", DONE + b"S8 Fault\nok\nok\nlog 25\n" + WHOLE),
+    # or all, since the cut wasn't durable.
+    (b"fates\t3\t1\nfuse\tcut_log\t1\n" + TORN + b"open\ncrash\n", DONE + b"S8 Fault\nok\nlog 28\n" + WHOLE + b"1\t2"),
+    (b"fates\t3\t1\nfuse\tcut_log\t1\n" + TORN + b"open\ncrash\nopen\n", DONE + b"S8 Fault\nok\nok\nlog 25\n" + WHOLE),
+    # The sync behind the cut fails: the three bytes may come back, two of them here.
+    (b"fates\t3\t2\nfuse\tsync_log\t5\n" + TORN + b"open\n", DONE + b"S8 Fault\nlog 25\n" + WHOLE),
+    (b"fates\t3\t2\nfuse\tsync_log\t5\n" + TORN + b"open\ncrash\n", DONE + b"S8 Fault\nok\nlog 27\n" + WHOLE + b"1\t"),
+    (b"fates\t3\t2\nfuse\tsync_log\t5\n" + TORN + b"open\ncrash\nopen\n", DONE + b"S8 Fault\nok\nok\nlog 25\n" + WHOLE),
+    # Of the header of an empty log 7 bytes are left.
+    (b"fates\t7\nfuse\tsync_log\t2\nopen\n", b"S8 Fault\nlog 15\n# ninja log v5\n"),
+    (b"fates\t7\nfuse\tsync_log\t2\nopen\ncrash\n", b"S8 Fault\nok\nlog 7\n# ninja"),
+    (b"fates\t7\nfuse\tsync_log\t2\nopen\ncrash\nopen\n", b"S8 Fault\nok\nok\nlog 15\n# ninja log v5\n"),
+]
+
+
+def try_worked(trials, program):
+    for script, wanted in WORKED:
+        trials.want(f"worked by hand: {script}", run([program, "replay"], stdin=None, input=script), (0, wanted, b""))
+
+
+def trial(trials, program, room):
+    try_worked(trials, program)
+    left = try_stops(trials, program)
+    trials.want("the texts that a power loss leaves", sorted(left), sorted(texts_left()))
+    begun = [text for text in sorted(texts_left()) if not text or len(text) >= len(HEADER)]
+    for text in [*begun, DUE, DUE + b"1\t2"]:
+        try_stacked(trials, program, text)
 
 
 if __name__ == "__main__":
