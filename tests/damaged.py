@@ -1,0 +1,331 @@
+#!/usr/bin/env python3
+"""Damaged and hostile logs: what `show` and `check` say of each, whole and in pieces of one byte.
+
+    python3 tests/damaged.py PROGRAM
+
+Each text is read from a file, and from standard input in pieces of one byte: that is one end of a pair of sockets, each message on which
+is one byte, so that no read gives more. The end of the text is the end of what is sent. Both ways have to give the same: literal answers,
+taken from docs/FORMAT.md, and where each byte of a log is replaced those of `log_format`. At last come names that collide in the table,
+which `bench/colliding_log.py` finds: they cost time, and change no answer.
+"""
+import itertools
+import os
+import resource
+import socket
+import subprocess
+import sys
+import threading
+
+from log_format import Log, command_hash, reading_of
+from trials import SECONDS, main, read, run, short, write
+
+BENCH = f"{os.path.dirname(os.path.dirname(os.path.abspath(__file__)))}/bench"
+NO_LOG = (1, b"", b"nlog: not a ninja log\n")
+OTHER_VERSION = (1, b"", b"nlog: log version not supported\n")
+NOT_DUE, DUE = "no", "yes"
+
+HEADERS = {5: b"# ninja log v5\n", 4: b"# ninja log v4\n"}
+LOG = b"# ninja log v5\n1\t2\t10\ta\taa\n3\t4\t20\tb\tbb\n5\t6\t30\ta\tcc\n"
+# Its commands are `cc<TAB>x`, and twice none.
+OLD_LOG = b"# ninja log v4\n1\t2\t10\ta\tcc\tx\n3\t4\t20\tb\t\n5\t6\t30\ta\t\n"
+
+# The first length and the last of a prefix; its version, entries, outputs and whole lines in bytes, whether it is due, and what is shown.
+PREFIXES = [
+    (0, 14, 5, 0, 0, 0, NOT_DUE, b""),
+    (15, 26, 5, 0, 0, 15, NOT_DUE, b""),
+    (27, 38, 5, 1, 1, 27, NOT_DUE, b"1\t2\t10\ta\taa\n"),
+    (39, 50, 5, 2, 2, 39, NOT_DUE, b"1\t2\t10\ta\taa\n3\t4\t20\tb\tbb\n"),
+    (51, 51, 5, 3, 2, 51, NOT_DUE, b"5\t6\t30\ta\tcc\n3\t4\t20\tb\tbb\n"),
+]
+# Up to 13 bytes they are those of a torn header of version 5. 14 bytes are no log.
+OLD_PREFIXES = [
+    (0, 13, 5, 0, 0, 0, NOT_DUE, b""),
+    (15, 28, 4, 0, 0, 15, DUE, b""),
+    (29, 38, 4, 1, 1, 29, DUE, b"1\t2\t10\ta\t72274e7a30810c7b\n"),
+    (39, 48, 4, 2, 2, 39, DUE, b"1\t2\t10\ta\t72274e7a30810c7b\n3\t4\t20\tb\t87c2bc0beaf1d91d\n"),
+    (49, 49, 4, 3, 2, 49, DUE, b"5\t6\t30\ta\t87c2bc0beaf1d91d\n3\t4\t20\tb\t87c2bc0beaf1d91d\n"),
+]
+
+LONGEST = b"n" * 65_536
+EXTREMES = b"-2147483648\t-2147483648\t-9223372036854775808\t" + LONGEST
+
+# What stands before the hash or the command of a line, and whether it is that of an entry.
+FIRSTS = [
+    (b"1\t2\t3\ta\0b", False),
+    (b"1\t2\t3\t\0", False),
+    (b"1\t2\t3\t", False),
+    (b"1\t2\t3\ta\r", True),
+    (b"1\t2\t3\t\r", True),
+    (b"1\t2\t3\ta b", True),
+    (b"1\t2\t3\t\x01\x1b[2J\x7f", True),
+    (b"1\t2\t3\t\xff\xfe\x80", True),
+    (b"1\t2\t3\t\xc3", True),
+    (b"1\t2\t3\t# ninja log v5", True),
+    (b"1\t2\t3\t" + LONGEST, True),
+    (b"1\t2\t3\t" + LONGEST + b"n", False),
+    (EXTREMES, True),
+    (b"2147483647\t2147483647\t9223372036854775807\tn", True),
+    (b"-2147483649\t2\t3\tn", False),
+    (b"1\t-2147483649\t3\tn", False),
+    (b"1\t2\t-9223372036854775809\tn", False),
+    (b"2147483648\t2\t3\tn", False),
+    (b"1\t2147483648\t3\tn", False),
+    (b"1\t2\t9223372036854775808\tn", False),
+    (b"1\t2\t99999999999999999999\tn", False),
+    (b"010\t2\t3\tn", False),
+    (b"+1\t2\t3\tn", False),
+    (b"1\t-0\t3\tn", False),
+    (b"1\t2\t-\tn", False),
+    (b"1\t2\t\tn", False),
+    (b" 1\t2\t3\tn", False),
+    (b"1\t2\t0x3\tn", False),
+]
+
+# The fifth text of a line of version 5, and whether it is a hash.
+HASHES = [
+    (b"0", True),
+    (b"f", True),
+    (b"ffffffffffffffff", True),
+    (b"f\r", False),
+    (b"f\t", False),
+    (b"f\tf", False),
+    (b"cc\tx", False),
+    (b"", False),
+    (b"00ab", False),
+    (b"AB", False),
+    (b"-1", False),
+    (b"0xa", False),
+    (b"g", False),
+    (b"f\0", False),
+    (b"10000000000000000", False),
+]
+
+# That of a line of version 4, which is a command whatever it holds, and its hash. All but the last are those of docs/FORMAT.md.
+COMMANDS = [
+    (b"", b"87c2bc0beaf1d91d"),
+    (b"cc\tx", b"72274e7a30810c7b"),
+    (b"\x01\0\0\0\0\0\0\0", b"3a9d607d30e0111"),
+    (b"cc -c a.c -o a.o ", b"92985dffe8565ffa"),
+    (b"f\r", b"%x" % command_hash(b"f\r")),
+]
+
+# Lines that are no entries in either version.
+SKIPPED = [b"", b"\r", b"\0", b"\t\t\t\t", b"1\t2\t3\ta", b"hello", b"# ninja log v5", b"# ninja log v4", b"x" * 262_143, b"x" * 262_144]
+
+# Texts that are no log, or one of another version.
+REFUSED = [
+    (b"# ninja log v5\r\n", NO_LOG),
+    (b"# ninja log v4\r\n", NO_LOG),
+    (b"# ninja log v5 \n", NO_LOG),
+    (b"# ninja log v5\0\n", NO_LOG),
+    (b"\xef\xbb\xbf# ninja log v5\n", NO_LOG),
+    (b"\n# ninja log v5\n", NO_LOG),
+    (b"# ninja log v\n", NO_LOG),
+    (b"# ninja log v6\n", OTHER_VERSION),
+    (b"# ninja log v05\n", OTHER_VERSION),
+    (b"# ninja log v55\n", OTHER_VERSION),
+    (b"x" * 262_143 + b"\n", NO_LOG),
+    (b"x" * 262_144 + b"\n", NO_LOG),
+    # Lines of 262,143 and 262,144 bytes.
+    (b"# ninja log v" + b"7" * 262_130 + b"\n", OTHER_VERSION),
+    (b"# ninja log v" + b"7" * 262_131 + b"\n", NO_LOG),
+    # There is no newline.
+    (b"# ninja log v4", NO_LOG),
+    (b"# ninja log v6", NO_LOG),
+    (b"# ninja log v5\r", NO_LOG),
+    (b"hello", NO_LOG),
+    (b"\0", NO_LOG),
+    (b"x" * 262_144, NO_LOG),
+]
+
+
+def counts(version, total, unique, skipped, torn, due):
+    """What `check` prints."""
+    return b"version %d\ntotal %d\nunique %d\nskipped %d\ntorn %d\ndue %s\n" % (version, total, unique, skipped, torn, due.encode())
+
+
+def send(into, text):
+    """Sends a text in messages of one byte, and then its end."""
+    try:
+        for at in range(len(text)):
+            into.send(text[at : at + 1])
+        into.shutdown(socket.SHUT_WR)
+    except OSError:
+        # The program ended before it read all of it, as it may.
+        pass
+
+
+def pair():
+    return socket.socketpair(socket.AF_UNIX, socket.SOCK_SEQPACKET)
+
+
+def run_in_pieces(words, text):
+    """Runs a program whose standard input is this text in pieces of one byte. The writing side is shut, and stays there."""
+    ours, theirs = pair()
+    with ours:
+        with theirs:
+            child = subprocess.Popen(words, stdin=theirs, stdout=subprocess.PIPE, stderr=subprocess.PIPE)
+        sender = threading.Thread(target=send, args=(ours, text))
+        sender.start()
+        try:
+            out, err = child.communicate(timeout=SECONDS)
+            status = child.returncode
+        except subprocess.TimeoutExpired:
+            child.kill()
+            child.communicate()
+            status, out, err = None, b"", f"it had not ended after {SECONDS} seconds".encode()
+        sender.join()
+    return status, out, err
+
+
+class Readings:
+    """Reads texts by the program in each way."""
+
+    def __init__(self, trials, program, room):
+        self.trials, self.program, self.file = trials, program, f"{room}/LOG"
+        self.pieces = hasattr(socket, "SOCK_SEQPACKET")
+        if not self.pieces:
+            trials.skip("pieces of one byte", "there are no sockets of the kind SOCK_SEQPACKET here")
+            return
+        ours, theirs = pair()
+        with ours, theirs:
+            send(ours, b"xy")
+            given = [os.read(theirs.fileno(), 100) for _ in range(3)]
+        trials.want("pieces of one byte, and their end", given, [b"x", b"y", b""])
+
+    def want(self, what, text, shown, checked):
+        """Tries `show` and `check` on a text, given to what a command prints or to how it ends."""
+        write(self.file, text)
+        for word, wanted in ("show", shown), ("check", checked):
+            wanted = wanted if isinstance(wanted, tuple) else (0, wanted, b"")
+            self.trials.want(f"{what}: {word}", run([self.program, word, self.file]), wanted)
+            if self.pieces:
+                self.trials.want(f"{what}: {word} in pieces", run_in_pieces([self.program, word], text), wanted)
+
+
+def try_prefixes(readings):
+    for text, rows in (LOG, PREFIXES), (OLD_LOG, OLD_PREFIXES):
+        for first, last, version, total, unique, whole, due, shown in rows:
+            for size in range(first, last + 1):
+                checked = counts(version, total, unique, 0, size - whole, due)
+                readings.want(f"{size} bytes of a log of version {text[13:14].decode()}", text[:size], shown, checked)
+    readings.want("14 bytes of a log of version 4", OLD_LOG[:14], NO_LOG, NO_LOG)
+
+
+def answers_of(text):
+    """What `show` and `check` have to answer, by docs/FORMAT.md written as a program."""
+    reading = reading_of(text)
+    if reading != "log":
+        refusal = (1, b"", b"nlog: " + reading.encode() + b"\n")
+        return refusal, refusal
+    log = Log(text)
+    return log.shown(), log.report()
+
+
+def try_replaced(readings):
+    for text, byte in itertools.product((LOG, OLD_LOG), (b"\t", b"\n", b"\0", b"\xff")):
+        for at in range(len(text)):
+            changed = text[:at] + byte + text[at + 1 :]
+            if changed != text:
+                readings.want(f"byte {at} of a log of version {text[13:14].decode()} is {byte}", changed, *answers_of(changed))
+
+
+def try_line(readings, version, line, shown):
+    """A line between two others: an entry of which this is shown, or None. So those around it stay what they are."""
+    before, after, z = b"1\t2\t3\ty\t0\n", b"1\t2\t3\tz\t0\n", b"1\t2\t3\t%s\t0\n"
+    if version == 4:
+        before, after, z = b"1\t2\t3\ty\t\n", b"1\t2\t3\tz\t\n", b"1\t2\t3\t%s\t87c2bc0beaf1d91d\n"
+    total, skipped = (2, 1) if shown is None else (3, 0)
+    readings.want(
+        f"version {version}, the line {short(line)}",
+        HEADERS[version] + before + line + b"\n" + after,
+        z % b"y" + (shown or b"") + z % b"z",
+        counts(version, total, total, skipped, 0, DUE if version == 4 else NOT_DUE),
+    )
+
+
+def try_lines(readings):
+    longest = EXTREMES + b"\tffffffffffffffff\n"
+    readings.trials.want("the longest entry line", len(longest), 65_599)
+    try_line(readings, 5, longest[:-1], longest)
+    for first, is_entry in FIRSTS:
+        try_line(readings, 5, first + b"\tf", first + b"\tf\n" if is_entry else None)
+        try_line(readings, 4, first + b"\tcc\tx", first + b"\t72274e7a30810c7b\n" if is_entry else None)
+    for text, is_hash in HASHES:
+        line = b"1\t2\t3\ta\t" + text
+        try_line(readings, 5, line, line + b"\n" if is_hash else None)
+    for command, its_hash in COMMANDS:
+        try_line(readings, 4, b"1\t2\t3\ta\t" + command, b"1\t2\t3\ta\t" + its_hash + b"\n")
+    # A line of 262,143 bytes, and one of a byte more.
+    command = b"c" * 262_135
+    try_line(readings, 4, b"1\t2\t3\ta\t" + command, b"1\t2\t3\ta\t%x\n" % command_hash(command))
+    try_line(readings, 4, b"1\t2\t3\ta\t" + command + b"c", None)
+    for version, line in itertools.product((5, 4), SKIPPED):
+        try_line(readings, version, line, None)
+
+
+def try_refused(readings):
+    for text, wanted in REFUSED:
+        readings.want(f"the text {short(text)}", text, wanted, wanted)
+        if text.endswith(b"\n"):
+            readings.want(f"a log behind {short(text)}", text + LOG, wanted, wanted)
+
+
+def seconds_of(words):
+    """How a program ends, and how long the processors took."""
+    before = resource.getrusage(resource.RUSAGE_CHILDREN)
+    ended = run(words)
+    after = resource.getrusage(resource.RUSAGE_CHILDREN)
+    return ended, after.ru_utime + after.ru_stime - before.ru_utime - before.ru_stime
+
+
+def try_colliding(trials, program, room):
+    """6,000 names of one hash: 5,000 in a log of 8,000 entries, the first 3,000 twice, and 1,000 that it lacks."""
+    status, made, _ = run([sys.executable, f"{BENCH}/colliding_log.py", "--names", "6000"])
+    names = [line.split(b"\t")[3] for line in made.split(b"\n")[1:-1]]
+    if not trials.check("6,000 names that collide", status == 0 and len(set(names)) == 6000, f"status {status}, {len(set(names))} names"):
+        return
+    log, keep, times = f"{room}/LOG", f"{room}/KEEP", f"{room}/TIMES"
+    once = [b"1\t2\t3\t%s\ta\n" % name for name in names[:5000]]
+    last = [b"4\t5\t6\t%s\tb\n" % name for name in names[:3000]]
+    text = HEADERS[5] + b"".join(once + last)
+    table = last + once[3000:]
+    shown, checked = b"".join(table), counts(5, 8000, 5000, 0, 0, NOT_DUE)
+    write(log, text)
+    ended, taken = seconds_of([program, "show", log])
+    trials.want("colliding names: show", ended, (0, shown, b""))
+    trials.want("colliding names: check", run([program, "check", log]), (0, checked, b""))
+    write(log, HEADERS[5] + b"".join(b"1\t2\t3\tother%07d\ta\n" % number for number in range(8000)))
+    other = seconds_of([program, "show", log])[1]
+    print(f"damaged.py: 5,000 names of one hash took {taken:.3f} s, 8,000 others {other:.3f} s")
+    trials.check("names collide in the program too, since they take it longer", taken > 3 * other, f"{taken:.3f} s, others {other:.3f} s")
+    # Which names KEEP has, and which lines are left.
+    for what, kept, left in (
+        ("all and those that the log lacks", names, table),
+        ("the last 2,000 of them, and those that it lacks", names[3000:], once[3000:]),
+        ("every other one", names[:5000:2], table[::2]),
+        ("those that it lacks alone", names[5000:], []),
+        ("none", [], []),
+    ):
+        write(log, text)
+        write(keep, b"".join(name + b"\n" for name in kept))
+        trials.want(f"colliding names, KEEP has {what}: recompact", run([program, "recompact", log, keep]), (0, b"", b""))
+        trials.want(f"colliding names, KEEP has {what}: the log", read(log), HEADERS[5] + b"".join(left))
+    write(log, text)
+    write(times, b"".join(b"7\t%s\n" % name for name in names[2000:]))
+    trials.want("colliding names: restat", run([program, "restat", log, times]), (0, b"", b""))
+    wanted = last[:2000] + [b"4\t5\t7\t%s\tb\n" % name for name in names[2000:3000]] + [b"1\t2\t7\t%s\ta\n" % name for name in names[3000:5000]]
+    trials.want("colliding names: the log after restat", read(log), HEADERS[5] + b"".join(wanted))
+
+
+def trial(trials, program, room):
+    readings = Readings(trials, program, room)
+    try_prefixes(readings)
+    try_replaced(readings)
+    try_lines(readings)
+    try_refused(readings)
+    try_colliding(trials, program, room)
+
+
+if __name__ == "__main__":
+    sys.exit(main(__file__, trial))
