@@ -6,7 +6,7 @@
 - The first call that fails is the nth, n counted up until none does. Then the power is lost, or the log closed, and it is opened again, with
   each of many fates of the bytes that weren't durable. What is found must be the table of one of the histories that docs/PROMISES.md allows
   for the replies: `Histories` follows durable and pending updates, and knows nothing of bytes.
-- What the power loss leaves is looked at before it is opened too: each of 48 texts, and no other.
+- What the power loss leaves is looked at before it is opened too: of the 48 texts each that the call which failed allows, and no other.
 - Each of these texts is then opened with each call of that open failing in turn, so that its repair is stopped; the power is lost, or the
   log closed, and it is opened again. That must leave what one open would have, byte for byte. A log that is due is stopped so too. A torn
   header isn't: a script has one fuse, and it would take that to leave one (`nl_tests` and `system_calls.py` stop this repair).
@@ -39,6 +39,22 @@ EVENTS = [
 # A log that is due, and what an open makes of it.
 DUE = HEADER + b"1\t2\t3\ta\tf\n" * 101
 DUE_OPENED = HEADER + b"1\t2\t3\ta\tf\n"
+
+A, B, C = (b"1\t2\t3\t%s\tf\n" % name for name in (b"a", b"b", b"c"))
+RESTATED = HEADER + B + b"1\t2\t9\tc\tf\n"
+
+# The first and the last of some calls, and the texts that a power loss may leave where one of them fails: a text and any part of what
+# wasn't durable behind it, or the new log where the rename may have been durable.
+LEFT = [
+    (1, 2, b"", b"", []),
+    (3, 4, b"", HEADER, []),
+    (5, 6, HEADER, A, []),
+    (7, 11, HEADER + A, B, []),
+    (12, 13, HEADER + A, B, [HEADER + B]),
+    (14, 19, HEADER + B, C, []),
+    (20, 21, HEADER + B, C, [RESTATED]),
+    (22, 24, RESTATED, b"", []),
+]
 
 
 def table_of(updates):
@@ -135,13 +151,13 @@ def try_found(trials, what, asked, ran):
 
 
 def try_stops(trials, program):
-    """Stops the events at each call, and gives the texts that a power loss left."""
+    """Stops the events at each call."""
     trials.want("how many fates there are", len(set(fates())), 81 * 5)
-    left = set()
     for nth in itertools.count(1):
         at = first_fault(program, nth, [event for event, _ in EVENTS])
         if at is None:
             break
+        left = set()
         for end, fate in itertools.product((b"crash", b"stop"), fates()):
             settings = [b"fuse\tany\t%d" % nth, told(fate)]
             what = f"call {nth}, {end.decode()}, fates {fate}"
@@ -152,17 +168,17 @@ def try_stops(trials, program):
                 ran = replay(program, settings, [event for event, _ in asked])
                 try_found(trials, f"{what}, before the open", asked, ran)
                 left.add(ran[1])
+        trials.want(f"call {nth}: the texts that a power loss leaves", sorted(left), sorted(texts_left(nth)))
     trials.want("how many calls were stopped", nth - 1, 24)
-    return left
 
 
-def texts_left():
-    """What a power loss may leave of the log of these events: the bytes that were durable, and any number of those that weren't."""
-    a, b, c = (b"1\t2\t3\t%s\tf\n" % name for name in (b"a", b"b", b"c"))
-    texts = [HEADER[:count] for count in range(len(HEADER))]
-    for whole, line in (HEADER, a), (HEADER + a, b), (HEADER + b, c):
-        texts += [whole + line[:count] for count in range(len(line) + 1)]
-    return {*texts, HEADER + b + b"1\t2\t9\tc\tf\n"}
+def texts_left(nth):
+    """The texts that a power loss may leave where this call fails."""
+    return {text for first, last, *texts in LEFT if first <= nth <= last for text in all_of(*texts)}
+
+
+def all_of(durable, pending, others):
+    return [durable + pending[:count] for count in range(len(pending) + 1)] + others
 
 
 def beginning(text):
@@ -253,9 +269,10 @@ def try_worked(trials, program):
 
 def trial(trials, program, room):
     try_worked(trials, program)
-    left = try_stops(trials, program)
-    trials.want("the texts that a power loss leaves", sorted(left), sorted(texts_left()))
-    begun = [text for text in sorted(texts_left()) if not text or len(text) >= len(HEADER)]
+    try_stops(trials, program)
+    left = set().union(*(texts_left(nth) for nth in range(1, 25)))
+    trials.want("how many texts there are", len(left), 48)
+    begun = [text for text in sorted(left) if not text or len(text) >= len(HEADER)]
     for text in [*begun, DUE, DUE + b"1\t2"]:
         try_stacked(trials, program, text)
 
