@@ -40,6 +40,9 @@ else
     echo "test.sh: skipped: the examples by Rattle's own compiler (it built no program)"
 fi
 
+# The libraries, with each growth of some tests refused in turn.
+part python3 tests/growths.py
+
 # Each says what it skips, and why: a formatter, strace, Ninja or a small disk may be missing.
 for trial in manual fuzz damaged stops closed_streams short_writes system_calls full_disk with_ninja; do
     part python3 "tests/$trial.py" crates/nlog/out/nlog
