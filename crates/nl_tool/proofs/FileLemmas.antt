@@ -10,6 +10,21 @@ use Rattle.nl_lines.proofs.SplitLemmas.{SplitsInto_unique}
 use Rattle.nl_lines.proofs.LinesLemmas.{TakesLines_none, TakesLines_more, TakesLines_rest}
 use Rattle.nl_tool.specs.Files.{FileReading, Says, BadAt, OfBytes, file_lines, part_on, said_before, said_from, said_after, said_of, said_by}
 
+-- the lines of a file that was read to its end
+pub all_lines : (a c : Option (List ℕ)) (lines : List (List ℕ)) (rest : List ℕ) → TakesAll fresh a c lines rest → OfBytes a (λ bytes. file_lines bytes ≡ lines ++ rest ∷ [])
+all_lines a c lines rest all =
+    let split = SplitsInto_unique all.got lines rest all.splits in
+    record {
+      bytes = all.got;
+      given = known a c all.got all.read all.over;
+      holds = ap (λ (l : List (List ℕ)). l ++ rest_of all.got ∷ []) split.0 ∙ ap (λ (l : List ℕ). lines ++ l ∷ []) split.1;
+    }
+  where
+    known : (a c : Option (List ℕ)) (got : List ℕ) → Consumes a c got → IsAtEnd c → IfSome a (λ bs. bs ≡ got)
+    known None c got read over = tt
+    known (Some xs) None got read over = absurd read
+    known (Some xs) (Some ys) got read over = read ∙ ap (λ (l : List ℕ). got ++ l) over ∙ append-nil got
+
 module _ {T : Type 0} (part_of : List ℕ → Option T) where
   -- a later line doesn't change what an earlier one says
   before_after : (o : Option T) (n m : ℕ) (line : List ℕ) (later : FileReading T) → said_before o n (said_after part_of m line later) ≡ said_after part_of m line (said_before o n later)
@@ -80,18 +95,8 @@ module _ {T : Type 0} (part_of : List ℕ → Option T) where
     -- all of the file: what the lines and the rest say
     all_said : (rest : List ℕ) → TakesAll fresh a c telling.lines rest → (new_parts : List T) (new_bad : Option ℕ) → said_of new_parts new_bad ≡ said_from part_of 1 (telling.lines ++ rest ∷ []) → OfBytes a (λ bytes. said_by part_of bytes ≡ said_of new_parts new_bad)
     all_said rest all new_parts new_bad said =
-        let split = SplitsInto_unique all.got telling.lines rest all.splits in
-        let lines : file_lines all.got ≡ telling.lines ++ rest ∷ [] = ap (λ (l : List (List ℕ)). l ++ rest_of all.got ∷ []) split.0 ∙ ap (λ (l : List ℕ). telling.lines ++ l ∷ []) split.1 in
-        record {
-          bytes = all.got;
-          given = known a c all.got all.read all.over;
-          holds = ap (said_from part_of 1) lines ∙ sym said;
-        }
-      where
-        known : (a c : Option (List ℕ)) (got : List ℕ) → Consumes a c got → IsAtEnd c → IfSome a (λ bs. bs ≡ got)
-        known None c got read over = tt
-        known (Some xs) None got read over = absurd read
-        known (Some xs) (Some ys) got read over = read ∙ ap (λ (l : List ℕ). got ++ l) over ∙ append-nil got
+        let file = all_lines a c telling.lines rest all in
+        record { bytes = file.bytes; given = file.given; holds = ap (said_from part_of 1) file.holds ∙ sym said }
 
     pub Telling_rest : (rest : List ℕ) → TakesRest now b new c rest → (new_parts : List T) (new_bad : Option ℕ) (new_count : ℕ) → said_of new_parts new_bad ≡ said_after part_of new_count rest (said_of parts bad) → new_count ≡ count + 1
         → OfBytes a (λ bytes. said_by part_of bytes ≡ said_of new_parts new_bad)

@@ -4,5 +4,6 @@ mod TimesLemmas
 pub mod ChangeLemmas
 pub mod OutputLemmas
 mod EndingLemmas
+mod ScriptLemmas
 mod ReplayLemmas
 mod PathLemmas

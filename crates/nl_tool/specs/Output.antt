@@ -82,5 +82,5 @@ abbrev pub IsAnswer : Words → Option (List ℕ) → List ℕ → Type 0
 IsAnswer (Show log) known text = IsTextFor shown known text
 IsAnswer (Check log) known text = IsTextFor checked known text
 IsAnswer (Hash command) known text = IsHashText command.now text
-IsAnswer (Replay script) known text = IsReplayText text
+IsAnswer (Replay script) known text = IsReplayText known text
 IsAnswer _ known text = ⊥

@@ -20,7 +20,7 @@ pub fn replay_to<R: Read + Drop, W: Write>(
     reader: R,
     writer: &mut W,
 ) -> Result<(), ToolFault>
-    ensures prints { Prints IsReplayText (W.contents writer.old) (W.contents writer.new) result }
+    ensures prints { Prints (IsReplayText (R.remaining reader)) (W.contents writer.old) (W.contents writer.new) result }
     ensures faults { IfErr result IsReplayFault }
 {
     let script = read_script(alloc, reader)?;

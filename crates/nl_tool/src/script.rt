@@ -1,14 +1,17 @@
 //! Reading a script: what a folder in memory is told, and then the events.
-ghost use Rattle.std.specs.Prelude.{◌≡◌, ◌<◌, ◌++◌, ◌∷◌, ◌^◌, ℕ, pos, Some, IfErr, IfSome, MatchOption};
+ghost use Rattle.std.specs.Prelude.{◌≡◌, ◌<◌, ◌++◌, ◌∷◌, ◌^◌, ℕ, [], pos, Some, length, IfErr, IfOk, IfSome, OnOk};
+ghost use Rattle.std.specs.List.{flat_map};
 ghost use Rattle.nl_fields.specs.Digits.{IsDecimal};
+ghost use Rattle.nl_fields.specs.EntryLine.{line_of};
 ghost use Rattle.nl_folder.specs.declared.fuse.Call.{Call};
 ghost use Rattle.nl_tool.specs.Faults.{IsFaultOfLine, IsScriptFault};
-ghost use Rattle.nl_tool.specs.Replay.{word_of};
+ghost use Rattle.nl_tool.specs.Files.{OfBytes, file_lines};
+ghost use Rattle.nl_tool.specs.Replay.{IsScript, SaysMore, TakesIn, behind_tab, event_line, keep_fields, name_field, text_of_word, time_fields, word_of};
 
 use crate::fault::ToolFault;
 use nl_fields::{Entry, Name, NameFault, read_entry, read_i64};
 use nl_folder::{Call, Fuse};
-use nl_lines::{Line, Lines, ReadSource};
+use nl_lines::{Line, Lines, ReadSource, Source};
 use nl_session::Event;
 use nl_table::KeepList;
 use std::alloc::{AllocError, AllocFailed, Global};
@@ -22,6 +25,21 @@ pub struct Script {
     pub fates: Vec<u64>,
     pub fuse: Option<Fuse>,
     pub events: Vec<Event>,
+}
+
+/// What a line says, by its word.
+#[derive(Clone, Copy, Drop)]
+pub enum Word {
+    Writes,
+    Fates,
+    Fuse,
+    Open,
+    Recompact,
+    Record,
+    Restat,
+    Sync,
+    Stop,
+    Crash,
 }
 
 // Why a line isn't taken.
@@ -54,14 +72,22 @@ impl From<NameFault> for Refusal {
 
 /// Reads the script that the reader gives, up to its first bad line.
 pub fn read_script<R: Read + Drop>(alloc: Global, reader: R) -> Result<Script, ToolFault>
+    ensures value { IfOk result (λ script. OfBytes (R.remaining reader) (λ bytes. IsScript (file_lines bytes) script.events.items)) }
     ensures faults { IfErr result IsScriptFault }
 {
-    let mut source = ReadSource::new(reader);
+    read_lines(alloc, &mut ReadSource::new(reader))
+}
+
+// What the lines of a source say, up to the first bad one.
+fn read_lines<S: Source>(alloc: Global, source: &mut S) -> Result<Script, ToolFault>
+    ensures value { IfOk result (λ script. OfBytes (S.ahead source.old) (λ bytes. IsScript (file_lines bytes) script.events.items)) }
+    ensures faults { IfErr result IsScriptFault }
+{
     let mut lines = Lines::new(alloc)?;
     let mut script = Script::new(alloc);
     let mut number = 1;
     'lines: loop {
-        match lines.next(&mut source)? {
+        match lines.next(source)? {
             Some(Line::Whole(line)) => take_line(alloc, line, number, &mut script)?,
             Some(Line::TooLong) => return Err(ToolFault::BadLine(number)),
             Some(Line::Torn { bytes, .. }) => return with_last(alloc, script, bytes, number),
@@ -78,6 +104,7 @@ fn with_last(
     line: &[u8],
     number: u64,
 ) -> Result<Script, ToolFault>
+    ensures value { IfOk result (λ new. (0 < length line.now) × TakesIn script.events.items new.events.items line.now) }
     ensures faults { IfErr result (IsFaultOfLine number) }
 {
     if line.is_empty() {
@@ -89,6 +116,7 @@ fn with_last(
 
 // Takes in a line with this number, or passes over an empty one.
 fn take_line(alloc: Global, line: &[u8], number: u64, script: &mut Script) -> Result<(), ToolFault>
+    ensures ok { OnOk result (TakesIn script.old.events.items script.new.events.items line.now) }
     ensures faults { IfErr result (IsFaultOfLine number) }
 {
     if line.is_empty() {
@@ -102,7 +130,9 @@ fn take_line(alloc: Global, line: &[u8], number: u64, script: &mut Script) -> Re
 }
 
 impl Script {
-    fn new(alloc: Global) -> Script {
+    fn new(alloc: Global) -> Script
+        ensures { result.events.items ≡ [] }
+    {
         Script {
             writes: Vec::new(alloc),
             fates: Vec::new(alloc),
@@ -112,17 +142,22 @@ impl Script {
     }
 
     // Takes in a setting, where it is the first of its kind and no event came yet, or an event.
-    fn take(&mut self, alloc: Global, line: &[u8]) -> Result<(), Refusal> {
+    fn take(&mut self, alloc: Global, line: &[u8]) -> Result<(), Refusal>
+        ensures ok { OnOk result (SaysMore self.old.events.items self.new.events.items line.now) }
+    {
         let (word, rest) = split_tab(line);
+        let Some(word) = read_word(word) else {
+            return Err(Refusal::BadLine);
+        };
         let may_set = self.events.is_empty();
         match (word, rest) {
-            (b"writes", Some(text)) if may_set && self.writes.is_empty() => {
+            (Word::Writes, Some(text)) if may_set && self.writes.is_empty() => {
                 self.writes = read_numbers(alloc, text)?;
             }
-            (b"fates", Some(text)) if may_set && self.fates.is_empty() => {
+            (Word::Fates, Some(text)) if may_set && self.fates.is_empty() => {
                 self.fates = read_numbers(alloc, text)?;
             }
-            (b"fuse", Some(text)) if may_set && self.fuse.is_none() => {
+            (Word::Fuse, Some(text)) if may_set && self.fuse.is_none() => {
                 self.fuse = Some(read_fuse(text)?);
             }
             _ => self.events.push(read_event(alloc, word, rest)?)?,
@@ -133,7 +168,7 @@ impl Script {
 
 // What stands before the first tab, and what stands behind it, where there is one.
 fn split_tab(text: &[u8]) -> (&[u8], Option<&[u8]>)
-    ensures { MatchOption result.1 (result.0.now ≡ text.now) (λ rest. text.now ≡ result.0.now ++ 9 ∷ rest.now) }
+    ensures { text.now ≡ result.0.now ++ behind_tab result.1 }
 {
     match text.iter().position(|b| *b == b'\t') {
         Some(at) => (&text[..at], Some(&text[at + 1..])),
@@ -141,59 +176,86 @@ fn split_tab(text: &[u8]) -> (&[u8], Option<&[u8]>)
     }
 }
 
-fn read_event(alloc: Global, word: &[u8], rest: Option<&[u8]>) -> Result<Event, Refusal> {
+fn read_word(text: &[u8]) -> Option<Word>
+    ensures value { IfSome result (λ word. text.now ≡ text_of_word word) }
+{
+    match text {
+        b"writes" => Some(Word::Writes),
+        b"fates" => Some(Word::Fates),
+        b"fuse" => Some(Word::Fuse),
+        b"open" => Some(Word::Open),
+        b"recompact" => Some(Word::Recompact),
+        b"record" => Some(Word::Record),
+        b"restat" => Some(Word::Restat),
+        b"sync" => Some(Word::Sync),
+        b"stop" => Some(Word::Stop),
+        b"crash" => Some(Word::Crash),
+        _ => None,
+    }
+}
+
+fn read_event(alloc: Global, word: Word, rest: Option<&[u8]>) -> Result<Event, Refusal>
+    ensures line { IfOk result (λ event. event_line event ≡ text_of_word word ++ behind_tab rest.entry) }
+{
     match (word, rest) {
-        (b"open", names) => Ok(Event::Open(read_keep(alloc, names)?)),
-        (b"recompact", names) => Ok(Event::Recompact(read_keep(alloc, names)?)),
-        (b"record", Some(line)) => Ok(Event::Record(read_record(alloc, line)?)),
-        (b"restat", pairs) => Ok(Event::Restat(read_times(alloc, pairs)?)),
-        (b"sync", None) => Ok(Event::Sync),
-        (b"stop", None) => Ok(Event::Stop),
-        (b"crash", None) => Ok(Event::Crash),
+        (Word::Open, names) => Ok(Event::Open(read_keep(alloc, names)?)),
+        (Word::Recompact, names) => Ok(Event::Recompact(read_keep(alloc, names)?)),
+        (Word::Record, Some(line)) => Ok(Event::Record(read_record(alloc, line)?)),
+        (Word::Restat, pairs) => Ok(Event::Restat(read_times(alloc, pairs)?)),
+        (Word::Sync, None) => Ok(Event::Sync),
+        (Word::Stop, None) => Ok(Event::Stop),
+        (Word::Crash, None) => Ok(Event::Crash),
         _ => Err(Refusal::BadLine),
     }
 }
 
 // The names that a recompaction keeps: all of them where none is given.
-fn read_keep(alloc: Global, text: Option<&[u8]>) -> Result<KeepList, Refusal> {
+fn read_keep(alloc: Global, text: Option<&[u8]>) -> Result<KeepList, Refusal>
+    ensures line { IfOk result (λ keep. keep_fields keep ≡ behind_tab text.entry) }
+{
     match text {
         Some(text) => Ok(KeepList::Only(read_names(alloc, text)?)),
         None => Ok(KeepList::All),
     }
 }
 
-fn read_names(alloc: Global, text: &[u8]) -> Result<Vec<Name>, Refusal> {
+fn read_names(alloc: Global, text: &[u8]) -> Result<Vec<Name>, Refusal>
+    ensures line { IfOk result (λ names. flat_map name_field names.items ≡ name_field text.now) }
+{
     let mut names = Vec::new(alloc);
-    for name in text.split(|b| *b == b'\t') {
+    let mut left = Some(text);
+    'names: while let Some(text) = left {
+        let (name, rest) = split_tab(text);
         names.push(Name::read(alloc, name)?)?;
+        left = rest;
     }
     Ok(names)
 }
 
 // Pairs of an mtime and a name.
-fn read_times(alloc: Global, text: Option<&[u8]>) -> Result<Vec<(Name, i64)>, Refusal> {
+fn read_times(alloc: Global, text: Option<&[u8]>) -> Result<Vec<(Name, i64)>, Refusal>
+    ensures line { IfOk result (λ times. flat_map time_fields times.items ≡ behind_tab text.entry) }
+{
     let mut pairs = Vec::new(alloc);
-    let Some(text) = text else {
-        return Ok(pairs);
-    };
-    let mut waiting = None;
-    for field in text.split(|b| *b == b'\t') {
-        match waiting {
-            None => waiting = Some(read_i64(field).ok_or(Refusal::BadLine)?),
-            Some(mtime) => {
-                pairs.push((Name::read(alloc, field)?, mtime))?;
-                waiting = None;
-            }
-        }
+    let mut left = text;
+    'pairs: while let Some(text) = left {
+        let (time, rest) = split_tab(text);
+        let (Some(mtime), Some(rest)) = (read_i64(time), rest) else {
+            return Err(Refusal::BadLine);
+        };
+        let (name, rest) = split_tab(rest);
+        pairs.push((Name::read(alloc, name)?, mtime))?;
+        left = rest;
     }
-    match waiting {
-        None => Ok(pairs),
-        Some(_) => Err(Refusal::BadLine),
-    }
+    Ok(pairs)
 }
 
-fn read_record(alloc: Global, line: &[u8]) -> Result<Entry, Refusal> {
-    let entry = read_entry(line).ok_or(Refusal::BadLine)?;
+fn read_record(alloc: Global, line: &[u8]) -> Result<Entry, Refusal>
+    ensures line { IfOk result (λ e. line_of e ≡ line.now) }
+{
+    let Some(entry) = read_entry(line) else {
+        return Err(Refusal::BadLine);
+    };
     Ok(Entry::of(alloc, &entry)?)
 }
 
