@@ -1,10 +1,13 @@
 //! Reading a script: what a folder in memory is told, and then the events.
-ghost use Rattle.std.specs.Prelude.{◌≡◌, ◌<◌, ◌++◌, ◌∷◌, ◌^◌, ℕ, [], pos, Some, length, IfErr, IfOk, IfSome, OnOk};
+ghost use Rattle.std.specs.Prelude.{◌≡◌, ◌↔◌, ◌<◌, ◌++◌, ◌∷◌, ◌^◌, ℕ, [], pos, Some, length, IfErr, IfOk, IfSome, OnOk};
 ghost use Rattle.std.specs.List.{flat_map};
 ghost use Rattle.nl_fields.specs.Digits.{IsDecimal};
 ghost use Rattle.nl_fields.specs.EntryLine.{line_of};
 ghost use Rattle.nl_folder.specs.declared.fuse.Call.{Call};
 ghost use Rattle.nl_tool.specs.Faults.{IsFaultOfLine, IsScriptFault};
+ghost use Rattle.nl_fields.specs.declared.name.NameFault.{NameFault};
+ghost use Rattle.nl_tool.specs.declared.script.Refusal.TheVariants.{OutOfMemory};
+ghost use Rattle.nl_tool.specs.declared.script.Word.{Word};
 ghost use Rattle.nl_tool.specs.Files.{OfBytes, file_lines};
 ghost use Rattle.nl_tool.specs.Replay.{IsScript, SaysMore, TakesIn, behind_tab, event_line, keep_fields, name_field, text_of_word, time_fields, word_of};
 
@@ -50,18 +53,24 @@ enum Refusal {
 }
 
 impl From<AllocError> for Refusal {
+    ghost from_gives = { λ _ refusal. refusal ≡ OutOfMemory };
+
     fn from(_error: AllocError) -> Refusal {
         Refusal::OutOfMemory
     }
 }
 
 impl<T: Drop> From<AllocFailed<T>> for Refusal {
+    ghost from_gives = { λ _ refusal. refusal ≡ OutOfMemory };
+
     fn from(_error: AllocFailed<T>) -> Refusal {
         Refusal::OutOfMemory
     }
 }
 
 impl From<NameFault> for Refusal {
+    ghost from_gives = { λ fault refusal. (refusal ≡ OutOfMemory) ↔ (fault ≡ NameFault.OutOfMemory) };
+
     fn from(fault: NameFault) -> Refusal {
         match fault {
             NameFault::OutOfMemory => Refusal::OutOfMemory,
@@ -178,6 +187,7 @@ fn split_tab(text: &[u8]) -> (&[u8], Option<&[u8]>)
 
 fn read_word(text: &[u8]) -> Option<Word>
     ensures value { IfSome result (λ word. text.now ≡ text_of_word word) }
+    ensures accepts { (word : Word) → text.now ≡ text_of_word word → result ≡ Some word }
 {
     match text {
         b"writes" => Some(Word::Writes),
