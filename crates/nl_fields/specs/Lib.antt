@@ -5,3 +5,4 @@ pub mod EntryLine
 pub mod Fields
 pub mod Header
 pub mod CommandHash
+pub mod RapidHash

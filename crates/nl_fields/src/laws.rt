@@ -1,5 +1,5 @@
 //! What the definitions promise: each contract is a law, and each body is empty.
-ghost use Rattle.std.specs.Prelude.{◌≡◌, ◌≢◌, ◌↔◌, ℕ, ℤ, ◌+◌, ◌<◌, ◌≤◌, ◌^◌, List, length, All, Some, FitsSigned};
+ghost use Rattle.std.specs.Prelude.{◌≡◌, ◌≢◌, ◌↔◌, ℕ, ℤ, ◌+◌, ◌<◌, ◌≤◌, ◌^◌, List, [], length, All, Some, FitsSigned, codes};
 ghost use Rattle.std.specs.Int.{w64};
 ghost use Rattle.nl_fields.specs.declared.entry.Entry.{Entry};
 ghost use Rattle.nl_fields.specs.declared.header.Header.{Header};
@@ -8,6 +8,7 @@ ghost use Rattle.nl_fields.specs.Digits.{IsDigits, IsDecimal, digits_of, decimal
 ghost use Rattle.nl_fields.specs.EntryLine.{IsEntry, IsEntryLine, IsEntryLineFour, line_of, entry_of, entry_of_four};
 ghost use Rattle.nl_fields.specs.Header.{IsHeader, version_five, header_line, header_of};
 ghost use Rattle.nl_fields.specs.CommandHash.{IsHash, hash_of};
+ghost use Rattle.nl_fields.specs.RapidHash.{rapid_hash_of};
 
 use crate::header::HEADER;
 use crate::limits::{MAX_ENTRY_LINE, MAX_LINE, MAX_LOG, MAX_NAME};
@@ -77,4 +78,13 @@ pub fn one_header()
 pub fn one_hash()
     ensures hash { (command : List ℕ) (h k : ℕ) → IsHash command h → IsHash command k → h ≡ k }
     ensures exists { (command : List ℕ) → IsHash command (hash_of command) }
+{}
+
+/// The definition of the hash of version 7 has the values that Ninja's own has: of no byte, and of texts of each kind of end.
+pub fn rapid_hash_vectors()
+    ensures nothing { rapid_hash_of [] ≡ 0x5a6ef77074ebc84b }
+    ensures three { rapid_hash_of (codes "abc") ≡ 0x347080fbf5fcd81 }
+    ensures seven { rapid_hash_of (codes "cp s o1") ≡ 0xb0cba31c290a65e0 }
+    ensures sixteen { rapid_hash_of (codes "0123456789abcdef") ≡ 0xfcc8fa4e2771d2ef }
+    ensures seventeen { rapid_hash_of (codes "0123456789abcdefg") ≡ 0xab3c2320d701d807 }
 {}

@@ -11,6 +11,7 @@ mod hex;
 pub mod laws;
 mod limits;
 mod name;
+mod rapid_hash;
 #[cfg(test)]
 mod tests;
 
@@ -22,3 +23,4 @@ pub use header::{HEADER, Header, read_header};
 pub use hex::{append_hex64, read_hex64};
 pub use limits::{MAX_ENTRY_LINE, MAX_LINE, MAX_LOG, MAX_NAME};
 pub use name::{Name, NameFault, name_fault};
+pub use rapid_hash::command_hash_v7;

@@ -44,6 +44,64 @@ fn commands_have_their_published_hashes(rt: HostRuntime) -> Result<(), Fail> {
 }
 
 #[test]
+fn commands_have_the_hashes_of_version_7(rt: HostRuntime) -> Result<(), Fail> {
+    let texts: [(&[u8], u64); 11] = [
+        (b"", 0x5a6ef77074ebc84b),
+        (b"a", 0xc11328477bc0f5d1),
+        (b"ab", 0x5644ac035e40d569),
+        (b"abc", 0x347080fbf5fcd81),
+        (b"abcd", 0x56b66b8dc802bcc),
+        (b"cc\tx", 0x8072fc2ac19230e4),
+        (b"command abc", 0x5e4ad1d8b15134e3),
+        (b"0123456", 0xcc1c55464d96704a),
+        (b"01234567", 0xd76d2b531eee3341),
+        (b"0123456789abcdef", 0xfcc8fa4e2771d2ef),
+        (b"0123456789abcdefg", 0xab3c2320d701d807),
+    ];
+    for (command, hash) in texts {
+        assert_eq!(rt; command_hash_v7(command), hash, "at {command:?}");
+    }
+    // Of the bytes (7 i + 3) mod 256, as many as stand first.
+    let lengths: [(usize, u64); 21] = [
+        (8, 0x21ed646da1f1bd16),
+        (15, 0x8d0f3dc7397ae084),
+        (16, 0xae99bb348163beff),
+        (17, 0xce81cef42cd039f4),
+        (32, 0x9e9c5c2cc9a5a047),
+        (33, 0x277e402e02881daa),
+        (47, 0xd0013a362274e309),
+        (48, 0xf313bcd707488b55),
+        (49, 0xd7aa292819131149),
+        (64, 0x8e725b77da00a17),
+        (65, 0x862fa0e929908c1a),
+        (95, 0xce5e1f301ecf981),
+        (96, 0x24ea2ecda97bb244),
+        (97, 0x28ca4737d8ccff3c),
+        (143, 0x2f3b6ff77a3bf857),
+        (144, 0xbc272b81c50c3b5),
+        (145, 0xe69fc35c48a59adc),
+        (191, 0x5dab2cbf1cddc7cb),
+        (192, 0x6c8c315059db21c4),
+        (193, 0x6451cca867fd7c9),
+        (1000, 0xbcc183d2bd959716),
+    ];
+    let mut bytes = Vec::new(rt.alloc());
+    let mut byte: u8 = 3;
+    for _ in 0..1000 {
+        bytes.push(byte)?;
+        byte = byte.wrapping_add(7);
+    }
+    for (len, hash) in lengths {
+        assert_eq!(rt;
+            bytes.get(..len).map(command_hash_v7),
+            Some(hash),
+            "at {len}"
+        );
+    }
+    Ok(())
+}
+
+#[test]
 fn names_end_at_65536_bytes(rt: HostRuntime) -> Result<(), Fail> {
     assert_eq!(rt; name_fault(b""), Some(NameFault::Empty));
     assert_eq!(rt; name_fault(b"a\tb"), Some(NameFault::BadByte(1)));
