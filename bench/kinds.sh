@@ -6,6 +6,10 @@
 #
 # FOLDER, which takes up to 2 GB, has the programs `native_show` and `nlog`.
 set -euo pipefail
+if [ $# -lt 2 ]; then
+    echo "usage: bench/kinds.sh FOLDER ROUNDS [KIND ..]" >&2
+    exit 2
+fi
 here=$(cd "$(dirname "$0")" && pwd)
 folder=$(cd "$1" && pwd)
 rounds=$2

@@ -41,11 +41,20 @@ def short(it):
     return text if len(text) < 400 else f"{text[:200]} .. {text[-180:]}"
 
 
+def usage(script, words="PROGRAM"):
+    """Says how a script is run, and gives the status of wrong words. Its last line tells a caller that it tried nothing."""
+    print(f"usage: python3 tests/{os.path.basename(script)} {words}", file=sys.stderr)
+    print("0 passed, 1 failed", flush=True)
+    return 2
+
+
 def main(script, trial):
     """Runs a trial on the program that the words name, and gives the status to end with."""
     trials = Trials(script)
     words = sys.argv[1:]
-    if len(words) != 1 or not os.path.isfile(words[0]):
+    if len(words) != 1:
+        return usage(script)
+    if not os.path.isfile(words[0]):
         trials.check("its one word is the path of the program", False, "it is not there")
         return trials.end()
     with tempfile.TemporaryDirectory() as folder, tempfile.TemporaryDirectory(dir=in_memory()) as room:
