@@ -1,16 +1,18 @@
 #!/usr/bin/env python3
-"""Tries the manual page: that it is shown without a warning, and that it has each command, option and message.
+"""Tries the manual page: that it is shown without a warning, and that it has each command, option and message, and the script
+by which the names of a build are kept.
 
     python3 tests/manual.py PROGRAM
 
 Wants groff, and mandoc, to format the page; each is skipped where it is missing. The commands are those that the help of the
-program lists, the messages those of the table of docs/CLI.md.
+program lists, the messages those of the table of docs/CLI.md, and the script is that of this page.
 """
 import os
 import re
 import shutil
 import sys
 
+from examples import read_page
 from trials import main, read, run
 
 TOP = os.path.dirname(os.path.dirname(os.path.abspath(__file__)))
@@ -25,6 +27,13 @@ def plain(text):
     text = re.sub(r"\\f[A-Z]", "", text.replace("\\-", "-").replace("\\(aq", "'"))
     text = re.sub(r"(?m)^\.[A-Z]+ ?", "", text).replace('"', "")
     return re.sub(r"\s+", " ", text)
+
+
+def literal(text):
+    """The text of the page's examples, as it is shown."""
+    for escape, shown in (("\\-", "-"), ("\\(aq", "'"), ("\\e", "\\")):
+        text = text.replace(escape, shown)
+    return text
 
 
 def messages():
@@ -54,6 +63,8 @@ def trial(trials, program, room):
     trials.want("the number of messages", len(messages()), 12)
     for it in messages():
         trials.check(f"the message {it!r}", it in text[text.index("Each comes as") :])
+    script = read_page("docs/CLI.md")[0]["recompact.sh"].decode()
+    trials.check("the script of docs/CLI.md", f".EX\n{script}.EE\n" in literal(page))
 
 
 if __name__ == "__main__":

@@ -5,13 +5,20 @@
 
 Wants a Ninja that writes logs of version 5 (1.11). What Ninja makes of a log is told by what it says of a build: `no work to
 do`, or why an output is to be made again; and by what `ninja -t recompact` keeps of the log.
+
+The scripts of docs/CLI.md are read from that page and run as they stand there, beside a copy of the build that Ninja itself
+recompacts or restats. And what the pages say of Ninja is tried: what a build loses whose log is rewritten, and which time
+stamps it records.
 """
 import os
 import shutil
 import sys
 
-from log_format import Log
+from examples import read_page
+from log_format import HEADER, Log, line_of
 from trials import main, read, run, write
+
+RECIPES = read_page("docs/CLI.md")[0]
 
 MANIFEST = """rule copy
   command = cat $in > $out
@@ -63,6 +70,30 @@ class Build:
     def nlog(self, *words):
         return run([self.program, *words], cwd=self.room)
 
+    def recipe(self, name, folder=None):
+        """Runs a script of docs/CLI.md, with the programs of this folder in place of others."""
+        write(f"{self.room}/../{name}", RECIPES[name])
+        path = ":".join(it for it in (folder, os.path.dirname(self.program), os.environ.get("PATH", os.defpath)) if it)
+        return run(["sh", f"../{name}"], cwd=self.room, env={**os.environ, "PATH": path})
+
+    def mirror(self):
+        """A copy of the build, for Ninja to work on."""
+        copy = object.__new__(Build)
+        copy.program, copy.room = self.program, f"{self.room}-mirror"
+        shutil.rmtree(copy.room, ignore_errors=True)
+        shutil.copytree(self.room, copy.room, symlinks=True)
+        return copy
+
+    def add(self, text):
+        """Adds to the manifest, and builds."""
+        with open(f"{self.room}/build.ninja", "a", encoding="utf-8") as it:
+            it.write(text)
+        return self.ninja()[0]
+
+    def remove(self, *names):
+        for name in names:
+            os.remove(f"{self.room}/{name}")
+
     def log(self):
         return Log(read(f"{self.room}/{LOG}"))
 
@@ -87,15 +118,107 @@ def try_recompact(trials, build):
     trials.want("recompact: ends", build.nlog("recompact", LOG, "KEEP"), (0, b"", b""))
     trials.want("recompact: the log", (build.log().table, build.log().total), (before.table, len(OUTPUTS)))
     trials.check("recompact: Ninja has no work to do", build.is_idle(), repr(build.why()))
-    # The recipe of docs/CLI.md.
-    run(["sh", "-c", "ninja -t targets all | sed 's/: .*//' > KEEP"], cwd=build.room)
-    build.nlog("recompact", LOG, "KEEP")
-    trials.want("recompact by Ninja's own targets: the log", build.log().table, before.table)
     build.write_lines("KEEP", OUTPUTS[1:])
     build.nlog("recompact", LOG, "KEEP")
     trials.check("recompact without a.o: Ninja makes it again", UNKNOWN % b"a.o" in build.why(), repr(build.why()))
     trials.want("recompact without a.o: Ninja builds", build.ninja()[0], 0)
     trials.check("recompact without a.o: and has no work then", build.is_idle(), repr(build.why()))
+
+
+def recompact_beside(trials, build, what, kept, dropped=()):
+    """Recompacts by the script of docs/CLI.md, and a copy by Ninja: both keep the same entries, `kept` among them."""
+    mirror = build.mirror()
+    trials.want(f"{what}: Ninja recompacts", mirror.ninja("-t", "recompact")[0], 0)
+    trials.want(f"{what}: recompact.sh ends", build.recipe("recompact.sh"), (0, b"", b""))
+    table = build.log().table
+    trials.want(f"{what}: the log is the one that Ninja makes", sorted(table.items()), sorted(mirror.log().table.items()))
+    trials.check(f"{what}: what is kept", set(kept) <= set(table) and not set(dropped) & set(table), repr(sorted(table)))
+
+
+def try_keep_without_manifest(trials, build):
+    os.remove(f"{build.room}/build.ninja")
+    before, mirror = read(f"{build.room}/{LOG}"), build.mirror()
+    trials.check("no manifest: Ninja doesn't recompact", mirror.ninja("-t", "recompact")[0] not in (0, None))
+    status = build.recipe("recompact.sh")[0]
+    trials.check("no manifest: recompact.sh stops", status not in (0, None), repr(status))
+    trials.want("no manifest: the log stays", read(f"{build.room}/{LOG}"), before)
+    trials.want("no manifest: as Ninja leaves it", sorted(build.log().table), sorted(mirror.log().table))
+
+
+def try_keep_odd_names(trials, build):
+    """Their files are gone, so that they are kept as what an edge builds."""
+    names = ["c: d", "-dash", " led by a space", "back\\slash"]
+    shown = ["c$:$ d", "-dash", "$ led$ by$ a$ space", "back\\slash"]
+    text = "rule odd\n  command = cat $in > $out\n" + "".join(f"build {it}: odd a.c\n" for it in shown)
+    trials.want("odd names: Ninja builds", build.add(text), 0)
+    recompact_beside(trials, build, "odd names", [it.encode() for it in names])
+    build.remove(*names)
+    recompact_beside(trials, build, "odd names without their files", [it.encode() for it in names])
+
+
+def try_keep_dyndep(trials, build):
+    write(f"{build.room}/dd", b"ninja_dyndep_version = 1\nbuild made | there gone: dyndep\n")
+    text = "rule three\n  command = touch made there gone\nbuild made: three || dd\n  dyndep = dd\n"
+    trials.want("dyndep: Ninja builds", build.add(text), 0)
+    recompact_beside(trials, build, "dyndep", [b"made", b"there", b"gone"])
+    trials.check("dyndep: Ninja has no work to do", build.is_idle(), repr(build.why()))
+    build.remove("gone")
+    recompact_beside(trials, build, "dyndep without a file", [b"made", b"there"], [b"gone"])
+
+
+def try_keep_what_left(trials, build):
+    manifest = read(f"{build.room}/build.ninja")
+    text = "".join(f"build {it}: copy a.c\n" for it in ("there", "gone", "$ led$ by$ a$ space", "led$ there$ ", "back\\slash"))
+    trials.want("left: Ninja builds", build.add(text), 0)
+    write(f"{build.room}/build.ninja", manifest)
+    build.remove("gone")
+    names = [b"there", b" led by a space", b"led there ", b"back\\slash"]
+    recompact_beside(trials, build, "left", [*OUTPUTS, *names], [b"gone"])
+    trials.want("left: Ninja cleans what is dead", build.ninja("-t", "cleandead")[0], 0)
+    trials.want("left: and the file is gone", read(f"{build.room}/there"), None)
+
+
+def restat_beside(trials, build, what, names):
+    """Restats by the script of docs/CLI.md, and a copy by Ninja: both give these names the same time stamps."""
+    mirror = build.mirror()
+    trials.want(f"{what}: Ninja restats", mirror.ninja("-t", "restat")[0], 0)
+    trials.want(f"{what}: restat.sh ends", build.recipe("restat.sh"), (0, b"", b""))
+    table, other = build.log().table, mirror.log().table
+    trials.want(f"{what}: the time stamps", {it: table[it][2] for it in names}, {it: other[it][2] for it in names})
+
+
+def try_times(trials, build):
+    text = "rule odd\n  command = cat $in > $out\nbuild -dash: odd a.c\nbuild it's$ \"so\": odd a.c\n"
+    trials.want("restat.sh: Ninja builds", build.add(text), 0)
+    os.utime(f"{build.room}/a.o", ns=(0, 1_700_000_000_000_000_007))
+    os.utime(f"{build.room}/-dash", ns=(0, 1_700_000_009_000_000_000))
+    # A link to an older file: Ninja takes the time stamp of that one.
+    build.remove("b.o")
+    os.utime(f"{build.room}/b.c", ns=(0, 1_500_000_000_000_000_000))
+    os.symlink("b.c", f"{build.room}/b.o")
+    restat_beside(trials, build, "restat.sh", [*OUTPUTS, b"-dash"])
+    trials.want("restat.sh: of a link", build.log().table[b"b.o"][2], 1_500_000_000_000_000_000)
+    trials.want("restat.sh: of a name that looks like an option", build.log().table[b"-dash"][2], 1_700_000_009_000_000_000)
+    was = build.log().table[b"note"][2]
+    build.remove("note")
+    os.utime(f"{build.room}/app", ns=(0, 1_700_000_001_000_000_000))
+    restat_beside(trials, build, "restat.sh without a file", [b"a.o", b"app"])
+    trials.want("restat.sh without a file: its entry", build.log().table[b"note"][2], was)
+
+
+def try_times_that_fail(trials, build):
+    """A `stat` that tells of one file, and then fails."""
+    os.makedirs(f"{build.room}/bin")
+    write(f"{build.room}/bin/stat", b"#!/bin/sh\nprintf '1.000000000\\ta.o\\n'\nexit 1\n")
+    os.chmod(f"{build.room}/bin/stat", 0o755)
+    before = read(f"{build.room}/{LOG}")
+    status = build.recipe("restat.sh", f"{build.room}/bin")[0]
+    trials.check("a stat that fails: restat.sh stops", status not in (0, None), repr(status))
+    trials.want("a stat that fails: the log stays", read(f"{build.room}/{LOG}"), before)
+    for text in (HEADER, HEADER + b"1\t2\t3\tgone\taa\n"):
+        write(f"{build.room}/{LOG}", text)
+        trials.want(f"a log without files, {text!r}: restat.sh ends", build.recipe("restat.sh"), (0, b"", b""))
+        trials.want(f"a log without files, {text!r}: the log", read(f"{build.room}/{LOG}"), text)
 
 
 def try_restat(trials, build):
@@ -148,6 +271,92 @@ def try_other_command(trials, build):
     trials.want("A, torn B, A: the output is that of A", read(f"{build.room}/note"), b"n1")
 
 
+def try_joined(trials, build):
+    """A, torn B, a line of Ninja's behind it: what `check` tells of it, and the script that has the output made again."""
+    build.describe("n2")
+    build.ninja()
+    build.tear(b"note")
+    build.ninja()
+    trials.want("a joined line: skipped", build.log().skipped, 1)
+    build.describe("n1")
+    trials.check("a joined line: Ninja finds nothing to do", build.is_idle(), repr(build.why()))
+    trials.want("a joined line: over a stale file", read(f"{build.room}/note"), b"n2")
+    others = {name: it for name, it in build.log().table.items() if name != b"note"}
+    trials.want("doubt.sh: ends", build.recipe("doubt.sh"), (0, b"", b""))
+    trials.want("doubt.sh: the entries that are left", build.log().table, others)
+    trials.check("doubt.sh: Ninja makes the output again", UNKNOWN % b"note" in build.why(), repr(build.why()))
+    build.ninja()
+    trials.want("doubt.sh: and it is that of A", read(f"{build.room}/note"), b"n1")
+
+
+def try_joined_anywhere(trials, build):
+    """A line that is torn at each of its bytes, with each of these behind it: where the two are no entry, doubt.sh drops the last name."""
+    first = HEADER + line_of(b"a.o", (0, 1, 2, 3)) + line_of(b"note", (0, 9, 1_700_000_000_000_000_000, 0xA1))
+    for start in (0, 7, 1234567):
+        torn = line_of(b"out/x", (start, 2_000_000, 1_700_000_000_000_000_001, 0xB2))
+        for cut in range(1, len(torn)):
+            for later in (0, 5, 1234567):
+                text = first + torn[:cut] + line_of(b"note", (later, 3_000_000, 1_700_000_000_000_000_002, 0xC3))
+                if not Log(text).skipped:
+                    continue
+                write(f"{build.room}/{LOG}", text)
+                build.recipe("doubt.sh")
+                trials.want(f"doubt.sh on {text!r}", read(f"{build.room}/{LOG}"), HEADER + line_of(b"a.o", (0, 1, 2, 3)))
+
+
+def try_changed_in_a_build(trials, build):
+    """Why a log is changed while no build runs: Ninja goes on to write to the file whose name another has taken."""
+    text = "rule both\n  command = {nlog} {words} && touch $out\nbuild zero: copy a.c\nbuild one: both zero\nbuild two: copy one\n"
+    words = {
+        "restat": f"restat {LOG} /dev/null",
+        "record on a log that became due": f"record {LOG} 1 2 3 other1 c",
+    }
+    manifest = read(f"{build.room}/build.ninja")
+    for what, it in words.items():
+        if "due" in what:
+            write(f"{build.room}/{LOG}", text_nearly_due(build))
+        write(f"{build.room}/build.ninja", manifest)
+        trials.want(f"{what} in a build: the build ends", build.add(text.format(nlog=build.program, words=it)), 0)
+        table = build.log().table
+        trials.check(f"{what} in a build: what was recorded before it stands", b"zero" in table, repr(sorted(table)))
+        lost = {b"one", b"two"} - set(table)
+        trials.want(f"{what} in a build: what is recorded until the end of the build is lost", lost, {b"one", b"two"})
+        trials.check(f"{what} in a build: and is built again", UNKNOWN % b"one" in build.why(), repr(build.why()))
+        build.remove("zero", "one", "two")
+
+
+def text_nearly_due(build):
+    """The build's log with other outputs, each with three lines: one line more of `zero`, which is made again, makes it due."""
+    table = {**build.log().table, b"zero": (1, 2, 3, 4), **{b"other%d" % it: (1, 2, 3, 4) for it in range(40)}}
+    return HEADER + b"".join(line_of(*it) for it in table.items()) * 3
+
+
+def try_mtime(trials, build):
+    """What docs/FORMAT.md says of the time stamps that Ninja records."""
+    text = """rule two
+  command = touch -d @1700000001.5 $out && touch -d @1700000003 p
+rule same
+  command = test -e $out || cp $in $out
+  restat = 1
+rule none
+  command = true
+build p q: two
+build kept: same a.c b.c
+build none: none
+"""
+    for number in ("a", "b"):
+        os.utime(f"{build.room}/{number}.c", ns=(0, 1_600_000_000_000_000_000))
+    trials.want("mtime: Ninja builds", build.add(text.replace("cp $in $out", "cp a.c $out")), 0)
+    table = build.log().table
+    trials.want("mtime: the newest output", table[b"p"][2], 1_700_000_003_000_000_000)
+    trials.want("one command: the same numbers for each output", table[b"p"], table[b"q"])
+    trials.want("mtime: no output", table[b"none"][2], 0)
+    later = table[b"kept"][2] + 5_000_000_000
+    os.utime(f"{build.room}/b.c", ns=(0, later))
+    trials.want("mtime: Ninja builds again", build.ninja("kept")[0], 0)
+    trials.want("mtime: an output that a restat rule left, the newest input", build.log().table[b"kept"][2], later)
+
+
 def try_hash(trials, build):
     """Hashes as Ninja does, also of a command with a response file."""
     table = build.log().table
@@ -168,13 +377,33 @@ def try_version_4(trials, build):
     trials.check("version 4: Ninja has no work to do", build.is_idle(), repr(build.why()))
 
 
+PARTS = [
+    try_recompact,
+    try_keep_without_manifest,
+    try_keep_odd_names,
+    try_keep_dyndep,
+    try_keep_what_left,
+    try_restat,
+    try_times,
+    try_times_that_fail,
+    try_torn,
+    try_other_command,
+    try_joined,
+    try_joined_anywhere,
+    try_changed_in_a_build,
+    try_mtime,
+    try_hash,
+    try_version_4,
+]
+
+
 def trial(trials, program, room):
     if shutil.which("ninja") is None:
         return trials.skip("all of it", "Ninja isn't there")
     first = (read(f"{Build(program, f'{room}/look').room}/{LOG}") or b"").split(b"\n")[0]
     if first != b"# ninja log v5":
         return trials.skip("all of it", f"this Ninja writes {first.decode(errors='replace')!r}, and nlog reads versions 4 and 5")
-    for number, part in enumerate((try_recompact, try_restat, try_torn, try_other_command, try_hash, try_version_4)):
+    for number, part in enumerate(PARTS):
         build = Build(program, f"{room}/{number}")
         trials.check(f"{part.__name__}: Ninja has no work to do at first", build.is_idle())
         part(trials, build)

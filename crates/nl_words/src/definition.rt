@@ -15,11 +15,15 @@ A LOG that is missing is read as one without entries, also where its name is mis
 `record`, `recompact` and `restat` first repair a LOG that a crash cut off, and make what they
 change durable before they end.
 
+Nothing locks LOG. Of two that change it at once one loses what it wrote, though it ended with
+status 0, and two nlogs may leave no log. A build by Ninja changes it until the build ends. So run
+`record`, `recompact` and `restat` one at a time, and while no build runs.
+
 Examples:
   nlog show build/.ninja_log
   nlog check < .ninja_log
   nlog record .ninja_log 0 1200 1700000001200000000 app.o 'cc -c app.c -o app.o'
-  ninja -t targets all | sed 's/: .*//' > keep && nlog recompact .ninja_log keep
+  nlog restat .ninja_log /dev/null      repairs the log, and keeps the last entry of each output
 
 Status: 0 done; 1 refused, and a line `nlog: ...` on standard error says why; 2 wrong words.";
 
@@ -54,7 +58,7 @@ fn named_command<'a>(alloc: Global) -> Command<'a>
 {
     Command::new(alloc, "nlog")
         .version(VERSION)
-        .about("Reads and checks build logs of Ninja, versions 4 and 5")
+        .about("Reads, checks and changes build logs of Ninja, versions 4 and 5")
         .after_help(AFTER)
         .disable_help_subcommand(true)
 }
@@ -148,7 +152,9 @@ fn record_command<'a>(alloc: Global) -> Result<Command<'a>, AllocError>
 The log is made where it is missing. START and END are from -2147483648 to 2147483647, MTIME is a
 64-bit number. A value that begins with `-` stands behind `--`, as in
 
-  nlog record -- .ninja_log -1 2 3 out 'cc out.c'",
+  nlog record -- .ninja_log -1 2 3 out 'cc out.c'
+
+Nothing else may change LOG meanwhile: a build, or another nlog.",
         );
     let command = with_value(alloc, command, "LOG", true, LOG)?;
     let command = with_value(
@@ -190,8 +196,10 @@ fn recompact_command<'a>(alloc: Global) -> Result<Command<'a>, AllocError>
         .about("Rewrites a log with the last entry of each output that KEEP names; prints nothing")
         .after_help(
             "\
-KEEP has the name of one output a line; an empty line says nothing. The new log is written to
-LOG.recompact, and renamed over LOG.",
+An empty line of KEEP says nothing, and an empty KEEP drops every entry. The manual page has a script
+that makes KEEP for a build by Ninja. The new log is written to LOG.recompact, and renamed over LOG.
+
+Nothing else may change LOG meanwhile: a build, or another nlog.",
         );
     let command = with_value(alloc, command, "LOG", true, LOG)?;
     with_value(
@@ -211,9 +219,10 @@ fn restat_command<'a>(alloc: Global) -> Result<Command<'a>, AllocError>
         .about("Rewrites a log with the time stamps that TIMES gives; prints nothing")
         .after_help(
             "\
-TIMES has an MTIME, a tab and a NAME on each line; an empty line says nothing. The last line of a
-name counts, and names that the log lacks are passed over. The new log is written to
-LOG.recompact, and renamed over LOG.",
+An empty line of TIMES says nothing. The last line of a name counts, and names that the log lacks are
+passed over. The new log is written to LOG.recompact, and renamed over LOG.
+
+Nothing else may change LOG meanwhile: a build, or another nlog.",
         );
     let command = with_value(alloc, command, "LOG", true, LOG)?;
     with_value(
