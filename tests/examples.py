@@ -9,7 +9,8 @@ gives: 2 with wrong words, 1 with a refusal, else 0; an example `$ echo $?` afte
 of messages are examples too: standard error begins with their text, and nothing is printed. `<TAB>` on a page is a tab.
 
 A paragraph that ends in "file `NAME` holds" (or "file `NAME`, without a newline at its end, holds") says that the block after
-it is that file. The examples of a page run in order in one folder, with the page's files.
+it is that file. The examples of a page run in order in one folder, with the page's files and the program on the path: nothing
+of the repository is there, and they leave nothing in it.
 
 The script fails where an example differs, and where a page has none for a command that the program's help lists. Its last
 line is `N passed, M failed`.
@@ -20,6 +21,8 @@ import shutil
 import subprocess
 import sys
 import tempfile
+
+from trials import usage
 
 TOP = os.path.dirname(os.path.dirname(os.path.abspath(__file__)))
 PAGES = ("README.md", "docs/CLI.md")
@@ -145,11 +148,8 @@ def run(room, program, command):
     return ran.returncode, ran.stdout.decode(errors="replace"), ran.stderr.decode(errors="replace")
 
 
-def fill(room, program, files):
-    """Puts a page's files into a folder, and the program and its stored input where README.md has them."""
-    os.makedirs(f"{room}/crates/nlog/out")
-    shutil.copyfile(f"{TOP}/crates/nlog/stdin", f"{room}/crates/nlog/stdin")
-    shutil.copy(program, f"{room}/crates/nlog/out/nlog")
+def fill(room, files):
+    """Puts a page's files into a folder of their own."""
     for name, text in files.items():
         with open(f"{room}/{name}", "wb") as it:
             it.write(text)
@@ -179,7 +179,7 @@ def try_page(page, program, commands):
     failures = [f"{page} shows no example of {it}" for it in lacking(page, examples, commands)]
     passed = 0
     with tempfile.TemporaryDirectory(prefix="nlog-examples-") as room:
-        fill(room, program, files)
+        fill(room, files)
         for example in examples:
             why = example.differs(*run(room, program, example.command))
             if why:
@@ -189,7 +189,9 @@ def try_page(page, program, commands):
 
 
 def main(words):
-    if len(words) != 1 or not os.path.isfile(words[0]):
+    if len(words) != 1:
+        return usage(__file__)
+    if not os.path.isfile(words[0]):
         print("examples.py: FAILED: the program to run is not there")
         print("0 passed, 1 failed")
         return 1

@@ -1,21 +1,26 @@
 #!/usr/bin/env python3
-"""Tries the commands that change a log on a disk that is full.
+"""Tries the commands that change a log on a disk that is full, and what the pages advise.
 
     python3 tests/full_disk.py PROGRAM
 
 Wants the right to mount a tmpfs, at least in a name space of its own (unshare). Each command has to end with `nlog: the folder
-failed` and status 1, `check` still reads all that the log held, and once there is room the same command does its work.
+failed` and status 1, `check` still reads all that the log held, and once there is room the same command does its work. So
+does the repair that README.md names. And the scripts of docs/CLI.md, as they stand there: where the disk of their own files is
+full at first, or after some of them, the log stays as it was.
 """
 import os
+import re
 import shutil
 import subprocess
 import sys
 
 from changes import CHANGES, FAILED, left_by
-from log_format import HEADER, Log
+from examples import TOP, read_page
+from log_format import HEADER, Log, line_of, text_of
 from trials import main, read, run, write
 
 PAGE = 4096
+PAGES = 16
 IS_INSIDE = "NLOG_FULL_DISK"
 # How much longer than a page of the disk the log is: the next line fits to no byte, to some, or whole.
 ENDS = {"at the end of a page": 0, "nine bytes before the end of a page": -9}
@@ -62,10 +67,81 @@ def try_full(trials, program, disk, command, end):
         os.remove(f"{disk}/{name}")
 
 
+def repair():
+    """The words of the repair in the table of README.md on damage."""
+    return re.search(r"`torn` above 0 \|.*?`nlog (restat LOG /dev/null)`", read(f"{TOP}/README.md").decode())[1].split()
+
+
+def try_repair(trials, program, disk, kind, start):
+    """The repair that the pages name, on a full disk and then on one with room: no entry is lost, and the log is a new file."""
+    what = f"the repair of {kind}"
+    words = [program, *(f"{disk}/LOG" if it == "LOG" else it for it in repair())]
+    write(f"{disk}/LOG", start)
+    before = os.stat(f"{disk}/LOG").st_ino
+    fill_up(disk)
+    trials.want(f"{what}: ends on a full disk", run(words, cwd="/"), (1, b"", FAILED))
+    text = read(f"{disk}/LOG")
+    trials.check(f"{what}: the log on a full disk", text in (start, start[: Log(start).whole]), repr(text))
+    trials.want(f"{what}: what is left beside it", sorted(os.listdir(disk)), ["LOG", "LOG.recompact", "fill"])
+    os.remove(f"{disk}/LOG.recompact")
+    os.remove(f"{disk}/fill")
+    trials.want(f"{what}: ends", run(words, cwd="/"), (0, b"", b""))
+    trials.want(f"{what}: the log", read(f"{disk}/LOG"), text_of(Log(start).table))
+    trials.want(f"{what}: what is there", os.listdir(disk), ["LOG"])
+    trials.check(f"{what}: it is a new file", os.stat(f"{disk}/LOG").st_ino != before)
+    os.remove(f"{disk}/LOG")
+
+
+REPAIRS = {
+    "a whole log": HEADER + b"1\t2\t10\ta\taa\n3\t4\t20\tb\tbb\n5\t6\t30\ta\tcc\n",
+    "a log with a torn line": HEADER + b"1\t2\t10\ta\taa\n3\t4\t20\tb\tbb\n5\t6\t3",
+    "a log of version 4": b"# ninja log v4\n1\t2\t3\ta\tcc\tx\n4\t5\t6\tb\t\n",
+}
+
+# By docs/CLI.md, in a folder with the files `a` and `b`, where Ninja has an edge for `edge`: what each script leaves of a log.
+LONG = (b"n" * 3000, (1, 2, 3, 4))
+JOINED = HEADER + line_of(*LONG) + line_of(b"a", (1, 2, 10, 0xAA)) + b"3\t4\t2" + line_of(b"a", (5, 6, 30, 0xBB)) + line_of(b"edge", (1, 2, 3, 4))
+SCRIPTS = {
+    "recompact.sh": text_of({b"a": (1, 2, 10, 0xAA), b"edge": (1, 2, 3, 4)}),
+    "restat.sh": text_of(dict([LONG, (b"a", (1, 2, 1_700_000_000_000_000_000, 0xAA)), (b"edge", (1, 2, 3, 4))])),
+    "doubt.sh": text_of(dict([LONG, (b"edge", (1, 2, 3, 4))])),
+}
+
+
+def try_script(trials, program, disk, room, name):
+    """A script whose own files find no room, room for some of them, or for all: the log stays, or all is done."""
+    write(f"{room}/{name}", read_page("docs/CLI.md")[0][name])
+    path = f"{room}/bin:{os.path.dirname(program)}:{os.environ.get('PATH', os.defpath)}"
+    stopped = done = 0
+    for pages in range(PAGES + 1):
+        write(f"{room}/LOG", JOINED)
+        fill_up(disk)
+        os.truncate(f"{disk}/fill", (PAGES - pages) * PAGE)
+        status = run(["sh", name, "LOG"], cwd=room, env={**os.environ, "PATH": path, "TMPDIR": disk})[0]
+        wanted = SCRIPTS[name] if status == 0 else JOINED
+        trials.want(f"{name} with room for {pages} pages, ended with {status}: the log", read(f"{room}/LOG"), wanted)
+        trials.want(f"{name} with room for {pages} pages: what it leaves", os.listdir(disk), ["fill"])
+        stopped, done = stopped + (status != 0), done + (status == 0)
+        os.remove(f"{disk}/fill")
+    trials.check(f"{name}: stopped, and done", stopped > 1 and done > 1, f"{stopped} times, {done} times")
+
+
+def try_scripts(trials, program, disk, room):
+    os.makedirs(f"{room}/bin")
+    # So many targets that they take some pages, and the one that is wanted last.
+    write(f"{room}/bin/ninja", b"#!/bin/sh\nseq -f 'target%g: cc' 1000\necho 'edge: cc'\n")
+    os.chmod(f"{room}/bin/ninja", 0o755)
+    for name in ("a", "b"):
+        write(f"{room}/{name}", b"")
+        os.utime(f"{room}/{name}", ns=(0, 1_700_000_000_000_000_000))
+    for name in SCRIPTS:
+        try_script(trials, program, disk, room, name)
+
+
 def mount(disk):
     """Mounts a small disk, and tells why it can't."""
     os.makedirs(disk)
-    status, _, err = run(["mount", "-t", "tmpfs", "-o", "size=64k", "tmpfs", disk])
+    status, _, err = run(["mount", "-t", "tmpfs", "-o", f"size={PAGES * PAGE}", "tmpfs", disk])
     return None if status == 0 else err.decode(errors="replace").split("\n")[0]
 
 
@@ -78,6 +154,9 @@ def trial(trials, program, room):
         for command in CHANGES:
             for end in ENDS:
                 try_full(trials, program, disk, command, end)
+        for kind, start in REPAIRS.items():
+            try_repair(trials, program, disk, kind, start)
+        try_scripts(trials, program, disk, room)
     finally:
         run(["umount", disk])
     return None
