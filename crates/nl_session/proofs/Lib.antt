@@ -15,4 +15,5 @@ pub mod Stories
 pub mod Growing
 pub mod Smoothly
 pub mod Reopenings
+pub mod EffectLemmas
 pub mod RunLemmas

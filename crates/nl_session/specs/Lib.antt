@@ -4,6 +4,7 @@ pub mod States
 pub mod Opened
 pub mod Parts
 pub mod Headline
+pub mod Effects
 pub mod Reopening
 pub mod Runs
 pub mod Answers
