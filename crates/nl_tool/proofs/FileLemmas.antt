@@ -1,29 +1,12 @@
 -- What a file says, one line after another.
 use Rattle.std.proofs.Common.{◌≡◌, ◌∙◌, ℕ, ◌+◌, ◌≤◌, nat_le, List, [], ◌∷◌, ◌++◌, length, refl, sym, ap, subst, inl, inr, arith, length-append, leb-true}
-use Rattle.std.specs.Prelude.{Option, None, Some, IfSome}
-use Rattle.std.specs.Io.KnownBytes.{Consumes, IsAtEnd}
+use Rattle.std.specs.Prelude.{Option, None, Some}
 use Rattle.std.proofs.lemmas.Bool.{cases_Bool, cond-true, cond-false}
-use Rattle.std.proofs.lemmas.List.{append-nil}
-use Rattle.nl_lines.specs.Split.{rest_of}
 use Rattle.nl_lines.specs.Lines.{Reader, HasEnded, IsReading, TakesLine, TakesRest, TakesLines, TakesAll, fresh, lent_rest, max_line}
-use Rattle.nl_lines.proofs.SplitLemmas.{SplitsInto_unique}
 use Rattle.nl_lines.proofs.LinesLemmas.{TakesLines_none, TakesLines_more, TakesLines_rest}
-use Rattle.nl_tool.specs.Files.{FileReading, Says, BadAt, OfBytes, file_lines, part_on, said_before, said_from, said_after, said_of, said_by}
-
--- the lines of a file that was read to its end
-pub all_lines : (a c : Option (List ℕ)) (lines : List (List ℕ)) (rest : List ℕ) → TakesAll fresh a c lines rest → OfBytes a (λ bytes. file_lines bytes ≡ lines ++ rest ∷ [])
-all_lines a c lines rest all =
-    let split = SplitsInto_unique all.got lines rest all.splits in
-    record {
-      bytes = all.got;
-      given = known a c all.got all.read all.over;
-      holds = ap (λ (l : List (List ℕ)). l ++ rest_of all.got ∷ []) split.0 ∙ ap (λ (l : List ℕ). lines ++ l ∷ []) split.1;
-    }
-  where
-    known : (a c : Option (List ℕ)) (got : List ℕ) → Consumes a c got → IsAtEnd c → IfSome a (λ bs. bs ≡ got)
-    known None c got read over = tt
-    known (Some xs) None got read over = absurd read
-    known (Some xs) (Some ys) got read over = read ∙ ap (λ (l : List ℕ). got ++ l) over ∙ append-nil got
+use Rattle.nl_texts.specs.Files.{OfBytes}
+use Rattle.nl_texts.proofs.FileLemmas.{all_lines}
+use Rattle.nl_tool.specs.Files.{FileReading, Says, BadAt, part_on, said_before, said_from, said_after, said_of, said_by}
 
 module _ {T : Type 0} (part_of : List ℕ → Option T) where
   -- a later line doesn't change what an earlier one says

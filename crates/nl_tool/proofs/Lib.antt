@@ -4,6 +4,3 @@ mod TimesLemmas
 pub mod ChangeLemmas
 pub mod OutputLemmas
 mod EndingLemmas
-mod ScriptLemmas
-mod ReplayLemmas
-mod PathLemmas

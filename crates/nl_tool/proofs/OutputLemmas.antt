@@ -1,18 +1,13 @@
 -- A text that is written piece by piece, and a report.
-use Rattle.std.proofs.Common.{◌≡◌, ◌++◌, ◌∷◌, [], ◌+◌, ◌<◌, ◌∙◌, codes, List, ℕ, zero, suc, Some, None, map, take, drop, length, ◌-◌, add-one, ap, sym, append-nil, append_assoc, length-append, refl, Option, Result, Ok, Err, arith}
+use Rattle.std.proofs.Common.{◌≡◌, ◌++◌, ◌∷◌, [], ◌+◌, ◌<◌, ◌∙◌, codes, List, ℕ, zero, suc, Some, None, map, take, drop, length, add-one, ap, sym, append-nil, append_assoc, length-append, refl, Option, Result, Ok, Err, arith}
 use Rattle.std.specs.Prelude.{decimal, slice_get, OnErr}
 use Rattle.nl_fields.specs.declared.entry.Entry.{Entry}
 use Rattle.nl_fields.specs.EntryLine.{line_of}
 use Rattle.nl_lines.specs.Split.{joined}
 use Rattle.std.specs.Io.KnownBytes.{Appends}
 use Rattle.std.proofs.KnownBytes.{Appends-nil, Appends-trans}
-use Rattle.nl_tool.specs.Output.{AppendsPrefixOf, Moves, report_lines}
-use Rattle.std.proofs.lemmas.Grind.{common_steps}
-
--- a piece of the rest is moved to the end of the prefix
-pub prefix-grows : (text prefix rest : List ℕ) (n : ℕ) → text ≡ prefix ++ rest
-    → text ≡ (prefix ++ take n rest) ++ take (length rest - n) (drop n rest)
-prefix-grows text prefix rest n e = grind (arith, common_steps)
+use Rattle.nl_texts.specs.Output.{AppendsPrefixOf}
+use Rattle.nl_tool.specs.Output.{Moves, report_lines}
 
 -- a text was written where the rest that was held is written
 pub all_moved : (old mid new : Option (List ℕ)) (text held : List ℕ) → Moves old mid text held → Appends mid new held → Appends old new text

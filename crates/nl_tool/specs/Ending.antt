@@ -3,7 +3,7 @@ use Rattle.std.specs.Prelude.{◌≡◌, ◌⊎◌, ℕ, [], ◌∷◌, Result, 
 use Rattle.clap.specs.Words.{IsAmong, Kinds}
 use Rattle.clap.specs.declared.error.kind.ErrorKind.{ErrorKind}
 use Rattle.clap.specs.declared.error.kind.ErrorKind.TheVariants as kind
-use Rattle.nl_tool.specs.declared.fault.ToolFault.{ToolFault}
+use Rattle.nl_texts.specs.declared.fault.ToolFault.{ToolFault}
 
 -- the status after a command
 abbrev pub status_after : Result (Unit {0}) ToolFault → ℕ

@@ -1,19 +1,15 @@
 -- What the files KEEP and TIMES say: docs/CLI.md, "Files".
-use Rattle.std.specs.Prelude.{◌≡◌, ℕ, ◌+◌, ℤ, nat_le, Bool, ◌&&◌, List, [], ◌∷◌, ◌++◌, length, Option, None, Some, IfSome, bytes_eq, if◌then◌else◌}
+use Rattle.std.specs.Prelude.{ℕ, ◌+◌, ℤ, nat_le, Bool, ◌&&◌, List, [], ◌∷◌, ◌++◌, length, Option, None, Some, bytes_eq, if◌then◌else◌}
 use Rattle.nl_fields.specs.Digits.{decimal_of, integer_of}
 use Rattle.nl_fields.specs.EntryLine.{before_tab, after_tab, is_within}
 use Rattle.nl_fields.specs.Name.{is_name}
 use Rattle.nl_lines.specs.Lines.{max_line}
-use Rattle.nl_lines.specs.Split.{lines_of, rest_of}
+use Rattle.nl_texts.specs.Files.{file_lines}
 
 -- what the lines of a file say: a part each, in order, or nothing, where the line of this number is the first bad one
 pub data FileReading (T : Type 0) : Type 0 where
   Says : List T → FileReading T
   BadAt : ℕ → FileReading T
-
--- the lines and what follows the last newline
-abbrev pub file_lines : List ℕ → List (List ℕ)
-file_lines bytes = lines_of bytes ++ rest_of bytes ∷ []
 
 -- what lines say with this part before it
 abbrev pub before : {T : Type 0} → T → FileReading T → FileReading T
@@ -69,9 +65,3 @@ keep_of bytes = said_by name_on bytes
 -- the pairs that TIMES holds
 abbrev pub times_of : List ℕ → FileReading (List ℕ × ℤ)
 times_of bytes = said_by pair_on bytes
-
--- this holds of the bytes that a reader gave: the known ones where they are known
-pub record OfBytes (known : Option (List ℕ)) (Holds : List ℕ → Type 0) : Type 0 where
-  pub bytes : List ℕ
-  pub given : IfSome known (λ bs. bs ≡ bytes)
-  pub holds : Holds bytes

@@ -1,9 +1,7 @@
 pub mod Files
-pub mod Replay
 pub mod Output
 pub mod Loading
 pub mod RecordWords
 pub mod Faults
 pub mod Updates
-pub mod Paths
 pub mod Ending

@@ -1,6 +1,6 @@
 -- What the commands print (docs/CLI.md), and what a writer holds after them.
-use Rattle.std.specs.Prelude.{◌≡◌, ◌<◌, ◌++◌, ◌∷◌, [], Bool, List, ℕ, Option, None, Some, IfSome, Result, Ok, Err, codes, decimal, if◌then◌else◌, length, map}
-use Rattle.std.specs.Io.KnownBytes.{Appends, Keeps}
+use Rattle.std.specs.Prelude.{◌≡◌, ◌++◌, ◌∷◌, [], Bool, List, ℕ, Option, None, Some, IfSome, codes, decimal, if◌then◌else◌, length, map}
+use Rattle.std.specs.Io.KnownBytes.{Appends}
 use Rattle.nl_fields.specs.CommandHash.{IsHash}
 use Rattle.nl_fields.specs.Digits.{digits_of}
 use Rattle.nl_fields.specs.EntryLine.{line_of}
@@ -10,29 +10,13 @@ use Rattle.nl_table.specs.History.{logged, table}
 use Rattle.nl_table.specs.Log.{LogReading, Log, NotALog, OtherVersion, log_of, skipped_count}
 use Rattle.nl_words.specs.declared.command_line.Words.{Words}
 use Rattle.nl_words.specs.declared.command_line.Words.TheVariants.{Show, Check, Hash, Replay}
-use Rattle.nl_tool.specs.Replay.{IsReplayText}
-use Rattle.nl_tool.specs.declared.fault.ToolFault.{ToolFault}
-use Rattle.nl_tool.specs.declared.fault.ToolFault.TheVariants.{Write}
-
--- known bytes grew by a prefix of the text, maybe an empty one, and the rest, which isn't empty, is missing
-pub record AppendsPrefixOf (old new : Option (List ℕ)) (text : List ℕ) : Type 0 where
-  pub prefix : List ℕ
-  pub rest : List ℕ
-  pub is : text ≡ prefix ++ rest
-  pub missing : 0 < length rest
-  pub appended : Appends old new prefix
+use Rattle.nl_replay.specs.Replay.{IsReplayText}
 
 -- a text is held but for its prefix, by which known bytes grew
 pub record Moves (old new : Option (List ℕ)) (text held : List ℕ) : Type 0 where
   pub written : List ℕ
   pub is : text ≡ written ++ held
   pub appended : Appends old new written
-
--- what a writer holds after a command that writes a text: on Ok all of it, after a failed write a part of it, else nothing more
-abbrev pub Prints : (List ℕ → Type 0) → Option (List ℕ) → Option (List ℕ) → Result (Unit {0}) ToolFault → Type 0
-Prints IsText old new (Ok done) = (text : List ℕ) × IsText text × Appends old new text
-Prints IsText old new (Err Write) = (text : List ℕ) × IsText text × AppendsPrefixOf old new text
-Prints IsText old new (Err fault) = Keeps old new
 
 -- the text of `hash`: the hash in its one spelling, and a newline
 pub record IsHashText (command text : List ℕ) : Type 0 where

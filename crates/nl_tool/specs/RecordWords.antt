@@ -7,8 +7,8 @@ use Rattle.nl_fields.specs.declared.name.NameFault.TheVariants as name
 use Rattle.nl_fields.specs.CommandHash.{IsHash}
 use Rattle.nl_fields.specs.Digits.{IsDecimal}
 use Rattle.nl_fields.specs.Name.{HasFault, IsName}
-use Rattle.nl_tool.specs.declared.fault.ToolFault.{ToolFault}
-use Rattle.nl_tool.specs.declared.fault.ToolFault.TheVariants.{Memory, BadNumber, EmptyName, BadByte, LongName}
+use Rattle.nl_texts.specs.declared.fault.ToolFault.{ToolFault}
+use Rattle.nl_texts.specs.declared.fault.ToolFault.TheVariants.{Memory, BadNumber, EmptyName, BadByte, LongName}
 
 -- the three texts spell numbers in their ranges
 pub record AreNumbers (start end mtime : List ℕ) : Type 0 where

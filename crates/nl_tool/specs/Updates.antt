@@ -14,7 +14,8 @@ use Rattle.nl_session.specs.Opened.{IsLog, opened_bytes}
 use Rattle.nl_session.specs.Parts.{IsLeft}
 use Rattle.nl_session.specs.Represents.{Represents}
 use Rattle.nl_session.specs.States.{IsAt}
-use Rattle.nl_tool.specs.Files.{FileReading, Says, OfBytes}
+use Rattle.nl_texts.specs.Files.{OfBytes}
+use Rattle.nl_tool.specs.Files.{FileReading, Says}
 
 -- no output is dead
 abbrev pub none_dead : List ℕ → Bool

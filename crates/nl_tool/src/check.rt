@@ -2,11 +2,13 @@
 ghost use Rattle.std.specs.Prelude.{◌≡◌, length, string_bytes, IfErr, IfOk, IfSome, IsErrOf};
 ghost use Rattle.nl_table.specs.Log.{log_of, NotALog, OtherVersion};
 ghost use Rattle.nl_tool.specs.Faults.{IsLogFault};
-ghost use Rattle.nl_tool.specs.Output.{checked, report, yes_or_no, IsTextFor, Prints};
+ghost use Rattle.nl_texts.specs.Output.{Prints};
+ghost use Rattle.nl_tool.specs.Output.{checked, report, yes_or_no, IsTextFor};
+ghost use Rattle.nl_texts.specs.declared.fault.ToolFault.{ToolFault};
 
-use crate::fault::ToolFault;
+use nl_texts::ToolFault;
 use crate::loading::load_all;
-use crate::output::write_out;
+use nl_texts::write_out;
 use nl_table::{Loaded, is_due};
 use std::alloc::{AllocError, Global};
 use std::io::{Read, Write};

@@ -6,7 +6,7 @@ ghost use Rattle.clap.specs.Words.{fault_of, kind_of};
 ghost use Rattle.nl_tool.specs.Ending.{status_after, IsStatusBy, IsStatusOfKind};
 ghost use Rattle.nl_words.specs.CommandLine.{nlog};
 
-use crate::fault::{ToolFault, status_of};
+use nl_texts::{ToolFault, status_of};
 use crate::program::run;
 use clap::Error;
 use clap::error::ErrorKind;

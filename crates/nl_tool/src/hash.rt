@@ -1,10 +1,11 @@
 //! The command `hash`.
 ghost use Rattle.std.specs.Prelude.{IfErr, IfOk};
 ghost use Rattle.nl_tool.specs.Faults.{IsHashFault};
-ghost use Rattle.nl_tool.specs.Output.{IsHashText, Prints};
+ghost use Rattle.nl_texts.specs.Output.{Prints};
+ghost use Rattle.nl_tool.specs.Output.{IsHashText};
 
-use crate::fault::ToolFault;
-use crate::output::write_out;
+use nl_texts::ToolFault;
+use nl_texts::write_out;
 use nl_fields::{append_hex64, command_hash};
 use std::alloc::{AllocError, Global};
 use std::io::Write;

@@ -3,9 +3,11 @@ ghost use Rattle.std.specs.Prelude.{◌≡◌, ℕ, List, not, is_none, IfOk, If
 ghost use Rattle.nl_table.specs.History.{holds};
 ghost use Rattle.nl_table.specs.Table.{entry_named};
 ghost use Rattle.nl_tool.specs.Faults.{IsFileFault};
-ghost use Rattle.nl_tool.specs.Files.{OfBytes, Says, BadAt, name_on, keep_of};
+ghost use Rattle.nl_texts.specs.Files.{OfBytes};
+ghost use Rattle.nl_tool.specs.Files.{Says, BadAt, name_on, keep_of};
+ghost use Rattle.nl_texts.specs.declared.fault.ToolFault.{ToolFault};
 
-use crate::fault::ToolFault;
+use nl_texts::ToolFault;
 use crate::parts::{Part, read_parts};
 use nl_fields::{Name, NameFault};
 use nl_table::{LogUser, Table};

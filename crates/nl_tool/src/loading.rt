@@ -3,8 +3,9 @@ ghost use Rattle.std.specs.Prelude.{◌≡◌, IfErr, IfOk, IfSome, IsErrOf};
 ghost use Rattle.nl_table.specs.Log.{log_of, NotALog, OtherVersion};
 ghost use Rattle.nl_tool.specs.Faults.{IsLogFault};
 ghost use Rattle.nl_tool.specs.Loading.{IsLoadFrom};
+ghost use Rattle.nl_texts.specs.declared.fault.ToolFault.{ToolFault};
 
-use crate::fault::ToolFault;
+use nl_texts::ToolFault;
 use nl_lines::ReadSource;
 use nl_table::{Loaded, load};
 use std::alloc::Global;

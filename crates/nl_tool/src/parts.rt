@@ -2,9 +2,11 @@
 ghost use Rattle.std.specs.Prelude.{◌≡◌, ◌⊎◌, ℕ, ◌+◌, ◌<◌, ◌≤◌, ◌^◌, List, Option, Some, None, IfOk, IfErr, IsErrOf, IsSomeAnd, MatchResult, OnOk, length};
 ghost use Rattle.nl_lines.specs.Lines.{lent_rest, max_line};
 ghost use Rattle.nl_tool.specs.Faults.{IsFileFault};
-ghost use Rattle.nl_tool.specs.Files.{OfBytes, Says, BadAt, said_by, said_after, said_of};
+ghost use Rattle.nl_texts.specs.Files.{OfBytes};
+ghost use Rattle.nl_tool.specs.Files.{Says, BadAt, said_by, said_after, said_of};
+ghost use Rattle.nl_texts.specs.declared.fault.ToolFault.{ToolFault};
 
-use crate::fault::ToolFault;
+use nl_texts::ToolFault;
 use nl_lines::{Line, Lines, MAX_LINE, ReadSource, Source};
 use std::alloc::{AllocError, Global};
 use std::io::Read;

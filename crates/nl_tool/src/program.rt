@@ -1,14 +1,16 @@
 //! What the program does once its words are read.
 ghost use Rattle.std.specs.Prelude.{◌≡◌, IfErr, OnOk};
 ghost use Rattle.nl_tool.specs.Faults.{CanBeDone, IsFaultOf, IsPrinting, IsRecompactFault, IsRecordFault, IsRestatFault, ReadsLog};
-ghost use Rattle.nl_tool.specs.Output.{IsAnswer, Prints};
+ghost use Rattle.nl_texts.specs.Output.{Prints};
+ghost use Rattle.nl_tool.specs.Output.{IsAnswer};
+ghost use Rattle.nl_texts.specs.declared.fault.ToolFault.{ToolFault};
 
 use crate::check::check_to;
-use crate::disk_folder::DiskFolder;
-use crate::fault::ToolFault;
+use nl_disk::DiskFolder;
+use nl_texts::ToolFault;
 use crate::hash::hash_to;
 use crate::record_words::entry_of;
-use crate::replay::replay_to;
+use nl_replay::replay_to;
 use crate::show::show_to;
 use crate::update::{recompact_on, record_on, restat_on};
 use nl_fields::EntryRef;

@@ -5,11 +5,13 @@ ghost use Rattle.nl_fields.specs.EntryLine.{line_of};
 ghost use Rattle.nl_lines.specs.Split.{joined};
 ghost use Rattle.nl_table.specs.Log.{log_of, NotALog, OtherVersion};
 ghost use Rattle.nl_tool.specs.Faults.{IsLogFault};
-ghost use Rattle.nl_tool.specs.Output.{AppendsPrefixOf, IsTextFor, Moves, Prints, shown};
+ghost use Rattle.nl_texts.specs.Output.{AppendsPrefixOf, Prints};
+ghost use Rattle.nl_tool.specs.Output.{IsTextFor, Moves, shown};
+ghost use Rattle.nl_texts.specs.declared.fault.ToolFault.{ToolFault};
 
-use crate::fault::ToolFault;
+use nl_texts::ToolFault;
 use crate::loading::load_all;
-use crate::output::write_out;
+use nl_texts::write_out;
 use nl_fields::{MAX_ENTRY_LINE, append_entry};
 use nl_table::Table;
 use std::alloc::Global;

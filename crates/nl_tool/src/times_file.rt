@@ -2,9 +2,11 @@
 ghost use Rattle.std.specs.Prelude.{◌≡◌, ℕ, [], IfOk, IfErr, IfSome, IsErrOf, IsNone};
 ghost use Rattle.nl_fields.specs.EntryLine.{before_tab, after_tab};
 ghost use Rattle.nl_tool.specs.Faults.{IsFileFault};
-ghost use Rattle.nl_tool.specs.Files.{OfBytes, Says, BadAt, pair_on, times_of};
+ghost use Rattle.nl_texts.specs.Files.{OfBytes};
+ghost use Rattle.nl_tool.specs.Files.{Says, BadAt, pair_on, times_of};
+ghost use Rattle.nl_texts.specs.declared.fault.ToolFault.{ToolFault};
 
-use crate::fault::ToolFault;
+use nl_texts::ToolFault;
 use crate::parts::{Part, read_parts};
 use memchr::memchr;
 use nl_fields::{Name, read_i64};

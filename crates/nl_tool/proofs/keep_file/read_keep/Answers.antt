@@ -1,5 +1,5 @@
 use Rattle.std.proofs.Common.{◌≡◌, ap, Err}
-use Rattle.nl_tool.specs.declared.fault.ToolFault.TheVariants.{BadLine}
+use Rattle.nl_texts.specs.declared.fault.ToolFault.TheVariants.{BadLine}
 use Rattle.nl_tool.proofs.KeepLemmas.{is_err, index_keeps}
 use Rattle.nl_tool.proofs.keep_file.read_keep.Goals as goal
 

@@ -1,0 +1,19 @@
+use Rattle.std.proofs.Common.{◌≡◌, ◌∙◌, List, Some, [], ap, subst, IfOk}
+use Rattle.std.proofs.lemmas.Result.{IfOk-weaker}
+use Rattle.nl_folder.specs.DiskState.{FolderState, at_rest, empty_file}
+use Rattle.nl_folder.specs.MemFolder.{disk_of}
+use Rattle.nl_session.specs.declared.events.Event.{Event}
+use Rattle.nl_session.specs.declared.events.Reply.{Reply}
+use Rattle.nl_replay.specs.Replay.{IsReplayOf, printed}
+use Rattle.nl_replay.proofs.ReplayLemmas.{replayed}
+use Rattle.nl_replay.proofs.replay.run_script.Goals as goal
+
+pub returns-in-Whole : goal.returns-in-Whole
+returns-in-Whole c =
+    let run = c.run_events-folder in
+    let empty : Some (disk_of c.new-folder.result) ≡ Some (at_rest [] empty_file)
+    = ap (λ (s : FolderState). s.disk) c.new-folder.ensures.state ∙ ap (λ items. Some (at_rest items empty_file)) c.new.ensures.items in
+    let each = rw c.in-Whole.is at run.ensures.outcome in
+    let value = IfOk-weaker c.text_of.result _ _ (λ text is. replayed _ _ _ (disk_of run.result.0) _ text.items empty run.ensures.headline run.ensures.run each run.ensures.memory
+    (is ∙ ap (λ (replies : List Reply). printed replies c.log_bytes.result.now) c.deref-in-Whole.ensures.value ∙ ap (printed run.result.1.items) c.log_bytes.ensures.value)) c.text_of.ensures.value in
+    record { value = subst (λ (events : List Event). IfOk c.text_of.result (λ text. IsReplayOf events text.items)) c.deref.ensures.value value }

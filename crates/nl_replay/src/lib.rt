@@ -1,0 +1,7 @@
+//! The command `replay`: a script, run over a folder in memory.
+#![tactic(auto)]
+
+mod replay;
+mod script;
+
+pub use replay::replay_to;

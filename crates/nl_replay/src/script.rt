@@ -1,0 +1,311 @@
+//! Reading a script: what a folder in memory is told, and then the events.
+ghost use Rattle.std.specs.Prelude.{◌≡◌, ◌↔◌, ◌<◌, ◌++◌, ◌∷◌, ◌^◌, ℕ, [], pos, Some, length, IfErr, IfOk, IfSome, OnOk};
+ghost use Rattle.std.specs.List.{flat_map};
+ghost use Rattle.nl_fields.specs.Digits.{IsDecimal};
+ghost use Rattle.nl_fields.specs.EntryLine.{line_of};
+ghost use Rattle.nl_folder.specs.declared.fuse.Call.{Call};
+ghost use Rattle.nl_replay.specs.Faults.{IsFaultOfLine, IsScriptFault};
+ghost use Rattle.nl_fields.specs.declared.name.NameFault.{NameFault};
+ghost use Rattle.nl_replay.specs.declared.script.Refusal.TheVariants.{OutOfMemory};
+ghost use Rattle.nl_replay.specs.declared.script.Word.{Word};
+ghost use Rattle.nl_texts.specs.Files.{OfBytes, file_lines};
+ghost use Rattle.nl_replay.specs.Replay.{IsScript, SaysMore, TakesIn, behind_tab, event_line, keep_fields, name_field, text_of_word, time_fields, word_of};
+
+use nl_texts::ToolFault;
+use nl_fields::{Entry, Name, NameFault, read_entry, read_i64};
+use nl_folder::{Call, Fuse};
+use nl_lines::{Line, Lines, ReadSource, Source};
+use nl_session::Event;
+use nl_table::KeepList;
+use std::alloc::{AllocError, AllocFailed, Global};
+use std::io::Read;
+
+/// What a script says: the settings of a folder in memory, and the events for a log over it.
+#[derive(Drop)]
+pub struct Script {
+    /// Empty where the script does not set it, as `fates` is: a line that sets it gives one number at least.
+    pub writes: Vec<u64>,
+    pub fates: Vec<u64>,
+    pub fuse: Option<Fuse>,
+    pub events: Vec<Event>,
+}
+
+/// What a line says, by its word.
+#[derive(Clone, Copy, Drop)]
+pub enum Word {
+    Writes,
+    Fates,
+    Fuse,
+    Open,
+    Recompact,
+    Record,
+    Restat,
+    Sync,
+    Stop,
+    Crash,
+}
+
+// Why a line isn't taken.
+#[derive(Clone, Copy, Drop)]
+enum Refusal {
+    BadLine,
+    OutOfMemory,
+}
+
+impl From<AllocError> for Refusal {
+    ghost from_gives = { λ _ refusal. refusal ≡ OutOfMemory };
+
+    fn from(_error: AllocError) -> Refusal {
+        Refusal::OutOfMemory
+    }
+}
+
+impl<T: Drop> From<AllocFailed<T>> for Refusal {
+    ghost from_gives = { λ _ refusal. refusal ≡ OutOfMemory };
+
+    fn from(_error: AllocFailed<T>) -> Refusal {
+        Refusal::OutOfMemory
+    }
+}
+
+impl From<NameFault> for Refusal {
+    ghost from_gives = { λ fault refusal. (refusal ≡ OutOfMemory) ↔ (fault ≡ NameFault.OutOfMemory) };
+
+    fn from(fault: NameFault) -> Refusal {
+        match fault {
+            NameFault::OutOfMemory => Refusal::OutOfMemory,
+            NameFault::Empty | NameFault::BadByte(_) | NameFault::TooLong => Refusal::BadLine,
+        }
+    }
+}
+
+/// Reads the script that the reader gives, up to its first bad line.
+pub fn read_script<R: Read + Drop>(alloc: Global, reader: R) -> Result<Script, ToolFault>
+    ensures value { IfOk result (λ script. OfBytes (R.remaining reader) (λ bytes. IsScript (file_lines bytes) script.events.items)) }
+    ensures faults { IfErr result IsScriptFault }
+{
+    read_lines(alloc, &mut ReadSource::new(reader))
+}
+
+// What the lines of a source say, up to the first bad one.
+fn read_lines<S: Source>(alloc: Global, source: &mut S) -> Result<Script, ToolFault>
+    ensures value { IfOk result (λ script. OfBytes (S.ahead source.old) (λ bytes. IsScript (file_lines bytes) script.events.items)) }
+    ensures faults { IfErr result IsScriptFault }
+{
+    let mut lines = Lines::new(alloc)?;
+    let mut script = Script::new(alloc);
+    let mut number = 1;
+    'lines: loop {
+        match lines.next(source)? {
+            Some(Line::Whole(line)) => take_line(alloc, line, number, &mut script)?,
+            Some(Line::TooLong) => return Err(ToolFault::BadLine(number)),
+            Some(Line::Torn { bytes, .. }) => return with_last(alloc, script, bytes, number),
+            None => return Ok(script),
+        }
+        number += 1;
+    }
+}
+
+// The script with its last line, which has no newline, and is empty only where it was too long to be lent.
+fn with_last(
+    alloc: Global,
+    mut script: Script,
+    line: &[u8],
+    number: u64,
+) -> Result<Script, ToolFault>
+    ensures value { IfOk result (λ new. (0 < length line.now) × TakesIn script.events.items new.events.items line.now) }
+    ensures faults { IfErr result (IsFaultOfLine number) }
+{
+    if line.is_empty() {
+        return Err(ToolFault::BadLine(number));
+    }
+    take_line(alloc, line, number, &mut script)?;
+    Ok(script)
+}
+
+// Takes in a line with this number, or passes over an empty one.
+fn take_line(alloc: Global, line: &[u8], number: u64, script: &mut Script) -> Result<(), ToolFault>
+    ensures ok { OnOk result (TakesIn script.old.events.items script.new.events.items line.now) }
+    ensures faults { IfErr result (IsFaultOfLine number) }
+{
+    if line.is_empty() {
+        return Ok(());
+    }
+    match script.take(alloc, line) {
+        Ok(()) => Ok(()),
+        Err(Refusal::BadLine) => Err(ToolFault::BadLine(number)),
+        Err(Refusal::OutOfMemory) => Err(ToolFault::Memory),
+    }
+}
+
+impl Script {
+    fn new(alloc: Global) -> Script
+        ensures { result.events.items ≡ [] }
+    {
+        Script {
+            writes: Vec::new(alloc),
+            fates: Vec::new(alloc),
+            fuse: None,
+            events: Vec::new(alloc),
+        }
+    }
+
+    // Takes in a setting, where it is the first of its kind and no event came yet, or an event.
+    fn take(&mut self, alloc: Global, line: &[u8]) -> Result<(), Refusal>
+        ensures ok { OnOk result (SaysMore self.old.events.items self.new.events.items line.now) }
+    {
+        let (word, rest) = split_tab(line);
+        let Some(word) = read_word(word) else {
+            return Err(Refusal::BadLine);
+        };
+        let may_set = self.events.is_empty();
+        match (word, rest) {
+            (Word::Writes, Some(text)) if may_set && self.writes.is_empty() => {
+                self.writes = read_numbers(alloc, text)?;
+            }
+            (Word::Fates, Some(text)) if may_set && self.fates.is_empty() => {
+                self.fates = read_numbers(alloc, text)?;
+            }
+            (Word::Fuse, Some(text)) if may_set && self.fuse.is_none() => {
+                self.fuse = Some(read_fuse(text)?);
+            }
+            _ => self.events.push(read_event(alloc, word, rest)?)?,
+        }
+        Ok(())
+    }
+}
+
+// What stands before the first tab, and what stands behind it, where there is one.
+fn split_tab(text: &[u8]) -> (&[u8], Option<&[u8]>)
+    ensures { text.now ≡ result.0.now ++ behind_tab result.1 }
+{
+    match text.iter().position(|b| *b == b'\t') {
+        Some(at) => (&text[..at], Some(&text[at + 1..])),
+        None => (text, None),
+    }
+}
+
+fn read_word(text: &[u8]) -> Option<Word>
+    ensures value { IfSome result (λ word. text.now ≡ text_of_word word) }
+    ensures accepts { (word : Word) → text.now ≡ text_of_word word → result ≡ Some word }
+{
+    match text {
+        b"writes" => Some(Word::Writes),
+        b"fates" => Some(Word::Fates),
+        b"fuse" => Some(Word::Fuse),
+        b"open" => Some(Word::Open),
+        b"recompact" => Some(Word::Recompact),
+        b"record" => Some(Word::Record),
+        b"restat" => Some(Word::Restat),
+        b"sync" => Some(Word::Sync),
+        b"stop" => Some(Word::Stop),
+        b"crash" => Some(Word::Crash),
+        _ => None,
+    }
+}
+
+fn read_event(alloc: Global, word: Word, rest: Option<&[u8]>) -> Result<Event, Refusal>
+    ensures line { IfOk result (λ event. event_line event ≡ text_of_word word ++ behind_tab rest.entry) }
+{
+    match (word, rest) {
+        (Word::Open, names) => Ok(Event::Open(read_keep(alloc, names)?)),
+        (Word::Recompact, names) => Ok(Event::Recompact(read_keep(alloc, names)?)),
+        (Word::Record, Some(line)) => Ok(Event::Record(read_record(alloc, line)?)),
+        (Word::Restat, pairs) => Ok(Event::Restat(read_times(alloc, pairs)?)),
+        (Word::Sync, None) => Ok(Event::Sync),
+        (Word::Stop, None) => Ok(Event::Stop),
+        (Word::Crash, None) => Ok(Event::Crash),
+        _ => Err(Refusal::BadLine),
+    }
+}
+
+// The names that a recompaction keeps: all of them where none is given.
+fn read_keep(alloc: Global, text: Option<&[u8]>) -> Result<KeepList, Refusal>
+    ensures line { IfOk result (λ keep. keep_fields keep ≡ behind_tab text.entry) }
+{
+    match text {
+        Some(text) => Ok(KeepList::Only(read_names(alloc, text)?)),
+        None => Ok(KeepList::All),
+    }
+}
+
+fn read_names(alloc: Global, text: &[u8]) -> Result<Vec<Name>, Refusal>
+    ensures line { IfOk result (λ names. flat_map name_field names.items ≡ name_field text.now) }
+{
+    let mut names = Vec::new(alloc);
+    let mut left = Some(text);
+    'names: while let Some(text) = left {
+        let (name, rest) = split_tab(text);
+        names.push(Name::read(alloc, name)?)?;
+        left = rest;
+    }
+    Ok(names)
+}
+
+// Pairs of an mtime and a name.
+fn read_times(alloc: Global, text: Option<&[u8]>) -> Result<Vec<(Name, i64)>, Refusal>
+    ensures line { IfOk result (λ times. flat_map time_fields times.items ≡ behind_tab text.entry) }
+{
+    let mut pairs = Vec::new(alloc);
+    let mut left = text;
+    'pairs: while let Some(text) = left {
+        let (time, rest) = split_tab(text);
+        let (Some(mtime), Some(rest)) = (read_i64(time), rest) else {
+            return Err(Refusal::BadLine);
+        };
+        let (name, rest) = split_tab(rest);
+        pairs.push((Name::read(alloc, name)?, mtime))?;
+        left = rest;
+    }
+    Ok(pairs)
+}
+
+fn read_record(alloc: Global, line: &[u8]) -> Result<Entry, Refusal>
+    ensures line { IfOk result (λ e. line_of e ≡ line.now) }
+{
+    let Some(entry) = read_entry(line) else {
+        return Err(Refusal::BadLine);
+    };
+    Ok(Entry::of(alloc, &entry)?)
+}
+
+fn read_numbers(alloc: Global, text: &[u8]) -> Result<Vec<u64>, Refusal> {
+    let mut numbers = Vec::new(alloc);
+    for number in text.split(|b| *b == b'\t') {
+        numbers.push(read_number(number).ok_or(Refusal::BadLine)?)?;
+    }
+    Ok(numbers)
+}
+
+fn read_fuse(text: &[u8]) -> Result<Fuse, Refusal> {
+    let (word, rest) = split_tab(text);
+    let call = read_call(word).ok_or(Refusal::BadLine)?;
+    let nth = rest.and_then(read_number).ok_or(Refusal::BadLine)?;
+    Ok(Fuse { call, nth })
+}
+
+fn read_call(word: &[u8]) -> Option<Call>
+    ensures value { IfSome result (λ call. word.now ≡ word_of call) }
+    ensures accepts { (call : Call) → word.now ≡ word_of call → result ≡ Some call }
+{
+    match word {
+        b"read_log" => Some(Call::ReadLog),
+        b"append_log" => Some(Call::AppendLog),
+        b"cut_log" => Some(Call::CutLog),
+        b"sync_log" => Some(Call::SyncLog),
+        b"start_scratch" => Some(Call::StartScratch),
+        b"append_scratch" => Some(Call::AppendScratch),
+        b"sync_scratch" => Some(Call::SyncScratch),
+        b"replace" => Some(Call::Replace),
+        b"any" => Some(Call::Any),
+        _ => None,
+    }
+}
+
+// A number of 0 up to 2^63 - 1, in its one spelling.
+fn read_number(text: &[u8]) -> Option<u64>
+    ensures value { IfSome result (λ n. IsDecimal (pos n) text.now) }
+    ensures accepts { (n : ℕ) → n < 2 ^ 63 → IsDecimal (pos n) text.now → result ≡ Some n }
+{
+    u64::try_from(read_i64(text)?).ok()
+}
