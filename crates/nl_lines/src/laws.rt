@@ -60,6 +60,17 @@ pub fn a_cut_rest_leaves_the_lines()
     ensures rest { (text prefix : List ℕ) → IsPrefix prefix text → whole_len text ≤ length prefix → IsPrefix (rest_of prefix) (rest_of text) }
 {}
 
+/// Bytes without a newline behind a text change no whole line of it, and go on with its rest.
+pub fn a_tail_without_a_newline_changes_no_line()
+    ensures lines { (text tail : List ℕ) → NoNewline tail → lines_of (text ++ tail) ≡ lines_of text }
+    ensures rest { (text tail : List ℕ) → NoNewline tail → rest_of (text ++ tail) ≡ rest_of text ++ tail }
+{}
+
+/// The lines of a prefix are the first lines of the text.
+pub fn a_prefix_has_the_first_lines()
+    ensures { (text prefix : List ℕ) → IsPrefix prefix text → IsPrefix (lines_of prefix) (lines_of text) }
+{}
+
 /// A prefix of a line and its newline is all of it, or has no newline.
 pub fn a_prefix_of_a_line_is_whole_or_torn()
     ensures { (line prefix : List ℕ) → NoNewline line → IsPrefix prefix (with_newline line) → (prefix ≡ with_newline line) ⊎ NoNewline prefix }
