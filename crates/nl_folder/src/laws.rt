@@ -2,8 +2,9 @@
 ghost use Rattle.std.specs.Prelude.{◌≡◌, ◌⊎◌, ◌≤◌, ◌++◌, ℕ, List, None, Result, length, take};
 ghost use Rattle.nl_lines.specs.Lines.{max_log};
 ghost use Rattle.nl_lines.specs.Prefix.{IsPrefix};
+ghost use Rattle.nl_lines.specs.Split.{joined, lines_of};
 ghost use Rattle.nl_folder.specs.DiskState.{Disk, File, at_rest};
-ghost use Rattle.nl_folder.specs.CrashImages.{IsDisk, IsImage, IsImageOf};
+ghost use Rattle.nl_folder.specs.CrashImages.{IsDisk, IsImage, IsImageOf, IsPrefixImage};
 ghost use Rattle.nl_folder.specs.Calls.{log_grown, log_cut, log_synced, replaced, not_replaced, AppendsLog, CutsLog, SyncsLog, AppendsScratch, SyncsScratch, Replaces, Crashes};
 ghost use Rattle.nl_folder.specs.declared.folder.Fault.{Fault};
 
@@ -22,16 +23,28 @@ pub fn a_synced_log_has_one_image()
     ensures { (disk : Disk) (bs : List ℕ) → IsImage (log_synced disk) bs → bs ≡ disk.visible }
 {}
 
-/// After an append a crash may leave a prefix of the new text that has the durable bytes, and of no other text.
-pub fn an_image_after_an_append_is_a_prefix()
-    ensures { (disk : Disk) (n : ℕ) (bytes bs : List ℕ) → disk.other ≡ None → IsImage (log_grown n bytes disk) bs
+/// A prefix image is an image. Where there is one prefix image alone, it is the only image.
+pub fn a_tail_may_be_empty()
+    ensures image { (disk : Disk) (bs : List ℕ) → IsPrefixImage disk bs → IsImage disk bs }
+    ensures one { (disk : Disk) (text : List ℕ) → IsDisk disk → ((bs : List ℕ) → IsPrefixImage disk bs → bs ≡ text) → (bs : List ℕ) → IsImage disk bs → bs ≡ text }
+{}
+
+/// Up to its last newline an image is a prefix of the file's text: no newline stands in a tail.
+pub fn the_whole_lines_of_an_image_are_the_files()
+    ensures { (file : File) (bs : List ℕ) → IsImageOf file bs → IsPrefix (joined (lines_of bs)) file.longest }
+{}
+
+/// After an append a prefix image is a prefix of the new text that has the durable bytes, and of no other text.
+pub fn a_prefix_image_after_an_append_is_a_prefix()
+    ensures { (disk : Disk) (n : ℕ) (bytes bs : List ℕ) → disk.other ≡ None → IsPrefixImage (log_grown n bytes disk) bs
         → IsPrefix bs (log_grown n bytes disk).visible × (disk.log.durable_len ≤ length bs) }
 {}
 
-/// After an append a crash may leave what it could leave before, and else what a read gave and a prefix of what was added.
-pub fn an_image_after_an_append_is_an_old_one_or_goes_on()
-    ensures { (disk : Disk) (n : ℕ) (bytes bs : List ℕ) → IsDisk disk → IsImage (log_grown n bytes disk) bs
-        → IsImage disk bs ⊎ ((more : List ℕ) × (bs ≡ disk.visible ++ more) × IsPrefix more (take n bytes)) }
+/// After an append a prefix image is one from before, and else what a read gave and a prefix of what was added. Of an image
+/// this holds up to its tail, which may be longer than one from before.
+pub fn a_prefix_image_after_an_append_is_an_old_one_or_goes_on()
+    ensures { (disk : Disk) (n : ℕ) (bytes bs : List ℕ) → IsDisk disk → IsPrefixImage (log_grown n bytes disk) bs
+        → IsPrefixImage disk bs ⊎ ((more : List ℕ) × (bs ≡ disk.visible ++ more) × IsPrefix more (take n bytes)) }
 {}
 
 /// A log at rest is all that a crash may leave.
@@ -39,10 +52,10 @@ pub fn a_log_at_rest_has_one_image()
     ensures { (text bs : List ℕ) (scratch : File) → IsImage (at_rest text scratch) bs → bs ≡ text }
 {}
 
-/// After a cut a crash may leave what it could leave before, and prefixes of that from the cut on.
-pub fn an_image_after_a_cut_has_the_bytes_before_it()
+/// After a cut a prefix image is one from before, or a prefix of one from the cut on.
+pub fn a_prefix_image_after_a_cut_has_the_bytes_before_it()
     ensures { (disk : Disk) (n kept : ℕ) (bs : List ℕ) → disk.other ≡ None → n ≤ disk.log.durable_len
-        → IsImage (log_cut n kept disk) bs → IsPrefix bs disk.log.longest × (n ≤ length bs) }
+        → IsPrefixImage (log_cut n kept disk) bs → IsPrefix bs disk.log.longest × (n ≤ length bs) }
 {}
 
 /// After a replacement, and after one that failed, a crash may leave the scratch or the old log, each within its own lengths.

@@ -1,4 +1,5 @@
 pub mod RepresentsLemmas
+pub mod TailLemmas
 pub mod AppendLemmas
 pub mod FillLemmas
 pub mod StateLemmas
