@@ -18,6 +18,8 @@ use Rattle.nl_session.specs.declared.fault.LogFault.TheVariants.{NotOpen, Alread
 use Rattle.nl_session.specs.Headline.{Headline}
 use Rattle.nl_session.specs.Runs.{HadMemory, Ran}
 use Rattle.nl_texts.specs.Files.{OfBytes, file_lines}
+use Rattle.nl_folder.specs.declared.choices.Choices.{Choices}
+use Rattle.nl_replay.specs.declared.script.Script.{Script}
 use Rattle.nl_replay.specs.declared.script.Word.{Word}
 use Rattle.nl_replay.specs.declared.script.Word.TheVariants as word
 
@@ -96,6 +98,10 @@ SaysMore old new line = (IsSetting line × (old ≡ []) × (new ≡ [])) ⊎ ((e
 abbrev pub TakesIn : List Event → List Event → List ℕ → Type 0
 TakesIn old new [] = new ≡ old
 TakesIn old new (b ∷ line) = SaysMore old new (b ∷ line)
+
+-- what a script tells a folder in memory
+abbrev pub told_by : Script → Choices
+told_by script = record { writes = script.writes.items; fates = script.fates.items; fuse = script.fuse; other_was_scratch = false }
 
 -- a reply as it is printed: `ok`, or the number and the name of the refusal
 abbrev pub reply_words : Reply → List ℕ

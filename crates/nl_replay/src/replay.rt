@@ -1,14 +1,16 @@
 //! The command `replay`.
-ghost use Rattle.std.specs.Prelude.{◌≡◌, Some, IfErr, IfOk};
+ghost use Rattle.std.specs.Prelude.{◌≡◌, [], true, false, Some, IfErr, IfOk};
+ghost use Rattle.nl_folder.specs.DiskState.{at_rest, empty_file};
+ghost use Rattle.nl_folder.specs.MemFolder.{state_of, failure_count, choices_of};
 ghost use Rattle.nl_replay.specs.Faults.{IsReplayFault};
 ghost use Rattle.nl_texts.specs.Output.{Prints};
-ghost use Rattle.nl_replay.specs.Replay.{IsReplayOf, IsReplayText, printed, reply_words};
+ghost use Rattle.nl_replay.specs.Replay.{IsReplayOf, IsReplayText, printed, reply_words, told_by};
 
 use nl_texts::ToolFault;
 use nl_texts::write_out;
 use crate::script::{Script, read_script};
 use nl_folder::MemFolder;
-use nl_session::{LogFault, Outcome, Reply, run_events};
+use nl_session::{Event, LogFault, Outcome, Reply, run_events};
 use std::alloc::{AllocError, Global};
 use std::fmt;
 use std::io::{Read, Write};
@@ -28,9 +30,12 @@ pub fn replay_to<R: Read + Drop, W: Write>(
     write_out(text.as_slice(), writer)
 }
 
-// What is printed of a script.
-fn run_script(alloc: Global, script: Script) -> Result<Vec<u8>, AllocError>
-    ensures value { IfOk result (λ text. IsReplayOf script.events.items text.items) }
+// A folder in memory whose log is empty, which is told what the script sets, and the events.
+fn set_up(alloc: Global, script: Script) -> (MemFolder, Vec<Event>)
+    ensures state { state_of result.0 ≡ record { disk = Some (at_rest [] empty_file); is_settled = true; has_scratch = false } }
+    ensures failures { failure_count result.0 ≡ 0 }
+    ensures choices { choices_of result.0 ≡ told_by script }
+    ensures events { result.1.items ≡ script.events.items }
 {
     let Script {
         writes,
@@ -38,7 +43,17 @@ fn run_script(alloc: Global, script: Script) -> Result<Vec<u8>, AllocError>
         fuse,
         events,
     } = script;
-    let folder = MemFolder::new(alloc, Vec::new(alloc), writes, fates, fuse);
+    (
+        MemFolder::new(alloc, Vec::new(alloc), writes, fates, fuse),
+        events,
+    )
+}
+
+// What is printed of a script.
+fn run_script(alloc: Global, script: Script) -> Result<Vec<u8>, AllocError>
+    ensures value { IfOk result (λ text. IsReplayOf script.events.items text.items) }
+{
+    let (folder, events) = set_up(alloc, script);
     let (folder, replies, outcome) = run_events(alloc, folder, &events);
     match outcome {
         Outcome::Whole => text_of(alloc, &replies, folder.log_bytes()),

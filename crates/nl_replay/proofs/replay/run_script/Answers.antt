@@ -11,9 +11,9 @@ use Rattle.nl_replay.proofs.replay.run_script.Goals as goal
 pub returns-in-Whole : goal.returns-in-Whole
 returns-in-Whole c =
     let run = c.run_events-folder in
-    let empty : Some (disk_of c.new-folder.result) ≡ Some (at_rest [] empty_file)
-    = ap (λ (s : FolderState). s.disk) c.new-folder.ensures.state ∙ ap (λ items. Some (at_rest items empty_file)) c.new.ensures.items in
+    let begun = c.set_up-folder in
+    let empty : Some (disk_of begun.result.0) ≡ Some (at_rest [] empty_file) = ap (λ (s : FolderState). s.disk) begun.ensures.state in
     let each = rw c.in-Whole.is at run.ensures.outcome in
     let value = IfOk-weaker c.text_of.result _ _ (λ text is. replayed _ _ _ (disk_of run.result.0) _ text.items empty run.ensures.headline run.ensures.run each run.ensures.memory
     (is ∙ ap (λ (replies : List Reply). printed replies c.log_bytes.result.now) c.deref-in-Whole.ensures.value ∙ ap (printed run.result.1.items) c.log_bytes.ensures.value)) c.text_of.ensures.value in
-    record { value = subst (λ (events : List Event). IfOk c.text_of.result (λ text. IsReplayOf events text.items)) c.deref.ensures.value value }
+    record { value = subst (λ (events : List Event). IfOk c.text_of.result (λ text. IsReplayOf events text.items)) (c.deref.ensures.value ∙ begun.ensures.events) value }
