@@ -9,7 +9,7 @@
 - What the power loss leaves is looked at before it is opened too: of the 48 texts each that the call which failed allows, and no other.
 - Each of these texts is then opened with each call of that open failing in turn, so that its repair is stopped; the power is lost, or the
   log closed, and it is opened again. That must leave what one open would have, byte for byte. A log that is due is stopped so too. A torn
-  header isn't: a script has one fuse, and it would take that to leave one (`nl_tests` and `system_calls.py` stop this repair).
+  header isn't: a script has one fuse, and it would take that to leave one (`nl_session_tests` and `system_calls.py` stop this repair).
 - A few runs are worked out by hand, with the bytes before the last open and after it.
 """
 import itertools

@@ -12,8 +12,6 @@ pub mod laws;
 mod limits;
 mod name;
 mod rapid_hash;
-#[cfg(test)]
-mod tests;
 
 pub use decimal::{read_i32, read_i64};
 pub use entry::{Entry, EntryRef};

@@ -1,7 +1,7 @@
 //! A folder with a log and a scratch, what a crash may leave of it, and one in memory that crashes as it is told.
 #![tactic(auto)]
 
-mod callers;
+pub mod callers;
 mod choices;
 mod folder;
 mod fuse;
@@ -14,6 +14,3 @@ pub use folder::{Crashable, Fault, Folder};
 pub use fuse::{Call, Fuse};
 pub use log_reader::LogReader;
 pub use mem_folder::MemFolder;
-
-#[cfg(test)]
-mod tests;

@@ -15,6 +15,3 @@ pub use lines::{Line, LineFault, Lines};
 pub use read_source::ReadSource;
 pub use slice_source::SliceSource;
 pub use source::{Source, SourceFault};
-
-#[cfg(test)]
-mod tests;

@@ -13,6 +13,3 @@ pub use due::is_due;
 pub use loader::{LoadFault, Loaded, load};
 pub use log_user::{KeepAll, KeepList, LogUser};
 pub use table::Table;
-
-#[cfg(test)]
-mod tests;

@@ -1,0 +1,306 @@
+#!/usr/bin/env python3
+"""Each command over logs and files of each kind: what it prints, on which stream, its status, and the files that it leaves.
+
+    python3 tests/commands.py PROGRAM
+
+What is wanted stands here as whole bytes, worked out by hand from docs/FORMAT.md and docs/CLI.md.
+"""
+import os
+import shutil
+import sys
+
+from trials import main, read, run, write
+
+HEADER = b"# ninja log v5\n"
+
+# The bytes of a log, what `show` prints, and the six numbers of `check`.
+LOGS = [
+    (b"", b"", (5, 0, 0, 0, 0, "no")),
+    (HEADER, b"", (5, 0, 0, 0, 0, "no")),
+    (b"# ninja lo", b"", (5, 0, 0, 0, 10, "no")),
+    (b"# ninja log v5", b"", (5, 0, 0, 0, 14, "no")),
+    (HEADER + b"0\t5\t1700000000000000000\tout\t0\n", b"0\t5\t1700000000000000000\tout\t0\n", (5, 1, 1, 0, 0, "no")),
+    # The last entry of an output counts, in the place of its first.
+    (HEADER + b"1\t2\t10\ta\taa\n3\t4\t20\tb\tbb\n5\t6\t30\ta\tcc\n", b"5\t6\t30\ta\tcc\n3\t4\t20\tb\tbb\n", (5, 3, 2, 0, 0, "no")),
+    (
+        HEADER + b"-2147483648\t2147483647\t9223372036854775807\tmax\tffffffffffffffff\n0\t0\t-9223372036854775808\tmin\t0\n",
+        b"-2147483648\t2147483647\t9223372036854775807\tmax\tffffffffffffffff\n0\t0\t-9223372036854775808\tmin\t0\n",
+        (5, 2, 2, 0, 0, "no"),
+    ),
+    # Other spellings of numbers are no entries.
+    (HEADER + b"007\t1\t1\to\ta\n-0\t1\t1\to\ta\n1\t2147483648\t1\to\ta\n1\t1\t1\to\t00ab\n1\t1\t1\to\tAB\n", b"", (5, 0, 0, 5, 0, "no")),
+    (HEADER + b"1\t2\t3\tok\tff\n1\t2\t3\tout\tabc", b"1\t2\t3\tok\tff\n", (5, 1, 1, 0, 13, "no")),
+    # A torn line with a whole one behind it, and a header in the midst.
+    (HEADER + b"1\t2\t3\tou4\t5\t6\tout\tab\n1\t2\t3\tz\t1\n", b"1\t2\t3\tz\t1\n", (5, 1, 1, 1, 0, "no")),
+    (HEADER + HEADER + b"1\t2\t3\tz\t1\n", b"1\t2\t3\tz\t1\n", (5, 1, 1, 1, 0, "no")),
+    # The hashes of the commands `cc<TAB>x` and none, and a line without a command.
+    (
+        b"# ninja log v4\n1\t2\t3\ta\tcc\tx\n4\t5\t6\tb\t\n",
+        b"1\t2\t3\ta\t72274e7a30810c7b\n4\t5\t6\tb\t87c2bc0beaf1d91d\n",
+        (4, 2, 2, 0, 0, "yes"),
+    ),
+    (b"# ninja log v4\n1\t2\t3\ta\n", b"", (4, 0, 0, 1, 0, "yes")),
+    # It is due past a hundred entries of one output.
+    (HEADER + b"1\t2\t3\ta\ta\n" * 100, b"1\t2\t3\ta\ta\n", (5, 100, 1, 0, 0, "no")),
+    (HEADER + b"1\t2\t3\ta\ta\n" * 101, b"1\t2\t3\ta\ta\n", (5, 101, 1, 0, 0, "yes")),
+]
+
+NO_LOG = b"nlog: not a ninja log\n"
+OTHER_VERSION = b"nlog: log version not supported\n"
+CANNOT_READ = b"nlog: cannot read\n"
+
+# First lines that are refused, and what is said of them.
+REFUSED = [
+    (b"# ninja log v6\n", OTHER_VERSION),
+    (b"# ninja log v05\n", OTHER_VERSION),
+    (b"# ninja log v04\n", OTHER_VERSION),
+    (b"# ninja log v3\n", OTHER_VERSION),
+    (b"# ninja log v4", NO_LOG),
+    (b"hello", NO_LOG),
+    (b"\n", NO_LOG),
+    (b"# ninja log v5 \n", NO_LOG),
+    (b"# ninja log v6", NO_LOG),
+]
+
+HASHES = [
+    ("", b"87c2bc0beaf1d91d\n"),
+    ("cc -c a.c -o a.o ", b"92985dffe8565ffa\n"),
+    ("cc\tx", b"72274e7a30810c7b\n"),
+]
+
+# START, END, MTIME and NAME of `record`, and why they are refused.
+BAD_WORDS = [
+    ("x", "2", "3", "a", b"bad number"),
+    ("1", "2147483648", "3", "a", b"bad number"),
+    ("1", "2", "007", "a", b"bad number"),
+    ("1", "2", "", "", b"bad number"),
+    ("1", "2", "3", "", b"empty name"),
+    ("1", "2", "3", "a\tb", b"bad byte in name at 1"),
+    ("1", "2", "3", "ab\n", b"bad byte in name at 2"),
+    ("1", "2", "3", "n" * 65_536 + "\t", b"bad byte in name at 65536"),
+    ("1", "2", "3", "n" * 65_537, b"name too long"),
+]
+
+LOG = HEADER + b"1\t2\t10\ta\taa\n3\t4\t20\tb\tbb\n5\t6\t30\ta\tcc\n"
+
+OK, NEW = b"1\t2\t3\tok\tff\n", b"4\t5\t6\tout\t72274e7a30810c7b\n"
+
+# A log before `record` adds NEW, and after it.
+RECORDS = [
+    (None, HEADER + NEW),
+    (b"", HEADER + NEW),
+    (HEADER, HEADER + NEW),
+    (b"# ninja lo", HEADER + NEW),
+    (b"# ninja log v4\n", HEADER + NEW),
+    (HEADER + OK + b"1\t2\t3\tout\tabc", HEADER + OK + NEW),
+    # A skipped line stays.
+    (HEADER + b"skipped\n" + OK, HEADER + b"skipped\n" + OK + NEW),
+    (
+        b"# ninja log v4\n1\t2\t3\ta\tcc\tx\n4\t5\t6\tb\t\n",
+        HEADER + b"1\t2\t3\ta\t72274e7a30810c7b\n4\t5\t6\tb\t87c2bc0beaf1d91d\n" + NEW,
+    ),
+    # It is rewritten past a hundred entries of one output.
+    (HEADER + OK * 100, HEADER + OK * 100 + NEW),
+    (HEADER + OK * 101, HEADER + OK + NEW),
+]
+
+# KEEP, why it is refused, and the log that it leaves.
+KEEPS = [
+    (b"b\n\n", b"", HEADER + b"3\t4\t20\tb\tbb\n"),
+    (b"", b"", HEADER),
+    # A last line without a newline counts; a name without an entry is nothing.
+    (b"zz\na", b"", HEADER + b"5\t6\t30\ta\tcc\n"),
+    (b"\na\tb", b"bad line 2", LOG),
+    (b"b\n\n\na\0\n\t\n", b"bad line 4", LOG),
+    # The longest line has 262,143 bytes, which is no name; a longer one is bad too, with its newline and without.
+    (b"b\n" + b"x" * 262_144, b"bad line 2", LOG),
+    (b"b\n" + b"x" * 262_144 + b"\n", b"bad line 2", LOG),
+    (b"n" * 65_536 + b"\nb\n", b"", HEADER + b"3\t4\t20\tb\tbb\n"),
+    (b"n" * 65_537 + b"\nb\n", b"bad line 1", LOG),
+    # Twelve lines, of which the last is bad.
+    (b"\n" * 11 + b"a\tb\n", b"bad line 12", LOG),
+]
+
+# TIMES, why it is refused, and the log that it leaves.
+TIMES = [
+    (b"7\ta\n8\ta\n", b"", HEADER + b"5\t6\t8\ta\tcc\n3\t4\t20\tb\tbb\n"),
+    # No time changes, and what is stale goes.
+    (b"\n9\tzz", b"", HEADER + b"5\t6\t30\ta\tcc\n3\t4\t20\tb\tbb\n"),
+    (b"7\ta\n007\tb\n", b"bad line 2", LOG),
+    (b"7 a\n", b"bad line 1", LOG),
+    (b"7\t\n", b"bad line 1", LOG),
+    (b"\ta\n", b"bad line 1", LOG),
+    (b"7\ta\tb\n", b"bad line 1", LOG),
+    (b"9223372036854775808\ta\n", b"bad line 1", LOG),
+    (b"-1\ta", b"negative time at pair 0", LOG),
+    # Pairs are counted, and not lines.
+    (b"\n7\ta\n-9223372036854775808\tb\n-1\ta\n", b"negative time at pair 1", LOG),
+]
+
+FILE = HEADER + b"1\t2\t3\tfile\tff\n"
+INPUT = HEADER + b"4\t5\t6\tinput\tab\nx\n"
+FILE_SHOWN, INPUT_SHOWN = b"1\t2\t3\tfile\tff\n", b"4\t5\t6\tinput\tab\n"
+FILE_CHECKED = b"version 5\ntotal 1\nunique 1\nskipped 0\ntorn 0\ndue no\n"
+INPUT_CHECKED = b"version 5\ntotal 1\nunique 1\nskipped 1\ntorn 0\ndue no\n"
+NOTHING_CHECKED = b"version 5\ntotal 0\nunique 0\nskipped 0\ntorn 0\ndue no\n"
+REPLAYED = b"ok\nS2 AlreadyOpen\nlog 15\n# ninja log v5\n"
+HASH = b"72274e7a30810c7b\n"
+
+NO_COMMAND = b"""error: unrecognized subcommand 'frob'
+
+Usage: nlog [COMMAND]
+
+For more information, try '--help'.
+"""
+
+NO_VALUE = b"""error: the following required arguments were not provided:
+  <COMMAND>
+
+Usage: nlog hash <COMMAND>
+
+For more information, try '--help'.
+"""
+
+# Words, where INPUT is standard input and `file` is FILE; the status, standard output and standard error.
+WORDS = [
+    ([], 0, INPUT_SHOWN, b""),
+    (["show"], 0, INPUT_SHOWN, b""),
+    (["show", "file"], 0, FILE_SHOWN, b""),
+    (["show", "--", "-file"], 0, FILE_SHOWN, b""),
+    (["show", "missing"], 0, b"", b""),
+    (["show", ""], 0, b"", b""),
+    (["show", "folder"], 1, b"", CANNOT_READ),
+    (["show", "file/"], 1, b"", CANNOT_READ),
+    (["show", "file/log"], 1, b"", CANNOT_READ),
+    (["check"], 0, INPUT_CHECKED, b""),
+    (["check", "file"], 0, FILE_CHECKED, b""),
+    (["check", "missing"], 0, NOTHING_CHECKED, b""),
+    (["check", ""], 0, NOTHING_CHECKED, b""),
+    (["check", "folder"], 1, b"", CANNOT_READ),
+    (["check", "file/log"], 1, b"", CANNOT_READ),
+    (["hash", "cc\tx"], 0, HASH, b""),
+    (["replay"], 1, b"", b"nlog: bad line 1\n"),
+    (["replay", "script"], 0, REPLAYED, b""),
+    (["replay", "file"], 1, b"", b"nlog: bad line 1\n"),
+    (["replay", "missing"], 1, b"", CANNOT_READ),
+    (["replay", "folder"], 1, b"", CANNOT_READ),
+    (["--version"], 0, b"nlog 0.1.0\n", b""),
+    (["frob"], 2, b"", NO_COMMAND),
+    (["hash"], 2, b"", NO_VALUE),
+    (["hash", b"\xff"], 2, b"", b"nlog: cannot read the words: invalid data\n"),
+    # A LOG that is no file of the system's.
+    (["record", "folder", "1", "2", "3", "n", "c"], 1, b"", b"nlog: the folder failed\n"),
+]
+
+# What a log that is missing at first has after each of these commands, one after the other.
+OWN = [
+    (["record", "own/x", "--", "1", "2", "3", "a", "cc\tx"], HEADER + b"1\t2\t3\ta\t72274e7a30810c7b\n"),
+    (["record", "own/x", "--", "-1", "2", "3", "b", "cc\tx"], HEADER + b"1\t2\t3\ta\t72274e7a30810c7b\n-1\t2\t3\tb\t72274e7a30810c7b\n"),
+    (["restat", "own/x", "own/times"], HEADER + b"1\t2\t3\ta\t72274e7a30810c7b\n-1\t2\t9\tb\t72274e7a30810c7b\n"),
+    (["recompact", "own/x", "own/keep"], HEADER + b"-1\t2\t9\tb\t72274e7a30810c7b\n"),
+]
+
+
+def asked(program, room, words, given=b""):
+    return run([program, *words], cwd=room, stdin=None, input=given)
+
+
+def report(counts):
+    names = ("version", "total", "unique", "skipped", "torn", "due")
+    return "".join(f"{name} {count}\n" for name, count in zip(names, counts)).encode()
+
+
+def refused(why):
+    """How a command ends, by why it is refused: where that is nothing, it is done."""
+    return (1, b"", b"nlog: " + why + b"\n") if why else (0, b"", b"")
+
+
+def try_logs(trials, program, room):
+    for log, shown, counts in LOGS:
+        write(f"{room}/log", log)
+        for command, wanted in (("show", shown), ("check", report(counts))):
+            trials.want(f"{command} < {log!r}", asked(program, room, [command], log), (0, wanted, b""))
+            trials.want(f"{command} of a file, {log!r}", asked(program, room, [command, "log"]), (0, wanted, b""))
+        trials.want(f"the file {log!r}", read(f"{room}/log"), log)
+
+
+def try_refused(trials, program, room):
+    """First lines that are refused, by each command that reads a log; the file stays as it is."""
+    write(f"{room}/keep", b"a\n")
+    write(f"{room}/negative", b"-1\ta")
+    for log, why in REFUSED:
+        write(f"{room}/log", log)
+        for words in (["show"], ["check"]):
+            trials.want(f"{words} < {log!r}", asked(program, room, words, log), (1, b"", why))
+        changes = [["record", "log", "1", "2", "3", "a", "c"], ["recompact", "log", "keep"], ["restat", "log", "negative"]]
+        for words in [["show", "log"], ["check", "log"], *changes]:
+            trials.want(f"{words[0]} of a file, {log!r}", asked(program, room, words), (1, b"", why))
+            trials.want(f"the file after {words[0]}, {log!r}", read(f"{room}/log"), log)
+
+
+def try_changes(trials, program, room):
+    """The commands that change a log, by their words and by KEEP and TIMES, and what a bad one leaves."""
+    for start, end, mtime, name, why in BAD_WORDS:
+        what = f"record of {start!r} {end!r} {mtime!r} {name[:9]!r}"
+        trials.want(what, asked(program, room, ["record", "none", start, end, mtime, name, "c"]), refused(why))
+        trials.want(f"{what}: the log", read(f"{room}/none"), None)
+    for place, (log, left) in enumerate(RECORDS):
+        file = f"record{place}"
+        write(f"{room}/{file}", log)
+        what = f"record after {log!r}"
+        trials.want(what, asked(program, room, ["record", file, "4", "5", "6", "out", "cc\tx"]), refused(b""))
+        trials.want(f"{what}: the log", read(f"{room}/{file}"), left)
+    for command, rows in (("recompact", KEEPS), ("restat", TIMES)):
+        for text, why, left in rows:
+            what = f"{command} by {text[:40]!r}"
+            write(f"{room}/log", LOG)
+            write(f"{room}/file", text)
+            trials.want(what, asked(program, room, [command, "log", "file"]), refused(why))
+            trials.want(f"{what}: the log", read(f"{room}/log"), left)
+            trials.want(f"{what}: the file", read(f"{room}/file"), text)
+        # The file of names or times is refused before the log, one that is missing too.
+        write(f"{room}/log", b"hello")
+        write(f"{room}/file", b"\n\t\n")
+        for log in ("log", "none"):
+            for file, why in (("missing", b"cannot read"), ("file", b"bad line 2")):
+                trials.want(f"{command} {log} {file}", asked(program, room, [command, log, file]), refused(why))
+        trials.want(f"{command}: the file that is no log", read(f"{room}/log"), b"hello")
+        trials.want(f"{command}: the log that was missing", read(f"{room}/none"), None)
+
+
+def try_words(trials, program, room):
+    os.mkdir(f"{room}/folder")
+    write(f"{room}/file", FILE)
+    write(f"{room}/-file", FILE)
+    write(f"{room}/script", b"open\nopen")
+    before = sorted(os.listdir(room))
+    for words, status, out, err in WORDS:
+        trials.want(f"{words}", asked(program, room, words, INPUT), (status, out, err))
+        trials.want(f"{words}: the file", read(f"{room}/file"), FILE)
+    trials.want("the files that are there", sorted(os.listdir(room)), before)
+    for command, wanted in HASHES:
+        trials.want(f"hash {command!r}", asked(program, room, ["hash", command]), (0, wanted, b""))
+
+
+def try_own(trials, program, room):
+    """The commands that change a log leave its file and no other."""
+    os.mkdir(f"{room}/own")
+    write(f"{room}/own/keep", b"b\n")
+    write(f"{room}/own/times", b"9\tb\n")
+    for words, left in OWN:
+        trials.want(f"{words}", asked(program, room, words, INPUT), (0, b"", b""))
+        trials.want(f"{words}: the log", read(f"{room}/own/x"), left)
+        trials.want(f"{words}: the files", sorted(os.listdir(f"{room}/own")), ["keep", "times", "x"])
+    trials.want("KEEP and TIMES", (read(f"{room}/own/keep"), read(f"{room}/own/times")), (b"b\n", b"9\tb\n"))
+
+
+def trial(trials, program, room):
+    for part in (try_logs, try_refused, try_changes, try_words, try_own):
+        folder = f"{room}/{part.__name__}"
+        os.mkdir(folder)
+        part(trials, program, folder)
+        shutil.rmtree(folder)
+
+
+if __name__ == "__main__":
+    sys.exit(main(__file__, trial))
