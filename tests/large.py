@@ -1,0 +1,278 @@
+#!/usr/bin/env python3
+"""Logs, KEEP, TIMES and scripts of some 100 MB, through each command, in files and by a pipe.
+
+    python3 tests/large.py PROGRAM
+
+One log has 1,000,001 entries of as many outputs; the other has names of up to 65,536 bytes, lines that are no entries, too long ones among
+them, and a torn line, and is due to be recompacted. The files are made line by line by a rule, and what is wanted is computed from that
+rule, or from `log_format`, a line at a time; it is compared by its length and its hash, so that no more of it is held in memory.
+"""
+import hashlib
+import os
+import random
+import resource
+import shutil
+import subprocess
+import sys
+import tempfile
+import threading
+from itertools import chain
+
+from log_format import HEADER, MAX_LINE, MAX_NAME, entry_of, line_of
+from trials import SECONDS, main, run
+
+ENTRIES = 1_000_001
+# Outputs that KEEP and TIMES have, and the log hasn't.
+OTHERS = 200_000
+# A script's records and their outputs, and how many of these the longest lines name.
+RECORDS, OUTPUTS, KEPT, STAMPED = 800_000, 4_000, 3_700, 2_900
+LARGE = 80_000_000
+PIECE = 1 << 20
+# What the files of one part take at once.
+ROOM = 600_000_000
+
+
+class Sum:
+    """The length and the hash of a text that is given in pieces."""
+
+    def __init__(self, pieces=()):
+        self.size, self.hash = 0, hashlib.blake2b()
+        for it in pieces:
+            self.add(it)
+
+    def add(self, piece):
+        self.size += len(piece)
+        self.hash.update(piece)
+
+    def value(self):
+        return self.size, self.hash.hexdigest()[:32]
+
+
+def sum_of(pieces):
+    return Sum(pieces).value()
+
+
+def pieces_of(file):
+    return iter(lambda: file.read(PIECE), b"")
+
+
+def sum_of_file(path):
+    """None where it is missing."""
+    try:
+        with open(path, "rb") as it:
+            return sum_of(pieces_of(it))
+    except FileNotFoundError:
+        return None
+
+
+def make(path, pieces):
+    with open(path, "wb") as it:
+        it.writelines(pieces)
+
+
+def streamed(words, piped=None):
+    """Runs a program, with this file as standard input by a pipe: its status, the sum of its output, and standard error."""
+    source = subprocess.Popen(["cat", piped], stdout=subprocess.PIPE) if piped else None
+    given = source.stdout if source else subprocess.DEVNULL
+    with subprocess.Popen(words, stdin=given, stdout=subprocess.PIPE, stderr=subprocess.PIPE) as child:
+        if source:
+            source.stdout.close()
+        # A program that hangs is killed, and has then no status of its own.
+        clock = threading.Timer(SECONDS, child.kill)
+        clock.start()
+        printed, said = sum_of(pieces_of(child.stdout)), child.stderr.read()
+        status = child.wait()
+        clock.cancel()
+    if source:
+        source.wait()
+    return status, printed, said
+
+
+class Large:
+    """A log in a file with what is wanted of it."""
+
+    def __init__(self, trials, program, room, what):
+        self.trials, self.program, self.room, self.what = trials, program, room, what
+        self.log, self.keep, self.times = f"{room}/LOG", f"{room}/KEEP", f"{room}/TIMES"
+
+    def want_sizes(self, *paths):
+        for path in paths:
+            size = os.path.getsize(path)
+            self.trials.check(f"{self.what}: the size of {os.path.basename(path)}", size > LARGE, f"{size} bytes")
+
+    def want_printed(self, word, pieces):
+        """Tries a command that reads the log, or a script in its place, by a file, and by a pipe."""
+        wanted = (0, sum_of(pieces), b"")
+        self.trials.want(f"{self.what}: {word} of a file", streamed([self.program, word, self.log]), wanted)
+        self.trials.want(f"{self.what}: {word} of a pipe", streamed([self.program, word], self.log), wanted)
+
+    def want_log(self, words, pieces):
+        """Tries a command that changes the log."""
+        word = words[0]
+        self.trials.want(f"{self.what}: {word}", run([self.program, *words]), (0, b"", b""))
+        self.trials.want(f"{self.what}: the log after {word}", sum_of_file(self.log), sum_of(pieces))
+
+
+# The log of many entries: the number N of an output gives all that there is to know of it.
+
+
+def name_of(number):
+    return b"out/obj/some/folder/of/a/build/that/is/named/at/length/part%07d.o" % number
+
+
+def numbers_of(number):
+    return number, number + 7, 1_700_000_000_000_000_000 + number, 2**64 - 1 - number
+
+
+def is_kept(number):
+    return number % 3 != 0
+
+
+def mtime_of(number):
+    """What TIMES has for an output, in its last line: none for each fifth."""
+    return None if number % 5 == 0 else 1_800_000_000_000_000_000 + number
+
+
+def lines(numbers):
+    return (line_of(name_of(it), numbers_of(it)) for it in numbers)
+
+
+def touched_lines(numbers):
+    for it in numbers:
+        start, end, mtime, command = numbers_of(it)
+        yield line_of(name_of(it), (start, end, mtime_of(it) or mtime, command))
+
+
+def keep_lines():
+    """The outputs to keep, after outputs that the log hasn't, from the last to the first, and then once more."""
+    kept = list(filter(is_kept, range(ENTRIES)))
+    for number in chain(range(ENTRIES + OTHERS - 1, ENTRIES - 1, -1), reversed(kept), kept):
+        yield b"%s\n" % name_of(number)
+
+
+def times_lines():
+    """Each seventh output has an earlier line."""
+    for number in range(0, ENTRIES, 7):
+        if mtime_of(number) is not None:
+            yield b"5\t%s\n" % name_of(number)
+    for number in range(ENTRIES + OTHERS):
+        if mtime_of(number) is not None:
+            yield b"%d\t%s\n" % (mtime_of(number), name_of(number))
+
+
+def report(version, total, unique, skipped, torn, due):
+    return b"version %d\ntotal %d\nunique %d\nskipped %d\ntorn %d\ndue %s\n" % (version, total, unique, skipped, torn, due)
+
+
+# By docs/FORMAT.md: the hash of the command `cc<TAB>x`.
+RECORDED = line_of(b"new", (11, 12, -13, 0x72274E7A30810C7B))
+RECORD = ["--", "11", "12", "-13", "new", "cc\tx"]
+
+
+def try_many(trials, program, room):
+    large = Large(trials, program, room, f"a log of {ENTRIES:,} outputs")
+    everything, counts = range(ENTRIES), (5, ENTRIES, ENTRIES, 0, 0, b"no")
+    make(large.log, chain([HEADER], lines(everything)))
+    make(large.keep, keep_lines())
+    make(large.times, times_lines())
+    large.want_sizes(large.log, large.keep, large.times)
+    large.want_printed("show", lines(everything))
+    large.want_printed("check", [report(*counts)])
+    with open(large.log, "ab") as it:
+        it.write(b"1\t2\t3\ttorn")
+    large.want_log(["record", large.log, *RECORD], chain([HEADER], lines(everything), [RECORDED]))
+    large.want_printed("check", [report(5, ENTRIES + 1, ENTRIES + 1, 0, 0, b"no")])
+    large.want_log(["restat", large.log, large.times], chain([HEADER], touched_lines(everything), [RECORDED]))
+    large.want_log(["recompact", large.log, large.keep], chain([HEADER], touched_lines(filter(is_kept, everything))))
+
+
+def try_script(trials, program, room):
+    """Records, and then a recompaction and a restat by lines of nearly the longest length."""
+    large = Large(trials, program, room, "a long script")
+    kept, stamped = range(KEPT), range(STAMPED)
+    recompact = b"recompact" + b"".join(b"\t" + name_of(it) for it in kept)
+    restat = b"restat" + b"".join(b"\t%d\t%s" % (it + 5, name_of(it)) for it in stamped)
+    for line in recompact, restat:
+        trials.check(f"{large.what}: one of its longest lines", MAX_LINE - 50_000 < len(line) <= MAX_LINE, f"{len(line)} bytes")
+    records = (b"record\t" + line_of(name_of(it % OUTPUTS), numbers_of(it)) for it in range(RECORDS))
+    make(large.log, chain([b"open\n"], records, [recompact, b"\n", restat, b"\n"]))
+    large.want_sizes(large.log)
+    left = [HEADER]
+    for it in kept:
+        # The last records are of all outputs in turn.
+        start, end, mtime, command = numbers_of(RECORDS - OUTPUTS + it)
+        left.append(line_of(name_of(it), (start, end, it + 5 if it in stamped else mtime, command)))
+    large.want_printed("replay", [b"ok\n" * (RECORDS + 3), b"log %d\n" % sum(map(len, left)), *left])
+
+
+# The log of long names.
+SEED = 7
+
+
+def long_name(number):
+    """Names of 65,036 to 65,536 bytes; one in five has the longest length."""
+    size = MAX_NAME - number % 5 * 100
+    return (b"%06d/" % number) * (size // 7) + b"n" * (size % 7)
+
+
+def long_lines(chance):
+    """1,600 entries of 400 outputs, and lines that are no entries: two in 40, one of them too long."""
+    for at in range(1_600):
+        if at % 40 == 7:
+            yield b"1\t2\t3\t%s\tf\n" % (b"x" * (MAX_NAME + 1))
+        if at % 40 == 33:
+            yield b"y" * (MAX_LINE + 1 + at) + b"\n"
+        yield line_of(long_name(chance.randrange(400)), (-at, at, at * 2**40, at * 2**50))
+
+
+def log_of_table(table):
+    return chain([HEADER], (line_of(*it) for it in table.items()))
+
+
+def try_long(trials, program, room):
+    large = Large(trials, program, room, "a log of long names")
+    torn = b"1\t2\t3\t" + b"t" * 200_000
+    make(large.log, chain([HEADER], long_lines(random.Random(SEED)), [torn]))
+    table, skipped = {}, 0
+    for line in long_lines(random.Random(SEED)):
+        entry = entry_of(line[:-1], 5)
+        if entry is None:
+            skipped += 1
+        else:
+            table[entry[0]] = entry[1]
+    names = list(table)
+    # Each name five times: the last line of TIMES counts.
+    make(large.keep, (b"%s\n" % name for _ in range(5) for name in names[1::2]))
+    make(large.times, (b"%d\t%s\n" % (time, name) for time in (9, 5, 6, 7, 8) for name in names[::2]))
+    trials.want(f"{large.what}: lines that are no entries", skipped, 80)
+    trials.want(f"{large.what}: the longest name", max(map(len, names)), MAX_NAME)
+    large.want_sizes(large.log)
+    large.want_printed("show", (line_of(*it) for it in table.items()))
+    large.want_printed("check", [report(5, 1_600, len(table), skipped, len(torn), b"yes")])
+    large.want_log(["record", large.log, *RECORD], chain(log_of_table(table), [RECORDED]))
+    table[b"new"] = 11, 12, -13, 0x72274E7A30810C7B
+    for name in names[::2]:
+        table[name] = (*table[name][:2], 8, table[name][3])
+    large.want_log(["restat", large.log, large.times], log_of_table(table))
+    large.want_log(["recompact", large.log, large.keep], log_of_table({name: table[name] for name in names[1::2]}))
+
+
+def trial(trials, program, room):
+    # A folder in memory may be small.
+    with tempfile.TemporaryDirectory() as other:
+        roomy = [it for it in (room, other) if shutil.disk_usage(it).free > ROOM]
+        if not roomy:
+            return trials.skip("all of it", f"there is no room for files of {ROOM:,} bytes")
+        for part in try_many, try_script, try_long:
+            part(trials, program, roomy[0])
+            for it in os.listdir(roomy[0]):
+                os.remove(f"{roomy[0]}/{it}")
+    used = [resource.getrusage(it) for it in (resource.RUSAGE_SELF, resource.RUSAGE_CHILDREN)]
+    seconds = [it.ru_utime + it.ru_stime for it in used]
+    print(f"large.py: {seconds[0]:.0f} s of processors here and {seconds[1]:.0f} s in the program, "
+          f"{used[0].ru_maxrss // 1024} and {used[1].ru_maxrss // 1024} MB of memory")
+    return None
+
+
+if __name__ == "__main__":
+    sys.exit(main(__file__, trial))

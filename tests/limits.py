@@ -1,0 +1,301 @@
+#!/usr/bin/env python3
+"""What short tests end before: long names and commands, long lists, high line numbers, a word too many, and files of other rights.
+
+    python3 tests/limits.py PROGRAM
+
+Names and lines of each length up to the limits of docs/FORMAT.md, by `record` and by `replay`; scripts with lists of 40 and 1,000
+numbers, a fuse beyond 1,000, and lines of 1,000 names or pairs, against tests/run_model.py; bad lines past 255 and 65,536; words too many;
+help onto a full output; files that are named `-`; the mode of each file that is made; files that may not be read or written, by a user who
+has no rights.
+"""
+import os
+import shutil
+import stat
+import subprocess
+import sys
+
+from log_format import HEADER, MAX_NAME, Log, command_hash, line_of, text_of
+from run_model import bad_line, printed
+from trials import main, read, run, write
+
+CANNOT_READ = (1, b"", b"nlog: cannot read\n")
+FOLDER_FAILED = (1, b"", b"nlog: the folder failed\n")
+DONE = (0, b"", b"")
+COMMANDS = ("show", "check", "hash", "record", "recompact", "restat", "replay")
+SMALL = HEADER + b"1\t2\t3\ta\taa\n4\t5\t6\tb\tbb\n"
+# By docs/FORMAT.md: the hash of the command `cc<TAB>x`.
+COMMAND, HASH = "cc\tx", 0x72274E7A30810C7B
+LEAST = (-(2**31), -(2**31), -(2**63))
+# The most bytes of a word that Linux hands to a program.
+LONGEST_WORD = 131_071
+# A user who owns nothing else.
+NOBODY = 65_534
+
+
+def try_names(trials, program, room):
+    """Names of each length, by `record`, and what is then read of them, kept and restated."""
+    log, keep, times = f"{room}/LOG", f"{room}/KEEP", f"{room}/TIMES"
+    table = {}
+    for size in (1, 255, 256, 300, 301, 4096, 4097, 32_768, 65_535, MAX_NAME):
+        name = b"n" * (size - 1) + b"%x" % (size % 16)
+        words = ["record", log, "--", *map(str, LEAST), name, COMMAND]
+        trials.want(f"a name of {size} bytes: record", run([program, *words]), DONE)
+        table[name] = (*LEAST, HASH)
+        trials.want(f"a name of {size} bytes: the log", read(log), text_of(table))
+    longest = line_of(name, table[name])
+    trials.want("the longest entry line", len(longest), 65_599)
+    trials.want("names of each length: show", run([program, "show", log]), (0, Log(text_of(table)).shown(), b""))
+    trials.want("names of each length: check", run([program, "check", log]), (0, Log(text_of(table)).report(), b""))
+    write(times, b"7\t" + name + b"\n")
+    table[name] = (*LEAST[:2], 7, HASH)
+    trials.want("the longest name: restat", run([program, "restat", log, times]), DONE)
+    trials.want("the longest name: the log after restat", read(log), text_of(table))
+    write(keep, name)
+    trials.want("the longest name: recompact", run([program, "recompact", log, keep]), DONE)
+    trials.want("the longest name: the log after recompact", read(log), text_of({name: table[name]}))
+    os.remove(log)
+    ended = run([program, "record", log, "1", "2", "3", b"n" * (MAX_NAME + 1), COMMAND])
+    trials.want("a name that is too long: record", ended, (1, b"", b"nlog: name too long\n"))
+    trials.want("a name that is too long: the log", read(log), None)
+    for size in (131_070, LONGEST_WORD):
+        command = b"c" * size
+        trials.want(f"a command of {size} bytes: hash", run([program, "hash", command]), (0, b"%x\n" % command_hash(command), b""))
+
+
+def names(count):
+    return [b"out/%d" % number for number in range(count)]
+
+
+def records(count):
+    return [b"record\t" + line_of(name, (1, 2, 3, number))[:-1] for number, name in enumerate(names(count))]
+
+
+def cut_fates(count):
+    """Numbers for as many crashes: most leave a part of the line that wasn't synced."""
+    return [7 if number % 3 else 100 for number in range(count)]
+
+
+def scripts():
+    """What a script tries, and its lines."""
+    for count in (31, 32, 33, 40, 256, 257, 1000):
+        fates = b"fates" + b"".join(b"\t%d" % it for it in cut_fates(count))
+        yield f"{count} numbers of fates", [fates, b"open"] + [it for line in records(count + 1) for it in (line, b"crash", b"open")]
+        # Each takes a byte of an append, so the call that fails has come as far as there are numbers.
+        writes = b"writes" + b"\t1" * count
+        yield f"{count} numbers of writes", [writes, b"fates\t0", b"fuse\tappend_log\t%d" % (count + 5), b"open", *records(count)]
+    for nth in (255, 256, 257, 1000, 1001, 2049):
+        yield f"a fuse of {nth}", [b"fuse\tappend_log\t%d" % nth, b"fates\t0", b"open", *records(2100)]
+    yield "the greatest fuse", [b"fuse\tany\t%d" % (2**63 - 1), b"open", *records(1100)]
+    for count in (999, 1000, 1001):
+        lines = [b"open", *records(count + 2)]
+        yield f"a recompaction with {count} names", [*lines, b"\t".join([b"recompact", *names(count)])]
+        pairs = [b"\t%d\t%s" % (number + 9, name) for number, name in enumerate(names(count))]
+        yield f"a restat with {count} pairs", [*lines, b"restat" + b"".join(pairs)]
+        yield f"a negative time behind {count} pairs", [*lines, b"restat" + b"".join(pairs) + b"\t-1\tout/0"]
+    longest = b"record\t" + line_of(b"n" * MAX_NAME, (*LEAST, HASH))[:-1]
+    yield "the longest entry", [b"open", longest, b"record\t1\t2\t3\ta\tb", longest, b"sync", b"recompact"]
+
+
+def try_scripts(trials, program, room):
+    for what, lines in scripts():
+        script = b"\n".join(lines)
+        trials.want(f"{what}: a good script", bad_line(script), None)
+        write(f"{room}/SCRIPT", script)
+        trials.want(f"{what}: replay", run([program, "replay", f"{room}/SCRIPT"]), (0, printed(script), b""))
+
+
+def try_bad_lines(trials, program, room):
+    """The number of a bad line that others stand before."""
+    log, file = f"{room}/LOG", f"{room}/FILE"
+    write(log, SMALL)
+    rows = (
+        ("replay", [file], b"open\n", b"opened\n"),
+        ("recompact", [log, file], b"a\n", b"a\tb\n"),
+        ("restat", [log, file], b"7\ta\n", b"07\ta\n"),
+    )
+    for word, words, good, bad in rows:
+        for number in (1, 2, 255, 256, 257, 1001, 65_535, 65_536, 65_537, 70_001):
+            write(file, good * (number - 1) + bad + good + bad)
+            trials.want(f"{word}: a bad line {number}", run([program, word, *words]), (1, b"", b"nlog: bad line %d\n" % number))
+    trials.want("bad lines: the log", read(log), SMALL)
+
+
+def try_words(trials, program, room):
+    """Words too many, with and without `--`."""
+    values = ["LOG", "1", "2", "3", "out", "a"]
+    rows = [
+        ["record", *values, "b"],
+        ["record", "--", *values, "b"],
+        ["record", "LOG", "--", *values[1:], "b"],
+        ["record", "--", *values, "b", "c", "d", "e"],
+        ["recompact", "--", "LOG", "KEEP", "b"],
+        ["restat", "--", "LOG", "TIMES", "b"],
+        ["show", "--", "LOG", "b"],
+        ["check", "--", "LOG", "b"],
+        ["hash", "--", "x", "b"],
+        ["replay", "--", "SCRIPT", "b"],
+    ]
+    for words in rows:
+        what = " ".join(words)
+        status, out, err = run([program, *words], cwd=room)
+        trials.want(f"{what}: status and output", (status, out), (2, b""))
+        trials.check(f"{what}: message", err.startswith(b"error: unexpected argument 'b' found\n"), repr(err))
+        trials.want(f"{what}: files that it made", os.listdir(room), [])
+    trials.want("as many words as record takes", run([program, "record", "--", *values], cwd=room), DONE)
+    trials.want("as many words as record takes: the log", read(f"{room}/LOG"), HEADER + line_of(b"out", (1, 2, 3, command_hash(b"a"))))
+
+
+def try_full_output(trials, program, room):
+    if not os.path.exists("/dev/full"):
+        return trials.skip("help onto a full output", "there is no /dev/full")
+    for words in (["--help"], ["-h"], ["--version"], ["-V"], *([word, flag] for word in COMMANDS for flag in ("--help", "-h"))):
+        what = " ".join(words)
+        status, out, err = run([program, *words])
+        trials.check(what, (status, err) == (0, b"") and out != b"", f"status {status}, {err!r}")
+        with open("/dev/full", "wb") as full:
+            ended = run([program, *words], capture_output=False, stdout=full, stderr=subprocess.PIPE)
+        trials.want(f"{what} onto a full output", ended, (1, None, b"nlog: cannot write\n"))
+    return None
+
+
+def try_dash(trials, program, room):
+    """`-` is the name of a file, and not standard input, on which a good text stands."""
+    log, dash, line = f"{room}/LOG", f"{room}/-", line_of(b"a", (1, 2, 3, HASH))
+
+    def want(what, words, given, wanted, left=None):
+        trials.want(f"{what}: ends", run([program, *words], cwd=room, stdin=None, input=given), wanted)
+        trials.want(f"{what}: LOG", read(log), left)
+
+    want("show of a file - that is missing", ["show", "-"], SMALL, DONE)
+    want("check of a file - that is missing", ["check", "-"], SMALL, (0, Log(b"").report(), b""))
+    want("replay of a file - that is missing", ["replay", "-"], b"open\n", CANNOT_READ)
+    write(log, SMALL)
+    want("recompact by a file - that is missing", ["recompact", "LOG", "-"], b"a\n", CANNOT_READ, SMALL)
+    want("restat by a file - that is missing", ["restat", "LOG", "-"], b"7\ta\n", CANNOT_READ, SMALL)
+    write(dash, b"8\tb\n")
+    want("restat by a file -", ["restat", "LOG", "-"], b"7\ta\n", DONE, HEADER + b"1\t2\t3\ta\taa\n4\t5\t8\tb\tbb\n")
+    write(dash, b"b\n")
+    want("recompact by a file -", ["recompact", "LOG", "-"], b"a\n", DONE, HEADER + b"4\t5\t8\tb\tbb\n")
+    os.remove(log)
+    os.remove(dash)
+    want("record in a file -", ["record", "-", "1", "2", "3", "a", COMMAND], SMALL, DONE)
+    trials.want("record in a file -: the file", read(dash), HEADER + line)
+    want("show of a file -", ["show", "-"], SMALL, (0, line, b""))
+    want("check of a file -", ["check", "-"], SMALL, (0, Log(HEADER + line).report(), b""))
+
+
+def mode_of(path):
+    return stat.S_IMODE(os.stat(path).st_mode)
+
+
+def try_modes(trials, program, room):
+    """The mode of a LOG that is made or rewritten is that of a new file; one that is there keeps its own."""
+    record = ["record", "LOG", "1", "2", "3", "a", COMMAND]
+    rows = [(record, None), (["recompact", "LOG", "KEEP"], SMALL), (["restat", "LOG", "TIMES"], SMALL), (record, SMALL)]
+    write(f"{room}/KEEP", b"b\n")
+    write(f"{room}/TIMES", b"7\tb\n")
+    for mask in (0, 0o002, 0o022, 0o027, 0o077):
+        for words, start in rows:
+            log = f"{room}/LOG"
+            write(log, start)
+            if start is not None:
+                os.chmod(log, 0o640)
+            before = os.umask(mask)
+            try:
+                trials.want(f"{words[0]} under the mask {mask:03o}", run([program, *words], cwd=room), DONE)
+            finally:
+                os.umask(before)
+            wanted = 0o640 if words == record and start is not None else 0o666 & ~mask
+            what = f"{words[0]} {'of a missing LOG' if start is None else ''} under the mask {mask:03o}: mode"
+            trials.want(what, oct(mode_of(log)), oct(wanted))
+            os.remove(log)
+    # A scratch that a crash left is emptied.
+    write(f"{room}/LOG", SMALL)
+    write(f"{room}/LOG.recompact", SMALL * 2)
+    trials.want("recompact where a scratch is left", run([program, "recompact", "LOG", "KEEP"], cwd=room), DONE)
+    trials.want("recompact where a scratch is left: the log", read(f"{room}/LOG"), HEADER + b"4\t5\t6\tb\tbb\n")
+
+
+def without_rights():
+    """Ends a process's rights, where it has those of root."""
+    if os.geteuid() == 0:
+        os.setgroups([])
+        os.setgid(NOBODY)
+        os.setuid(NOBODY)
+
+
+# The mode of the folder, that of LOG in it, or None where LOG is missing, the words, and how they end.
+RECORD = ["record", "LOG", "1", "2", "3", "new", COMMAND]
+RECOMPACT, RESTAT = ["recompact", "LOG", "KEEP"], ["restat", "LOG", "TIMES"]
+SHOW, CHECK = ["show", "LOG"], ["check", "LOG"]
+RIGHTS = [
+    *((0o700, mode, words, CANNOT_READ) for mode in (0, 0o200) for words in (SHOW, CHECK)),
+    *((0o700, mode, words, FOLDER_FAILED) for mode in (0, 0o200, 0o400) for words in (RECORD, RECOMPACT, RESTAT)),
+    *((0o600, 0o600, words, CANNOT_READ) for words in (SHOW, CHECK)),
+    *((mode, 0o600, words, FOLDER_FAILED) for mode in (0o600, 0o300) for words in (RECORD, RECOMPACT, RESTAT)),
+    *((0o500, 0o600, words, FOLDER_FAILED) for words in (RECOMPACT, RESTAT)),
+    (0o500, None, RECORD, FOLDER_FAILED),
+    *((0o700, 0o600, words, CANNOT_READ) for words in (["recompact", "LOG", "SECRET"], ["restat", "LOG", "SECRET"], ["replay", "SECRET"])),
+]
+# What the same user may do, with what is printed and the log that is left.
+MAY = [
+    (0o500, 0o400, SHOW, Log(SMALL).shown(), SMALL),
+    (0o500, 0o400, CHECK, Log(SMALL).report(), SMALL),
+    (0o500, 0o600, RECORD, b"", SMALL + line_of(b"new", (1, 2, 3, HASH))),
+    (0o700, None, RECORD, b"", HEADER + line_of(b"new", (1, 2, 3, HASH))),
+    (0o700, 0o600, RECOMPACT, b"", HEADER + b"4\t5\t6\tb\tbb\n"),
+    (0o700, 0o600, RESTAT, b"", HEADER + b"1\t2\t3\ta\taa\n4\t5\t7\tb\tbb\n"),
+]
+
+
+def run_without_rights(program, room, mode, log_mode, words):
+    """Runs a command in a new folder, of which the user is the owner: how it ended, the log, and the names of the files."""
+    folder = f"{room}/folder"
+    log = f"{folder}/LOG"
+    os.mkdir(folder)
+    if log_mode is not None:
+        write(log, SMALL)
+        os.chmod(log, log_mode)
+    if os.geteuid() == 0:
+        for path in [folder, *([log] if log_mode is not None else [])]:
+            os.chown(path, NOBODY, NOBODY)
+    os.chmod(folder, mode)
+    paths = {"LOG": log, **{it: f"{room}/{it}" for it in ("KEEP", "TIMES", "SECRET")}}
+    ended = run([program, *(paths.get(it, it) for it in words)], cwd="/", preexec_fn=without_rights)
+    os.chmod(folder, 0o700)
+    if os.path.exists(log):
+        os.chmod(log, 0o600)
+    left, names_left = read(log), os.listdir(folder)
+    shutil.rmtree(folder)
+    return ended, left, names_left
+
+
+def try_rights(trials, program, room):
+    """What may not be read isn't missing, and what may not be written stays."""
+    for path in os.path.dirname(program), os.path.dirname(room), room:
+        os.chmod(path, 0o755)
+    for name, text, mode in (("KEEP", b"b\n", 0o644), ("TIMES", b"7\tb\n", 0o644), ("SECRET", b"", 0)):
+        write(f"{room}/{name}", text)
+        os.chmod(f"{room}/{name}", mode)
+    try:
+        run([program], cwd="/", preexec_fn=without_rights)
+    except subprocess.SubprocessError as error:
+        return trials.skip("files that may not be read or written", f"no process without rights can be started ({error})")
+    rows = [(*row[:4], None if row[1] is None else SMALL) for row in RIGHTS]
+    rows += [(*row[:3], (0, row[3], b""), row[4]) for row in MAY]
+    for mode, log_mode, words, wanted, left in rows:
+        log = "missing" if log_mode is None else f"of mode {log_mode:03o}"
+        what = f"{' '.join(words)} in a folder of mode {mode:03o}, LOG {log}"
+        got = run_without_rights(program, room, mode, log_mode, words)
+        trials.want(what, got, (wanted, left, [] if left is None else ["LOG"]))
+    return None
+
+
+def trial(trials, program, room):
+    for number, part in enumerate((try_names, try_scripts, try_bad_lines, try_words, try_full_output, try_dash, try_modes, try_rights)):
+        os.mkdir(f"{room}/{number}")
+        part(trials, program, f"{room}/{number}")
+
+
+if __name__ == "__main__":
+    sys.exit(main(__file__, trial))
