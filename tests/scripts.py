@@ -17,6 +17,7 @@ RECORDS = b"record\t" + A + b"record\t" + B
 X = b"1\t2\t3\tx\ta\n"
 # A record that is written at once, a synced one, and then one that is written in pieces: three bytes, and then one by one.
 PIECES = b"writes\t100\t3\t1\t1\t1\t1\t1\t1\t1\t1\t1\t1\nfates\t5\nopen\nrecord\t" + X + b"sync\nrecord\t4\t5\t6\ty\tb\ncrash\n"
+LOST = b"open\nrecord\t" + X + b"sync\nrecord\t4\t5\t6\ty\tb\ncrash\n"
 RENAME = b"fuse\tsync_log\t3\nopen\n" + RECORDS + b"record\t" + C + b"recompact\ta\tc\ncrash\nopen\n"
 APPEND = b"fuse\tappend_log\t2\nopen\n" + RECORDS + b"stop\nopen\n"
 SCRATCH = b"fates\t100\nfuse\tappend_scratch\t1\nopen\n" + RECORDS + b"recompact\ta\n"
@@ -69,6 +70,19 @@ RUNS = [
     (b"fates\t3\t1\t0\n" + CUT + b"crash\n", [OK, OK, OK, OK, OK, FAULT, OK], HEADER + X),
     (b"fates\t3\t1\t9\n" + CUT + b"crash\n", [OK, OK, OK, OK, OK, FAULT, OK], HEADER + X + b"4\t5"),
     (b"fates\t3\t1\t9\n" + CUT + b"crash\nopen\n", [OK, OK, OK, OK, OK, FAULT, OK, OK], HEADER + X),
+    # In place of the five bytes of the second record that a crash takes it leaves zero bytes, all five of them or two; an open cuts them away.
+    (b"fates\t5\ntails\t100\n" + LOST, [OK] * 5, HEADER + X + b"4\t5\t6" + bytes(5)),
+    (b"tails\t2\nfates\t5\n" + LOST, [OK] * 5, HEADER + X + b"4\t5\t6" + bytes(2)),
+    (b"fates\t5\ntails\t100\n" + LOST + b"open\n", [OK] * 6, HEADER + X),
+    # Each crash takes a number; where none is left there is no tail.
+    (b"fates\t5\t0\ntails\t0\t3\n" + LOST + b"open\nrecord\t" + A + b"crash\n", [OK] * 8, HEADER + X + bytes(3)),
+    (b"fates\t5\t0\ntails\t3\n" + LOST + b"open\nrecord\t" + A + b"crash\n", [OK] * 8, HEADER + X),
+    # A cut that isn't durable comes back as a byte of the torn line and zero bytes.
+    (b"fates\t3\t1\t1\ntails\t0\t100\n" + CUT + b"crash\n", [OK, OK, OK, OK, OK, FAULT, OK], HEADER + X + b"4" + bytes(2)),
+    # A header of which nothing is durable has no tail, and a new log that is durable as a whole none; the old one behind a rename has.
+    (b"fuse\tsync_log\t2\nfates\t7\ntails\t100\nopen\ncrash\n", [FAULT, OK], b"# ninja"),
+    (b"fates\t1\t0\ntails\t100\n" + RENAME, [OK, OK, OK, OK, FAULT, OK, OK], HEADER + A + C),
+    (b"fates\t0\t3\ntails\t100\n" + RENAME[: -len(b"open\n")], [OK, OK, OK, OK, FAULT, OK], HEADER + b"1\t2" + bytes(27)),
     # A recompaction begins with an empty scratch, whatever an earlier one left.
     (SCRATCH, [OK, OK, OK, FAULT], HEADER + A + B),
     (SCRATCH + b"stop\nopen\nrecompact\ta\n", [OK, OK, OK, FAULT, OK, OK, OK], HEADER + A),
@@ -107,6 +121,11 @@ BAD = [
     (b"writes\t1\nwrites\t1\n", 2),
     (b"fates\t1\nwrites\t1\nfates\t2\n", 3),
     (b"fuse\tany\t0\nfuse\tany\t0\n", 2),
+    (b"tails\t1\ntails\t1\n", 2),
+    (b"open\ntails\t1\n", 2),
+    (b"tails\n", 1),
+    (b"tails\t\n", 1),
+    (b"tails\t-1\n", 1),
     # Lines that are ignored are counted, and a last line without a newline too.
     (b"\n\nopen\n\nx\n", 5),
     (b"open\nsync\nx", 3),

@@ -4,12 +4,15 @@
     python3 tests/stops.py PROGRAM
 
 - The first call that fails is the nth, n counted up until none does. Then the power is lost, or the log closed, and it is opened again, with
-  each of many fates of the bytes that weren't durable. What is found must be the table of one of the histories that docs/PROMISES.md allows
-  for the replies: `Histories` follows durable and pending updates, and knows nothing of bytes.
-- What the power loss leaves is looked at before it is opened too: of the 48 texts each that the call which failed allows, and no other.
-- Each of these texts is then opened with each call of that open failing in turn, so that its repair is stopped; the power is lost, or the
-  log closed, and it is opened again. That must leave what one open would have, byte for byte. A log that is due is stopped so too. A torn
-  header isn't: a script has one fuse, and it would take that to leave one (`nl_session_tests` and `system_calls.py` stop this repair).
+  each of many fates of the bytes that weren't durable, and with zero bytes in place of those that are lost. What is found must be the table
+  of one of the histories that docs/PROMISES.md allows for the replies: `Histories` follows durable and pending updates, and knows nothing of
+  bytes.
+- What the power loss leaves is looked at before it is opened too: of the 48 texts each that the call which failed allows, and no other; and
+  the same with a tail of zero bytes, where any byte of the log was durable.
+- Each of these texts is then opened with each call of that open failing in turn, so that its repair is stopped; the power is lost, with a
+  tail or without, or the log closed, and it is opened again. That must leave what one open would have, byte for byte. A log that is due is
+  stopped so too, and some that a tail stands in. A torn header isn't: a script has one fuse, and it would take that to leave one
+  (`nl_session_tests` and `system_calls.py` stop this repair).
 - A few runs are worked out by hand, with the bytes before the last open and after it.
 """
 import itertools
@@ -55,6 +58,14 @@ LEFT = [
     (20, 21, HEADER + B, C, [RESTATED]),
     (22, 24, RESTATED, b"", []),
 ]
+
+
+# The tails of a power loss, and how a run ends that met a fault: a tail takes the place that there is.
+TAILS = (), (100,)
+ENDS = [*((b"crash", tails) for tails in TAILS), (b"stop", ())]
+
+# Logs in which the lost bytes of a line came back as zero bytes: some of the line, all of it, and behind a log that is due.
+TAILED = [HEADER + A + B[:3] + bytes(7), HEADER + A + B[:9] + bytes(1), HEADER + A + bytes(len(B)), DUE + bytes(4)]
 
 
 def table_of(updates):
@@ -113,8 +124,9 @@ def replay(program, settings, events):
     return replies, log if size == b"log %d" % len(log) else b""
 
 
-def told(fate):
-    return b"fates" + b"".join(b"\t%d" % number for number in fate)
+def told(fate, tails=()):
+    """The settings of what fails and crashes leave."""
+    return [word + b"".join(b"\t%d" % number for number in numbers) for word, numbers in ((b"fates", fate), (b"tails", tails)) if numbers]
 
 
 def fates():
@@ -128,7 +140,7 @@ def fates():
 
 def first_fault(program, nth, events, fate=(0,)):
     """The place of the first event that fails where the nth call does, or None."""
-    replies, _ = replay(program, [b"fuse\tany\t%d" % nth, told(fate)], events)
+    replies, _ = replay(program, [b"fuse\tany\t%d" % nth, *told(fate)], events)
     return replies.index(b"S8 Fault") if b"S8 Fault" in replies else None
 
 
@@ -157,40 +169,43 @@ def try_stops(trials, program):
         at = first_fault(program, nth, [event for event, _ in EVENTS])
         if at is None:
             break
-        left = set()
-        for end, fate in itertools.product((b"crash", b"stop"), fates()):
-            settings = [b"fuse\tany\t%d" % nth, told(fate)]
-            what = f"call {nth}, {end.decode()}, fates {fate}"
+        left = {tails: set() for tails in TAILS}
+        for (end, tails), fate in itertools.product(ENDS, fates()):
+            settings = [b"fuse\tany\t%d" % nth, *told(fate, tails)]
+            what = f"call {nth}, {end.decode()}, fates {fate}, tails {tails}"
             asked = [*EVENTS[: at + 1], (end, None), (b"open", None)]
             try_found(trials, what, asked, replay(program, settings, [event for event, _ in asked]))
             if end == b"crash":
                 asked.pop()
                 ran = replay(program, settings, [event for event, _ in asked])
                 try_found(trials, f"{what}, before the open", asked, ran)
-                left.add(ran[1])
-        trials.want(f"call {nth}: the texts that a power loss leaves", sorted(left), sorted(texts_left(nth)))
+                left[tails].add(ran[1])
+        for tails, texts in left.items():
+            trials.want(f"call {nth}, tails {tails}: the texts that a power loss leaves", sorted(texts), sorted(texts_left(nth, sum(tails))))
     trials.want("how many calls were stopped", nth - 1, 24)
 
 
-def texts_left(nth):
-    """The texts that a power loss may leave where this call fails."""
-    return {text for first, last, *texts in LEFT if first <= nth <= last for text in all_of(*texts)}
+def texts_left(nth, tail=0):
+    """The texts that a power loss may leave where this call fails, with a tail of so many zero bytes as far as they have place."""
+    return {text for first, last, *texts in LEFT if first <= nth <= last for text in all_of(*texts, tail)}
 
 
-def all_of(durable, pending, others):
-    return [durable + pending[:count] for count in range(len(pending) + 1)] + others
+def all_of(durable, pending, others, tail):
+    most = tail if durable else 0
+    return [durable + pending[:count] + bytes(min(most, len(pending) - count)) for count in range(len(pending) + 1)] + others
 
 
 def beginning(text):
-    """The events after which the log is this text, all of it durable, and the fate of the power loss that they end in."""
+    """The events after which the log is this text, all of it durable, and the fate and the tail of the power loss that they end in."""
     if not text:
-        return [], (0,)
-    *lines, torn = text[len(HEADER) :].split(b"\n")
+        return [], (), ()
+    *lines, rest = text[len(HEADER) :].split(b"\n")
+    torn = rest.rstrip(b"\0")
     events = [b"open", *(b"record\t" + line for line in lines), b"sync"]
-    if torn:
+    if rest:
         # Any record whose line begins so.
         events.append(next(it for it, _ in EVENTS if it.startswith(b"record\t" + torn)))
-    return [*events, b"crash"], (len(torn),)
+    return [*events, b"crash"], (len(torn),), (len(rest) - len(torn),)
 
 
 def stacked(text):
@@ -215,23 +230,23 @@ def fates_up_to(most, numbers):
 
 def try_stacked(trials, program, text):
     """Stops the open that repairs a text that a power loss left, at each of its calls."""
-    begin, spent = beginning(text)
+    begin, spent, zeros = beginning(text)
     what = short(text)
-    trials.want(f"{what}: the beginning", replay(program, [told(spent)], begin), ([b"ok"] * len(begin), text))
+    trials.want(f"{what}: the beginning", replay(program, told(spent, zeros), begin), ([b"ok"] * len(begin), text))
     tried, calls, wanted = stacked(text)
     tried, stopped = list(tried), 0
     for nth in range(1, 1000):
-        at = first_fault(program, nth, [*begin, b"open"], spent)
+        at = first_fault(program, nth, [*begin, b"open"], spent or (0,))
         if at is None:
             break
         if at < len(begin):
             continue
         stopped += 1
-        for (end, reply), fate in itertools.product(((b"crash", b"ok"), (b"stop", b"S1 NotOpen")), tried):
-            settings = [b"fuse\tany\t%d" % nth, told(spent + fate if begin else fate)]
+        for (end, tails), fate in itertools.product(ENDS, tried):
+            settings = [b"fuse\tany\t%d" % nth, *told(spent + fate, zeros + tails)]
             ran = replay(program, settings, [*begin, b"open", end, b"open"])
-            replies = [*[b"ok"] * len(begin), b"S8 Fault", reply, b"ok"]
-            trials.want(f"{what}: call {stopped} of its open, {end.decode()}, fates {fate}", ran, (replies, wanted))
+            replies = [*[b"ok"] * len(begin), b"S8 Fault", b"ok" if end == b"crash" else b"S1 NotOpen", b"ok"]
+            trials.want(f"{what}: call {stopped} of its open, {end.decode()}, fates {fate}, tails {tails}", ran, (replies, wanted))
     trials.want(f"{what}: how many calls of its open were stopped", stopped, calls)
 
 
@@ -255,10 +270,18 @@ WORKED = [
     (b"fates\t3\t2\nfuse\tsync_log\t5\n" + TORN + b"open\n", DONE + b"S8 Fault\nlog 25\n" + WHOLE),
     (b"fates\t3\t2\nfuse\tsync_log\t5\n" + TORN + b"open\ncrash\n", DONE + b"S8 Fault\nok\nlog 27\n" + WHOLE + b"1\t"),
     (b"fates\t3\t2\nfuse\tsync_log\t5\n" + TORN + b"open\ncrash\nopen\n", DONE + b"S8 Fault\nok\nok\nlog 25\n" + WHOLE),
+    # The power loss leaves zero bytes in place of the other seven of the line, or three of them; the next open cuts them away,
+    (b"fates\t3\ntails\t9\n" + TORN, DONE + b"log 35\n" + WHOLE + b"1\t2" + bytes(7)),
+    (b"fates\t3\ntails\t3\n" + TORN, DONE + b"log 31\n" + WHOLE + b"1\t2" + bytes(3)),
+    (b"fates\t3\ntails\t9\n" + TORN + b"open\n", DONE + b"ok\nlog 25\n" + WHOLE),
+    # and a cut that isn't durable may bring back two bytes of the ten, and zero bytes in place of the others.
+    (b"fates\t3\t2\ntails\t9\t9\nfuse\tsync_log\t5\n" + TORN + b"open\ncrash\n", DONE + b"S8 Fault\nok\nlog 35\n" + WHOLE + b"1\t" + bytes(8)),
     # Of the header of an empty log 7 bytes are left.
     (b"fates\t7\nfuse\tsync_log\t2\nopen\n", b"S8 Fault\nlog 15\n# ninja log v5\n"),
     (b"fates\t7\nfuse\tsync_log\t2\nopen\ncrash\n", b"S8 Fault\nok\nlog 7\n# ninja"),
     (b"fates\t7\nfuse\tsync_log\t2\nopen\ncrash\nopen\n", b"S8 Fault\nok\nok\nlog 15\n# ninja log v5\n"),
+    # Nothing of it was durable, so no zero bytes stand behind them.
+    (b"fates\t7\ntails\t9\nfuse\tsync_log\t2\nopen\ncrash\n", b"S8 Fault\nok\nlog 7\n# ninja"),
 ]
 
 
@@ -273,7 +296,7 @@ def trial(trials, program, room):
     left = set().union(*(texts_left(nth) for nth in range(1, 25)))
     trials.want("how many texts there are", len(left), 48)
     begun = [text for text in sorted(left) if not text or len(text) >= len(HEADER)]
-    for text in [*begun, DUE, DUE + b"1\t2"]:
+    for text in [*begun, DUE, DUE + b"1\t2", *TAILED]:
         try_stacked(trials, program, text)
 
 

@@ -1,6 +1,6 @@
 //! What a folder in memory is told: which call fails, and how much a write, a failure and a crash leave.
 ghost use Rattle.std.specs.Prelude.{◌≡◌, ◌≤◌, List, ℕ, length, drop, slice_get};
-ghost use Rattle.nl_folder.specs.Amounts.{amount_of, kept_len};
+ghost use Rattle.nl_folder.specs.Amounts.{amount_of, kept_len, tail_len};
 
 use crate::fuse::burn;
 use crate::{Call, Fuse};
@@ -54,6 +54,7 @@ impl Numbers {
 pub struct Choices {
     pub writes: Numbers,
     pub fates: Numbers,
+    pub tails: Numbers,
     pub fuse: Option<Fuse>,
     /// Of the two files that a crash may leave, the other one was the scratch, and else the log.
     pub other_was_scratch: bool,
@@ -89,5 +90,16 @@ pub fn kept(number: Option<u64>, len: u64, old: usize) -> usize
     match number {
         Some(number) => len.saturating_add(number).min(old as u64) as usize,
         None => old,
+    }
+}
+
+/// How many zero bytes stand behind the first `kept` of a text of `old` bytes, of which `durable` are durable.
+pub fn tail(number: Option<u64>, durable: usize, kept: usize, old: usize) -> usize
+    requires { kept ≤ old }
+    ensures { result ≡ tail_len number durable kept old }
+{
+    match number {
+        Some(number) if durable > 0 => number.min((old - kept) as u64) as usize,
+        _ => 0,
     }
 }

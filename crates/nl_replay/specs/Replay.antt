@@ -39,6 +39,7 @@ word_of Any = codes "any"
 abbrev pub text_of_word : Word → List ℕ
 text_of_word word.Writes = codes "writes"
 text_of_word word.Fates = codes "fates"
+text_of_word word.Tails = codes "tails"
 text_of_word word.Fuse = codes "fuse"
 text_of_word word.Open = codes "open"
 text_of_word word.Recompact = codes "recompact"
@@ -77,7 +78,7 @@ event_line Crash = codes "crash"
 
 -- a line that sets what the folder does
 abbrev pub IsSetting : List ℕ → Type 0
-IsSetting line = (rest : List ℕ) × ((line ≡ codes "writes" ++ 9 ∷ rest) ⊎ (line ≡ codes "fates" ++ 9 ∷ rest) ⊎ (line ≡ codes "fuse" ++ 9 ∷ rest))
+IsSetting line = (rest : List ℕ) × ((line ≡ codes "writes" ++ 9 ∷ rest) ⊎ (line ≡ codes "fates" ++ 9 ∷ rest) ⊎ (line ≡ codes "tails" ++ 9 ∷ rest) ⊎ (line ≡ codes "fuse" ++ 9 ∷ rest))
 
 -- a line that says something
 abbrev pub is_filled : List ℕ → Bool
@@ -101,7 +102,7 @@ TakesIn old new (b ∷ line) = SaysMore old new (b ∷ line)
 
 -- what a script tells a folder in memory
 abbrev pub told_by : Script → Choices
-told_by script = record { writes = script.writes.items; fates = script.fates.items; fuse = script.fuse; other_was_scratch = false }
+told_by script = record { writes = script.writes.items; fates = script.fates.items; tails = script.tails.items; fuse = script.fuse; other_was_scratch = false }
 
 -- a reply as it is printed: `ok`, or the number and the name of the refusal
 abbrev pub reply_words : Reply → List ℕ

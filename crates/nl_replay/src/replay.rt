@@ -40,13 +40,13 @@ fn set_up(alloc: Global, script: Script) -> (MemFolder, Vec<Event>)
     let Script {
         writes,
         fates,
+        tails,
         fuse,
         events,
     } = script;
-    (
-        MemFolder::new(alloc, Vec::new(alloc), writes, fates, fuse),
-        events,
-    )
+    let mut folder = MemFolder::new(alloc, Vec::new(alloc), writes, fates, fuse);
+    folder.set_tails(tails);
+    (folder, events)
 }
 
 // What is printed of a script.

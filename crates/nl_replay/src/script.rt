@@ -23,9 +23,10 @@ use std::io::Read;
 /// What a script says: the settings of a folder in memory, and the events for a log over it.
 #[derive(Drop)]
 pub struct Script {
-    /// Empty where the script does not set it, as `fates` is: a line that sets it gives one number at least.
+    /// Empty where the script does not set it, as `fates` and `tails` are: a line that sets it gives one number at least.
     pub writes: Vec<u64>,
     pub fates: Vec<u64>,
+    pub tails: Vec<u64>,
     pub fuse: Option<Fuse>,
     pub events: Vec<Event>,
 }
@@ -35,6 +36,7 @@ pub struct Script {
 pub enum Word {
     Writes,
     Fates,
+    Tails,
     Fuse,
     Open,
     Recompact,
@@ -145,6 +147,7 @@ impl Script {
         Script {
             writes: Vec::new(alloc),
             fates: Vec::new(alloc),
+            tails: Vec::new(alloc),
             fuse: None,
             events: Vec::new(alloc),
         }
@@ -165,6 +168,9 @@ impl Script {
             }
             (Word::Fates, Some(text)) if may_set && self.fates.is_empty() => {
                 self.fates = read_numbers(alloc, text)?;
+            }
+            (Word::Tails, Some(text)) if may_set && self.tails.is_empty() => {
+                self.tails = read_numbers(alloc, text)?;
             }
             (Word::Fuse, Some(text)) if may_set && self.fuse.is_none() => {
                 self.fuse = Some(read_fuse(text)?);
@@ -192,6 +198,7 @@ fn read_word(text: &[u8]) -> Option<Word>
     match text {
         b"writes" => Some(Word::Writes),
         b"fates" => Some(Word::Fates),
+        b"tails" => Some(Word::Tails),
         b"fuse" => Some(Word::Fuse),
         b"open" => Some(Word::Open),
         b"recompact" => Some(Word::Recompact),
