@@ -1,97 +1,141 @@
 #!/usr/bin/env python3
-"""Refuses each growth of the tests of crates/nl_growths in turn, the nth in each, n counted up from 1 until none is refused.
+"""Refuses each growth of the tests of crates/nl_growths in turn, the nth in each, n counted up to the first that it doesn't ask for.
 
 A test ends in Ok where nothing was refused; in `Refused` where the call under test was, or in `Faulted` where that was the growth of its
 folder, once it has seen what is left and that the same call then succeeds; in `Setup` where any other growth of the test was refused. Its
 last growth is one of its own, in which it ends in `Setup`: so a test that ends in Ok for some n, and for a greater one doesn't, has passed
-over a refusal. Each other end is a failure.
+over a refusal. Each other end is a failure, and so is a test that asks for fewer growths, or more, than stand here.
 
     python3 tests/growths.py
 
+The tests are made into one program, which is built once, with its growth LAST refused: it takes LAST - n places before the test.
+
 Wants `rt`, and no proof; it is skipped where that is missing.
 """
-import concurrent.futures
-import itertools
 import os
 import re
 import shutil
 import sys
+import tempfile
 
-from trials import Trials, run
+from trials import Trials, run, write
 
 TOP = os.path.dirname(os.path.dirname(os.path.abspath(__file__)))
-CRATE = f"{TOP}/crates/nl_growths"
-SECONDS = 600
-MOST = 60
-AT_ONCE = min(os.cpu_count() or 1, 4)
+CRATE = "nl_growths"
+SECONDS = 900
+# The growth that is refused, and no test asks for so many.
+LAST = 32
 
-# What each test has to end in for some n, beside Ok and `Setup`; it may end in nothing else.
+# What each test has to end in for some n, beside Ok and `Setup` (it may end in nothing else), and for how many growths it asks.
 REFUSED, FAULTED, BOTH, NONE = {"Refused"}, {"Faulted"}, {"Refused", "Faulted"}, set()
 ENDS = {
-    "fields::a_name_that_was_refused_is_read": REFUSED,
-    "fields::a_name_that_was_refused_is_copied": REFUSED,
-    "fields::an_entry_that_was_refused_is_copied": REFUSED,
-    "fields::a_refused_line_leaves_the_vector": REFUSED,
-    "fields::a_refused_hash_leaves_the_vector": REFUSED,
-    "lines::a_reader_that_was_refused_is_made": REFUSED,
-    "lines::a_line_takes_no_memory": NONE,
-    "table::a_refused_put_leaves_the_table_and_gives_the_entry_back": REFUSED,
-    "table::a_refused_edge_leaves_the_table": REFUSED,
-    "table::a_log_that_was_refused_is_loaded": REFUSED,
-    "table::a_log_of_version_4_that_was_refused_is_loaded": REFUSED,
-    "opening::an_empty_log_that_was_refused_is_opened": BOTH,
-    "opening::an_empty_log_that_was_refused_is_opened_after_a_crash": BOTH,
-    "opening::a_torn_log_that_was_refused_is_opened": REFUSED,
-    "opening::a_log_that_is_due_and_was_refused_is_opened": BOTH,
-    "opening::a_log_that_is_due_and_was_refused_is_opened_after_a_crash": BOTH,
-    "opening::a_log_of_version_4_that_was_refused_is_opened": BOTH,
-    "opening::a_log_of_version_4_that_was_refused_is_opened_after_a_crash": BOTH,
-    "calls::a_refused_record_leaves_the_log": BOTH,
-    "calls::a_refused_record_leaves_the_log_after_a_crash": BOTH,
-    "calls::a_refused_edge_leaves_the_log": BOTH,
-    "calls::a_refused_edge_leaves_the_log_after_a_crash": BOTH,
-    "calls::a_recompaction_takes_no_memory_but_the_folders": FAULTED,
-    "calls::a_recompaction_takes_no_memory_but_the_folders_before_a_crash": FAULTED,
-    "calls::a_restat_takes_no_memory_but_the_folders": FAULTED,
-    "calls::a_restat_takes_no_memory_but_the_folders_before_a_crash": FAULTED,
-    "calls::a_sync_takes_no_memory": NONE,
-    "calls::a_stop_takes_no_memory": NONE,
-    "runs::a_refused_run_leaves_what_its_answers_left": BOTH,
+    "fields::a_name_that_was_refused_is_read": (REFUSED, 2),
+    "fields::a_name_that_was_refused_is_copied": (REFUSED, 3),
+    "fields::an_entry_that_was_refused_is_copied": (REFUSED, 2),
+    "fields::a_refused_line_leaves_the_vector": (REFUSED, 3),
+    "fields::a_refused_hash_leaves_the_vector": (REFUSED, 3),
+    "lines::a_reader_that_was_refused_is_made": (REFUSED, 2),
+    "lines::a_line_takes_no_memory": (NONE, 2),
+    "table::a_refused_put_leaves_the_table_and_gives_the_entry_back": (REFUSED, 8),
+    "table::a_refused_edge_leaves_the_table": (REFUSED, 20),
+    "table::a_log_that_was_refused_is_loaded": (REFUSED, 8),
+    "table::a_log_of_version_4_that_was_refused_is_loaded": (REFUSED, 8),
+    "opening::an_empty_log_that_was_refused_is_opened": (BOTH, 4),
+    "opening::an_empty_log_that_was_refused_is_opened_after_a_crash": (BOTH, 4),
+    "opening::a_torn_log_that_was_refused_is_opened": (REFUSED, 9),
+    "opening::a_log_that_is_due_and_was_refused_is_opened": (BOTH, 12),
+    "opening::a_log_that_is_due_and_was_refused_is_opened_after_a_crash": (BOTH, 12),
+    "opening::a_log_of_version_4_that_was_refused_is_opened": (BOTH, 13),
+    "opening::a_log_of_version_4_that_was_refused_is_opened_after_a_crash": (BOTH, 13),
+    "calls::a_refused_record_leaves_the_log": (BOTH, 12),
+    "calls::a_refused_record_leaves_the_log_after_a_crash": (BOTH, 12),
+    "calls::a_refused_edge_leaves_the_log": (BOTH, 20),
+    "calls::a_refused_edge_leaves_the_log_after_a_crash": (BOTH, 20),
+    "calls::a_recompaction_takes_no_memory_but_the_folders": (FAULTED, 14),
+    "calls::a_recompaction_takes_no_memory_but_the_folders_before_a_crash": (FAULTED, 14),
+    "calls::a_restat_takes_no_memory_but_the_folders": (FAULTED, 14),
+    "calls::a_restat_takes_no_memory_but_the_folders_before_a_crash": (FAULTED, 14),
+    "calls::a_sync_takes_no_memory": (NONE, 12),
+    "calls::a_stop_takes_no_memory": (NONE, 10),
+    "runs::a_refused_run_leaves_what_its_answers_left": (BOTH, 23),
 }
 
+MAIN = """//! One test of nl_growths, after so many growths.
+#![tactic(auto)]
 
-def ends_at(nth):
-    """How each test ended where its nth growth was refused, and all that was printed."""
-    status, out, err = run(["rt", "try", "--test", "--fail-alloc", str(nth)], cwd=CRATE, timeout=SECONDS)
-    text = out.decode(errors="replace")
-    ends = {}
-    for it in re.split(r"(?m)^test (?=\S+ \.\.\. )", text)[1:]:
-        name, rest = it.split(" ... ", 1)
-        error = re.search(r"(?m)^    error: (.*)$", rest)
-        is_an_end = error and "the test failed: its result gives status 1" in rest
-        ends[name] = "Ok" if rest.split("\n", 1)[0] == "ok" else error[1] if is_an_end else rest.strip()
-    return ends, f"status {status}, {text[-300:]!r}, {err.decode(errors='replace')[-300:]!r}"
+%s
+use std::rt::Env;
+use std::test::Fail;
+
+fn word<'a>(rt: &HostRuntime, place: usize, buf: &'a mut [u8]) -> &'a [u8] {
+    match rt.arg(place, buf) {
+        Ok(len) => &buf[..len],
+        Err(_) => &[],
+    }
+}
+
+fn main(rt: HostRuntime) -> Result<(), Fail> {
+    let (mut name, mut before) = ([0u8; 256], [0u8; 256]);
+    for _ in word(&rt, 2, &mut before) {
+        let taken: Vec<u8> = Vec::with_capacity(rt.alloc(), 1)?;
+        drop(taken);
+    }
+    match word(&rt, 1, &mut name) {
+%s        _ => Err("there is no such test")?,
+    }
+}
+"""
 
 
-def sweep():
-    """How each test ended, for each n up to the first at which all end in Ok, with what was printed."""
-    found = []
-    with concurrent.futures.ThreadPoolExecutor(AT_ONCE) as pool:
-        for first in itertools.count(1, AT_ONCE):
-            found += pool.map(ends_at, range(first, first + AT_ONCE))
-            for at in range(first - 1, len(found)):
-                if set(found[at][0].values()) <= {"Ok"} or at + 1 == MOST:
-                    return found[: at + 1]
+def program(room):
+    """Makes the tests into a program, in a copy of the crates that they stand on, and gives their names."""
+    shutil.copy(f"{TOP}/crates.txt", room)
+    ignored = shutil.ignore_patterns("out", "must-fail", "proofs")
+    shutil.copytree(f"{TOP}/crates", f"{room}/crates", ignore=ignored)
+    src = f"{room}/crates/{CRATE}/src"
+    with open(f"{src}/lib.rt", encoding="utf-8") as it:
+        modules = re.findall(r"(?m)^mod (\w+);$", it.read())
+    os.remove(f"{src}/lib.rt")
+    names = []
+    for module in modules:
+        with open(f"{src}/{module}.rt", encoding="utf-8") as it:
+            text, parts = it.read(), r"(?m)^#\[test\]\nfn (\w+)"
+        names += [f"{module}::{name}" for name in re.findall(parts, text)]
+        write(f"{src}/{module}.rt", re.sub(parts, r"pub fn \1", text).encode())
+    calls = "".join(f'        b"{name}" => {name}(rt),\n' for name in names)
+    write(f"{src}/main.rt", (MAIN % ("".join(f"mod {it};\n" for it in modules), calls)).encode())
+    return names
+
+
+def ends_of(room, names):
+    """How each test ended for each n, by its name, and all that was printed."""
+    cases = f"{room}/cases"
+    os.mkdir(cases)
+    for place, name in enumerate(names):
+        for nth in range(1, ENDS[name][1] + 2):
+            write(f"{cases}/{place}-{nth}", b"")
+            before = "x" * (LAST - nth)
+            write(f"{cases}/{place}-{nth}.args", f"{name}\n{before}\n".encode())
+    words = ["rt", "try", "--fail-alloc", str(LAST), "--cases", cases]
+    status, _, err = run(words, cwd=f"{room}/crates/{CRATE}", timeout=SECONDS)
+    text = err.decode(errors="replace")
+    ends = {name: [None] * (ENDS[name][1] + 1) for name in names}
+    for said, place, nth, how in re.findall(r"(?ms)(.*?)^case=(\d+)-(\d+) run=([^\n]*)\n", text):
+        error = re.search(r"(?m)^error: (.*)$", said)
+        is_error = error and how.startswith("ended status=1 ")
+        ends[names[int(place)]][int(nth) - 1] = "Ok" if how.startswith("ended status=0 ") else error[1] if is_error else f"{how}: {said[-300:]}"
+    return ends, f"status {status}, {text[-900:]!r}"
 
 
 def judge(trials, name, ends):
     """Whether a test ended as it may for each n, and in each way that it must."""
-    wanted = ENDS[name]
+    wanted, growths = ENDS[name]
     for nth, end in enumerate(ends, 1):
         what = f"{name}, growth {nth}"
         trials.check(what, end in wanted | {"Ok", "Setup"}, f"it ended in {end}")
         trials.check(what, end == "Ok" or "Ok" not in ends[: nth - 1], "a growth before this one was refused, and passed over")
     trials.want(f"{name}, what met refusals", wanted & set(ends), wanted)
+    trials.want(f"{name}, the last growth that it asks for", len(ends) - ends[::-1].index("Setup") if "Setup" in ends else 0, growths)
 
 
 def main():
@@ -101,14 +145,14 @@ def main():
     elif shutil.which("rt") is None:
         trials.skip("a growth that is refused in each test of nl_growths", "rt isn't there")
     else:
-        found = sweep()
-        for nth, (ends, printed) in enumerate(found, 1):
-            trials.check(f"the tests that ran, growth {nth}", set(ends) == set(ENDS), printed)
-        if trials.failed == 0:
-            for name in ENDS:
-                judge(trials, name, [ends[name] for ends, _ in found])
-            print(f"{os.path.basename(__file__)}: growth {len(found) - 1} was the last that a test asked for")
-        trials.check("a run without a refusal", set(found[-1][0].values()) == {"Ok"}, found[-1][1])
+        with tempfile.TemporaryDirectory() as room:
+            names = program(room)
+            if trials.want("the tests", set(names), set(ENDS)):
+                ends, printed = ends_of(room, names)
+                if trials.check("each test ran for each growth", all(None not in it for it in ends.values()), printed):
+                    for name in ENDS:
+                        judge(trials, name, ends[name])
+                    print(f"{os.path.basename(__file__)}: growth {max(it for _, it in ENDS.values())} was the last that a test asked for")
     return trials.end()
 
 
