@@ -6,11 +6,10 @@ ghost use Rattle.nl_replay.specs.Faults.{IsReplayFault};
 ghost use Rattle.nl_texts.specs.Output.{Prints};
 ghost use Rattle.nl_replay.specs.Replay.{IsReplayOf, IsReplayText, printed, reply_words, told_by};
 
-use nl_texts::ToolFault;
-use nl_texts::write_out;
 use crate::script::{Script, read_script};
 use nl_folder::MemFolder;
 use nl_session::{Event, LogFault, Outcome, Reply, run_events};
+use nl_texts::{ToolFault, write_out};
 use std::alloc::{AllocError, Global};
 use std::fmt;
 use std::io::{Read, Write};

@@ -11,12 +11,12 @@ ghost use Rattle.nl_replay.specs.declared.script.Word.{Word};
 ghost use Rattle.nl_texts.specs.Files.{OfBytes, file_lines};
 ghost use Rattle.nl_replay.specs.Replay.{IsScript, SaysMore, TakesIn, behind_tab, event_line, keep_fields, name_field, text_of_word, time_fields, word_of};
 
-use nl_texts::ToolFault;
 use nl_fields::{Entry, Name, NameFault, read_entry, read_i64};
 use nl_folder::{Call, Fuse};
 use nl_lines::{Line, Lines, ReadSource, Source};
 use nl_session::Event;
 use nl_table::KeepList;
+use nl_texts::ToolFault;
 use std::alloc::{AllocError, AllocFailed, Global};
 use std::io::Read;
 

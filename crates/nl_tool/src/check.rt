@@ -6,10 +6,9 @@ ghost use Rattle.nl_texts.specs.Output.{Prints};
 ghost use Rattle.nl_tool.specs.Output.{checked, report, yes_or_no, IsTextFor};
 ghost use Rattle.nl_texts.specs.declared.fault.ToolFault.{ToolFault};
 
-use nl_texts::ToolFault;
 use crate::loading::load_all;
-use nl_texts::write_out;
 use nl_table::{Loaded, is_due};
+use nl_texts::{ToolFault, write_out};
 use std::alloc::{AllocError, Global};
 use std::io::{Read, Write};
 

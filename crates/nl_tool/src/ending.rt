@@ -6,10 +6,10 @@ ghost use Rattle.clap.specs.Words.{fault_of, kind_of};
 ghost use Rattle.nl_tool.specs.Ending.{status_after, IsStatusBy, IsStatusOfKind};
 ghost use Rattle.nl_words.specs.CommandLine.{nlog};
 
-use nl_texts::{ToolFault, status_of};
 use crate::program::run;
 use clap::Error;
 use clap::error::ErrorKind;
+use nl_texts::{ToolFault, status_of};
 use nl_words::read_words;
 use std::alloc::Global;
 use std::rt::Runtime;

@@ -4,9 +4,8 @@ ghost use Rattle.nl_tool.specs.Faults.{IsHashFault};
 ghost use Rattle.nl_texts.specs.Output.{Prints};
 ghost use Rattle.nl_tool.specs.Output.{IsHashText};
 
-use nl_texts::ToolFault;
-use nl_texts::write_out;
 use nl_fields::{append_hex64, command_hash};
+use nl_texts::{ToolFault, write_out};
 use std::alloc::{AllocError, Global};
 use std::io::Write;
 

@@ -7,10 +7,10 @@ ghost use Rattle.nl_texts.specs.Files.{OfBytes};
 ghost use Rattle.nl_tool.specs.Files.{Says, BadAt, name_on, keep_of};
 ghost use Rattle.nl_texts.specs.declared.fault.ToolFault.{ToolFault};
 
-use nl_texts::ToolFault;
 use crate::parts::{Part, read_parts};
 use nl_fields::{Name, NameFault};
 use nl_table::{LogUser, Table};
+use nl_texts::ToolFault;
 use std::alloc::{AllocError, Global};
 use std::io::Read;
 

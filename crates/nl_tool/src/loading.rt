@@ -5,9 +5,9 @@ ghost use Rattle.nl_tool.specs.Faults.{IsLogFault};
 ghost use Rattle.nl_tool.specs.Loading.{IsLoadFrom};
 ghost use Rattle.nl_texts.specs.declared.fault.ToolFault.{ToolFault};
 
-use nl_texts::ToolFault;
 use nl_lines::ReadSource;
 use nl_table::{Loaded, load};
+use nl_texts::ToolFault;
 use std::alloc::Global;
 use std::io::Read;
 

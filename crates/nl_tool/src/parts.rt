@@ -6,8 +6,8 @@ ghost use Rattle.nl_texts.specs.Files.{OfBytes};
 ghost use Rattle.nl_tool.specs.Files.{Says, BadAt, said_by, said_after, said_of};
 ghost use Rattle.nl_texts.specs.declared.fault.ToolFault.{ToolFault};
 
-use nl_texts::ToolFault;
 use nl_lines::{Line, Lines, MAX_LINE, ReadSource, Source};
+use nl_texts::ToolFault;
 use std::alloc::{AllocError, Global};
 use std::io::Read;
 

@@ -6,14 +6,14 @@ ghost use Rattle.nl_tool.specs.Output.{IsAnswer};
 ghost use Rattle.nl_texts.specs.declared.fault.ToolFault.{ToolFault};
 
 use crate::check::check_to;
-use nl_disk::DiskFolder;
-use nl_texts::ToolFault;
 use crate::hash::hash_to;
 use crate::record_words::entry_of;
-use nl_replay::replay_to;
 use crate::show::show_to;
 use crate::update::{recompact_on, record_on, restat_on};
+use nl_disk::DiskFolder;
 use nl_fields::EntryRef;
+use nl_replay::replay_to;
+use nl_texts::ToolFault;
 use nl_words::Words;
 use std::alloc::Global;
 use std::io::{ErrorKind, Read, Write};

@@ -2,8 +2,8 @@
 ghost use Rattle.std.specs.Prelude.{◌≡◌, IfErr, IfOk, OnOk};
 ghost use Rattle.nl_tool.specs.RecordWords.{GiveEntry, IsEntryOf, IsWordFault, of_name_fault};
 
-use nl_texts::ToolFault;
 use nl_fields::{EntryRef, NameFault, command_hash, read_i32, read_i64};
+use nl_texts::ToolFault;
 
 /// The entry with these values, and with the hash of the command. The numbers are read first, and then the name.
 pub fn entry_of<'a>(

@@ -9,11 +9,10 @@ ghost use Rattle.nl_texts.specs.Output.{AppendsPrefixOf, Prints};
 ghost use Rattle.nl_tool.specs.Output.{IsTextFor, Moves, shown};
 ghost use Rattle.nl_texts.specs.declared.fault.ToolFault.{ToolFault};
 
-use nl_texts::ToolFault;
 use crate::loading::load_all;
-use nl_texts::write_out;
 use nl_fields::{MAX_ENTRY_LINE, append_entry};
 use nl_table::Table;
+use nl_texts::{ToolFault, write_out};
 use std::alloc::Global;
 use std::io::{Read, Write};
 

@@ -6,10 +6,10 @@ ghost use Rattle.nl_texts.specs.Files.{OfBytes};
 ghost use Rattle.nl_tool.specs.Files.{Says, BadAt, pair_on, times_of};
 ghost use Rattle.nl_texts.specs.declared.fault.ToolFault.{ToolFault};
 
-use nl_texts::ToolFault;
 use crate::parts::{Part, read_parts};
 use memchr::memchr;
 use nl_fields::{Name, read_i64};
+use nl_texts::ToolFault;
 use std::alloc::{AllocError, Global};
 use std::io::Read;
 
