@@ -1,5 +1,5 @@
 #!/usr/bin/env python3
-"""Each command over logs and files of each kind: what it prints, on which stream, its status, and the files that it leaves.
+"""Each command over words and files of each kind: what it prints, on which stream, its status, and the files that it leaves.
 
     python3 tests/commands.py PROGRAM
 
@@ -12,38 +12,6 @@ import sys
 from trials import main, read, run, write
 
 HEADER = b"# ninja log v5\n"
-
-# The bytes of a log, what `show` prints, and the six numbers of `check`.
-LOGS = [
-    (b"", b"", (5, 0, 0, 0, 0, "no")),
-    (HEADER, b"", (5, 0, 0, 0, 0, "no")),
-    (b"# ninja lo", b"", (5, 0, 0, 0, 10, "no")),
-    (b"# ninja log v5", b"", (5, 0, 0, 0, 14, "no")),
-    (HEADER + b"0\t5\t1700000000000000000\tout\t0\n", b"0\t5\t1700000000000000000\tout\t0\n", (5, 1, 1, 0, 0, "no")),
-    # The last entry of an output counts, in the place of its first.
-    (HEADER + b"1\t2\t10\ta\taa\n3\t4\t20\tb\tbb\n5\t6\t30\ta\tcc\n", b"5\t6\t30\ta\tcc\n3\t4\t20\tb\tbb\n", (5, 3, 2, 0, 0, "no")),
-    (
-        HEADER + b"-2147483648\t2147483647\t9223372036854775807\tmax\tffffffffffffffff\n0\t0\t-9223372036854775808\tmin\t0\n",
-        b"-2147483648\t2147483647\t9223372036854775807\tmax\tffffffffffffffff\n0\t0\t-9223372036854775808\tmin\t0\n",
-        (5, 2, 2, 0, 0, "no"),
-    ),
-    # Other spellings of numbers are no entries.
-    (HEADER + b"007\t1\t1\to\ta\n-0\t1\t1\to\ta\n1\t2147483648\t1\to\ta\n1\t1\t1\to\t00ab\n1\t1\t1\to\tAB\n", b"", (5, 0, 0, 5, 0, "no")),
-    (HEADER + b"1\t2\t3\tok\tff\n1\t2\t3\tout\tabc", b"1\t2\t3\tok\tff\n", (5, 1, 1, 0, 13, "no")),
-    # A torn line with a whole one behind it, and a header in the midst.
-    (HEADER + b"1\t2\t3\tou4\t5\t6\tout\tab\n1\t2\t3\tz\t1\n", b"1\t2\t3\tz\t1\n", (5, 1, 1, 1, 0, "no")),
-    (HEADER + HEADER + b"1\t2\t3\tz\t1\n", b"1\t2\t3\tz\t1\n", (5, 1, 1, 1, 0, "no")),
-    # The hashes of the commands `cc<TAB>x` and none, and a line without a command.
-    (
-        b"# ninja log v4\n1\t2\t3\ta\tcc\tx\n4\t5\t6\tb\t\n",
-        b"1\t2\t3\ta\t72274e7a30810c7b\n4\t5\t6\tb\t87c2bc0beaf1d91d\n",
-        (4, 2, 2, 0, 0, "yes"),
-    ),
-    (b"# ninja log v4\n1\t2\t3\ta\n", b"", (4, 0, 0, 1, 0, "yes")),
-    # It is due past a hundred entries of one output.
-    (HEADER + b"1\t2\t3\ta\ta\n" * 100, b"1\t2\t3\ta\ta\n", (5, 100, 1, 0, 0, "no")),
-    (HEADER + b"1\t2\t3\ta\ta\n" * 101, b"1\t2\t3\ta\ta\n", (5, 101, 1, 0, 0, "yes")),
-]
 
 NO_LOG = b"nlog: not a ninja log\n"
 OTHER_VERSION = b"nlog: log version not supported\n"
@@ -205,23 +173,9 @@ def asked(program, room, words, given=b""):
     return run([program, *words], cwd=room, stdin=None, input=given)
 
 
-def report(counts):
-    names = ("version", "total", "unique", "skipped", "torn", "due")
-    return "".join(f"{name} {count}\n" for name, count in zip(names, counts)).encode()
-
-
 def refused(why):
     """How a command ends, by why it is refused: where that is nothing, it is done."""
     return (1, b"", b"nlog: " + why + b"\n") if why else (0, b"", b"")
-
-
-def try_logs(trials, program, room):
-    for log, shown, counts in LOGS:
-        write(f"{room}/log", log)
-        for command, wanted in (("show", shown), ("check", report(counts))):
-            trials.want(f"{command} < {log!r}", asked(program, room, [command], log), (0, wanted, b""))
-            trials.want(f"{command} of a file, {log!r}", asked(program, room, [command, "log"]), (0, wanted, b""))
-        trials.want(f"the file {log!r}", read(f"{room}/log"), log)
 
 
 def try_refused(trials, program, room):
@@ -295,7 +249,7 @@ def try_own(trials, program, room):
 
 
 def trial(trials, program, room):
-    for part in (try_logs, try_refused, try_changes, try_words, try_own):
+    for part in (try_refused, try_changes, try_words, try_own):
         folder = f"{room}/{part.__name__}"
         os.mkdir(folder)
         part(trials, program, folder)

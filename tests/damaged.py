@@ -3,8 +3,9 @@
 
     python3 tests/damaged.py PROGRAM
 
-Each text is read from a file, and from standard input in pieces of one byte: that is one end of a pair of sockets, each message on which
-is one byte, so that no read gives more. The end of the text is the end of what is sent. Both ways have to give the same: literal answers,
+Each text is read from a file, and from standard input in pieces of one byte (those of a text of more than 70,000 bytes are longer between
+its first 1,000 bytes and its last): that is one end of a pair of sockets, each message on which is a piece, so that no read gives more. The
+end of the text is the end of what is sent. Both ways have to give the same: literal answers,
 taken from docs/FORMAT.md, and where each byte of a log is replaced those of `log_format`. At last come names that collide in the table,
 which `bench/colliding_log.py` finds: they cost time, and change no answer.
 """
@@ -29,6 +30,44 @@ LOG = b"# ninja log v5\n1\t2\t10\ta\taa\n3\t4\t20\tb\tbb\n5\t6\t30\ta\tcc\n"
 # Its commands are `cc<TAB>x`, and twice none.
 OLD_LOG = b"# ninja log v4\n1\t2\t10\ta\tcc\tx\n3\t4\t20\tb\t\n5\t6\t30\ta\t\n"
 
+# Logs of each kind, what `show` prints of each, and the six numbers of `check`.
+KINDS = [
+    (b"", b"", (5, 0, 0, 0, 0, "no")),
+    (HEADERS[5], b"", (5, 0, 0, 0, 0, "no")),
+    (b"# ninja lo", b"", (5, 0, 0, 0, 10, "no")),
+    (b"# ninja log v5", b"", (5, 0, 0, 0, 14, "no")),
+    (HEADERS[5] + b"0\t5\t1700000000000000000\tout\t0\n", b"0\t5\t1700000000000000000\tout\t0\n", (5, 1, 1, 0, 0, "no")),
+    # The last entry of an output counts, in the place of its first.
+    (HEADERS[5] + b"1\t2\t10\ta\taa\n3\t4\t20\tb\tbb\n5\t6\t30\ta\tcc\n", b"5\t6\t30\ta\tcc\n3\t4\t20\tb\tbb\n", (5, 3, 2, 0, 0, "no")),
+    (
+        HEADERS[5] + b"-2147483648\t2147483647\t9223372036854775807\tmax\tffffffffffffffff\n0\t0\t-9223372036854775808\tmin\t0\n",
+        b"-2147483648\t2147483647\t9223372036854775807\tmax\tffffffffffffffff\n0\t0\t-9223372036854775808\tmin\t0\n",
+        (5, 2, 2, 0, 0, "no"),
+    ),
+    # Other spellings of numbers are no entries.
+    (HEADERS[5] + b"007\t1\t1\to\ta\n-0\t1\t1\to\ta\n1\t2147483648\t1\to\ta\n1\t1\t1\to\t00ab\n1\t1\t1\to\tAB\n", b"", (5, 0, 0, 5, 0, "no")),
+    (HEADERS[5] + b"1\t2\t3\tok\tff\n1\t2\t3\tout\tabc", b"1\t2\t3\tok\tff\n", (5, 1, 1, 0, 13, "no")),
+    # A torn line with a whole one behind it, and a header in the midst.
+    (HEADERS[5] + b"1\t2\t3\tou4\t5\t6\tout\tab\n1\t2\t3\tz\t1\n", b"1\t2\t3\tz\t1\n", (5, 1, 1, 1, 0, "no")),
+    (HEADERS[5] + HEADERS[5] + b"1\t2\t3\tz\t1\n", b"1\t2\t3\tz\t1\n", (5, 1, 1, 1, 0, "no")),
+    # The hashes of the commands `cc<TAB>x` and none, and a line without a command.
+    (
+        b"# ninja log v4\n1\t2\t3\ta\tcc\tx\n4\t5\t6\tb\t\n",
+        b"1\t2\t3\ta\t72274e7a30810c7b\n4\t5\t6\tb\t87c2bc0beaf1d91d\n",
+        (4, 2, 2, 0, 0, "yes"),
+    ),
+    (b"# ninja log v4\n1\t2\t3\ta\n", b"", (4, 0, 0, 1, 0, "yes")),
+    (HEADERS[4], b"", (4, 0, 0, 0, 0, "yes")),
+    (HEADERS[4] + b"1\t2\t3\ta\tcc\tx\n4\t5\t6\tb\tcc", b"1\t2\t3\ta\t72274e7a30810c7b\n", (4, 1, 1, 0, 10, "yes")),
+    (HEADERS[4] * 2 + b"1\t2\t3\ta\tff\n1\t2\t4\ta\tcc\tx\n", b"1\t2\t4\ta\t72274e7a30810c7b\n", (4, 2, 1, 1, 0, "yes")),
+    (HEADERS[5] + b"1\t2\t3\ta\tcc\tx\n", b"", (5, 0, 0, 1, 0, "no")),
+    # Lines of 262,143 and 262,144 bytes are skipped.
+    (HEADERS[5] + b"7" * 262_143 + b"\n" + b"7" * 262_144 + b"\n1\t2\t3\tz\t1\n", b"1\t2\t3\tz\t1\n", (5, 1, 1, 2, 0, "no")),
+    # It is due past a hundred entries of one output.
+    (HEADERS[5] + b"1\t2\t3\ta\ta\n" * 100, b"1\t2\t3\ta\ta\n", (5, 100, 1, 0, 0, "no")),
+    (HEADERS[5] + b"1\t2\t3\ta\ta\n" * 101, b"1\t2\t3\ta\ta\n", (5, 101, 1, 0, 0, "yes")),
+]
+
 # The first length and the last of a prefix; its version, entries, outputs and whole lines in bytes, whether it is due, and what is shown.
 PREFIXES = [
     (0, 14, 5, 0, 0, 0, NOT_DUE, b""),
@@ -47,6 +86,8 @@ OLD_PREFIXES = [
 ]
 
 LONGEST = b"n" * 65_536
+# More than the longest entry line in a log.
+LONG = 70_000
 EXTREMES = b"-2147483648\t-2147483648\t-9223372036854775808\t" + LONGEST
 
 # What stands before the hash or the command of a line, and whether it is that of an entry.
@@ -124,6 +165,10 @@ REFUSED = [
     (b"# ninja log v6\n", OTHER_VERSION),
     (b"# ninja log v05\n", OTHER_VERSION),
     (b"# ninja log v55\n", OTHER_VERSION),
+    (b"# ninja log v04\n", OTHER_VERSION),
+    (b"# ninja log v3\n", OTHER_VERSION),
+    (b"# ninja log v4 \n", NO_LOG),
+    (b"1\t2\t3\tz\t1\n# ninja log v5\n", NO_LOG),
     (b"x" * 262_143 + b"\n", NO_LOG),
     (b"x" * 262_144 + b"\n", NO_LOG),
     # Lines of 262,143 and 262,144 bytes.
@@ -133,6 +178,8 @@ REFUSED = [
     (b"# ninja log v4", NO_LOG),
     (b"# ninja log v6", NO_LOG),
     (b"# ninja log v5\r", NO_LOG),
+    (b"# ninja log v5 ", NO_LOG),
+    (b"# ninja logs", NO_LOG),
     (b"hello", NO_LOG),
     (b"\0", NO_LOG),
     (b"x" * 262_144, NO_LOG),
@@ -144,11 +191,20 @@ def counts(version, total, unique, skipped, torn, due):
     return b"version %d\ntotal %d\nunique %d\nskipped %d\ntorn %d\ndue %s\n" % (version, total, unique, skipped, torn, due.encode())
 
 
+def pieces(text):
+    """The text in pieces of one byte. Those of a text past LONG bytes have 997 between its first 1,000 bytes and its last."""
+    at = 0
+    while at < len(text):
+        size = 997 if len(text) > LONG and 1000 <= at < len(text) - 2000 else 1
+        yield text[at : at + size]
+        at += size
+
+
 def send(into, text):
-    """Sends a text in messages of one byte, and then its end."""
+    """Sends a text in messages of one piece, and then its end."""
     try:
-        for at in range(len(text)):
-            into.send(text[at : at + 1])
+        for it in pieces(text):
+            into.send(it)
         into.shutdown(socket.SHUT_WR)
     except OSError:
         # The program ended before it read all of it, as it may.
@@ -160,7 +216,7 @@ def pair():
 
 
 def run_in_pieces(words, text):
-    """Runs a program whose standard input is this text in pieces of one byte. The writing side is shut, and stays there."""
+    """Runs a program whose standard input is this text in pieces. The writing side is shut, and stays there."""
     ours, theirs = pair()
     with ours:
         with theirs:
@@ -201,6 +257,30 @@ class Readings:
             self.trials.want(f"{what}: {word}", run([self.program, word, self.file]), wanted)
             if self.pieces:
                 self.trials.want(f"{what}: {word} in pieces", run_in_pieces([self.program, word], text), wanted)
+
+
+def try_kinds(readings):
+    for text, shown, (*numbers, due) in KINDS:
+        readings.want(f"the log {short(text)}", text, shown, counts(*numbers, due))
+
+
+def many():
+    """2,000 entries of 1,000 outputs, and the last of each. One name in ten has some 5,000 bytes, and the last as many as a name may have."""
+    lines = {}
+    log = HEADERS[5]
+    for number in range(2000):
+        size = 65_533 if number % 1000 == 999 else 5_000 if number % 10 == 0 else 10
+        name = b"n" * size + b"%x" % (number % 1000)
+        lines[name] = b"%d\t%d\t%d\t%s\t%x\n" % (number, number + 7, number * 3, name, number)
+        log += lines[name]
+    return log, b"".join(lines.values())
+
+
+def try_many(trials, program, room):
+    log, shown = many()
+    write(f"{room}/LOG", log)
+    trials.want("2,000 entries of 1,000 outputs: show", run([program, "show", f"{room}/LOG"]), (0, shown, b""))
+    trials.want("2,000 entries of 1,000 outputs: check", run([program, "check", f"{room}/LOG"]), (0, counts(5, 2000, 1000, 0, 0, NOT_DUE), b""))
 
 
 def try_prefixes(readings):
@@ -320,6 +400,8 @@ def try_colliding(trials, program, room):
 
 def trial(trials, program, room):
     readings = Readings(trials, program, room)
+    try_kinds(readings)
+    try_many(trials, program, room)
     try_prefixes(readings)
     try_replaced(readings)
     try_lines(readings)

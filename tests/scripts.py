@@ -211,6 +211,40 @@ def many():
     return b"open\n" + first + second + b"recompact\n", replies(*[OK] * 2002) + log(HEADER + left)
 
 
+def updates():
+    """2,000 updates over 50 names, at random from a fixed seed: the line of each, and what a list of entries holds after it."""
+    state, entries = 1, {}
+    name = lambda number: b"%c%c" % (97 + number % 50 // 10, 97 + number % 10)
+    for _ in range(2000):
+        state = (state * 6364136223846793005 + 1442695040888963407) % 2**64
+        if state >> 56 < 4:
+            # Two names in three are kept.
+            kept = [name(it) for it in range(50) if (it ^ (state >> 32)) % 3]
+            entries = {it: entry for it, entry in entries.items() if it in kept}
+            line = b"recompact\t" + b"\t".join(kept)
+        elif state >> 56 < 64:
+            # Three pairs, often of one name.
+            pairs = [((state >> 16 * it) % 100, name((state >> 8 * it) % 4)) for it in range(3)]
+            for time, it in pairs:
+                if it in entries:
+                    entries[it] = *entries[it][:2], time, entries[it][3]
+            line = b"restat\t" + b"\t".join(b"%d\t%s" % it for it in pairs)
+        else:
+            it, entry = name(state >> 32), (state % 1000, state % 2000, state >> 20, state)
+            entries[it] = entry
+            line = b"record\t%d\t%d\t%d\t%s\t%x" % (*entry[:3], it, entry[3])
+        yield line + b"\n", b"".join(b"%d\t%d\t%d\t%s\t%x\n" % (*entry[:3], it, entry[3]) for it, entry in entries.items())
+
+
+def try_updates(trials, program, room):
+    """The table after every fiftieth of 2,000 updates, as a recompaction that keeps all of it writes it."""
+    script = b"open\n"
+    for count, (line, left) in enumerate(updates(), 1):
+        script += line
+        if count % 50 == 0:
+            try_run(trials, program, room, script + b"recompact\n", replies(*[OK] * (count + 2)) + log(HEADER + left))
+
+
 def trial(trials, program, room):
     for script, answers, left in RUNS:
         try_run(trials, program, room, script, replies(*answers) + log(left))
@@ -223,6 +257,7 @@ def trial(trials, program, room):
         left = HEADER + A * (1 if lines == 101 else lines)
         try_run(trials, program, room, b"open\n" + (b"record\t" + A) * lines + b"stop\nopen\n", replies(*[OK] * (lines + 3)) + log(left))
     try_run(trials, program, room, *many())
+    try_updates(trials, program, room)
 
 
 if __name__ == "__main__":
