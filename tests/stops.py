@@ -59,6 +59,9 @@ LEFT = [
     (22, 24, RESTATED, b"", []),
 ]
 
+# The calls that append a line of an entry: the file is as long as the part of it that was added before the failure.
+APPENDS = {5, 7, 14}
+
 
 # The tails of a power loss, and how a run ends that met a fault: a tail takes the place that there is.
 TAILS = (), (100,)
@@ -129,13 +132,15 @@ def told(fate, tails=()):
     return [word + b"".join(b"\t%d" % number for number in numbers) for word, numbers in ((b"fates", fate), (b"tails", tails)) if numbers]
 
 
-def fates():
+def fates(nth):
     """What is left of the call that failed, and at the crash: the file that was the log or the scratch, and bytes."""
     for count in range(81):
         yield (count,)
         for which in (0, 1):
             yield which, count
             yield count, which, count
+    if nth in APPENDS:
+        yield from itertools.product(range(len(A) + 1), repeat=2)
 
 
 def first_fault(program, nth, events, fate=(0,)):
@@ -164,13 +169,13 @@ def try_found(trials, what, asked, ran):
 
 def try_stops(trials, program):
     """Stops the events at each call."""
-    trials.want("how many fates there are", len(set(fates())), 81 * 5)
+    trials.want("how many fates there are", len(set(fates(1))), 81 * 5)
     for nth in range(1, 1000):
         at = first_fault(program, nth, [event for event, _ in EVENTS])
         if at is None:
             break
         left = {tails: set() for tails in TAILS}
-        for (end, tails), fate in itertools.product(ENDS, fates()):
+        for (end, tails), fate in itertools.product(ENDS, fates(nth)):
             settings = [b"fuse\tany\t%d" % nth, *told(fate, tails)]
             what = f"call {nth}, {end.decode()}, fates {fate}, tails {tails}"
             asked = [*EVENTS[: at + 1], (end, None), (b"open", None)]
@@ -187,12 +192,13 @@ def try_stops(trials, program):
 
 def texts_left(nth, tail=0):
     """The texts that a power loss may leave where this call fails, with a tail of so many zero bytes as far as they have place."""
-    return {text for first, last, *texts in LEFT if first <= nth <= last for text in all_of(*texts, tail)}
+    return {text for first, last, *texts in LEFT if first <= nth <= last for text in all_of(*texts, tail, nth in APPENDS)}
 
 
-def all_of(durable, pending, others, tail):
+def all_of(durable, pending, others, tail, is_append):
     most = tail if durable else 0
-    return [durable + pending[:count] + bytes(min(most, len(pending) - count)) for count in range(len(pending) + 1)] + others
+    sizes = range(len(pending) + 1) if is_append else [len(pending)]
+    return [durable + pending[:count] + bytes(min(most, size - count)) for size in sizes for count in range(size + 1)] + others
 
 
 def beginning(text):
