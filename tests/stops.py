@@ -59,16 +59,16 @@ LEFT = [
     (22, 24, RESTATED, b"", []),
 ]
 
-# The calls that append a line of an entry: the file is as long as the part of it that was added before the failure.
-APPENDS = {5, 7, 14}
 
-
-# The tails of a power loss, and how a run ends that met a fault: a tail takes the place that there is.
+# What a power loss is told of its tail: none, or as long as there is place.
 TAILS = (), (100,)
-ENDS = [*((b"crash", tails) for tails in TAILS), (b"stop", ())]
 
 # Logs in which the lost bytes of a line came back as zero bytes: some of the line, all of it, and behind a log that is due.
 TAILED = [HEADER + A + B[:3] + bytes(7), HEADER + A + B[:9] + bytes(1), HEADER + A + bytes(len(B)), DUE + bytes(4)]
+
+
+# The calls of these that append to the log. One that fails adds a part of the line, and so a tail has the place of a part.
+APPENDS = 3, 5, 7, 14
 
 
 def table_of(updates):
@@ -132,20 +132,31 @@ def told(fate, tails=()):
     return [word + b"".join(b"\t%d" % number for number in numbers) for word, numbers in ((b"fates", fate), (b"tails", tails)) if numbers]
 
 
-def fates(nth):
+def fates():
     """What is left of the call that failed, and at the crash: the file that was the log or the scratch, and bytes."""
     for count in range(81):
         yield (count,)
         for which in (0, 1):
             yield which, count
             yield count, which, count
-    if nth in APPENDS:
-        yield from itertools.product(range(len(A) + 1), repeat=2)
 
 
-def first_fault(program, nth, events, fate=(0,)):
+def tailed_fates():
+    """Each part that a failed append of a line may add with each part of it that a crash keeps; and each side of a rename."""
+    yield from fates_up_to(len(HEADER), 2)
+    yield from itertools.product((0, 1), (0, 1), range(len(B) + 1))
+
+
+def ends():
+    """How a run ends that met a fault: by a power loss without a tail or with one, or a close; and the fates to try."""
+    for end, tails, all_fates in ((b"crash", (), fates()), (b"crash", (100,), tailed_fates()), (b"stop", (), fates())):
+        for fate in all_fates:
+            yield end, tails, fate
+
+
+def first_fault(program, nth, events, fate=(0,), tails=()):
     """The place of the first event that fails where the nth call does, or None."""
-    replies, _ = replay(program, [b"fuse\tany\t%d" % nth, *told(fate)], events)
+    replies, _ = replay(program, [b"fuse\tany\t%d" % nth, *told(fate, tails)], events)
     return replies.index(b"S8 Fault") if b"S8 Fault" in replies else None
 
 
@@ -169,13 +180,13 @@ def try_found(trials, what, asked, ran):
 
 def try_stops(trials, program):
     """Stops the events at each call."""
-    trials.want("how many fates there are", len(set(fates(1))), 81 * 5)
+    trials.want("how many fates there are", len(set(fates())), 81 * 5)
     for nth in range(1, 1000):
         at = first_fault(program, nth, [event for event, _ in EVENTS])
         if at is None:
             break
         left = {tails: set() for tails in TAILS}
-        for (end, tails), fate in itertools.product(ENDS, fates(nth)):
+        for end, tails, fate in ends():
             settings = [b"fuse\tany\t%d" % nth, *told(fate, tails)]
             what = f"call {nth}, {end.decode()}, fates {fate}, tails {tails}"
             asked = [*EVENTS[: at + 1], (end, None), (b"open", None)]
@@ -195,10 +206,12 @@ def texts_left(nth, tail=0):
     return {text for first, last, *texts in LEFT if first <= nth <= last for text in all_of(*texts, tail, nth in APPENDS)}
 
 
-def all_of(durable, pending, others, tail, is_append):
-    most = tail if durable else 0
-    sizes = range(len(pending) + 1) if is_append else [len(pending)]
-    return [durable + pending[:count] + bytes(min(most, size - count)) for size in sizes for count in range(size + 1)] + others
+def all_of(durable, pending, others, tail, appends):
+    texts = list(others)
+    for count in range(len(pending) + 1):
+        most = min(tail, len(pending) - count) if durable else 0
+        texts += [durable + pending[:count] + bytes(size) for size in (range(most + 1) if appends else [most])]
+    return texts
 
 
 def beginning(text):
@@ -228,6 +241,11 @@ def stacked(text):
     return fates_up_to(max(1, log.torn), 2), calls, text[: log.whole]
 
 
+def ends_of(text):
+    """How an open of this text ends that met a fault: a tail has a place only where a part of the text is cut away."""
+    return [(b"crash", ()), (b"stop", ()), *([(b"crash", (100,))] if Log(text).torn else [])]
+
+
 def fates_up_to(most, numbers):
     """Lists of one number or more, each up to `most`."""
     for count in range(1, numbers + 1):
@@ -242,13 +260,13 @@ def try_stacked(trials, program, text):
     tried, calls, wanted = stacked(text)
     tried, stopped = list(tried), 0
     for nth in range(1, 1000):
-        at = first_fault(program, nth, [*begin, b"open"], spent or (0,))
+        at = first_fault(program, nth, [*begin, b"open"], spent or (0,), zeros)
         if at is None:
             break
         if at < len(begin):
             continue
         stopped += 1
-        for (end, tails), fate in itertools.product(ENDS, tried):
+        for (end, tails), fate in itertools.product(ends_of(text), tried):
             settings = [b"fuse\tany\t%d" % nth, *told(spent + fate, zeros + tails)]
             ran = replay(program, settings, [*begin, b"open", end, b"open"])
             replies = [*[b"ok"] * len(begin), b"S8 Fault", b"ok" if end == b"crash" else b"S1 NotOpen", b"ok"]
