@@ -2,6 +2,7 @@
 use crate::sources::PieceReader;
 use nl_lines::{ReadSource, SliceSource, Source};
 use nl_table::{LoadFault, load};
+use std::test::Fail;
 
 #[test]
 fn another_first_line_is_refused_before_the_source_fails(rt: HostRuntime) -> Result<(), Fail> {
