@@ -1,5 +1,5 @@
 #!/usr/bin/env python3
-"""Refuses each growth of the tests of crates/nl_growths in turn, the nth in each, n counted up to the first that it doesn't ask for.
+"""Refuses each growth of the tests of tests/library/growths in turn, the nth in each, n counted up to the first that it doesn't ask for.
 
 A test ends in Ok where nothing was refused; in `Refused` where the call under test was, or in `Faulted` where that was the growth of its
 folder, once it has seen what is left and that the same call then succeeds; in `Setup` where any other growth of the test was refused. Its
@@ -18,10 +18,10 @@ import shutil
 import sys
 import tempfile
 
+from library import TEST, crates, lay_out, modules
 from trials import Trials, run, write
 
-TOP = os.path.dirname(os.path.dirname(os.path.abspath(__file__)))
-CRATE = "nl_growths"
+CRATE, USES = "nl_growths", "nl_fields nl_lines nl_table nl_folder nl_session"
 SECONDS = 900
 # The growth that is refused, and no test asks for so many.
 LAST = 32
@@ -60,7 +60,7 @@ ENDS = {
     "runs::a_refused_run_leaves_what_its_answers_left": (BOTH, 23),
 }
 
-MAIN = """//! One test of nl_growths, after so many growths.
+MAIN = """//! One of the tests, after so many growths.
 #![tactic(auto)]
 
 %s
@@ -87,23 +87,17 @@ fn main(rt: HostRuntime) -> Result<(), Fail> {
 """
 
 
-def program(room):
+def program(trials, room):
     """Makes the tests into a program, in a copy of the crates that they stand on, and gives their names."""
-    shutil.copy(f"{TOP}/crates.txt", room)
-    ignored = shutil.ignore_patterns("out", "must-fail", "proofs")
-    shutil.copytree(f"{TOP}/crates", f"{room}/crates", ignore=ignored)
-    src = f"{room}/crates/{CRATE}/src"
-    with open(f"{src}/lib.rt", encoding="utf-8") as it:
-        modules = re.findall(r"(?m)^mod (\w+);$", it.read())
-    os.remove(f"{src}/lib.rt")
-    names = []
-    for module in modules:
-        with open(f"{src}/{module}.rt", encoding="utf-8") as it:
-            text, parts = it.read(), r"(?m)^#\[test\]\nfn (\w+)"
-        names += [f"{module}::{name}" for name in re.findall(parts, text)]
-        write(f"{src}/{module}.rt", re.sub(parts, r"pub fn \1", text).encode())
+    src, names, parts = crates(room, CRATE, USES), [], modules(trials, "growths")
+    for module, text in parts.items():
+        write(f"{src}/{module}.rt", text.encode())
+        names += [f"{module}::{it}" for it in re.findall(TEST, text)]
     calls = "".join(f'        b"{name}" => {name}(rt),\n' for name in names)
-    write(f"{src}/main.rt", (MAIN % ("".join(f"mod {it};\n" for it in modules), calls)).encode())
+    write(f"{src}/main.rt", (MAIN % ("".join(f"mod {it};\n" for it in parts), calls)).encode())
+    lay_out(trials, src, {f"growths/{it}": text.encode() for it, text in parts.items()}, "growths/")
+    for module, text in parts.items():
+        write(f"{src}/{module}.rt", re.sub(TEST, r"pub fn \1", text).encode())
     return names
 
 
@@ -143,10 +137,10 @@ def main():
     if len(sys.argv) > 1:
         trials.check("it takes no word", False)
     elif shutil.which("rt") is None:
-        trials.skip("a growth that is refused in each test of nl_growths", "rt isn't there")
+        trials.skip("a growth that is refused in each test", "rt isn't there")
     else:
         with tempfile.TemporaryDirectory() as room:
-            names = program(room)
+            names = program(trials, room)
             if trials.want("the tests", set(names), set(ENDS)):
                 ends, printed = ends_of(room, names)
                 if trials.check("each test ran for each growth", all(None not in it for it in ends.values()), printed):

@@ -12,7 +12,7 @@
 - Each of these texts is then opened with each call of that open failing in turn, so that its repair is stopped; the power is lost, with a
   tail or without, or the log closed, and it is opened again. That must leave what one open would have, byte for byte. A log that is due is
   stopped so too, and some that a tail stands in. A torn header isn't: a script has one fuse, and it would take that to leave one
-  (`nl_session_tests` and `system_calls.py` stop this repair).
+  (`tests/library/session` and `system_calls.py` stop this repair).
 - A few runs are worked out by hand, with the bytes before the last open and after it.
 """
 import itertools
