@@ -44,7 +44,7 @@ fi
 part python3 tests/growths.py
 
 # Each says what it skips, and why: a formatter, strace, Ninja or a small disk may be missing.
-for trial in commands scripts limits manual fuzz damaged large stops closed_streams short_writes system_calls crash_states full_disk two_writers with_ninja; do
+for trial in commands scripts limits manual fuzz damaged large stops closed_streams short_writes system_calls crash_states real_disks full_disk two_writers with_ninja; do
     part python3 "tests/$trial.py" crates/nlog/out/nlog
 done
 

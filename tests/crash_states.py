@@ -132,7 +132,11 @@ def try_model(trials):
     new = Disk(None)
     new.make(LOG)
     new.names[LOG].append(b"ab")
-    trials.want("a new file has no tail", {it for it, _ in new.images()}, {None, b"", b"a", b"ab"})
+    trials.want("a new file without a line has no tail", {it for it, _ in new.images()}, {None, b"", b"a", b"ab"})
+    new.names[LOG].append(b"\ncd")
+    tails = [it for it, _ in new.images() if it and not b"ab\ncd".startswith(it)]
+    trials.check("one with a line may have one", {b"ab\n\0", b"ab\n\0\0", b"ab\nc\0"} <= set(tails), tails)
+    trials.check("each behind the line", all(it.startswith(b"ab\n") and len(it) <= 5 for it in tails), tails)
 
 
 def sweep_all(sweep):

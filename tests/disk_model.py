@@ -42,11 +42,11 @@ class File:
     def images(self):
         """Each prefix that a crash may leave, without a tail, and with one of a byte, of half of the room there is, and of all of it.
 
-        A file of which nothing is durable has no tail.
+        Where nothing of the file is durable, a tail stands behind a whole line alone.
         """
         for prefix in self.prefixes():
             yield prefix
-            room = len(self.longest) - len(prefix) if self.durable_len > 0 else 0
+            room = len(self.longest) - len(prefix) if self.durable_len > 0 or b"\n" in prefix else 0
             for size in {1, room // 2, room} if room > 1 else {room} - {0}:
                 yield prefix + bytes(size)
                 yield prefix + (STALE * room)[:size]

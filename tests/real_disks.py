@@ -37,14 +37,14 @@ from trials import main, read, run, short, usage, write
 
 SEED = 20240229
 # How many images are made of a mode where the words don't say, and for how many seconds at most; else each may take a second.
-FEW, SECONDS = 100, 8
+FEW, SECONDS = 30, 8
 MEGA = 1 << 20
 # How the disk is made; as which file system it is mounted, and how; its size; whether a torn write loses its end or sectors anywhere, of
 # which size; what it may leave beside what the model allows; how many images may be mounted at one time.
 Mode = namedtuple("Mode", "make kind options size torn sector leaves at_once")
 EXT4 = ["mkfs.ext4", "-q", "-F", "-b", "4096", "-E", "nodiscard,lazy_itable_init=0,lazy_journal_init=0"]
 EXT3 = ["mkfs.ext3", *EXT4[1:]]
-NEW = {"new tail", "new zeros", "no log"}
+NEW = {"new zeros", "no log"}
 MODES = {
     "ext4": Mode(EXT4, "ext4", "", 64 * MEGA, "end", 512, NEW, None),
     "xfs": Mode(["mkfs.xfs", "-q", "-f", "-K"], "xfs", "nouuid", 320 * MEGA, "any", 512, set(), None),
@@ -123,7 +123,7 @@ class Growing(File):
         if len(log) > len(self.longest) or b"\n" in tail:
             return "outside"
         if self.durable_len == 0:
-            return "new tail" if reading_of(log) == "log" else "new zeros"
+            return "new tail" if b"\n" in log[:same] else "new zeros"
         return "tail" if tail.strip(b"\0") else "zeros"
 
 
@@ -355,10 +355,10 @@ def read_all(image, mode, folder, names):
 def judge_image(it, what, found, wanted, counts, logs):
     verdicts = {name: wanted[name].verdict(log) for name, log in found.items()}
     counts.update(set(verdicts.values()))
-    allowed = {"prefix", "zeros", "tail"}
+    allowed = {"prefix", "zeros", "tail", "new tail"}
     wrong = [name for name, verdict in verdicts.items() if verdict not in allowed | MODES[Task.mode].leaves]
     it.check(what, not wrong, lambda: f"{len(wrong)} logs, such as {wrong[0]}, {verdicts[wrong[0]]}: {wanted[wrong[0]].said(found[wrong[0]])}")
-    logs.update(dict.fromkeys(log for name, log in found.items() if verdicts[name] in allowed | {"new tail"} and reading_of(log or b"") == "log"))
+    logs.update(dict.fromkeys(log for name, log in found.items() if verdicts[name] in allowed and reading_of(log or b"") == "log"))
 
 
 def moments_of(events, images):
