@@ -7,15 +7,11 @@ cd "$(dirname "$0")"
 passed=0
 failed=0
 
-# Runs a part, shows what it prints, and adds its last line to the sum. A part that ends badly, or without that line, has failed.
-part() {
-    local last status kept
-    kept=$(mktemp)
-    echo "== $*"
-    "$@" 2>&1 | tee "$kept"
-    status=${PIPESTATUS[0]}
-    last=$(tail -n 1 "$kept")
-    rm -f "$kept"
+# Adds the last line of what a part printed to the sum. A part that ends badly, or without that line, has failed.
+count() {
+    local status=$1 last
+    last=$(tail -n 1 "$2")
+    shift 2
     if [[ $last =~ ^([0-9]+)\ passed,\ ([0-9]+)\ failed$ ]]; then
         passed=$((passed + BASH_REMATCH[1]))
         failed=$((failed + BASH_REMATCH[2]))
@@ -24,6 +20,35 @@ part() {
     echo "test.sh: FAILED: $* ended with status $status"
     failed=$((failed + 1))
 }
+
+# Runs a part, and shows what it prints.
+part() {
+    echo "== $*"
+    "$@" 2>&1 | tee "$room/part"
+    count "${PIPESTATUS[0]}" "$room/part" "$@"
+}
+
+# Runs each line of its input as a part, as many at one time as there are processors, and shows what they printed in the order of the lines.
+parts() {
+    local lines line at lanes
+    lanes=$(nproc 2> /dev/null || echo 2)
+    mapfile -t lines
+    echo "== ${#lines[@]} trials, $lanes at a time"
+    for at in "${!lines[@]}"; do
+        while (($(jobs -rp | wc -l) >= lanes)); do wait -n; done
+        read -ra line <<< "${lines[at]}"
+        ("${line[@]}" > "$room/$at" 2>&1 < /dev/null; echo $? > "$room/$at.status") &
+    done
+    wait
+    for at in "${!lines[@]}"; do
+        echo "== ${lines[at]}"
+        cat "$room/$at"
+        count "$(cat "$room/$at.status")" "$room/$at" "${lines[at]}"
+    done
+}
+
+room=$(mktemp -d)
+trap 'rm -rf "$room"' EXIT
 
 if ! python3 -c 'import sys; sys.exit(sys.version_info < (3, 8))' 2> /dev/null; then
     echo "test.sh: FAILED: the trials of tests/ want Python 3.8 or later, which isn't here; nothing was run"
@@ -40,13 +65,14 @@ else
     echo "test.sh: skipped: the examples by Rattle's own compiler (it built no program)"
 fi
 
-# The libraries, with each growth of some tests refused in turn.
-part python3 tests/growths.py
-
-# Each says what it skips, and why: a formatter, strace, Ninja or a small disk may be missing.
-for trial in commands scripts limits manual fuzz damaged large stops closed_streams short_writes system_calls crash_states real_disks full_disk two_writers with_ninja; do
-    part python3 "tests/$trial.py" crates/nlog/out/nlog
-done
+# The libraries, and the program. Each says what it skips, and why: a formatter, strace, Ninja or a small disk may be missing.
+# Those that take the longest begin first.
+parts < <(
+    printf 'python3 tests/%s.py\n' library growths
+    for trial in stops crash_states large system_calls short_writes fuzz commands scripts limits manual damaged closed_streams real_disks full_disk two_writers with_ninja; do
+        echo "python3 tests/$trial.py crates/nlog/out/nlog"
+    done
+)
 
 echo "$passed passed, $failed failed"
 ((failed == 0))
