@@ -1,4 +1,5 @@
 pub mod ReadsAtLemmas
 pub mod ImageLemmas
+pub mod VersionFolderLemmas
 mod MemFolderLemmas
 mod CallerLemmas

@@ -7,4 +7,6 @@ pub mod Choices
 pub mod MemFile
 pub mod MemFolder
 pub mod LogReader
+pub mod Version
+pub mod SeenDisk
 pub mod Callers
