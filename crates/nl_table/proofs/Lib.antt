@@ -7,5 +7,6 @@ pub mod FirstLineLemmas
 pub mod LoadLemmas
 pub mod LoadedLemmas
 pub mod LogLemmas
+pub mod VersionLogLemmas
 pub mod LogTextLemmas
 pub mod ValidLemmas
