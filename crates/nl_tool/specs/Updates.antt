@@ -1,8 +1,9 @@
 -- What the commands that change a log leave: docs/PROMISES.md.
-use Rattle.std.specs.Prelude.{◌≡◌, ◌⊎◌, ℕ, Bool, false, not, List, Option, Some, IsSomeAnd, Result, Ok, Err}
+use Rattle.std.specs.Prelude.{◌≡◌, ◌⊎◌, ℕ, Bool, false, not, List, Option, Some, IsSomeAnd, option_map, Result, Ok, Err}
 use Rattle.nl_fields.specs.declared.entry.Entry.{Entry}
 use Rattle.nl_table.specs.History.{Update, History, Then, holds, table}
 use Rattle.nl_table.specs.Log.{history_of}
+use Rattle.nl_table.specs.LogText.{text_of}
 use Rattle.nl_table.specs.LogUser.{forget_dead}
 use Rattle.nl_folder.specs.DiskState.{Disk}
 use Rattle.nl_folder.specs.CrashImages.{IsImage}
@@ -29,6 +30,10 @@ dead_but names name = not (holds names name)
 abbrev pub forgets_but : List (List ℕ) → History → Update
 forgets_but names h = forget_dead (dead_but names) h
 
+-- no name is forgotten, and what is stale goes
+abbrev pub forgets_none : History → Update
+forgets_none h = forget_dead none_dead h
+
 -- the history that an open leaves, which drops nothing
 abbrev pub opened_history : History → History
 opened_history h = opened none_dead h
@@ -53,6 +58,22 @@ Leaves update start (Err fault) disk = OfAllFound (MayRepresent update start) di
 -- the bytes that are made of opened ones and their table are the log, and every crash leaves them so
 abbrev pub IsUpdated : (List Entry → List ℕ → List ℕ) → List ℕ → Option Disk → Type 0
 IsUpdated bytes found disk = IsSomeAnd (history_of (opened_bytes none_dead found)) (λ h. IsLeft (bytes (table h) (opened_bytes none_dead found)) disk)
+
+-- the text that a repair leaves of the bytes of a log: the header line, and the line of each entry of its table, in order
+abbrev pub repaired : List ℕ → Option (List ℕ)
+repaired bytes = option_map (λ (h : History). text_of (table h)) (history_of bytes)
+
+-- the bytes were a log, and what a repair leaves of them is the log, whatever crash comes
+abbrev pub IsRepaired : List ℕ → Option Disk → Type 0
+IsRepaired found disk = IsSomeAnd (repaired found) (λ text. IsLeft text disk)
+
+-- a repair leaves the log as it is
+abbrev pub StaysRepaired : Option Disk → Type 0
+StaysRepaired disk = IsSomeAnd disk (λ d. repaired d.visible ≡ Some d.visible)
+
+-- the bytes are a log with the table of this history
+abbrev pub HasTable : History → List ℕ → Type 0
+HasTable h bs = IsSomeAnd (history_of bs) (λ (found : History). table found ≡ table h)
 
 -- the bytes were a log, and the log is what an open leaves of it, whatever crash comes
 pub record IsOpened (found : Disk) (disk : Option Disk) : Type 0 where

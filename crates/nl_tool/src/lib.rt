@@ -24,4 +24,4 @@ pub use nl_texts::{ToolFault, status_of};
 pub use nl_words::{Words, read_words};
 pub use program::run;
 pub use show::show_to;
-pub use update::{recompact_on, record_on, restat_on};
+pub use update::{recompact_on, record_on, repair_on, restat_on};
