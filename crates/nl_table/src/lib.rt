@@ -10,6 +10,6 @@ mod output_key;
 mod table;
 
 pub use due::is_due;
-pub use loader::{LoadFault, Loaded, load};
+pub use loader::{First, LoadFault, Loaded, load, read_first, read_line};
 pub use log_user::{KeepAll, KeepList, LogUser};
 pub use table::Table;

@@ -1,5 +1,7 @@
 pub mod Files
 pub mod Output
+pub mod Streams
+pub mod StreamSteps
 pub mod Loading
 pub mod RecordWords
 pub mod Faults

@@ -11,6 +11,7 @@ use Rattle.nl_table.specs.Log.{LogReading, Log, NotALog, OtherVersion, log_of, s
 use Rattle.nl_words.specs.declared.command_line.Words.{Words}
 use Rattle.nl_words.specs.declared.command_line.Words.TheVariants.{Show, Check, Hash, Replay}
 use Rattle.nl_replay.specs.Replay.{IsReplayText}
+use Rattle.nl_texts.specs.Files.{OfBytes}
 
 -- a text is held but for its prefix, by which known bytes grew
 pub record Moves (old new : Option (List ℕ)) (text held : List ℕ) : Type 0 where
@@ -23,6 +24,10 @@ pub record IsHashText (command text : List ℕ) : Type 0 where
   pub hash : ℕ
   pub is_hash : IsHash command hash
   pub is : text ≡ digits_of 16 hash ++ 10 ∷ []
+
+-- the text of `hash-file`: that of `hash`, of the bytes which a reader gave
+abbrev pub IsFileHash : Option (List ℕ) → List ℕ → Type 0
+IsFileHash known text = OfBytes known (λ command. IsHashText command text)
 
 -- the text of `show`: the line of each entry of the table, in order; none where there is no log
 abbrev pub shown_of : LogReading → Option (List ℕ)

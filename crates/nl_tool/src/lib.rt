@@ -3,8 +3,11 @@
 
 mod change;
 mod check;
+mod damage;
 mod ending;
+mod entries;
 mod hash;
+mod hash_file;
 mod keep_file;
 mod loading;
 mod log_fault;
@@ -12,12 +15,16 @@ mod parts;
 mod program;
 mod record_words;
 mod show;
+mod stream;
 mod times_file;
 mod update;
 
 pub use check::check_to;
+pub use damage::damage_to;
 pub use ending::{run_line, run_program};
+pub use entries::entries_to;
 pub use hash::hash_to;
+pub use hash_file::hash_file_to;
 pub use nl_disk::DiskFolder;
 pub use nl_replay::replay_to;
 pub use nl_texts::{ToolFault, status_of};

@@ -17,7 +17,7 @@ use std::alloc::Global;
 use std::io::{Read, Write};
 
 // The bytes of lines that are held before they are written: more than the longest line.
-const PIECE: usize = 262_144;
+pub const PIECE: usize = 262_144;
 
 /// Writes the last entry of each output of the log that the reader gives, a line each.
 pub fn show_to<R: Read + Drop, W: Write>(
@@ -54,7 +54,7 @@ fn write_lines<W: Write>(table: &Table, mut piece: Vec<u8>, writer: &mut W) -> R
 }
 
 // Writes what is held where the longest line might not fit after it.
-fn make_room<W: Write>(held: &mut Vec<u8>, writer: &mut W) -> Result<(), ToolFault>
+pub fn make_room<W: Write>(held: &mut Vec<u8>, writer: &mut W) -> Result<(), ToolFault>
     requires { MAX_ENTRY_LINE ≤ vec_capacity held.old }
     ensures room { OnOk result (vec_len held.new + MAX_ENTRY_LINE ≤ vec_capacity held.new) }
     ensures moved { OnOk result (Moves (W.contents writer.old) (W.contents writer.new) held.old.items held.new.items) }

@@ -1,0 +1,53 @@
+-- The entries of a log as they are listed line by line.
+use Rattle.std.proofs.Common.{◌≡◌, ◌∙◌, ℕ, Bool, List, [], ◌∷◌, ◌++◌, length, refl, sym, ap, subst, ◌+◌}
+use Rattle.std.specs.Prelude.{Option, None, Some, Ok, drop}
+use Rattle.std.specs.List.{cons_option}
+use Rattle.std.proofs.lemmas.List.{append-nil}
+use Rattle.nl_fields.specs.declared.entry.Entry.{Entry}
+use Rattle.nl_fields.specs.EntryLine.{line_of}
+use Rattle.nl_fields.specs.Header.{header_of}
+use Rattle.nl_lines.specs.Split.{lines_of, rest_of, with_newline}
+use Rattle.nl_table.specs.Log.{LogReading, Log, NotALog, OtherVersion, entries_on, entry_on, log_of}
+use Rattle.nl_table.specs.LogText.{lines_of_entries}
+use Rattle.nl_table.proofs.FirstLineLemmas.{log_of-lines}
+use Rattle.nl_table.proofs.LogLemmas.{is_versioned, rest_is_header}
+use Rattle.nl_tool.specs.Streams.{Finds, IsSoFar, Streams, entry_text, listed, listed_of, texts_from, told, told_of}
+
+-- what is told of a line, and of the rest
+abbrev pub entry_line : ℕ → ℕ → List ℕ → List ℕ
+entry_line version number line = entry_text (entry_on version line)
+
+abbrev pub no_rest : ℕ → ℕ → List ℕ → List ℕ
+no_rest version number rest = []
+
+entries_text : (v n : ℕ) (lines : List (List ℕ)) → texts_from (entry_line v) n lines ≡ lines_of_entries (entries_on v lines)
+entries_text v n [] = refl
+entries_text v n (line ∷ lines) = go (entry_on v line) (entries_text v (n + 1) lines)
+  where
+    go : (o : Option Entry) → texts_from (entry_line v) (n + 1) lines ≡ lines_of_entries (entries_on v lines) → entry_text o ++ texts_from (entry_line v) (n + 1) lines ≡ lines_of_entries (cons_option o (entries_on v lines))
+    go None later = later
+    go (Some e) later = ap (λ (t : List ℕ). with_newline (line_of e) ++ t) later
+
+told_listed : (bytes : List ℕ) → told entry_line no_rest bytes ≡ listed bytes
+told_listed bytes = go (log_of bytes) refl
+  where
+    by_lines : (v : ℕ) (es : List Entry) → log_of bytes ≡ Log v es → (lines : List (List ℕ)) → lines_of bytes ≡ lines → texts_from (entry_line v) 2 (drop 1 lines) ≡ lines_of_entries es
+    by_lines v es reads [] none =
+        let empty : [] ≡ es = cc ((rest_is_header bytes v es none reads).1) in
+        ap lines_of_entries empty
+    by_lines v es reads (first ∷ later) some =
+        entries_text v 2 later ∙ ap lines_of_entries (is_versioned (header_of first) (length bytes) v later es (sym (log_of-lines bytes first later some) ∙ reads)).entries
+
+    go : (r : LogReading) → log_of bytes ≡ r → told_of entry_line no_rest (lines_of bytes) (rest_of bytes) r ≡ listed_of r
+    go (Log v es) reads = ap (λ (l : List ℕ). Some l) (append-nil (texts_from (entry_line v) 2 (drop 1 (lines_of bytes))) ∙ by_lines v es reads (lines_of bytes) refl)
+    go OtherVersion reads = refl
+    go NotALog reads = refl
+
+same_text : told entry_line no_rest ≡ listed
+same_text = λ i bytes. told_listed bytes i
+
+pub all_listed : (known w v : Option (List ℕ)) (any : Bool) → Finds (told entry_line no_rest) known w v (Ok any) → Streams listed known w v (Ok tt)
+all_listed known w v any found = subst (λ (text_of : List ℕ → Option (List ℕ)). Streams text_of known w v (Ok tt)) same_text (found.0, found.1, found.2)
+
+pub some_listed : (known w v : Option (List ℕ)) → IsSoFar (told entry_line no_rest) known w v → IsSoFar listed known w v
+some_listed known w v so_far = subst (λ (text_of : List ℕ → Option (List ℕ)). IsSoFar text_of known w v) same_text so_far
