@@ -9,6 +9,7 @@ import os
 import shutil
 import sys
 
+from log_format import command_hash
 from trials import main, read, run, write
 
 HEADER = b"# ninja log v5\n"
@@ -105,8 +106,49 @@ TIMES = [
     (b"\n7\ta\n-9223372036854775808\tb\n-1\ta\n", b"negative time at pair 1", LOG),
 ]
 
+# A log, what `entries` prints of it, what `damage` prints, and what `repair` leaves.
+MERGED = HEADER + b"0\t7\t17\tlib.o\tc5\n0\t9\t17\tnote\ta1\n3\t5\t18\tno0\t8\t19\tnote\tb2\n4\t9\t19\tap"
+THROUGH = [
+    (b"", b"", b"", HEADER),
+    (HEADER, b"", b"", HEADER),
+    (b"# ninja lo", b"", b"1\ttorn\t10\t-\n", HEADER),
+    # Older entries are listed, and `show` has the last ones alone.
+    (LOG, LOG[len(HEADER) :], b"", HEADER + b"5\t6\t30\ta\tcc\n3\t4\t20\tb\tbb\n"),
+    (
+        b"# ninja log v4\n1\t2\t3\ta\tcc\tx\nx\n4\t5\t6\tb\t\n",
+        b"1\t2\t3\ta\t72274e7a30810c7b\n4\t5\t6\tb\t87c2bc0beaf1d91d\n",
+        b"3\tskipped\t1\t-\n",
+        HEADER + b"1\t2\t3\ta\t72274e7a30810c7b\n4\t5\t6\tb\t87c2bc0beaf1d91d\n",
+    ),
+    # A line behind a torn one names its output; a number that isn't spelled so is no entry, but its last digit is one.
+    (
+        MERGED,
+        b"0\t7\t17\tlib.o\tc5\n0\t9\t17\tnote\ta1\n",
+        b"4\tskipped\t23\tnote\n5\ttorn\t9\t-\n",
+        HEADER + b"0\t7\t17\tlib.o\tc5\n0\t9\t17\tnote\ta1\n",
+    ),
+    (HEADER + b"007\t1\t1\to\ta\n" + OK, OK, b"2\tskipped\t11\to\n", HEADER + OK),
+    (HEADER + b"\t1\t1\to\ta\n\n\t\t\t\t\n", b"", b"2\tskipped\t8\t-\n3\tskipped\t0\t-\n4\tskipped\t4\t-\n", HEADER),
+    (HEADER + OK + b"1\t2\t3\tout\tabc", OK, b"3\ttorn\t13\tout\n", HEADER + OK),
+    # The longest line has 262,143 bytes; a longer one is looked at no further, with its newline and without.
+    (
+        HEADER + b"x" * 262_143 + b"\n" + b"x" * 262_144 + b"\n" + OK + b"x" * 262_144,
+        OK,
+        b"2\tskipped\t262143\t-\n3\tlong\t262144\t-\n5\ttorn\t262144\t-\n",
+        HEADER + OK,
+    ),
+    # More than one piece of each.
+    (
+        HEADER + (OK + b"007\t1\t1\t" + b"o" * 60_000 + b"\ta\n") * 40,
+        OK * 40,
+        b"".join(b"%d\tskipped\t60010\t" % (2 * n + 3) + b"o" * 60_000 + b"\n" for n in range(40)),
+        HEADER + OK,
+    ),
+]
+
 FILE = HEADER + b"1\t2\t3\tfile\tff\n"
 INPUT = HEADER + b"4\t5\t6\tinput\tab\nx\n"
+FILE_HASH, INPUT_HASH = (b"%x\n" % command_hash(it) for it in (FILE, INPUT))
 FILE_SHOWN, INPUT_SHOWN = b"1\t2\t3\tfile\tff\n", b"4\t5\t6\tinput\tab\n"
 FILE_CHECKED = b"version 5\ntotal 1\nunique 1\nskipped 0\ntorn 0\ndue no\n"
 INPUT_CHECKED = b"version 5\ntotal 1\nunique 1\nskipped 1\ntorn 0\ndue no\n"
@@ -129,6 +171,8 @@ Usage: nlog hash <COMMAND>
 For more information, try '--help'.
 """
 
+NO_LOG_NAME = NO_VALUE.replace(b"COMMAND", b"LOG").replace(b"nlog hash", b"nlog repair")
+
 # Words, where INPUT is standard input and `file` is FILE; the status, standard output and standard error.
 WORDS = [
     ([], 0, INPUT_SHOWN, b""),
@@ -147,6 +191,20 @@ WORDS = [
     (["check", "folder"], 1, b"", CANNOT_READ),
     (["check", "file/log"], 1, b"", CANNOT_READ),
     (["hash", "cc\tx"], 0, HASH, b""),
+    (["hash-file", "file"], 0, FILE_HASH, b""),
+    (["hash-file"], 0, INPUT_HASH, b""),
+    (["hash-file", "missing"], 1, b"", CANNOT_READ),
+    (["hash-file", "folder"], 1, b"", CANNOT_READ),
+    (["entries"], 0, INPUT_SHOWN, b""),
+    (["entries", "file"], 0, FILE_SHOWN, b""),
+    (["entries", "missing"], 0, b"", b""),
+    (["entries", "folder"], 1, b"", CANNOT_READ),
+    (["damage"], 3, b"3\tskipped\t1\t-\n", b""),
+    (["damage", "file"], 0, b"", b""),
+    (["damage", "missing"], 0, b"", b""),
+    (["damage", "folder"], 1, b"", CANNOT_READ),
+    (["repair"], 2, b"", NO_LOG_NAME),
+    (["repair", "folder"], 1, b"", b"nlog: the folder failed\n"),
     (["replay"], 1, b"", b"nlog: bad line 1\n"),
     (["replay", "script"], 0, REPLAYED, b""),
     (["replay", "file"], 1, b"", b"nlog: bad line 1\n"),
@@ -184,10 +242,10 @@ def try_refused(trials, program, room):
     write(f"{room}/negative", b"-1\ta")
     for log, why in REFUSED:
         write(f"{room}/log", log)
-        for words in (["show"], ["check"]):
+        for words in (["show"], ["check"], ["entries"], ["damage"]):
             trials.want(f"{words} < {log!r}", asked(program, room, words, log), (1, b"", why))
-        changes = [["record", "log", "1", "2", "3", "a", "c"], ["recompact", "log", "keep"], ["restat", "log", "negative"]]
-        for words in [["show", "log"], ["check", "log"], *changes]:
+        changes = [["record", "log", "1", "2", "3", "a", "c"], ["recompact", "log", "keep"], ["restat", "log", "negative"], ["repair", "log"]]
+        for words in [["show", "log"], ["check", "log"], ["entries", "log"], ["damage", "log"], *changes]:
             trials.want(f"{words[0]} of a file, {log!r}", asked(program, room, words), (1, b"", why))
             trials.want(f"the file after {words[0]}, {log!r}", read(f"{room}/log"), log)
 
@@ -222,6 +280,27 @@ def try_changes(trials, program, room):
         trials.want(f"{command}: the log that was missing", read(f"{room}/none"), None)
 
 
+def try_through(trials, program, room):
+    """The commands that go through a log, and what a repair leaves of it; a second one changes nothing."""
+    for log, entries, damage, left in THROUGH:
+        what = f"{log[:40]!r} of {len(log)} bytes"
+        write(f"{room}/log", log)
+        for given, end in (([], log), (["log"], b"")):
+            trials.want(f"entries {given} of {what}", asked(program, room, ["entries", *given], end), (0, entries, b""))
+            status = 3 if damage else 0
+            trials.want(f"damage {given} of {what}", asked(program, room, ["damage", *given], end), (status, damage, b""))
+        trials.want(f"the log, {what}", read(f"{room}/log"), log)
+        for turn in ("first", "second"):
+            trials.want(f"the {turn} repair of {what}", asked(program, room, ["repair", "log"]), (0, b"", b""))
+            trials.want(f"the {turn} repair of {what}: the log", read(f"{room}/log"), left)
+        trials.want(f"damage after it, {what}", asked(program, room, ["damage", "log"]), (0, b"", b""))
+        trials.want(f"show of the entries, {what}", asked(program, room, ["show"], HEADER + entries)[1], left[len(HEADER) :])
+    trials.want("repair of a log that is missing", asked(program, room, ["repair", "none"]), (0, b"", b""))
+    trials.want("repair of a log that is missing: the log", read(f"{room}/none"), HEADER)
+    for command, wanted in HASHES:
+        trials.want(f"hash-file of {command!r}", asked(program, room, ["hash-file"], command.encode()), (0, wanted, b""))
+
+
 def try_words(trials, program, room):
     os.mkdir(f"{room}/folder")
     write(f"{room}/file", FILE)
@@ -249,7 +328,7 @@ def try_own(trials, program, room):
 
 
 def trial(trials, program, room):
-    for part in (try_refused, try_changes, try_words, try_own):
+    for part in (try_refused, try_changes, try_through, try_words, try_own):
         folder = f"{room}/{part.__name__}"
         os.mkdir(folder)
         part(trials, program, folder)

@@ -161,7 +161,7 @@ def commands_of(program):
     with tempfile.TemporaryDirectory() as room:
         out = run(room, program, "nlog --help")[1]
     listed = re.search(r"(?m)^Commands:\n((?:  .*\n)+)", out)
-    return re.findall(r"(?m)^  ([a-z]+) ", listed[1]) if listed else []
+    return re.findall(r"(?m)^  ([a-z-]+) ", listed[1]) if listed else []
 
 
 def lacking(page, examples, commands):

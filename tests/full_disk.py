@@ -69,7 +69,7 @@ def try_full(trials, program, disk, command, end):
 
 def repair():
     """The words of the repair in the table of README.md on damage."""
-    return re.search(r"`torn` above 0 \|.*?`nlog (restat LOG /dev/null)`", read(f"{TOP}/README.md").decode())[1].split()
+    return re.search(r"`torn` above 0 \|.*?`nlog (repair LOG)`", read(f"{TOP}/README.md").decode())[1].split()
 
 
 def try_repair(trials, program, disk, kind, start):

@@ -1,11 +1,44 @@
--- The status after words that were refused, by the kind of what is said of them.
-use Rattle.std.proofs.Common.{ℕ, [], ◌∷◌, inl, inr, subst}
-use Rattle.clap.specs.Words.{HasKind, Kinds, kind_of}
+-- The status after a command line.
+use Rattle.std.proofs.Common.{◌≡◌, ℕ, List, [], ◌∷◌, Option, None, Some, Result, Ok, Err, refl, sym, inl, inr, subst}
+use Rattle.std.specs.Prelude.{IfOk}
+use Rattle.clap.specs.Words.{HasKind, Kinds, Row, Text, kind_of}
 use Rattle.clap.specs.declared.error.Error.{Error}
-use Rattle.nl_tool.specs.Ending.{IsStatusBy, IsStatusOfKind}
+use Rattle.nl_texts.specs.declared.fault.ToolFault.{ToolFault}
+use Rattle.nl_tool.specs.Ending.{IsEnded, IsStatusBy, IsStatusOfKind, NamesDamage, status_after}
+use Rattle.nl_tool.specs.Faults.{AsksForDamage}
+use Rattle.nl_tool.specs.declared.program.Outcome.{Outcome}
+use Rattle.nl_tool.specs.declared.program.Outcome.TheVariants.{Done, Damaged}
+use Rattle.nl_words.specs.CommandLine.{IsSaid}
+use Rattle.nl_words.specs.declared.command_line.Words.{Words}
+use Rattle.nl_words.specs.declared.command_line.Words.TheVariants.{Show, Check, Hash, Entries, Damage, HashFile, Record, Recompact, Restat, Repair, Replay}
 
-pub IsStatusBy_kind : (kinds : Kinds) (e : Error) (status : ℕ) → HasKind kinds e → IsStatusOfKind (kind_of e) status → IsStatusBy kinds status
-IsStatusBy_kind [] e status (inl memory) s = inr (subst (λ k. IsStatusOfKind k status) memory s)
-IsStatusBy_kind [] e status (inr among) s = absurd among
-IsStatusBy_kind (k ∷ ks) e status (inl memory) s = inl (subst (λ k. IsStatusOfKind k status) memory s)
-IsStatusBy_kind (k ∷ ks) e status (inr among) s = inr (kind_of e, among, s)
+pub IsStatusBy_kind : (kinds : Kinds) (entered : Option (Text × List Row)) (e : Error) (status : ℕ) → HasKind kinds e → IsStatusOfKind (kind_of e) status → IsStatusBy kinds entered status
+IsStatusBy_kind [] entered e status (inl memory) s = inl (inr (subst (λ k. IsStatusOfKind k status) memory s))
+IsStatusBy_kind [] entered e status (inr among) s = absurd among
+IsStatusBy_kind (k ∷ ks) entered e status (inl memory) s = inl (subst (λ k. IsStatusOfKind k status) memory s)
+IsStatusBy_kind (k ∷ ks) entered e status (inr among) s = inr (kind_of e, among, s)
+
+-- only the words of `damage` ask for damage
+names_damage : (w : Words) (entered : Option (Text × List Row)) → IsSaid w entered → AsksForDamage w → NamesDamage entered
+names_damage (Damage log) None said asks = said
+names_damage (Damage log) (Some p) said asks = said.0
+names_damage (Show log) entered said asks = absurd asks
+names_damage (Check log) entered said asks = absurd asks
+names_damage (Hash command) entered said asks = absurd asks
+names_damage (Entries log) entered said asks = absurd asks
+names_damage (HashFile file) entered said asks = absurd asks
+names_damage (Record log start end mtime name command) entered said asks = absurd asks
+names_damage (Recompact log keep) entered said asks = absurd asks
+names_damage (Restat log times) entered said asks = absurd asks
+names_damage (Repair log) entered said asks = absurd asks
+names_damage (Replay script) entered said asks = absurd asks
+
+-- the status after a command
+pub command_ended : (kinds : Kinds) (w : Words) (entered : Option (Text × List Row)) (answer : Result Outcome ToolFault) (status : ℕ) → kinds ≡ [] → IsSaid w entered → IfOk answer (λ outcome. outcome ≡ Damaged → AsksForDamage w)
+    → status ≡ status_after answer → IsStatusBy kinds entered status
+command_ended kinds w entered answer status none said only is = subst (λ (ks : Kinds). IsStatusBy ks entered status) (sym none) (ended answer only is)
+  where
+    ended : (answer : Result Outcome ToolFault) → IfOk answer (λ outcome. outcome ≡ Damaged → AsksForDamage w) → status ≡ status_after answer → IsEnded entered status
+    ended (Ok Done) only is = inl (inl is)
+    ended (Ok Damaged) only is = inr (is, names_damage w entered said (only refl))
+    ended (Err fault) only is = inl (inr is)

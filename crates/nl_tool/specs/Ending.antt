@@ -1,18 +1,30 @@
 -- The status with which the program ends (docs/CLI.md, "Statuses").
-use Rattle.std.specs.Prelude.{◌≡◌, ◌⊎◌, ℕ, [], ◌∷◌, Result, Ok, Err}
-use Rattle.clap.specs.Words.{IsAmong, Kinds}
+use Rattle.std.specs.Prelude.{◌≡◌, ◌⊎◌, ℕ, List, [], ◌∷◌, Option, None, Some, Result, Ok, Err, codes}
+use Rattle.clap.specs.Words.{IsAmong, Kinds, Row, Text}
 use Rattle.clap.specs.declared.error.kind.ErrorKind.{ErrorKind}
 use Rattle.clap.specs.declared.error.kind.ErrorKind.TheVariants as kind
 use Rattle.nl_texts.specs.declared.fault.ToolFault.{ToolFault}
+use Rattle.nl_tool.specs.declared.program.Outcome.{Outcome}
+use Rattle.nl_tool.specs.declared.program.Outcome.TheVariants.{Done, Damaged}
 
 -- the status after a command
-abbrev pub status_after : Result (Unit {0}) ToolFault → ℕ
-status_after (Ok done) = 0
+abbrev pub status_after : Result Outcome ToolFault → ℕ
+status_after (Ok Done) = 0
+status_after (Ok Damaged) = 3
 status_after (Err fault) = 1
 
 -- done or refused
 abbrev pub IsDoneOrRefused : ℕ → Type 0
 IsDoneOrRefused status = (status ≡ 0) ⊎ (status ≡ 1)
+
+-- the subcommand that was entered is `damage`
+abbrev pub NamesDamage : Option (Text × List Row) → Type 0
+NamesDamage None = ⊥
+NamesDamage (Some p) = p.0 ≡ codes "damage"
+
+-- done or refused, or 3 after `damage`
+abbrev pub IsEnded : Option (Text × List Row) → ℕ → Type 0
+IsEnded entered status = IsDoneOrRefused status ⊎ ((status ≡ 3) × NamesDamage entered)
 
 -- the status after words that name no command, by the kind of what is said of them: help and the version may fail to be written
 abbrev pub IsStatusOfKind : ErrorKind → ℕ → Type 0
@@ -21,8 +33,8 @@ IsStatusOfKind kind.DisplayVersion status = IsDoneOrRefused status
 IsStatusOfKind kind.OutOfMemory status = status ≡ 1
 IsStatusOfKind _ status = status ≡ 2
 
--- the status after a command line, by the kinds of fault that clap's definition finds in it: 2 only for wrong words, and for
--- those never 0
-abbrev pub IsStatusBy : Kinds → ℕ → Type 0
-IsStatusBy [] status = IsDoneOrRefused status
-IsStatusBy (k ∷ ks) status = (status ≡ 1) ⊎ ((met : ErrorKind) × IsAmong met (k ∷ ks) × IsStatusOfKind met status)
+-- the status after a command line, by the kinds of fault that clap's definition finds in it, and by the subcommand that it
+-- enters: 2 only for wrong words, and for those never 0; 3 only for `damage`
+abbrev pub IsStatusBy : Kinds → Option (Text × List Row) → ℕ → Type 0
+IsStatusBy [] entered status = IsEnded entered status
+IsStatusBy (k ∷ ks) entered status = (status ≡ 1) ⊎ ((met : ErrorKind) × IsAmong met (k ∷ ks) × IsStatusOfKind met status)

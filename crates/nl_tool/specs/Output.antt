@@ -9,7 +9,7 @@ use Rattle.nl_table.specs.Due.{is_due}
 use Rattle.nl_table.specs.History.{logged, table}
 use Rattle.nl_table.specs.Log.{LogReading, Log, NotALog, OtherVersion, log_of, skipped_count}
 use Rattle.nl_words.specs.declared.command_line.Words.{Words}
-use Rattle.nl_words.specs.declared.command_line.Words.TheVariants.{Show, Check, Hash, Replay}
+use Rattle.nl_words.specs.declared.command_line.Words.TheVariants.{Show, Check, Hash, HashFile, Replay}
 use Rattle.nl_replay.specs.Replay.{IsReplayText}
 use Rattle.nl_texts.specs.Files.{OfBytes}
 
@@ -66,10 +66,11 @@ pub record IsTextFor (text_of : List ℕ → Option (List ℕ)) (known : Option 
   pub given : IfSome known (λ bs. bs ≡ bytes)
   pub is : text_of bytes ≡ Some text
 
--- the text of each command, by the known bytes of what it reads; the commands that change a log print none
+-- the text of each command that prints when all is read, by the known bytes of what it reads
 abbrev pub IsAnswer : Words → Option (List ℕ) → List ℕ → Type 0
 IsAnswer (Show log) known text = IsTextFor shown known text
 IsAnswer (Check log) known text = IsTextFor checked known text
 IsAnswer (Hash command) known text = IsHashText command.now text
+IsAnswer (HashFile file) known text = IsFileHash known text
 IsAnswer (Replay script) known text = IsReplayText known text
 IsAnswer _ known text = ⊥

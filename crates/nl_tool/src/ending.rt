@@ -2,11 +2,11 @@
 ghost use Rattle.std.specs.Prelude.{◌≡◌, ◌≢◌, ◌≤◌, map, string_bytes};
 ghost use Rattle.std.specs.IoError.{error_kind};
 ghost use Rattle.std.specs.declared.io.ErrorKind.TheVariants.{OutOfMemory};
-ghost use Rattle.clap.specs.Words.{fault_of, kind_of};
+ghost use Rattle.clap.specs.Words.{fault_of, kind_of, subcommand_of};
 ghost use Rattle.nl_tool.specs.Ending.{status_after, IsStatusBy, IsStatusOfKind};
 ghost use Rattle.nl_words.specs.CommandLine.{nlog};
 
-use crate::program::run;
+use crate::program::{Outcome, run};
 use clap::Error;
 use clap::error::ErrorKind;
 use nl_texts::{ToolFault, status_of};
@@ -19,9 +19,11 @@ const DONE: u8 = 0;
 
 const WRONG_WORDS: u8 = 2;
 
+const DAMAGED: u8 = 3;
+
 /// The whole program: reads the words that it was given, does what they say, and answers the status to end with.
 pub fn run_program<R: Runtime + AllocGlobal>(rt: &R) -> u8
-    ensures status { result ≤ 2 }
+    ensures status { result ≤ 3 }
 {
     match given_words(rt) {
         Ok(line) => run_line(rt, rt.alloc(), line.as_slice()),
@@ -33,8 +35,8 @@ pub fn run_program<R: Runtime + AllocGlobal>(rt: &R) -> u8
 ///
 /// The text of a command, help and the version go to standard output; why something was refused goes to standard error.
 pub fn run_line<R: Runtime>(rt: &R, alloc: Global, line: &[String]) -> u8
-    ensures status { IsStatusBy (fault_of nlog (map string_bytes line.now)) result }
-    ensures bound { result ≤ 2 }
+    ensures status { IsStatusBy (fault_of nlog (map string_bytes line.now)) (subcommand_of nlog (map string_bytes line.now)) result }
+    ensures bound { result ≤ 3 }
 {
     match read_words(alloc, line) {
         Ok(words) => end(rt, run(rt, alloc, &words)),
@@ -46,12 +48,13 @@ fn given_words<R: Runtime + AllocGlobal>(rt: &R) -> io::Result<Vec<String>> {
     Ok(env::args(rt)?.collect(rt.alloc())?)
 }
 
-fn end(rt: &impl Eprint, answer: Result<(), ToolFault>) -> u8
+fn end(rt: &impl Eprint, answer: Result<Outcome, ToolFault>) -> u8
     ensures status { result ≡ status_after answer }
-    ensures bound { result ≤ 1 }
+    ensures bound { result ≤ 3 }
 {
     match answer {
-        Ok(()) => DONE,
+        Ok(Outcome::Done) => DONE,
+        Ok(Outcome::Damaged) => DAMAGED,
         Err(fault) => refuse(rt, fault),
     }
 }

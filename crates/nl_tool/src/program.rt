@@ -1,15 +1,20 @@
 //! What the program does once its words are read.
-ghost use Rattle.std.specs.Prelude.{◌≡◌, IfErr, OnOk};
-ghost use Rattle.nl_tool.specs.Faults.{CanBeDone, IsFaultOf, IsPrinting, IsRecompactFault, IsRecordFault, IsRestatFault, ReadsLog};
+ghost use Rattle.std.specs.Prelude.{◌≡◌, ◌<◌, ◌↔◌, ℕ, List, IfErr, IfOk, MatchResult, OnOk, length};
+ghost use Rattle.nl_tool.specs.Faults.{AsksForDamage, CanBeDone, IsFaultOf, IsLogFault, IsPrinting, IsRecompactFault, IsRecordFault, IsRestatFault, ReadsLog};
 ghost use Rattle.nl_texts.specs.Output.{Prints};
-ghost use Rattle.nl_tool.specs.Output.{IsAnswer};
+ghost use Rattle.std.specs.Io.KnownBytes.{Appends};
+ghost use Rattle.nl_tool.specs.Output.{IsAnswer, IsTextFor};
+ghost use Rattle.nl_tool.specs.Streams.{IsSoFar, damaged};
 ghost use Rattle.nl_texts.specs.declared.fault.ToolFault.{ToolFault};
 
 use crate::check::check_to;
+use crate::damage::damage_to;
+use crate::entries::entries_to;
 use crate::hash::hash_to;
+use crate::hash_file::hash_file_to;
 use crate::record_words::entry_of;
 use crate::show::show_to;
-use crate::update::{recompact_on, record_on, restat_on};
+use crate::update::{recompact_on, record_on, repair_on, restat_on};
 use nl_disk::DiskFolder;
 use nl_fields::EntryRef;
 use nl_replay::replay_to;
@@ -20,25 +25,45 @@ use std::io::{ErrorKind, Read, Write};
 use std::rt::{Files, Runtime};
 use std::{fs, io};
 
-/// Does what the words say, with standard output for its text. LOG or SCRIPT is read, or standard input where it is left
-/// out; a log that is missing is read as one without bytes.
-pub fn run<R: Runtime>(rt: &R, alloc: Global, words: &Words<'_>) -> Result<(), ToolFault>
+/// How a command ended that was done.
+#[derive(Clone, Copy, Debug, PartialEq, Eq, Drop)]
+pub enum Outcome {
+    Done,
+    /// `damage` found some.
+    Damaged,
+}
+
+/// Does what the words say, with standard output for its text. LOG, FILE or SCRIPT is read, or standard input where it is
+/// left out; a log that is missing is read as one without bytes.
+pub fn run<R: Runtime>(rt: &R, alloc: Global, words: &Words<'_>) -> Result<Outcome, ToolFault>
+    ensures accepts { OnOk result (CanBeDone words.now) }
+    ensures damaged { IfOk result (λ outcome. outcome ≡ Outcome.Damaged → AsksForDamage words.now) }
+    ensures faults { IfErr result (IsFaultOf words.now) }
+{
+    if let Words::Damage(log) = *words {
+        return damage_in(rt, alloc, log);
+    }
+    run_command(rt, alloc, words)?;
+    Ok(Outcome::Done)
+}
+
+// Does what words say that don't ask for damage.
+fn run_command<R: Runtime>(rt: &R, alloc: Global, words: &Words<'_>) -> Result<(), ToolFault>
+    requires { ¬ AsksForDamage words.now }
     ensures accepts { OnOk result (CanBeDone words.now) }
     ensures faults { IfErr result (IsFaultOf words.now) }
 {
     match *words {
         Words::Show(Some(path)) | Words::Check(Some(path)) => answer_log(rt, alloc, words, path),
-        Words::Replay(Some(path)) => {
-            let script = open(rt, path)?;
-            answer_to(alloc, words, script, &mut io::writer(rt))
+        Words::Replay(Some(path)) | Words::HashFile(Some(path)) => {
+            let file = open(rt, path)?;
+            answer_to(alloc, words, file, &mut io::writer(rt))
         }
-        Words::Show(None) | Words::Check(None) | Words::Replay(None) => answer_to(
-            alloc,
-            words,
-            rt.reader(),
-            &mut io::writer(rt),
-        ),
+        Words::Show(None) | Words::Check(None) | Words::Replay(None) | Words::HashFile(None) =>
+            answer_to(alloc, words, rt.reader(), &mut io::writer(rt)),
         Words::Hash(_) => answer_to(alloc, words, io::empty(), &mut io::writer(rt)),
+        Words::Entries(log) => entries_in(rt, alloc, log),
+        Words::Damage(_) => unreachable!(),
         Words::Record {
             log,
             start,
@@ -52,6 +77,52 @@ pub fn run<R: Runtime>(rt: &R, alloc: Global, words: &Words<'_>) -> Result<(), T
         }
         Words::Recompact { log, keep } => recompact_in(rt, alloc, log, keep),
         Words::Restat { log, times } => restat_in(rt, alloc, log, times),
+        Words::Repair(log) => repair_in(rt, alloc, log),
+    }
+}
+
+fn entries_in<R: Runtime>(rt: &R, alloc: Global, log: Option<&str>) -> Result<(), ToolFault>
+    ensures faults { IfErr result IsLogFault }
+{
+    let mut out = io::writer(rt);
+    let Some(path) = log else {
+        return entries_to(alloc, rt.reader(), &mut out);
+    };
+    match open_log(rt, path)? {
+        Some(file) => entries_to(alloc, file, &mut out),
+        None => entries_to(alloc, io::empty(), &mut out),
+    }
+}
+
+fn damage_in<R: Runtime>(rt: &R, alloc: Global, log: Option<&str>) -> Result<Outcome, ToolFault>
+    ensures faults { IfErr result IsLogFault }
+{
+    let mut out = io::writer(rt);
+    let Some(path) = log else {
+        return tell_damage(alloc, rt.reader(), &mut out);
+    };
+    match open_log(rt, path)? {
+        Some(file) => tell_damage(alloc, file, &mut out),
+        None => tell_damage(alloc, io::empty(), &mut out),
+    }
+}
+
+// Says of the log that the reader gives whether it is damaged.
+fn tell_damage<R: Read + Drop, W: Write>(
+    alloc: Global,
+    reader: R,
+    writer: &mut W,
+) -> Result<Outcome, ToolFault>
+    ensures found { MatchResult result
+        (λ outcome. (text : List ℕ) × IsTextFor damaged (R.remaining reader) text × Appends (W.contents writer.old) (W.contents writer.new) text
+        × ((outcome ≡ Outcome.Damaged) ↔ (0 < length text)))
+        (λ _. IsSoFar damaged (R.remaining reader) (W.contents writer.old) (W.contents writer.new)) }
+    ensures faults { IfErr result IsLogFault }
+{
+    match damage_to(alloc, reader, writer) {
+        Ok(true) => Ok(Outcome::Damaged),
+        Ok(false) => Ok(Outcome::Done),
+        Err(fault) => Err(fault),
     }
 }
 
@@ -87,8 +158,14 @@ fn answer_to<R: Read + Drop, W: Write>(
         Words::Show(_) => show_to(alloc, reader, writer),
         Words::Check(_) => check_to(alloc, reader, writer),
         Words::Hash(command) => hash_to(alloc, command.as_bytes(), writer),
+        Words::HashFile(_) => hash_file_to(alloc, reader, writer),
         Words::Replay(_) => replay_to(alloc, reader, writer),
-        Words::Record { .. } | Words::Recompact { .. } | Words::Restat { .. } => unreachable!(),
+        Words::Entries(_)
+        | Words::Damage(_)
+        | Words::Record { .. }
+        | Words::Recompact { .. }
+        | Words::Restat { .. }
+        | Words::Repair(_) => unreachable!(),
     }
 }
 
@@ -113,6 +190,13 @@ fn restat_in<R: Files>(rt: &R, alloc: Global, log: &str, times: &str) -> Result<
     let pairs = open(rt, times)?;
     let folder = DiskFolder::new(rt, alloc, log)?;
     restat_on(alloc, folder, pairs).1
+}
+
+fn repair_in<R: Files>(rt: &R, alloc: Global, log: &str) -> Result<(), ToolFault>
+    ensures faults { IfErr result IsRecordFault }
+{
+    let folder = DiskFolder::new(rt, alloc, log)?;
+    repair_on(alloc, folder).1
 }
 
 // The file of a log, or none where it is missing.

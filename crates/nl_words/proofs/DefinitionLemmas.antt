@@ -63,14 +63,26 @@ built_own = (
     (
       record { named = inr (inr (inl refl)); plain = refl; negates = refl; needs = λ rows h. h },
       (
-        record { named = inr (inr (inr (inl refl))); plain = refl; negates = refl; needs = λ rows h. h },
+        record { named = inr (inr (inr (inl refl))); plain = refl; negates = refl; needs = λ rows h. refl },
         (
-          record { named = inr (inr (inr (inr (inl refl)))); plain = refl; negates = refl; needs = λ rows h. h },
+          record { named = inr (inr (inr (inr (inl refl)))); plain = refl; negates = refl; needs = λ rows h. refl },
           (
-            record { named = inr (inr (inr (inr (inr (inl refl))))); plain = refl; negates = refl; needs = λ rows h. h },
+            record { named = inr (inr (inr (inr (inr (inl refl))))); plain = refl; negates = refl; needs = λ rows h. refl },
             (
-              record { named = inr (inr (inr (inr (inr (inr refl))))); plain = refl; negates = refl; needs = λ rows h. refl },
-              tt,
+              record { named = inr (inr (inr (inr (inr (inr (inl refl)))))); plain = refl; negates = refl; needs = λ rows h. h },
+              (
+                record { named = inr (inr (inr (inr (inr (inr (inr (inl refl))))))); plain = refl; negates = refl; needs = λ rows h. h },
+                (
+                  record { named = inr (inr (inr (inr (inr (inr (inr (inr (inl refl)))))))); plain = refl; negates = refl; needs = λ rows h. h },
+                  (
+                    record { named = inr (inr (inr (inr (inr (inr (inr (inr (inr (inl refl))))))))); plain = refl; negates = refl; needs = λ rows h. h },
+                    (
+                      record { named = inr (inr (inr (inr (inr (inr (inr (inr (inr (inr (refl)))))))))); plain = refl; negates = refl; needs = λ rows h. refl },
+                      tt,
+                    ),
+                  ),
+                ),
+              ),
             ),
           ),
         ),
@@ -90,16 +102,22 @@ nlog_whole words e =
     entered_whole (built nlog) stop built_own (none_fails (entered_fault (built nlog) stop) _ below.1).0
 
 -- the name is that of the one command which is not ruled out
-pub only_show : (name : Text) → IsCommandName name → (name ≡ codes "check" → ⊥) → (name ≡ codes "hash" → ⊥)
-    → (name ≡ codes "record" → ⊥) → (name ≡ codes "recompact" → ⊥) → (name ≡ codes "restat" → ⊥)
+pub only_show : (name : Text) → IsCommandName name
+    → (name ≡ codes "check" → ⊥) → (name ≡ codes "hash" → ⊥) → (name ≡ codes "entries" → ⊥)
+    → (name ≡ codes "damage" → ⊥) → (name ≡ codes "hash-file" → ⊥) → (name ≡ codes "record" → ⊥)
+    → (name ≡ codes "recompact" → ⊥) → (name ≡ codes "restat" → ⊥) → (name ≡ codes "repair" → ⊥)
     → (name ≡ codes "replay" → ⊥) → name ≡ codes "show"
-only_show name (inl h) a b c d e f = h
-only_show name (inr (inl h)) a b c d e f = absurd (a h)
-only_show name (inr (inr (inl h))) a b c d e f = absurd (b h)
-only_show name (inr (inr (inr (inl h)))) a b c d e f = absurd (c h)
-only_show name (inr (inr (inr (inr (inl h))))) a b c d e f = absurd (d h)
-only_show name (inr (inr (inr (inr (inr (inl h)))))) a b c d e f = absurd (e h)
-only_show name (inr (inr (inr (inr (inr (inr h)))))) a b c d e f = absurd (f h)
+only_show name (inl h) a b c d e f k m n o = h
+only_show name (inr (inl h)) a b c d e f k m n o = absurd (a h)
+only_show name (inr (inr (inl h))) a b c d e f k m n o = absurd (b h)
+only_show name (inr (inr (inr (inl h)))) a b c d e f k m n o = absurd (c h)
+only_show name (inr (inr (inr (inr (inl h))))) a b c d e f k m n o = absurd (d h)
+only_show name (inr (inr (inr (inr (inr (inl h)))))) a b c d e f k m n o = absurd (e h)
+only_show name (inr (inr (inr (inr (inr (inr (inl h))))))) a b c d e f k m n o = absurd (f h)
+only_show name (inr (inr (inr (inr (inr (inr (inr (inl h)))))))) a b c d e f k m n o = absurd (k h)
+only_show name (inr (inr (inr (inr (inr (inr (inr (inr (inl h))))))))) a b c d e f k m n o = absurd (m h)
+only_show name (inr (inr (inr (inr (inr (inr (inr (inr (inr (inl h)))))))))) a b c d e f k m n o = absurd (n h)
+only_show name (inr (inr (inr (inr (inr (inr (inr (inr (inr (inr (h))))))))))) a b c d e f k m n o = absurd (o h)
 
 -- an error that is passed on has the kind that it had
 pub fails_on : {T : Type 0} (r : Result T Error) (e : Error) (kinds : Kinds) → IsErrAnd r (λ x. x ≡ e)

@@ -3,7 +3,7 @@ use Rattle.std.specs.Prelude.{◌≡◌, ◌⊎◌, ⊤, List, [], Bool, true, f
 use Rattle.std.specs.Str.{bytes_eq}
 use Rattle.clap.specs.Words.{App, Row, Rule, Shape, Text, first_of, new_app, new_rule, with_rule, with_subcommand}
 use Rattle.nl_words.specs.declared.command_line.Words.{Words}
-use Rattle.nl_words.specs.declared.command_line.Words.TheVariants.{Show, Check, Hash, Record, Recompact, Restat, Replay}
+use Rattle.nl_words.specs.declared.command_line.Words.TheVariants.{Show, Check, Hash, Entries, Damage, HashFile, Record, Recompact, Restat, Repair, Replay}
 use Rattle.std.specs.Borrow.{Bor}
 
 -- a value that stands by its place
@@ -18,6 +18,15 @@ check = with_rule (new_app (codes "check")) (positional (codes "LOG") false)
 
 abbrev pub hash : App
 hash = with_rule (new_app (codes "hash")) (positional (codes "COMMAND") true)
+
+abbrev pub entries : App
+entries = with_rule (new_app (codes "entries")) (positional (codes "LOG") false)
+
+abbrev pub damage : App
+damage = with_rule (new_app (codes "damage")) (positional (codes "LOG") false)
+
+abbrev pub hash_file : App
+hash_file = with_rule (new_app (codes "hash-file")) (positional (codes "FILE") false)
 
 abbrev pub record_line : App
 record_line = with_rule (with_rule (with_rule (with_rule (with_rule (with_rule
@@ -39,6 +48,9 @@ restat = with_rule (with_rule (new_app (codes "restat"))
     (positional (codes "LOG") true))
     (positional (codes "TIMES") true)
 
+abbrev pub repair : App
+repair = with_rule (new_app (codes "repair")) (positional (codes "LOG") true)
+
 abbrev pub replay : App
 replay = with_rule (new_app (codes "replay")) (positional (codes "SCRIPT") false)
 
@@ -48,20 +60,25 @@ named =
     let a = new_app (codes "nlog") in
     record a { top = record a.top { disable_help_subcommand = true; has_version = true } }
 
--- the commands that change no file
+-- the commands that read a log whole, and `hash`
 abbrev pub printing : App
 printing = with_subcommand (with_subcommand (with_subcommand named show.top) check.top) hash.top
 
+-- and those that go through what they read
+abbrev pub telling : App
+telling = with_subcommand (with_subcommand (with_subcommand printing entries.top) damage.top) hash_file.top
+
 -- the program, with its commands in the order of its help
 abbrev pub nlog : App
-nlog = with_subcommand (with_subcommand (with_subcommand (with_subcommand printing
-    record_line.top) recompact.top) restat.top) replay.top
+nlog = with_subcommand (with_subcommand (with_subcommand (with_subcommand (with_subcommand telling
+    record_line.top) recompact.top) restat.top) repair.top) replay.top
 
 -- the commands that the program has
 abbrev pub IsCommandName : Text → Type 0
 IsCommandName name = (name ≡ codes "show") ⊎ ((name ≡ codes "check") ⊎ ((name ≡ codes "hash")
+    ⊎ ((name ≡ codes "entries") ⊎ ((name ≡ codes "damage") ⊎ ((name ≡ codes "hash-file")
     ⊎ ((name ≡ codes "record") ⊎ ((name ≡ codes "recompact") ⊎ ((name ≡ codes "restat")
-    ⊎ (name ≡ codes "replay"))))))
+    ⊎ ((name ≡ codes "repair") ⊎ (name ≡ codes "replay"))))))))))
 
 -- the values that a command can't be without, by its rules
 abbrev pub required_ids : List Rule → List Text
@@ -101,6 +118,9 @@ IsSaid (Show log) None = log ≡ None
 IsSaid (Show log) (Some p) = (p.0 ≡ codes "show") × IsGiven (codes "LOG") p.1 log
 IsSaid (Check log) (Some p) = (p.0 ≡ codes "check") × IsGiven (codes "LOG") p.1 log
 IsSaid (Hash command) (Some p) = (p.0 ≡ codes "hash") × IsThere (codes "COMMAND") p.1 command
+IsSaid (Entries log) (Some p) = (p.0 ≡ codes "entries") × IsGiven (codes "LOG") p.1 log
+IsSaid (Damage log) (Some p) = (p.0 ≡ codes "damage") × IsGiven (codes "LOG") p.1 log
+IsSaid (HashFile file) (Some p) = (p.0 ≡ codes "hash-file") × IsGiven (codes "FILE") p.1 file
 IsSaid (Record log start end mtime name command) (Some p) = (p.0 ≡ codes "record")
     × IsThere (codes "LOG") p.1 log × IsThere (codes "START") p.1 start
     × IsThere (codes "END") p.1 end × IsThere (codes "MTIME") p.1 mtime
@@ -109,5 +129,6 @@ IsSaid (Recompact log keep) (Some p) = (p.0 ≡ codes "recompact")
     × IsThere (codes "LOG") p.1 log × IsThere (codes "KEEP") p.1 keep
 IsSaid (Restat log times) (Some p) = (p.0 ≡ codes "restat")
     × IsThere (codes "LOG") p.1 log × IsThere (codes "TIMES") p.1 times
+IsSaid (Repair log) (Some p) = (p.0 ≡ codes "repair") × IsThere (codes "LOG") p.1 log
 IsSaid (Replay script) (Some p) = (p.0 ≡ codes "replay") × IsGiven (codes "SCRIPT") p.1 script
 IsSaid _ None = ⊥

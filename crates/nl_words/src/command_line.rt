@@ -14,6 +14,9 @@ pub enum Words<'a> {
     Show(Option<&'a str>),
     Check(Option<&'a str>),
     Hash(&'a str),
+    Entries(Option<&'a str>),
+    Damage(Option<&'a str>),
+    HashFile(Option<&'a str>),
     Record {
         log: &'a str,
         start: &'a str,
@@ -30,6 +33,7 @@ pub enum Words<'a> {
         log: &'a str,
         times: &'a str,
     },
+    Repair(&'a str),
     Replay(Option<&'a str>),
 }
 
@@ -55,9 +59,13 @@ fn said<'a>(matches: &ArgMatches<'a>) -> Words<'a>
     match name {
         "check" => Words::Check(optional(inner, "LOG")),
         "hash" => hash_words(inner),
+        "entries" => Words::Entries(optional(inner, "LOG")),
+        "damage" => Words::Damage(optional(inner, "LOG")),
+        "hash-file" => Words::HashFile(optional(inner, "FILE")),
         "record" => record_words(inner),
         "recompact" => recompact_words(inner),
         "restat" => restat_words(inner),
+        "repair" => repair_words(inner),
         "replay" => Words::Replay(optional(inner, "SCRIPT")),
         _ => Words::Show(optional(inner, "LOG")),
     }
@@ -102,6 +110,13 @@ fn restat_words<'a>(inner: &ArgMatches<'a>) -> Words<'a>
         log: value(inner, "LOG"),
         times: value(inner, "TIMES"),
     }
+}
+
+fn repair_words<'a>(inner: &ArgMatches<'a>) -> Words<'a>
+    requires { HasEach (required_of (codes "repair")) (rows_of (found_of inner.now)) }
+    ensures value { IsSaid result (Some (codes "repair", rows_of (found_of inner.now))) }
+{
+    Words::Repair(value(inner, "LOG"))
 }
 
 // The value of an argument that may be left out.

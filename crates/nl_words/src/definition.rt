@@ -2,7 +2,7 @@
 ghost use Rattle.std.specs.Prelude.{◌≡◌, IfOk, false};
 ghost use Rattle.clap.specs.Words.{app_of, with_rule, with_subcommand};
 ghost use Rattle.clap.specs.declared.builder.command.Command.TheViews.{out-Command};
-ghost use Rattle.nl_words.specs.CommandLine.{check, hash, named, nlog, positional, printing, recompact, record_line, replay, restat, show};
+ghost use Rattle.nl_words.specs.CommandLine.{check, damage, entries, hash, hash_file, named, nlog, positional, printing, recompact, record_line, repair, replay, restat, show, telling};
 
 use clap::{Arg, Command};
 use std::alloc::{AllocError, Global};
@@ -12,20 +12,22 @@ const VERSION: &str = "0.1.0";
 const AFTER: &str = "\
 Without a command, and with `show` or `check` without LOG, a log is read from standard input.
 A LOG that is missing is read as one without entries, also where its name is mistyped.
-`record`, `recompact` and `restat` first repair a LOG that a crash cut off, and make what they
-change durable before they end.
+`record`, `recompact`, `restat` and `repair` first repair a LOG that a crash cut off, and make what
+they change durable before they end.
 
 Nothing locks LOG. Of two that change it at once one loses what it wrote, though it ended with
 status 0, and two nlogs may leave no log. A build by Ninja changes it until the build ends. So run
-`record`, `recompact` and `restat` one at a time, and while no build runs.
+`record`, `recompact`, `restat` and `repair` one at a time, and while no build runs.
 
 Examples:
   nlog show build/.ninja_log
   nlog check < .ninja_log
   nlog record .ninja_log 0 1200 1700000001200000000 app.o 'cc -c app.c -o app.o'
-  nlog restat .ninja_log /dev/null      repairs the log, and keeps the last entry of each output
+  nlog damage .ninja_log || nlog repair .ninja_log
+  nlog entries .ninja_log | tail -n 1
 
-Status: 0 done; 1 refused, and a line `nlog: ...` on standard error says why; 2 wrong words.";
+Status: 0 done; 1 refused, and a line `nlog: ...` on standard error says why; 2 wrong words;
+3 `damage` found some.";
 
 const LOG: &str = "A build log of Ninja, version 4 or 5";
 
@@ -36,14 +38,25 @@ const OPTIONAL_LOG: &str =
 pub fn nlog_command<'a>(alloc: Global) -> Result<Command<'a>, AllocError>
     ensures { IfOk result (λ c. app_of c ≡ nlog) }
 {
-    let nlog = printing_commands(alloc)?;
+    let nlog = telling_commands(alloc)?;
     let nlog = with_command(nlog, record_command(alloc)?)?;
     let nlog = with_command(nlog, recompact_command(alloc)?)?;
     let nlog = with_command(nlog, restat_command(alloc)?)?;
+    let nlog = with_command(nlog, repair_command(alloc)?)?;
     with_command(nlog, replay_command(alloc)?)
 }
 
-// The program with the commands that change no file.
+// The program with the commands that change no file, but for `replay`.
+fn telling_commands<'a>(alloc: Global) -> Result<Command<'a>, AllocError>
+    ensures { IfOk result (λ c. app_of c ≡ telling) }
+{
+    let nlog = printing_commands(alloc)?;
+    let nlog = with_command(nlog, entries_command(alloc)?)?;
+    let nlog = with_command(nlog, damage_command(alloc)?)?;
+    with_command(nlog, hash_file_command(alloc)?)
+}
+
+// The program with the commands that read a log whole, and with `hash`.
 fn printing_commands<'a>(alloc: Global) -> Result<Command<'a>, AllocError>
     ensures { IfOk result (λ c. app_of c ≡ printing) }
 {
@@ -141,6 +154,58 @@ fn hash_command<'a>(alloc: Global) -> Result<Command<'a>, AllocError>
     )
 }
 
+fn entries_command<'a>(alloc: Global) -> Result<Command<'a>, AllocError>
+    ensures shape { IfOk result (λ c. app_of c ≡ entries) }
+    ensures local { IfOk result (λ c. (out-Command c).has_globals ≡ false) }
+{
+    let command = Command::new(alloc, "entries")
+        .about("Prints each entry, older ones included, in the order of the file")
+        .after_help(
+            "\
+The lines are those of `show`, which has the last entry of each output alone. They are printed while
+LOG is read, so where a read fails, or LOG is larger than a log may be, the first ones were printed.",
+        );
+    with_value(alloc, command, "LOG", false, OPTIONAL_LOG)
+}
+
+fn damage_command<'a>(alloc: Global) -> Result<Command<'a>, AllocError>
+    ensures shape { IfOk result (λ c. app_of c ≡ damage) }
+    ensures local { IfOk result (λ c. (out-Command c).has_globals ≡ false) }
+{
+    let command = Command::new(alloc, "damage")
+        .about("Prints a line for each line that is no entry; status 3 where there is one")
+        .after_help(
+            "\
+One line for each: LINE, WHAT, LENGTH and OUTPUT with a tab between neighbours.
+
+LINE    its number; the first line of LOG is 1, and isn't looked at
+WHAT    `skipped`: it is no entry; `long`: it has more than 262143 bytes; `torn`: the bytes after
+        the last newline
+LENGTH  its bytes, without the newline
+OUTPUT  the output that its last five fields name, the first of them from some digit on, where
+        these are an entry, as one that was written behind a torn line; else `-`
+
+Status: 0 where nothing is printed, 3 where there is damage.",
+        );
+    with_value(alloc, command, "LOG", false, OPTIONAL_LOG)
+}
+
+fn hash_file_command<'a>(alloc: Global) -> Result<Command<'a>, AllocError>
+    ensures shape { IfOk result (λ c. app_of c ≡ hash_file) }
+    ensures local { IfOk result (λ c. (out-Command c).has_globals ≡ false) }
+{
+    let command = Command::new(alloc, "hash-file").about(
+        "Prints the hash of a command that stands in a file: of each of its bytes",
+    );
+    with_value(
+        alloc,
+        command,
+        "FILE",
+        false,
+        "The file; standard input where it is left out",
+    )
+}
+
 fn record_command<'a>(alloc: Global) -> Result<Command<'a>, AllocError>
     ensures shape { IfOk result (λ c. app_of c ≡ record_line) }
     ensures local { IfOk result (λ c. (out-Command c).has_globals ≡ false) }
@@ -232,6 +297,22 @@ Nothing else may change LOG meanwhile: a build, or another nlog.",
         true,
         "A file with a time stamp, a tab and a name a line",
     )
+}
+
+fn repair_command<'a>(alloc: Global) -> Result<Command<'a>, AllocError>
+    ensures shape { IfOk result (λ c. app_of c ≡ repair) }
+    ensures local { IfOk result (λ c. (out-Command c).has_globals ≡ false) }
+{
+    let command = Command::new(alloc, "repair")
+        .about("Rewrites a log with the last entry of each output; prints nothing")
+        .after_help(
+            "\
+What is torn, skipped or stale is gone after it, version 4 is 5, and what a device forgot is written
+anew. The new log is written to LOG.recompact, and renamed over LOG. A LOG that is missing is made.
+
+Nothing else may change LOG meanwhile: a build, or another nlog.",
+        );
+    with_value(alloc, command, "LOG", true, LOG)
 }
 
 fn replay_command<'a>(alloc: Global) -> Result<Command<'a>, AllocError>

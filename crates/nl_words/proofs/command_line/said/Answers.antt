@@ -26,12 +26,17 @@ restat_words-requires c =
     let met = c.in-Some in
     entered_has c.args.matches.now met.name.now (rows_of (found_of met.inner.now)) met.ensures.name met.ensures.rows c.requires (codes "restat") c.in-restat.is
 
+pub repair_words-requires : goal.repair_words-requires
+repair_words-requires c =
+    let met = c.in-Some in
+    entered_has c.args.matches.now met.name.now (rows_of (found_of met.inner.now)) met.ensures.name met.ensures.rows c.requires (codes "repair") c.in-repair.is
+
 pub returns-in_default-name : goal.returns-in_default-name
 returns-in_default-name c =
     let met = c.in-Some in
     let other = c.in_default-name in
     let e = entered_is c.args.matches.now met.name.now (rows_of (found_of met.inner.now)) met.ensures.name met.ensures.rows in
     let whole = subst IsWhole e c.requires in
-    let is_show : met.name.now ≡ codes "show" = only_show _ whole.0 other.not-check other.not-hash
-    other.not-record other.not-recompact other.not-restat other.not-replay in
+    let is_show : met.name.now ≡ codes "show" = only_show _ whole.0 other.not-check other.not-hash other.not-entries other.not-damage other.not-text
+    other.not-record other.not-recompact other.not-restat other.not-repair other.not-replay in
     record { value = subst (IsSaid (Show c.optional-in_default-name.result)) (sym e) (is_show, c.optional-in_default-name.ensures) }
