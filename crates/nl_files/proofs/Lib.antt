@@ -1,0 +1,9 @@
+pub mod RowLemmas
+pub mod ScratchLemmas
+pub mod FolderLemmas
+pub mod KeptLemmas
+pub mod ImageLemmas
+pub mod StartLemmas
+pub mod CutLemmas
+pub mod DiskLemmas
+pub mod CoverLemmas

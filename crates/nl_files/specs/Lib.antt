@@ -1,0 +1,10 @@
+pub mod Model
+pub mod SystemCalls
+pub mod SystemImages
+pub mod Hands
+pub mod Covered
+pub mod LogFile
+pub mod Scratch
+pub mod Stands
+pub mod Start
+pub mod FileFolder

@@ -1,0 +1,13 @@
+//! A folder over the calls of an operating system, and a model of these calls from which the folder's record follows.
+#![tactic(auto)]
+
+mod file_folder;
+pub mod laws;
+mod log_calls;
+mod log_file;
+mod scratch_calls;
+mod scratch_file;
+mod system;
+
+pub use file_folder::FileFolder;
+pub use system::System;
