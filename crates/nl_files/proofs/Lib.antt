@@ -7,3 +7,5 @@ pub mod StartLemmas
 pub mod CutLemmas
 pub mod DiskLemmas
 pub mod CoverLemmas
+pub mod MemLemmas
+pub mod MemSystemLemmas

@@ -7,4 +7,6 @@ pub mod LogFile
 pub mod Scratch
 pub mod Stands
 pub mod Start
+pub mod MemInode
+pub mod MemSystem
 pub mod FileFolder

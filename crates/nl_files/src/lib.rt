@@ -5,9 +5,13 @@ mod file_folder;
 pub mod laws;
 mod log_calls;
 mod log_file;
+mod mem_inode;
+mod mem_inodes;
+mod mem_system;
 mod scratch_calls;
 mod scratch_file;
 mod system;
 
 pub use file_folder::FileFolder;
+pub use mem_system::{MemHandle, MemSystem, Plan};
 pub use system::System;
