@@ -3,6 +3,7 @@ pub mod Output
 pub mod Streams
 pub mod StreamSteps
 pub mod Loading
+pub mod Versions
 pub mod RecordWords
 pub mod Faults
 pub mod Updates

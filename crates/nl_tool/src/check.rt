@@ -4,9 +4,12 @@ ghost use Rattle.nl_table.specs.Log.{log_of, NotALog, OtherVersion};
 ghost use Rattle.nl_tool.specs.Faults.{IsLogFault};
 ghost use Rattle.nl_texts.specs.Output.{Prints};
 ghost use Rattle.nl_tool.specs.Output.{checked, report, yes_or_no, IsTextFor};
+ghost use Rattle.nl_tool.specs.Versions.{checked_as, numbered, seen_bytes};
 ghost use Rattle.nl_texts.specs.declared.fault.ToolFault.{ToolFault};
 
 use crate::loading::load_all;
+use crate::versions::load_as;
+use nl_lines::LogVersion;
 use nl_table::{Loaded, is_due};
 use nl_texts::{ToolFault, write_out};
 use std::alloc::{AllocError, Global};
@@ -27,6 +30,34 @@ pub fn check_to<R: Read + Drop, W: Write>(
     let loaded = load_all(alloc, reader)?;
     let text = report_text(alloc, &loaded)?;
     write_out(text.as_bytes(), writer)
+}
+
+/// The same of a log of the version, whose number is the first line.
+pub fn check_as<R: Read + Drop, W: Write>(
+    alloc: Global,
+    version: LogVersion,
+    reader: R,
+    writer: &mut W,
+) -> Result<(), ToolFault>
+    ensures prints { Prints (IsTextFor (checked_as version) (seen_bytes version (R.remaining reader))) (W.contents writer.old) (W.contents writer.new) result }
+    ensures not_a_log { IsErrOf result ToolFault.NotALog → IfSome (seen_bytes version (R.remaining reader)) (λ bs. log_of bs ≡ NotALog) }
+    ensures faults { IfErr result IsLogFault }
+{
+    let mut loaded = load_as(alloc, version, reader)?;
+    loaded.version = numbered(version, loaded.version);
+    let report = report_text(alloc, &loaded)?;
+    write_out(report.as_bytes(), writer)
+}
+
+// The number of the version that a log has whose text is seen so.
+fn numbered(version: LogVersion, seen: u8) -> u8
+    ensures { result ≡ numbered version seen }
+{
+    match version {
+        LogVersion::Five => seen,
+        LogVersion::Six => 6,
+        LogVersion::Seven => 7,
+    }
 }
 
 fn report_text(alloc: Global, loaded: &Loaded) -> Result<String, AllocError>

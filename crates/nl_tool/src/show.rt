@@ -7,10 +7,13 @@ ghost use Rattle.nl_table.specs.Log.{log_of, NotALog, OtherVersion};
 ghost use Rattle.nl_tool.specs.Faults.{IsLogFault};
 ghost use Rattle.nl_texts.specs.Output.{AppendsPrefixOf, Prints};
 ghost use Rattle.nl_tool.specs.Output.{IsTextFor, Moves, shown};
+ghost use Rattle.nl_tool.specs.Versions.{seen_bytes};
 ghost use Rattle.nl_texts.specs.declared.fault.ToolFault.{ToolFault};
 
 use crate::loading::load_all;
+use crate::versions::load_as;
 use nl_fields::{MAX_ENTRY_LINE, append_entry};
+use nl_lines::LogVersion;
 use nl_table::Table;
 use nl_texts::{ToolFault, write_out};
 use std::alloc::Global;
@@ -34,6 +37,22 @@ pub fn show_to<R: Read + Drop, W: Write>(
     // All that the output takes is taken before the first write, so what can fail from here on is a write.
     let piece = Vec::with_capacity(alloc, PIECE)?;
     write_lines(&loaded.table, piece, writer)
+}
+
+/// The same of a log of the version.
+pub fn show_as<R: Read + Drop, W: Write>(
+    alloc: Global,
+    version: LogVersion,
+    reader: R,
+    writer: &mut W,
+) -> Result<(), ToolFault>
+    ensures prints { Prints (IsTextFor shown (seen_bytes version (R.remaining reader))) (W.contents writer.old) (W.contents writer.new) result }
+    ensures not_a_log { IsErrOf result ToolFault.NotALog → IfSome (seen_bytes version (R.remaining reader)) (λ bs. log_of bs ≡ NotALog) }
+    ensures faults { IfErr result IsLogFault }
+{
+    let seen = load_as(alloc, version, reader)?;
+    let held = Vec::with_capacity(alloc, PIECE)?;
+    write_lines(&seen.table, held, writer)
 }
 
 // Writes the line of each entry, in order, as many at a time as the piece has room for.
