@@ -1,12 +1,18 @@
 -- The entries of a log as they are listed line by line.
 use Rattle.std.proofs.Common.{◌≡◌, ◌∙◌, ℕ, Bool, List, [], ◌∷◌, ◌++◌, length, refl, sym, ap, subst, ◌+◌}
-use Rattle.std.specs.Prelude.{Option, None, Some, Ok, drop}
+use Rattle.std.specs.Prelude.{◌≤◌, Option, None, Some, Ok, drop, map}
 use Rattle.std.specs.List.{cons_option}
 use Rattle.std.proofs.lemmas.List.{append-nil}
 use Rattle.nl_fields.specs.declared.entry.Entry.{Entry}
 use Rattle.nl_fields.specs.EntryLine.{line_of}
-use Rattle.nl_fields.specs.Header.{header_of}
-use Rattle.nl_lines.specs.Split.{lines_of, rest_of, with_newline}
+use Rattle.nl_fields.specs.Header.{header_line, header_of}
+use Rattle.nl_lines.specs.Lines.{max_log}
+use Rattle.nl_table.specs.History.{Began}
+use Rattle.nl_table.proofs.LogTextLemmas.{log_of-text}
+use Rattle.nl_table.proofs.TableLemmas.{table-plus}
+use Rattle.nl_table.proofs.ValidLemmas.{log_valid}
+use Rattle.nl_tool.specs.Output.{shown, shown_of}
+use Rattle.nl_lines.specs.Split.{joined, lines_of, rest_of, with_newline}
 use Rattle.nl_table.specs.Log.{LogReading, Log, NotALog, OtherVersion, entries_on, entry_on, log_of}
 use Rattle.nl_table.specs.LogText.{lines_of_entries}
 use Rattle.nl_table.proofs.FirstLineLemmas.{log_of-lines}
@@ -51,3 +57,16 @@ all_listed known w v any found = subst (λ (text_of : List ℕ → Option (List 
 
 pub some_listed : (known w v : Option (List ℕ)) → IsSoFar (told entry_line no_rest) known w v → IsSoFar listed known w v
 some_listed known w v so_far = subst (λ (text_of : List ℕ → Option (List ℕ)). IsSoFar text_of known w v) same_text so_far
+
+-- the entries of a log, loaded again, are its table
+pub entries_shown : (bytes text : List ℕ) → listed bytes ≡ Some text → length (header_line ++ text) ≤ max_log → shown (header_line ++ text) ≡ shown bytes
+entries_shown bytes text is fits = go (log_of bytes) refl is
+  where
+    go : (r : LogReading) → log_of bytes ≡ r → listed_of r ≡ Some text → shown (header_line ++ text) ≡ shown_of r
+    go OtherVersion reads none = absurd (cc none)
+    go NotALog reads none = absurd (cc none)
+    go (Log v es) reads some =
+        let same : lines_of_entries es ≡ text = cc some in
+        let again : log_of (header_line ++ text) ≡ Log 5 es =
+        ap (λ (t : List ℕ). log_of (header_line ++ t)) (sym same) ∙ log_of-text es (log_valid bytes v es reads) (subst (λ (t : List ℕ). length (header_line ++ t) ≤ max_log) (sym same) fits) in
+        ap shown_of again ∙ ap (λ (l : List Entry). Some (joined (map line_of l))) (table-plus (Began 5) es ∙ sym (table-plus (Began v) es))

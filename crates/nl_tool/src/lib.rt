@@ -9,6 +9,7 @@ mod entries;
 mod hash;
 mod hash_file;
 mod keep_file;
+pub mod laws;
 mod loading;
 mod log_fault;
 mod parts;

@@ -1,0 +1,11 @@
+//! Laws of what the commands print, each the contract of a function that does nothing.
+ghost use Rattle.std.specs.Prelude.{◌≡◌, ◌++◌, ◌≤◌, ℕ, List, Some, length};
+ghost use Rattle.nl_fields.specs.Header.{header_line};
+ghost use Rattle.nl_lines.specs.Lines.{max_log};
+ghost use Rattle.nl_tool.specs.Output.{shown};
+ghost use Rattle.nl_tool.specs.Streams.{listed};
+
+/// What `show` prints of the header line and of what `entries` printed is what it prints of the log.
+pub fn entries_are_shown()
+    ensures { (bytes text : List ℕ) → listed bytes ≡ Some text → length (header_line ++ text) ≤ max_log → shown (header_line ++ text) ≡ shown bytes }
+{}
