@@ -23,7 +23,7 @@ Examples:
   nlog show build/.ninja_log
   nlog check < .ninja_log
   nlog record .ninja_log 0 1200 1700000001200000000 app.o 'cc -c app.c -o app.o'
-  nlog damage .ninja_log || nlog repair .ninja_log
+  nlog damage .ninja_log > damaged; test $? != 3 || nlog repair .ninja_log
   nlog entries .ninja_log | tail -n 1
 
 Status: 0 done; 1 refused, and a line `nlog: ...` on standard error says why; 2 wrong words;
