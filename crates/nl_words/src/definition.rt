@@ -10,7 +10,7 @@ use std::alloc::{AllocError, Global};
 const VERSION: &str = "0.1.0";
 
 const AFTER: &str = "\
-Without a command, and with `show` or `check` without LOG, a log is read from standard input.
+Without a command, and where LOG is left out, a log is read from standard input.
 A LOG that is missing is read as one without entries, also where its name is mistyped.
 `record`, `recompact`, `restat` and `repair` first repair a LOG that a crash cut off, and make what
 they change durable before they end.
@@ -23,7 +23,7 @@ Examples:
   nlog show build/.ninja_log
   nlog check < .ninja_log
   nlog record .ninja_log 0 1200 1700000001200000000 app.o 'cc -c app.c -o app.o'
-  nlog damage .ninja_log > damaged; test $? != 3 || nlog repair .ninja_log
+  nlog damage .ninja_log >> damaged || { test $? = 3 && nlog repair .ninja_log; }
   nlog entries .ninja_log | tail -n 1
 
 Status: 0 done; 1 refused, and a line `nlog: ...` on standard error says why; 2 wrong words;
