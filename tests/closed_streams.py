@@ -42,10 +42,19 @@ ROWS = [
     (["restat", "LOG", "TIMES"], LOG, ROOMY, 0, HEADER + b"5\t6\t7\ta\tcc\n3\t4\t20\tb\tbb\n"),
     (["restat", "LOG", "NEGATIVE"], TORN, ROOMY, 1, LOG),
     (["restat", "LOG", "TIMES"], LOG, 0, 1, LOG),
+    (["repair", "LOG"], TORN, ROOMY, 0, HEADER + b"5\t6\t30\ta\tcc\n3\t4\t20\tb\tbb\n"),
+    (["repair", "LOG"], None, ROOMY, 0, HEADER),
+    # Its rewriting finds no room, and the torn line is cut off before that.
+    (["repair", "LOG"], TORN, 20, 1, LOG),
+    (["repair", "LOG"], NO_LOG, ROOMY, 1, NO_LOG),
     # What these print goes nowhere where standard output is closed. Their status isn't compared: it tells of the write.
     (["show", "LOG"], LOG, ROOMY, None, LOG),
     (["check", "LOG"], NO_LOG, ROOMY, None, NO_LOG),
     (["hash", "LOG"], LOG, ROOMY, None, LOG),
+    (["entries", "LOG"], TORN, ROOMY, None, TORN),
+    (["damage", "LOG"], TORN, ROOMY, None, TORN),
+    (["damage", "LOG"], NO_LOG, ROOMY, None, NO_LOG),
+    (["hash-file", "LOG"], LOG, ROOMY, None, LOG),
     (["record", "--help"], LOG, ROOMY, None, LOG),
 ]
 FILES = {"KEEP": b"b\n", "BAD": b"a\tb\n", "TIMES": b"7\ta\n", "NEGATIVE": b"-7\ta\n"}

@@ -133,6 +133,10 @@ def try_words(trials, program, room):
         ["show", "--", "LOG", "b"],
         ["check", "--", "LOG", "b"],
         ["hash", "--", "x", "b"],
+        ["entries", "--", "LOG", "b"],
+        ["damage", "--", "LOG", "b"],
+        ["hash-file", "--", "FILE", "b"],
+        ["repair", "--", "LOG", "b"],
         ["replay", "--", "SCRIPT", "b"],
     ]
     for words in rows:
@@ -169,6 +173,9 @@ def try_dash(trials, program, room):
     want("show of a file - that is missing", ["show", "-"], SMALL, DONE)
     want("check of a file - that is missing", ["check", "-"], SMALL, (0, Log(b"").report(), b""))
     want("replay of a file - that is missing", ["replay", "-"], b"open\n", CANNOT_READ)
+    want("entries of a file - that is missing", ["entries", "-"], SMALL, DONE)
+    want("damage of a file - that is missing", ["damage", "-"], SMALL + b"x", DONE)
+    want("hash-file of a file - that is missing", ["hash-file", "-"], SMALL, CANNOT_READ)
     write(log, SMALL)
     want("recompact by a file - that is missing", ["recompact", "LOG", "-"], b"a\n", CANNOT_READ, SMALL)
     want("restat by a file - that is missing", ["restat", "LOG", "-"], b"7\ta\n", CANNOT_READ, SMALL)
@@ -182,6 +189,15 @@ def try_dash(trials, program, room):
     trials.want("record in a file -: the file", read(dash), HEADER + line)
     want("show of a file -", ["show", "-"], SMALL, (0, line, b""))
     want("check of a file -", ["check", "-"], SMALL, (0, Log(HEADER + line).report(), b""))
+    want("entries of a file -", ["entries", "-"], SMALL, (0, line, b""))
+    want("hash-file of a file -", ["hash-file", "-"], SMALL, (0, b"%x\n" % command_hash(HEADER + line), b""))
+    write(dash, HEADER + line + b"x")
+    want("damage of a file -", ["damage", "-"], SMALL, (3, b"3\ttorn\t1\t-\n", b""))
+    want("repair of a file -", ["repair", "-"], SMALL, DONE)
+    trials.want("repair of a file -: the file", read(dash), HEADER + line)
+    os.remove(dash)
+    want("repair of a file - that is missing", ["repair", "-"], SMALL, DONE)
+    trials.want("repair of a file - that is missing: the file", read(dash), HEADER)
 
 
 def mode_of(path):
@@ -191,7 +207,9 @@ def mode_of(path):
 def try_modes(trials, program, room):
     """The mode of a LOG that is made or rewritten is that of a new file; one that is there keeps its own."""
     record = ["record", "LOG", "1", "2", "3", "a", COMMAND]
+    repair = ["repair", "LOG"]
     rows = [(record, None), (["recompact", "LOG", "KEEP"], SMALL), (["restat", "LOG", "TIMES"], SMALL), (record, SMALL)]
+    rows += [(repair, None), (repair, SMALL)]
     write(f"{room}/KEEP", b"b\n")
     write(f"{room}/TIMES", b"7\tb\n")
     for mask in (0, 0o002, 0o022, 0o027, 0o077):
@@ -205,15 +223,17 @@ def try_modes(trials, program, room):
                 trials.want(f"{words[0]} under the mask {mask:03o}", run([program, *words], cwd=room), DONE)
             finally:
                 os.umask(before)
+            # A new file replaces a LOG that is rewritten. One that is missing is made by the open, and rewritten by a repair.
             wanted = 0o640 if words == record and start is not None else 0o666 & ~mask
             what = f"{words[0]} {'of a missing LOG' if start is None else ''} under the mask {mask:03o}: mode"
             trials.want(what, oct(mode_of(log)), oct(wanted))
             os.remove(log)
     # A scratch that a crash left is emptied.
-    write(f"{room}/LOG", SMALL)
-    write(f"{room}/LOG.recompact", SMALL * 2)
-    trials.want("recompact where a scratch is left", run([program, "recompact", "LOG", "KEEP"], cwd=room), DONE)
-    trials.want("recompact where a scratch is left: the log", read(f"{room}/LOG"), HEADER + b"4\t5\t6\tb\tbb\n")
+    for words, left in (["recompact", "LOG", "KEEP"], HEADER + b"4\t5\t6\tb\tbb\n"), (repair, SMALL):
+        write(f"{room}/LOG", SMALL)
+        write(f"{room}/LOG.recompact", SMALL * 2)
+        trials.want(f"{words[0]} where a scratch is left", run([program, *words], cwd=room), DONE)
+        trials.want(f"{words[0]} where a scratch is left: the log", read(f"{room}/LOG"), left)
 
 
 def without_rights():
@@ -227,15 +247,18 @@ def without_rights():
 # The mode of the folder, that of LOG in it, or None where LOG is missing, the words, and how they end.
 RECORD = ["record", "LOG", "1", "2", "3", "new", COMMAND]
 RECOMPACT, RESTAT = ["recompact", "LOG", "KEEP"], ["restat", "LOG", "TIMES"]
-SHOW, CHECK = ["show", "LOG"], ["check", "LOG"]
+SHOW, CHECK, REPAIR = ["show", "LOG"], ["check", "LOG"], ["repair", "LOG"]
+READS = (SHOW, CHECK, ["entries", "LOG"], ["damage", "LOG"], ["hash-file", "LOG"])
+WRITES = (RECORD, RECOMPACT, RESTAT, REPAIR)
+SECRETS = (["recompact", "LOG", "SECRET"], ["restat", "LOG", "SECRET"], ["replay", "SECRET"], ["hash-file", "SECRET"])
 RIGHTS = [
-    *((0o700, mode, words, CANNOT_READ) for mode in (0, 0o200) for words in (SHOW, CHECK)),
-    *((0o700, mode, words, FOLDER_FAILED) for mode in (0, 0o200, 0o400) for words in (RECORD, RECOMPACT, RESTAT)),
-    *((0o600, 0o600, words, CANNOT_READ) for words in (SHOW, CHECK)),
-    *((mode, 0o600, words, FOLDER_FAILED) for mode in (0o600, 0o300) for words in (RECORD, RECOMPACT, RESTAT)),
-    *((0o500, 0o600, words, FOLDER_FAILED) for words in (RECOMPACT, RESTAT)),
-    (0o500, None, RECORD, FOLDER_FAILED),
-    *((0o700, 0o600, words, CANNOT_READ) for words in (["recompact", "LOG", "SECRET"], ["restat", "LOG", "SECRET"], ["replay", "SECRET"])),
+    *((0o700, mode, words, CANNOT_READ) for mode in (0, 0o200) for words in READS),
+    *((0o700, mode, words, FOLDER_FAILED) for mode in (0, 0o200, 0o400) for words in WRITES),
+    *((0o600, 0o600, words, CANNOT_READ) for words in READS),
+    *((mode, 0o600, words, FOLDER_FAILED) for mode in (0o600, 0o300) for words in WRITES),
+    *((0o500, 0o600, words, FOLDER_FAILED) for words in (RECOMPACT, RESTAT, REPAIR)),
+    *((0o500, None, words, FOLDER_FAILED) for words in (RECORD, REPAIR)),
+    *((0o700, 0o600, words, CANNOT_READ) for words in SECRETS),
 ]
 # What the same user may do, with what is printed and the log that is left.
 MAY = [
@@ -245,6 +268,11 @@ MAY = [
     (0o700, None, RECORD, b"", HEADER + line_of(b"new", (1, 2, 3, HASH))),
     (0o700, 0o600, RECOMPACT, b"", HEADER + b"4\t5\t6\tb\tbb\n"),
     (0o700, 0o600, RESTAT, b"", HEADER + b"1\t2\t3\ta\taa\n4\t5\t7\tb\tbb\n"),
+    (0o500, 0o400, ["entries", "LOG"], SMALL[len(HEADER) :], SMALL),
+    (0o500, 0o400, ["damage", "LOG"], b"", SMALL),
+    (0o500, 0o400, ["hash-file", "LOG"], b"%x\n" % command_hash(SMALL), SMALL),
+    (0o700, None, REPAIR, b"", HEADER),
+    (0o700, 0o600, REPAIR, b"", SMALL),
 ]
 
 

@@ -22,6 +22,7 @@ DUE = START + line_of(b"a", ENTRY) * 200
 FIRST = {
     "recompact": (["recompact", "LOG", "KEEP"], START),
     "restat": (["restat", "LOG", "/dev/null"], START),
+    "repair": (["repair", "LOG"], START),
     "record on a log that is due": (["record", "LOG", "1", "2", "3", "first", "c"], DUE),
 }
 SECOND = ["record", "LOG", "1", "2", "3", "second", "c"]
