@@ -1,0 +1,49 @@
+"""What `entries` and `damage` print, read from docs/CLI.md, and which lines are entries from `log_format`."""
+from log_format import HEADER, MAX_LINE, entry_of, line_of
+
+
+def lines_of(text):
+    """The version of a log, its lines after the first, and its rest."""
+    first, *lines = text.split(b"\n")
+    # Without a newline there is no line, and all of it is the torn header.
+    if not lines:
+        return 5, [], first
+    return int(first[len(HEADER) - 2 :]), lines[:-1], lines[-1]
+
+
+def named_last(line, version):
+    """The output that the last five fields of a line name, the first of them from some digit on, or `-`."""
+    fields = line.split(b"\t")
+    if len(fields) < 5 or len(line) > MAX_LINE:
+        return b"-"
+    first, *others = fields[-5:]
+    for at, byte in enumerate(first):
+        entry = entry_of(b"\t".join([first[at:], *others]), version) if byte in b"0123456789" else None
+        if entry:
+            return entry[0]
+    return b"-"
+
+
+def damage_line(number, what, line, version):
+    return b"%d\t%s\t%d\t%s\n" % (number, what, len(line), named_last(line, version))
+
+
+def damage_of(text):
+    """What `damage` prints of a log."""
+    version, lines, rest = lines_of(text)
+    told = []
+    for number, line in enumerate(lines, 2):
+        if len(line) > MAX_LINE:
+            told.append(damage_line(number, b"long", line, version))
+        elif not entry_of(line, version):
+            told.append(damage_line(number, b"skipped", line, version))
+    if rest:
+        told.append(damage_line(text.count(b"\n") + 1, b"torn", rest, version))
+    return b"".join(told)
+
+
+def entries_of(text):
+    """What `entries` prints of a log."""
+    version, lines, _ = lines_of(text)
+    entries = (entry_of(line, version) for line in lines)
+    return b"".join(line_of(*it) for it in entries if it)
