@@ -1,23 +1,27 @@
 #!/usr/bin/env python3
-"""Damaged and hostile logs: what `show` and `check` say of each, whole and in pieces of one byte.
+"""Damaged and hostile logs: what `show`, `check`, `entries`, `damage` and `hash-file` say of each, whole and in pieces of one byte.
 
     python3 tests/damaged.py PROGRAM
 
 Each text is read from a file, and from standard input in pieces of one byte (those of a text of more than 70,000 bytes are longer between
-its first 1,000 bytes and its last): that is one end of a pair of sockets, each message on which is a piece, so that no read gives more. The
-end of the text is the end of what is sent. Both ways have to give the same: literal answers,
-taken from docs/FORMAT.md, and where each byte of a log is replaced those of `log_format`. At last come names that collide in the table,
-which `bench/colliding_log.py` finds: they cost time, and change no answer.
+its first 1,000 bytes and its last): that is one end of a pair of sockets, on which a piece is sent when the one before was read, so that no
+read gives more. The end of the text is the end of what is sent. Both ways have to give the same: literal answers,
+taken from docs/FORMAT.md and docs/CLI.md, and where each byte of a log is replaced those of `log_format`; what `entries` and `damage` print
+is that of `log_lines` beside. At last come names that collide in the table, which `bench/colliding_log.py` finds: they cost time, and change
+no answer.
 """
+import fcntl
 import itertools
 import os
 import resource
 import socket
 import subprocess
 import sys
+import termios
 import threading
 
 from log_format import Log, command_hash, reading_of
+from log_lines import damage_of, entries_of
 from trials import SECONDS, main, read, run, short, write
 
 BENCH = f"{os.path.dirname(os.path.dirname(os.path.abspath(__file__)))}/bench"
@@ -186,6 +190,56 @@ REFUSED = [
 ]
 
 
+# A line that is no entry, or the same bytes behind the last newline, and the output that `damage` names. Which of them are an entry as a
+# line of their own stands in ALONE.
+NAMED = [
+    # Behind a torn line that was cut in its name, in a number, and right behind a tab.
+    (5, b"1\t2\t3\tou4\t5\t6\tout\tab", b"out"),
+    (5, b"1\t24\t5\t6\tout\tab\t4\t5\t6\tlast\tab", b"last"),
+    (5, b"1\t2\t4\t5\t6\tout\tab", b"out"),
+    (5, b"x4\t5\t6\tout\tab", b"out"),
+    # From some digit on the first field is a number, here from the last one at least.
+    (5, b"99999999999\t5\t6\tout\tab", b"out"),
+    (5, b"007\t5\t6\tout\tab", b"out"),
+    (5, b"x-5\t5\t6\tout\tab", b"out"),
+    (5, b"x5-\t5\t6\tout\tab", b"-"),
+    (5, b"5x\t5\t6\tout\tab", b"-"),
+    (5, b"x\t5\t6\tout\tab", b"-"),
+    (5, b"\t5\t6\tout\tab", b"-"),
+    # The other fields have no second spelling.
+    (5, b"1\t05\t6\tout\tab", b"-"),
+    (5, b"1\t5\t-0\tout\tab", b"-"),
+    (5, b"1\t5\t6\t\tab", b"-"),
+    (5, b"1\t5\t6\to\0t\tab", b"-"),
+    (5, b"1\t5\t6\tout\tAB", b"-"),
+    (5, b"1\t5\t6\tout\tab\r", b"-"),
+    (5, b"1\t5\t6\tout\t", b"-"),
+    (5, b"5\t6\tout\tab", b"-"),
+    (5, b"x1\t5\t6\t-\tab", b"-"),
+    (5, b"x1\t5\t6\t" + LONGEST + b"\tab", LONGEST),
+    (5, b"x1\t5\t6\t" + LONGEST + b"n\tab", b"-"),
+    (4, b"x1\t5\t6\tout\tcc -c", b"out"),
+    (4, b"x1\t5\t6\tout\t", b"out"),
+    (4, b"x\t2\t3\tou4\t5\t6\tout\tcc", b"out"),
+    # The command of the last five fields has no tab.
+    (4, b"x1\t5\t6\tout\tcc\tx", b"-"),
+    (4, b"1\t2\t3\tout", b"-"),
+    # A line of 262,143 bytes, and one of a byte more, which is looked at no further.
+    (5, b"x" * 262_130 + b"1\t2\t3\tout\tabc", b"out"),
+    (5, b"x" * 262_131 + b"1\t2\t3\tout\tabc", b"-"),
+]
+# The same of bytes that are torn, and would be an entry with a newline.
+ALONE = [
+    (5, b"1\t2\t3\tout\tabc", b"out"),
+    (5, b"1\t2\t3\tout\t", b"-"),
+    (5, b"1\t2\t3\tout", b"-"),
+    (5, EXTREMES + b"\tffffffffffffffff", LONGEST),
+    (4, b"1\t2\t3\tout\tcc -", b"out"),
+    (4, b"1\t2\t3\tout\t", b"out"),
+    (4, b"1\t2\t3\tout\tcc\tx", b"-"),
+]
+
+
 def counts(version, total, unique, skipped, torn, due):
     """What `check` prints."""
     return b"version %d\ntotal %d\nunique %d\nskipped %d\ntorn %d\ndue %s\n" % (version, total, unique, skipped, torn, due.encode())
@@ -201,23 +255,32 @@ def pieces(text):
 
 
 def send(into, text):
-    """Sends a text in messages of one piece, and then its end."""
+    """Sends a text in pieces, and then its end. On a stream, where a read takes all that there is, each waits for the one before."""
+    is_stream = into.type == socket.SOCK_STREAM
     try:
         for it in pieces(text):
-            into.send(it)
+            into.sendall(it)
+            while is_stream and waiting(into):
+                pass
         into.shutdown(socket.SHUT_WR)
     except OSError:
         # The program ended before it read all of it, as it may.
         pass
 
 
-def pair():
-    return socket.socketpair(socket.AF_UNIX, socket.SOCK_SEQPACKET)
+def waiting(into):
+    """How much of what was sent nobody has read."""
+    return int.from_bytes(fcntl.ioctl(into, termios.TIOCOUTQ, bytes(4)), sys.byteorder)
+
+
+def pair(text):
+    """A message is a piece. But of one that is longer than what a read asks for the end is lost, so long pieces go by a stream."""
+    return socket.socketpair(socket.AF_UNIX, socket.SOCK_STREAM if len(text) > LONG else socket.SOCK_SEQPACKET)
 
 
 def run_in_pieces(words, text):
     """Runs a program whose standard input is this text in pieces. The writing side is shut, and stays there."""
-    ours, theirs = pair()
+    ours, theirs = pair(text)
     with ours:
         with theirs:
             child = subprocess.Popen(words, stdin=theirs, stdout=subprocess.PIPE, stderr=subprocess.PIPE)
@@ -243,16 +306,19 @@ class Readings:
         if not self.pieces:
             trials.skip("pieces of one byte", "there are no sockets of the kind SOCK_SEQPACKET here")
             return
-        ours, theirs = pair()
+        ours, theirs = pair(b"xy")
         with ours, theirs:
             send(ours, b"xy")
             given = [os.read(theirs.fileno(), 100) for _ in range(3)]
         trials.want("pieces of one byte, and their end", given, [b"x", b"y", b""])
 
     def want(self, what, text, shown, checked):
-        """Tries `show` and `check` on a text, given to what a command prints or to how it ends."""
+        """Tries `show` and `check` on a text, given to what a command prints or to how it ends, and the words that keep no table."""
+        self.want_each(what, text, {"show": shown, "check": checked, **answers_through(text)})
+
+    def want_each(self, what, text, answers):
         write(self.file, text)
-        for word, wanted in ("show", shown), ("check", checked):
+        for word, wanted in answers.items():
             wanted = wanted if isinstance(wanted, tuple) else (0, wanted, b"")
             self.trials.want(f"{what}: {word}", run([self.program, word, self.file]), wanted)
             if self.pieces:
@@ -300,6 +366,35 @@ def answers_of(text):
         return refusal, refusal
     log = Log(text)
     return log.shown(), log.report()
+
+
+def found(told):
+    """How `damage` ends that prints this."""
+    return (3 if told else 0, told, b"")
+
+
+def answers_through(text):
+    """What the words have to answer that go through a text and keep no table of it."""
+    reading = reading_of(text)
+    hashed = b"%x\n" % command_hash(text)
+    if reading != "log":
+        refusal = (1, b"", b"nlog: " + reading.encode() + b"\n")
+        return {"entries": refusal, "damage": refusal, "hash-file": hashed}
+    return {"entries": entries_of(text), "damage": found(damage_of(text)), "hash-file": hashed}
+
+
+def try_damage(readings):
+    """What `damage` says of a line, and of the same bytes behind the last newline."""
+    first = {5: b"1\t2\t3\ty\t0\n", 4: b"1\t2\t3\ty\t\n"}
+    for version, line, output in NAMED:
+        kind = b"long" if len(line) > 262_143 else b"skipped"
+        told = b"3\t%s\t%d\t%s\n4\ttorn\t%d\t%s\n" % (kind, len(line), output, len(line), output)
+        text = HEADERS[version] + first[version] + line + b"\n" + line
+        readings.want_each(f"version {version}, twice {short(line)}", text, {"damage": found(told)})
+    for version, rest, output in ALONE:
+        text = HEADERS[version] + first[version] + rest
+        told = b"3\ttorn\t%d\t%s\n" % (len(rest), output)
+        readings.want_each(f"version {version}, torn {short(rest)}", text, {"damage": found(told)})
 
 
 def try_replaced(readings):
@@ -403,6 +498,7 @@ def trial(trials, program, room):
     try_kinds(readings)
     try_many(trials, program, room)
     try_prefixes(readings)
+    try_damage(readings)
     try_replaced(readings)
     try_lines(readings)
     try_refused(readings)
