@@ -3,9 +3,10 @@
 
     python3 tests/large.py PROGRAM
 
-One log has 1,000,001 entries of as many outputs; the other has names of up to 65,536 bytes, lines that are no entries, too long ones among
-them, and a torn line, and is due to be recompacted. The files are made line by line by a rule, and what is wanted is computed from that
-rule, or from `log_format`, a line at a time; it is compared by its length and its hash, so that no more of it is held in memory.
+One log has 1,000,001 entries of as many outputs; the second has names of up to 65,536 bytes, lines that are no entries, too long ones among
+them, and a torn line, and is due to be recompacted; the third has lines that were written behind torn ones. The files are made line by line
+by a rule, and what is wanted is computed from that rule, or from `log_format`, a line at a time; it is compared by its length and its hash,
+so that no more of it is held in memory. `entries` and `damage` may take no more memory than for a small log.
 """
 import hashlib
 import os
@@ -16,9 +17,10 @@ import subprocess
 import sys
 import tempfile
 import threading
+from functools import partial
 from itertools import chain
 
-from log_format import HEADER, MAX_LINE, MAX_NAME, entry_of, line_of
+from log_format import HEADER, MAX_LINE, MAX_NAME, command_hash, entry_of, line_of
 from trials import SECONDS, main, run
 
 ENTRIES = 1_000_001
@@ -28,6 +30,8 @@ OTHERS = 200_000
 RECORDS, OUTPUTS, KEPT, STAMPED = 800_000, 4_000, 3_700, 2_900
 LARGE = 80_000_000
 PIECE = 1 << 20
+# How many kilobytes the words may take that keep no table: libraries, stack and all. The logs have 15 times as many.
+SMALL = 6_000
 # What the files of one part take at once.
 ROOM = 600_000_000
 
@@ -88,6 +92,11 @@ def streamed(words, piped=None):
     return status, printed, said
 
 
+def held(words):
+    """A command that may take no more memory than `SMALL`."""
+    return ["sh", "-c", 'ulimit -v "$0" && exec "$@"', str(SMALL), *words]
+
+
 class Large:
     """A log in a file with what is wanted of it."""
 
@@ -105,6 +114,17 @@ class Large:
         wanted = (0, sum_of(pieces), b"")
         self.trials.want(f"{self.what}: {word} of a file", streamed([self.program, word, self.log]), wanted)
         self.trials.want(f"{self.what}: {word} of a pipe", streamed([self.program, word], self.log), wanted)
+
+    def want_held(self, word, pieces, status=0):
+        """The same of a word that keeps no table, in the memory that a small log takes."""
+        wanted = (status, sum_of(pieces), b"")
+        self.trials.want(f"{self.what}: {word} of a file, in little memory", streamed(held([self.program, word, self.log])), wanted)
+        self.trials.want(f"{self.what}: {word} of a pipe, in little memory", streamed(held([self.program, word]), self.log), wanted)
+
+    def want_more(self):
+        """What keeps a table finds no such memory: so the limit is one."""
+        ended = streamed(held([self.program, "show", self.log]))
+        self.trials.want(f"{self.what}: show in little memory", ended, (1, sum_of([]), b"nlog: out of memory\n"))
 
     def want_log(self, words, pieces):
         """Tries a command that changes the log."""
@@ -178,6 +198,13 @@ def try_many(trials, program, room):
     large.want_sizes(large.log, large.keep, large.times)
     large.want_printed("show", lines(everything))
     large.want_printed("check", [report(*counts)])
+    large.want_held("entries", lines(everything))
+    large.want_held("damage", [])
+    large.want_more()
+    with open(large.log, "ab") as it:
+        it.write(b"1\t2\t3\ttorn")
+    large.want_held("damage", [b"%d\ttorn\t10\t-\n" % (ENTRIES + 2)], 3)
+    large.want_log(["repair", large.log], chain([HEADER], lines(everything)))
     with open(large.log, "ab") as it:
         it.write(b"1\t2\t3\ttorn")
     large.want_log(["record", large.log, *RECORD], chain([HEADER], lines(everything), [RECORDED]))
@@ -233,13 +260,16 @@ def try_long(trials, program, room):
     large = Large(trials, program, room, "a log of long names")
     torn = b"1\t2\t3\t" + b"t" * 200_000
     make(large.log, chain([HEADER], long_lines(random.Random(SEED)), [torn]))
-    table, skipped = {}, 0
-    for line in long_lines(random.Random(SEED)):
+    # The rule of long_lines has no five fields in a line that is too long, and too long a name in one that is skipped.
+    table, skipped, damaged = {}, 0, []
+    for number, line in enumerate(long_lines(random.Random(SEED)), 2):
         entry = entry_of(line[:-1], 5)
         if entry is None:
             skipped += 1
+            damaged.append(b"%d\t%s\t%d\t-\n" % (number, b"long" if len(line) > MAX_LINE + 1 else b"skipped", len(line) - 1))
         else:
             table[entry[0]] = entry[1]
+    damaged.append(b"%d\ttorn\t%d\t-\n" % (number + 1, len(torn)))
     names = list(table)
     # Each name five times: the last line of TIMES counts.
     make(large.keep, (b"%s\n" % name for _ in range(5) for name in names[1::2]))
@@ -249,6 +279,9 @@ def try_long(trials, program, room):
     large.want_sizes(large.log)
     large.want_printed("show", (line_of(*it) for it in table.items()))
     large.want_printed("check", [report(5, 1_600, len(table), skipped, len(torn), b"yes")])
+    large.want_held("entries", (line for line in long_lines(random.Random(SEED)) if entry_of(line[:-1], 5)))
+    large.want_held("damage", damaged, 3)
+    large.want_log(["repair", large.log], log_of_table(table))
     large.want_log(["record", large.log, *RECORD], chain(log_of_table(table), [RECORDED]))
     table[b"new"] = 11, 12, -13, 0x72274E7A30810C7B
     for name in names[::2]:
@@ -257,13 +290,62 @@ def try_long(trials, program, room):
     large.want_log(["recompact", large.log, large.keep], log_of_table({name: table[name] for name in names[1::2]}))
 
 
+# The damaged log.
+
+
+def joined_lines(version, count):
+    """Each line with what `entries` prints of it, or None and the output that `damage` names: one in four is an entry, one stands behind the
+    half of a line and one behind a byte, and one has no fifth field."""
+    for number in range(count):
+        name, (start, end, mtime, _) = name_of(number), numbers_of(number)
+        first = b"%d\t%d\t%d\t%s" % (start, end, mtime, name)
+        last = b"cc -c %d.c" % number if version == 4 else b"%x" % number
+        line = b"%s\t%s\n" % (first, last)
+        if number % 4 == 0:
+            yield line, line_of(name, (start, end, mtime, command_hash(last) if version == 4 else number)), None
+        elif number % 4 == 1:
+            yield b"7\tx\t9\t%s%s" % (name, line), None, name
+        elif number % 4 == 2:
+            yield b"x" + line, None, name
+        else:
+            yield first + b"\n", None, b"-"
+
+
+def try_damaged(trials, program, room):
+    for version, count in (5, 720_000), (4, 90_000):
+        large = Large(trials, program, room, f"a damaged log of version {version}")
+        lines_with = partial(joined_lines, version, count)
+        make(large.log, chain([b"# ninja log v%d\n" % version], (line for line, _, _ in lines_with()), [b"torn"]))
+        if version == 5:
+            large.want_sizes(large.log)
+        damage = (
+            b"%d\tskipped\t%d\t%s\n" % (number, len(line) - 1, output)
+            for number, (line, _, output) in enumerate(lines_with(), 2)
+            if output
+        )
+        large.want_held("damage", chain(damage, [b"%d\ttorn\t4\t-\n" % (count + 2)]), 3)
+        large.want_held("entries", (entry for _, entry, _ in lines_with() if entry))
+        large.want_log(["repair", large.log], chain([HEADER], (entry for _, entry, _ in lines_with() if entry)))
+
+
+def try_hash(trials, program, room):
+    """A command of zeros: by docs/FORMAT.md each group of eight leaves the value but for the factor, and the rest of three does too."""
+    size, factor, word = 100_000_003, 0xC6A4A7935BD1E995, 2**64
+    value = (0xDECAFBADDECAFBAD ^ size * factor % word) * pow(factor, size // 8 + 1, word) % word
+    value = (value ^ value >> 47) * factor % word
+    large = Large(trials, program, room, "a long command")
+    make(large.log, [])
+    os.truncate(large.log, size)
+    large.want_printed("hash-file", [b"%x\n" % (value ^ value >> 47)])
+
+
 def trial(trials, program, room):
     # A folder in memory may be small.
     with tempfile.TemporaryDirectory() as other:
         roomy = [it for it in (room, other) if shutil.disk_usage(it).free > ROOM]
         if not roomy:
             return trials.skip("all of it", f"there is no room for files of {ROOM:,} bytes")
-        for part in try_many, try_script, try_long:
+        for part in try_many, try_script, try_long, try_damaged, try_hash:
             part(trials, program, roomy[0])
             for it in os.listdir(roomy[0]):
                 os.remove(f"{roomy[0]}/{it}")
