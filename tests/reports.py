@@ -1,0 +1,224 @@
+#!/usr/bin/env python3
+"""Tries the reports of docs/CLI.md, as they stand there, on logs of odd names and numbers, and where a part of one fails.
+
+    python3 tests/reports.py PROGRAM
+
+What each has to print is worked out here from the page and docs/FORMAT.md: the entries of the last build, each command once with its time,
+the sums, the trace (whose JSON is read by Python's own), dates, and two logs compared. A script that can't do its work has to print nothing
+and to end with another status than 0: where the log is missing, is none, or can't be read, where there is no room for its files, and where
+these may grow to so many bytes and no further. Each awk that is there is tried: mawk, gawk, that of busybox and the one true awk. Wants
+GNU's date, and iconv.
+"""
+import datetime
+import json
+import os
+import re
+import resource
+import shutil
+import signal
+import sys
+
+from examples import read_page
+from log_format import HEADER, Log, line_of
+from log_lines import entries_of
+from trials import main, read, run, write
+
+AWKS = {"mawk": ["mawk"], "gawk": ["gawk"], "busybox": ["busybox", "awk"], "original-awk": ["original-awk"]}
+PAGE = "docs/CLI.md"
+SCRIPTS = ("last.sh", "dates.sh", "compare.sh")
+NANO = 1_700_000_000_000_000_000
+
+# Names that JSON, a shell or an awk may take for something else. A name holds any byte but NUL, tab and newline.
+NAMES = [
+    b'a "quoted" name', b"back\\slash\\", b"\\u0041\\n\\\"", b"\\", b'"', b"%s %d %%", b"a b  c", b"-n", b"-", b"@x", b"name=value", b"old=1",
+    b"1e5", b"100000", b"0100000", b"+1", b"0x10", b"nan", b"</script>", b"$HOME `x` $(y) 'z'", b"&\\&", b"\xc3\xa9\xe2\x82\xac\xf0\x9f\x98\x80",
+    b"\xff", b"x\xffy\xc3", b"\xc3(", b"\r", b"out\r", b"\x7f", b" ", *(b"c%c" % it for it in range(1, 32) if it not in (9, 10)),
+    b'"' * 65_536, b"n" * 65_536,
+]
+
+
+def odd_log():
+    """A first build, and one of a command for each name, four at a time, in the order of their ends."""
+    lines = [line_of(b"earlier", (0, 9_000, NANO, 1)), line_of(NAMES[0], (9_000, 9_001, NANO, 2))]
+    for number, name in enumerate(NAMES):
+        end = number * 10
+        # Commands of one time and hash are two, where their stamps are.
+        lines.append(line_of(name, (max(0, end - 35), end, NANO + number * 1_000_000_007, 0x100000 + number)))
+    return HEADER + b"".join(lines)
+
+
+LOGS = {
+    "no bytes": b"",
+    "a header": HEADER,
+    "odd names": odd_log(),
+    # Two outputs of one command, not side by side; two commands of one time; and a line that is no entry.
+    "several outputs": HEADER
+    + b"0\t9\t1\tgone\ta\n0\t5\t7\tx\ta\n3\t5\t7\ty\ta\n0\t5\t7\tz\ta\nno entry\n0\t5\t7\tw\tb\n5\t5\t7\tv\tb\n5\t9\t0\tu\tc\n0\t5\t3\ttorn",
+    "odd numbers": HEADER
+    + b"-2147483648\t-7\t-1700000000000000000\tleast\t0\n-7\t-5\t-1\tx\t1e5\n9\t-5\t12345678901\tback\t1e5\n"
+    + b"0\t2147483647\t9223372036854775807\tlast\tffffffffffffffff\n1\t2147483647\t0\tnone\t2\n2\t2147483647\t999999999\tearly\t3\n",
+    "version 4": b"# ninja log v4\n1\t2\t3\ta\tcc\tx\n0\t1\t1700000000000000000\tb\t\n",
+    "many builds": HEADER + b"".join(line_of(b"o%d" % (it % 7), (it % 10, it % 10 + 5, NANO + it, it)) for it in range(995)),
+}
+# Two logs, by the lines that differ: hashes that an awk may take for one number, names that are numbers.
+OLD = HEADER + b"0\t5\t1\ta\t1e5\n0\t5\t1\tb\t100\n0\t5\t1\tc\tab\n0\t5\t1\t1e5\t7\n0\t5\t1\tgone\t0\n"
+NEW = HEADER + b"0\t7\t1\ta\t100000\n0\t7\t1\tb\t100\n-4\t7\t9\tc\tac\n0\t7\t1\t100000\t7\n0\t0\t1\tnew\t0\n"
+COMPARED = (
+    b"changed\t5\t7\ta\nsame\t5\t7\tb\nchanged\t5\t11\tc\nnew\t-\t7\t100000\nnew\t-\t0\tnew\ngone\t5\t-\t1e5\ngone\t5\t-\tgone\n"
+)
+
+
+class Entry:
+    def __init__(self, line):
+        start, end, mtime, self.name, self.hash = line.split(b"\t")
+        self.start, self.end, self.mtime = int(start), int(end), int(mtime)
+        self.command, self.took = (start, end, mtime, self.hash), int(end) - int(start)
+
+
+def last_build(text):
+    """The lines of the entries since END last fell, and of these the first of each command."""
+    lines = []
+    for line in entries_of(text).split(b"\n")[:-1]:
+        if lines and Entry(line).end < Entry(lines[-1]).end:
+            lines = []
+        lines.append(line)
+    commands = {}
+    for line in lines:
+        commands.setdefault(Entry(line).command, Entry(line))
+    return lines, list(commands.values())
+
+
+def date_of(mtime):
+    """The second of a stamp that is a time after the first ten of 1970, or before 1970; else the beginning of 1970."""
+    seconds = 0 if -(10**9) < mtime < 10**10 else abs(mtime) // 10**9 * (1 if mtime > 0 else -1)
+    return str(datetime.datetime(1970, 1, 1) + datetime.timedelta(seconds=seconds)).encode()
+
+
+class Reports:
+    """The reports of the page, in a folder, with an awk."""
+
+    def __init__(self, trials, program, room, awk):
+        self.trials, self.room, self.awk = trials, room, awk
+        files, examples = read_page(PAGE)
+        self.commands = [it.command for it in examples]
+        os.makedirs(f"{room}/bin")
+        for name in (*SCRIPTS, "trace.awk"):
+            write(f"{room}/{name}", files[name])
+        words = [shutil.which(AWKS[awk][0]), *AWKS[awk][1:]]
+        write(f"{room}/bin/awk", f'#!/bin/sh\nexec {" ".join(words)} "$@"\n'.encode())
+        os.chmod(f"{room}/bin/awk", 0o755)
+        path = f"{room}/bin:{os.path.dirname(program)}:{os.environ.get('PATH', os.defpath)}"
+        self.how = {"cwd": room, "env": {"PATH": path, "LANG": "C.UTF-8", "HOME": room, "TMPDIR": room}}
+
+    def script(self, *words, **how):
+        return run(["sh", *words], **{**self.how, **how})
+
+    def command(self, part, without=""):
+        """The one command of the page that has this part."""
+        found = [it for it in self.commands if part in it]
+        assert len(found) == 1, (part, found)
+        return run(["bash", "-o", "pipefail", "-c", found[0].replace(without, "")], **self.how)
+
+    def want(self, what, got, wanted):
+        self.trials.want(f"{self.awk}, {what}", got, wanted)
+
+    def try_log(self, kind, text):
+        lines, commands = last_build(text)
+        write(f"{self.room}/LOG", text)
+        last = b"".join(it + b"\n" for it in lines)
+        self.want(f"{kind}: the last build", self.script("last.sh", "LOG"), (0, last, b""))
+        write(f"{self.room}/last.txt", last)
+        status, out, err = self.command("| sort -rn", " | head -n 1")
+        slow = out.split(b"\n")[:-1]
+        times = [int(it.split(b"\t")[0]) for it in slow]
+        self.want(f"{kind}: the slowest, how it ends", (status, err), (0, b""))
+        self.want(f"{kind}: the slowest", sorted(slow), sorted(b"%d\t%s" % (it.took, it.name) for it in commands))
+        self.want(f"{kind}: the slowest, their order", times, sorted(times, reverse=True))
+        sums = len(commands), sum(it.took for it in commands), commands[-1].end if commands else 0
+        self.want(f"{kind}: the sums", self.command("all +="), (0, b"%d %d %d\n" % sums, b""))
+        self.try_trace(kind, commands)
+        shown = [Entry(it) for it in Log(text).shown().split(b"\n")[:-1]]
+        dates = b"".join(b"%s\t%s\n" % (date_of(it.mtime), it.name) for it in shown)
+        self.want(f"{kind}: dates", self.script("dates.sh", "LOG"), (0, dates, b""))
+        same = b"".join(b"same\t%d\t%d\t%s\n" % (it.took, it.took, it.name) for it in shown)
+        self.want(f"{kind}: compared with itself", self.script("compare.sh", "LOG", "LOG"), (0, same, b""))
+        write(f"{self.room}/OTHER", HEADER)
+        gone = b"".join(b"gone\t%d\t-\t%s\n" % (it.took, it.name) for it in shown)
+        self.want(f"{kind}: compared with none", self.script("compare.sh", "LOG", "OTHER"), (0, gone, b""))
+        new = b"".join(b"new\t-\t%d\t%s\n" % (it.took, it.name) for it in shown)
+        self.want(f"{kind}: none compared with it", self.script("compare.sh", "OTHER", "LOG"), (0, new, b""))
+
+    def try_trace(self, kind, commands):
+        # The status is that of iconv too, which tells of bytes that aren't UTF-8.
+        _, out, err = self.command("-f trace.awk")
+        self.want(f"{kind}: the trace, how it ends", (out, err), (b"", b""))
+        try:
+            events = json.loads(read(f"{self.room}/trace.json").decode())
+        except ValueError as why:
+            return self.want(f"{kind}: the trace is JSON", str(why), "")
+        wanted = [(it.name.decode(errors="ignore"), it.start * 1000, it.took * 1000) for it in commands]
+        self.want(f"{kind}: the trace", sorted((it["name"], it["ts"], it["dur"]) for it in events), sorted(wanted))
+        self.want(f"{kind}: its other fields", {(it["ph"], it["pid"], len(it)) for it in events} | {("X", 1, 6)}, {("X", 1, 6)})
+        # Whoever ends before it begins is in no lane's way.
+        spans = [(it["ts"], it["ts"] + it["dur"], it["tid"]) for it in events if it["dur"] > 0]
+        clashes = [(a, b) for a in spans for b in spans if a is not b and a[2] == b[2] and a[0] < b[1] and b[0] < a[1]]
+        self.want(f"{kind}: commands that share a lane at one time", clashes, [])
+        most = max((sum(a[0] <= b[0] < a[1] for a in spans) for b in spans), default=0)
+        return self.want(f"{kind}: lanes", max((it[2] for it in spans), default=0), most)
+
+    def try_failures(self):
+        """A script that can't do its work prints nothing, and says so by its status."""
+        write(f"{self.room}/LOG", OLD)
+        write(f"{self.room}/OTHER", NEW)
+        write(f"{self.room}/NONE", b"hello\n")
+        self.want("two logs compared", self.script("compare.sh", "LOG", "OTHER"), (0, COMPARED, b""))
+        rows = [("last.sh", "{}"), ("dates.sh", "{}"), ("compare.sh", "{}", "OTHER"), ("compare.sh", "LOG", "{}")]
+        for words in rows:
+            name = " ".join(words)
+            for log, said in (("missing", b""), ("NONE", b"nlog: not a ninja log\n"), ("bin", b"nlog: cannot read\n")):
+                ended = self.script(*(it.format(log) for it in words))
+                self.want(f"{name} of {log}", ended, (1, b"", said))
+            good = [it.format("LOG") for it in words]
+            env = {**self.how["env"], "TMPDIR": f"{self.room}/missing"}
+            status, out, _ = self.script(*good, env=env)
+            self.want(f"{name} without a folder for its files", (status != 0, out), (True, b""))
+            self.try_limits(name, good)
+        before = sorted(os.listdir(self.room))
+        self.script("last.sh", "NONE")
+        self.want("the files that a script leaves", sorted(os.listdir(self.room)), before)
+
+    def try_limits(self, name, words):
+        whole, stopped = self.script(*words), 0
+        for most in range(0, 200, 7):
+            ended = self.script(*words, preexec_fn=limit(most), restore_signals=False)
+            stopped += ended[0] != 0
+            wanted = whole[1] if ended[0] == 0 else b""
+            self.want(f"{name}, its files limited to {most} bytes, ended with {ended[0]}", ended[1], wanted)
+        self.want(f"{name} of files that are limited: stopped, but not always", 0 < stopped < 29, True)
+
+
+def limit(most):
+    def begin():
+        signal.signal(signal.SIGXFSZ, signal.SIG_IGN)
+        resource.setrlimit(resource.RLIMIT_FSIZE, (most, most))
+
+    return begin
+
+
+def trial(trials, program, room):
+    version = run(["date", "--version"])[1]
+    if shutil.which("iconv") is None or not re.match(rb"date \(GNU", version):
+        return trials.skip("all of it", "iconv or GNU's date isn't there")
+    for awk, words in AWKS.items():
+        if shutil.which(words[0]) is None or run([*words, "BEGIN {}"])[0] != 0:
+            trials.skip(f"the reports by {awk}", "it isn't there")
+            continue
+        reports = Reports(trials, program, f"{room}/{awk}", awk)
+        for kind, text in LOGS.items():
+            reports.try_log(kind, text)
+        reports.try_failures()
+    return None
+
+
+if __name__ == "__main__":
+    sys.exit(main(__file__, trial))
