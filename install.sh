@@ -1,9 +1,10 @@
 #!/bin/sh
-# Proves and builds nlog, and puts the program and its page below PREFIX.
+# Proves and builds nlog, and puts the program, its page and its completion for bash below PREFIX.
 set -eu
 
 usage="usage: ./install.sh PREFIX
-puts PREFIX/bin/nlog and PREFIX/share/man/man1/nlog.1; PREFIX is a folder, as /usr/local"
+puts PREFIX/bin/nlog, PREFIX/share/man/man1/nlog.1 and PREFIX/share/bash-completion/completions/nlog
+PREFIX is a folder, as /usr/local"
 
 if [ $# -ne 1 ]; then
     echo "$usage" >&2
@@ -38,7 +39,8 @@ fi
 echo "install.sh: proving and building nlog, which takes minutes the first time"
 (cd "$top/crates/nlog" && rt run -- --version)
 
-mkdir -p "$prefix/bin" "$prefix/share/man/man1"
+mkdir -p "$prefix/bin" "$prefix/share/man/man1" "$prefix/share/bash-completion/completions"
 put 755 "$top/crates/nlog/out/nlog" "$prefix/bin/nlog"
 put 644 "$top/man/nlog.1" "$prefix/share/man/man1/nlog.1"
-echo "install.sh: $prefix/bin/nlog and $prefix/share/man/man1/nlog.1 are there"
+put 644 "$top/completions/nlog.bash" "$prefix/share/bash-completion/completions/nlog"
+echo "install.sh: $prefix/bin/nlog, $prefix/share/man/man1/nlog.1 and $prefix/share/bash-completion/completions/nlog are there"

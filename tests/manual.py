@@ -1,11 +1,12 @@
 #!/usr/bin/env python3
 """Tries the manual page: that it is shown without a warning, and that it has each command, option and message, and the script
-by which the names of a build are kept.
+by which the names of a build are kept. And the completion for bash, and what install.sh puts.
 
     python3 tests/manual.py PROGRAM
 
 Wants groff, and mandoc, to format the page; each is skipped where it is missing. The commands are those that the help of the
-program lists, the messages those of the table of docs/CLI.md, and the script is that of this page.
+program lists, the messages those of the table of docs/CLI.md, and the script is that of this page. What is completed is what the
+help has: the commands and options, and the name of a file where the usage of a command has one.
 """
 import os
 import re
@@ -13,7 +14,7 @@ import shutil
 import sys
 
 from examples import read_page
-from trials import main, read, run
+from trials import main, read, run, write
 
 TOP = os.path.dirname(os.path.dirname(os.path.abspath(__file__)))
 PAGE = f"{TOP}/man/nlog.1"
@@ -43,6 +44,62 @@ def messages():
     return [re.sub(r" [0-9]+$", "", it) for it in re.findall(r"(?m)^\| `([^`]+)`", table)]
 
 
+# Prints what is completed of the words, of which the last one is begun.
+COMPLETE = '. "$0"; COMP_WORDS=("$@"); COMP_CWORD=$(($# - 1)); _nlog; printf "%s\\n" "${COMPREPLY[@]}"'
+FILES = {"LOG", "KEEP", "TIMES", "SCRIPT", "FILE"}
+
+
+def options_of(help_text):
+    """The options of a help, long and short."""
+    return re.findall(r"(?<![\w-])--?[A-Za-z]+", help_text[help_text.index("Options:") :].split("\n\n")[0])
+
+
+def try_completion(trials, program, room, help_text, commands):
+    os.mkdir(f"{room}/files")
+    for name in ("b.log", "a file"):
+        write(f"{room}/files/{name}", b"")
+
+    def want(words, wanted):
+        status, out, err = run(["bash", "-c", COMPLETE, f"{TOP}/completions/nlog.bash", "nlog", *words], cwd=f"{room}/files")
+        completed = sorted(it for it in out.decode().split("\n") if it)
+        trials.want(f"completion of {words}", (status, completed, err), (0, sorted(wanted), b""))
+
+    want([""], [*commands, *options_of(help_text)])
+    want(["re"], [it for it in commands if it.startswith("re")])
+    want(["--"], [it for it in options_of(help_text) if it.startswith("--")])
+    want(["frob", ""], [])
+    for name in commands:
+        own = run([program, name, "--help"])[1].decode()
+        want([name, "-"], options_of(own))
+        values = re.findall(r"[\[<]([A-Z]+)[\]>]", re.search(r"Usage: (.*)", own)[1])
+        trials.check(f"the values of {name}", values != [])
+        for at, value in enumerate([*values, "none"]):
+            for before in ([], ["--"]):
+                want([name, *before, *["1"] * at, ""], ["a file", "b.log"] if value in FILES else [])
+                want([name, *before, *["1"] * at, "b"], ["b.log"] if value in FILES else [])
+
+
+def try_install(trials, program, room):
+    """install.sh, where the command that proves and builds is one that does nothing, and the program is there."""
+    top = f"{room}/top"
+    for name in ("install.sh", "man/nlog.1", "completions/nlog.bash"):
+        os.makedirs(os.path.dirname(f"{top}/{name}"), exist_ok=True)
+        shutil.copy(f"{TOP}/{name}", f"{top}/{name}")
+    os.makedirs(f"{top}/crates/nlog/out")
+    shutil.copy(program, f"{top}/crates/nlog/out/nlog")
+    write(f"{top}/rt", b"#!/bin/sh\n")
+    os.chmod(f"{top}/rt", 0o755)
+    env = {**os.environ, "PATH": f"{top}:{os.environ.get('PATH', os.defpath)}"}
+    for turn in ("first", "second"):
+        status, _, err = run(["sh", f"{top}/install.sh", f"{room}/prefix"], env=env)
+        trials.want(f"the {turn} installation", (status, err), (0, b""))
+    made = {os.path.relpath(f"{folder}/{it}", f"{room}/prefix") for folder, _, files in os.walk(f"{room}/prefix") for it in files}
+    wanted = {"bin/nlog": program, "share/man/man1/nlog.1": PAGE, "share/bash-completion/completions/nlog": f"{TOP}/completions/nlog.bash"}
+    trials.want("what it puts", made, set(wanted))
+    for name, path in wanted.items():
+        trials.check(f"it puts {name}", read(f"{room}/prefix/{name}") == read(path))
+
+
 def trial(trials, program, room):
     for name, words in FORMATTERS.items():
         if shutil.which(name) is None:
@@ -65,6 +122,8 @@ def trial(trials, program, room):
         trials.check(f"the message {it!r}", it in text[text.index("Each comes as") :])
     script = read_page("docs/CLI.md")[0]["recompact.sh"].decode()
     trials.check("the script of docs/CLI.md", f".EX\n{script}.EE\n" in literal(page))
+    try_completion(trials, program, room, help_text, commands)
+    try_install(trials, program, room)
 
 
 if __name__ == "__main__":

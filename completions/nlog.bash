@@ -1,0 +1,31 @@
+# Completion of the words of nlog for bash: `. completions/nlog.bash`, or as a file `nlog` where bash-completion looks for it.
+
+_nlog() {
+    local word=${COMP_WORDS[COMP_CWORD]} values=0 dashes='' at
+    COMPREPLY=()
+    if ((COMP_CWORD == 1)); then
+        mapfile -t COMPREPLY < <(compgen -W 'show check hash entries damage hash-file record recompact restat repair replay
+            --help -h --version -V' -- "$word")
+        return
+    fi
+    # How many values stand before the word. Behind `--` each word is one.
+    for ((at = 2; at < COMP_CWORD; at++)); do
+        if [[ ! $dashes && ${COMP_WORDS[at]} == -- ]]; then
+            dashes=yes
+        elif [[ $dashes || ${COMP_WORDS[at]} != -?* ]]; then
+            values=$((values + 1))
+        fi
+    done
+    if [[ ! $dashes && $word == -* ]]; then
+        mapfile -t COMPREPLY < <(compgen -W '--help -h' -- "$word")
+        return
+    fi
+    case ${COMP_WORDS[1]}:$values in
+        show:0 | check:0 | entries:0 | damage:0 | hash-file:0 | record:0 | recompact:[01] | restat:[01] | repair:0 | replay:0)
+            compopt -o filenames 2> /dev/null
+            mapfile -t COMPREPLY < <(compgen -f -- "$word")
+            ;;
+    esac
+}
+
+complete -F _nlog nlog
