@@ -18,6 +18,7 @@ ninja > /dev/null
 truncate -s -18 .ninja_log # the crash: the last line ends inside its output's name
 ninja > /dev/null          # B again, which Ninja records behind the torn line
 cat .ninja_log
+header=$(head -n 1 .ninja_log) # with the version that this Ninja writes
 manifest A
 ninja
 echo "out was made by: $(cat out)"
@@ -32,7 +33,7 @@ mkdir "$top/full"
 if mount -t tmpfs -o size=64k tmpfs "$top/full"; then
     cd "$top/full" || exit 1
     touching a b
-    printf '# ninja log v5\n1\t2\t3\ta\taa\n1\t2\t3\tb\tbb\n' > .ninja_log
+    printf '%s\n1\t2\t3\ta\taa\n1\t2\t3\tb\tbb\n' "$header" > .ninja_log
     dd if=/dev/zero of=fill bs=1k 2> /dev/null
     echo "the log before: $(stat -c %s .ninja_log) bytes"
     ninja -t recompact
@@ -40,7 +41,7 @@ if mount -t tmpfs -o size=64k tmpfs "$top/full"; then
 fi
 
 long_log() {
-    printf '# ninja log v5\n1\t2\t3\ta\taa\n'
+    printf '%s\n1\t2\t3\ta\taa\n' "$header"
     for i in $(seq 9000); do printf '1\t2\t3\tgone/obj/some/long/name/of/an/output%d.o\tabc\n' $((i % 90)); done
     printf '1\t2\t3\tz\tbb\n'
 }

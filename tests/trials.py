@@ -14,6 +14,8 @@ class Trials:
     def __init__(self, script):
         self.script = os.path.basename(script)
         self.passed, self.failed = 0, 0
+        # What is said before each of what failed.
+        self.about = ""
 
     def want(self, what, got, wanted):
         """Passes where the two are equal."""
@@ -24,7 +26,7 @@ class Trials:
             self.passed += 1
         else:
             self.failed += 1
-            print(f"{self.script}: FAILED: {what}{': ' if why else ''}{why}")
+            print(f"{self.script}: FAILED: {self.about}{what}{': ' if why else ''}{why}")
         return is_good
 
     def skip(self, what, why):

@@ -1,9 +1,10 @@
 #!/usr/bin/env python3
-"""Tries the commands that change a log with a real Ninja, on logs that it wrote.
+"""Tries the commands that change a log with each real Ninja that is at hand, on logs that it wrote.
 
-    python3 tests/with_ninja.py PROGRAM
+    [NLOG_NINJAS=FOLDER] python3 tests/with_ninja.py PROGRAM
 
-Wants a Ninja that writes logs of version 5 (1.11). What Ninja makes of a log is told by what it says of a build: `no work to
+Takes the machine's own Ninja and each FOLDER/*/ninja, with the version of the log that it writes: 5 (Ninja 1.11), 6 (1.12) or 7 (1.13).
+What Ninja makes of a log is told by what it says of a build: `no work to
 do`, or why an output is to be made again; and by what `ninja -t recompact` keeps of the log.
 
 The scripts of docs/CLI.md are read from that page and run as they stand there, beside a copy of the build that Ninja itself
@@ -15,7 +16,7 @@ import shutil
 import sys
 
 from examples import read_page
-from log_format import HEADER, Log, line_of
+from log_format import HEADER, Log, as_version, line_of
 from trials import main, read, run, write
 
 RECIPES = read_page("docs/CLI.md")[0]
@@ -41,10 +42,10 @@ OLDER = b"ninja explain: recorded mtime of %s older than most recent input"
 
 
 class Build:
-    """A small build in a folder of its own, made once by Ninja."""
+    """A small build in a folder of its own, made once by a Ninja, which writes logs of this version."""
 
-    def __init__(self, program, room):
-        self.program, self.room = program, room
+    def __init__(self, program, room, path="ninja", version=5):
+        self.program, self.room, self.path, self.version = program, room, path, version
         os.makedirs(room)
         for name in ("a.c", "b.c", "n1", "n2"):
             write(f"{room}/{name}", name.encode())
@@ -57,7 +58,7 @@ class Build:
 
     def ninja(self, *words):
         """Runs Ninja: its status, and all that it says."""
-        status, out, err = run(["ninja", *words], cwd=self.room)
+        status, out, err = run([self.path, *words], cwd=self.room)
         return status, out + err
 
     def is_idle(self):
@@ -67,8 +68,12 @@ class Build:
         """What Ninja says of the work that there is, and why, of which it does nothing."""
         return self.ninja("-n", "-d", "explain")[1]
 
-    def nlog(self, *words):
-        return run([self.program, *words], cwd=self.room)
+    def option(self):
+        """What nlog is told of the version: nothing where the log is of version 5."""
+        return [] if self.version == 5 else ["--log-version", f"{self.version}"]
+
+    def nlog(self, word, *words):
+        return run([self.program, word, *self.option(), *words], cwd=self.room)
 
     def recipe(self, name, folder=None):
         """Runs a script of docs/CLI.md, with the programs of this folder in place of others."""
@@ -79,7 +84,7 @@ class Build:
     def mirror(self):
         """A copy of the build, for Ninja to work on."""
         copy = object.__new__(Build)
-        copy.program, copy.room = self.program, f"{self.room}-mirror"
+        vars(copy).update(vars(self), room=f"{self.room}-mirror")
         shutil.rmtree(copy.room, ignore_errors=True)
         shutil.copytree(self.room, copy.room, symlinks=True)
         return copy
@@ -95,7 +100,15 @@ class Build:
             os.remove(f"{self.room}/{name}")
 
     def log(self):
-        return Log(read(f"{self.room}/{LOG}"))
+        return Log(self.text())
+
+    def text(self):
+        """The bytes of the log, as one of version 5."""
+        return as_version(read(f"{self.room}/{LOG}"), self.version)
+
+    def write_log(self, text):
+        """Takes this text of version 5 for the log, with the version of the build's own Ninja."""
+        write(f"{self.room}/{LOG}", as_version(text, self.version))
 
     def write_lines(self, name, lines):
         write(f"{self.room}/{name}", b"".join(it + b"\n" for it in lines))
@@ -216,9 +229,9 @@ def try_times_that_fail(trials, build):
     trials.check("a stat that fails: restat.sh stops", status not in (0, None), repr(status))
     trials.want("a stat that fails: the log stays", read(f"{build.room}/{LOG}"), before)
     for text in (HEADER, HEADER + b"1\t2\t3\tgone\taa\n"):
-        write(f"{build.room}/{LOG}", text)
+        build.write_log(text)
         trials.want(f"a log without files, {text!r}: restat.sh ends", build.recipe("restat.sh"), (0, b"", b""))
-        trials.want(f"a log without files, {text!r}: the log", read(f"{build.room}/{LOG}"), text)
+        trials.want(f"a log without files, {text!r}: the log", build.text(), text)
 
 
 def try_restat(trials, build):
@@ -299,22 +312,23 @@ def try_joined_anywhere(trials, build):
                 text = first + torn[:cut] + line_of(b"note", (later, 3_000_000, 1_700_000_000_000_000_002, 0xC3))
                 if not Log(text).skipped:
                     continue
-                write(f"{build.room}/{LOG}", text)
+                build.write_log(text)
                 build.recipe("doubt.sh")
-                trials.want(f"doubt.sh on {text!r}", read(f"{build.room}/{LOG}"), HEADER + line_of(b"a.o", (0, 1, 2, 3)))
+                trials.want(f"doubt.sh on {text!r}", build.text(), HEADER + line_of(b"a.o", (0, 1, 2, 3)))
 
 
 def try_changed_in_a_build(trials, build):
     """Why a log is changed while no build runs: Ninja goes on to write to the file whose name another has taken."""
     text = "rule both\n  command = {nlog} {words} && touch $out\nbuild zero: copy a.c\nbuild one: both zero\nbuild two: copy one\n"
+    option = " ".join(build.option())
     words = {
-        "restat": f"restat {LOG} /dev/null",
-        "record on a log that became due": f"record {LOG} 1 2 3 other1 c",
+        "restat": f"restat {option} {LOG} /dev/null",
+        "record on a log that became due": f"record {option} {LOG} 1 2 3 other1 c",
     }
     manifest = read(f"{build.room}/build.ninja")
     for what, it in words.items():
         if "due" in what:
-            write(f"{build.room}/{LOG}", text_nearly_due(build))
+            build.write_log(text_nearly_due(build))
         write(f"{build.room}/build.ninja", manifest)
         trials.want(f"{what} in a build: the build ends", build.add(text.format(nlog=build.program, words=it)), 0)
         table = build.log().table
@@ -348,13 +362,34 @@ build none: none
         os.utime(f"{build.room}/{number}.c", ns=(0, 1_600_000_000_000_000_000))
     trials.want("mtime: Ninja builds", build.add(text.replace("cp $in $out", "cp a.c $out")), 0)
     table = build.log().table
-    trials.want("mtime: the newest output", table[b"p"][2], 1_700_000_003_000_000_000)
     trials.want("one command: the same numbers for each output", table[b"p"], table[b"q"])
+    if build.version > 5:
+        return try_mtime_of_a_start(trials, build, table)
+    trials.want("mtime: the newest output", table[b"p"][2], 1_700_000_003_000_000_000)
     trials.want("mtime: no output", table[b"none"][2], 0)
     later = table[b"kept"][2] + 5_000_000_000
     os.utime(f"{build.room}/b.c", ns=(0, later))
     trials.want("mtime: Ninja builds again", build.ninja("kept")[0], 0)
-    trials.want("mtime: an output that a restat rule left, the newest input", build.log().table[b"kept"][2], later)
+    return trials.want("mtime: an output that a restat rule left, the newest input", build.log().table[b"kept"][2], later)
+
+
+def try_mtime_of_a_start(trials, build, table):
+    """From Ninja 1.12 on, the time stamp is that of a file which is written when the command starts."""
+    first, last = (stamp_of(f"{build.room}/{it}") for it in ("a.o", "p.o"))
+    for name in (b"p", b"none"):
+        trials.check(f"mtime: when the command of {name.decode()} started", first <= table[name][2] <= last, repr((first, table[name][2], last)))
+    os.utime(f"{build.room}/b.c", ns=(0, last + 5_000_000_000))
+    before = stamp_of(f"{build.room}/before")
+    trials.want("mtime: Ninja builds again", build.ninja("kept")[0], 0)
+    kept, after = build.log().table[b"kept"][2], stamp_of(f"{build.room}/after")
+    trials.check("mtime: of an output that a restat rule left, when the command started", before <= kept <= after, repr((before, kept, after)))
+
+
+def stamp_of(path):
+    """The time stamp that a file has, or gets now."""
+    if not os.path.exists(path):
+        write(path, b"")
+    return os.stat(path).st_mtime_ns
 
 
 def try_hash(trials, build):
@@ -377,7 +412,103 @@ def try_version_4(trials, build):
     trials.check("version 4: Ninja has no work to do", build.is_idle(), repr(build.why()))
 
 
+def touching(room, names):
+    write(f"{room}/build.ninja", "rule c\n  command = touch $out\n".encode() + b"".join(b"build %s: c\n" % it for it in names))
+
+
+def both_recompact(trials, build, what, text, before=(), room=None):
+    """What is left of this log of version 5 where Ninja recompacts, and where nlog does, by a command before theirs; with nlog's status."""
+    room = room or build.room
+    touching(room, [b"a", b"z"])
+    write(f"{room}/KEEP", b"a\nz\n")
+    left = []
+    for words in ([build.path, "-t", "recompact"], [build.program, "recompact", *build.option(), LOG, "KEEP"]):
+        write(f"{room}/{LOG}", as_version(text, build.version))
+        if what == "a full disk":
+            fill(f"{room}/fill")
+        status = run([*before, *words], cwd=room)[0]
+        found = read(f"{room}/{LOG}")
+        left.append((status, found if found is None else as_version(found, build.version)))
+        for name in ("fill", f"{LOG}.recompact"):
+            if os.path.exists(f"{room}/{name}"):
+                os.remove(f"{room}/{name}")
+    return left
+
+
+def fill(path):
+    """Fills the file system with this file."""
+    with open(path, "wb", buffering=0) as it:
+        try:
+            while it.write(bytes(512)):
+                pass
+        except OSError:
+            return
+
+
+# Many lines of outputs that are gone, between two that are kept.
+LONG = HEADER + b"1\t2\t3\ta\taa\n" + b"".join(b"1\t2\t3\tgone/obj/some/long/name/of/an/output%d.o\tabc\n" % (it % 90) for it in range(9000)) \
+    + b"1\t2\t3\tz\tbb\n"
+
+
+def try_full_disk(trials, build):
+    """Ninja empties the log, and says that all is well; nlog leaves it, and says that the folder failed."""
+    room, text = f"{build.room}/full", HEADER + b"1\t2\t3\ta\taa\n1\t2\t3\tz\tbb\n"
+    os.makedirs(room)
+    if run(["mount", "-t", "tmpfs", "-o", "size=64k", "tmpfs", room])[0] != 0:
+        return trials.skip("a full disk", "nothing can be mounted")
+    try:
+        ninja, nlog = both_recompact(trials, build, "a full disk", text, room=room)
+    finally:
+        run(["umount", room])
+    trials.want("a full disk: Ninja ends with status 0, and an empty log", ninja, (0, b""))
+    return trials.want("a full disk: nlog ends with status 1, and the log as it was", nlog, (1, text))
+
+
+def try_read_error(trials, build):
+    """Ninja takes an error in the middle of the log for its end; nlog leaves the log."""
+    if shutil.which("strace") is None:
+        return trials.skip("a read error, a kill at the rename", "strace isn't there")
+    before = ["strace", "-o", "/dev/null", "-P", LOG, "-e", "trace=read", "-e", "inject=read:error=EIO:when=2+"]
+    ninja, nlog = both_recompact(trials, build, "a read error", LONG, before)
+    trials.check("a read error: Ninja ends with status 0, and without the last entry", ninja[0] == 0 and Log(ninja[1]).table.keys() == {b"a"}, repr(ninja)[:200])
+    return trials.want("a read error: nlog ends with status 1, and the log as it was", nlog, (1, LONG))
+
+
+def try_kill(trials, build):
+    """Ninja killed before the new log has its name leaves none; nlog leaves the old one."""
+    if shutil.which("strace") is None:
+        return
+    before = ["strace", "-o", "/dev/null", "-e", "trace=rename", "-e", "inject=rename:signal=SIGKILL"]
+    ninja, nlog = both_recompact(trials, build, "a kill at the rename", LONG, before)
+    trials.want("a kill at the rename: Ninja leaves no log", ninja[1], None)
+    trials.want("a kill at the rename: nlog leaves the log", Log(nlog[1] or b"").table.keys(), Log(LONG).table.keys())
+
+
+def try_a_b_a(trials, build):
+    """A, torn B, B again behind the torn line, A: Ninja alone finds nothing to do over what B made."""
+    build.describe("n2")
+    build.ninja()
+    build.tear(b"note")
+    build.ninja()
+    build.describe("n1")
+    trials.check("A, torn B, B, A: Ninja finds nothing to do", build.is_idle(), repr(build.why()))
+    trials.want("A, torn B, B, A: over what B made", read(f"{build.room}/note"), b"n2")
+    # The same with a repair before B is run again.
+    build.describe("n2")
+    build.remove("note")
+    build.ninja()
+    build.tear(b"note")
+    trials.want("A, torn B, repair: ends", run([build.program, "repair", LOG], cwd=build.room), (0, b"", b""))
+    build.ninja()
+    build.describe("n1")
+    trials.check("A, torn B, repair, B, A: Ninja runs A again", OTHER % b"note" in build.why(), repr(build.why()))
+
+
 PARTS = [
+    try_a_b_a,
+    try_full_disk,
+    try_read_error,
+    try_kill,
     try_recompact,
     try_keep_without_manifest,
     try_keep_odd_names,
@@ -395,19 +526,39 @@ PARTS = [
     try_hash,
     try_version_4,
 ]
+# What is about logs that a Ninja of versions 6 and 7 doesn't take.
+OF_VERSION_5 = [try_version_4]
 
 
-def trial(trials, program, room):
-    if shutil.which("ninja") is None:
-        return trials.skip("all of it", "Ninja isn't there")
-    first = (read(f"{Build(program, f'{room}/look').room}/{LOG}") or b"").split(b"\n")[0]
-    if first != b"# ninja log v5":
-        return trials.skip("all of it", f"this Ninja writes {first.decode(errors='replace')!r}, and nlog reads versions 4 and 5")
-    for number, part in enumerate(PARTS):
-        build = Build(program, f"{room}/{number}")
+def ninjas():
+    """The machine's own Ninja, and each of the folder that is named."""
+    own = [shutil.which("ninja")] if shutil.which("ninja") else []
+    folder = os.environ.get("NLOG_NINJAS", "")
+    return own + [f"{folder}/{it}/ninja" for it in sorted(os.listdir(folder))] if folder else own
+
+
+def try_with(trials, program, room, path):
+    """Runs each part with the Ninja of this path."""
+    number = run([path, "--version"])[1].decode().strip()
+    first = (read(f"{Build(program, f'{room}/look', path).room}/{LOG}") or b"").split(b"\n")[0]
+    if first not in (b"# ninja log v5", b"# ninja log v6", b"# ninja log v7"):
+        return trials.skip(f"Ninja {number}", f"it writes {first.decode(errors='replace')!r}, and nlog reads versions 4 to 7")
+    version, trials.about = int(first[-1:]), f"Ninja {number}: "
+    for at, part in enumerate(PARTS):
+        if part in OF_VERSION_5 and version != 5:
+            continue
+        build = Build(program, f"{room}/{at}", path, version)
         trials.check(f"{part.__name__}: Ninja has no work to do at first", build.is_idle())
         part(trials, build)
     return None
+
+
+def trial(trials, program, room):
+    found = ninjas()
+    if not found:
+        trials.skip("all of it", "Ninja isn't there")
+    for at, path in enumerate(found):
+        try_with(trials, program, f"{room}/{at}", path)
 
 
 if __name__ == "__main__":
