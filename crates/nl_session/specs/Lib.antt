@@ -2,6 +2,8 @@ pub mod Machine
 pub mod Represents
 pub mod States
 pub mod Opened
+pub mod View
+pub mod Calls
 pub mod Parts
 pub mod Headline
 pub mod Effects
