@@ -31,6 +31,6 @@ decided (Err why) reading mode closed opened broken not_a_log other accepts (inr
 pub returns : goal.returns
 returns g c = record {
   answer = λ d old memory failed.
-      let e = c.open.ensures in
+      let e = c.open.ensures.call in
       decided c.open.result (log_of d.visible) c.args.log.now.state c.requires.closed e.already_open e.broken (e.not_a_log d old) (e.other_version d old) (e.accepts d old) e.refusals memory failed;
 }

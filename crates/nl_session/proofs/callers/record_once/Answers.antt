@@ -20,4 +20,4 @@ pub returns-clause-contents : goal.returns-clause-contents
 returns-clause-contents g c d old =
     let f = g.F.Folder in
     on_ok c.stop.result _ (appended_rests _ (with_newline (line_of c.args.entry.now)) (f.disk c.open.new.self.reader.folder) (f.disk c.record.new.self.reader.folder) (f.disk c.stop.new.self.reader.folder)
-    (c.in_ok-open.ensures.contents d old) c.in_ok-record.ensures.call.contents ((λ i. f.disk (c.stop.ensures.folder i).folder) ∙ c.in_ok-sync.ensures.call.contents))
+    (c.in_ok-open.ensures.call.contents d old) c.in_ok-record.ensures.call.contents ((λ i. f.disk (c.stop.ensures.folder i).folder) ∙ c.in_ok-sync.ensures.call.contents))
