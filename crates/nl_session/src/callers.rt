@@ -7,6 +7,7 @@ ghost use Rattle.nl_table.specs.Log.{log_of};
 ghost use Rattle.nl_folder.specs.DiskState.{Disk};
 ghost use Rattle.nl_session.specs.Opened.{opened_bytes};
 ghost use Rattle.nl_session.specs.Parts.{AnswersAs, IsLeft};
+ghost use Rattle.nl_session.specs.View.{view_of};
 ghost use Rattle.nl_session.specs.declared.state.LogState.{LogState};
 
 use crate::{Log, LogFault};
@@ -20,11 +21,11 @@ pub fn record_once<F: Folder, U: LogUser>(
     user: &U,
     entry: &EntryRef,
 ) -> Result<(), LogFault>
-    requires closed { log.old.state ≡ LogState.Closed }
-    ensures closed { OnOk result (log.new.state ≡ LogState.Closed) }
-    ensures contents { (d : Disk) → F.disk log.old.reader.folder ≡ Some d → OnOk result (IsLeft (opened_bytes (U.is_dead user.now) d.visible ++ with_newline (line_of entry.now)) (F.disk log.new.reader.folder)) }
+    requires closed { (view_of log.old).mode ≡ LogState.Closed }
+    ensures closed { OnOk result ((view_of log.new).mode ≡ LogState.Closed) }
+    ensures contents { (d : Disk) → (view_of log.old).disk ≡ Some d → OnOk result (IsLeft (opened_bytes (U.is_dead user.now) d.visible ++ with_newline (line_of entry.now)) (view_of log.new).disk) }
     ensures states { IfErr result (λ why. (why ≢ LogFault.NotOpen) × (why ≢ LogFault.AlreadyOpen) × (why ≢ LogFault.Broken)) }
-    ensures cause { IsErrOf result LogFault.Fault → FailedBetween (F.failures log.old.reader.folder) (F.failures log.new.reader.folder) }
+    ensures cause { IsErrOf result LogFault.Fault → FailedBetween (view_of log.old).failures (view_of log.new).failures }
 {
     log.open(user)?;
     log.record(entry)?;
@@ -34,8 +35,8 @@ pub fn record_once<F: Folder, U: LogUser>(
 
 /// Opens a closed log. Where memory isn't wanting and the folder doesn't fail, the bytes alone decide the answer.
 pub fn open_closed<F: Folder, U: LogUser>(log: &mut Log<F>, user: &U) -> Result<(), LogFault>
-    requires closed { log.old.state ≡ LogState.Closed }
-    ensures answer { (d : Disk) → F.disk log.old.reader.folder ≡ Some d → ¬ IsErrOf result LogFault.OutOfMemory → ¬ IsErrOf result LogFault.Fault → AnswersAs (log_of d.visible) result }
+    requires closed { (view_of log.old).mode ≡ LogState.Closed }
+    ensures answer { (d : Disk) → (view_of log.old).disk ≡ Some d → ¬ IsErrOf result LogFault.OutOfMemory → ¬ IsErrOf result LogFault.Fault → AnswersAs (log_of d.visible) result }
 {
     log.open(user)
 }
