@@ -354,15 +354,20 @@ rule same
   restat = 1
 rule none
   command = true
+rule later
+  command = touch -d @2000000003 $out
+  restat = 1
 build p q: two
 build kept: same a.c b.c
 build none: none
+build late: later
 """
     for number in ("a", "b"):
         os.utime(f"{build.room}/{number}.c", ns=(0, 1_600_000_000_000_000_000))
     trials.want("mtime: Ninja builds", build.add(text.replace("cp $in $out", "cp a.c $out")), 0)
     table = build.log().table
     trials.want("one command: the same numbers for each output", table[b"p"], table[b"q"])
+    trials.want("mtime: a later output of a restat rule", table[b"late"][2], 2_000_000_003_000_000_000)
     if build.version > 5:
         return try_mtime_of_a_start(trials, build, table)
     trials.want("mtime: the newest output", table[b"p"][2], 1_700_000_003_000_000_000)
