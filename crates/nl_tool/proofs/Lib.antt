@@ -7,4 +7,5 @@ mod StreamLemmas
 pub mod ChangeLemmas
 mod RepairLemmas
 pub mod OutputLemmas
+mod VersionLemmas
 mod EndingLemmas

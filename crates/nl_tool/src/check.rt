@@ -4,7 +4,7 @@ ghost use Rattle.nl_table.specs.Log.{log_of, NotALog, OtherVersion};
 ghost use Rattle.nl_tool.specs.Faults.{IsLogFault};
 ghost use Rattle.nl_texts.specs.Output.{Prints};
 ghost use Rattle.nl_tool.specs.Output.{checked, report, yes_or_no, IsTextFor};
-ghost use Rattle.nl_tool.specs.Versions.{checked_as, numbered, seen_bytes};
+ghost use Rattle.nl_tool.specs.Versions.{checked_as, log_as, numbered};
 ghost use Rattle.nl_texts.specs.declared.fault.ToolFault.{ToolFault};
 
 use crate::loading::load_all;
@@ -39,8 +39,9 @@ pub fn check_as<R: Read + Drop, W: Write>(
     reader: R,
     writer: &mut W,
 ) -> Result<(), ToolFault>
-    ensures prints { Prints (IsTextFor (checked_as version) (seen_bytes version (R.remaining reader))) (W.contents writer.old) (W.contents writer.new) result }
-    ensures not_a_log { IsErrOf result ToolFault.NotALog → IfSome (seen_bytes version (R.remaining reader)) (λ bs. log_of bs ≡ NotALog) }
+    ensures prints { Prints (IsTextFor (checked_as version) (R.remaining reader)) (W.contents writer.old) (W.contents writer.new) result }
+    ensures not_a_log { IsErrOf result ToolFault.NotALog → IfSome (R.remaining reader) (λ bs. log_as version bs ≡ NotALog) }
+    ensures other_version { IsErrOf result ToolFault.OtherVersion → IfSome (R.remaining reader) (λ bs. log_as version bs ≡ OtherVersion) }
     ensures faults { IfErr result IsLogFault }
 {
     let mut loaded = load_as(alloc, version, reader)?;

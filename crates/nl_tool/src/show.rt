@@ -7,7 +7,7 @@ ghost use Rattle.nl_table.specs.Log.{log_of, NotALog, OtherVersion};
 ghost use Rattle.nl_tool.specs.Faults.{IsLogFault};
 ghost use Rattle.nl_texts.specs.Output.{AppendsPrefixOf, Prints};
 ghost use Rattle.nl_tool.specs.Output.{IsTextFor, Moves, shown};
-ghost use Rattle.nl_tool.specs.Versions.{seen_bytes};
+ghost use Rattle.nl_tool.specs.Versions.{log_as, shown_as};
 ghost use Rattle.nl_texts.specs.declared.fault.ToolFault.{ToolFault};
 
 use crate::loading::load_all;
@@ -46,8 +46,9 @@ pub fn show_as<R: Read + Drop, W: Write>(
     reader: R,
     writer: &mut W,
 ) -> Result<(), ToolFault>
-    ensures prints { Prints (IsTextFor shown (seen_bytes version (R.remaining reader))) (W.contents writer.old) (W.contents writer.new) result }
-    ensures not_a_log { IsErrOf result ToolFault.NotALog → IfSome (seen_bytes version (R.remaining reader)) (λ bs. log_of bs ≡ NotALog) }
+    ensures prints { Prints (IsTextFor (shown_as version) (R.remaining reader)) (W.contents writer.old) (W.contents writer.new) result }
+    ensures not_a_log { IsErrOf result ToolFault.NotALog → IfSome (R.remaining reader) (λ bs. log_as version bs ≡ NotALog) }
+    ensures other_version { IsErrOf result ToolFault.OtherVersion → IfSome (R.remaining reader) (λ bs. log_as version bs ≡ OtherVersion) }
     ensures faults { IfErr result IsLogFault }
 {
     let seen = load_as(alloc, version, reader)?;
