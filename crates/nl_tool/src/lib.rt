@@ -19,6 +19,7 @@ mod show;
 mod stream;
 mod times_file;
 mod update;
+mod version_updates;
 mod versions;
 
 pub use check::{check_as, check_to};
@@ -35,4 +36,5 @@ pub use nl_words::{Words, read_words};
 pub use program::{Outcome, run};
 pub use show::{show_as, show_to};
 pub use update::{recompact_on, record_on, repair_on, restat_on};
+pub use version_updates::{recompact_as, record_as, repair_as, restat_as};
 pub use versions::{command_hash_as, entry_as, hash_as, load_as};
