@@ -8,16 +8,26 @@ _nlog() {
             --help -h --version -V' -- "$word")
         return
     fi
-    # How many values stand before the word. Behind `--` each word is one.
+    # How many values stand before the word, without that of an option. Behind `--` each word is one.
     for ((at = 2; at < COMP_CWORD; at++)); do
         if [[ ! $dashes && ${COMP_WORDS[at]} == -- ]]; then
             dashes=yes
+        elif [[ ! $dashes && ${COMP_WORDS[at]} == --log-version ]]; then
+            # Bash has the `=` of `--log-version=7` as a word of its own.
+            [[ ${COMP_WORDS[at + 1]} == '=' ]] && at=$((at + 1))
+            if ((++at >= COMP_CWORD)); then
+                mapfile -t COMPREPLY < <(compgen -W '5 6 7' -- "$word")
+                return
+            fi
         elif [[ $dashes || ${COMP_WORDS[at]} != -?* ]]; then
             values=$((values + 1))
         fi
     done
     if [[ ! $dashes && $word == -* ]]; then
-        mapfile -t COMPREPLY < <(compgen -W '--help -h' -- "$word")
+        case ${COMP_WORDS[1]} in
+            show | check | hash) mapfile -t COMPREPLY < <(compgen -W '--log-version --help -h' -- "$word") ;;
+            *) mapfile -t COMPREPLY < <(compgen -W '--help -h' -- "$word") ;;
+        esac
         return
     fi
     case ${COMP_WORDS[1]}:$values in

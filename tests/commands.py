@@ -153,6 +153,9 @@ FILE_SHOWN, INPUT_SHOWN = b"1\t2\t3\tfile\tff\n", b"4\t5\t6\tinput\tab\n"
 FILE_CHECKED = b"version 5\ntotal 1\nunique 1\nskipped 0\ntorn 0\ndue no\n"
 INPUT_CHECKED = b"version 5\ntotal 1\nunique 1\nskipped 1\ntorn 0\ndue no\n"
 NOTHING_CHECKED = b"version 5\ntotal 0\nunique 0\nskipped 0\ntorn 0\ndue no\n"
+SIX, SEVEN = (b"# ninja log v%d\n1\t2\t3\tout\t8072fc2ac19230e4\nx\n" % it for it in (6, 7))
+NEW_SHOWN = b"1\t2\t3\tout\t8072fc2ac19230e4\n"
+NEW_CHECKED = b"version %d\ntotal 1\nunique 1\nskipped 1\ntorn 0\ndue no\n"
 REPLAYED = b"ok\nS2 AlreadyOpen\nlog 15\n# ninja log v5\n"
 HASH = b"72274e7a30810c7b\n"
 
@@ -173,7 +176,26 @@ For more information, try '--help'.
 
 NO_LOG_NAME = NO_VALUE.replace(b"COMMAND", b"LOG").replace(b"nlog hash", b"nlog repair")
 
-# Words, where INPUT is standard input and `file` is FILE; the status, standard output and standard error.
+MORE = b"\nFor more information, try '--help'.\n"
+NO_VERSION = b"""error: a value is required for '--log-version <VERSION>' but none was supplied
+""" + MORE
+TWO_VERSIONS = b"""error: the argument '--log-version <VERSION>' cannot be used multiple times
+
+Usage: nlog show [OPTIONS] [LOG]
+""" + MORE
+# That a value is no version, and that a command, here with its usage, has no such option.
+BAD_VERSION = b"""error: invalid value '%s' for '--log-version <VERSION>': it is 5, 6 or 7
+
+Usage: nlog [COMMAND]
+""" + MORE
+NO_OPTION = b"""error: unexpected argument '--log-version' found
+
+  tip: to pass '--log-version' as a value, use '-- --log-version'
+
+Usage: nlog %s
+""" + MORE
+
+# Words, where INPUT is standard input and `file` is FILE, `six` and `seven` SIX and SEVEN; the status, standard output and standard error.
 WORDS = [
     ([], 0, INPUT_SHOWN, b""),
     (["show"], 0, INPUT_SHOWN, b""),
@@ -214,6 +236,43 @@ WORDS = [
     (["frob"], 2, b"", NO_COMMAND),
     (["hash"], 2, b"", NO_VALUE),
     (["hash", b"\xff"], 2, b"", b"nlog: cannot read the words: invalid data\n"),
+    # The version of a log, in each place that it may have.
+    (["show", "--log-version", "7", "seven"], 0, NEW_SHOWN, b""),
+    (["show", "seven", "--log-version", "7"], 0, NEW_SHOWN, b""),
+    (["show", "--log-version=7", "seven"], 0, NEW_SHOWN, b""),
+    (["show", "--log-version=7", "--", "seven"], 0, NEW_SHOWN, b""),
+    (["show", "--log-version", "6", "six"], 0, NEW_SHOWN, b""),
+    (["show", "--log-version", "5", "file"], 0, FILE_SHOWN, b""),
+    (["show", "--log-version", "5"], 0, INPUT_SHOWN, b""),
+    (["show", "--log-version", "7", "missing"], 0, b"", b""),
+    (["show", "--log-version", "7", "folder"], 1, b"", CANNOT_READ),
+    (["show", "seven"], 1, b"", OTHER_VERSION),
+    (["show", "--log-version", "5", "seven"], 1, b"", OTHER_VERSION),
+    (["show", "--log-version", "6", "seven"], 1, b"", OTHER_VERSION),
+    (["show", "--log-version", "7", "six"], 1, b"", OTHER_VERSION),
+    (["show", "--log-version", "7", "file"], 1, b"", OTHER_VERSION),
+    (["show", "--log-version", "7"], 1, b"", OTHER_VERSION),
+    (["check", "--log-version", "7", "seven"], 0, NEW_CHECKED % 7, b""),
+    (["check", "six", "--log-version=6"], 0, NEW_CHECKED % 6, b""),
+    (["check", "--log-version", "5", "file"], 0, FILE_CHECKED, b""),
+    (["check", "--log-version", "7", "missing"], 0, NOTHING_CHECKED.replace(b"5", b"7"), b""),
+    (["check", "--log-version", "6", "seven"], 1, b"", OTHER_VERSION),
+    (["hash", "--log-version", "7", "cc\tx"], 0, b"8072fc2ac19230e4\n", b""),
+    (["hash", "cc\tx", "--log-version=7"], 0, b"8072fc2ac19230e4\n", b""),
+    (["hash", "--log-version=7", ""], 0, b"5a6ef77074ebc84b\n", b""),
+    (["hash", "--log-version", "6", "cc\tx"], 0, HASH, b""),
+    (["hash", "--log-version", "5", "cc\tx"], 0, HASH, b""),
+    # Behind `--` it is a value.
+    (["show", "--", "--log-version=7"], 0, b"", b""),
+    (["hash", "--", "--log-version"], 0, b"%x\n" % command_hash(b"--log-version"), b""),
+    (["show", "--log-version"], 2, b"", NO_VERSION),
+    (["show", "--log-version="], 2, b"", BAD_VERSION % b""),
+    (["show", "seven", "--log-version", "4"], 2, b"", BAD_VERSION % b"4"),
+    (["check", "--log-version=07"], 2, b"", BAD_VERSION % b"07"),
+    (["hash", "--log-version", "seven", "c"], 2, b"", BAD_VERSION % b"seven"),
+    (["show", "--log-version", "7", "seven", "--log-version", "7"], 2, b"", TWO_VERSIONS),
+    (["entries", "--log-version", "7"], 2, b"", NO_OPTION % b"entries [LOG]"),
+    (["recompact", "--log-version", "7", "file", "file"], 2, b"", NO_OPTION % b"recompact <LOG> <KEEP>"),
     # A LOG that is no file of the system's.
     (["record", "folder", "1", "2", "3", "n", "c"], 1, b"", b"nlog: the folder failed\n"),
 ]
@@ -305,6 +364,8 @@ def try_words(trials, program, room):
     os.mkdir(f"{room}/folder")
     write(f"{room}/file", FILE)
     write(f"{room}/-file", FILE)
+    write(f"{room}/six", SIX)
+    write(f"{room}/seven", SEVEN)
     write(f"{room}/script", b"open\nopen")
     before = sorted(os.listdir(room))
     for words, status, out, err in WORDS:

@@ -51,7 +51,7 @@ FILES = {"LOG", "KEEP", "TIMES", "SCRIPT", "FILE"}
 
 def options_of(help_text):
     """The options of a help, long and short."""
-    return re.findall(r"(?<![\w-])--?[A-Za-z]+", help_text[help_text.index("Options:") :].split("\n\n")[0])
+    return re.findall(r"(?<![\w-])--?[A-Za-z]+(?:-[a-z]+)*", help_text[help_text.index("Options:") :].split("\n\n")[0])
 
 
 def try_completion(trials, program, room, help_text, commands):
@@ -71,12 +71,17 @@ def try_completion(trials, program, room, help_text, commands):
     for name in commands:
         own = run([program, name, "--help"])[1].decode()
         want([name, "-"], options_of(own))
-        values = re.findall(r"[\[<]([A-Z]+)[\]>]", re.search(r"Usage: (.*)", own)[1])
+        values = re.findall(r"[\[<]([A-Z]+)[\]>]", re.search(r"Usage: (.*)", own)[1].replace("[OPTIONS]", ""))
         trials.check(f"the values of {name}", values != [])
         for at, value in enumerate([*values, "none"]):
             for before in ([], ["--"]):
                 want([name, *before, *["1"] * at, ""], ["a file", "b.log"] if value in FILES else [])
                 want([name, *before, *["1"] * at, "b"], ["b.log"] if value in FILES else [])
+        if "--log-version" in own:
+            want([name, "--log-version", ""], ["5", "6", "7"])
+            want([name, "--log-version", "7", ""], ["a file", "b.log"] if values[0] in FILES else [])
+            want([name, "--log-version=7", "b"], ["b.log"] if values[0] in FILES else [])
+            want([name, "--", "--log-version", ""], [])
 
 
 def try_install(trials, program, room):
@@ -114,7 +119,9 @@ def trial(trials, program, room):
     trials.want("the number of commands", len(commands), 11)
     for name in commands:
         usage = re.search(r"Usage: (.*)", run([program, name, "--help"])[1].decode())[1]
-        trials.check(f"the synopsis of {name}", re.sub("[<>]", "", usage).split(" ", 1)[1] in text, usage)
+        trials.check(f"the synopsis of {name}", re.sub("[<>]", "", usage.replace("[OPTIONS] ", "")).split(" ", 1)[1] in text, usage)
+        for option in options_of(run([program, name, "--help"])[1].decode()):
+            trials.check(f"the option {option} of {name}", option == "-h" or option in text)
     for option in re.findall(r"--[a-z]+", help_text[help_text.index("Options:") : help_text.index("Without a command")]):
         trials.check(f"the option {option}", option in text)
     trials.want("the number of messages", len(messages()), 12)

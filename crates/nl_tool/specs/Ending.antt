@@ -33,7 +33,7 @@ IsStatusOfKind kind.DisplayVersion status = IsDoneOrRefused status
 IsStatusOfKind kind.OutOfMemory status = status ≡ 1
 IsStatusOfKind _ status = status ≡ 2
 
--- the status after a command line, by the kinds of fault that clap's definition finds in it, and by the subcommand that it
+-- the status after a command line, by the kinds of error that its words may give, and by the subcommand that it
 -- enters: 2 only for wrong words, and for those never 0; 3 only for `damage`
 abbrev pub IsStatusBy : Kinds → Option (Text × List Row) → ℕ → Type 0
 IsStatusBy [] entered status = IsEnded entered status

@@ -2,9 +2,9 @@
 ghost use Rattle.std.specs.Prelude.{◌≡◌, ◌≢◌, ◌≤◌, map, string_bytes};
 ghost use Rattle.std.specs.IoError.{error_kind};
 ghost use Rattle.std.specs.declared.io.ErrorKind.TheVariants.{OutOfMemory};
-ghost use Rattle.clap.specs.Words.{fault_of, kind_of, subcommand_of};
+ghost use Rattle.clap.specs.Words.{kind_of, subcommand_of};
 ghost use Rattle.nl_tool.specs.Ending.{status_after, IsStatusBy, IsStatusOfKind};
-ghost use Rattle.nl_words.specs.CommandLine.{nlog};
+ghost use Rattle.nl_words.specs.CommandLine.{fault_in, nlog};
 
 use crate::program::{Outcome, run};
 use clap::Error;
@@ -35,11 +35,11 @@ pub fn run_program<R: Runtime + AllocGlobal>(rt: &R) -> u8
 ///
 /// The text of a command, help and the version go to standard output; why something was refused goes to standard error.
 pub fn run_line<R: Runtime>(rt: &R, alloc: Global, line: &[String]) -> u8
-    ensures status { IsStatusBy (fault_of nlog (map string_bytes line.now)) (subcommand_of nlog (map string_bytes line.now)) result }
+    ensures status { IsStatusBy (fault_in (map string_bytes line.now)) (subcommand_of nlog (map string_bytes line.now)) result }
     ensures bound { result ≤ 3 }
 {
     match read_words(alloc, line) {
-        Ok(words) => end(rt, run(rt, alloc, &words)),
+        Ok(said) => end(rt, run(rt, alloc, &said)),
         Err(error) => explain(rt, &error),
     }
 }

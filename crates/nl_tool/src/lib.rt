@@ -32,7 +32,7 @@ pub use nl_disk::DiskFolder;
 pub use nl_lines::LogVersion;
 pub use nl_replay::replay_to;
 pub use nl_texts::{ToolFault, status_of};
-pub use nl_words::{Words, read_words};
+pub use nl_words::{AskedVersion, CommandLine, Words, read_words};
 pub use program::{Outcome, run};
 pub use show::{show_as, show_to};
 pub use update::{recompact_on, record_on, repair_on, restat_on};

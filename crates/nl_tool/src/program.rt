@@ -5,21 +5,24 @@ ghost use Rattle.nl_texts.specs.Output.{Prints};
 ghost use Rattle.std.specs.Io.KnownBytes.{Appends};
 ghost use Rattle.nl_tool.specs.Output.{IsAnswer, IsTextFor};
 ghost use Rattle.nl_tool.specs.Streams.{IsSoFar, damaged};
+ghost use Rattle.nl_tool.specs.Versions.{log_version, IsAnswerAs, IsAnswerOf};
 ghost use Rattle.nl_texts.specs.declared.fault.ToolFault.{ToolFault};
 
-use crate::check::check_to;
+use crate::check::{check_as, check_to};
 use crate::damage::damage_to;
 use crate::entries::entries_to;
 use crate::hash::hash_to;
 use crate::hash_file::hash_file_to;
 use crate::record_words::entry_of;
-use crate::show::show_to;
+use crate::show::{show_as, show_to};
 use crate::update::{recompact_on, record_on, repair_on, restat_on};
+use crate::versions::hash_as;
 use nl_disk::DiskFolder;
 use nl_fields::EntryRef;
+use nl_lines::LogVersion;
 use nl_replay::replay_to;
 use nl_texts::ToolFault;
-use nl_words::Words;
+use nl_words::{AskedVersion, CommandLine, Words};
 use std::alloc::Global;
 use std::io::{ErrorKind, Read, Write};
 use std::rt::{Files, Runtime};
@@ -33,35 +36,42 @@ pub enum Outcome {
     Damaged,
 }
 
-/// Does what the words say, with standard output for its text. LOG, FILE or SCRIPT is read, or standard input where it is
+/// Does what a command line says, with standard output for its text. LOG, FILE or SCRIPT is read, or standard input where it is
 /// left out; a log that is missing is read as one without bytes.
-pub fn run<R: Runtime>(rt: &R, alloc: Global, words: &Words<'_>) -> Result<Outcome, ToolFault>
-    ensures accepts { OnOk result (CanBeDone words.now) }
-    ensures damaged { IfOk result (λ outcome. outcome ≡ Outcome.Damaged → AsksForDamage words.now) }
-    ensures faults { IfErr result (IsFaultOf words.now) }
+pub fn run<R: Runtime>(rt: &R, alloc: Global, line: &CommandLine<'_>) -> Result<Outcome, ToolFault>
+    ensures accepts { OnOk result (CanBeDone line.now.words) }
+    ensures damaged { IfOk result (λ outcome. outcome ≡ Outcome.Damaged → AsksForDamage line.now.words) }
+    ensures faults { IfErr result (IsFaultOf line.now.words) }
 {
-    if let Words::Damage(log) = *words {
+    if let Words::Damage(log) = line.words {
         return damage_in(rt, alloc, log);
     }
-    run_command(rt, alloc, words)?;
+    run_command(rt, alloc, &line.words, line.version)?;
     Ok(Outcome::Done)
 }
 
-// Does what words say that don't ask for damage.
-fn run_command<R: Runtime>(rt: &R, alloc: Global, words: &Words<'_>) -> Result<(), ToolFault>
+// Does what words say that don't ask for damage, over logs of the version that is asked for.
+fn run_command<R: Runtime>(
+    rt: &R,
+    alloc: Global,
+    words: &Words<'_>,
+    version: Option<AskedVersion>,
+) -> Result<(), ToolFault>
     requires { ¬ AsksForDamage words.now }
     ensures accepts { OnOk result (CanBeDone words.now) }
     ensures faults { IfErr result (IsFaultOf words.now) }
 {
     match *words {
-        Words::Show(Some(path)) | Words::Check(Some(path)) => answer_log(rt, alloc, words, path),
+        Words::Show(Some(path)) | Words::Check(Some(path)) => answer_log(
+            rt, alloc, words, version, path,
+        ),
         Words::Replay(Some(path)) | Words::HashFile(Some(path)) => {
             let file = open(rt, path)?;
-            answer_to(alloc, words, file, &mut io::writer(rt))
+            answer_to(alloc, words, version, file, &mut io::writer(rt))
         }
         Words::Show(None) | Words::Check(None) | Words::Replay(None) | Words::HashFile(None) =>
-            answer_to(alloc, words, rt.reader(), &mut io::writer(rt)),
-        Words::Hash(_) => answer_to(alloc, words, io::empty(), &mut io::writer(rt)),
+            answer_to(alloc, words, version, rt.reader(), &mut io::writer(rt)),
+        Words::Hash(_) => answer_to(alloc, words, version, io::empty(), &mut io::writer(rt)),
         Words::Entries(log) => entries_in(rt, alloc, log),
         Words::Damage(_) => unreachable!(),
         Words::Record {
@@ -131,6 +141,7 @@ fn answer_log<R: Files + Print>(
     rt: &R,
     alloc: Global,
     words: &Words<'_>,
+    version: Option<AskedVersion>,
     path: &str,
 ) -> Result<(), ToolFault>
     requires { ReadsLog words.now }
@@ -138,13 +149,31 @@ fn answer_log<R: Files + Print>(
 {
     let mut out = io::writer(rt);
     match open_log(rt, path)? {
-        Some(file) => answer_to(alloc, words, file, &mut out),
-        None => answer_to(alloc, words, io::empty(), &mut out),
+        Some(file) => answer_to(alloc, words, version, file, &mut out),
+        None => answer_to(alloc, words, version, io::empty(), &mut out),
     }
 }
 
 // Does what words say that print a text, with this reader for what is read and this writer for the text.
 fn answer_to<R: Read + Drop, W: Write>(
+    alloc: Global,
+    words: &Words<'_>,
+    version: Option<AskedVersion>,
+    reader: R,
+    writer: &mut W,
+) -> Result<(), ToolFault>
+    requires { IsPrinting words.now }
+    ensures prints { Prints (IsAnswerAs version words.now (R.remaining reader)) (W.contents writer.old) (W.contents writer.new) result }
+    ensures faults { IfErr result (IsFaultOf words.now) }
+{
+    match version {
+        Some(asked) => answer_as(alloc, words, version_of(asked), reader, writer),
+        None => answer_plain(alloc, words, reader, writer),
+    }
+}
+
+// The same where no version is asked for.
+fn answer_plain<R: Read + Drop, W: Write>(
     alloc: Global,
     words: &Words<'_>,
     reader: R,
@@ -166,6 +195,43 @@ fn answer_to<R: Read + Drop, W: Write>(
         | Words::Recompact { .. }
         | Words::Restat { .. }
         | Words::Repair(_) => unreachable!(),
+    }
+}
+
+// The same over logs of the version.
+fn answer_as<R: Read + Drop, W: Write>(
+    alloc: Global,
+    words: &Words<'_>,
+    version: LogVersion,
+    reader: R,
+    writer: &mut W,
+) -> Result<(), ToolFault>
+    requires { IsPrinting words.now }
+    ensures prints { Prints (IsAnswerOf version words.now (R.remaining reader)) (W.contents writer.old) (W.contents writer.new) result }
+    ensures faults { IfErr result (IsFaultOf words.now) }
+{
+    match *words {
+        Words::Show(_) => show_as(alloc, version, reader, writer),
+        Words::Check(_) => check_as(alloc, version, reader, writer),
+        Words::Hash(command) => hash_as(alloc, version, command.as_bytes(), writer),
+        Words::HashFile(_) => hash_file_to(alloc, reader, writer),
+        Words::Replay(_) => replay_to(alloc, reader, writer),
+        Words::Entries(_)
+        | Words::Damage(_)
+        | Words::Record { .. }
+        | Words::Recompact { .. }
+        | Words::Restat { .. }
+        | Words::Repair(_) => unreachable!(),
+    }
+}
+
+fn version_of(asked: AskedVersion) -> LogVersion
+    ensures { result ≡ log_version asked }
+{
+    match asked {
+        AskedVersion::Five => LogVersion::Five,
+        AskedVersion::Six => LogVersion::Six,
+        AskedVersion::Seven => LogVersion::Seven,
     }
 }
 

@@ -1,20 +1,30 @@
--- A walk over words leaves no row without a value, where no option takes one.
+-- A walk over words leaves no row without a value, but for that of the option for a version.
 use Rattle.std.proofs.Common.{◌≡◌, ◌∙◌, ◌<◌, ◌&&◌, ◌||◌, ◌⊎◌, not, inl, inr, ℕ, Bool, true, false, zero, suc, List, [], ◌∷◌, ◌++◌, length, Option, Some, None, is_some, cond, refl, sym, subst, arith, true≢false, length-append}
 use Rattle.std.specs.Prelude.{slice_get}
 use Rattle.std.specs.List.{find, fold, list_all}
 use Rattle.std.specs.Str.{bytes_eq, chars}
 use Rattle.clap.specs.Lexer.{long_of, short_of}
-use Rattle.clap.specs.Walk.{Held, Names, Outcome, Row, Rule, Step, Text, Waiting, Walk, action_of, after_flag, after_step, arg_by_id, arg_by_index, arg_by_long, arg_by_short, at_row, bundle_met, bundle_step, default_rows, done, flag_met, has_row, has_long, has_short, idle, is_empty, is_pending, long_met, long_or_other, more_values, next, nothing_held, option, option_met, option_word, plain, plain_word, positional, positional_held, pushed, reacted, reading_by, refused, rows_after, settled, settled_rows, short_met, short_or_plain, started, subcommand, subcommand_met, subcommand_or_other, takes_several, takes_values, to_positional, trailing, used, used_as, used_by_id, value, values_or_missing, waits, walk, walk_from, walked, walked_from, with_default, with_values, without, word_met}
+use Rattle.clap.specs.Walk.{Held, Names, Outcome, Row, Rule, Step, Text, Waiting, Walk, action_of, after_flag, after_step, arg_by_id, arg_by_index, arg_by_long, arg_by_short, at_row, attached_value, bundle_met, bundle_step, default_rows, done, flag_met, has_row, has_long, has_short, idle, is_empty, is_pending, long_met, long_or_other, more_values, next, nothing_held, option, option_met, option_word, plain, plain_word, positional, positional_held, pushed, reacted, reading_by, refused, rows_after, settled, settled_rows, short_met, short_or_plain, started, subcommand, subcommand_met, subcommand_or_other, takes_several, takes_values, to_positional, trailing, used, used_as, used_by_id, value, values_or_missing, waits, walk, walk_from, walked, walked_from, with_default, with_values, without, word_met}
 use Rattle.clap.specs.declared.builder.action.ArgAction.{ArgAction}
-use Rattle.clap.specs.declared.builder.action.ArgAction.TheVariants.{Set, Help}
+use Rattle.clap.specs.declared.builder.action.ArgAction.TheVariants.{Set, SetTrue, Help}
 use Rattle.clap.specs.declared.parser.matches.ValueSource.{ValueSource}
-use Rattle.clap.specs.declared.parser.matches.ValueSource.TheVariants.{CommandLine}
+use Rattle.clap.specs.declared.parser.matches.ValueSource.TheVariants.{CommandLine, DefaultValue}
 use Rattle.clap.specs.declared.builder.value_parser.Reading.{Reading}
 use Rattle.clap.proofs.WalkLemmas.{both}
-use Rattle.clap.proofs.SimpleLemmas.{is_false, is_nil}
+use Rattle.clap.proofs.SimpleLemmas.{is_false}
+use Rattle.std.proofs.lemmas.Slice.Eq.{bytes_eq-Decides}
+use Rattle.nl_words.specs.CommandLine.{version_id}
+
+-- the id is that of the option with a value
+abbrev pub is_option : Text → Bool
+is_option id = bytes_eq id version_id
+
+-- there is a value, where the id isn't the option's
+abbrev pub IsFilled : Text → List Text → Type 0
+IsFilled id values = (is_option id ≡ true) ⊎ (0 < length values)
 
 abbrev pub Full : Row → Type 0
-Full r = 0 < length r.values
+Full r = IsFilled r.id r.values
 
 abbrev pub AllFull : List Row → Type 0
 AllFull [] = Unit {0}
@@ -22,7 +32,7 @@ AllFull (r ∷ rs) = Full r × AllFull rs
 
 abbrev PendingFull : Option (Text × List Text) → Type 0
 PendingFull None = Unit {0}
-PendingFull (Some p) = 0 < length p.1
+PendingFull (Some p) = IsFilled p.0 p.1
 
 -- neither a row nor what is pending is without a value
 abbrev Good : Held → Type 0
@@ -38,10 +48,18 @@ abbrev is_help : ArgAction → Bool
 is_help Help = true
 is_help _ = false
 
--- the argument stands by its place and takes a value, or is a flag for help
+abbrev is_set_true : ArgAction → Bool
+is_set_true SetTrue = true
+is_set_true _ = false
+
+-- a flag, for help or with a value of its own
+abbrev is_flag_rule : Rule → Bool
+is_flag_rule a = not (takes_values a) && (is_help (action_of a) || (is_set_true (action_of a) && not (is_empty a.missing)))
+
+-- the argument stands by its place and takes a value, or is the option, which isn't required, or a flag
 abbrev pub is_plain_rule : Rule → Bool
-is_plain_rule a = is_empty a.defaults
-    && ((is_set (action_of a) && is_some a.index) || (is_help (action_of a) && not (takes_values a)))
+is_plain_rule a = not (a.required && is_option a.id)
+    && ((is_set (action_of a) && is_some a.index) || ((is_set (action_of a) && is_option a.id) || is_flag_rule a))
 
 set_is : (x : ArgAction) → is_set x ≡ true → x ≡ Set
 set_is Set e = refl
@@ -51,24 +69,51 @@ help_is : (x : ArgAction) → is_help x ≡ true → x ≡ Help
 help_is Help e = refl
 help_is _ e = absurd (true≢false (sym e))
 
+set_true_is : (x : ArgAction) → is_set_true x ≡ true → x ≡ SetTrue
+set_true_is SetTrue e = refl
+set_true_is _ e = absurd (true≢false (sym e))
+
 either : (a b : Bool) → (a || b) ≡ true → (a ≡ true) ⊎ (b ≡ true)
 either true b e = inl refl
 either false b e = inr e
 
-record IsPlain (a : Rule) : Type 0 where
-  no_default : a.defaults ≡ []
-  kind : ((action_of a ≡ Set) × (is_some a.index ≡ true)) ⊎ ((action_of a ≡ Help) × (takes_values a ≡ false))
+-- a flag that is no option
+abbrev IsFlag : Rule → Type 0
+IsFlag a = (takes_values a ≡ false) × ((action_of a ≡ Help) ⊎ ((action_of a ≡ SetTrue) × (0 < length a.missing)))
+
+abbrev IsOption : Rule → Type 0
+IsOption a = (action_of a ≡ Set) × (is_option a.id ≡ true)
+
+-- an argument that is met by its name
+abbrev IsNamed : Rule → Type 0
+IsNamed a = IsOption a ⊎ IsFlag a
+
+abbrev IsPlain : Rule → Type 0
+IsPlain a = ((action_of a ≡ Set) × (is_some a.index ≡ true)) ⊎ IsNamed a
+
+some_missing : (xs : List Text) → not (is_empty xs) ≡ true → 0 < length xs
+some_missing [] e = absurd (true≢false (sym e))
+some_missing (x ∷ xs) e = omega arith
+
+flag_rule : (a : Rule) → is_flag_rule a ≡ true → IsFlag a
+flag_rule a e =
+    let parts = both (not (takes_values a)) _ e in (
+      is_false _ parts.0,
+      elim (either (is_help (action_of a)) _ parts.1) [
+        | inl h ↦ inl (help_is _ h)
+        | inr h ↦ inr (set_true_is _ (both (is_set_true (action_of a)) _ h).0, some_missing _ (both (is_set_true (action_of a)) _ h).1)
+      ],
+    )
 
 plain_rule : (a : Rule) → is_plain_rule a ≡ true → IsPlain a
 plain_rule a e =
-    let parts = both (is_empty a.defaults) _ e in
-    record {
-      no_default = is_nil _ parts.0;
-      kind = elim (either (is_set (action_of a) && is_some a.index) _ parts.1) [
-        | inl h ↦ inl (set_is _ (both _ _ h).0, (both (is_set (action_of a)) _ h).1)
-        | inr h ↦ inr (help_is _ (both _ _ h).0, is_false _ (both (is_help (action_of a)) _ h).1)
-      ];
-    }
+    elim (either (is_set (action_of a) && is_some a.index) _ (both (not (a.required && is_option a.id)) _ e).1) [
+      | inl h ↦ inl (set_is _ (both _ _ h).0, (both (is_set (action_of a)) _ h).1)
+      | inr h ↦ elim (either (is_set (action_of a) && is_option a.id) _ h) [
+        | inl k ↦ inr (inl (set_is _ (both _ _ k).0, (both (is_set (action_of a)) _ k).1))
+        | inr k ↦ inr (inr (flag_rule a k))
+      ]
+    ]
 
 -- what is found passes the test, and every other that all pass
 found_passes : {X : Type 0} (p q : X → Bool) (xs : List X) (x : X) → list_all q xs ≡ true → find p xs ≡ Some x → (p x ≡ true) × (q x ≡ true)
@@ -99,88 +144,108 @@ at_row-full id change missing (r ∷ rs) f m h =
 without-full : (id : Text) (rows : List Row) → AllFull rows → AllFull (without id rows)
 without-full id rows h = at_row-full id (λ _. []) [] rows (λ r full. tt) tt h
 
-grown : (xs ys : List Text) → 0 < length xs → 0 < length (xs ++ ys)
-grown xs ys h = omega (arith, length-append xs ys)
+grown : (id : Text) (xs ys : List Text) → IsFilled id xs → IsFilled id (xs ++ ys)
+grown id xs ys (inl h) = inl h
+grown id xs ys (inr h) = inr (omega (arith, length-append xs ys))
 
-with_values-full : (id : Text) (how : Reading) (s : ValueSource) (values : List Text) (rows : List Row) → 0 < length values → AllFull rows → AllFull (with_values id how s values rows)
-with_values-full id how s values rows lt h = at_row-full id (more_values s values) _ rows (λ r full. (grown r.values values full, tt)) (lt, tt) h
+with_values-full : (id : Text) (how : Reading) (s : ValueSource) (values : List Text) (rows : List Row) → IsFilled id values → AllFull rows → AllFull (with_values id how s values rows)
+with_values-full id how s values rows filled h = at_row-full id (more_values s values) _ rows (λ r full. (grown r.id r.values values full, tt)) (filled, tt) h
 
-given-full : (a : Rule) (values : List Text) → 0 < length values → 0 < length (values_or_missing a values)
-given-full a [] lt = absurd (omega arith)
-given-full a (v ∷ vs) lt = lt
+given-full : (a : Rule) (values : List Text) → IsFilled a.id values → IsFilled a.id (values_or_missing a values)
+given-full a values (inl k) = inl k
+given-full a [] (inr lt) = absurd (omega arith)
+given-full a (v ∷ vs) (inr lt) = inr lt
 
--- a use with a value
-used-full : (a : Rule) (values : List Text) (rows : List Row) → IsPlain a → 0 < length values → AllFull rows → AllFull (used a values rows)
-used-full a values rows plain_one lt h =
-    elim plain_one.kind [
-      | inl k ↦ subst (λ x. AllFull (used_as x a.id (reading_by a) (values_or_missing a values) rows)) (sym k.0)
-          (with_values-full a.id (reading_by a) CommandLine (values_or_missing a values) (without a.id rows) (given-full a values lt) (without-full a.id rows h))
-      | inr k ↦ subst (λ x. AllFull (used_as x a.id (reading_by a) (values_or_missing a values) rows)) (sym k.0) h
+missing-full : (a : Rule) (values : List Text) → 0 < length a.missing → IsFilled a.id (values_or_missing a values)
+missing-full a [] lt = inr lt
+missing-full a (v ∷ vs) lt = inr (omega arith)
+
+-- a use of one that is set
+set-full : (a : Rule) (values : List Text) (rows : List Row) → action_of a ≡ Set → IsFilled a.id values → AllFull rows → AllFull (used a values rows)
+set-full a values rows set filled h =
+    subst (λ x. AllFull (used_as x a.id (reading_by a) (values_or_missing a values) rows)) (sym set)
+    (with_values-full a.id (reading_by a) CommandLine (values_or_missing a values) (without a.id rows) (given-full a values filled) (without-full a.id rows h))
+
+-- a use of one that is met by its name
+named-full : (a : Rule) (values : List Text) (rows : List Row) → IsNamed a → AllFull rows → AllFull (used a values rows)
+named-full a values rows (inl k) h = set-full a values rows k.0 (inl k.1) h
+named-full a values rows (inr flag) h =
+    elim flag.1 [
+      | inl help ↦ subst (λ x. AllFull (used_as x a.id (reading_by a) (values_or_missing a values) rows)) (sym help) h
+      | inr k ↦ subst (λ x. AllFull (used_as x a.id (reading_by a) (values_or_missing a values) rows)) (sym k.0)
+          (with_values-full a.id (reading_by a) CommandLine (values_or_missing a values) (without a.id rows) (missing-full a values k.1) (without-full a.id rows h))
     ]
 
--- a flag that is no option
-abbrev IsFlag : Rule → Type 0
-IsFlag a = (action_of a ≡ Help) × (takes_values a ≡ false)
-
-flag-full : (a : Rule) (rows : List Row) → IsFlag a → AllFull rows → AllFull (used a [] rows)
-flag-full a rows flag h = subst (λ x. AllFull (used_as x a.id (reading_by a) (values_or_missing a []) rows)) (sym flag.0) h
+used-full : (a : Rule) (values : List Text) (rows : List Row) → IsPlain a → IsFilled a.id values → AllFull rows → AllFull (used a values rows)
+used-full a values rows (inl k) filled h = set-full a values rows k.0 filled h
+used-full a values rows (inr named) filled h = named-full a values rows named h
 
 -- ---- a command whose rules are all plain
 
 module _ (c : List Rule) (all : list_all is_plain_rule c ≡ true) where
-  found_plain : (p : Rule → Bool) (a : Rule) → find p c ≡ Some a → IsPlain a
-  found_plain p a is = plain_rule a (found_passes p is_plain_rule c a all is).1
+  -- an argument by its id, with what is pending for it
+  found_filled : (id : Text) (values : List Text) (a : Rule) → IsFilled id values → arg_by_id c id ≡ Some a → IsPlain a × IsFilled a.id values
+  found_filled id values a filled is =
+      let met = found_passes (λ a. bytes_eq a.id id) is_plain_rule c a all is in
+      let same : a.id ≡ id = (bytes_eq-Decides a.id id).0 met.0 in
+      (plain_rule a met.1, subst (λ x. IsFilled x values) (sym same) filled)
 
-  no_index : (a : Rule) (b : Bool) → (not (is_some a.index) && b) ≡ true → IsPlain a → IsFlag a
-  no_index a b e plain_one =
-      elim plain_one.kind [
-        | inl k ↦ absurd (true≢false (sym k.1 ∙ is_false _ (both (not (is_some a.index)) b e).0))
-        | inr k ↦ k
-      ]
+  no_index : (a : Rule) (b : Bool) → (not (is_some a.index) && b) ≡ true → IsPlain a → IsNamed a
+  no_index a b e (inl k) = absurd (true≢false (sym k.1 ∙ is_false _ (both (not (is_some a.index)) b e).0))
+  no_index a b e (inr named) = named
 
-  flag_found : (test : Rule → Bool) (a : Rule) → find (λ a. not (is_some a.index) && test a) c ≡ Some a → IsFlag a
-  flag_found test a is =
+  named_found : (test : Rule → Bool) (a : Rule) → find (λ a. not (is_some a.index) && test a) c ≡ Some a → IsNamed a
+  named_found test a is =
       let met = found_passes (λ a. not (is_some a.index) && test a) is_plain_rule c a all is in
       no_index a (test a) met.0 (plain_rule a met.1)
 
   settled-full : (h : Held) → Good h → Good (settled c h)
   settled-full h good = (go h.pending good.1, tt)
     where
-      by_id : (o : Option Rule) (values : List Text) → ((a : Rule) → o ≡ Some a → IsPlain a) → 0 < length values → AllFull (used_by_id o values h.rows)
-      by_id None values f lt = good.0
-      by_id (Some a) values f lt = used-full a values h.rows (f a refl) lt good.0
+      by_id : (o : Option Rule) (values : List Text) → ((a : Rule) → o ≡ Some a → IsPlain a × IsFilled a.id values) → AllFull (used_by_id o values h.rows)
+      by_id None values f = good.0
+      by_id (Some a) values f = used-full a values h.rows (f a refl).0 (f a refl).1 good.0
 
       go : (p : Option (Text × List Text)) → PendingFull p → AllFull (settled_rows c p h.rows)
       go None full = good.0
-      go (Some p) full = by_id (arg_by_id c p.0) p.1 (found_plain (λ a. bytes_eq a.id p.0)) full
+      go (Some p) full = by_id (arg_by_id c p.0) p.1 (λ a is. found_filled p.0 p.1 a full is)
 
-  reacted-full : (a : Rule) (h : Held) → IsFlag a → Good h → Good (reacted c a [] h)
-  reacted-full a h flag good = (flag-full a (settled c h).rows flag (settled-full h good).0, tt)
+  reacted-full : (a : Rule) (values : List Text) (h : Held) → IsNamed a → Good h → Good (reacted c a values h)
+  reacted-full a values h named good = (named-full a values (settled c h).rows named (settled-full h good).0, tt)
 
-  -- ---- flags
+  -- ---- flags and the option
 
-  flag_met-full : (a : Rule) (v : Option Text) (h : Held) → IsFlag a → Good h → Good (flag_met c a v h).0
-  flag_met-full a None h flag good = reacted-full a h flag good
-  flag_met-full a (Some v) h flag good = good
+  flag_met-full : (a : Rule) (v : Option Text) (h : Held) → IsNamed a → Good h → Good (flag_met c a v h).0
+  flag_met-full a None h named good = reacted-full a [] h named good
+  flag_met-full a (Some v) h named good = good
 
-  long_met-full : (o : Option Rule) (v : Option Text) (h : Held) → ((a : Rule) → o ≡ Some a → IsFlag a) → Good h → Good (long_met c o v h).0
+  option_met-full : (a : Rule) (v : Option Text) (h : Held) → takes_values a ≡ true → IsNamed a → Good h → Good (option_met c a v h).0
+  option_met-full a (Some v) h takes named good = reacted-full a (v ∷ []) h named good
+  option_met-full a None h takes (inl k) good = ((settled-full h good).0, inl k.1)
+  option_met-full a None h takes (inr flag) good = absurd (true≢false (sym takes ∙ flag.0))
+
+  long_met-full : (o : Option Rule) (v : Option Text) (h : Held) → ((a : Rule) → o ≡ Some a → IsNamed a) → Good h → Good (long_met c o v h).0
   long_met-full None v h f good = good
-  long_met-full (Some a) v h f good =
-      let flag = f a refl in
-      subst (λ b. Good (cond b (option_met c a v h) (flag_met c a v h)).0) (sym flag.1) (flag_met-full a v h flag good)
+  long_met-full (Some a) v h f good = go (takes_values a) refl
+    where
+      go : (b : Bool) → takes_values a ≡ b → Good (cond b (option_met c a v h) (flag_met c a v h)).0
+      go true takes = option_met-full a v h takes (f a refl) good
+      go false takes = flag_met-full a v h (f a refl) good
 
-  short_met-full : (o : Option Rule) (rest : Text) (h : Held) (then_on : Held → Held × Outcome) → ((a : Rule) → o ≡ Some a → IsFlag a)
+  short_met-full : (o : Option Rule) (rest : Text) (h : Held) (then_on : Held → Held × Outcome) → ((a : Rule) → o ≡ Some a → IsNamed a)
       → ((k : Held) → Good k → Good (then_on k).0) → Good h → Good (short_met c o rest h then_on).0
   short_met-full None rest h then_on f g good = good
-  short_met-full (Some a) rest h then_on f g good =
-      let flag = f a refl in
-      rw flag.1 (g (reacted c a [] h) (reacted-full a h flag good))
+  short_met-full (Some a) rest h then_on f g good = go (takes_values a) refl
+    where
+      go : (b : Bool) → takes_values a ≡ b → Good (cond b (option_met c a (attached_value rest) h) (then_on (reacted c a [] h))).0
+      go true takes = option_met-full a (attached_value rest) h takes (f a refl) good
+      go false takes = g (reacted c a [] h) (reacted-full a [] h (f a refl) good)
 
   bundle_step-full : (o : Option ℕ) (flags : Text) (skip : ℕ) (so_far : Outcome) (h : Held) (then_on : Text → ℕ → Outcome → Held → Held × Outcome)
       → ((t : Text) (n : ℕ) (x : Outcome) (k : Held) → Good k → Good (then_on t n x k).0) → Good h → Good (bundle_step c o flags skip so_far h then_on).0
   bundle_step-full None flags skip so_far h then_on g good = good
   bundle_step-full (Some x) flags zero so_far h then_on g good =
-      short_met-full (arg_by_short c x) _ h _ (flag_found (λ a. has_short a x)) (λ k. g _ 0 done k) good
+      short_met-full (arg_by_short c x) _ h _ (named_found (λ a. has_short a x)) (λ k. g _ 0 done k) good
   bundle_step-full (Some x) flags (suc skip) so_far h then_on g good = g _ skip so_far h good
 
   bundle_met-full : (k : ℕ) (flags : Text) (skip : ℕ) (so_far : Outcome) (h : Held) → Good h → Good (bundle_met c k flags skip so_far h).0
@@ -192,7 +257,7 @@ module _ (c : List Rule) (all : list_all is_plain_rule c ≡ true) where
   -- ---- a word
 
   pushed-full : (id word : Text) (h : Held) → AllFull h.rows → Good (pushed id word h)
-  pushed-full id word h rows = (rows, omega (arith, length-append (started id h.pending).1 (word ∷ [])))
+  pushed-full id word h rows = (rows, inr (omega (arith, length-append (started id h.pending).1 (word ∷ []))))
 
   option_word-full : (o : Option Rule) (id word : Text) (h : Held) → Good h → Good (option_word o id word h).0
   option_word-full None id word h good = good
@@ -217,7 +282,7 @@ module _ (c : List Rule) (all : list_all is_plain_rule c ≡ true) where
   long_or_other-full : (waiting : Waiting) (word : Text) (o : Option (Text × Option Text)) (h : Held) → Good h → Good (long_or_other c waiting word o h).0
   long_or_other-full waiting word None h good = short_or_plain-full waiting word (short_of word) h good
   long_or_other-full waiting word (Some p) h good =
-      after_flag-full waiting word _ _ (long_met-full (arg_by_long c p.0) p.1 h (flag_found (λ a. has_long a p.0)) good)
+      after_flag-full waiting word _ _ (long_met-full (arg_by_long c p.0) p.1 h (named_found (λ a. has_long a p.0)) good)
 
   subcommand_or_other-full : (o : Option Text) (waiting : Waiting) (position : ℕ) (word : Text) (h : Held) → Good h → Good (subcommand_or_other c o waiting position word h).0
   subcommand_or_other-full (Some name) waiting position word h good = good
@@ -261,24 +326,26 @@ module _ (c : List Rule) (all : list_all is_plain_rule c ≡ true) where
   walk-full names w [] good = good
   walk-full names w (word ∷ words) good = walk-full names (walked c names w word) words (walked_from-full names w.stopped w word good)
 
-  -- ---- the end
+-- ---- the end
 
-  default-full : (rows : List Row) (a : Rule) → IsPlain a → AllFull rows → AllFull (with_default rows a)
-  default-full rows a plain_one h =
-      elim (has_row a.id rows) as (λ b. AllFull (cond b rows (default_rows a.id (reading_by a) a.defaults rows))) [
-        | true ↦ h
-        | false ↦ subst (λ vs. AllFull (default_rows a.id (reading_by a) vs rows)) (sym plain_one.no_default) h
-      ]
+default_rows-full : (id : Text) (how : Reading) (values : List Text) (rows : List Row) → AllFull rows → AllFull (default_rows id how values rows)
+default_rows-full id how [] rows h = h
+default_rows-full id how (v ∷ vs) rows h = with_values-full id how DefaultValue (v ∷ vs) rows (inr (omega arith)) h
 
-defaults-full : (rows : List Row) (xs : List Rule) → list_all is_plain_rule xs ≡ true → AllFull rows → AllFull (fold with_default rows xs)
-defaults-full rows [] all h = h
-defaults-full rows (a ∷ as_rest) all h =
-    let parts = both (is_plain_rule a) _ all in
-    defaults-full (with_default rows a) as_rest parts.1 (default-full as_rest parts.1 rows a (plain_rule a parts.0) h)
+default-full : (rows : List Row) (a : Rule) → AllFull rows → AllFull (with_default rows a)
+default-full rows a h =
+    elim (has_row a.id rows) as (λ b. AllFull (cond b rows (default_rows a.id (reading_by a) a.defaults rows))) [
+      | true ↦ h
+      | false ↦ default_rows-full a.id (reading_by a) a.defaults rows h
+    ]
 
--- at the end of a walk each row has a value
+defaults-full : (rows : List Row) (xs : List Rule) → AllFull rows → AllFull (fold with_default rows xs)
+defaults-full rows [] h = h
+defaults-full rows (a ∷ as_rest) h = defaults-full (with_default rows a) as_rest (default-full rows a h)
+
+-- at the end of a walk each row has a value, but for the option's
 pub rows_after-full : (c : List Rule) (names : Names) (words : List Text) → list_all is_plain_rule c ≡ true → AllFull (rows_after c names words)
 rows_after-full c names words all =
     let end = (walk c names nothing_held words).held in
     let good = walk-full c all names (walk_from nothing_held) words (tt, tt) in
-    defaults-full (settled c end).rows c all (settled-full c all end good).0
+    defaults-full (settled c end).rows c (settled-full c all end good).0

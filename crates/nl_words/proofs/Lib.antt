@@ -1,4 +1,5 @@
 pub mod ValueLemmas
+pub mod AskedLemmas
 pub mod FullLemmas
 pub mod RequiredLemmas
 pub mod DefinitionLemmas

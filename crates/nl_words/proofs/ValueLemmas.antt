@@ -1,13 +1,15 @@
 -- The texts behind references that may be missing.
-use Rattle.std.proofs.Common.{◌≡◌, ◌∙◌, ◌||◌, Bool, true, false, List, Option, Some, None, IsSome, is_some, option_map, refl, sym, subst, ap, Bor, true≢false}
+use Rattle.std.proofs.Common.{◌≡◌, ◌∙◌, ◌||◌, Bool, true, false, List, Option, Some, None, IsSome, is_some, option_map, refl, sym, subst, ap, ap₂, Bor, true≢false}
 use Rattle.std.specs.Prelude.{Box}
 use Rattle.std.specs.Box.{box_value}
 use Rattle.std.specs.declared.alloc.Global.{Global}
-use Rattle.clap.specs.Words.{Row, Text, subcommand_name_of, subcommand_rows, subcommand_rows_of}
+use Rattle.clap.specs.Words.{Row, Rule, Text, new_rule, rule_of, subcommand_name_of, subcommand_rows, subcommand_rows_of}
+use Rattle.clap.specs.declared.builder.arg.Arg.{Arg}
+use Rattle.clap.specs.declared.builder.texts.Texts.TheVariants.{One}
 use Rattle.clap.specs.declared.parser.matches.ArgMatches.{ArgMatches}
 use Rattle.clap.specs.declared.parser.matches.ArgMatches.TheViews.{out-ArgMatches, out-SubCommand}
 use Rattle.clap.specs.declared.parser.matches.SubCommand.{SubCommand}
-use Rattle.nl_words.specs.CommandLine.{HasEach, IsWhole, required_of}
+use Rattle.nl_words.specs.CommandLine.{HasEach, IsWhole, required_of, version_id, version_rule}
 
 -- a reference to a text that is there
 pub some_of : (o : Option (Bor Text)) (t : Option Text) → option_map (λ (s : Bor Text). s.now) o ≡ t → is_some t ≡ true → IsSome o
@@ -39,3 +41,11 @@ pub entered_has : (m : ArgMatches) (name : Text) (rows : List Row) → Some name
 entered_has m name rows e f whole known is =
     let here = subst IsWhole (entered_is m name rows e f) whole in
     subst (λ n. HasEach (required_of n) rows) is here.1
+
+-- the option for a version, by how it is put together
+pub version_told : (new long named told : Arg) (name value text : Bor Text)
+    → long ≡ record new { long = Some name } → named ≡ record long { val_names = One value } → told ≡ record named { help = Some text }
+    → rule_of new ≡ new_rule version_id → name.now ≡ version_id → rule_of told ≡ version_rule
+version_told new long named told name value text e f g is id =
+    ap rule_of g ∙ (ap rule_of f ∙ ap (λ (a : Rule). record a { value_names = 1 }) (ap rule_of e
+    ∙ ap₂ (λ (a : Rule) (t : Text). record a { long = Some t }) is id))

@@ -1,7 +1,12 @@
 -- The words of the program, as a simple command of `clap`, and the command that they name.
-use Rattle.std.specs.Prelude.{◌≡◌, ◌⊎◌, ⊤, List, [], Bool, true, false, Option, Some, None, codes, is_some, option_map, ◌∷◌, if◌then◌else◌}
+use Rattle.std.specs.Prelude.{◌≡◌, ◌⊎◌, ⊤, List, [], Bool, true, false, Option, Some, None, codes, is_some, option_and_then, option_map, ◌∷◌, ◌||◌, if◌then◌else◌}
+use Rattle.std.specs.Option.{option_map_or}
 use Rattle.std.specs.Str.{bytes_eq}
-use Rattle.clap.specs.Words.{App, Row, Rule, Shape, Text, first_of, new_app, new_rule, with_rule, with_subcommand}
+use Rattle.clap.specs.Words.{App, Kinds, Row, Rule, Shape, Text, fault_of, first_of, new_app, new_rule, subcommand_of, with_rule, with_subcommand}
+use Rattle.clap.specs.Kinds.{or_else}
+use Rattle.clap.specs.declared.error.kind.ErrorKind.TheVariants.{InvalidValue}
+use Rattle.nl_words.specs.declared.version.AskedVersion.{AskedVersion}
+use Rattle.nl_words.specs.declared.version.AskedVersion.TheVariants.{Five, Six, Seven}
 use Rattle.nl_words.specs.declared.command_line.Words.{Words}
 use Rattle.nl_words.specs.declared.command_line.Words.TheVariants.{Show, Check, Hash, Entries, Damage, HashFile, Record, Recompact, Restat, Repair, Replay}
 use Rattle.std.specs.Borrow.{Bor}
@@ -10,14 +15,22 @@ use Rattle.std.specs.Borrow.{Bor}
 abbrev pub positional : Text → Bool → Rule
 positional id required = record (new_rule id) { required = required }
 
+-- the name of the option for a version
+abbrev pub version_id : Text
+version_id = codes "log-version"
+
+-- the option: it has one value
+abbrev pub version_rule : Rule
+version_rule = record (new_rule version_id) { long = Some version_id; value_names = 1 }
+
 abbrev pub show : App
-show = with_rule (new_app (codes "show")) (positional (codes "LOG") false)
+show = with_rule (with_rule (new_app (codes "show")) (positional (codes "LOG") false)) version_rule
 
 abbrev pub check : App
-check = with_rule (new_app (codes "check")) (positional (codes "LOG") false)
+check = with_rule (with_rule (new_app (codes "check")) (positional (codes "LOG") false)) version_rule
 
 abbrev pub hash : App
-hash = with_rule (new_app (codes "hash")) (positional (codes "COMMAND") true)
+hash = with_rule (with_rule (new_app (codes "hash")) (positional (codes "COMMAND") true)) version_rule
 
 abbrev pub entries : App
 entries = with_rule (new_app (codes "entries")) (positional (codes "LOG") false)
@@ -132,3 +145,30 @@ IsSaid (Restat log times) (Some p) = (p.0 ≡ codes "restat")
 IsSaid (Repair log) (Some p) = (p.0 ≡ codes "repair") × IsThere (codes "LOG") p.1 log
 IsSaid (Replay script) (Some p) = (p.0 ≡ codes "replay") × IsGiven (codes "SCRIPT") p.1 script
 IsSaid _ None = ⊥
+
+-- how each version is written
+abbrev pub version_text : AskedVersion → Text
+version_text Five = codes "5"
+version_text Six = codes "6"
+version_text Seven = codes "7"
+
+abbrev pub is_version_text : Text → Bool
+is_version_text text = bytes_eq text (codes "5") || (bytes_eq text (codes "6") || bytes_eq text (codes "7"))
+
+-- the value of the option, where the command that was entered was given it
+abbrev pub asked_text : Option (Text × List Row) → Option Text
+asked_text entered = option_and_then (λ p. first_of version_id p.1) entered
+
+-- the version is the one that is asked for by this value, and none is where there is no value
+abbrev pub IsAsked : Option AskedVersion → Option Text → Type 0
+IsAsked None None = ⊤
+IsAsked (Some version) (Some text) = text ≡ version_text version
+IsAsked _ _ = ⊥
+
+-- the kind of error of a value that is no version
+abbrev pub version_fault : Option Text → Kinds
+version_fault text = if option_map_or is_version_text text true then [] else InvalidValue ∷ []
+
+-- the kinds of error that the words may give: those of clap's definition, and where these are none, that of the version
+abbrev pub fault_in : List Text → Kinds
+fault_in words = or_else (fault_of nlog words) (version_fault (asked_text (subcommand_of nlog words)))

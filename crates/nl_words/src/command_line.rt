@@ -1,9 +1,11 @@
 //! The command that a command line names, and the values that it gives.
-ghost use Rattle.std.specs.Prelude.{◌≡◌, codes, is_some, map, string_bytes, true, IfOk};
-ghost use Rattle.clap.specs.Words.{first_of, found_of, rows_of, subcommand_of, subcommand_rows_of, FailsBy, fault_of};
-ghost use Rattle.nl_words.specs.CommandLine.{nlog, required_of, HasEach, IsGiven, IsSaid, IsThere, IsWhole};
+ghost use Rattle.std.specs.Prelude.{◌≡◌, codes, is_some, map, string_bytes, true, IfErr, IfOk};
+ghost use Rattle.clap.specs.Words.{first_of, found_of, kind_of, rows_of, subcommand_of, subcommand_rows_of, FailsBy};
+ghost use Rattle.nl_words.specs.CommandLine.{asked_text, fault_in, nlog, required_of, version_fault, HasEach, IsAsked, IsGiven, IsSaid, IsThere, IsWhole};
 
 use crate::definition::nlog_command;
+use crate::version::{AskedVersion, version_of};
+use clap::error::ErrorKind;
 use clap::{ArgMatches, Error};
 use std::alloc::Global;
 
@@ -37,15 +39,57 @@ pub enum Words<'a> {
     Replay(Option<&'a str>),
 }
 
+/// What a command line says: a command with its values, and its options.
+#[derive(Clone, Copy, Debug, PartialEq, Eq)]
+pub struct CommandLine<'a> {
+    pub words: Words<'a>,
+    /// The version of the log, where the command line asks for one.
+    pub version: Option<AskedVersion>,
+}
+
 /// Reads a command line, of which the first word is the program's name.
 ///
-/// Help and the version are an `Err` too: its text is what was asked for.
-pub fn read_words<'a>(alloc: Global, words: &'a [String]) -> Result<Words<'a>, Error>
-    ensures value { IfOk result (λ w. IsSaid w (subcommand_of nlog (map string_bytes words.entry.now))) }
-    ensures accepts { FailsBy (fault_of nlog (map string_bytes words.entry.now)) result }
+/// Help and the version of the program are an `Err` too: its text is what was asked for.
+pub fn read_words<'a>(alloc: Global, words: &'a [String]) -> Result<CommandLine<'a>, Error>
+    ensures value { IfOk result (λ line. IsSaid line.words (subcommand_of nlog (map string_bytes words.entry.now))) }
+    ensures version { IfOk result (λ line. IsAsked line.version (asked_text (subcommand_of nlog (map string_bytes words.entry.now)))) }
+    ensures accepts { FailsBy (fault_in (map string_bytes words.entry.now)) result }
 {
     let matches = nlog_command(alloc)?.try_get_matches_from(words)?;
-    Ok(said(&matches))
+    let version = asked(alloc, &matches)?;
+    Ok(CommandLine {
+        words: said(&matches),
+        version,
+    })
+}
+
+// The version that is asked for, where one is.
+fn asked<'a>(alloc: Global, matches: &ArgMatches<'a>) -> Result<Option<AskedVersion>, Error>
+    ensures value { IfOk result (λ version. IsAsked version (asked_text (subcommand_rows_of matches.now))) }
+    ensures accepts { FailsBy (version_fault (asked_text (subcommand_rows_of matches.now))) result }
+{
+    let Some((_, inner)) = matches.subcommand() else {
+        return Ok(None);
+    };
+    let Some(text) = optional(inner, "log-version") else {
+        return Ok(None);
+    };
+    match version_of(text) {
+        Some(version) => Ok(Some(version)),
+        None => Err(no_version(alloc, text)?),
+    }
+}
+
+// What is said of a version that isn't one.
+fn no_version(alloc: Global, text: &str) -> Result<Error, Error>
+    ensures value { IfOk result (λ e. kind_of e ≡ ErrorKind.InvalidValue) }
+    ensures memory { IfErr result (λ e. kind_of e ≡ ErrorKind.OutOfMemory) }
+{
+    let message = format!(in alloc;
+        "invalid value '{text}' for '--log-version <VERSION>': it is 5, 6 or 7"
+    )?;
+    let error = nlog_command(alloc)?.error(ErrorKind::InvalidValue, message.as_str())?;
+    Ok(error)
 }
 
 // The command that was entered, with its values.

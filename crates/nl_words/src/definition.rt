@@ -2,7 +2,7 @@
 ghost use Rattle.std.specs.Prelude.{◌≡◌, IfOk, false};
 ghost use Rattle.clap.specs.Words.{app_of, with_rule, with_subcommand};
 ghost use Rattle.clap.specs.declared.builder.command.Command.TheViews.{out-Command};
-ghost use Rattle.nl_words.specs.CommandLine.{check, damage, entries, hash, hash_file, named, nlog, positional, printing, recompact, record_line, repair, replay, restat, show, telling};
+ghost use Rattle.nl_words.specs.CommandLine.{check, damage, entries, hash, hash_file, named, nlog, positional, printing, recompact, record_line, repair, replay, restat, show, telling, version_rule};
 
 use clap::{Arg, Command};
 use std::alloc::{AllocError, Global};
@@ -33,6 +33,8 @@ const LOG: &str = "A build log of Ninja, version 4 or 5";
 
 const OPTIONAL_LOG: &str =
     "A build log of Ninja, version 4 or 5; standard input where it is left out";
+
+const LOG_VERSION: &str = "5, 6 or 7: the version of LOG; 4 or 5 where it is left out";
 
 /// The whole command line.
 pub fn nlog_command<'a>(alloc: Global) -> Result<Command<'a>, AllocError>
@@ -98,6 +100,21 @@ fn with_value<'a>(
     command.arg(Arg::new(alloc, id).required(required).help(help))
 }
 
+// The command with the option for the version of its logs.
+fn with_version<'a>(
+    alloc: Global,
+    command: Command<'a>,
+    help: &'a str,
+) -> Result<Command<'a>, AllocError>
+    ensures shape { IfOk result (λ c. app_of c ≡ with_rule (app_of command.entry) version_rule) }
+    ensures local { IfOk result (λ c. (out-Command c).has_globals ≡ (out-Command command.entry).has_globals) }
+{
+    let option = Arg::new(alloc, "log-version")
+        .long("log-version")
+        .value_name("VERSION");
+    command.arg(option.help(help))
+}
+
 fn show_command<'a>(alloc: Global) -> Result<Command<'a>, AllocError>
     ensures shape { IfOk result (λ c. app_of c ≡ show) }
     ensures local { IfOk result (λ c. (out-Command c).has_globals ≡ false) }
@@ -117,7 +134,8 @@ MTIME  the time stamp that the build recorded, in the unit of its file system: N
 NAME   the output
 HASH   the hash of the command, in hexadecimal",
         );
-    with_value(alloc, command, "LOG", false, OPTIONAL_LOG)
+    let command = with_value(alloc, command, "LOG", false, OPTIONAL_LOG)?;
+    with_version(alloc, command, LOG_VERSION)
 }
 
 fn check_command<'a>(alloc: Global) -> Result<Command<'a>, AllocError>
@@ -128,14 +146,15 @@ fn check_command<'a>(alloc: Global) -> Result<Command<'a>, AllocError>
         .about("Prints what a log holds: version, total, unique, skipped, torn, due")
         .after_help(
             "\
-version  4 or 5: the log's version
+version  4 or 5: the log's version; 6 or 7 where `--log-version` asks for it
 total    how many of its lines are entries
 unique   how many outputs these entries have
 skipped  how many whole lines after the first are no entries
 torn     how many bytes stand after the last newline
 due      `yes` where a build would recompact the log, else `no`",
         );
-    with_value(alloc, command, "LOG", false, OPTIONAL_LOG)
+    let command = with_value(alloc, command, "LOG", false, OPTIONAL_LOG)?;
+    with_version(alloc, command, LOG_VERSION)
 }
 
 fn hash_command<'a>(alloc: Global) -> Result<Command<'a>, AllocError>
@@ -145,12 +164,17 @@ fn hash_command<'a>(alloc: Global) -> Result<Command<'a>, AllocError>
     let command = Command::new(alloc, "hash").about(
         "Prints the hash of a command as a log holds it, in hexadecimal",
     );
-    with_value(
+    let command = with_value(
         alloc,
         command,
         "COMMAND",
         true,
         "The command's text, as one word",
+    )?;
+    with_version(
+        alloc,
+        command,
+        "5, 6 or 7: the version of the logs that hold the hash; 5 where it is left out",
     )
 }
 

@@ -3,5 +3,7 @@
 
 mod command_line;
 mod definition;
+mod version;
 
-pub use command_line::{Words, read_words};
+pub use command_line::{CommandLine, Words, read_words};
+pub use version::AskedVersion;

@@ -1,0 +1,24 @@
+//! The version of a log that a command line asks for.
+ghost use Rattle.std.specs.Prelude.{◌≡◌, is_some, IfSome};
+ghost use Rattle.nl_words.specs.CommandLine.{is_version_text, version_text};
+
+/// The version of logs that the option `--log-version` names.
+#[derive(Clone, Copy, Debug, PartialEq, Eq)]
+pub enum AskedVersion {
+    Five,
+    Six,
+    Seven,
+}
+
+// The version that is written so.
+pub fn version_of(text: &str) -> Option<AskedVersion>
+    ensures value { IfSome result (λ version. text.now ≡ version_text version) }
+    ensures accepts { is_some result ≡ is_version_text text.now }
+{
+    match text {
+        "5" => Some(AskedVersion::Five),
+        "6" => Some(AskedVersion::Six),
+        "7" => Some(AskedVersion::Seven),
+        _ => None,
+    }
+}
