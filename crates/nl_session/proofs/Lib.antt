@@ -18,3 +18,4 @@ pub mod Smoothly
 pub mod Reopenings
 pub mod EffectLemmas
 pub mod RunLemmas
+pub mod ExchangeLemmas

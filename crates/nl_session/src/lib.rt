@@ -15,6 +15,7 @@ mod restat;
 mod rewrite;
 mod state;
 
+pub use answers::reply_to_event;
 pub use events::{Event, Outcome, Reply, run_events};
 pub use fault::LogFault;
 pub use log::Log;
