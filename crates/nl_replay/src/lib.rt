@@ -2,6 +2,9 @@
 #![tactic(auto)]
 
 mod replay;
+mod reply_line;
 mod script;
 
 pub use replay::replay_to;
+pub use reply_line::{MAX_REPLY_LINE, append_reply};
+pub use script::{Refusal, read_event_line};

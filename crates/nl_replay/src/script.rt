@@ -47,9 +47,9 @@ pub enum Word {
     Crash,
 }
 
-// Why a line isn't taken.
+/// Why a line isn't taken.
 #[derive(Clone, Copy, Drop)]
-enum Refusal {
+pub enum Refusal {
     BadLine,
     OutOfMemory,
 }
@@ -178,6 +178,17 @@ impl Script {
             _ => self.events.push(read_event(alloc, word, rest)?)?,
         }
         Ok(())
+    }
+}
+
+/// The event that a line says, as one of a script.
+pub fn read_event_line(alloc: Global, line: &[u8]) -> Result<Event, Refusal>
+    ensures line { IfOk result (λ event. event_line event ≡ line.now) }
+{
+    let (word, rest) = split_tab(line);
+    match read_word(word) {
+        Some(word) => read_event(alloc, word, rest),
+        None => Err(Refusal::BadLine),
     }
 }
 
