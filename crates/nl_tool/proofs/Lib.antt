@@ -9,3 +9,4 @@ mod RepairLemmas
 pub mod OutputLemmas
 mod VersionLemmas
 mod EndingLemmas
+mod ApplyLemmas

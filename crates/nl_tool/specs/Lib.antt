@@ -8,3 +8,4 @@ pub mod RecordWords
 pub mod Faults
 pub mod Updates
 pub mod Ending
+pub mod Applying

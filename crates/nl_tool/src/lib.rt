@@ -1,6 +1,8 @@
 //! The commands of `nlog`: those that print, over any reader and writer, and those that change a log, over any folder.
 #![tactic(auto)]
 
+mod apply;
+mod asked;
 mod change;
 mod check;
 mod damage;
@@ -22,6 +24,7 @@ mod update;
 mod version_updates;
 mod versions;
 
+pub use apply::apply_on;
 pub use check::{check_as, check_to};
 pub use damage::damage_to;
 pub use ending::{run_line, run_program};

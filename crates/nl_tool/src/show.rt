@@ -35,8 +35,8 @@ pub fn show_to<R: Read + Drop, W: Write>(
 {
     let loaded = load_all(alloc, reader)?;
     // All that the output takes is taken before the first write, so what can fail from here on is a write.
-    let piece = Vec::with_capacity(alloc, PIECE)?;
-    write_lines(&loaded.table, piece, writer)
+    let mut piece = Vec::with_capacity(alloc, PIECE)?;
+    write_lines(&loaded.table, &mut piece, writer)
 }
 
 /// The same of a log of the version.
@@ -52,22 +52,27 @@ pub fn show_as<R: Read + Drop, W: Write>(
     ensures faults { IfErr result IsLogFault }
 {
     let seen = load_as(alloc, version, reader)?;
-    let held = Vec::with_capacity(alloc, PIECE)?;
-    write_lines(&seen.table, held, writer)
+    let mut held = Vec::with_capacity(alloc, PIECE)?;
+    write_lines(&seen.table, &mut held, writer)
 }
 
 // Writes the line of each entry, in order, as many at a time as the piece has room for.
-fn write_lines<W: Write>(table: &Table, mut piece: Vec<u8>, writer: &mut W) -> Result<(), ToolFault>
-    requires empty { piece.items ≡ [] }
-    requires room { MAX_ENTRY_LINE ≤ vec_capacity piece }
+pub fn write_lines<W: Write>(
+    table: &Table,
+    piece: &mut Vec<u8>,
+    writer: &mut W,
+) -> Result<(), ToolFault>
+    requires empty { piece.old.items ≡ [] }
+    requires room { MAX_ENTRY_LINE ≤ vec_capacity piece.old }
+    ensures capacity { vec_capacity piece.old ≤ vec_capacity piece.new }
     ensures ok { OnOk result (Appends (W.contents writer.old) (W.contents writer.new) (joined (map line_of table.now))) }
     ensures prefix { OnErr result (AppendsPrefixOf (W.contents writer.old) (W.contents writer.new) (joined (map line_of table.now))) }
     ensures faults { IfErr result (λ e. e ≡ ToolFault.Write) }
 {
     for place in 0..table.len() {
         if let Some(entry) = table.at(place) {
-            make_room(&mut piece, writer)?;
-            append_entry(&entry, &mut piece).unwrap();
+            make_room(piece, writer)?;
+            append_entry(&entry, piece).unwrap();
         }
     }
     write_out(piece.as_slice(), writer)
@@ -77,6 +82,7 @@ fn write_lines<W: Write>(table: &Table, mut piece: Vec<u8>, writer: &mut W) -> R
 pub fn make_room<W: Write>(held: &mut Vec<u8>, writer: &mut W) -> Result<(), ToolFault>
     requires { MAX_ENTRY_LINE ≤ vec_capacity held.old }
     ensures room { OnOk result (vec_len held.new + MAX_ENTRY_LINE ≤ vec_capacity held.new) }
+    ensures capacity { vec_capacity held.old ≤ vec_capacity held.new }
     ensures moved { OnOk result (Moves (W.contents writer.old) (W.contents writer.new) held.old.items held.new.items) }
     ensures prefix { OnErr result (AppendsPrefixOf (W.contents writer.old) (W.contents writer.new) held.old.items) }
     ensures faults { IfErr result (λ e. e ≡ ToolFault.Write) }

@@ -9,7 +9,7 @@ use Rattle.nl_tool.proofs.show.write_lines.Goals.{in-Some+in_ok-make_room, in_de
 pub returns-in_err-make_room-clause-prefix : goal.returns-in_err-make_room-clause-prefix
 returns-in_err-make_room-clause-prefix g c =
     on_err c.from_residual.result (
-    prefix_after _ _ _ _ _ _ _ (lines_split c.args.table.now c.loop-place.place) c.loop-place.invariant.1 c.in_err-make_room.ensures.prefix
+    prefix_after _ _ _ _ _ _ _ (lines_split c.args.table.now c.loop-place.place) c.loop-place.invariant.2 c.in_err-make_room.ensures.prefix
     )
 
 pub loop-place-preserved : goal.loop-place-preserved
@@ -22,7 +22,8 @@ loop-place-preserved g c =
           let text : joined (map line_of (take (place + 1) table)) ≡ joined (map line_of (take place table)) ++ line = lines_more table place w.in-Some.entry (sym w.in-Some.ensures) in
           let held : c.match-at.piece.items ≡ w.make_room.new.held.items ++ line = ap (λ (v : Vec ℕ Global). v.items) w.piece-is ∙ (rw w.unwrap.ensures at w.append_entry.ensures.ok) in (
             rw w.piece-is (omega (arith, w.in_ok-make_room.ensures.room, w.append_entry.ensures.capacity)),
-            rw (text, held, w.writer-is) (held_more _ _ _ _ line (moved_on _ _ _ _ _ _ c.loop-place.invariant.1 w.in_ok-make_room.ensures.moved)),
+            rw w.piece-is (omega (arith, c.loop-place.invariant.1, w.make_room.ensures.capacity, w.append_entry.ensures.capacity)),
+            rw (text, held, w.writer-is) (held_more _ _ _ _ line (moved_on _ _ _ _ _ _ c.loop-place.invariant.2 w.in_ok-make_room.ensures.moved)),
           )
       | in_default w ↦
           let there : place < length table = omega (arith, c.len-place-end.ensures.count) in
@@ -32,5 +33,5 @@ loop-place-preserved g c =
 pub returns-clause-prefix : goal.returns-clause-prefix
 returns-clause-prefix g c =
     on_err_weaker c.write_out.result
-    (prefix_after _ _ _ _ _ _ _ (lines_split c.args.table.now c.loop-place.place) c.loop-place.invariant.1)
+    (prefix_after _ _ _ _ _ _ _ (lines_split c.args.table.now c.loop-place.place) c.loop-place.invariant.2)
     (rw c.as_slice.ensures.value at c.write_out.ensures.prefix)

@@ -6,5 +6,5 @@ use Rattle.nl_tool.proofs.show.write_lines.Given as goal
 
 -- of the lines of the entries before the place, a prefix is written and the rest is held
 abbrev pub invariant-loop-place : goal.invariant-loop-place
-invariant-loop-place g l = (65599 ≤ vec_capacity l.piece)
+invariant-loop-place g l = (65599 ≤ vec_capacity l.piece) × (vec_capacity l.fn.piece ≤ vec_capacity l.piece)
     × Moves (g.W.Write.contents l.fn.writer) (g.W.Write.contents l.writer) (joined (map line_of (take l.place l.table))) l.piece.items
