@@ -8,5 +8,6 @@ pub mod ChangeLemmas
 mod RepairLemmas
 pub mod OutputLemmas
 mod VersionLemmas
+mod VersionChoiceLemmas
 mod EndingLemmas
 mod ApplyLemmas

@@ -4,6 +4,7 @@ pub mod Streams
 pub mod StreamSteps
 pub mod Loading
 pub mod Versions
+pub mod VersionChoice
 pub mod RecordWords
 pub mod Faults
 pub mod Updates

@@ -21,6 +21,7 @@ mod show;
 mod stream;
 mod times_file;
 mod update;
+mod version_choice;
 mod version_updates;
 mod versions;
 
@@ -39,5 +40,6 @@ pub use nl_words::{AskedVersion, CommandLine, Words, read_words};
 pub use program::{Outcome, run};
 pub use show::{show_as, show_to};
 pub use update::{recompact_on, record_on, repair_on, restat_on};
+pub use version_choice::{VersionChoice, version_of};
 pub use version_updates::{recompact_as, record_as, repair_as, restat_as};
 pub use versions::{command_hash_as, entry_as, hash_as, load_as};
