@@ -1,0 +1,58 @@
+#!/usr/bin/env python3
+"""A small build that keeps its log by `nlog apply`, and goes on where an earlier one ended.
+
+    python3 examples/build.py NLOG LOG COUNT
+
+For each of COUNT outputs it asks the log for the entry. Where that is missing, or has another command's hash, the command is run (here it
+only counts), and its entry recorded. After every 16 commands it syncs, and prints how many outputs then stand, whatever comes.
+"""
+import subprocess
+import sys
+import zlib
+
+
+class Log:
+    """A log that `nlog apply` keeps: a line is asked, and its answer is awaited."""
+
+    def __init__(self, nlog, path):
+        self.nlog = subprocess.Popen([nlog, "apply", path], stdin=subprocess.PIPE, stdout=subprocess.PIPE)
+        self.do("open")
+
+    def ask(self, *fields):
+        self.nlog.stdin.write("\t".join(fields).encode() + b"\n")
+        self.nlog.stdin.flush()
+        answer = self.nlog.stdout.readline().decode()
+        if not answer.endswith("\n"):
+            raise OSError("nlog ended")
+        return answer[:-1]
+
+    def do(self, *fields):
+        answer = self.ask(*fields)
+        if answer != "ok":
+            raise OSError(answer)
+
+    def get(self, name):
+        answer = self.ask("get", name)
+        return None if answer == "none" else answer.split("\t")
+
+
+def entry(i):
+    """The fields of an output's entry. A build of Ninja's logs would take the hash from `nlog hash`."""
+    return str(i), str(i + 5), str(1000 + i), f"out{i}", format(zlib.crc32(b"make out%d" % i), "x")
+
+
+def main(nlog, path, count):
+    log = Log(nlog, path)
+    for i in range(int(count)):
+        if log.get(f"out{i}") != list(entry(i)):
+            log.do("record", *entry(i))
+        if i % 16 == 15:
+            log.do("sync")
+            print(i + 1, flush=True)
+    log.do("sync")
+    log.do("stop")
+    print(count, flush=True)
+
+
+if __name__ == "__main__":
+    main(*sys.argv[1:])

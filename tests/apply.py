@@ -1,0 +1,182 @@
+#!/usr/bin/env python3
+"""Tries `apply`: what is answered to each line, that an answer comes before the next line is read, and a build that is killed and goes on.
+
+    python3 tests/apply.py PROGRAM
+"""
+import os
+import random
+import select
+import signal
+import subprocess
+import sys
+
+from trials import main, read, run, write
+
+BUILD = f"{os.path.dirname(os.path.dirname(os.path.abspath(__file__)))}/examples/build.py"
+HEADER = b"# ninja log v5\n"
+A, B = b"1\t2\t3\ta\taa\n", b"4\t5\t6\tb\tbb\n"
+LONG = b"get\t" + b"x" * 262140
+# What a log holds or None where it is missing, the lines, the answers, the status, what is said of it, and what the log then holds.
+TURNS = [
+    (None, b"", b"", 0, b"", None),
+    (None, b"open\n", b"ok\n", 0, b"", HEADER),
+    (None, b"sync\nstop\nget\ta\ntable\nrecord\t" + A + b"recompact\nrestat\n", b"S1 NotOpen\n" * 7, 0, b"", None),
+    (None, b"open\nopen\n", b"ok\nS2 AlreadyOpen\n", 0, b"", HEADER),
+    (None, b"open\nrecord\t" + A + b"get\ta\nget\tb\ntable\n", b"ok\nok\n" + A + b"none\n" + A + b"end\n", 0, b"", HEADER + A),
+    (HEADER + A, b"open\nrecord\t" + B + b"record\t7\t8\t9\ta\tcc\nget\ta\ntable\nsync\nstop\nget\ta\n",
+     b"ok\nok\nok\n7\t8\t9\ta\tcc\n7\t8\t9\ta\tcc\n" + B + b"end\nok\nok\nS1 NotOpen\n", 0, b"", HEADER + A + B + b"7\t8\t9\ta\tcc\n"),
+    (HEADER + A + B, b"open\nrecompact\tb\ntable\n", b"ok\nok\n" + B + b"end\n", 0, b"", HEADER + B),
+    (HEADER + A, b"open\nrestat\t9\ta\nrestat\t1\ta\t-1\ta\nget\ta\n", b"ok\nok\nS4 NegativeTime 1\n1\t2\t9\ta\taa\n", 0, b"", HEADER + b"1\t2\t9\ta\taa\n"),
+    # A part of a line is cut away by the open, and what is no log is refused and stays.
+    (HEADER + A + b"4\t5\t6\tb", b"open\ntable\n", b"ok\n" + A + b"end\n", 0, b"", HEADER + A),
+    (b"hello\n", b"open\nget\ta\n", b"S5 NotALog\nS1 NotOpen\n", 0, b"", b"hello\n"),
+    (b"# ninja log v6\n", b"open\n", b"S6 OtherVersion\n", 0, b"", b"# ninja log v6\n"),
+    (HEADER + A, b"stop\nopen\nstop\nopen\nget\ta\n", b"S1 NotOpen\nok\nok\nok\n" + A, 0, b"", HEADER + A),
+    # A line that is too long, and the longest one.
+    (HEADER, b"open\n" + LONG + b"\nget\t" + b"x" * 262139 + b"\nget\ta\n", b"ok\nbad line\nnone\nnone\n", 0, b"", HEADER),
+    # A line that is cut off is not done, however it looks.
+    (HEADER, b"open\nrecord\t1\t2\t3\ta\taa", b"ok\nbad line\n", 0, b"", HEADER),
+    (HEADER, b"open\nget\ta", b"ok\nbad line\n", 0, b"", HEADER),
+]
+BAD = [b"", b"opens", b"open\t", b"open\t\t", b"get", b"gets\ta", b"table\t", b"table\ta", b"sync\t", b"stop\ta", b"crash", b"writes\t1", b"fates\t1", b"tails\t1",
+       b"fuse\tany\t1", b"record", b"record\t1\t2\t3\ta", b"record\t01\t2\t3\ta\taa", b"record\t1\t2\t3\t\taa", b"restat\t1", b"restat\tx\ta", b"recompact\t", b" sync"]
+
+
+def apply(program, log, lines, **how):
+    return run([program, "apply", log], input=lines, stdin=None, **how)
+
+
+def turns(trials, program, room):
+    log = f"{room}/turns.log"
+    cases = TURNS + [(HEADER + A, b"open\n" + bad + b"\nget\ta\n", b"ok\nbad line\n" + A, 0, b"", HEADER + A) for bad in BAD]
+    for held, lines, answers, status, said, left in cases:
+        what = lines[:60]
+        if os.path.exists(log):
+            os.remove(log)
+        if held is not None:
+            write(log, held)
+        trials.want(f"the answers to {what}", apply(program, log, lines), (status, answers, said))
+        trials.want(f"the log behind {what}", read(log) if os.path.exists(log) else None, left)
+
+
+def start(program, log):
+    return subprocess.Popen([program, "apply", log], stdin=subprocess.PIPE, stdout=subprocess.PIPE, stderr=subprocess.PIPE, bufsize=0)
+
+
+def heard(child, seconds):
+    """What the program says within this time."""
+    ready = select.select([child.stdout], [], [], seconds)[0]
+    return os.read(child.stdout.fileno(), 1 << 20) if ready else None
+
+
+def prompt(trials, program, room):
+    """An answer comes while the input stays open, and none before its line is whole."""
+    log = f"{room}/prompt.log"
+    child = start(program, log)
+    for line, answer in [(b"open\n", b"ok\n"), (b"record\t" + A, b"ok\n"), (b"get\ta\n", A), (b"get\tb\n", b"none\n"), (b"\n", b"bad line\n"), (b"sync\n", b"ok\n")]:
+        child.stdin.write(line)
+        trials.want(f"the answer to {line} through a pipe", heard(child, 20), answer)
+    child.stdin.write(b"syn")
+    trials.want("the answer to a part of a line", heard(child, 0.2), None)
+    child.stdin.write(b"c\nget\tb\nget\ta\n")
+    said = b""
+    while len(said) < len(b"ok\nnone\n" + A):
+        more = heard(child, 20)
+        if not more:
+            break
+        said += more
+    trials.want("the answers to lines that come at once", said, b"ok\nnone\n" + A)
+    trials.want("what is on disk while the input is open", read(log), HEADER + A)
+    child.stdin.close()
+    trials.want("the status at the end", child.wait(20), 0)
+    child.stdout.close()
+    child.stderr.close()
+
+
+def closed(trials, program, room):
+    """Standard output that is closed or full ends it, and what was answered or done before stands."""
+    log = f"{room}/closed.log"
+    child = start(program, log)
+    child.stdin.write(b"open\nrecord\t" + A)
+    said = b""
+    while said != b"ok\nok\n":
+        said += heard(child, 20) or b"?"
+        if b"?" in said:
+            break
+    child.stdout.close()
+    child.stdin.write(b"record\t" + B)
+    trials.want("the status where standard output is closed", child.wait(20), 1)
+    trials.want("what is said of it", child.stderr.read(), b"nlog: cannot write\n")
+    child.stderr.close()
+    child.stdin.close()
+    trials.want("the log where standard output is closed", read(log), HEADER + A + B)
+    if os.path.exists("/dev/full"):
+        with open("/dev/full", "wb") as full:
+            ran = run([program, "apply", log], input=b"open\nrecord\t7\t8\t9\tc\tcc\n", stdin=None, stdout=full, capture_output=False, stderr=subprocess.PIPE)
+        trials.want("the end where standard output is full", (ran[0], ran[2]), (1, b"nlog: cannot write\n"))
+        trials.want("the log where standard output is full", read(log), HEADER + A + B)
+    trials.want("the answers where LOG's folder is missing", apply(program, f"{room}/gone/log", b"open\nget\ta\n"), (0, b"S8 Fault\nS1 NotOpen\n", b""))
+
+
+def wanted(count):
+    """The lines of the entries of the build, by name, from its own definition."""
+    sys.path.insert(0, os.path.dirname(BUILD))
+    from build import entry
+    return {entry(i)[3]: "\t".join(entry(i)) for i in range(count)}
+
+
+def killed(trials, program, room):
+    """A build of 10,000 commands that is killed at random moments, with its nlog, without it, or its nlog alone, and then goes on."""
+    log, count, chance = f"{room}/build.log", 10000, random.Random(25)
+    lines = wanted(count)
+    kills = stood = 0
+    while True:
+        child = subprocess.Popen([sys.executable, BUILD, program, log, str(count)], stdout=subprocess.PIPE, stderr=subprocess.PIPE, start_new_session=True)
+        kind = kills % 3 if kills < 30 else 3
+        if kind < 3:
+            try:
+                child.wait(0.05 + chance.random() * 0.4)
+            except subprocess.TimeoutExpired:
+                if kind == 0:
+                    os.killpg(child.pid, signal.SIGKILL)
+                elif kind == 1:
+                    child.kill()
+                else:
+                    end_below(child.pid)
+        # Standard error ends when the build and its nlog have both ended.
+        out = child.communicate()[0].split()
+        stood = max([stood] + [int(it) for it in out])
+        shown = run([program, "show", log])[1].decode().splitlines() if os.path.exists(log) else []
+        names = {it.split("\t")[3]: it for it in shown}
+        bad = [it for name, it in names.items() if lines.get(name) != it]
+        missing = [f"out{i}" for i in range(stood) if f"out{i}" not in names]
+        trials.check(f"the log after kill {kills}", not bad and not missing, f"not written: {bad[:3]}; missing: {missing[:3]}")
+        if child.returncode == 0:
+            break
+        kills += 1
+        if kills > 60:
+            break
+    trials.want("the log of the whole build", run([program, "show", log])[1].decode().splitlines(), list(lines.values()))
+    trials.check("the build was killed", kills >= 10, f"{kills} kills")
+
+
+def end_below(pid):
+    """Kills the one process that this one started."""
+    for child in read(f"/proc/{pid}/task/{pid}/children").split():
+        try:
+            os.kill(int(child), signal.SIGKILL)
+        except ProcessLookupError:
+            pass
+
+
+def trial(trials, program, room):
+    if b"apply" not in run([program, "--help"])[1]:
+        return trials.skip("all", "the program has no word `apply`")
+    turns(trials, program, room)
+    prompt(trials, program, room)
+    closed(trials, program, room)
+    killed(trials, program, room)
+
+
+if __name__ == "__main__":
+    sys.exit(main(__file__, trial))
