@@ -10,7 +10,7 @@ use Rattle.nl_tool.specs.declared.program.Outcome.{Outcome}
 use Rattle.nl_tool.specs.declared.program.Outcome.TheVariants.{Done, Damaged}
 use Rattle.nl_words.specs.CommandLine.{IsSaid}
 use Rattle.nl_words.specs.declared.command_line.Words.{Words}
-use Rattle.nl_words.specs.declared.command_line.Words.TheVariants.{Show, Check, Hash, Entries, Damage, HashFile, Record, Recompact, Restat, Repair, Replay}
+use Rattle.nl_words.specs.declared.command_line.Words.TheVariants.{Show, Check, Hash, Entries, Damage, HashFile, Record, Recompact, Restat, Repair, Replay, Apply}
 
 pub IsStatusBy_kind : (kinds : Kinds) (entered : Option (Text × List Row)) (e : Error) (status : ℕ) → HasKind kinds e → IsStatusOfKind (kind_of e) status → IsStatusBy kinds entered status
 IsStatusBy_kind [] entered e status (inl memory) s = inl (inr (subst (λ k. IsStatusOfKind k status) memory s))
@@ -32,6 +32,7 @@ names_damage (Recompact log keep) entered said asks = absurd asks
 names_damage (Restat log times) entered said asks = absurd asks
 names_damage (Repair log) entered said asks = absurd asks
 names_damage (Replay script) entered said asks = absurd asks
+names_damage (Apply log script) entered said asks = absurd asks
 
 -- the status after a command
 pub command_ended : (kinds : Kinds) (w : Words) (entered : Option (Text × List Row)) (answer : Result Outcome ToolFault) (status : ℕ) → kinds ≡ [] → IsSaid w entered → IfOk answer (λ outcome. outcome ≡ Damaged → AsksForDamage w)

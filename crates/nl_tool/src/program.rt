@@ -1,22 +1,25 @@
 //! What the program does once its words are read.
-ghost use Rattle.std.specs.Prelude.{◌≡◌, ◌<◌, ◌↔◌, ℕ, List, IfErr, IfOk, MatchResult, OnOk, length};
-ghost use Rattle.nl_tool.specs.Faults.{AsksForDamage, CanBeDone, IsFaultOf, IsLogFault, IsPrinting, IsRecompactFault, IsRecordFault, IsRestatFault, ReadsLog};
+ghost use Rattle.std.specs.Prelude.{◌≡◌, ◌<◌, ◌↔◌, ℕ, List, Some, None, IfErr, IfOk, MatchResult, OnOk, length};
+ghost use Rattle.nl_tool.specs.Faults.{AsksForDamage, CanBeDone, IsApplyFault, IsFaultOf, IsLogFault, IsPrinting, IsRecompactFault, IsRecordFault, IsRestatFault, ReadsLog};
 ghost use Rattle.nl_texts.specs.Output.{Prints};
 ghost use Rattle.std.specs.Io.KnownBytes.{Appends};
 ghost use Rattle.nl_tool.specs.Output.{IsAnswer, IsTextFor};
 ghost use Rattle.nl_tool.specs.Streams.{IsSoFar, damaged};
 ghost use Rattle.nl_tool.specs.Versions.{log_version, IsAnswerAs, IsAnswerOf};
 ghost use Rattle.nl_texts.specs.declared.fault.ToolFault.{ToolFault};
+ghost use Rattle.nl_lines.specs.declared.version.LogVersion.{LogVersion};
+ghost use Rattle.nl_words.specs.declared.version.AskedVersion.{AskedVersion};
 
+use crate::apply::apply_on;
 use crate::check::{check_as, check_to};
 use crate::damage::damage_to;
 use crate::entries::entries_to;
 use crate::hash::hash_to;
 use crate::hash_file::hash_file_to;
-use crate::record_words::entry_of;
 use crate::show::{show_as, show_to};
-use crate::update::{recompact_on, record_on, repair_on, restat_on};
-use crate::versions::hash_as;
+use crate::update::repair_on;
+use crate::version_updates::{recompact_as, record_as, restat_as};
+use crate::versions::{entry_as, hash_as};
 use nl_disk::DiskFolder;
 use nl_fields::EntryRef;
 use nl_lines::LogVersion;
@@ -82,12 +85,20 @@ fn run_command<R: Runtime>(
             name,
             command,
         } => {
-            let entry = entry_of(start, end, mtime, name, command)?;
-            record_in(rt, alloc, log, &entry)
+            let version = version_or_five(version);
+            let entry = entry_as(version, start, end, mtime, name, command)?;
+            record_in(rt, alloc, version, log, &entry)
         }
-        Words::Recompact { log, keep } => recompact_in(rt, alloc, log, keep),
-        Words::Restat { log, times } => restat_in(rt, alloc, log, times),
+        Words::Recompact { log, keep } => recompact_in(
+            rt,
+            alloc,
+            version_or_five(version),
+            log,
+            keep,
+        ),
+        Words::Restat { log, times } => restat_in(rt, alloc, version_or_five(version), log, times),
         Words::Repair(log) => repair_in(rt, alloc, log),
+        Words::Apply { log, script } => apply_in(rt, alloc, log, script),
     }
 }
 
@@ -194,7 +205,8 @@ fn answer_plain<R: Read + Drop, W: Write>(
         | Words::Record { .. }
         | Words::Recompact { .. }
         | Words::Restat { .. }
-        | Words::Repair(_) => unreachable!(),
+        | Words::Repair(_)
+        | Words::Apply { .. } => unreachable!(),
     }
 }
 
@@ -221,7 +233,8 @@ fn answer_as<R: Read + Drop, W: Write>(
         | Words::Record { .. }
         | Words::Recompact { .. }
         | Words::Restat { .. }
-        | Words::Repair(_) => unreachable!(),
+        | Words::Repair(_)
+        | Words::Apply { .. } => unreachable!(),
     }
 }
 
@@ -235,27 +248,74 @@ fn version_of(asked: AskedVersion) -> LogVersion
     }
 }
 
-fn record_in<R: Files>(rt: &R, alloc: Global, log: &str, entry: &EntryRef) -> Result<(), ToolFault>
+// A log is one of version 5, or 4, where no version is asked for.
+fn version_or_five(version: Option<AskedVersion>) -> LogVersion
+    ensures none { version ≡ None → result ≡ LogVersion.Five }
+    ensures asked { (asked : AskedVersion) → version ≡ Some asked → result ≡ log_version asked }
+{
+    match version {
+        Some(asked) => version_of(asked),
+        None => LogVersion::Five,
+    }
+}
+
+fn record_in<R: Files>(
+    rt: &R,
+    alloc: Global,
+    version: LogVersion,
+    log: &str,
+    entry: &EntryRef,
+) -> Result<(), ToolFault>
     ensures faults { IfErr result IsRecordFault }
 {
     let folder = DiskFolder::new(rt, alloc, log)?;
-    record_on(alloc, folder, entry).1
+    record_as(alloc, version, folder, entry).1
 }
 
-fn recompact_in<R: Files>(rt: &R, alloc: Global, log: &str, keep: &str) -> Result<(), ToolFault>
+fn recompact_in<R: Files>(
+    rt: &R,
+    alloc: Global,
+    version: LogVersion,
+    log: &str,
+    keep: &str,
+) -> Result<(), ToolFault>
     ensures faults { IfErr result IsRecompactFault }
 {
     let names = open(rt, keep)?;
     let folder = DiskFolder::new(rt, alloc, log)?;
-    recompact_on(alloc, folder, names).1
+    recompact_as(alloc, version, folder, names).1
 }
 
-fn restat_in<R: Files>(rt: &R, alloc: Global, log: &str, times: &str) -> Result<(), ToolFault>
+fn restat_in<R: Files>(
+    rt: &R,
+    alloc: Global,
+    version: LogVersion,
+    log: &str,
+    times: &str,
+) -> Result<(), ToolFault>
     ensures faults { IfErr result IsRestatFault }
 {
     let pairs = open(rt, times)?;
     let folder = DiskFolder::new(rt, alloc, log)?;
-    restat_on(alloc, folder, pairs).1
+    restat_as(alloc, version, folder, pairs).1
+}
+
+fn apply_in<R: Runtime>(
+    rt: &R,
+    alloc: Global,
+    log: &str,
+    script: Option<&str>,
+) -> Result<(), ToolFault>
+    ensures faults { IfErr result IsApplyFault }
+{
+    let mut out = io::writer(rt);
+    let Some(path) = script else {
+        let folder = DiskFolder::new(rt, alloc, log)?;
+        return apply_on(alloc, folder, rt.reader(), &mut out).1;
+    };
+    let lines = open(rt, path)?;
+    let folder = DiskFolder::new(rt, alloc, log)?;
+    apply_on(alloc, folder, lines, &mut out).1
 }
 
 fn repair_in<R: Files>(rt: &R, alloc: Global, log: &str) -> Result<(), ToolFault>

@@ -77,8 +77,11 @@ built_own = (
                   (
                     record { named = inr (inr (inr (inr (inr (inr (inr (inr (inr (inl refl))))))))); plain = refl; negates = refl; needs = λ rows h. h },
                     (
-                      record { named = inr (inr (inr (inr (inr (inr (inr (inr (inr (inr (refl)))))))))); plain = refl; negates = refl; needs = λ rows h. refl },
-                      tt,
+                      record { named = inr (inr (inr (inr (inr (inr (inr (inr (inr (inr (inl refl)))))))))); plain = refl; negates = refl; needs = λ rows h. refl },
+                      (
+                        record { named = inr (inr (inr (inr (inr (inr (inr (inr (inr (inr (inr (refl))))))))))); plain = refl; negates = refl; needs = λ rows h. h },
+                        tt,
+                      ),
                     ),
                   ),
                 ),
@@ -106,18 +109,19 @@ pub only_show : (name : Text) → IsCommandName name
     → (name ≡ codes "check" → ⊥) → (name ≡ codes "hash" → ⊥) → (name ≡ codes "entries" → ⊥)
     → (name ≡ codes "damage" → ⊥) → (name ≡ codes "hash-file" → ⊥) → (name ≡ codes "record" → ⊥)
     → (name ≡ codes "recompact" → ⊥) → (name ≡ codes "restat" → ⊥) → (name ≡ codes "repair" → ⊥)
-    → (name ≡ codes "replay" → ⊥) → name ≡ codes "show"
-only_show name (inl h) a b c d e f k m n o = h
-only_show name (inr (inl h)) a b c d e f k m n o = absurd (a h)
-only_show name (inr (inr (inl h))) a b c d e f k m n o = absurd (b h)
-only_show name (inr (inr (inr (inl h)))) a b c d e f k m n o = absurd (c h)
-only_show name (inr (inr (inr (inr (inl h))))) a b c d e f k m n o = absurd (d h)
-only_show name (inr (inr (inr (inr (inr (inl h)))))) a b c d e f k m n o = absurd (e h)
-only_show name (inr (inr (inr (inr (inr (inr (inl h))))))) a b c d e f k m n o = absurd (f h)
-only_show name (inr (inr (inr (inr (inr (inr (inr (inl h)))))))) a b c d e f k m n o = absurd (k h)
-only_show name (inr (inr (inr (inr (inr (inr (inr (inr (inl h))))))))) a b c d e f k m n o = absurd (m h)
-only_show name (inr (inr (inr (inr (inr (inr (inr (inr (inr (inl h)))))))))) a b c d e f k m n o = absurd (n h)
-only_show name (inr (inr (inr (inr (inr (inr (inr (inr (inr (inr (h))))))))))) a b c d e f k m n o = absurd (o h)
+    → (name ≡ codes "replay" → ⊥) → (name ≡ codes "apply" → ⊥) → name ≡ codes "show"
+only_show name (inl h) a b c d e f k m n o q = h
+only_show name (inr (inl h)) a b c d e f k m n o q = absurd (a h)
+only_show name (inr (inr (inl h))) a b c d e f k m n o q = absurd (b h)
+only_show name (inr (inr (inr (inl h)))) a b c d e f k m n o q = absurd (c h)
+only_show name (inr (inr (inr (inr (inl h))))) a b c d e f k m n o q = absurd (d h)
+only_show name (inr (inr (inr (inr (inr (inl h)))))) a b c d e f k m n o q = absurd (e h)
+only_show name (inr (inr (inr (inr (inr (inr (inl h))))))) a b c d e f k m n o q = absurd (f h)
+only_show name (inr (inr (inr (inr (inr (inr (inr (inl h)))))))) a b c d e f k m n o q = absurd (k h)
+only_show name (inr (inr (inr (inr (inr (inr (inr (inr (inl h))))))))) a b c d e f k m n o q = absurd (m h)
+only_show name (inr (inr (inr (inr (inr (inr (inr (inr (inr (inl h)))))))))) a b c d e f k m n o q = absurd (n h)
+only_show name (inr (inr (inr (inr (inr (inr (inr (inr (inr (inr (inl h))))))))))) a b c d e f k m n o q = absurd (o h)
+only_show name (inr (inr (inr (inr (inr (inr (inr (inr (inr (inr (inr (h)))))))))))) a b c d e f k m n o q = absurd (q h)
 
 -- an error that is passed on has the kind that it had
 pub fails_on : {T : Type 0} (r : Result T Error) (e : Error) (kinds : Kinds) → IsErrAnd r (λ x. x ≡ e)

@@ -4,11 +4,12 @@ use Rattle.std.specs.Option.{option_map_or}
 use Rattle.std.specs.Str.{bytes_eq}
 use Rattle.clap.specs.Words.{App, Kinds, Row, Rule, Shape, Text, fault_of, first_of, new_app, new_rule, subcommand_of, with_rule, with_subcommand}
 use Rattle.clap.specs.Kinds.{or_else}
+use Rattle.clap.specs.declared.builder.action.ArgAction.TheVariants.{SetTrue}
 use Rattle.clap.specs.declared.error.kind.ErrorKind.TheVariants.{InvalidValue}
 use Rattle.nl_words.specs.declared.version.AskedVersion.{AskedVersion}
 use Rattle.nl_words.specs.declared.version.AskedVersion.TheVariants.{Five, Six, Seven}
 use Rattle.nl_words.specs.declared.command_line.Words.{Words}
-use Rattle.nl_words.specs.declared.command_line.Words.TheVariants.{Show, Check, Hash, Entries, Damage, HashFile, Record, Recompact, Restat, Repair, Replay}
+use Rattle.nl_words.specs.declared.command_line.Words.TheVariants.{Show, Check, Hash, Entries, Damage, HashFile, Record, Recompact, Restat, Repair, Replay, Apply}
 use Rattle.std.specs.Borrow.{Bor}
 
 -- a value that stands by its place
@@ -41,8 +42,9 @@ damage = with_rule (new_app (codes "damage")) (positional (codes "LOG") false)
 abbrev pub hash_file : App
 hash_file = with_rule (new_app (codes "hash-file")) (positional (codes "FILE") false)
 
-abbrev pub record_line : App
-record_line = with_rule (with_rule (with_rule (with_rule (with_rule (with_rule
+-- `record` with its values
+abbrev pub record_values : App
+record_values = with_rule (with_rule (with_rule (with_rule (with_rule (with_rule
     (new_app (codes "record"))
     (positional (codes "LOG") true))
     (positional (codes "START") true))
@@ -51,21 +53,31 @@ record_line = with_rule (with_rule (with_rule (with_rule (with_rule (with_rule
     (positional (codes "NAME") true))
     (positional (codes "COMMAND") true)
 
+abbrev pub record_line : App
+record_line = with_rule record_values version_rule
+
 abbrev pub recompact : App
-recompact = with_rule (with_rule (new_app (codes "recompact"))
+recompact = with_rule (with_rule (with_rule (new_app (codes "recompact"))
     (positional (codes "LOG") true))
-    (positional (codes "KEEP") true)
+    (positional (codes "KEEP") true))
+    version_rule
 
 abbrev pub restat : App
-restat = with_rule (with_rule (new_app (codes "restat"))
+restat = with_rule (with_rule (with_rule (new_app (codes "restat"))
     (positional (codes "LOG") true))
-    (positional (codes "TIMES") true)
+    (positional (codes "TIMES") true))
+    version_rule
 
 abbrev pub repair : App
 repair = with_rule (new_app (codes "repair")) (positional (codes "LOG") true)
 
 abbrev pub replay : App
 replay = with_rule (new_app (codes "replay")) (positional (codes "SCRIPT") false)
+
+abbrev pub apply : App
+apply = with_rule (with_rule (new_app (codes "apply"))
+    (positional (codes "LOG") true))
+    (positional (codes "SCRIPT") false)
 
 -- the program by its name: it has a version and no subcommand `help`
 abbrev pub named : App
@@ -83,15 +95,15 @@ telling = with_subcommand (with_subcommand (with_subcommand printing entries.top
 
 -- the program, with its commands in the order of its help
 abbrev pub nlog : App
-nlog = with_subcommand (with_subcommand (with_subcommand (with_subcommand (with_subcommand telling
-    record_line.top) recompact.top) restat.top) repair.top) replay.top
+nlog = with_subcommand (with_subcommand (with_subcommand (with_subcommand (with_subcommand (with_subcommand telling
+    record_line.top) recompact.top) restat.top) repair.top) replay.top) apply.top
 
 -- the commands that the program has
 abbrev pub IsCommandName : Text → Type 0
 IsCommandName name = (name ≡ codes "show") ⊎ ((name ≡ codes "check") ⊎ ((name ≡ codes "hash")
     ⊎ ((name ≡ codes "entries") ⊎ ((name ≡ codes "damage") ⊎ ((name ≡ codes "hash-file")
     ⊎ ((name ≡ codes "record") ⊎ ((name ≡ codes "recompact") ⊎ ((name ≡ codes "restat")
-    ⊎ ((name ≡ codes "repair") ⊎ (name ≡ codes "replay"))))))))))
+    ⊎ ((name ≡ codes "repair") ⊎ ((name ≡ codes "replay") ⊎ (name ≡ codes "apply")))))))))))
 
 -- the values that a command can't be without, by its rules
 abbrev pub required_ids : List Rule → List Text
@@ -144,6 +156,8 @@ IsSaid (Restat log times) (Some p) = (p.0 ≡ codes "restat")
     × IsThere (codes "LOG") p.1 log × IsThere (codes "TIMES") p.1 times
 IsSaid (Repair log) (Some p) = (p.0 ≡ codes "repair") × IsThere (codes "LOG") p.1 log
 IsSaid (Replay script) (Some p) = (p.0 ≡ codes "replay") × IsGiven (codes "SCRIPT") p.1 script
+IsSaid (Apply log script) (Some p) = (p.0 ≡ codes "apply")
+    × IsThere (codes "LOG") p.1 log × IsGiven (codes "SCRIPT") p.1 script
 IsSaid _ None = ⊥
 
 -- how each version is written

@@ -37,6 +37,10 @@ pub enum Words<'a> {
     },
     Repair(&'a str),
     Replay(Option<&'a str>),
+    Apply {
+        log: &'a str,
+        script: Option<&'a str>,
+    },
 }
 
 /// What a command line says: a command with its values, and its options.
@@ -111,6 +115,7 @@ fn said<'a>(matches: &ArgMatches<'a>) -> Words<'a>
         "restat" => restat_words(inner),
         "repair" => repair_words(inner),
         "replay" => Words::Replay(optional(inner, "SCRIPT")),
+        "apply" => apply_words(inner),
         _ => Words::Show(optional(inner, "LOG")),
     }
 }
@@ -161,6 +166,16 @@ fn repair_words<'a>(inner: &ArgMatches<'a>) -> Words<'a>
     ensures value { IsSaid result (Some (codes "repair", rows_of (found_of inner.now))) }
 {
     Words::Repair(value(inner, "LOG"))
+}
+
+fn apply_words<'a>(inner: &ArgMatches<'a>) -> Words<'a>
+    requires { HasEach (required_of (codes "apply")) (rows_of (found_of inner.now)) }
+    ensures value { IsSaid result (Some (codes "apply", rows_of (found_of inner.now))) }
+{
+    Words::Apply {
+        log: value(inner, "LOG"),
+        script: optional(inner, "SCRIPT"),
+    }
 }
 
 // The value of an argument that may be left out.

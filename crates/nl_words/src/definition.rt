@@ -2,7 +2,7 @@
 ghost use Rattle.std.specs.Prelude.{◌≡◌, IfOk, false};
 ghost use Rattle.clap.specs.Words.{app_of, with_rule, with_subcommand};
 ghost use Rattle.clap.specs.declared.builder.command.Command.TheViews.{out-Command};
-ghost use Rattle.nl_words.specs.CommandLine.{check, damage, entries, hash, hash_file, named, nlog, positional, printing, recompact, record_line, repair, replay, restat, show, telling, version_rule};
+ghost use Rattle.nl_words.specs.CommandLine.{apply, check, damage, entries, hash, hash_file, named, nlog, positional, printing, recompact, record_line, record_values, repair, replay, restat, show, telling, version_rule};
 
 use clap::{Arg, Command};
 use std::alloc::{AllocError, Global};
@@ -45,7 +45,8 @@ pub fn nlog_command<'a>(alloc: Global) -> Result<Command<'a>, AllocError>
     let nlog = with_command(nlog, recompact_command(alloc)?)?;
     let nlog = with_command(nlog, restat_command(alloc)?)?;
     let nlog = with_command(nlog, repair_command(alloc)?)?;
-    with_command(nlog, replay_command(alloc)?)
+    let nlog = with_command(nlog, replay_command(alloc)?)?;
+    with_command(nlog, apply_command(alloc)?)
 }
 
 // The program with the commands that change no file, but for `replay`.
@@ -230,8 +231,9 @@ fn hash_file_command<'a>(alloc: Global) -> Result<Command<'a>, AllocError>
     )
 }
 
-fn record_command<'a>(alloc: Global) -> Result<Command<'a>, AllocError>
-    ensures shape { IfOk result (λ c. app_of c ≡ record_line) }
+// `record` with its values.
+fn record_values<'a>(alloc: Global) -> Result<Command<'a>, AllocError>
+    ensures shape { IfOk result (λ c. app_of c ≡ record_values) }
     ensures local { IfOk result (λ c. (out-Command c).has_globals ≡ false) }
 {
     let command = Command::new(alloc, "record")
@@ -277,6 +279,13 @@ Nothing else may change LOG meanwhile: a build, or another nlog.",
     )
 }
 
+fn record_command<'a>(alloc: Global) -> Result<Command<'a>, AllocError>
+    ensures shape { IfOk result (λ c. app_of c ≡ record_line) }
+    ensures local { IfOk result (λ c. (out-Command c).has_globals ≡ false) }
+{
+    with_version(alloc, record_values(alloc)?, LOG_VERSION)
+}
+
 fn recompact_command<'a>(alloc: Global) -> Result<Command<'a>, AllocError>
     ensures shape { IfOk result (λ c. app_of c ≡ recompact) }
     ensures local { IfOk result (λ c. (out-Command c).has_globals ≡ false) }
@@ -291,13 +300,14 @@ that makes KEEP for a build by Ninja. The new log is written to LOG.recompact, a
 Nothing else may change LOG meanwhile: a build, or another nlog.",
         );
     let command = with_value(alloc, command, "LOG", true, LOG)?;
-    with_value(
+    let command = with_value(
         alloc,
         command,
         "KEEP",
         true,
         "A file with the name of one output a line",
-    )
+    )?;
+    with_version(alloc, command, LOG_VERSION)
 }
 
 fn restat_command<'a>(alloc: Global) -> Result<Command<'a>, AllocError>
@@ -314,13 +324,14 @@ passed over. The new log is written to LOG.recompact, and renamed over LOG.
 Nothing else may change LOG meanwhile: a build, or another nlog.",
         );
     let command = with_value(alloc, command, "LOG", true, LOG)?;
-    with_value(
+    let command = with_value(
         alloc,
         command,
         "TIMES",
         true,
         "A file with a time stamp, a tab and a name a line",
-    )
+    )?;
+    with_version(alloc, command, LOG_VERSION)
 }
 
 fn repair_command<'a>(alloc: Global) -> Result<Command<'a>, AllocError>
@@ -346,6 +357,23 @@ fn replay_command<'a>(alloc: Global) -> Result<Command<'a>, AllocError>
     let command = Command::new(alloc, "replay").about(
         "Runs the events of a script on a log in memory, and prints the replies and that log",
     );
+    with_value(
+        alloc,
+        command,
+        "SCRIPT",
+        false,
+        "The script; standard input where it is left out",
+    )
+}
+
+fn apply_command<'a>(alloc: Global) -> Result<Command<'a>, AllocError>
+    ensures shape { IfOk result (λ c. app_of c ≡ apply) }
+    ensures local { IfOk result (λ c. (out-Command c).has_globals ≡ false) }
+{
+    let command = Command::new(alloc, "apply").about(
+        "Runs the events of a script on a log, and prints the reply to each before it reads the next",
+    );
+    let command = with_value(alloc, command, "LOG", true, LOG)?;
     with_value(
         alloc,
         command,

@@ -31,6 +31,11 @@ repair_words-requires c =
     let met = c.in-Some in
     entered_has c.args.matches.now met.name.now (rows_of (found_of met.inner.now)) met.ensures.name met.ensures.rows c.requires (codes "repair") c.in-repair.is
 
+pub apply_words-requires : goal.apply_words-requires
+apply_words-requires c =
+    let met = c.in-Some in
+    entered_has c.args.matches.now met.name.now (rows_of (found_of met.inner.now)) met.ensures.name met.ensures.rows c.requires (codes "apply") c.in-apply.is
+
 pub returns-in_default-name : goal.returns-in_default-name
 returns-in_default-name c =
     let met = c.in-Some in
@@ -38,5 +43,5 @@ returns-in_default-name c =
     let e = entered_is c.args.matches.now met.name.now (rows_of (found_of met.inner.now)) met.ensures.name met.ensures.rows in
     let whole = subst IsWhole e c.requires in
     let is_show : met.name.now ≡ codes "show" = only_show _ whole.0 other.not-check other.not-hash other.not-entries other.not-damage other.not-text
-    other.not-record other.not-recompact other.not-restat other.not-repair other.not-replay in
+    other.not-record other.not-recompact other.not-restat other.not-repair other.not-replay other.not-apply in
     record { value = subst (IsSaid (Show c.optional-in_default-name.result)) (sym e) (is_show, c.optional-in_default-name.ensures) }

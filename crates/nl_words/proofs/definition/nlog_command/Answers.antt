@@ -8,5 +8,6 @@ returns c =
     let three = joined _ _ _ _ _ c.in_ok-nlog-3.ensures two c.in_ok-recompact_command.ensures.shape in
     let four = joined _ _ _ _ _ c.in_ok-nlog-4.ensures three c.in_ok-restat_command.ensures.shape in
     let five = joined _ _ _ _ _ c.in_ok-nlog-5.ensures four c.in_ok-repair_command.ensures.shape in
-    IfOk-weaker c.with_command-5.result _ _ (λ r h.
-    joined _ _ _ _ _ h five c.in_ok-replay_command.ensures.shape) c.with_command-5.ensures
+    let six = joined _ _ _ _ _ c.in_ok-nlog-6.ensures five c.in_ok-replay_command.ensures.shape in
+    IfOk-weaker c.with_command-6.result _ _ (λ r h.
+    joined _ _ _ _ _ h six c.in_ok-apply_command.ensures.shape) c.with_command-6.ensures
