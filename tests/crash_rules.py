@@ -6,7 +6,7 @@ import os
 import shutil
 from collections import namedtuple
 
-from changes import CHANGES, ENTRIES, LOGS, left_by
+from changes import CHANGES, CHANGES_V7, ENTRIES, LOGS, left_by
 from disk_model import LOG, SCRATCH
 from log_format import HEADER, Log, reading_of
 from trials import read, run, short, write
@@ -22,8 +22,9 @@ MORE_LOGS = {
     "a log of version 4 with many entries": b"# ninja log v4\n" + b"1\t2\t3\ta\tcc\tx\n" * 100 + b"4\t5\t6\tb\t\n",
 }
 KINDS = {**LOGS, **MORE_LOGS}
+COMMANDS = {**CHANGES, **CHANGES_V7}
 
-# What is left at a moment: a log and a scratch, each a text or None, and the command that may have left them.
+# What is left at a moment: a log and a scratch, each a text or None, seen as of version 5, and the command that may have left them.
 State = namedtuple("State", "command log scratch")
 
 
@@ -34,14 +35,14 @@ def lines_of(text):
 
 def mended(state):
     """The log when the command has been done again."""
-    return left_by(CHANGES[state.command], state.log)[-1]
+    return left_by(COMMANDS[state.command], state.log)[-1]
 
 
 class Rules:
     """What a crash may leave of a log while a command runs on it. `earlier` are logs that it may leave since an earlier command."""
 
     def __init__(self, command, start, earlier=()):
-        self.left = left_by(CHANGES[command], start)
+        self.left = left_by(COMMANDS[command], start)
         self.done = self.left[-1]
         self.lines = {lines_of(it) for it in [*earlier, *self.left]}
 
@@ -77,12 +78,13 @@ class Worker:
         """Makes the folder anew, with these files and those of the command."""
         shutil.rmtree(self.room, ignore_errors=True)
         os.makedirs(self.room)
-        for name, text in {LOG: log, SCRATCH: scratch, **CHANGES[command].files}.items():
+        change = COMMANDS[command]
+        for name, text in {LOG: change.seen(log), SCRATCH: change.seen(scratch), **change.files}.items():
             write(f"{self.room}/{name}", text)
 
     def words(self, command, folder=None):
         """The command line, by full paths."""
-        change, folder = CHANGES[command], folder or self.room
+        change, folder = COMMANDS[command], folder or self.room
         return [self.program, *(f"{folder}/{it}" if it == LOG or it in change.files else it for it in change.words)]
 
     def answer(self, log):
@@ -97,7 +99,7 @@ class Worker:
         self.lay_out(*state)
         what = f"{state.command}, with the log {short(state.log)} and the scratch {short(state.scratch)}"
         self.want(f"{what}: ends", run(self.words(state.command), cwd="/"), (0, b"", b""))
-        self.want(f"{what}: the log", read(f"{self.room}/{LOG}"), mended(state))
+        self.want(f"{what}: the log", COMMANDS[state.command].seen(read(f"{self.room}/{LOG}")), mended(state))
 
 
 def answer(logs):

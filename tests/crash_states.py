@@ -3,7 +3,7 @@
 
     python3 tests/crash_states.py PROGRAM
 
-Wants strace, and that it may trace. The calls of each command over each kind of log are recorded. `disk_model` has from them what
+Wants strace, and that it may trace. The calls of each command over each kind of log, of version 7 too, are recorded. `disk_model` has from them what
 docs/DISK_MODEL.md lets a crash leave between any two: what isn't synced is lost from some byte on, with or without a tail behind it, a
 cut is undone, a new name or a rename isn't there yet.
 
@@ -21,8 +21,8 @@ import random
 import shutil
 import sys
 
-from changes import CHANGES
-from crash_rules import KINDS, Rules, State, Sweep, Worker, in_parts
+from changes import CHANGES, CHANGES_V7
+from crash_rules import COMMANDS, KINDS, Rules, State, Sweep, Worker, in_parts
 from disk_model import LOG, SCRATCH, STRACE, Disk, Unknown, follow
 from log_format import HEADER
 from trials import main, read, run, short
@@ -46,28 +46,31 @@ class Crashes(Worker):
         return self.passed, self.failures, (list(self.states), self.count, self.moments)
 
     def traced(self, disk, command, rules, what):
-        """Runs a command on what a disk shows, tries what a crash may leave at each call, and gives the disk at each."""
-        self.lay_out(command, disk.text_of(LOG), disk.text_of(SCRATCH))
+        """Runs a command on what a disk shows, tries what a crash may leave at each call, and gives the disk at each. The disk has the bytes
+        as they are, of the version of the command; all else is seen as of version 5."""
+        seen = COMMANDS[command].seen
+        self.lay_out(command, seen(disk.text_of(LOG)), seen(disk.text_of(SCRATCH)))
         ended = run([*STRACE, "-o", f"{self.room}.trace", *self.words(command)], cwd="/")
         self.want(f"{what}: ends", ended, (0, b"", b""))
-        self.want(f"{what}: the log", read(f"{self.room}/{LOG}"), rules.done)
+        self.want(f"{what}: the log", seen(read(f"{self.room}/{LOG}")), rules.done)
         trace, disks = (read(f"{self.room}.trace") or b"").decode(errors="replace"), []
         try:
             for number, (call, wrong) in enumerate(follow(disk, trace, self.room), 1):
                 self.check(f"{what}: {call}, change {number}", not wrong, lambda: wrong)
                 self.crash(disk, command, rules, False, f"{what}: a crash after change {number}, {call}")
-                shown = disk.text_of(LOG)
+                shown = seen(disk.text_of(LOG))
                 if self.check(f"{what}: the log after change {number}, {call}", rules.allow(shown, False), lambda: short(shown)):
                     disks.append(copy.deepcopy(disk))
         except Unknown as call:
             self.check(f"{what}: its calls", False, lambda: f"the disk model has no row for {call}")
-        self.want(f"{what}: the log by its calls", disk.text_of(LOG), rules.done)
+        self.want(f"{what}: the log by its calls", seen(disk.text_of(LOG)), rules.done)
         self.crash(disk, command, rules, True, f"{what}: a crash after its end")
         return disks
 
     def crash(self, disk, command, rules, is_done, what):
         """Tries each log that a crash may leave by the rules, and keeps the states."""
-        images = disk.images()
+        seen = COMMANDS[command].seen
+        images = [(seen(log), seen(scratch)) for log, scratch in disk.images()]
         bad = [log for log, _ in images if not rules.allow(log, is_done)]
         self.check(what, not bad, lambda: f"{len(bad)} of {len(images)} logs aren't allowed, such as {short(bad[0])}")
         self.states.update(dict.fromkeys(State(command, *it) for it in images if it[0] not in bad))
@@ -78,10 +81,10 @@ class Crashes(Worker):
 def explore(case):
     """A command on a log of a kind, with a crash at each call, and with a kill at each call and a crash in a second command."""
     command, kind, scratch = case
-    it, start = Crashes(), KINDS[kind]
+    it, start, seen = Crashes(), KINDS[kind], COMMANDS[command].seen
     rules, what = Rules(command, start), f"{command} on {kind}{' beside a scratch' if scratch else ''}"
-    disks = it.traced(Disk(start, scratch), command, rules, what)
-    for (number, disk), second in itertools.product(enumerate(disks, 1), CHANGES):
+    disks = it.traced(Disk(seen(start), seen(scratch)), command, rules, what)
+    for (number, disk), second in itertools.product(enumerate(disks, 1), CHANGES if command in CHANGES else []):
         after = Rules(second, disk.text_of(LOG), rules.left)
         it.traced(copy.deepcopy(disk), second, after, f"{what}, killed after change {number}, then {second}")
     return it.found()
@@ -92,7 +95,8 @@ def recover(states):
     it = Crashes()
     for state in states:
         what = f"{state.command} again, with the log {short(state.log)} and the scratch {short(state.scratch)}"
-        it.traced(Disk(state.log, state.scratch), state.command, Rules(state.command, state.log), what)
+        seen = COMMANDS[state.command].seen
+        it.traced(Disk(seen(state.log), seen(state.scratch)), state.command, Rules(state.command, state.log), what)
     return it.found()
 
 
@@ -142,7 +146,8 @@ def try_model(trials):
 def sweep_all(sweep):
     """All of it; gives what was done."""
     first, later, count, moments = {}, {}, 0, 0
-    for states, more, at in sweep.over(explore, list(itertools.product(CHANGES, KINDS, SCRATCHES))):
+    of_version_7 = itertools.product(CHANGES_V7, [it for it in KINDS if "version 4" not in it], SCRATCHES)
+    for states, more, at in sweep.over(explore, [*itertools.product(CHANGES, KINDS, SCRATCHES), *of_version_7]):
         first.update(dict.fromkeys(states))
         count, moments = count + more, moments + at
     begun = sample(list(first), RECOVERIES)

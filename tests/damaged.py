@@ -7,7 +7,7 @@ Each text is read from a file, and from standard input in pieces of one byte (th
 its first 1,000 bytes and its last): that is one end of a pair of sockets, on which a piece is sent when the one before was read, so that no
 read gives more. The end of the text is the end of what is sent. Both ways have to give the same: literal answers,
 taken from docs/FORMAT.md and docs/CLI.md, and where each byte of a log is replaced those of `log_format`; what `entries` and `damage` print
-is that of `log_lines` beside. At last come names that collide in the table, which `bench/colliding_log.py` finds: they cost time, and change
+is that of `log_lines` beside. Each text is read once more as a log of version 6 or 7, its digit changed, by words that are asked for it. At last come names that collide in the table, which `bench/colliding_log.py` finds: they cost time, and change
 no answer.
 """
 import fcntl
@@ -20,7 +20,7 @@ import sys
 import termios
 import threading
 
-from log_format import Log, command_hash, reading_of
+from log_format import Log, as_version, command_hash, reading_of
 from log_lines import damage_of, entries_of
 from trials import SECONDS, main, read, run, short, write
 
@@ -323,6 +323,22 @@ class Readings:
             self.trials.want(f"{what}: {word}", run([self.program, word, self.file]), wanted)
             if self.pieces:
                 self.trials.want(f"{what}: {word} in pieces", run_in_pieces([self.program, word], text), wanted)
+        self.want_as(what, text, answers)
+
+    def want_as(self, what, text, answers):
+        """Tries the same bytes as a log of version 6 or 7: the answers are the same but for the version, and version 4 is another one."""
+        version = 6 + len(text) % 2
+        write(self.file, as_version(text, version))
+        for word in ("show", "check"):
+            if word not in answers:
+                continue
+            wanted = answers[word] if isinstance(answers[word], tuple) else (0, answers[word], b"")
+            if text.startswith(HEADERS[4]):
+                wanted = OTHER_VERSION
+            elif word == "check":
+                wanted = (wanted[0], wanted[1].replace(b"version 5\n", b"version %d\n" % version), wanted[2])
+            ended = run([self.program, word, "--log-version", f"{version}", self.file])
+            self.trials.want(f"{what}, as of version {version}: {word}", ended, wanted)
 
 
 def try_kinds(readings):
