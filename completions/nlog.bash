@@ -25,7 +25,7 @@ _nlog() {
     done
     if [[ ! $dashes && $word == -* ]]; then
         case ${COMP_WORDS[1]} in
-            show | check | hash) mapfile -t COMPREPLY < <(compgen -W '--log-version --help -h' -- "$word") ;;
+            show | check | hash | record | recompact | restat) mapfile -t COMPREPLY < <(compgen -W '--log-version --help -h' -- "$word") ;;
             *) mapfile -t COMPREPLY < <(compgen -W '--help -h' -- "$word") ;;
         esac
         return

@@ -272,7 +272,17 @@ WORDS = [
     (["hash", "--log-version", "seven", "c"], 2, b"", BAD_VERSION % b"seven"),
     (["show", "--log-version", "7", "seven", "--log-version", "7"], 2, b"", TWO_VERSIONS),
     (["entries", "--log-version", "7"], 2, b"", NO_OPTION % b"entries [LOG]"),
-    (["recompact", "--log-version", "7", "file", "file"], 2, b"", NO_OPTION % b"recompact <LOG> <KEEP>"),
+    (["repair", "--log-version", "7", "seven"], 2, b"", NO_OPTION % b"repair <LOG>"),
+    # Of the commands that change a log: one of another version than the one that is asked for is refused, and stays.
+    (["record", "--log-version", "6", "seven", "1", "2", "3", "n", "c"], 1, b"", OTHER_VERSION),
+    (["record", "--log-version", "7", "file", "1", "2", "3", "n", "c"], 1, b"", OTHER_VERSION),
+    (["record", "seven", "1", "2", "3", "n", "c"], 1, b"", OTHER_VERSION),
+    (["recompact", "--log-version=5", "seven", "file"], 1, b"", b"nlog: bad line 2\n"),
+    (["recompact", "--log-version=5", "seven", "/dev/null"], 1, b"", OTHER_VERSION),
+    (["recompact", "seven", "missing", "--log-version", "7"], 1, b"", CANNOT_READ),
+    (["restat", "six", "/dev/null", "--log-version", "7"], 1, b"", OTHER_VERSION),
+    (["restat", "six", "file", "--log-version", "8"], 2, b"", BAD_VERSION % b"8"),
+    (["record", "seven", "--log-version"], 2, b"", NO_VERSION),
     # A LOG that is no file of the system's.
     (["record", "folder", "1", "2", "3", "n", "c"], 1, b"", b"nlog: the folder failed\n"),
 ]
@@ -283,6 +293,19 @@ OWN = [
     (["record", "own/x", "--", "-1", "2", "3", "b", "cc\tx"], HEADER + b"1\t2\t3\ta\t72274e7a30810c7b\n-1\t2\t3\tb\t72274e7a30810c7b\n"),
     (["restat", "own/x", "own/times"], HEADER + b"1\t2\t3\ta\t72274e7a30810c7b\n-1\t2\t9\tb\t72274e7a30810c7b\n"),
     (["recompact", "own/x", "own/keep"], HEADER + b"-1\t2\t9\tb\t72274e7a30810c7b\n"),
+]
+
+# The same of logs of versions 6 and 7, each asked for: a torn header, a torn line, one of version 4 that stays, and the hash of version 7.
+OWN_AS = [
+    ("7", ["record", "--", "1", "2", "3", "a", "cc\tx"], None, b"# ninja log v7\n1\t2\t3\ta\t8072fc2ac19230e4\n"),
+    ("6", ["record", "--", "1", "2", "3", "a", "cc\tx"], b"# ninja log v6", b"# ninja log v6\n1\t2\t3\ta\t72274e7a30810c7b\n"),
+    ("6", ["record", "--", "1", "2", "3", "a", "cc\tx"], b"# nin", b"# ninja log v6\n1\t2\t3\ta\t72274e7a30810c7b\n"),
+    ("7", ["restat", "times"], b"# ninja log v7\n1\t2\t3\tb\t4\n5\t6", b"# ninja log v7\n1\t2\t9\tb\t4\n"),
+    ("7", ["recompact", "keep"], b"# ninja log v7\n1\t2\t3\tb\t4\n1\t2\t3\tc\t4\n", b"# ninja log v7\n1\t2\t3\tb\t4\n"),
+    ("5", ["recompact", "keep"], b"# ninja log v4\n1\t2\t3\tb\tcc\tx\n", b"# ninja log v5\n1\t2\t3\tb\t72274e7a30810c7b\n"),
+    ("7", ["recompact", "keep"], b"# ninja log v4\n1\t2\t3\tb\tcc\tx\n", OTHER_VERSION),
+    ("6", ["restat", "times"], b"# ninja log v4\n1\t2\t3\tb\tcc\tx\n", OTHER_VERSION),
+    ("7", ["record", "--", "1", "2", "3", "a", "cc\tx"], b"# ninja log v4\n", OTHER_VERSION),
 ]
 
 
@@ -386,6 +409,16 @@ def try_own(trials, program, room):
         trials.want(f"{words}: the log", read(f"{room}/own/x"), left)
         trials.want(f"{words}: the files", sorted(os.listdir(f"{room}/own")), ["keep", "times", "x"])
     trials.want("KEEP and TIMES", (read(f"{room}/own/keep"), read(f"{room}/own/times")), (b"b\n", b"9\tb\n"))
+    for version, (word, *values), log, left in OWN_AS:
+        write(f"{room}/own/y", log)
+        what = f"{word} of {log!r} for version {version}"
+        values = [f"own/{it}" if it in ("keep", "times") else it for it in values]
+        ended = asked(program, room, [word, "--log-version", version, "own/y", *values], INPUT)
+        is_refused = left == OTHER_VERSION
+        trials.want(what, ended, (1, b"", OTHER_VERSION) if is_refused else (0, b"", b""))
+        trials.want(f"{what}: the log", read(f"{room}/own/y"), log if is_refused else left)
+        os.remove(f"{room}/own/y")
+    trials.want("the files of version 6 and 7", sorted(os.listdir(f"{room}/own")), ["keep", "times", "x"])
 
 
 def trial(trials, program, room):
