@@ -81,7 +81,8 @@ def try_completion(trials, program, room, help_text, commands):
             want([name, "--log-version", ""], ["5", "6", "7"])
             want([name, "--log-version", "7", ""], ["a file", "b.log"] if values[0] in FILES else [])
             want([name, "--log-version=7", "b"], ["b.log"] if values[0] in FILES else [])
-            want([name, "--", "--log-version", ""], [])
+            # Behind `--` it is the first value.
+            want([name, "--", "--log-version", ""], ["a file", "b.log"] if values[1:2] and values[1] in FILES else [])
 
 
 def try_install(trials, program, room):
