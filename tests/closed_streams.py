@@ -56,8 +56,12 @@ ROWS = [
     (["damage", "LOG"], NO_LOG, ROOMY, None, NO_LOG),
     (["hash-file", "LOG"], LOG, ROOMY, None, LOG),
     (["record", "--help"], LOG, ROOMY, None, LOG),
+    # The first answer that can't be written ends it, behind the open, which cuts the torn line away.
+    (["apply", "LOG", "ASKS"], LOG, ROOMY, None, LOG),
+    (["apply", "LOG", "ASKS"], TORN, ROOMY, None, LOG),
+    (["apply", "LOG", "ASKS"], NO_LOG, ROOMY, None, NO_LOG),
 ]
-FILES = {"KEEP": b"b\n", "BAD": b"a\tb\n", "TIMES": b"7\ta\n", "NEGATIVE": b"-7\ta\n"}
+FILES = {"ASKS": b"open\nget\ta\nbad\ntable\nsync\n", "KEEP": b"b\n", "BAD": b"a\tb\n", "TIMES": b"7\ta\n", "NEGATIVE": b"-7\ta\n"}
 
 
 def fill(room, log):

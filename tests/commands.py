@@ -175,6 +175,13 @@ For more information, try '--help'.
 """
 
 NO_LOG_NAME = NO_VALUE.replace(b"COMMAND", b"LOG").replace(b"nlog hash", b"nlog repair")
+NO_LOG_TO_APPLY = NO_LOG_NAME.replace(b"nlog repair <LOG>", b"nlog apply <LOG> [SCRIPT]")
+TWO_SCRIPTS = b"""error: unexpected argument 'two' found
+
+Usage: nlog apply <LOG> [SCRIPT]
+
+For more information, try '--help'.
+"""
 
 MORE = b"\nFor more information, try '--help'.\n"
 NO_VERSION = b"""error: a value is required for '--log-version <VERSION>' but none was supplied
@@ -232,6 +239,19 @@ WORDS = [
     (["replay", "file"], 1, b"", b"nlog: bad line 1\n"),
     (["replay", "missing"], 1, b"", CANNOT_READ),
     (["replay", "folder"], 1, b"", CANNOT_READ),
+    (["apply"], 2, b"", NO_LOG_TO_APPLY),
+    (["apply", "none", "script", "two"], 2, b"", TWO_SCRIPTS),
+    # The script is opened before LOG, which is not made.
+    (["apply", "none", "missing"], 1, b"", CANNOT_READ),
+    (["apply", "none", "folder"], 1, b"", CANNOT_READ),
+    # INPUT is three lines without an `open`, and they are bad.
+    (["apply", "none"], 0, b"bad line\n" * 3, b""),
+    (["apply", "file", "asks"], 0, b"ok\n" + FILE_SHOWN + b"none\n" + FILE_SHOWN + b"end\n", b""),
+    (["apply", "--", "file", "asks"], 0, b"ok\n" + FILE_SHOWN + b"none\n" + FILE_SHOWN + b"end\n", b""),
+    # The last line has no newline, and is not done.
+    (["apply", "file", "script"], 0, b"ok\nbad line\n", b""),
+    (["apply", "folder", "script"], 0, b"S8 Fault\nbad line\n", b""),
+    (["apply", "seven", "script"], 0, b"S6 OtherVersion\nbad line\n", b""),
     (["--version"], 0, b"nlog 0.1.0\n", b""),
     (["frob"], 2, b"", NO_COMMAND),
     (["hash"], 2, b"", NO_VALUE),
@@ -283,6 +303,7 @@ WORDS = [
     (["restat", "six", "/dev/null", "--log-version", "7"], 1, b"", OTHER_VERSION),
     (["restat", "six", "file", "--log-version", "8"], 2, b"", BAD_VERSION % b"8"),
     (["record", "seven", "--log-version"], 2, b"", NO_VERSION),
+    (["apply", "--log-version", "7", "file", "asks"], 2, b"", NO_OPTION % b"apply <LOG> [SCRIPT]"),
     # A LOG that is no file of the system's.
     (["record", "folder", "1", "2", "3", "n", "c"], 1, b"", b"nlog: the folder failed\n"),
 ]
@@ -390,6 +411,7 @@ def try_words(trials, program, room):
     write(f"{room}/six", SIX)
     write(f"{room}/seven", SEVEN)
     write(f"{room}/script", b"open\nopen")
+    write(f"{room}/asks", b"open\nget\tfile\nget\tinput\ntable\n")
     before = sorted(os.listdir(room))
     for words, status, out, err in WORDS:
         trials.want(f"{words}", asked(program, room, words, INPUT), (status, out, err))

@@ -21,7 +21,7 @@ from trials import main, read, run, write
 CANNOT_READ = (1, b"", b"nlog: cannot read\n")
 FOLDER_FAILED = (1, b"", b"nlog: the folder failed\n")
 DONE = (0, b"", b"")
-COMMANDS = ("show", "check", "hash", "entries", "damage", "hash-file", "record", "recompact", "restat", "repair", "replay")
+COMMANDS = ("show", "check", "hash", "entries", "damage", "hash-file", "record", "recompact", "restat", "repair", "replay", "apply")
 SMALL = HEADER + b"1\t2\t3\ta\taa\n4\t5\t6\tb\tbb\n"
 # By docs/FORMAT.md: the hash of the command `cc<TAB>x`.
 COMMAND, HASH = "cc\tx", 0x72274E7A30810C7B
@@ -138,6 +138,7 @@ def try_words(trials, program, room):
         ["hash-file", "--", "FILE", "b"],
         ["repair", "--", "LOG", "b"],
         ["replay", "--", "SCRIPT", "b"],
+        ["apply", "--", "LOG", "SCRIPT", "b"],
     ]
     for words in rows:
         what = " ".join(words)
