@@ -132,7 +132,9 @@ def killed(trials, program, room):
     lines = wanted(count)
     kills = stood = 0
     while True:
-        child = subprocess.Popen([sys.executable, BUILD, program, log, str(count)], stdout=subprocess.PIPE, stderr=subprocess.PIPE, start_new_session=True)
+        words = [sys.executable, BUILD, program, log, str(count)]
+        # Without a buffer, so that what follows the last line that was read is there for `communicate`.
+        child = subprocess.Popen(words, stdout=subprocess.PIPE, stderr=subprocess.PIPE, bufsize=0, start_new_session=True)
         # By what it says that stands, and not by the clock: so it is killed as often on a fast machine.
         target, last = stood + chance.randrange(1, 600), 0
         for line in child.stdout:
