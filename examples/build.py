@@ -4,8 +4,9 @@
     python3 examples/build.py NLOG LOG COUNT
 
 For each of COUNT outputs it asks the log for the entry. Where that is missing, or has another command's hash, the command is run (here it
-only counts), and its entry recorded. After every 16 commands it syncs, and prints how many outputs then stand, whatever comes.
+only counts), and its entry recorded. A build whose outputs must outlive a power cut syncs each of them before it records it. After every 16 commands it syncs, and prints how many outputs then stand, whatever comes.
 """
+import os
 import subprocess
 import sys
 import zlib
@@ -19,9 +20,12 @@ class Log:
         self.do("open")
 
     def ask(self, *fields):
-        self.nlog.stdin.write("\t".join(fields).encode() + b"\n")
+        # A name with a newline would be two lines, and each answer after it that to another one.
+        if any(it in field for field in fields for it in "\t\n"):
+            raise ValueError("a tab or a newline in a name")
+        self.nlog.stdin.write(os.fsencode("\t".join(fields)) + b"\n")
         self.nlog.stdin.flush()
-        answer = self.nlog.stdout.readline().decode()
+        answer = os.fsdecode(self.nlog.stdout.readline())
         if not answer.endswith("\n"):
             raise OSError("nlog ended")
         return answer[:-1]
@@ -33,7 +37,19 @@ class Log:
 
     def get(self, name):
         answer = self.ask("get", name)
-        return None if answer == "none" else answer.split("\t")
+        if answer == "none":
+            return None
+        # Any other answer, as `S3 Broken`, is no entry.
+        if answer.count("\t") != 4:
+            raise OSError(answer)
+        return answer.split("\t")
+
+    def close(self):
+        """Closes the log, and says so where `nlog` fails even then."""
+        self.do("stop")
+        self.nlog.stdin.close()
+        if self.nlog.wait() != 0:
+            raise OSError("nlog failed")
 
 
 def entry(i):
@@ -50,7 +66,7 @@ def main(nlog, path, count):
             log.do("sync")
             print(i + 1, flush=True)
     log.do("sync")
-    log.do("stop")
+    log.close()
     print(count, flush=True)
 
 

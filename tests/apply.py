@@ -35,6 +35,10 @@ TURNS = [
     (HEADER + A, b"stop\nopen\nstop\nopen\nget\ta\n", b"S1 NotOpen\nok\nok\nok\n" + A, 0, b"", HEADER + A),
     # A line that is too long, and the longest one.
     (HEADER, b"open\n" + LONG + b"\nget\t" + b"x" * 262139 + b"\nget\ta\n", b"ok\nbad line\nnone\nnone\n", 0, b"", HEADER),
+    # More names than a line may hold keep nothing and drop nothing; a carriage return is a part of the last name.
+    (HEADER + A, b"open\nrecompact" + b"\tname" * 52427 + b"\nget\ta\n", b"ok\nbad line\n" + A, 0, b"", HEADER + A),
+    (HEADER + A, b"open\r\nget\ta\n", b"bad line\nS1 NotOpen\n", 0, b"", HEADER + A),
+    (HEADER + A, b"open\nget\ta\r\nrecompact\ta\r\ntable\n", b"ok\nnone\nok\nend\n", 0, b"", HEADER),
     # A line that is cut off is not done, however it looks.
     (HEADER, b"open\nrecord\t1\t2\t3\ta\taa", b"ok\nbad line\n", 0, b"", HEADER),
     (HEADER, b"open\nget\ta", b"ok\nbad line\n", 0, b"", HEADER),
@@ -58,6 +62,32 @@ def turns(trials, program, room):
             write(log, held)
         trials.want(f"the answers to {what}", apply(program, log, lines), (status, answers, said))
         trials.want(f"the log behind {what}", read(log) if os.path.exists(log) else None, left)
+
+
+def odd_names(trials, program, room):
+    """The client of examples/build.py over names of each kind: an answer is always that to its own line."""
+    sys.path.insert(0, os.path.dirname(BUILD))
+    from build import Log
+    write(f"{room}/odd.log", HEADER + A)
+    log = Log(program, f"{room}/odd.log")
+    for name in ("two words", "-x", "a\r", os.fsdecode(b"\xff.o")):
+        fields = ["1", "2", "3", name, "aa"]
+        trials.want(f"the entry of {name!r} before it is recorded", log.get(name), None)
+        log.do("record", *fields)
+        trials.want(f"the entry of {name!r}", log.get(name), fields)
+    for name, wanted in [("a\nsync", ValueError), ("a\tb", ValueError), ("x" * 262140, OSError)]:
+        try:
+            trials.check(f"the name {name[:9]!r} is refused", False, repr(log.get(name)))
+        except wanted:
+            trials.want(f"the answer behind {name[:9]!r}", log.get("a"), ["1", "2", "3", "a", "aa"])
+    log.close()
+    log.nlog.stdout.close()
+    write(f"{room}/seven.log", b"# ninja log v7\n" + A)
+    try:
+        trials.check("a log of version 7 is refused", False, repr(Log(program, f"{room}/seven.log")))
+    except OSError as it:
+        trials.want("why a log of version 7 is refused", str(it), "S6 OtherVersion")
+    trials.want("the log of version 7", read(f"{room}/seven.log"), b"# ninja log v7\n" + A)
 
 
 def start(program, log):
@@ -178,6 +208,7 @@ def end_below(pid):
 
 def trial(trials, program, room):
     turns(trials, program, room)
+    odd_names(trials, program, room)
     prompt(trials, program, room)
     closed(trials, program, room)
     killed(trials, program, room)
