@@ -9,6 +9,7 @@ import select
 import signal
 import subprocess
 import sys
+import threading
 import time
 
 from trials import main, read, run, write
@@ -124,6 +125,21 @@ def prompt(trials, program, room):
     child.stderr.close()
 
 
+def unread(trials, program, room):
+    """Where the answers aren't read, a client that goes on to write stands still; and all is answered once they are."""
+    child, count = start(program, f"{room}/unread.log"), 100000
+    lines = b"open\n" + b"".join(b"get\tout%d\n" % it for it in range(count))
+    writer = threading.Thread(target=lambda: (child.stdin.write(lines), child.stdin.close()), daemon=True)
+    writer.start()
+    writer.join(1)
+    trials.check("a client that doesn't read stands still", writer.is_alive())
+    trials.want("the answers once they are read", child.stdout.read(), b"ok\n" + b"none\n" * count)
+    writer.join(20)
+    trials.want("the status then", child.wait(20), 0)
+    child.stdout.close()
+    child.stderr.close()
+
+
 def closed(trials, program, room):
     """Standard output that is closed or full ends it, and what was answered or done before stands."""
     log = f"{room}/closed.log"
@@ -210,6 +226,7 @@ def trial(trials, program, room):
     turns(trials, program, room)
     odd_names(trials, program, room)
     prompt(trials, program, room)
+    unread(trials, program, room)
     closed(trials, program, room)
     killed(trials, program, room)
 
