@@ -154,6 +154,7 @@ FILE_CHECKED = b"version 5\ntotal 1\nunique 1\nskipped 0\ntorn 0\ndue no\n"
 INPUT_CHECKED = b"version 5\ntotal 1\nunique 1\nskipped 1\ntorn 0\ndue no\n"
 NOTHING_CHECKED = b"version 5\ntotal 0\nunique 0\nskipped 0\ntorn 0\ndue no\n"
 SIX, SEVEN = (b"# ninja log v%d\n1\t2\t3\tout\t8072fc2ac19230e4\nx\n" % it for it in (6, 7))
+FOUR, FOUR_SHOWN = b"# ninja log v4\n1\t2\t3\ta\tcc\tx\n", b"1\t2\t3\ta\t72274e7a30810c7b\n"
 NEW_SHOWN = b"1\t2\t3\tout\t8072fc2ac19230e4\n"
 NEW_CHECKED = b"version %d\ntotal 1\nunique 1\nskipped 1\ntorn 0\ndue no\n"
 REPLAYED = b"ok\nS2 AlreadyOpen\nlog 15\n# ninja log v5\n"
@@ -202,7 +203,7 @@ NO_OPTION = b"""error: unexpected argument '--log-version' found
 Usage: nlog %s
 """ + MORE
 
-# Words, where INPUT is standard input and `file` is FILE, `six` and `seven` SIX and SEVEN; the status, standard output and standard error.
+# Words, where INPUT is standard input and `file` is FILE, `four`, `six` and `seven` FOUR, SIX and SEVEN; the status and both outputs.
 WORDS = [
     ([], 0, INPUT_SHOWN, b""),
     (["show"], 0, INPUT_SHOWN, b""),
@@ -264,6 +265,10 @@ WORDS = [
     (["show", "--log-version", "6", "six"], 0, NEW_SHOWN, b""),
     (["show", "--log-version", "5", "file"], 0, FILE_SHOWN, b""),
     (["show", "--log-version", "5"], 0, INPUT_SHOWN, b""),
+    # With 5, what is done without it: a log of version 4 is taken too, and with 6 or 7 it is not.
+    (["show", "--log-version", "5", "four"], 0, FOUR_SHOWN, b""),
+    (["check", "--log-version", "5", "four"], 0, b"version 4\ntotal 1\nunique 1\nskipped 0\ntorn 0\ndue yes\n", b""),
+    (["show", "--log-version", "6", "four"], 1, b"", OTHER_VERSION),
     (["show", "--log-version", "7", "missing"], 0, b"", b""),
     (["show", "--log-version", "7", "folder"], 1, b"", CANNOT_READ),
     (["show", "seven"], 1, b"", OTHER_VERSION),
@@ -410,6 +415,7 @@ def try_words(trials, program, room):
     write(f"{room}/-file", FILE)
     write(f"{room}/six", SIX)
     write(f"{room}/seven", SEVEN)
+    write(f"{room}/four", FOUR)
     write(f"{room}/script", b"open\nopen")
     write(f"{room}/asks", b"open\nget\tfile\nget\tinput\ntable\n")
     before = sorted(os.listdir(room))

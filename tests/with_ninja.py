@@ -4,8 +4,8 @@
     [NLOG_NINJAS=FOLDER] python3 tests/with_ninja.py PROGRAM
 
 Takes the machine's own Ninja and each FOLDER/*/ninja, with the version of the log that it writes: 5 (Ninja 1.11), 6 (1.12) or 7 (1.13).
-What Ninja makes of a log is told by what it says of a build: `no work to
-do`, or why an output is to be made again; and by what `ninja -t recompact` keeps of the log.
+What Ninja makes of a log is told by what it says of a build: `no work to do`, or why an output is to be made again; and by what
+`ninja -t recompact` keeps of the log.
 
 The scripts of docs/CLI.md are read from that page and run as they stand there, beside a copy of the build that Ninja itself
 recompacts or restats. And what the pages say of Ninja is tried: what a build loses whose log is rewritten, and which time
@@ -79,7 +79,8 @@ class Build:
         """Runs a script of docs/CLI.md, with the programs of this folder in place of others."""
         write(f"{self.room}/../{name}", RECIPES[name])
         path = ":".join(it for it in (folder, os.path.dirname(self.program), os.environ.get("PATH", os.defpath)) if it)
-        return run(["sh", f"../{name}"], cwd=self.room, env={**os.environ, "PATH": path})
+        words = [] if self.version == 5 else [LOG, f"{self.version}"]
+        return run(["sh", f"../{name}", *words], cwd=self.room, env={**os.environ, "PATH": path})
 
     def mirror(self):
         """A copy of the build, for Ninja to work on."""
@@ -417,6 +418,28 @@ def try_version_4(trials, build):
     trials.check("version 4: Ninja has no work to do", build.is_idle(), repr(build.why()))
 
 
+def try_other_version(trials, build):
+    """A log of another version than Ninja's own: where Ninja is 1.12 or 1.13, it drops all entries, also those of a log that nlog made."""
+    if build.version == 5:
+        return
+    entries, lines = build.log().table, read(f"{build.room}/{LOG}")[len(HEADER) :]
+    for version in (5, 6, 7):
+        if version == build.version:
+            continue
+        build.write_lines(LOG, [b"# ninja log v%d" % version])
+        write(f"{build.room}/{LOG}", read(f"{build.room}/{LOG}") + lines)
+        said = build.ninja("-d", "explain", "note")[1]
+        why = b"too old" if version < build.version else b"too new"
+        trials.check(f"version {version}: Ninja starts over", b"build log version is " + why + b"; starting over" in said, repr(said))
+        left = set(build.log().table)
+        trials.check(f"version {version}: the entries are gone", left < set(entries), repr(left))
+        build.ninja()
+    os.remove(f"{build.room}/{LOG}")
+    trials.want("a missing log: record ends", run([build.program, "record", LOG, "1", "2", "3", "out", "c"], cwd=build.room), (0, b"", b""))
+    said = build.ninja("note")[1]
+    trials.check("a missing log, made without the option: Ninja starts over", b"starting over" in said, repr(said))
+
+
 def touching(room, names):
     write(f"{room}/build.ninja", "rule c\n  command = touch $out\n".encode() + b"".join(b"build %s: c\n" % it for it in names))
 
@@ -532,19 +555,10 @@ PARTS = [
     try_mtime,
     try_hash,
     try_version_4,
+    try_other_version,
 ]
-# What is of version 5 alone: logs of version 4, and the scripts of docs/CLI.md, whose words ask for no version.
-OF_VERSION_5 = [
-    try_version_4,
-    try_keep_without_manifest,
-    try_keep_odd_names,
-    try_keep_dyndep,
-    try_keep_what_left,
-    try_times,
-    try_times_that_fail,
-    try_joined,
-    try_joined_anywhere,
-]
+# What is of version 5 alone: logs of version 4.
+OF_VERSION_5 = [try_version_4]
 
 
 def ninjas():
