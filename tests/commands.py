@@ -203,6 +203,13 @@ NO_OPTION = b"""error: unexpected argument '--log-version' found
 Usage: nlog %s
 """ + MORE
 
+BEFORE_THE_COMMAND = b"""error: unexpected argument '--log-version' found
+
+  tip: a similar argument exists: '--version'
+
+Usage: nlog --version
+""" + MORE
+
 # Words, where INPUT is standard input and `file` is FILE, `four`, `six` and `seven` FOUR, SIX and SEVEN; the status and both outputs.
 WORDS = [
     ([], 0, INPUT_SHOWN, b""),
@@ -287,6 +294,8 @@ WORDS = [
     (["hash", "--log-version=7", ""], 0, b"5a6ef77074ebc84b\n", b""),
     (["hash", "--log-version", "6", "cc\tx"], 0, HASH, b""),
     (["hash", "--log-version", "5", "cc\tx"], 0, HASH, b""),
+    (["--log-version", "7", "show", "seven"], 2, b"", BEFORE_THE_COMMAND),
+    (["--log-version", "7"], 2, b"", BEFORE_THE_COMMAND),
     # Behind `--` it is a value.
     (["show", "--", "--log-version=7"], 0, b"", b""),
     (["hash", "--", "--log-version"], 0, b"%x\n" % command_hash(b"--log-version"), b""),
