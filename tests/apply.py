@@ -17,6 +17,8 @@ from trials import main, read, run, write
 BUILD = f"{os.path.dirname(os.path.dirname(os.path.abspath(__file__)))}/examples/build.py"
 HEADER = b"# ninja log v5\n"
 A, B = b"1\t2\t3\ta\taa\n", b"4\t5\t6\tb\tbb\n"
+LONGEST = b"1\t2\t3\t" + b"n" * 65536 + b"\taa\n"
+KEPT = b"recompact\ta" + b"".join(b"\t" + it * 65536 for it in (b"x", b"y", b"z")) + b"\t" + b"w" * 65520
 LONG = b"get\t" + b"x" * 262140
 # What a log holds or None where it is missing, the lines, the answers, the status, what is said of it, and what the log then holds.
 TURNS = [
@@ -40,6 +42,14 @@ TURNS = [
     (HEADER + A, b"open\nrecompact" + b"\tname" * 52427 + b"\nget\ta\n", b"ok\nbad line\n" + A, 0, b"", HEADER + A),
     (HEADER + A, b"open\r\nget\ta\n", b"bad line\nS1 NotOpen\n", 0, b"", HEADER + A),
     (HEADER + A, b"open\nget\ta\r\nrecompact\ta\r\ntable\n", b"ok\nnone\nok\nend\n", 0, b"", HEADER),
+    # Without names all is kept, by a recompact and by the open of a log that is due; with names these alone.
+    (HEADER + A + B, b"open\nrecompact\ntable\n", b"ok\nok\n" + A + B + b"end\n", 0, b"", HEADER + A + B),
+    (HEADER + A * 101 + B, b"open\ntable\n", b"ok\n" + A + B + b"end\n", 0, b"", HEADER + A + B),
+    (HEADER + A * 101 + B, b"open\tb\ntable\n", b"ok\n" + B + b"end\n", 0, b"", HEADER + B),
+    (HEADER + A, b"open\nrestat\ntable\n", b"ok\nok\n" + A + b"end\n", 0, b"", HEADER + A),
+    # The longest name, and the longest line that asks for an event.
+    (HEADER, b"open\nrecord\t" + LONGEST + b"get\t" + b"n" * 65536 + b"\n", b"ok\nok\n" + LONGEST, 0, b"", HEADER + LONGEST),
+    (HEADER + A + B, b"open\n" + KEPT + b"\ntable\n", b"ok\nok\n" + A + b"end\n", 0, b"", HEADER + A),
     # A line that is cut off is not done, however it looks.
     (HEADER, b"open\nrecord\t1\t2\t3\ta\taa", b"ok\nbad line\n", 0, b"", HEADER),
     (HEADER, b"open\nget\ta", b"ok\nbad line\n", 0, b"", HEADER),
