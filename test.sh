@@ -57,6 +57,7 @@ if ! python3 -c 'import sys; sys.exit(sys.version_info < (3, 8))' 2> /dev/null; 
 fi
 
 part rt ci
+part python3 tests/labels.py
 part python3 tests/examples.py crates/nlog/out/nlog
 # What Rattle's own compiler made of the same program. Where it made nothing, the gate has said so.
 if [[ -e crates/nlog/out/nlog.by-rattle ]]; then

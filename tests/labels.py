@@ -1,0 +1,81 @@
+#!/usr/bin/env python3
+"""Holds the table of clause labels in CONTRIBUTING.md to the code: python3 tests/labels.py
+
+Each label of a clause outside of laws.rt and callers.rt stands in the table, once, and each label of the table is one of a clause. The first
+line of each must-fail edit names a place and a clause of the crate, which stand in its sources or in those of the crate's specs and proofs.
+It reads the repository's texts alone, and needs no toolchain.
+"""
+
+import collections
+import os
+import re
+import sys
+from glob import glob
+
+TOP = os.path.dirname(os.path.dirname(os.path.abspath(__file__)))
+CLAUSE = re.compile(r"\b(?:ensures|requires)\*?\s+([a-z]\w*)\s*\{")
+LAWS = ("laws.rt", "callers.rt")
+
+# The clause of std's Display that each text of a fault meets: what is written.
+OF_STD = {"writes"}
+
+
+def text_of(path):
+    with open(path, encoding="utf-8") as it:
+        return it.read()
+
+
+def code_of(path):
+    """The file's text without its comments."""
+    return re.sub(r"//.*", "", text_of(path))
+
+
+def labels_of_table(page):
+    """The labels of the first column of the table, in their order. Rows that name a theme have none."""
+    rows = page[page.index("| Label | Says |") :].split("\n\n")[0].split("\n")[2:]
+    return [label for row in rows for label in re.findall(r"`([a-z]\w*)`", row.split("|")[1])]
+
+
+def labels_in_use():
+    """Each label outside of laws, with the files that use it."""
+    found = collections.defaultdict(list)
+    for path in sorted(glob(f"{TOP}/crates/*/src/**/*.rt", recursive=True)):
+        if os.path.basename(path) not in LAWS:
+            for label in CLAUSE.findall(code_of(path)):
+                found[label].append(os.path.relpath(path, TOP))
+    return found
+
+
+def faults_of_edits():
+    """Says of each edit whose first line names no clause, or one that no function of its crate has."""
+    for edit in sorted(glob(f"{TOP}/crates/*/must-fail/*.edit")):
+        crate = edit.split("/must-fail/")[0]
+        of_crate = {label for path in glob(f"{crate}/src/**/*.rt", recursive=True) for label in CLAUSE.findall(code_of(path))}
+        first = text_of(edit).split("\n")[0]
+        named = re.search(r"; refused at .*", first)
+        if not first.startswith("why: ") or not named:
+            yield edit, f"{os.path.relpath(edit, TOP)}: its first line isn't 'why: .., refused at PLACE, clause LABEL'"
+            continue
+        lacking = [it for it in re.findall(r"clauses? `(\w+)`(?: and `(\w+)`)?", named[0]) for it in it if it and it not in of_crate | OF_STD]
+        yield edit, f"{os.path.relpath(edit, TOP)}: no clause of its crate has the label {lacking[0]}" if lacking else None
+
+
+def main():
+    checks = []
+    table = labels_of_table(text_of(f"{TOP}/CONTRIBUTING.md"))
+    used = labels_in_use()
+    for label, files in sorted(used.items()):
+        checks.append(None if label in table else f"{label}: a clause of {files[0]} has it, and the table in CONTRIBUTING.md doesn't")
+    for label, times in sorted(collections.Counter(table).items()):
+        checks.append(None if label in used else f"{label}: it stands in the table in CONTRIBUTING.md, and no clause has it")
+        checks.append(None if times == 1 else f"{label}: the table in CONTRIBUTING.md has it {times} times")
+    checks += [fault for _, fault in faults_of_edits()]
+    failed = [it for it in checks if it]
+    for it in failed:
+        print(f"FAILED: {it}")
+    print(f"{len(checks) - len(failed)} passed, {len(failed)} failed")
+    return bool(failed)
+
+
+if __name__ == "__main__":
+    sys.exit(main())
