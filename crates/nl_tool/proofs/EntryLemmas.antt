@@ -1,19 +1,21 @@
 -- The entries of a log as they are listed line by line.
-use Rattle.std.proofs.Common.{◌≡◌, ◌∙◌, ℕ, Bool, List, [], ◌∷◌, ◌++◌, length, refl, sym, ap, subst, ◌+◌}
+use Rattle.std.proofs.Common.{◌≡◌, ◌∙◌, ℕ, Bool, leb, ◌==◌, List, [], ◌∷◌, ◌++◌, length, refl, sym, ap, subst, ◌+◌}
 use Rattle.std.specs.Prelude.{◌≤◌, Option, None, Some, Ok, drop, map}
 use Rattle.std.specs.List.{cons_option}
+use Rattle.std.proofs.lemmas.Bool.{cond-false, cond-true, le-leb, ne_eqb}
 use Rattle.std.proofs.lemmas.List.{append-nil}
 use Rattle.nl_fields.specs.declared.entry.Entry.{Entry}
-use Rattle.nl_fields.specs.EntryLine.{line_of}
+use Rattle.nl_fields.specs.EntryLine.{entry_of, entry_of_four, line_of}
+use Rattle.nl_fields.proofs.LineOfLemmas.{line_is_line_of, line_of_entry_of}
 use Rattle.nl_fields.specs.Header.{header_line, header_of}
-use Rattle.nl_lines.specs.Lines.{max_log}
+use Rattle.nl_lines.specs.Lines.{max_line, max_log}
 use Rattle.nl_table.specs.History.{Began}
 use Rattle.nl_table.proofs.LogTextLemmas.{log_of-text}
 use Rattle.nl_table.proofs.TableLemmas.{table-plus}
 use Rattle.nl_table.proofs.ValidLemmas.{log_valid}
 use Rattle.nl_tool.specs.Output.{shown, shown_of}
 use Rattle.nl_lines.specs.Split.{joined, lines_of, rest_of, with_newline}
-use Rattle.nl_table.specs.Log.{LogReading, Log, NotALog, OtherVersion, entries_on, entry_on, log_of}
+use Rattle.nl_table.specs.Log.{LogReading, Log, NotALog, OtherVersion, entries_on, entry_by, entry_on, log_of}
 use Rattle.nl_table.specs.LogText.{lines_of_entries}
 use Rattle.nl_table.proofs.FirstLineLemmas.{log_of-lines}
 use Rattle.nl_table.proofs.LogLemmas.{is_versioned, rest_is_header}
@@ -70,3 +72,9 @@ entries_shown bytes text is fits = go (log_of bytes) refl is
         let again : log_of (header_line ++ text) ≡ Log 5 es =
         ap (λ (t : List ℕ). log_of (header_line ++ t)) (sym same) ∙ log_of-text es (log_valid bytes v es reads) (subst (λ (t : List ℕ). length (header_line ++ t) ≤ max_log) (sym same) fits) in
         ap shown_of again ∙ ap (λ (l : List Entry). Some (joined (map line_of l))) (table-plus (Began 5) es ∙ sym (table-plus (Began v) es))
+
+-- a line of version 5 is the one spelling of its entry
+pub entry_whole : (v : ℕ) (line : List ℕ) (e : Entry) → (v ≡ 4 → ⊥) → length line ≤ max_line → entry_by v line ≡ Some e → entry_text (entry_on v line) ≡ with_newline line
+entry_whole v line e five short found =
+    let read : entry_of line ≡ Some e = sym (cond-false (v == 4) (entry_of_four line) (entry_of line) (ne_eqb v 4 five)) ∙ found in
+    ap entry_text (cond-true (leb (length line) max_line) _ _ (le-leb (length line) max_line short) ∙ found) ∙ ap with_newline (sym (line_is_line_of line (line_of_entry_of line read)))

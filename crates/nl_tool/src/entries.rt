@@ -1,5 +1,6 @@
 //! The command `entries`.
-ghost use Rattle.std.specs.Prelude.{◌≡◌, [], refl, IfErr, IfSome, IsErrOf};
+ghost use Rattle.std.specs.Prelude.{◌≡◌, ◌++◌, ◌≤◌, [], refl, vec_capacity, IfErr, IfSome, IsErrOf, OnOk};
+ghost use Rattle.nl_lines.specs.Split.{with_newline};
 ghost use Rattle.nl_table.specs.Log.{entry_on, log_of, NotALog, OtherVersion};
 ghost use Rattle.nl_texts.specs.declared.fault.ToolFault.{ToolFault};
 ghost use Rattle.nl_tool.specs.Faults.{IsLogFault};
@@ -31,7 +32,8 @@ impl LineText for EntryLines {
         out: &mut Vec<u8>,
     ) -> Result<(), AllocError> {
         match read_line(version, line) {
-            Some(entry) => append_entry(&entry, out),
+            Some(entry) if version == 4 => append_entry(&entry, out),
+            Some(_) => append_whole(line, out),
             None => Ok(()),
         }
     }
@@ -56,6 +58,16 @@ impl LineText for EntryLines {
     ) -> Result<(), AllocError> {
         Ok(())
     }
+}
+
+// Appends a line as it stands: that of an entry of version 5 is the one spelling which the entry has.
+fn append_whole(line: &[u8], out: &mut Vec<u8>) -> Result<(), AllocError>
+    ensures items { OnOk result (out.new.items ≡ out.old.items ++ with_newline line.now) }
+    ensures capacity { vec_capacity out.old ≤ vec_capacity out.new }
+{
+    out.extend_from_slice(line)?;
+    out.push(b'\n')?;
+    Ok(())
 }
 
 /// Writes the line of each entry of the log that the reader gives, older ones included, in the order of the file.
