@@ -1,7 +1,10 @@
 pub mod RowLemmas
+pub mod SoundLemmas
 pub mod ScratchLemmas
 pub mod FolderLemmas
 pub mod KeptLemmas
+pub mod SyncScratchLemmas
+pub mod ReplaceLemmas
 pub mod ImageLemmas
 pub mod StartLemmas
 pub mod CutLemmas
