@@ -10,5 +10,7 @@ pub mod StartLemmas
 pub mod CutLemmas
 pub mod DiskLemmas
 pub mod CoverLemmas
+pub mod KnownLemmas
+pub mod CrashLemmas
 pub mod MemLemmas
 pub mod MemSystemLemmas

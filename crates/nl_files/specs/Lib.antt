@@ -1,7 +1,7 @@
 pub mod Model
 pub mod SystemCalls
-pub mod SystemImages
 pub mod Hands
+pub mod SystemImages
 pub mod Covered
 pub mod LogFile
 pub mod Scratch

@@ -14,4 +14,4 @@ mod system;
 
 pub use file_folder::FileFolder;
 pub use mem_system::{MemHandle, MemSystem, Plan};
-pub use system::System;
+pub use system::{CrashableSystem, System};
