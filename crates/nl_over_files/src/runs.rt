@@ -1,0 +1,48 @@
+//! Runs of events on a log over the files of a system that can lose its power.
+ghost use Rattle.std.specs.Prelude.{◌≡◌, [], IfOk, Some, option_map, zip};
+ghost use Rattle.std.specs.Option.{ForSome};
+ghost use Rattle.nl_table.specs.History.{History};
+ghost use Rattle.nl_table.specs.Log.{history_of};
+ghost use Rattle.nl_session.specs.Runs.{BeginsAt, Ran, HeadlineOn, RestsThrough, OpensAtLast, faults_of, HasRisen, HadMemory, Ends};
+ghost use Rattle.nl_files.specs.Start.{Begins, begun};
+ghost use Rattle.nl_files.specs.FileFolder.{state_of, failure_count};
+
+use nl_files::{CrashableSystem, FileFolder, MemSystem, Plan};
+use nl_session::{Event, Outcome, Reply, run_events};
+use std::alloc::{AllocError, Global};
+
+/// The events on a new log over the files of a system, in order, as `run_events` has them. Err only where there is no memory for
+/// what the folder holds.
+pub fn run_over_system<S: CrashableSystem + Drop>(
+    alloc: Global,
+    system: S,
+    events: &[Event],
+) -> Result<(FileFolder<S>, Vec<Reply>, Outcome), AllocError>
+    requires begins { ForSome (S.System.model system) Begins }
+    ensures headline { (start : History) → BeginsAt start (option_map begun (S.System.model system))
+        → IfOk result (λ r. HeadlineOn start (zip events.now r.1.items) (state_of r.0).disk) }
+    ensures run { (start : History) → BeginsAt start (option_map begun (S.System.model system))
+        → IfOk result (λ r. Ran start events.now r.1.items (state_of r.0).disk (state_of r.0).is_settled) }
+    ensures rests { IfOk result (λ r. RestsThrough events.now (option_map begun (S.System.model system)) (state_of r.0).disk) }
+    ensures reopens { IfOk result (λ r. OpensAtLast (zip events.now r.1.items) (option_map begun (S.System.model system)) (state_of r.0).disk) }
+    ensures failures { IfOk result (λ r. HasRisen 0 (faults_of r.1.items) (failure_count r.0)) }
+    ensures steady { IfOk result (λ r. faults_of r.1.items ≡ 0 → failure_count r.0 ≡ 0) }
+    ensures memory { IfOk result (λ r. HadMemory r.1.items) }
+    ensures outcome { IfOk result (λ r. Ends r.2 events.now r.1.items) }
+{
+    let folder = FileFolder::new(system, alloc)?;
+    Ok(run_events(alloc, folder, events))
+}
+
+/// The events on a new log over a system in memory without files, which fails and crashes as it is told. The headline holds of it
+/// without a premise.
+pub fn run_in_memory(
+    alloc: Global,
+    plan: Plan,
+    events: &[Event],
+) -> Result<(FileFolder<MemSystem>, Vec<Reply>, Outcome), AllocError>
+    ensures headline { (start : History) → history_of [] ≡ Some start → IfOk result (λ r. HeadlineOn start (zip events.now r.1.items) (state_of r.0).disk) }
+    ensures outcome { IfOk result (λ r. Ends r.2 events.now r.1.items) }
+{
+    run_over_system(alloc, MemSystem::new(alloc, plan), events)
+}
