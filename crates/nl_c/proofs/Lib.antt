@@ -1,0 +1,3 @@
+mod BoxedLog
+mod KeptValues
+mod LogDrop

@@ -1,0 +1,4 @@
+pub mod Statuses
+pub mod LoadedLogs
+pub mod Answers
+pub mod Kept

@@ -1,0 +1,46 @@
+-- The statuses of the library's calls: docs/LIBRARY.md.
+use Rattle.std.specs.Prelude.{ℕ, List, ◌++◌, ◌==◌, if◌then◌else◌, codes, drop, length, min, take}
+use Rattle.nl_table.specs.declared.loader.LoadFault.{LoadFault}
+use Rattle.nl_table.specs.declared.loader.LoadFault.TheVariants as fault
+
+abbrev pub ok : ℕ
+ok = 0
+
+abbrev pub no_handle : ℕ
+no_handle = 1
+
+abbrev pub not_a_log : ℕ
+not_a_log = 2
+
+abbrev pub other_version : ℕ
+other_version = 3
+
+abbrev pub out_of_memory : ℕ
+out_of_memory = 4
+
+abbrev pub not_found : ℕ
+not_found = 5
+
+abbrev pub no_room : ℕ
+no_room = 6
+
+-- the status of a load that failed; a read fails in no load from memory
+abbrev pub status_of : LoadFault → ℕ
+status_of fault.NotALog = not_a_log
+status_of fault.OtherVersion = other_version
+status_of fault.Read = out_of_memory
+status_of fault.OutOfMemory = out_of_memory
+
+-- what a status says
+abbrev pub status_text : ℕ → List ℕ
+status_text status = if status == ok then codes "ok"
+    else (if status == no_handle then codes "no log is loaded"
+    else (if status == not_a_log then codes "not a ninja log"
+    else (if status == other_version then codes "log version not supported"
+    else (if status == out_of_memory then codes "out of memory"
+    else (if status == not_found then codes "not found"
+    else (if status == no_room then codes "the buffer is too short" else codes "unknown status"))))))
+
+-- the length of a text, and a buffer with as much of the text as it has room for
+abbrev pub text_in : List ℕ → List ℕ → ℕ × List ℕ
+text_in text buf = (length text, take (min (length text) (length buf)) text ++ drop (min (length text) (length buf)) buf)

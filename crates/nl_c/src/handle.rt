@@ -1,0 +1,59 @@
+//! The handle that a caller in C has. Memory of zeros is one without a log.
+ghost use Rattle.std.specs.Prelude.{◌≡◌, ◌↔◌, IsSome, Some, None, option_map};
+ghost use Rattle.nl_c.specs.Kept.{made as made_mark};
+
+use crate::kept::Kept;
+use crate::loaded_log::LoadedLog;
+use std::alloc::Global;
+use std::mem::replace;
+
+// What stands in a handle with a log, and in no memory by chance.
+const MADE: u64 = 0x6e6c_6f67_6861_6e64;
+
+/// A handle, with a log or without.
+#[repr(C)]
+#[derive(Drop)]
+pub struct Handle {
+    pub(crate) made: u64,
+    pub(crate) kept: Kept,
+    ghost is_made: { (made ≡ made_mark) ↔ IsSome kept.log },
+}
+
+impl Handle {
+    pub(crate) fn empty() -> Handle
+        ensures { result.kept.log ≡ None }
+    {
+        Handle {
+            made: 0,
+            kept: Kept::empty(),
+        }
+    }
+
+    pub(crate) fn of(log: Box<LoadedLog>) -> Handle
+        ensures { result.kept.log ≡ Some log.value }
+    {
+        Handle {
+            made: MADE,
+            kept: Kept::of(log),
+        }
+    }
+
+    fn into_log(self, alloc: Global) -> Option<Box<LoadedLog>>
+        ensures { self.kept.log ≡ option_map (λ log. log.value) result }
+    {
+        let Handle { made, kept } = self;
+        if made == MADE {
+            Some(kept.into_box(alloc))
+        } else {
+            None
+        }
+    }
+
+    /// Takes the log out, if there is one. It leaves a handle without a log.
+    pub(crate) fn take(&mut self, alloc: Global) -> Option<Box<LoadedLog>>
+        ensures held { self.old.kept.log ≡ option_map (λ log. log.value) result }
+        ensures empty { self.new.kept.log ≡ None }
+    {
+        replace(self, Handle::empty()).into_log(alloc)
+    }
+}

@@ -1,0 +1,43 @@
+//! One pointer: to a loaded log on the heap, which it owns, or to none.
+ghost use Rattle.std.specs.Prelude.{◌≡◌, Option, Some, None, IsSome};
+ghost use Rattle.nl_c.specs.Kept.{owned_if};
+ghost use Rattle.nl_c.specs.declared.loaded_log.LoadedLog.{LoadedLog};
+
+use crate::loaded_log::LoadedLog;
+use std::alloc::Global;
+use std::marker::Model;
+use std::ptr::null_mut;
+
+/// A pointer to a loaded log on the heap, or to none.
+#[repr(C)]
+#[derive(Drop)]
+pub struct Kept {
+    at: *mut u8,
+    ghost log: { Option LoadedLog },
+}
+
+impl Model for Kept {
+    ghost also_owns = { λ k. owned_if k.at k.log };
+}
+
+impl Kept {
+    pub(crate) fn empty() -> Kept
+        ensures { result.log ≡ None }
+    {
+        Kept { at: null_mut() }
+    }
+
+    pub(crate) fn of(log: Box<LoadedLog>) -> Kept
+        ensures { result.log ≡ Some log.value }
+    {
+        let (at, _) = Box::into_raw_with_allocator(log);
+        Kept { at: at as *mut u8 }
+    }
+
+    pub(crate) fn into_box(self, alloc: Global) -> Box<LoadedLog>
+        requires { IsSome self.log }
+        ensures { self.log ≡ Some result.value }
+    {
+        unsafe { Box::from_raw(alloc, self.at as *mut LoadedLog) }
+    }
+}

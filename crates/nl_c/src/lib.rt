@@ -1,0 +1,8 @@
+//! The library for callers in C. `include/nlog.h` declares what is exported here.
+#![tactic(auto)]
+
+mod exports;
+mod handle;
+mod kept;
+mod loaded_log;
+mod status;
