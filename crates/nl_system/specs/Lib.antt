@@ -1,0 +1,2 @@
+pub mod FailedCall
+pub mod Paths

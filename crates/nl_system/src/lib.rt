@@ -1,0 +1,11 @@
+//! The files of one log on an operating system, asked for by one call of it at a time, and the lock on them.
+#![tactic(auto)]
+
+mod failed_call;
+mod os_system;
+mod paths;
+mod system_file;
+
+pub use failed_call::{FailedCall, FileRole, SystemCall};
+pub use os_system::OsSystem;
+pub use system_file::SystemFile;
