@@ -242,7 +242,7 @@ fn version_of(asked: AskedVersion) -> LogVersion
     ensures { result ≡ log_version asked }
 {
     match asked {
-        AskedVersion::Five => LogVersion::Five,
+        AskedVersion::Five | AskedVersion::Auto => LogVersion::Five,
         AskedVersion::Six => LogVersion::Six,
         AskedVersion::Seven => LogVersion::Seven,
     }

@@ -6,7 +6,7 @@ use Rattle.clap.specs.Words.{App, Kinds, Row, Rule, Shape, Text, fault_of, first
 use Rattle.clap.specs.Kinds.{or_else}
 use Rattle.clap.specs.declared.error.kind.ErrorKind.TheVariants.{InvalidValue}
 use Rattle.nl_words.specs.declared.version.AskedVersion.{AskedVersion}
-use Rattle.nl_words.specs.declared.version.AskedVersion.TheVariants.{Five, Six, Seven}
+use Rattle.nl_words.specs.declared.version.AskedVersion.TheVariants.{Auto, Five, Six, Seven}
 use Rattle.nl_words.specs.declared.command_line.Words.{Words}
 use Rattle.nl_words.specs.declared.command_line.Words.TheVariants.{Show, Check, Hash, Entries, Damage, HashFile, Record, Recompact, Restat, Repair, Replay, Apply}
 use Rattle.std.specs.Borrow.{Bor}
@@ -164,9 +164,10 @@ abbrev pub version_text : AskedVersion → Text
 version_text Five = codes "5"
 version_text Six = codes "6"
 version_text Seven = codes "7"
+version_text Auto = codes "auto"
 
 abbrev pub is_version_text : Text → Bool
-is_version_text text = bytes_eq text (codes "5") || (bytes_eq text (codes "6") || bytes_eq text (codes "7"))
+is_version_text text = bytes_eq text (codes "5") || (bytes_eq text (codes "6") || (bytes_eq text (codes "7") || bytes_eq text (codes "auto")))
 
 -- the value of the option, where the command that was entered was given it
 abbrev pub asked_text : Option (Text × List Row) → Option Text

@@ -90,7 +90,7 @@ fn no_version(alloc: Global, text: &str) -> Result<Error, Error>
     ensures memory { IfErr result (λ e. kind_of e ≡ ErrorKind.OutOfMemory) }
 {
     let message = format!(in alloc;
-        "invalid value '{text}' for '--log-version <VERSION>': it is 5, 6 or 7"
+        "invalid value '{text}' for '--log-version <VERSION>': it is 5, 6, 7 or auto"
     )?;
     let error = nlog_command(alloc)?.error(ErrorKind::InvalidValue, message.as_str())?;
     Ok(error)

@@ -34,7 +34,8 @@ const LOG: &str = "A build log of Ninja, version 4 or 5";
 const OPTIONAL_LOG: &str =
     "A build log of Ninja, version 4 or 5; standard input where it is left out";
 
-const LOG_VERSION: &str = "5, 6 or 7: the version of LOG; 4 or 5 where it is left out";
+const LOG_VERSION: &str =
+    "5, 6 or 7: the version of LOG; auto: the one that its first line names; 4 or 5 where it is left out";
 
 /// The whole command line.
 pub fn nlog_command<'a>(alloc: Global) -> Result<Command<'a>, AllocError>

@@ -5,9 +5,12 @@ ghost use Rattle.nl_words.specs.CommandLine.{is_version_text, version_text};
 /// The version of logs that the option `--log-version` names.
 #[derive(Clone, Copy, Debug, PartialEq, Eq)]
 pub enum AskedVersion {
+    /// Version 5, and 4 beside it.
     Five,
     Six,
     Seven,
+    /// The one that the log's first line names: 5 where there is none.
+    Auto,
 }
 
 // The version that is written so.
@@ -19,6 +22,7 @@ pub fn version_of(text: &str) -> Option<AskedVersion>
         "5" => Some(AskedVersion::Five),
         "6" => Some(AskedVersion::Six),
         "7" => Some(AskedVersion::Seven),
+        "auto" => Some(AskedVersion::Auto),
         _ => None,
     }
 }
