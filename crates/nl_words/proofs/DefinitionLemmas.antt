@@ -3,14 +3,14 @@ use Rattle.std.proofs.Common.{◌≡◌, ◌∙◌, Bool, true, false, List, [],
 use Rattle.std.specs.Prelude.{IfSome}
 use Rattle.std.specs.List.{find, list_all}
 use Rattle.std.specs.Option.{option_map_or}
-use Rattle.clap.specs.Words.{App, Row, Shape, Text, FailsBy, HasKind, Kinds, built, fault_of, first_of, is_simple, is_simple_and_free, subcommand_of, with_subcommand}
+use Rattle.clap.specs.Words.{App, Row, Shape, Text, FailsBy, HasKind, Kinds, built, fault_of, first_of, is_simple, is_simple_and_free, subcommand_of}
 use Rattle.clap.specs.Faults.{entered_fault, level_fault, walk_fault}
 use Rattle.clap.specs.Simple.{argument_words, entered, label_of, names_of, rows_at}
 use Rattle.clap.specs.declared.error.Error.{Error}
 use Rattle.clap.specs.Walk.{answers_to, nothing_held, stop_after, walk_from}
 use Rattle.clap.proofs.OnLiterals.{clap_on_literals}
 use Rattle.clap.proofs.WalkLemmas.{both}
-use Rattle.nl_words.specs.CommandLine.{HasEach, IsCommandName, IsWhole, nlog, required_of}
+use Rattle.nl_words.specs.CommandLine.{HasEach, IsCommandName, IsWhole, nlog, required_of, with_command}
 use Rattle.nl_words.proofs.FullLemmas.{is_plain_rule}
 use Rattle.nl_words.proofs.RequiredLemmas.{has_required, level_required, none_fails}
 
@@ -130,7 +130,6 @@ fails_on (Ok x) e kinds h k = absurd h
 fails_on (Err x) e kinds h k = subst (HasKind kinds) (sym h) k
 
 -- a command that was made by adding one to another, each by its name
-pub joined : (new old named sub sub_named : App) → new ≡ with_subcommand old sub.top → old ≡ named
-    → sub ≡ sub_named → new ≡ with_subcommand named sub_named.top
-joined new old named sub sub_named e f g =
-    e ∙ ap₂ (λ (x y : App). with_subcommand x y.top) f g
+pub joined : (new old named sub sub_named : App) → new ≡ with_command old sub → old ≡ named
+    → sub ≡ sub_named → new ≡ with_command named sub_named
+joined new old named sub sub_named e f g = e ∙ ap₂ with_command f g

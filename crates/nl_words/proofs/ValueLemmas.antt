@@ -1,15 +1,16 @@
 -- The texts behind references that may be missing.
-use Rattle.std.proofs.Common.{◌≡◌, ◌∙◌, ◌||◌, Bool, true, false, List, Option, Some, None, IsSome, is_some, option_map, refl, sym, subst, ap, ap₂, Bor, true≢false}
+use Rattle.std.proofs.Common.{◌≡◌, ◌∙◌, ◌||◌, ℕ, Bool, true, false, List, Option, Some, None, IsSome, is_some, option_map, refl, sym, subst, ap, ap₂, Bor, true≢false}
 use Rattle.std.specs.Prelude.{Box}
 use Rattle.std.specs.Box.{box_value}
 use Rattle.std.specs.declared.alloc.Global.{Global}
 use Rattle.clap.specs.Words.{Row, Rule, Text, new_rule, rule_of, subcommand_name_of, subcommand_rows, subcommand_rows_of}
+use Rattle.clap.specs.declared.builder.action.ArgAction.TheVariants.{SetTrue}
 use Rattle.clap.specs.declared.builder.arg.Arg.{Arg}
 use Rattle.clap.specs.declared.builder.texts.Texts.TheVariants.{One}
 use Rattle.clap.specs.declared.parser.matches.ArgMatches.{ArgMatches}
 use Rattle.clap.specs.declared.parser.matches.ArgMatches.TheViews.{out-ArgMatches, out-SubCommand}
 use Rattle.clap.specs.declared.parser.matches.SubCommand.{SubCommand}
-use Rattle.nl_words.specs.CommandLine.{HasEach, IsWhole, required_of, version_id, version_rule}
+use Rattle.nl_words.specs.CommandLine.{HasEach, IsWhole, required_of, verbose_id, verbose_rule, version_id, version_rule}
 
 -- a reference to a text that is there
 pub some_of : (o : Option (Bor Text)) (t : Option Text) → option_map (λ (s : Bor Text). s.now) o ≡ t → is_some t ≡ true → IsSome o
@@ -49,3 +50,12 @@ pub version_told : (new long named told : Arg) (name value text : Bor Text)
 version_told new long named told name value text e f g is id =
     ap rule_of g ∙ (ap rule_of f ∙ ap (λ (a : Rule). record a { value_names = 1 }) (ap rule_of e
     ∙ ap₂ (λ (a : Rule) (t : Text). record a { long = Some t }) is id))
+
+-- the flag for a reason, by how it is put together
+pub verbose_told : (new long short flag told : Arg) (name text : Bor Text) (letter : ℕ)
+    → long ≡ record new { long = Some name } → short ≡ record long { short = Some letter } → flag ≡ record short { action = Some SetTrue }
+    → told ≡ record flag { help = Some text }
+    → rule_of new ≡ new_rule verbose_id → name.now ≡ verbose_id → letter ≡ 118 → rule_of told ≡ verbose_rule
+verbose_told new long short flag told name text letter e f g h is id v =
+    ap rule_of h ∙ (ap rule_of g ∙ ap (λ (a : Rule). record a { action = Some SetTrue }) (ap rule_of f
+    ∙ ap₂ (λ (a : Rule) (c : ℕ). record a { short = Some c }) (ap rule_of e ∙ ap₂ (λ (a : Rule) (t : Text). record a { long = Some t }) is id) v))

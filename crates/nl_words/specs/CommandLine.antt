@@ -4,6 +4,7 @@ use Rattle.std.specs.Option.{option_map_or}
 use Rattle.std.specs.Str.{bytes_eq}
 use Rattle.clap.specs.Words.{App, Kinds, Row, Rule, Shape, Text, fault_of, first_of, new_app, new_rule, subcommand_of, with_rule, with_subcommand}
 use Rattle.clap.specs.Kinds.{or_else}
+use Rattle.clap.specs.declared.builder.action.ArgAction.TheVariants.{SetTrue}
 use Rattle.clap.specs.declared.error.kind.ErrorKind.TheVariants.{InvalidValue}
 use Rattle.nl_words.specs.declared.version.AskedVersion.{AskedVersion}
 use Rattle.nl_words.specs.declared.version.AskedVersion.TheVariants.{Auto, Five, Six, Seven}
@@ -22,6 +23,18 @@ version_id = codes "log-version"
 -- the option: it has one value
 abbrev pub version_rule : Rule
 version_rule = record (new_rule version_id) { long = Some version_id; value_names = 1 }
+
+-- the name of the flag for the reason of a refusal
+abbrev pub verbose_id : Text
+verbose_id = codes "verbose"
+
+-- the flag: it stands for a text, `true` where it is given and `false` where it isn't
+abbrev pub verbose_rule : Rule
+verbose_rule = record (new_rule verbose_id) { long = Some verbose_id; short = Some 118; action = Some SetTrue }
+
+-- a program with one more command, which has the flag
+abbrev pub with_command : App → App → App
+with_command program command = with_subcommand program (with_rule command verbose_rule).top
 
 abbrev pub show : App
 show = with_rule (with_rule (new_app (codes "show")) (positional (codes "LOG") false)) version_rule
@@ -86,16 +99,16 @@ named =
 
 -- the commands that read a log whole, and `hash`
 abbrev pub printing : App
-printing = with_subcommand (with_subcommand (with_subcommand named show.top) check.top) hash.top
+printing = with_command (with_command (with_command named show) check) hash
 
 -- and those that go through what they read
 abbrev pub telling : App
-telling = with_subcommand (with_subcommand (with_subcommand printing entries.top) damage.top) hash_file.top
+telling = with_command (with_command (with_command printing entries) damage) hash_file
 
 -- the program, with its commands in the order of its help
 abbrev pub nlog : App
-nlog = with_subcommand (with_subcommand (with_subcommand (with_subcommand (with_subcommand (with_subcommand telling
-    record_line.top) recompact.top) restat.top) repair.top) replay.top) apply.top
+nlog = with_command (with_command (with_command (with_command (with_command (with_command telling
+    record_line) recompact) restat) repair) replay) apply
 
 -- the commands that the program has
 abbrev pub IsCommandName : Text → Type 0
@@ -178,6 +191,10 @@ abbrev pub IsAsked : Option AskedVersion → Option Text → Type 0
 IsAsked None None = ⊤
 IsAsked (Some version) (Some text) = text ≡ version_text version
 IsAsked _ _ = ⊥
+
+-- whether the command that was entered was given the flag
+abbrev pub asks_reason : Option (Text × List Row) → Bool
+asks_reason entered = option_map_or (λ text. bytes_eq text (codes "true")) (option_and_then (λ p. first_of verbose_id p.1) entered) false
 
 -- the kind of error of a value that is no version
 abbrev pub version_fault : Option Text → Kinds

@@ -1,7 +1,7 @@
 //! The command that a command line names, and the values that it gives.
 ghost use Rattle.std.specs.Prelude.{◌≡◌, codes, is_some, map, string_bytes, true, IfErr, IfOk};
 ghost use Rattle.clap.specs.Words.{first_of, found_of, kind_of, rows_of, subcommand_of, subcommand_rows_of, FailsBy};
-ghost use Rattle.nl_words.specs.CommandLine.{asked_text, fault_in, nlog, required_of, version_fault, HasEach, IsAsked, IsGiven, IsSaid, IsThere, IsWhole};
+ghost use Rattle.nl_words.specs.CommandLine.{asked_text, asks_reason, fault_in, nlog, required_of, version_fault, HasEach, IsAsked, IsGiven, IsSaid, IsThere, IsWhole};
 
 use crate::definition::nlog_command;
 use crate::version::{AskedVersion, version_of};
@@ -49,6 +49,8 @@ pub struct CommandLine<'a> {
     pub words: Words<'a>,
     /// The version of the log, where the command line asks for one.
     pub version: Option<AskedVersion>,
+    /// Whether the reason of a refusal is to be said.
+    pub verbose: bool,
 }
 
 /// Reads a command line, of which the first word is the program's name.
@@ -57,6 +59,7 @@ pub struct CommandLine<'a> {
 pub fn read_words<'a>(alloc: Global, words: &'a [String]) -> Result<CommandLine<'a>, Error>
     ensures value { IfOk result (λ line. IsSaid line.words (subcommand_of nlog (map string_bytes words.entry.now))) }
     ensures version { IfOk result (λ line. IsAsked line.version (asked_text (subcommand_of nlog (map string_bytes words.entry.now)))) }
+    ensures verbose { IfOk result (λ line. line.verbose ≡ asks_reason (subcommand_of nlog (map string_bytes words.entry.now))) }
     ensures accepts { FailsBy (fault_in (map string_bytes words.entry.now)) result }
 {
     let matches = nlog_command(alloc)?.try_get_matches_from(words)?;
@@ -64,7 +67,21 @@ pub fn read_words<'a>(alloc: Global, words: &'a [String]) -> Result<CommandLine<
     Ok(CommandLine {
         words: said(&matches),
         version,
+        verbose: is_verbose(&matches),
     })
+}
+
+// Whether the reason of a refusal is asked for.
+fn is_verbose(matches: &ArgMatches<'_>) -> bool
+    ensures { result ≡ asks_reason (subcommand_rows_of matches.now) }
+{
+    let Some((_, inner)) = matches.subcommand() else {
+        return false;
+    };
+    match optional(inner, "verbose") {
+        Some("true") => true,
+        _ => false,
+    }
 }
 
 // The version that is asked for, where one is.

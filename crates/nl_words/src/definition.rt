@@ -1,10 +1,10 @@
 //! What the program takes, as a command of `clap`, with the texts of its help.
 ghost use Rattle.std.specs.Prelude.{◌≡◌, IfOk, false};
-ghost use Rattle.clap.specs.Words.{app_of, with_rule, with_subcommand};
+ghost use Rattle.clap.specs.Words.{app_of, with_rule};
 ghost use Rattle.clap.specs.declared.builder.command.Command.TheViews.{out-Command};
-ghost use Rattle.nl_words.specs.CommandLine.{apply, check, damage, entries, hash, hash_file, named, nlog, positional, printing, recompact, record_line, record_values, repair, replay, restat, show, telling, version_rule};
+ghost use Rattle.nl_words.specs.CommandLine.{apply, check, damage, entries, hash, hash_file, named, nlog, positional, printing, recompact, record_line, record_values, repair, replay, restat, show, telling, verbose_rule, version_rule, with_command};
 
-use clap::{Arg, Command};
+use clap::{Arg, ArgAction, Command};
 use std::alloc::{AllocError, Global};
 
 const VERSION: &str = "0.1.0";
@@ -42,12 +42,12 @@ pub fn nlog_command<'a>(alloc: Global) -> Result<Command<'a>, AllocError>
     ensures { IfOk result (λ c. app_of c ≡ nlog) }
 {
     let nlog = telling_commands(alloc)?;
-    let nlog = with_command(nlog, record_command(alloc)?)?;
-    let nlog = with_command(nlog, recompact_command(alloc)?)?;
-    let nlog = with_command(nlog, restat_command(alloc)?)?;
-    let nlog = with_command(nlog, repair_command(alloc)?)?;
-    let nlog = with_command(nlog, replay_command(alloc)?)?;
-    with_command(nlog, apply_command(alloc)?)
+    let nlog = with_command(alloc, nlog, record_command(alloc)?)?;
+    let nlog = with_command(alloc, nlog, recompact_command(alloc)?)?;
+    let nlog = with_command(alloc, nlog, restat_command(alloc)?)?;
+    let nlog = with_command(alloc, nlog, repair_command(alloc)?)?;
+    let nlog = with_command(alloc, nlog, replay_command(alloc)?)?;
+    with_command(alloc, nlog, apply_command(alloc)?)
 }
 
 // The program with the commands that change no file, but for `replay`.
@@ -55,18 +55,18 @@ fn telling_commands<'a>(alloc: Global) -> Result<Command<'a>, AllocError>
     ensures { IfOk result (λ c. app_of c ≡ telling) }
 {
     let nlog = printing_commands(alloc)?;
-    let nlog = with_command(nlog, entries_command(alloc)?)?;
-    let nlog = with_command(nlog, damage_command(alloc)?)?;
-    with_command(nlog, hash_file_command(alloc)?)
+    let nlog = with_command(alloc, nlog, entries_command(alloc)?)?;
+    let nlog = with_command(alloc, nlog, damage_command(alloc)?)?;
+    with_command(alloc, nlog, hash_file_command(alloc)?)
 }
 
 // The program with the commands that read a log whole, and with `hash`.
 fn printing_commands<'a>(alloc: Global) -> Result<Command<'a>, AllocError>
     ensures { IfOk result (λ c. app_of c ≡ printing) }
 {
-    let nlog = with_command(named_command(alloc), show_command(alloc)?)?;
-    let nlog = with_command(nlog, check_command(alloc)?)?;
-    with_command(nlog, hash_command(alloc)?)
+    let nlog = with_command(alloc, named_command(alloc), show_command(alloc)?)?;
+    let nlog = with_command(alloc, nlog, check_command(alloc)?)?;
+    with_command(alloc, nlog, hash_command(alloc)?)
 }
 
 // The program without its commands.
@@ -80,12 +80,26 @@ fn named_command<'a>(alloc: Global) -> Command<'a>
         .disable_help_subcommand(true)
 }
 
-// The program with one more command.
-fn with_command<'a>(nlog: Command<'a>, command: Command<'a>) -> Result<Command<'a>, AllocError>
+// The program with one more command, which has the flag for the reason of a refusal.
+fn with_command<'a>(
+    alloc: Global,
+    nlog: Command<'a>,
+    command: Command<'a>,
+) -> Result<Command<'a>, AllocError>
     requires { (out-Command command).has_globals ≡ false }
-    ensures { IfOk result (λ c. app_of c ≡ with_subcommand (app_of nlog.entry) (app_of command.entry).top) }
+    ensures { IfOk result (λ c. app_of c ≡ with_command (app_of nlog.entry) (app_of command.entry)) }
 {
-    nlog.subcommand(command)
+    nlog.subcommand(with_verbose(alloc, command)?)
+}
+
+// The command with the flag for the reason of a refusal.
+fn with_verbose<'a>(alloc: Global, command: Command<'a>) -> Result<Command<'a>, AllocError>
+    ensures shape { IfOk result (λ c. app_of c ≡ with_rule (app_of command.entry) verbose_rule) }
+    ensures local { IfOk result (λ c. (out-Command c).has_globals ≡ (out-Command command.entry).has_globals) }
+{
+    let flag = Arg::new(alloc, "verbose").long("verbose").short('v');
+    let flag = flag.action(ArgAction::SetTrue);
+    command.arg(flag.help("Says behind a refusal which file it is of, and the system's reason"))
 }
 
 // The command with one more value, which stands by its place.

@@ -2,7 +2,7 @@ use Rattle.std.proofs.Common.{◌≡◌, ◌∙◌, List, Option, ap, map, strin
 use Rattle.clap.specs.Words.{App, HasKind, Row, Text, app_of, fault_of, is_simple, is_simple_and_free, subcommand_of}
 use Rattle.nl_words.proofs.DefinitionLemmas.{fails_on, nlog_is_free, nlog_is_simple, nlog_whole}
 use Rattle.nl_words.proofs.AskedLemmas.{first_kind, no_kind, second_kind}
-use Rattle.nl_words.specs.CommandLine.{IsAsked, IsSaid, IsWhole, asked_text, fault_in, nlog, version_fault}
+use Rattle.nl_words.specs.CommandLine.{IsAsked, IsSaid, IsWhole, asked_text, asks_reason, fault_in, nlog, version_fault}
 use Rattle.nl_words.proofs.command_line.read_words.Goals as goal
 
 pub said-requires : goal.said-requires
@@ -56,3 +56,10 @@ returns-clause-accepts c =
     let free = sym (ap (λ (a : App). fault_of a words) is_nlog) ∙ c.in_ok-matches.ensures.kinds (ap is_simple_and_free is_nlog ∙ nlog_is_free) in
     no_kind (fault_of nlog words) (version_fault (asked_text (subcommand_of nlog words))) free
     (sym (ap (λ (entered : Option (Text × List Row)). version_fault (asked_text entered)) e) ∙ c.in_ok-version.ensures.accepts)
+
+pub returns-clause-verbose : goal.returns-clause-verbose
+returns-clause-verbose c =
+    let words = map string_bytes c.args.words.now in
+    let is_nlog : app_of c.in_ok-nlog_command.field-0 ≡ nlog = c.in_ok-nlog_command.ensures in
+    let e = (c.in_ok-matches.ensures.matches (ap is_simple is_nlog ∙ nlog_is_simple)).1 ∙ ap (λ (a : App). subcommand_of a words) is_nlog in
+    c.is_verbose.ensures ∙ ap asks_reason e
