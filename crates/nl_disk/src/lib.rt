@@ -2,7 +2,10 @@
 #![tactic(auto)]
 
 mod disk_folder;
+mod failure;
 mod file_calls;
 mod paths;
 
 pub use disk_folder::DiskFolder;
+pub use failure::{Failure, LogFile};
+pub use paths::folder_part;
