@@ -34,6 +34,11 @@ const LOG: &str = "A build log of Ninja, version 4 or 5";
 const OPTIONAL_LOG: &str =
     "A build log of Ninja, version 4 or 5; standard input where it is left out";
 
+const ANY_LOG: &str = "A build log of Ninja, version 4 to 7";
+
+const OPTIONAL_ANY_LOG: &str =
+    "A build log of Ninja, version 4 to 7; standard input where it is left out";
+
 const LOG_VERSION: &str =
     "5, 6 or 7: the version of LOG; auto: the one that its first line names; 4 or 5 where it is left out";
 
@@ -75,7 +80,7 @@ fn named_command<'a>(alloc: Global) -> Command<'a>
 {
     Command::new(alloc, "nlog")
         .version(VERSION)
-        .about("Reads, checks and changes build logs of Ninja, versions 4 and 5")
+        .about("Reads, checks and changes build logs of Ninja, versions 4 to 7")
         .after_help(AFTER)
         .disable_help_subcommand(true)
 }
@@ -205,7 +210,7 @@ fn entries_command<'a>(alloc: Global) -> Result<Command<'a>, AllocError>
 The lines are those of `show`, which has the last entry of each output alone. They are printed while
 LOG is read, so where a read fails, or LOG is larger than a log may be, the first ones were printed.",
         );
-    with_value(alloc, command, "LOG", false, OPTIONAL_LOG)
+    with_value(alloc, command, "LOG", false, OPTIONAL_ANY_LOG)
 }
 
 fn damage_command<'a>(alloc: Global) -> Result<Command<'a>, AllocError>
@@ -227,7 +232,7 @@ OUTPUT  the output that its last five fields name, the first of them from some d
 
 Status: 0 where nothing is printed, 3 where there is damage.",
         );
-    with_value(alloc, command, "LOG", false, OPTIONAL_LOG)
+    with_value(alloc, command, "LOG", false, OPTIONAL_ANY_LOG)
 }
 
 fn hash_file_command<'a>(alloc: Global) -> Result<Command<'a>, AllocError>
@@ -362,7 +367,7 @@ anew. The new log is written to LOG.recompact, and renamed over LOG. A LOG that 
 
 Nothing else may change LOG meanwhile: a build, or another nlog.",
         );
-    with_value(alloc, command, "LOG", true, LOG)
+    with_value(alloc, command, "LOG", true, ANY_LOG)
 }
 
 fn replay_command<'a>(alloc: Global) -> Result<Command<'a>, AllocError>
@@ -388,7 +393,7 @@ fn apply_command<'a>(alloc: Global) -> Result<Command<'a>, AllocError>
     let command = Command::new(alloc, "apply").about(
         "Runs the events of a script on a log, and prints the reply to each before it reads the next",
     );
-    let command = with_value(alloc, command, "LOG", true, LOG)?;
+    let command = with_value(alloc, command, "LOG", true, ANY_LOG)?;
     with_value(
         alloc,
         command,
