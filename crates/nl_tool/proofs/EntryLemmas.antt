@@ -20,6 +20,7 @@ use Rattle.nl_table.specs.LogText.{lines_of_entries}
 use Rattle.nl_table.proofs.FirstLineLemmas.{log_of-lines}
 use Rattle.nl_table.proofs.LogLemmas.{is_versioned, rest_is_header}
 use Rattle.nl_tool.specs.Streams.{Finds, IsSoFar, Streams, entry_text, listed, listed_of, texts_from, told, told_of}
+use Rattle.nl_tool.specs.VersionChoice.{as_five}
 
 -- what is told of a line, and of the rest
 abbrev pub entry_line : ℕ → ℕ → List ℕ → List ℕ
@@ -54,11 +55,11 @@ told_listed bytes = go (log_of bytes) refl
 same_text : told entry_line no_rest ≡ listed
 same_text = λ i bytes. told_listed bytes i
 
-pub all_listed : (known w v : Option (List ℕ)) (any : Bool) → Finds (told entry_line no_rest) known w v (Ok any) → Streams listed known w v (Ok tt)
-all_listed known w v any found = subst (λ (text_of : List ℕ → Option (List ℕ)). Streams text_of known w v (Ok tt)) same_text (found.0, found.1, found.2)
+pub all_listed : (known w v : Option (List ℕ)) (any : Bool) → Finds (λ bs. told entry_line no_rest (as_five bs)) known w v (Ok any) → Streams (λ bs. listed (as_five bs)) known w v (Ok tt)
+all_listed known w v any found = subst (λ (text_of : List ℕ → Option (List ℕ)). Streams (λ bs. text_of (as_five bs)) known w v (Ok tt)) same_text (found.0, found.1, found.2)
 
-pub some_listed : (known w v : Option (List ℕ)) → IsSoFar (told entry_line no_rest) known w v → IsSoFar listed known w v
-some_listed known w v so_far = subst (λ (text_of : List ℕ → Option (List ℕ)). IsSoFar text_of known w v) same_text so_far
+pub some_listed : (known w v : Option (List ℕ)) → IsSoFar (λ bs. told entry_line no_rest (as_five bs)) known w v → IsSoFar (λ bs. listed (as_five bs)) known w v
+some_listed known w v so_far = subst (λ (text_of : List ℕ → Option (List ℕ)). IsSoFar (λ bs. text_of (as_five bs)) known w v) same_text so_far
 
 -- the entries of a log, loaded again, are its table
 pub entries_shown : (bytes text : List ℕ) → listed bytes ≡ Some text → length (header_line ++ text) ≤ max_log → shown (header_line ++ text) ≡ shown bytes

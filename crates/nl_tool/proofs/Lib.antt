@@ -2,6 +2,7 @@ pub mod FileLemmas
 mod KeepLemmas
 mod TimesLemmas
 mod DamageLemmas
+mod DamageLawLemmas
 mod EntryLemmas
 mod StreamLemmas
 pub mod ChangeLemmas
@@ -9,5 +10,7 @@ mod RepairLemmas
 pub mod OutputLemmas
 mod VersionLemmas
 mod VersionChoiceLemmas
+mod BeginningLemmas
+mod AnyVersionLemmas
 mod EndingLemmas
 mod ApplyLemmas

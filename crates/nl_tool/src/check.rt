@@ -5,10 +5,11 @@ ghost use Rattle.nl_tool.specs.Faults.{IsLogFault};
 ghost use Rattle.nl_texts.specs.Output.{Prints};
 ghost use Rattle.nl_tool.specs.Output.{checked, report, yes_or_no, IsTextFor};
 ghost use Rattle.nl_tool.specs.Versions.{checked_as, log_as, numbered};
+ghost use Rattle.nl_tool.specs.VersionChoice.{IsReportOfAny, as_five};
 ghost use Rattle.nl_texts.specs.declared.fault.ToolFault.{ToolFault};
 
 use crate::loading::load_all;
-use crate::versions::load_as;
+use crate::versions::{load_any, load_as};
 use nl_lines::LogVersion;
 use nl_table::{Loaded, is_due};
 use nl_texts::{ToolFault, write_out};
@@ -45,6 +46,23 @@ pub fn check_as<R: Read + Drop, W: Write>(
     ensures faults { IfErr result IsLogFault }
 {
     let mut loaded = load_as(alloc, version, reader)?;
+    loaded.version = numbered(version, loaded.version);
+    let report = report_text(alloc, &loaded)?;
+    write_out(report.as_bytes(), writer)
+}
+
+/// The same of a log of whichever version its first line names, whose number is the first line.
+pub fn check_any<R: Read + Drop, W: Write>(
+    alloc: Global,
+    reader: R,
+    writer: &mut W,
+) -> Result<(), ToolFault>
+    ensures prints { Prints (IsReportOfAny (R.remaining reader)) (W.contents writer.old) (W.contents writer.new) result }
+    ensures not_a_log { IsErrOf result ToolFault.NotALog → IfSome (R.remaining reader) (λ bs. log_of (as_five bs) ≡ NotALog) }
+    ensures other_version { IsErrOf result ToolFault.OtherVersion → IfSome (R.remaining reader) (λ bs. log_of (as_five bs) ≡ OtherVersion) }
+    ensures faults { IfErr result IsLogFault }
+{
+    let (version, mut loaded) = load_any(alloc, reader)?;
     loaded.version = numbered(version, loaded.version);
     let report = report_text(alloc, &loaded)?;
     write_out(report.as_bytes(), writer)

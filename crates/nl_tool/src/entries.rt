@@ -5,6 +5,7 @@ ghost use Rattle.nl_table.specs.Log.{entry_on, log_of, NotALog, OtherVersion};
 ghost use Rattle.nl_texts.specs.declared.fault.ToolFault.{ToolFault};
 ghost use Rattle.nl_tool.specs.Faults.{IsLogFault};
 ghost use Rattle.nl_tool.specs.Streams.{Streams, entry_text, listed};
+ghost use Rattle.nl_tool.specs.VersionChoice.{as_five};
 
 use crate::stream::{LineText, stream_to};
 use nl_fields::append_entry;
@@ -76,9 +77,9 @@ pub fn entries_to<R: Read + Drop, W: Write>(
     reader: R,
     writer: &mut W,
 ) -> Result<(), ToolFault>
-    ensures streams { Streams listed (R.remaining reader) (W.contents writer.old) (W.contents writer.new) result }
-    ensures not_a_log { IsErrOf result ToolFault.NotALog → IfSome (R.remaining reader) (λ bs. log_of bs ≡ NotALog) }
-    ensures other_version { IsErrOf result ToolFault.OtherVersion → IfSome (R.remaining reader) (λ bs. log_of bs ≡ OtherVersion) }
+    ensures streams { Streams (λ bs. listed (as_five bs)) (R.remaining reader) (W.contents writer.old) (W.contents writer.new) result }
+    ensures not_a_log { IsErrOf result ToolFault.NotALog → IfSome (R.remaining reader) (λ bs. log_of (as_five bs) ≡ NotALog) }
+    ensures other_version { IsErrOf result ToolFault.OtherVersion → IfSome (R.remaining reader) (λ bs. log_of (as_five bs) ≡ OtherVersion) }
     ensures faults { IfErr result IsLogFault }
 {
     match stream_to(alloc, &EntryLines, reader, writer) {

@@ -3,6 +3,7 @@
 
 mod apply;
 mod asked;
+mod beginning;
 mod change;
 mod check;
 mod damage;
@@ -25,8 +26,8 @@ mod version_choice;
 mod version_updates;
 mod versions;
 
-pub use apply::apply_on;
-pub use check::{check_as, check_to};
+pub use apply::{apply_on, apply_through};
+pub use check::{check_any, check_as, check_to};
 pub use damage::damage_to;
 pub use ending::{run_line, run_program};
 pub use entries::entries_to;
@@ -38,8 +39,8 @@ pub use nl_replay::replay_to;
 pub use nl_texts::{ToolFault, status_of};
 pub use nl_words::{AskedVersion, CommandLine, Words, read_words};
 pub use program::{Outcome, run};
-pub use show::{show_as, show_to};
+pub use show::{show_any, show_as, show_to};
 pub use update::{recompact_on, record_on, repair_on, restat_on};
-pub use version_choice::{VersionChoice, version_of};
+pub use version_choice::{asked_version, chosen_in, version_in, version_of};
 pub use version_updates::{recompact_as, record_as, repair_as, restat_as};
-pub use versions::{command_hash_as, entry_as, hash_as, load_as};
+pub use versions::{command_hash_as, entry_as, hash_as, load_any, load_as};

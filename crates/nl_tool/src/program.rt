@@ -5,23 +5,23 @@ ghost use Rattle.nl_texts.specs.Output.{Prints};
 ghost use Rattle.std.specs.Io.KnownBytes.{Appends};
 ghost use Rattle.nl_tool.specs.Output.{IsAnswer, IsTextFor};
 ghost use Rattle.nl_tool.specs.Streams.{IsSoFar, damaged};
-ghost use Rattle.nl_tool.specs.Versions.{log_version, IsAnswerAs, IsAnswerOf};
+ghost use Rattle.nl_tool.specs.VersionChoice.{as_five, IsAnswerAs, IsAnswerOfAny};
+ghost use Rattle.nl_tool.specs.Versions.{IsAnswerOf};
 ghost use Rattle.nl_texts.specs.declared.fault.ToolFault.{ToolFault};
-ghost use Rattle.nl_lines.specs.declared.version.LogVersion.{LogVersion};
 ghost use Rattle.nl_words.specs.declared.version.AskedVersion.{AskedVersion};
 
-use crate::apply::apply_on;
-use crate::check::{check_as, check_to};
+use crate::apply::{apply_on, apply_through};
+use crate::check::{check_any, check_as, check_to};
 use crate::damage::damage_to;
 use crate::entries::entries_to;
 use crate::hash::hash_to;
 use crate::hash_file::hash_file_to;
-use crate::show::{show_as, show_to};
-use crate::update::repair_on;
-use crate::version_updates::{recompact_as, record_as, restat_as};
+use crate::show::{show_any, show_as, show_to};
+use crate::version_choice::{chosen_in, version_in};
+use crate::version_updates::{recompact_as, record_as, repair_as, restat_as};
 use crate::versions::{entry_as, hash_as};
 use nl_disk::DiskFolder;
-use nl_fields::EntryRef;
+use nl_folder::{Folder, VersionSeven, VersionSix};
 use nl_lines::LogVersion;
 use nl_replay::replay_to;
 use nl_texts::ToolFault;
@@ -85,18 +85,15 @@ fn run_command<R: Runtime>(
             name,
             command,
         } => {
-            let version = version_or_five(version);
+            // What is wrong with the words comes before anything is asked of the log.
+            let _ = entry_as(LogVersion::Five, start, end, mtime, name, command)?;
+            let (folder, version) = chosen_in(or_five(version), DiskFolder::new(rt, alloc, log)?);
+            let version = version?;
             let entry = entry_as(version, start, end, mtime, name, command)?;
-            record_in(rt, alloc, version, log, &entry)
+            record_as(alloc, version, folder, &entry).1
         }
-        Words::Recompact { log, keep } => recompact_in(
-            rt,
-            alloc,
-            version_or_five(version),
-            log,
-            keep,
-        ),
-        Words::Restat { log, times } => restat_in(rt, alloc, version_or_five(version), log, times),
+        Words::Recompact { log, keep } => recompact_in(rt, alloc, or_five(version), log, keep),
+        Words::Restat { log, times } => restat_in(rt, alloc, or_five(version), log, times),
         Words::Repair(log) => repair_in(rt, alloc, log),
         Words::Apply { log, script } => apply_in(rt, alloc, log, script),
     }
@@ -135,9 +132,9 @@ fn tell_damage<R: Read + Drop, W: Write>(
     writer: &mut W,
 ) -> Result<Outcome, ToolFault>
     ensures found { MatchResult result
-        (λ outcome. (text : List ℕ) × IsTextFor damaged (R.remaining reader) text × Appends (W.contents writer.old) (W.contents writer.new) text
+        (λ outcome. (text : List ℕ) × IsTextFor (λ bs. damaged (as_five bs)) (R.remaining reader) text × Appends (W.contents writer.old) (W.contents writer.new) text
         × ((outcome ≡ Outcome.Damaged) ↔ (0 < length text)))
-        (λ _. IsSoFar damaged (R.remaining reader) (W.contents writer.old) (W.contents writer.new)) }
+        (λ _. IsSoFar (λ bs. damaged (as_five bs)) (R.remaining reader) (W.contents writer.old) (W.contents writer.new)) }
     ensures faults { IfErr result IsLogFault }
 {
     match damage_to(alloc, reader, writer) {
@@ -178,7 +175,10 @@ fn answer_to<R: Read + Drop, W: Write>(
     ensures faults { IfErr result (IsFaultOf words.now) }
 {
     match version {
-        Some(asked) => answer_as(alloc, words, version_of(asked), reader, writer),
+        Some(AskedVersion::Five) => answer_as(alloc, words, LogVersion::Five, reader, writer),
+        Some(AskedVersion::Six) => answer_as(alloc, words, LogVersion::Six, reader, writer),
+        Some(AskedVersion::Seven) => answer_as(alloc, words, LogVersion::Seven, reader, writer),
+        Some(AskedVersion::Auto) => answer_any(alloc, words, reader, writer),
         None => answer_plain(alloc, words, reader, writer),
     }
 }
@@ -238,66 +238,61 @@ fn answer_as<R: Read + Drop, W: Write>(
     }
 }
 
-fn version_of(asked: AskedVersion) -> LogVersion
-    ensures { result ≡ log_version asked }
+// The same over logs of whichever version their first line names.
+fn answer_any<R: Read + Drop, W: Write>(
+    alloc: Global,
+    words: &Words<'_>,
+    reader: R,
+    writer: &mut W,
+) -> Result<(), ToolFault>
+    requires { IsPrinting words.now }
+    ensures prints { Prints (IsAnswerOfAny words.now (R.remaining reader)) (W.contents writer.old) (W.contents writer.new) result }
+    ensures faults { IfErr result (IsFaultOf words.now) }
 {
-    match asked {
-        AskedVersion::Five | AskedVersion::Auto => LogVersion::Five,
-        AskedVersion::Six => LogVersion::Six,
-        AskedVersion::Seven => LogVersion::Seven,
+    match *words {
+        Words::Show(_) => show_any(alloc, reader, writer),
+        Words::Check(_) => check_any(alloc, reader, writer),
+        _ => answer_plain(alloc, words, reader, writer),
     }
 }
 
 // A log is one of version 5, or 4, where no version is asked for.
-fn version_or_five(version: Option<AskedVersion>) -> LogVersion
-    ensures none { version ≡ None → result ≡ LogVersion.Five }
-    ensures asked { (asked : AskedVersion) → version ≡ Some asked → result ≡ log_version asked }
+fn or_five(asked: Option<AskedVersion>) -> AskedVersion
+    ensures none { asked ≡ None → result ≡ AskedVersion.Five }
+    ensures some { (version : AskedVersion) → asked ≡ Some version → result ≡ version }
 {
-    match version {
-        Some(asked) => version_of(asked),
-        None => LogVersion::Five,
+    match asked {
+        Some(asked) => asked,
+        None => AskedVersion::Five,
     }
-}
-
-fn record_in<R: Files>(
-    rt: &R,
-    alloc: Global,
-    version: LogVersion,
-    log: &str,
-    entry: &EntryRef,
-) -> Result<(), ToolFault>
-    ensures faults { IfErr result IsRecordFault }
-{
-    let folder = DiskFolder::new(rt, alloc, log)?;
-    record_as(alloc, version, folder, entry).1
 }
 
 fn recompact_in<R: Files>(
     rt: &R,
     alloc: Global,
-    version: LogVersion,
+    asked: AskedVersion,
     log: &str,
     keep: &str,
 ) -> Result<(), ToolFault>
     ensures faults { IfErr result IsRecompactFault }
 {
     let names = open(rt, keep)?;
-    let folder = DiskFolder::new(rt, alloc, log)?;
-    recompact_as(alloc, version, folder, names).1
+    let (folder, version) = chosen_in(asked, DiskFolder::new(rt, alloc, log)?);
+    recompact_as(alloc, version?, folder, names).1
 }
 
 fn restat_in<R: Files>(
     rt: &R,
     alloc: Global,
-    version: LogVersion,
+    asked: AskedVersion,
     log: &str,
     times: &str,
 ) -> Result<(), ToolFault>
     ensures faults { IfErr result IsRestatFault }
 {
     let pairs = open(rt, times)?;
-    let folder = DiskFolder::new(rt, alloc, log)?;
-    restat_as(alloc, version, folder, pairs).1
+    let (folder, version) = chosen_in(asked, DiskFolder::new(rt, alloc, log)?);
+    restat_as(alloc, version?, folder, pairs).1
 }
 
 fn apply_in<R: Runtime>(
@@ -311,18 +306,37 @@ fn apply_in<R: Runtime>(
     let mut out = io::writer(rt);
     let Some(path) = script else {
         let folder = DiskFolder::new(rt, alloc, log)?;
-        return apply_on(alloc, folder, rt.reader(), &mut out).1;
+        return apply_any(alloc, folder, rt.reader(), &mut out);
     };
     let lines = open(rt, path)?;
     let folder = DiskFolder::new(rt, alloc, log)?;
-    apply_on(alloc, folder, lines, &mut out).1
+    apply_any(alloc, folder, lines, &mut out)
+}
+
+// Answers the lines that the reader gives on the log of a folder, of the version that it has when they begin. Where it can't
+// be read then, it is for the answer to `open` to say so.
+fn apply_any<F: Folder + Drop, R: Read + Drop, W: Write>(
+    alloc: Global,
+    folder: F,
+    reader: R,
+    writer: &mut W,
+) -> Result<(), ToolFault>
+    ensures faults { IfErr result IsApplyFault }
+{
+    let (folder, version) = version_in(folder);
+    match version {
+        Ok(LogVersion::Six) => apply_through(alloc, VersionSix, folder, reader, writer).1,
+        Ok(LogVersion::Seven) => apply_through(alloc, VersionSeven, folder, reader, writer).1,
+        Ok(LogVersion::Five) | Err(_) => apply_on(alloc, folder, reader, writer).1,
+    }
 }
 
 fn repair_in<R: Files>(rt: &R, alloc: Global, log: &str) -> Result<(), ToolFault>
     ensures faults { IfErr result IsRecordFault }
 {
     let folder = DiskFolder::new(rt, alloc, log)?;
-    repair_on(alloc, folder).1
+    let (folder, version) = version_in(folder);
+    repair_as(alloc, version?, folder).1
 }
 
 // The file of a log, or none where it is missing.

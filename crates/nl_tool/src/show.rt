@@ -8,10 +8,11 @@ ghost use Rattle.nl_tool.specs.Faults.{IsLogFault};
 ghost use Rattle.nl_texts.specs.Output.{AppendsPrefixOf, Prints};
 ghost use Rattle.nl_tool.specs.Output.{IsTextFor, Moves, shown};
 ghost use Rattle.nl_tool.specs.Versions.{log_as, shown_as};
+ghost use Rattle.nl_tool.specs.VersionChoice.{as_five, shown_any};
 ghost use Rattle.nl_texts.specs.declared.fault.ToolFault.{ToolFault};
 
 use crate::loading::load_all;
-use crate::versions::load_as;
+use crate::versions::{load_any, load_as};
 use nl_fields::{MAX_ENTRY_LINE, append_entry};
 use nl_lines::LogVersion;
 use nl_table::Table;
@@ -52,6 +53,22 @@ pub fn show_as<R: Read + Drop, W: Write>(
     ensures faults { IfErr result IsLogFault }
 {
     let seen = load_as(alloc, version, reader)?;
+    let mut held = Vec::with_capacity(alloc, PIECE)?;
+    write_lines(&seen.table, &mut held, writer)
+}
+
+/// The same of a log of whichever version its first line names.
+pub fn show_any<R: Read + Drop, W: Write>(
+    alloc: Global,
+    reader: R,
+    writer: &mut W,
+) -> Result<(), ToolFault>
+    ensures prints { Prints (IsTextFor shown_any (R.remaining reader)) (W.contents writer.old) (W.contents writer.new) result }
+    ensures not_a_log { IsErrOf result ToolFault.NotALog → IfSome (R.remaining reader) (λ bs. log_of (as_five bs) ≡ NotALog) }
+    ensures other_version { IsErrOf result ToolFault.OtherVersion → IfSome (R.remaining reader) (λ bs. log_of (as_five bs) ≡ OtherVersion) }
+    ensures faults { IfErr result IsLogFault }
+{
+    let seen = load_any(alloc, reader)?.1;
     let mut held = Vec::with_capacity(alloc, PIECE)?;
     write_lines(&seen.table, &mut held, writer)
 }
