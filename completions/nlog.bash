@@ -25,8 +25,8 @@ _nlog() {
     done
     if [[ ! $dashes && $word == -* ]]; then
         case ${COMP_WORDS[1]} in
-            show | check | hash | record | recompact | restat) mapfile -t COMPREPLY < <(compgen -W '--log-version --help -h' -- "$word") ;;
-            *) mapfile -t COMPREPLY < <(compgen -W '--help -h' -- "$word") ;;
+            show | check | hash | record | recompact | restat) mapfile -t COMPREPLY < <(compgen -W '--log-version --verbose -v --help -h' -- "$word") ;;
+            *) mapfile -t COMPREPLY < <(compgen -W '--verbose -v --help -h' -- "$word") ;;
         esac
         return
     fi

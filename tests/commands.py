@@ -18,6 +18,12 @@ NO_LOG = b"nlog: not a ninja log\n"
 OTHER_VERSION = b"nlog: log version not supported\n"
 CANNOT_READ = b"nlog: cannot read\n"
 
+# What the C library says of an error of the system.
+NO_FILE = b"No such file or directory (os error 2)\n"
+NO_FOLDER = b"Not a directory (os error 20)\n"
+A_FOLDER = b"Is a directory (os error 21)\n"
+LONG_NAME = b"File name too long (os error 36)\n"
+
 # First lines that are refused, and what is said of them.
 REFUSED = [
     (b"# ninja log v6\n", OTHER_VERSION),
@@ -305,8 +311,8 @@ WORDS = [
     (["check", "--log-version=07"], 2, b"", BAD_VERSION % b"07"),
     (["hash", "--log-version", "seven", "c"], 2, b"", BAD_VERSION % b"seven"),
     (["show", "--log-version", "7", "seven", "--log-version", "7"], 2, b"", TWO_VERSIONS),
-    (["entries", "--log-version", "7"], 2, b"", NO_OPTION % b"entries [LOG]"),
-    (["repair", "--log-version", "7", "seven"], 2, b"", NO_OPTION % b"repair <LOG>"),
+    (["entries", "--log-version", "7"], 2, b"", NO_OPTION % b"entries [OPTIONS] [LOG]"),
+    (["repair", "--log-version", "7", "seven"], 2, b"", NO_OPTION % b"repair [OPTIONS] <LOG>"),
     # Of the commands that change a log: one of another version than the one that is asked for is refused, and stays.
     (["record", "--log-version", "6", "seven", "1", "2", "3", "n", "c"], 1, b"", OTHER_VERSION),
     (["record", "--log-version", "7", "file", "1", "2", "3", "n", "c"], 1, b"", OTHER_VERSION),
@@ -317,9 +323,36 @@ WORDS = [
     (["restat", "six", "/dev/null", "--log-version", "7"], 1, b"", OTHER_VERSION),
     (["restat", "six", "file", "--log-version", "8"], 2, b"", BAD_VERSION % b"8"),
     (["record", "seven", "--log-version"], 2, b"", NO_VERSION),
-    (["apply", "--log-version", "7", "file", "asks"], 2, b"", NO_OPTION % b"apply <LOG> [SCRIPT]"),
+    (["apply", "--log-version", "7", "file", "asks"], 2, b"", NO_OPTION % b"apply [OPTIONS] <LOG> [SCRIPT]"),
     # A LOG that is no file of the system's.
     (["record", "folder", "1", "2", "3", "n", "c"], 1, b"", b"nlog: the folder failed\n"),
+    # Behind a refusal the file that it is of, and why.
+    (["show", "--verbose", "file"], 0, FILE_SHOWN, b""),
+    (["check", "-v", "missing"], 0, NOTHING_CHECKED, b""),
+    (["damage", "-v"], 3, b"3\tskipped\t1\t-\n", b""),
+    (["hash", "--", "-v"], 0, b"%x\n" % command_hash(b"-v"), b""),
+    (["show", "-v", "folder"], 1, b"", CANNOT_READ + b"nlog: LOG folder: " + A_FOLDER),
+    (["check", "file/log", "--verbose"], 1, b"", CANNOT_READ + b"nlog: LOG file/log: " + NO_FOLDER),
+    (["entries", "-v", "folder"], 1, b"", CANNOT_READ + b"nlog: LOG folder: " + A_FOLDER),
+    (["damage", "-v", "folder"], 1, b"", CANNOT_READ + b"nlog: LOG folder: " + A_FOLDER),
+    (["hash-file", "-v", "missing"], 1, b"", CANNOT_READ + b"nlog: FILE missing: " + NO_FILE),
+    (["replay", "missing", "-v"], 1, b"", CANNOT_READ + b"nlog: SCRIPT missing: " + NO_FILE),
+    (["replay", "-v"], 1, b"", b"nlog: bad line 1\nnlog: standard input: line 1\n"),
+    (["replay", "file", "-v"], 1, b"", b"nlog: bad line 1\nnlog: SCRIPT file: line 1\n"),
+    (["apply", "-v", "none", "missing"], 1, b"", CANNOT_READ + b"nlog: SCRIPT missing: " + NO_FILE),
+    (["recompact", "-v", "seven", "missing"], 1, b"", CANNOT_READ + b"nlog: KEEP missing: " + NO_FILE),
+    (["recompact", "-v", "seven", "file"], 1, b"", b"nlog: bad line 2\nnlog: KEEP file: line 2\n"),
+    (["restat", "-v", "seven", "folder"], 1, b"", CANNOT_READ + b"nlog: TIMES folder: " + A_FOLDER),
+    (["restat", "-v", "six", "file"], 1, b"", b"nlog: bad line 1\nnlog: TIMES file: line 1\n"),
+    (["restat", "-v", "six", "/dev/null"], 1, b"", OTHER_VERSION + b"nlog: LOG six: version 6\n"),
+    (["show", "-v", "seven"], 1, b"", OTHER_VERSION + b"nlog: LOG seven: version 7\n"),
+    (["show", "-v", "--log-version", "7", "four"], 1, b"", OTHER_VERSION + b"nlog: LOG four: version 4\n"),
+    (["record", "-v", "folder", "1", "2", "3", "n", "c"], 1, b"", b"nlog: the folder failed\nnlog: LOG folder: " + A_FOLDER),
+    (["record", "-v", "missing/log", "1", "2", "3", "n", "c"], 1, b"", b"nlog: the folder failed\nnlog: folder missing: " + NO_FILE),
+    (["record", "-v", "n" * 256, "1", "2", "3", "n", "c"], 1, b"", b"nlog: the folder failed\nnlog: LOG " + b"n" * 256 + b": " + LONG_NAME),
+    # Nothing more is known of these.
+    (["record", "-v", "own", "x", "2", "3", "n", "c"], 1, b"", b"nlog: bad number\n"),
+    (["show", "-v", "script"], 1, b"", NO_LOG),
 ]
 
 # What a log that is missing at first has after each of these commands, one after the other.

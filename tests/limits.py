@@ -277,6 +277,21 @@ MAY = [
 ]
 
 
+def reason(room, mode, log_mode, words):
+    """What is said, by `--verbose`, of a file that may not be opened: which it is."""
+    folder = f"{room}/folder"
+    if "SECRET" in words:
+        part = {"recompact": "KEEP", "restat": "TIMES", "replay": "SCRIPT", "hash-file": "FILE"}[words[0]]
+        place = f"{part} {room}/SECRET"
+    elif words in WRITES and mode == 0o300:
+        place = f"folder {folder}"
+    elif words in WRITES and mode == 0o500 and log_mode is not None:
+        place = f"scratch {folder}/LOG.recompact"
+    else:
+        place = f"{'FILE' if words[0] == 'hash-file' else 'LOG'} {folder}/LOG"
+    return f"nlog: {place}: Permission denied (os error 13)\n".encode()
+
+
 def run_without_rights(program, room, mode, log_mode, words):
     """Runs a command in a new folder, of which the user is the owner: how it ended, the log, and the names of the files."""
     folder = f"{room}/folder"
@@ -317,6 +332,9 @@ def try_rights(trials, program, room):
         what = f"{' '.join(words)} in a folder of mode {mode:03o}, LOG {log}"
         got = run_without_rights(program, room, mode, log_mode, words)
         trials.want(what, got, (wanted, left, [] if left is None else ["LOG"]))
+        said = wanted[2] and wanted[2] + reason(room, mode, log_mode, words)
+        got = run_without_rights(program, room, mode, log_mode, [*words, "-v"])
+        trials.want(f"{what}, by -v", got, ((*wanted[:2], said), left, [] if left is None else ["LOG"]))
     return None
 
 

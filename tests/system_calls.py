@@ -5,7 +5,8 @@
 
 Wants strace, and that it may trace. Where a command is killed as a call begins, or the call fails with EIO or EINTR, for each
 call in turn, the log has to be one that the rules let it leave; later kills leave no less of the work; status 0 comes only of a
-log that is done, and never where a call on LOG met EIO; and the same command again does its work.
+log that is done, and never where a call on LOG met EIO; the second line of the refusal, by `--verbose`, has the file of the call
+and the error that it met; and the same command again does its work.
 """
 import os
 import re
@@ -19,6 +20,8 @@ from trials import main, read, run
 
 # How a call is disturbed. One that was interrupted may be made again.
 WAYS = {"kill": "signal=SIGKILL", "error": "error=EIO", "interrupt": "error=EINTR"}
+# What the C library says of these errors.
+SAYS = {"error": b"Input/output error (os error 5)", "interrupt": b"Interrupted system call (os error 4)"}
 # The calls that end the process: one that fails would leave it no way to end.
 ENDS = ("exit_group", "exit")
 CALL = re.compile(r"(\w+)\((.*?)\) += (\S+)")
@@ -87,10 +90,18 @@ def traced(program, case, room, inject=()):
     """Runs a case in a new folder: how it ended, and its system calls."""
     os.makedirs(room)
     case.fill(room)
-    words = ["strace", "-y", "-o", f"{room}/TRACE", "-e", "signal=none", *inject, *case.words(program, room)]
+    words = ["strace", "-y", "-o", f"{room}/TRACE", "-e", "signal=none", *inject, *case.words(program, room), "--verbose"]
     status, out, err = run(words, cwd="/")
     calls = [it for it in (read(f"{room}/TRACE") or b"").decode(errors="replace").split("\n") if re.match(r"\w+\(", it)]
     return (status, out, err), calls
+
+
+def reason(line, room, how):
+    """What is said of the call of this line, which failed so."""
+    for name, part in (("KEEP", "KEEP"), ("TIMES", "TIMES"), ("LOG.recompact", "scratch"), ("LOG", "LOG")):
+        if f"ROOM/{name}" in line:
+            return f"nlog: {part} {room}/{name}: ".encode() + SAYS[how] + b"\n"
+    return f"nlog: folder {room}: ".encode() + SAYS[how] + b"\n"
 
 
 class Sweep:
@@ -131,7 +142,7 @@ class Sweep:
         if how == "kill" and status != -9:
             wrong.append(f"it wasn't killed, but ended with status {status}")
         if how != "kill" and "ROOM" in line and word not in ("close", "execve") and (how == "error" or status != 0):
-            text = UNREAD if re.search(r"ROOM/(KEEP|TIMES)", line) else FAILED
+            text = (UNREAD if re.search(r"ROOM/(KEEP|TIMES)", line) else FAILED) + reason(line, room, how)
             if (status, err) != (1, text):
                 wrong.append(f"status {status} with {err!r} in place of 1 with {text!r}")
         return wrong, left, read(f"{room}/LOG.recompact"), room

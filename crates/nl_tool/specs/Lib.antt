@@ -10,3 +10,4 @@ pub mod Faults
 pub mod Updates
 pub mod Ending
 pub mod Applying
+pub mod Reasons

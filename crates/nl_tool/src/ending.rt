@@ -6,11 +6,13 @@ ghost use Rattle.clap.specs.Words.{kind_of, subcommand_of};
 ghost use Rattle.nl_tool.specs.Ending.{status_after, IsStatusBy, IsStatusOfKind};
 ghost use Rattle.nl_words.specs.CommandLine.{fault_in, nlog};
 
-use crate::program::{Outcome, run};
+use crate::notes::Notes;
+use crate::program::{Outcome, run_noted};
+use crate::reason::{Refusal, refusal_of};
 use clap::Error;
 use clap::error::ErrorKind;
 use nl_texts::{ToolFault, status_of};
-use nl_words::read_words;
+use nl_words::{CommandLine, read_words};
 use std::alloc::Global;
 use std::rt::Runtime;
 use std::{env, io};
@@ -39,7 +41,11 @@ pub fn run_line<R: Runtime>(rt: &R, alloc: Global, line: &[String]) -> u8
     ensures bound { result ≤ 3 }
 {
     match read_words(alloc, line) {
-        Ok(said) => end(rt, run(rt, alloc, &said)),
+        Ok(said) => {
+            let mut notes = Notes::new(said.verbose);
+            let answer = run_noted(rt, alloc, &said, &mut notes);
+            end(rt, alloc, &said, answer, &notes)
+        }
         Err(error) => explain(rt, &error),
     }
 }
@@ -48,14 +54,20 @@ fn given_words<R: Runtime + AllocGlobal>(rt: &R) -> io::Result<Vec<String>> {
     Ok(env::args(rt)?.collect(rt.alloc())?)
 }
 
-fn end(rt: &impl Eprint, answer: Result<Outcome, ToolFault>) -> u8
+fn end(
+    rt: &impl Eprint,
+    alloc: Global,
+    line: &CommandLine<'_>,
+    answer: Result<Outcome, ToolFault>,
+    notes: &Notes,
+) -> u8
     ensures status { result ≡ status_after answer }
     ensures bound { result ≤ 3 }
 {
     match answer {
         Ok(Outcome::Done) => DONE,
         Ok(Outcome::Damaged) => DAMAGED,
-        Err(fault) => refuse(rt, fault),
+        Err(fault) => say(rt, &refusal_of(alloc, line, fault, notes)),
     }
 }
 
@@ -63,8 +75,14 @@ fn end(rt: &impl Eprint, answer: Result<Outcome, ToolFault>) -> u8
 fn refuse(rt: &impl Eprint, fault: ToolFault) -> u8
     ensures { result ≡ 1 }
 {
-    let _ = eprintln!(rt; "nlog: {fault}");
-    status_of(&fault)
+    say(rt, &Refusal { fault, why: None })
+}
+
+fn say(rt: &impl Eprint, refusal: &Refusal<'_>) -> u8
+    ensures { result ≡ 1 }
+{
+    let _ = eprintln!(rt; "nlog: {refusal}");
+    status_of(&refusal.fault)
 }
 
 // Says why the words could not be taken, as where they are no UTF-8.

@@ -1,5 +1,5 @@
 //! What the program does once its words are read.
-ghost use Rattle.std.specs.Prelude.{◌≡◌, ◌<◌, ◌↔◌, ℕ, List, Some, None, IfErr, IfOk, MatchResult, OnOk, length};
+ghost use Rattle.std.specs.Prelude.{◌≡◌, ◌<◌, ◌↔◌, ℕ, List, Some, None, IfErr, IfOk, IsErr, IsSome, MatchResult, OnOk, length};
 ghost use Rattle.nl_tool.specs.Faults.{AsksForDamage, CanBeDone, IsApplyFault, IsFaultOf, IsLogFault, IsPrinting, IsRecompactFault, IsRecordFault, IsRestatFault, ReadsLog};
 ghost use Rattle.nl_texts.specs.Output.{Prints};
 ghost use Rattle.std.specs.Io.KnownBytes.{Appends};
@@ -16,6 +16,7 @@ use crate::damage::damage_to;
 use crate::entries::entries_to;
 use crate::hash::hash_to;
 use crate::hash_file::hash_file_to;
+use crate::notes::{NotedReader, NotedWriter, Notes};
 use crate::show::{show_any, show_as, show_to};
 use crate::version_choice::{chosen_in, version_in};
 use crate::version_updates::{recompact_as, record_as, repair_as, restat_as};
@@ -46,10 +47,24 @@ pub fn run<R: Runtime>(rt: &R, alloc: Global, line: &CommandLine<'_>) -> Result<
     ensures damaged { IfOk result (λ outcome. outcome ≡ Outcome.Damaged → AsksForDamage line.now.words) }
     ensures faults { IfErr result (IsFaultOf line.now.words) }
 {
+    run_noted(rt, alloc, line, &mut Notes::new(false))
+}
+
+/// The same, and notes why what failed has failed.
+pub fn run_noted<R: Runtime>(
+    rt: &R,
+    alloc: Global,
+    line: &CommandLine<'_>,
+    notes: &mut Notes,
+) -> Result<Outcome, ToolFault>
+    ensures accepts { OnOk result (CanBeDone line.now.words) }
+    ensures damaged { IfOk result (λ outcome. outcome ≡ Outcome.Damaged → AsksForDamage line.now.words) }
+    ensures faults { IfErr result (IsFaultOf line.now.words) }
+{
     if let Words::Damage(log) = line.words {
-        return damage_in(rt, alloc, log);
+        return damage_in(rt, alloc, log, notes);
     }
-    run_command(rt, alloc, &line.words, line.version)?;
+    run_command(rt, alloc, &line.words, line.version, notes)?;
     Ok(Outcome::Done)
 }
 
@@ -59,6 +74,7 @@ fn run_command<R: Runtime>(
     alloc: Global,
     words: &Words<'_>,
     version: Option<AskedVersion>,
+    notes: &mut Notes,
 ) -> Result<(), ToolFault>
     requires { ¬ AsksForDamage words.now }
     ensures accepts { OnOk result (CanBeDone words.now) }
@@ -66,16 +82,16 @@ fn run_command<R: Runtime>(
 {
     match *words {
         Words::Show(Some(path)) | Words::Check(Some(path)) => answer_log(
-            rt, alloc, words, version, path,
+            rt, alloc, words, version, path, notes,
         ),
         Words::Replay(Some(path)) | Words::HashFile(Some(path)) => {
-            let file = open(rt, path)?;
-            answer_to(alloc, words, version, file, &mut io::writer(rt))
+            let file = open(rt, path, notes)?;
+            answer_noted(rt, alloc, words, version, file, notes)
         }
         Words::Show(None) | Words::Check(None) | Words::Replay(None) | Words::HashFile(None) =>
-            answer_to(alloc, words, version, rt.reader(), &mut io::writer(rt)),
-        Words::Hash(_) => answer_to(alloc, words, version, io::empty(), &mut io::writer(rt)),
-        Words::Entries(log) => entries_in(rt, alloc, log),
+            answer_noted(rt, alloc, words, version, rt.reader(), notes),
+        Words::Hash(_) => answer_noted(rt, alloc, words, version, io::empty(), notes),
+        Words::Entries(log) => entries_in(rt, alloc, log, notes),
         Words::Damage(_) => unreachable!(),
         Words::Record {
             log,
@@ -88,41 +104,74 @@ fn run_command<R: Runtime>(
             // What is wrong with the words comes before anything is asked of the log.
             let _ = entry_as(LogVersion::Five, start, end, mtime, name, command)?;
             let (folder, version) = chosen_in(or_five(version), DiskFolder::new(rt, alloc, log)?);
-            let version = version?;
+            let version = match version {
+                Ok(version) => version,
+                Err(fault) => return noted((folder, Err(fault)), notes),
+            };
             let entry = entry_as(version, start, end, mtime, name, command)?;
-            record_as(alloc, version, folder, &entry).1
+            noted(record_as(alloc, version, folder, &entry), notes)
         }
-        Words::Recompact { log, keep } => recompact_in(rt, alloc, or_five(version), log, keep),
-        Words::Restat { log, times } => restat_in(rt, alloc, or_five(version), log, times),
-        Words::Repair(log) => repair_in(rt, alloc, log),
-        Words::Apply { log, script } => apply_in(rt, alloc, log, script),
+        Words::Recompact { log, keep } => {
+            recompact_in(rt, alloc, or_five(version), log, keep, notes)
+        }
+        Words::Restat { log, times } => {
+            restat_in(rt, alloc, or_five(version), log, times, notes)
+        }
+        Words::Repair(log) => repair_in(rt, alloc, log, notes),
+        Words::Apply { log, script } => apply_in(rt, alloc, log, script, notes),
     }
 }
 
-fn entries_in<R: Runtime>(rt: &R, alloc: Global, log: Option<&str>) -> Result<(), ToolFault>
+fn entries_in<R: Runtime>(
+    rt: &R,
+    alloc: Global,
+    log: Option<&str>,
+    notes: &mut Notes,
+) -> Result<(), ToolFault>
     ensures faults { IfErr result IsLogFault }
 {
-    let mut out = io::writer(rt);
-    let Some(path) = log else {
-        return entries_to(alloc, rt.reader(), &mut out);
+    let mut out = NotedWriter::new(io::writer(rt));
+    let file = match log {
+        Some(path) => open_log(rt, path, notes)?,
+        None => None,
     };
-    match open_log(rt, path)? {
-        Some(file) => entries_to(alloc, file, &mut out),
-        None => entries_to(alloc, io::empty(), &mut out),
-    }
+    let answer = match file {
+        Some(file) => entries_to(alloc, NotedReader::new(file, &mut notes.heard), &mut out),
+        None if log.is_some() => entries_to(alloc, io::empty(), &mut out),
+        None => entries_to(
+            alloc,
+            NotedReader::new(rt.reader(), &mut notes.heard),
+            &mut out,
+        ),
+    };
+    notes.written = out.failure;
+    answer
 }
 
-fn damage_in<R: Runtime>(rt: &R, alloc: Global, log: Option<&str>) -> Result<Outcome, ToolFault>
+fn damage_in<R: Runtime>(
+    rt: &R,
+    alloc: Global,
+    log: Option<&str>,
+    notes: &mut Notes,
+) -> Result<Outcome, ToolFault>
     ensures faults { IfErr result IsLogFault }
 {
-    let mut out = io::writer(rt);
-    let Some(path) = log else {
-        return tell_damage(alloc, rt.reader(), &mut out);
+    let mut out = NotedWriter::new(io::writer(rt));
+    let file = match log {
+        Some(path) => open_log(rt, path, notes)?,
+        None => None,
     };
-    match open_log(rt, path)? {
-        Some(file) => tell_damage(alloc, file, &mut out),
-        None => tell_damage(alloc, io::empty(), &mut out),
-    }
+    let answer = match file {
+        Some(file) => tell_damage(alloc, NotedReader::new(file, &mut notes.heard), &mut out),
+        None if log.is_some() => tell_damage(alloc, io::empty(), &mut out),
+        None => tell_damage(
+            alloc,
+            NotedReader::new(rt.reader(), &mut notes.heard),
+            &mut out,
+        ),
+    };
+    notes.written = out.failure;
+    answer
 }
 
 // Says of the log that the reader gives whether it is damaged.
@@ -151,15 +200,34 @@ fn answer_log<R: Files + Print>(
     words: &Words<'_>,
     version: Option<AskedVersion>,
     path: &str,
+    notes: &mut Notes,
 ) -> Result<(), ToolFault>
     requires { ReadsLog words.now }
     ensures faults { IfErr result (IsFaultOf words.now) }
 {
-    let mut out = io::writer(rt);
-    match open_log(rt, path)? {
-        Some(file) => answer_to(alloc, words, version, file, &mut out),
-        None => answer_to(alloc, words, version, io::empty(), &mut out),
+    match open_log(rt, path, notes)? {
+        Some(file) => answer_noted(rt, alloc, words, version, file, notes),
+        None => answer_noted(rt, alloc, words, version, io::empty(), notes),
     }
+}
+
+// The same over what this reader gives.
+fn answer_noted<P: Print, R: Read + Drop>(
+    rt: &P,
+    alloc: Global,
+    words: &Words<'_>,
+    version: Option<AskedVersion>,
+    reader: R,
+    notes: &mut Notes,
+) -> Result<(), ToolFault>
+    requires { IsPrinting words.now }
+    ensures faults { IfErr result (IsFaultOf words.now) }
+{
+    let mut out = NotedWriter::new(io::writer(rt));
+    let reader = NotedReader::new(reader, &mut notes.heard);
+    let answer = answer_to(alloc, words, version, reader, &mut out);
+    notes.written = out.failure;
+    answer
 }
 
 // Does what words say that print a text, with this reader for what is read and this writer for the text.
@@ -273,12 +341,20 @@ fn recompact_in<R: Files>(
     asked: AskedVersion,
     log: &str,
     keep: &str,
+    notes: &mut Notes,
 ) -> Result<(), ToolFault>
     ensures faults { IfErr result IsRecompactFault }
 {
-    let names = open(rt, keep)?;
+    let names = open(rt, keep, notes)?;
     let (folder, version) = chosen_in(asked, DiskFolder::new(rt, alloc, log)?);
-    recompact_as(alloc, version?, folder, names).1
+    match version {
+        Ok(version) => {
+            let names = NotedReader::new(names, &mut notes.heard);
+            let done = recompact_as(alloc, version, folder, names);
+            noted(done, notes)
+        }
+        Err(fault) => noted((folder, Err(fault)), notes),
+    }
 }
 
 fn restat_in<R: Files>(
@@ -287,12 +363,20 @@ fn restat_in<R: Files>(
     asked: AskedVersion,
     log: &str,
     times: &str,
+    notes: &mut Notes,
 ) -> Result<(), ToolFault>
     ensures faults { IfErr result IsRestatFault }
 {
-    let pairs = open(rt, times)?;
+    let pairs = open(rt, times, notes)?;
     let (folder, version) = chosen_in(asked, DiskFolder::new(rt, alloc, log)?);
-    restat_as(alloc, version?, folder, pairs).1
+    match version {
+        Ok(version) => {
+            let pairs = NotedReader::new(pairs, &mut notes.heard);
+            let done = restat_as(alloc, version, folder, pairs);
+            noted(done, notes)
+        }
+        Err(fault) => noted((folder, Err(fault)), notes),
+    }
 }
 
 fn apply_in<R: Runtime>(
@@ -300,17 +384,33 @@ fn apply_in<R: Runtime>(
     alloc: Global,
     log: &str,
     script: Option<&str>,
+    notes: &mut Notes,
 ) -> Result<(), ToolFault>
     ensures faults { IfErr result IsApplyFault }
 {
-    let mut out = io::writer(rt);
     let Some(path) = script else {
         let folder = DiskFolder::new(rt, alloc, log)?;
-        return apply_any(alloc, folder, rt.reader(), &mut out);
+        return apply_noted(rt, alloc, folder, rt.reader(), notes);
     };
-    let lines = open(rt, path)?;
+    let lines = open(rt, path, notes)?;
     let folder = DiskFolder::new(rt, alloc, log)?;
-    apply_any(alloc, folder, lines, &mut out)
+    apply_noted(rt, alloc, folder, lines, notes)
+}
+
+fn apply_noted<P: Print, F: Files + Clone + Drop, R: Read + Drop>(
+    rt: &P,
+    alloc: Global,
+    folder: DiskFolder<F>,
+    reader: R,
+    notes: &mut Notes,
+) -> Result<(), ToolFault>
+    ensures faults { IfErr result IsApplyFault }
+{
+    let mut out = NotedWriter::new(io::writer(rt));
+    let reader = NotedReader::new(reader, &mut notes.heard);
+    let done = apply_any(alloc, folder, reader, &mut out);
+    notes.written = out.failure;
+    noted(done, notes)
 }
 
 // Answers the lines that the reader gives on the log of a folder, of the version that it has when they begin. Where it can't
@@ -320,42 +420,69 @@ fn apply_any<F: Folder + Drop, R: Read + Drop, W: Write>(
     folder: F,
     reader: R,
     writer: &mut W,
-) -> Result<(), ToolFault>
-    ensures faults { IfErr result IsApplyFault }
+) -> (F, Result<(), ToolFault>)
+    ensures faults { IfErr result.1 IsApplyFault }
 {
     let (folder, version) = version_in(folder);
     match version {
-        Ok(LogVersion::Six) => apply_through(alloc, VersionSix, folder, reader, writer).1,
-        Ok(LogVersion::Seven) => apply_through(alloc, VersionSeven, folder, reader, writer).1,
-        Ok(LogVersion::Five) | Err(_) => apply_on(alloc, folder, reader, writer).1,
+        Ok(LogVersion::Six) => apply_through(alloc, VersionSix, folder, reader, writer),
+        Ok(LogVersion::Seven) => apply_through(alloc, VersionSeven, folder, reader, writer),
+        Ok(LogVersion::Five) | Err(_) => apply_on(alloc, folder, reader, writer),
     }
 }
 
-fn repair_in<R: Files>(rt: &R, alloc: Global, log: &str) -> Result<(), ToolFault>
+fn repair_in<R: Files>(rt: &R, alloc: Global, log: &str, notes: &mut Notes) -> Result<(), ToolFault>
     ensures faults { IfErr result IsRecordFault }
 {
     let folder = DiskFolder::new(rt, alloc, log)?;
     let (folder, version) = version_in(folder);
-    repair_as(alloc, version?, folder).1
+    match version {
+        Ok(version) => noted(repair_as(alloc, version, folder), notes),
+        Err(fault) => noted((folder, Err(fault)), notes),
+    }
+}
+
+// What was answered over a folder, of which it is noted why it last failed, and how a log of another version begins.
+fn noted<R: Files + Clone + Drop>(
+    done: (DiskFolder<R>, Result<(), ToolFault>),
+    notes: &mut Notes,
+) -> Result<(), ToolFault>
+    ensures same { result ≡ done.1 }
+    ensures kept { notes.new.folder ≡ done.0.last_failure }
+{
+    let (mut folder, result) = done;
+    notes.folder = folder.last_failure();
+    if notes.looks && result == Err(ToolFault::OtherVersion) {
+        notes.look_at(&mut folder);
+    }
+    result
 }
 
 // The file of a log, or none where it is missing.
-fn open_log<R: Files>(rt: &R, path: &str) -> Result<Option<R::File>, ToolFault>
+fn open_log<R: Files>(rt: &R, path: &str, notes: &mut Notes) -> Result<Option<R::File>, ToolFault>
     ensures faults { IfErr result (λ e. e ≡ ToolFault.Read) }
+    ensures noted { IsErr result → IsSome notes.new.heard.failure }
 {
     match fs::open(rt, path) {
         Ok(file) => Ok(Some(file)),
         Err(error) if error.kind() == ErrorKind::NotFound => Ok(None),
-        Err(_) => Err(ToolFault::Read),
+        Err(error) => {
+            notes.heard.failure = Some(error);
+            Err(ToolFault::Read)
+        }
     }
 }
 
 // A file that has to be there.
-fn open<R: Files>(rt: &R, path: &str) -> Result<R::File, ToolFault>
+fn open<R: Files>(rt: &R, path: &str, notes: &mut Notes) -> Result<R::File, ToolFault>
     ensures faults { IfErr result (λ e. e ≡ ToolFault.Read) }
+    ensures noted { IsErr result → IsSome notes.new.heard.failure }
 {
     match fs::open(rt, path) {
         Ok(file) => Ok(file),
-        Err(_) => Err(ToolFault::Read),
+        Err(error) => {
+            notes.heard.failure = Some(error);
+            Err(ToolFault::Read)
+        }
     }
 }

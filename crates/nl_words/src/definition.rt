@@ -12,8 +12,9 @@ const VERSION: &str = "0.1.0";
 const AFTER: &str = "\
 Without a command, and where LOG is left out, a log is read from standard input.
 A LOG that is missing is read as one without entries, also where its name is mistyped.
+One of version 6 or 7 is taken where `--log-version`, behind the command, asks for it.
 `record`, `recompact`, `restat` and `repair` first repair a LOG that a crash cut off, and make what
-they change durable before they end.
+they change durable before they end. `record` takes one entry, and `apply` many, one by one.
 
 Nothing locks LOG. Of two that change it at once one loses what it wrote, though it ended with
 status 0, and two nlogs may leave no log. A build by Ninja changes it until the build ends. So run
@@ -26,8 +27,8 @@ Examples:
   nlog damage .ninja_log >> damaged || { test $? = 3 && nlog repair .ninja_log; }
   nlog entries .ninja_log | tail -n 1
 
-Status: 0 done; 1 refused, and a line `nlog: ...` on standard error says why; 2 wrong words;
-3 `damage` found some.";
+Status: 0 done; 1 refused, and a line `nlog: ...` on standard error says why (with `--verbose`,
+behind the command, a second one says more); 2 wrong words; 3 `damage` found some.";
 
 const LOG: &str = "A build log of Ninja, version 4 or 5";
 

@@ -1,0 +1,110 @@
+-- What is said behind a refusal where `--verbose` asks for it: docs/CLI.md, "Why something was refused".
+use Rattle.std.specs.Prelude.{⊤, ◌≡◌, ◌++◌, ◌∷◌, [], List, ℕ, Option, None, Some, IfSome, codes, decimal, string_bytes}
+use Rattle.std.specs.Borrow.{Bor}
+use Rattle.nl_disk.specs.Paths.{folder_of}
+use Rattle.nl_disk.specs.declared.failure.Failure.{Failure}
+use Rattle.nl_disk.specs.declared.failure.LogFile.{LogFile}
+use Rattle.nl_disk.specs.declared.failure.LogFile.TheVariants as file
+use Rattle.nl_texts.specs.Faults.{text_of}
+use Rattle.nl_texts.specs.declared.fault.ToolFault.{ToolFault}
+use Rattle.nl_texts.specs.declared.fault.ToolFault.TheVariants as fault
+use Rattle.nl_words.specs.declared.command_line.Words.{Words}
+use Rattle.nl_words.specs.declared.command_line.Words.TheVariants.{Show, Check, Hash, Entries, Damage, HashFile, Record, Recompact, Restat, Repair, Replay, Apply}
+use Rattle.nl_tool.specs.declared.reason.Place.{Place}
+use Rattle.nl_tool.specs.declared.reason.Place.TheVariants as at
+use Rattle.nl_tool.specs.declared.reason.Reason.{Reason}
+use Rattle.nl_tool.specs.declared.reason.Reason.TheVariants.{System, Line, Version}
+use Rattle.nl_tool.specs.declared.reason.Why.{Why}
+use Rattle.nl_tool.specs.declared.reason.Refusal.{Refusal}
+
+-- ---- what is said
+
+-- a file by its name on the page and its path, or a stream
+abbrev pub place_text : Place → List ℕ
+place_text (at.Log path) = codes "LOG " ++ path.now
+place_text (at.Scratch log) = codes "scratch " ++ (log.now ++ codes ".recompact")
+place_text (at.Folder log) = codes "folder " ++ folder_of log.now
+place_text (at.Keep path) = codes "KEEP " ++ path.now
+place_text (at.Times path) = codes "TIMES " ++ path.now
+place_text (at.Script path) = codes "SCRIPT " ++ path.now
+place_text (at.Command path) = codes "FILE " ++ path.now
+place_text at.Input = codes "standard input"
+place_text at.Output = codes "standard output"
+
+abbrev pub reason_text : Reason → List ℕ
+reason_text (System text) = string_bytes text
+reason_text (Line number) = codes "line " ++ decimal number
+reason_text (Version version) = codes "version " ++ string_bytes version
+
+abbrev pub why_text : Why → List ℕ
+why_text why = place_text why.place ++ (codes ": " ++ reason_text why.reason)
+
+-- nothing, or a line of its own behind another
+abbrev pub behind : Option Why → List ℕ
+behind None = []
+behind (Some why) = codes "\nnlog: " ++ why_text why
+
+-- the text of the fault, and behind it that of the reason, where there is one
+abbrev pub refusal_text : Refusal → List ℕ
+refusal_text refusal = text_of refusal.fault ++ behind refusal.why
+
+-- ---- of which file it is
+
+-- the file that the words have read, or standard input
+abbrev pub given_or_input : (Bor (List ℕ) → Place) → Option (Bor (List ℕ)) → Place
+given_or_input place None = at.Input
+given_or_input place (Some path) = place path
+
+abbrev pub read_place : Words → Option Place
+read_place (Show log) = Some (given_or_input at.Log log)
+read_place (Check log) = Some (given_or_input at.Log log)
+read_place (Entries log) = Some (given_or_input at.Log log)
+read_place (Damage log) = Some (given_or_input at.Log log)
+read_place (HashFile file) = Some (given_or_input at.Command file)
+read_place (Replay script) = Some (given_or_input at.Script script)
+read_place (Apply log script) = Some (given_or_input at.Script script)
+read_place (Recompact log keep) = Some (at.Keep keep)
+read_place (Restat log times) = Some (at.Times times)
+read_place (Hash command) = None
+read_place (Record log start end mtime name command) = None
+read_place (Repair log) = None
+
+-- a file of the log at a path
+abbrev pub file_place : Bor (List ℕ) → LogFile → Place
+file_place log file.Log = at.Log log
+file_place log file.Scratch = at.Scratch log
+file_place log file.Folder = at.Folder log
+
+-- a file of the log that the words change, or what they read a log from
+abbrev pub log_place : Words → LogFile → Option Place
+log_place (Record log start end mtime name command) file = Some (file_place log file)
+log_place (Recompact log keep) file = Some (file_place log file)
+log_place (Restat log times) file = Some (file_place log file)
+log_place (Repair log) file = Some (file_place log file)
+log_place (Apply log script) file = Some (file_place log file)
+log_place (Show log) file = read_place (Show log)
+log_place (Check log) file = read_place (Check log)
+log_place (Entries log) file = read_place (Entries log)
+log_place (Damage log) file = read_place (Damage log)
+log_place (Hash command) file = None
+log_place (HashFile path) file = None
+log_place (Replay script) file = None
+
+-- the reason is what the system said
+abbrev pub IsSystem : Reason → Type 0
+IsSystem (System text) = ⊤
+IsSystem _ = ⊥
+
+-- the reason is a version
+abbrev pub IsVersion : Reason → Type 0
+IsVersion (Version version) = ⊤
+IsVersion _ = ⊥
+
+-- what may be said of a fault of these words, where the folder's last failure is this
+abbrev pub IsReasonFor : Words → ToolFault → Option Failure → Why → Type 0
+IsReasonFor words fault.Read failed why = (read_place words ≡ Some why.place) × IsSystem why.reason
+IsReasonFor words fault.Write failed why = (why.place ≡ at.Output) × IsSystem why.reason
+IsReasonFor words fault.Folder failed why = IfSome failed (λ failure. log_place words failure.file ≡ Some why.place) × IsSystem why.reason
+IsReasonFor words (fault.BadLine number) failed why = (read_place words ≡ Some why.place) × (why.reason ≡ Line number)
+IsReasonFor words fault.OtherVersion failed why = (log_place words file.Log ≡ Some why.place) × IsVersion why.reason
+IsReasonFor words _ failed why = ⊥

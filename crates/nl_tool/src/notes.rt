@@ -1,0 +1,174 @@
+//! What the system said of the calls that failed, and how the log that is read begins: kept while a command is done, for
+//! whoever asks why it was refused.
+ghost use Rattle.std.specs.Prelude.{◌≡◌, None, Some, IfErr};
+ghost use Rattle.std.specs.Io.{ReadsAtMost, WritesAtMost};
+ghost use Rattle.std.specs.Io.KnownBytes.{Keeps, ReadConsumes, WriteAppends};
+
+use nl_disk::Failure;
+use nl_folder::Folder;
+use std::io::{self, Read, Write};
+
+// How many bytes of a log are kept: its first line, with a version of up to 18 digits.
+const BEGINNING: usize = 32;
+
+/// What is kept of a command.
+#[derive(Drop)]
+pub struct Notes {
+    /// Of the file that the command reads, or of standard input.
+    pub heard: Heard,
+    /// The error of the last write to standard output that failed.
+    pub written: Option<io::Error>,
+    /// The last call of the log's folder that failed.
+    pub folder: Option<Failure>,
+    /// Whether a log of another version is to be looked at once it is refused.
+    pub looks: bool,
+}
+
+impl Notes {
+    /// Nothing is known yet.
+    pub fn new(looks: bool) -> Notes
+        ensures none { (result.heard.failure ≡ None) × (result.written ≡ None) × (result.folder ≡ None) }
+        ensures looks { result.looks ≡ looks }
+    {
+        Notes {
+            heard: Heard {
+                failure: None,
+                beginning: Beginning {
+                    bytes: [0; BEGINNING],
+                    len: 0,
+                },
+            },
+            written: None,
+            folder: None,
+            looks,
+        }
+    }
+
+    /// Keeps how the log of a folder begins.
+    pub fn look_at<F: Folder>(&mut self, folder: &mut F)
+        ensures kept { self.new.folder ≡ self.old.folder }
+    {
+        let mut beginning = [0; BEGINNING];
+        if let Ok(count) = folder.read_log(0, &mut beginning) {
+            self.heard.beginning.keep(&beginning[..count]);
+        }
+    }
+}
+
+/// What is kept of a file that is read.
+#[derive(Drop)]
+pub struct Heard {
+    /// The error by which it was last not opened, or not read.
+    pub failure: Option<io::Error>,
+    pub beginning: Beginning,
+}
+
+/// The first bytes of a file, as far as they were read.
+#[derive(Drop)]
+pub struct Beginning {
+    bytes: [u8; BEGINNING],
+    len: usize,
+}
+
+impl Beginning {
+    pub fn bytes(&self) -> &[u8] {
+        &self.bytes[..self.len.min(BEGINNING)]
+    }
+
+    /// Keeps the bytes that were read next, as far as there is room.
+    pub fn keep(&mut self, bytes: &[u8]) {
+        for byte in bytes {
+            if self.len >= BEGINNING {
+                return;
+            }
+            self.bytes[self.len] = *byte;
+            self.len += 1;
+        }
+    }
+}
+
+/// A reader, of which it is kept why it last failed and how it begins.
+#[derive(Drop)]
+pub struct NotedReader<'n, R> {
+    reader: R,
+    heard: &'n mut Heard,
+}
+
+impl<'n, R: Read> NotedReader<'n, R> {
+    pub fn new(reader: R, heard: &'n mut Heard) -> Self
+        ensures remaining { ⟦<NotedReader<'n, R> as Read>⟧.remaining result ≡ R.remaining reader }
+    {
+        NotedReader { reader, heard }
+    }
+}
+
+impl<R: Read> Read for NotedReader<'_, R> {
+    ghost remaining = { λ r. R.remaining r.reader };
+
+    fn read(&mut self, buf: &mut [u8]) -> io::Result<usize>
+        ensures bound { ReadsAtMost result buf.new }
+        ensures bytes { ReadConsumes (R.remaining self.old.reader) (R.remaining self.new.reader) result buf.new }
+        ensures noted { IfErr result (λ error. self.new.heard.now.failure ≡ Some error) }
+    {
+        match self.reader.read(buf) {
+            Ok(count) => {
+                self.heard.beginning.keep(&buf[..count]);
+                Ok(count)
+            }
+            Err(error) => {
+                self.heard.failure = Some(error);
+                Err(error)
+            }
+        }
+    }
+}
+
+/// A writer, of which it is kept why it last failed.
+#[derive(Drop)]
+pub struct NotedWriter<W> {
+    writer: W,
+    pub failure: Option<io::Error>,
+}
+
+impl<W: Write> NotedWriter<W> {
+    pub fn new(writer: W) -> Self
+        ensures contents { ⟦<NotedWriter<W> as Write>⟧.contents result ≡ W.contents writer }
+        ensures none { result.failure ≡ None }
+    {
+        NotedWriter {
+            writer,
+            failure: None,
+        }
+    }
+}
+
+impl<W: Write> Write for NotedWriter<W> {
+    ghost contents = { λ w. W.contents w.writer };
+
+    fn write(&mut self, buf: &[u8]) -> io::Result<usize>
+        ensures bound { WritesAtMost result buf.now }
+        ensures bytes { WriteAppends (W.contents self.old.writer) (W.contents self.new.writer) result buf.now }
+        ensures noted { IfErr result (λ error. self.new.failure ≡ Some error) }
+    {
+        match self.writer.write(buf) {
+            Ok(count) => Ok(count),
+            Err(error) => {
+                self.failure = Some(error);
+                Err(error)
+            }
+        }
+    }
+
+    fn flush(&mut self) -> io::Result<()>
+        ensures bytes { Keeps (W.contents self.old.writer) (W.contents self.new.writer) }
+        ensures noted { IfErr result (λ error. self.new.failure ≡ Some error) }
+    {
+        match self.writer.flush() {
+            Ok(()) => Ok(()),
+            Err(error) => {
+                self.failure = Some(error);
+                Err(error)
+            }
+        }
+    }
+}

@@ -1,0 +1,246 @@
+//! Why something was refused, as it is said where `--verbose` asks for it: which file it is of, and the reason.
+ghost use Rattle.std.specs.Prelude.{◌≡◌, None, Some, IfSome, false};
+ghost use Rattle.nl_tool.specs.Reasons.{IsReasonFor, IsSystem, IsVersion, file_place, log_place, place_text, read_place, reason_text, refusal_text, why_text};
+
+use crate::notes::Notes;
+use nl_disk::{LogFile, folder_part};
+use nl_texts::ToolFault;
+use nl_words::{CommandLine, Words};
+use std::alloc::Global;
+use std::{fmt, io, str};
+
+/// A file that a command names, or a standard stream.
+#[derive(Clone, Copy, Debug, PartialEq, Eq, Drop)]
+pub enum Place<'a> {
+    Log(&'a str),
+    /// The scratch of the log at this path.
+    Scratch(&'a str),
+    /// The folder of the log at this path.
+    Folder(&'a str),
+    Keep(&'a str),
+    Times(&'a str),
+    Script(&'a str),
+    /// The file of `hash-file`.
+    Command(&'a str),
+    Input,
+    Output,
+}
+
+impl fmt::Display for Place<'_> {
+    ghost output = { λ place. Some (place_text place) };
+
+    fn fmt<W: fmt::Write>(&self, f: &mut fmt::Formatter<W>) -> fmt::Result {
+        match *self {
+            Place::Log(path) => write!(f, "LOG {path}"),
+            Place::Scratch(log) => write!(f, "scratch {log}.recompact"),
+            Place::Folder(log) => {
+                let folder = folder_part(log);
+                write!(f, "folder {folder}")
+            }
+            Place::Keep(path) => write!(f, "KEEP {path}"),
+            Place::Times(path) => write!(f, "TIMES {path}"),
+            Place::Script(path) => write!(f, "SCRIPT {path}"),
+            Place::Command(path) => write!(f, "FILE {path}"),
+            Place::Input => write!(f, "standard input"),
+            Place::Output => write!(f, "standard output"),
+        }
+    }
+}
+
+/// What is known of a refusal beside its fault.
+#[derive(Debug, PartialEq, Eq, Drop)]
+pub enum Reason {
+    /// What the system says of the call that failed.
+    System(String),
+    /// The number of a bad line, from 1.
+    Line(u64),
+    /// The version of the log, in digits.
+    Version(String),
+}
+
+impl fmt::Display for Reason {
+    ghost output = { λ reason. Some (reason_text reason) };
+
+    fn fmt<W: fmt::Write>(&self, f: &mut fmt::Formatter<W>) -> fmt::Result {
+        match self {
+            Reason::System(text) => write!(f, "{text}"),
+            Reason::Line(number) => write!(f, "line {number}"),
+            Reason::Version(version) => write!(f, "version {version}"),
+        }
+    }
+}
+
+/// Of which file a refusal is, and its reason.
+#[derive(Debug, PartialEq, Eq, Drop)]
+pub struct Why<'a> {
+    pub place: Place<'a>,
+    pub reason: Reason,
+}
+
+impl fmt::Display for Why<'_> {
+    ghost output = { λ why. Some (why_text why) };
+
+    fn fmt<W: fmt::Write>(&self, f: &mut fmt::Formatter<W>) -> fmt::Result {
+        let Why { place, reason } = self;
+        write!(f, "{place}: {reason}")
+    }
+}
+
+/// A refusal as it is said: its fault, and behind it what else is to be said of it.
+#[derive(Debug, PartialEq, Eq, Drop)]
+pub struct Refusal<'a> {
+    pub fault: ToolFault,
+    pub why: Option<Why<'a>>,
+}
+
+impl fmt::Display for Refusal<'_> {
+    ghost output = { λ refusal. Some (refusal_text refusal) };
+
+    fn fmt<W: fmt::Write>(&self, f: &mut fmt::Formatter<W>) -> fmt::Result {
+        let Refusal { fault, why } = self;
+        match why {
+            None => write!(f, "{fault}"),
+            Some(why) => write!(f, "{fault}\nnlog: {why}"),
+        }
+    }
+}
+
+/// What is said of a fault of a command: its reason only where the command line asks for it, and it is known.
+pub fn refusal_of<'a>(
+    alloc: Global,
+    line: &CommandLine<'a>,
+    fault: ToolFault,
+    notes: &Notes,
+) -> Refusal<'a>
+    ensures fault { result.fault ≡ fault }
+    ensures quiet { line.now.verbose ≡ false → result.why ≡ None }
+    ensures why { IfSome result.why (IsReasonFor line.now.words fault notes.now.folder) }
+{
+    let why = if line.verbose {
+        why_of(alloc, &line.words, fault, notes)
+    } else {
+        None
+    };
+    Refusal { fault, why }
+}
+
+// The reason of a fault, where it is known.
+fn why_of<'a>(alloc: Global, words: &Words<'a>, fault: ToolFault, notes: &Notes) -> Option<Why<'a>>
+    ensures { IfSome result (IsReasonFor words.now fault notes.now.folder) }
+{
+    match fault {
+        ToolFault::Read => said_of(alloc, read_place(words)?, notes.heard.failure?),
+        ToolFault::Write => said_of(alloc, Place::Output, notes.written?),
+        ToolFault::Folder => {
+            let failure = notes.folder?;
+            said_of(alloc, log_place(words, failure.file)?, failure.error)
+        }
+        ToolFault::BadLine(number) => Some(Why {
+            place: read_place(words)?,
+            reason: Reason::Line(number),
+        }),
+        ToolFault::OtherVersion => version_of(alloc, words, notes),
+        ToolFault::NotALog
+        | ToolFault::Memory
+        | ToolFault::NegativeTime(_)
+        | ToolFault::BadNumber
+        | ToolFault::EmptyName
+        | ToolFault::BadByte(_)
+        | ToolFault::LongName => None,
+    }
+}
+
+// What the system said of a file.
+fn said_of<'a>(alloc: Global, place: Place<'a>, error: io::Error) -> Option<Why<'a>>
+    ensures place { IfSome result (λ why. why.place ≡ place.entry) }
+    ensures reason { IfSome result (λ why. IsSystem why.reason) }
+{
+    let text = format!(in alloc; "{error}").ok()?;
+    Some(Why {
+        place,
+        reason: Reason::System(text),
+    })
+}
+
+// Which version the log of the words names.
+fn version_of<'a>(alloc: Global, words: &Words<'a>, notes: &Notes) -> Option<Why<'a>>
+    ensures place { IfSome result (λ why. log_place words.now LogFile.Log ≡ Some why.place) }
+    ensures reason { IfSome result (λ why. IsVersion why.reason) }
+{
+    let digits = named_version(notes.heard.beginning.bytes())?;
+    let version = str::from_utf8(digits).ok()?;
+    Some(Why {
+        place: log_place(words, LogFile::Log)?,
+        reason: Reason::Version(String::from_str(alloc, version).ok()?),
+    })
+}
+
+// The version that a first line names, where it stands whole in these bytes.
+fn named_version(beginning: &[u8]) -> Option<&[u8]> {
+    let rest = beginning.strip_prefix(b"# ninja log v")?;
+    let end = rest.iter().position(|byte| *byte == b'\n')?;
+    let version = &rest[..end];
+    if version.iter().all(|byte| byte.is_ascii_digit()) {
+        Some(version)
+    } else {
+        None
+    }
+}
+
+// The file that the words have read, or standard input.
+fn read_place<'a>(words: &Words<'a>) -> Option<Place<'a>>
+    ensures { result ≡ read_place words.now }
+{
+    match *words {
+        Words::Show(Some(log))
+        | Words::Check(Some(log))
+        | Words::Entries(Some(log))
+        | Words::Damage(Some(log)) => Some(Place::Log(log)),
+        Words::HashFile(Some(file)) => Some(Place::Command(file)),
+        Words::Replay(Some(script))
+        | Words::Apply {
+            log: _,
+            script: Some(script),
+        } => Some(Place::Script(script)),
+        Words::Recompact { log: _, keep } => Some(Place::Keep(keep)),
+        Words::Restat { log: _, times } => Some(Place::Times(times)),
+        Words::Show(None)
+        | Words::Check(None)
+        | Words::Entries(None)
+        | Words::Damage(None)
+        | Words::HashFile(None)
+        | Words::Replay(None)
+        | Words::Apply {
+            log: _,
+            script: None,
+        } => Some(Place::Input),
+        Words::Hash(_) | Words::Record { .. } | Words::Repair(_) => None,
+    }
+}
+
+// A file of the log that the words name, or what they read a log from.
+fn log_place<'a>(words: &Words<'a>, file: LogFile) -> Option<Place<'a>>
+    ensures { result ≡ log_place words.now file }
+{
+    match *words {
+        Words::Record { log, .. }
+        | Words::Recompact { log, keep: _ }
+        | Words::Restat { log, times: _ }
+        | Words::Repair(log)
+        | Words::Apply { log, script: _ } => Some(file_place(log, file)),
+        Words::Show(_) | Words::Check(_) | Words::Entries(_) | Words::Damage(_) => read_place(
+            words,
+        ),
+        Words::Hash(_) | Words::HashFile(_) | Words::Replay(_) => None,
+    }
+}
+
+fn file_place(log: &str, file: LogFile) -> Place<'_>
+    ensures { result ≡ file_place log.entry file }
+{
+    match file {
+        LogFile::Log => Place::Log(log),
+        LogFile::Scratch => Place::Scratch(log),
+        LogFile::Folder => Place::Folder(log),
+    }
+}
