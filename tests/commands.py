@@ -185,7 +185,7 @@ NO_LOG_NAME = NO_VALUE.replace(b"COMMAND", b"LOG").replace(b"nlog hash", b"nlog 
 NO_LOG_TO_APPLY = NO_LOG_NAME.replace(b"nlog repair <LOG>", b"nlog apply <LOG> [SCRIPT]")
 TWO_SCRIPTS = b"""error: unexpected argument 'two' found
 
-Usage: nlog apply <LOG> [SCRIPT]
+Usage: nlog apply [OPTIONS] <LOG> [SCRIPT]
 
 For more information, try '--help'.
 """
@@ -198,7 +198,7 @@ TWO_VERSIONS = b"""error: the argument '--log-version <VERSION>' cannot be used 
 Usage: nlog show [OPTIONS] [LOG]
 """ + MORE
 # That a value is no version, and that a command, here with its usage, has no such option.
-BAD_VERSION = b"""error: invalid value '%s' for '--log-version <VERSION>': it is 5, 6 or 7
+BAD_VERSION = b"""error: invalid value '%s' for '--log-version <VERSION>': it is 5, 6, 7 or auto
 
 Usage: nlog [COMMAND]
 """ + MORE
