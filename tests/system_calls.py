@@ -90,7 +90,8 @@ def traced(program, case, room, inject=()):
     """Runs a case in a new folder: how it ended, and its system calls."""
     os.makedirs(room)
     case.fill(room)
-    words = ["strace", "-y", "-o", f"{room}/TRACE", "-e", "signal=none", *inject, *case.words(program, room), "--verbose"]
+    nlog, command, *values = case.words(program, room)
+    words = ["strace", "-y", "-o", f"{room}/TRACE", "-e", "signal=none", *inject, nlog, command, "--verbose", *values]
     status, out, err = run(words, cwd="/")
     calls = [it for it in (read(f"{room}/TRACE") or b"").decode(errors="replace").split("\n") if re.match(r"\w+\(", it)]
     return (status, out, err), calls
