@@ -18,6 +18,27 @@ pub(crate) const NOT_FOUND: u32 = 5;
 
 pub(crate) const NO_ROOM: u32 = 6;
 
+// The writer's, which no function here answers.
+const NOT_OPEN: u32 = 7;
+
+const ALREADY_OPEN: u32 = 8;
+
+const BROKEN: u32 = 9;
+
+const NEGATIVE_TIME: u32 = 10;
+
+const FAULT: u32 = 11;
+
+const BAD_NAME: u32 = 12;
+
+const TOO_LONG: u32 = 13;
+
+const NO_PROGRAM: u32 = 14;
+
+const PROGRAM_ENDED: u32 = 15;
+
+const BAD_ANSWER: u32 = 16;
+
 /// The status of a load that failed. A load from memory meets no other fault.
 pub(crate) fn of_fault(fault: LoadFault) -> u32
     requires { fault ≢ LoadFault.Read }
@@ -42,6 +63,16 @@ pub(crate) fn text(status: u32) -> &'static [u8]
         OUT_OF_MEMORY => b"out of memory",
         NOT_FOUND => b"not found",
         NO_ROOM => b"the buffer is too short",
+        NOT_OPEN => b"the log is not open",
+        ALREADY_OPEN => b"the log is open already",
+        BROKEN => b"the log is broken",
+        NEGATIVE_TIME => b"negative time",
+        FAULT => b"the folder failed",
+        BAD_NAME => b"bad name",
+        TOO_LONG => b"names too long for a line",
+        NO_PROGRAM => b"the program did not start",
+        PROGRAM_ENDED => b"the program ended",
+        BAD_ANSWER => b"bad answer of the program",
         _ => b"unknown status",
     }
 }
