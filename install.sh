@@ -1,9 +1,10 @@
 #!/bin/sh
-# Proves and builds nlog, and puts the program, its page and its completion for bash below PREFIX.
+# Proves and builds nlog, and puts the program, its page, its completion for bash, and the library for C below PREFIX.
 set -eu
 
 usage="usage: ./install.sh PREFIX
-puts PREFIX/bin/nlog, PREFIX/share/man/man1/nlog.1 and PREFIX/share/bash-completion/completions/nlog
+puts PREFIX/bin/nlog, PREFIX/share/man/man1/nlog.1 and PREFIX/share/bash-completion/completions/nlog, and where cc and ar are there
+PREFIX/lib/libnlog.a, PREFIX/include/nlog.h and PREFIX/lib/pkgconfig/nlog.pc
 PREFIX is a folder, as /usr/local"
 
 if [ $# -ne 1 ]; then
@@ -44,3 +45,27 @@ put 755 "$top/crates/nlog/out/nlog" "$prefix/bin/nlog"
 put 644 "$top/man/nlog.1" "$prefix/share/man/man1/nlog.1"
 put 644 "$top/completions/nlog.bash" "$prefix/share/bash-completion/completions/nlog"
 echo "install.sh: $prefix/bin/nlog, $prefix/share/man/man1/nlog.1 and $prefix/share/bash-completion/completions/nlog are there"
+
+if ! command -v cc > /dev/null || ! command -v ar > /dev/null; then
+    echo "install.sh: the library for C is left out: cc or ar isn't there"
+    exit 0
+fi
+
+room=$(mktemp -d)
+trap 'rm -rf "$room"' EXIT
+"$top/lib/archive.sh" "$room/libnlog.a"
+mkdir -p "$prefix/lib/pkgconfig" "$prefix/include"
+version=$(sed -n 's/^## \([0-9][0-9.]*\).*/\1/p' "$top/CHANGELOG.md" | head -n 1)
+cat > "$room/nlog.pc" << END
+prefix=$(cd "$prefix" && pwd)
+
+Name: nlog
+Description: Ninja's build log, read and written
+Version: $version
+Cflags: -I\${prefix}/include
+Libs: -L\${prefix}/lib -lnlog -pthread
+END
+put 644 "$room/libnlog.a" "$prefix/lib/libnlog.a"
+put 644 "$top/include/nlog.h" "$prefix/include/nlog.h"
+put 644 "$room/nlog.pc" "$prefix/lib/pkgconfig/nlog.pc"
+echo "install.sh: $prefix/lib/libnlog.a, $prefix/include/nlog.h and $prefix/lib/pkgconfig/nlog.pc are there"

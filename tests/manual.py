@@ -88,19 +88,29 @@ def try_completion(trials, program, room, help_text, commands):
 def try_install(trials, program, room):
     """install.sh, where the command that proves and builds is one that does nothing, and the program is there."""
     top = f"{room}/top"
-    for name in ("install.sh", "man/nlog.1", "completions/nlog.bash"):
+    for name in ("install.sh", "man/nlog.1", "completions/nlog.bash", "include/nlog.h", "CHANGELOG.md"):
         os.makedirs(os.path.dirname(f"{top}/{name}"), exist_ok=True)
         shutil.copy(f"{TOP}/{name}", f"{top}/{name}")
     os.makedirs(f"{top}/crates/nlog/out")
     shutil.copy(program, f"{top}/crates/nlog/out/nlog")
     write(f"{top}/rt", b"#!/bin/sh\n")
-    os.chmod(f"{top}/rt", 0o755)
+    os.mkdir(f"{top}/lib")
+    write(f"{top}/lib/archive.sh", b"#!/bin/sh\ncp include/nlog.h $1\n".replace(b"include", f"{top}/include".encode()))
+    for name in ("rt", "lib/archive.sh"):
+        os.chmod(f"{top}/{name}", 0o755)
     env = {**os.environ, "PATH": f"{top}:{os.environ.get('PATH', os.defpath)}"}
     for turn in ("first", "second"):
         status, _, err = run(["sh", f"{top}/install.sh", f"{room}/prefix"], env=env)
         trials.want(f"the {turn} installation", (status, err), (0, b""))
     made = {os.path.relpath(f"{folder}/{it}", f"{room}/prefix") for folder, _, files in os.walk(f"{room}/prefix") for it in files}
     wanted = {"bin/nlog": program, "share/man/man1/nlog.1": PAGE, "share/bash-completion/completions/nlog": f"{TOP}/completions/nlog.bash"}
+    if shutil.which("cc") and shutil.which("ar"):
+        wanted.update({"lib/libnlog.a": f"{TOP}/include/nlog.h", "include/nlog.h": f"{TOP}/include/nlog.h"})
+        about = read(f"{room}/prefix/lib/pkgconfig/nlog.pc")
+        trials.check("what it says of the library", about and b"\nVersion: 0.1.0\n" in about and f"prefix={room}/prefix\n".encode() in about, about)
+        made.discard("lib/pkgconfig/nlog.pc")
+    else:
+        trials.skip("that install.sh puts the library", "cc or ar isn't there")
     trials.want("what it puts", made, set(wanted))
     for name, path in wanted.items():
         trials.check(f"it puts {name}", read(f"{room}/prefix/{name}") == read(path))
