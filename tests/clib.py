@@ -248,6 +248,8 @@ def turns(trials, made, program, room):
         # More than a line may hold.
         (HEADER + A + B, ["open", f"restat 9 {hexed(b'a')} " + " ".join(f"5 {hexed(b'%d' % i + long[9:])}" for i in range(5)) + f" 7 {hexed(b'b')}", "close"],
          ["OK"] * 3, HEADER + b"1\t2\t9\ta\taa\n4\t5\t7\tb\tbb\n"),
+        (HEADER + A + B, ["open", *[f"restat 9 {hexed(b'a')} " + " ".join(f"5 {hexed(b'%d' % i + long[9:])}" for i in range(5)) + f" {mtime} {hexed(name)}"
+                                    for mtime, name in ((-1, b"b"), (7, lined))], "close"], ["OK", "NEGATIVE_TIME", "BAD_NAME", "OK"], HEADER + A + B),
         (b"hello\n", ["open", "sync", "close"], ["NOT_A_LOG", "NO_HANDLE", "NO_HANDLE"], b"hello\n"),
         (b"# ninja log v6\n" + A, ["open"], ["OTHER_VERSION"], b"# ninja log v6\n" + A),
         (b"# ninja log v4\n1\t2\t3\ta\tcc\n", ["open", "close"], ["OK", "OK"], HEADER + line_of(b"a", (1, 2, 3, command_hash(b"cc")))),
@@ -265,6 +267,26 @@ def turns(trials, made, program, room):
             ran = run([*driver, "write", program, log], input="\n".join(lines).encode() + b"\n", stdin=None)
             trials.want(f"{way}: {[it[:30] for it in lines]}", ran, (0, "".join(f"NLOG_{it}\n" for it in answers).encode(), b""))
             trials.want(f"{way}: the log behind {[it[:30] for it in lines]}", read(log), left)
+
+
+def sent(trials, made, room):
+    """The lines that the program is sent, byte by byte: of each call, and that a close syncs what was recorded."""
+    told = f"{room}/told"
+    teller = script(f"{room}/teller", b'while IFS= read -r line; do printf "%%s\\n" "$line" >> "%s"; echo ok; done\n' % told.encode())
+    asked = [
+        ("open", "open"),
+        (f"record -5 7 -9 0 {hexed(b'a b')}", "record\t-5\t7\t-9\ta b\t0"),
+        (f"edge 1 2 3 ff {hexed(b'x', b'y')}", "record\t1\t2\t3\tx\tff\nrecord\t1\t2\t3\ty\tff"),
+        ("sync", "sync"),
+        ("recompact", "recompact"),
+        (f"recompact {hexed(b'x', b'y')}", "recompact\tx\ty"),
+        (f"restat 0 {hexed(b'x')} 9223372036854775807 {hexed(b'y')}", "restat\t0\tx\t9223372036854775807\ty"),
+        ("restat", "restat"),
+        ("close", "sync\nstop"),
+    ]
+    ran = run([made["C11"], "write", teller, f"{room}/log"], input="\n".join(it for it, _ in asked).encode() + b"\n", stdin=None)
+    trials.want("a program that answers ok", ran, (0, b"NLOG_OK\n" * len(asked), b""))
+    trials.want("the lines that it is sent", read(told), "".join(f"{line}\n" for _, line in asked).encode())
 
 
 def script(path, text):
@@ -356,6 +378,7 @@ def trial(trials, program, room):
     by_ctypes(trials, made)
     pages(trials, program, room)
     turns(trials, made, program, room)
+    sent(trials, made, room)
     bad_programs(trials, made, program, room)
     killed(trials, made, program, room)
     hasty(trials, made, program, room)
