@@ -2,6 +2,7 @@ pub mod RowLemmas
 pub mod SoundLemmas
 pub mod ScratchLemmas
 pub mod FolderLemmas
+pub mod SyncLogLemmas
 pub mod KeptLemmas
 pub mod SyncScratchLemmas
 pub mod ReplaceLemmas
@@ -10,6 +11,7 @@ pub mod StartLemmas
 pub mod CutLemmas
 pub mod DiskLemmas
 pub mod CoverLemmas
+pub mod CoverScratchLemmas
 pub mod KnownLemmas
 pub mod CrashLemmas
 pub mod MemLemmas
