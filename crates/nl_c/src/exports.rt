@@ -60,7 +60,8 @@ pub extern "C" fn nlog_load(handle: &mut Handle, alloc: Global, bytes: &[u8]) ->
 pub extern "C" fn nlog_free(handle: &mut Handle, alloc: Global)
     ensures { handle.new.kept.log ≡ None }
 {
-    drop(handle.take(alloc));
+    let log = handle.take(alloc);
+    drop(log);
 }
 
 #[unsafe(no_mangle)]

@@ -4,5 +4,6 @@
 mod exports;
 mod handle;
 mod kept;
+mod laws;
 mod loaded_log;
 mod status;
