@@ -16,7 +16,7 @@ _nlog() {
             # Bash has the `=` of `--log-version=7` as a word of its own.
             [[ ${COMP_WORDS[at + 1]} == '=' ]] && at=$((at + 1))
             if ((++at >= COMP_CWORD)); then
-                mapfile -t COMPREPLY < <(compgen -W '5 6 7' -- "$word")
+                mapfile -t COMPREPLY < <(compgen -W '5 6 7 auto' -- "$word")
                 return
             fi
         elif [[ $dashes || ${COMP_WORDS[at]} != -?* ]]; then

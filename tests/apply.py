@@ -3,6 +3,7 @@
 
     python3 tests/apply.py PROGRAM
 """
+import itertools
 import os
 import random
 import select
@@ -12,6 +13,7 @@ import sys
 import threading
 import time
 
+from log_format import as_version
 from trials import main, read, run, write
 
 BUILD = f"{os.path.dirname(os.path.dirname(os.path.abspath(__file__)))}/examples/build.py"
@@ -34,7 +36,7 @@ TURNS = [
     # A part of a line is cut away by the open, and what is no log is refused and stays.
     (HEADER + A + b"4\t5\t6\tb", b"open\ntable\n", b"ok\n" + A + b"end\n", 0, b"", HEADER + A),
     (b"hello\n", b"open\nget\ta\n", b"S5 NotALog\nS1 NotOpen\n", 0, b"", b"hello\n"),
-    (b"# ninja log v6\n", b"open\n", b"S6 OtherVersion\n", 0, b"", b"# ninja log v6\n"),
+    (b"# ninja log v8\n", b"open\n", b"S6 OtherVersion\n", 0, b"", b"# ninja log v8\n"),
     (HEADER + A, b"stop\nopen\nstop\nopen\nget\ta\n", b"S1 NotOpen\nok\nok\nok\n" + A, 0, b"", HEADER + A),
     # A line that is too long, and the longest one.
     (HEADER, b"open\n" + LONG + b"\nget\t" + b"x" * 262139 + b"\nget\ta\n", b"ok\nbad line\nnone\nnone\n", 0, b"", HEADER),
@@ -93,12 +95,24 @@ def odd_names(trials, program, room):
             trials.want(f"the answer behind {name[:9]!r}", log.get("a"), ["1", "2", "3", "a", "aa"])
     log.close()
     log.nlog.stdout.close()
-    write(f"{room}/seven.log", b"# ninja log v7\n" + A)
+    write(f"{room}/eight.log", b"# ninja log v8\n" + A)
     try:
-        trials.check("a log of version 7 is refused", False, repr(Log(program, f"{room}/seven.log")))
+        trials.check("a log of version 8 is refused", False, repr(Log(program, f"{room}/eight.log")))
     except OSError as it:
-        trials.want("why a log of version 7 is refused", str(it), "S6 OtherVersion")
-    trials.want("the log of version 7", read(f"{room}/seven.log"), b"# ninja log v7\n" + A)
+        trials.want("why a log of version 8 is refused", str(it), "S6 OtherVersion")
+    trials.want("the log of version 8", read(f"{room}/eight.log"), b"# ninja log v8\n" + A)
+
+
+def versions(trials, program, room):
+    """Logs of version 6 and 7: the answers are those of version 5, and the log is left of its version."""
+    log = f"{room}/versions.log"
+    for (held, lines, answers, status, said, left), version in itertools.product(TURNS, (6, 7)):
+        if as_version(held or b"", version) == (held or b""):
+            continue
+        what = f"{lines[:60]} as of version {version}"
+        write(log, as_version(held, version))
+        trials.want(f"the answers to {what}", apply(program, log, lines), (status, answers, said))
+        trials.want(f"the log behind {what}", read(log), as_version(left, version))
 
 
 def start(program, log):
@@ -235,6 +249,7 @@ def end_below(pid):
 def trial(trials, program, room):
     turns(trials, program, room)
     odd_names(trials, program, room)
+    versions(trials, program, room)
     prompt(trials, program, room)
     unread(trials, program, room)
     closed(trials, program, room)

@@ -5,11 +5,12 @@
 
 What is wanted stands here as whole bytes, worked out by hand from docs/FORMAT.md and docs/CLI.md.
 """
+import itertools
 import os
 import shutil
 import sys
 
-from log_format import command_hash
+from log_format import as_version, command_hash
 from trials import main, read, run, write
 
 HEADER = b"# ninja log v5\n"
@@ -26,7 +27,8 @@ LONG_NAME = b"File name too long (os error 36)\n"
 
 # First lines that are refused, and what is said of them.
 REFUSED = [
-    (b"# ninja log v6\n", OTHER_VERSION),
+    (b"# ninja log v8\n", OTHER_VERSION),
+    (b"# ninja log v66\n", OTHER_VERSION),
     (b"# ninja log v05\n", OTHER_VERSION),
     (b"# ninja log v04\n", OTHER_VERSION),
     (b"# ninja log v3\n", OTHER_VERSION),
@@ -34,6 +36,14 @@ REFUSED = [
     (b"hello", NO_LOG),
     (b"\n", NO_LOG),
     (b"# ninja log v5 \n", NO_LOG),
+    (b"# ninja log v8", NO_LOG),
+    (b"# ninja log v7 \n", NO_LOG),
+    (b"# ninja log v7\r\n", NO_LOG),
+]
+# Those that are refused by the words that have the option, where it isn't given.
+UNASKED = [
+    (b"# ninja log v6\n", OTHER_VERSION),
+    (b"# ninja log v7\n", OTHER_VERSION),
     (b"# ninja log v6", NO_LOG),
 ]
 
@@ -216,7 +226,7 @@ BEFORE_THE_COMMAND = b"""error: unexpected argument '--log-version' found
 Usage: nlog --version
 """ + MORE
 
-# Words, where INPUT is standard input and `file` is FILE, `four`, `six` and `seven` FOUR, SIX and SEVEN; the status and both outputs.
+# Words, where INPUT is standard input and `file` is FILE, `four`, `six` and `seven` FOUR, SIX and SEVEN, `eight` a log of version 8; the status and both outputs.
 WORDS = [
     ([], 0, INPUT_SHOWN, b""),
     (["show"], 0, INPUT_SHOWN, b""),
@@ -265,7 +275,13 @@ WORDS = [
     # The last line has no newline, and is not done.
     (["apply", "file", "script"], 0, b"ok\nbad line\n", b""),
     (["apply", "folder", "script"], 0, b"S8 Fault\nbad line\n", b""),
-    (["apply", "seven", "script"], 0, b"S6 OtherVersion\nbad line\n", b""),
+    (["apply", "seven", "script"], 0, b"ok\nbad line\n", b""),
+    (["apply", "six", "asks"], 0, b"ok\nnone\nnone\n" + NEW_SHOWN + b"end\n", b""),
+    (["apply", "eight", "script"], 0, b"S6 OtherVersion\nbad line\n", b""),
+    (["entries", "six"], 0, NEW_SHOWN, b""),
+    (["entries", "seven"], 0, NEW_SHOWN, b""),
+    (["damage", "seven"], 3, b"3\tskipped\t1\t-\n", b""),
+    (["damage", "eight"], 1, b"", OTHER_VERSION),
     (["--version"], 0, b"nlog 0.1.0\n", b""),
     (["frob"], 2, b"", NO_COMMAND),
     (["hash"], 2, b"", NO_VALUE),
@@ -293,6 +309,19 @@ WORDS = [
     (["check", "--log-version", "7", "seven"], 0, NEW_CHECKED % 7, b""),
     (["check", "six", "--log-version=6"], 0, NEW_CHECKED % 6, b""),
     (["check", "--log-version", "5", "file"], 0, FILE_CHECKED, b""),
+    (["show", "--log-version", "auto", "seven"], 0, NEW_SHOWN, b""),
+    (["show", "six", "--log-version=auto"], 0, NEW_SHOWN, b""),
+    (["show", "--log-version", "auto", "file"], 0, FILE_SHOWN, b""),
+    (["show", "--log-version", "auto"], 0, INPUT_SHOWN, b""),
+    (["show", "--log-version", "auto", "four"], 0, FOUR_SHOWN, b""),
+    (["show", "--log-version", "auto", "eight"], 1, b"", OTHER_VERSION),
+    (["show", "--log-version", "auto", "script"], 1, b"", NO_LOG),
+    (["show", "--log-version", "auto", "folder"], 1, b"", CANNOT_READ),
+    (["check", "--log-version", "auto", "four"], 0, b"version 4\ntotal 1\nunique 1\nskipped 0\ntorn 0\ndue yes\n", b""),
+    (["check", "--log-version", "auto", "seven"], 0, NEW_CHECKED % 7, b""),
+    (["check", "--log-version", "auto", "six"], 0, NEW_CHECKED % 6, b""),
+    (["check", "--log-version", "auto", "missing"], 0, NOTHING_CHECKED, b""),
+    (["hash", "--log-version", "auto", "cc\tx"], 0, HASH, b""),
     (["check", "--log-version", "7", "missing"], 0, NOTHING_CHECKED.replace(b"5", b"7"), b""),
     (["check", "--log-version", "6", "seven"], 1, b"", OTHER_VERSION),
     (["hash", "--log-version", "7", "cc\tx"], 0, b"8072fc2ac19230e4\n", b""),
@@ -308,6 +337,8 @@ WORDS = [
     (["show", "--log-version"], 2, b"", NO_VERSION),
     (["show", "--log-version="], 2, b"", BAD_VERSION % b""),
     (["show", "seven", "--log-version", "4"], 2, b"", BAD_VERSION % b"4"),
+    (["show", "seven", "--log-version", "Auto"], 2, b"", BAD_VERSION % b"Auto"),
+    (["check", "--log-version=auto ", "seven"], 2, b"", BAD_VERSION % b"auto "),
     (["check", "--log-version=07"], 2, b"", BAD_VERSION % b"07"),
     (["hash", "--log-version", "seven", "c"], 2, b"", BAD_VERSION % b"seven"),
     (["show", "--log-version", "7", "seven", "--log-version", "7"], 2, b"", TWO_VERSIONS),
@@ -324,6 +355,11 @@ WORDS = [
     (["restat", "six", "file", "--log-version", "8"], 2, b"", BAD_VERSION % b"8"),
     (["record", "seven", "--log-version"], 2, b"", NO_VERSION),
     (["apply", "--log-version", "7", "file", "asks"], 2, b"", NO_OPTION % b"apply [OPTIONS] <LOG> [SCRIPT]"),
+    # What is wrong with the words comes before LOG is looked at.
+    (["record", "--log-version", "auto", "folder", "x", "2", "3", "n", "c"], 1, b"", b"nlog: bad number\n"),
+    (["record", "--log-version", "auto", "folder", "1", "2", "3", "n", "c"], 1, b"", b"nlog: the folder failed\n"),
+    (["recompact", "--log-version", "auto", "eight", "/dev/null"], 1, b"", OTHER_VERSION),
+    (["restat", "--log-version", "auto", "seven", "missing"], 1, b"", CANNOT_READ),
     # A LOG that is no file of the system's.
     (["record", "folder", "1", "2", "3", "n", "c"], 1, b"", b"nlog: the folder failed\n"),
     # Behind a refusal the file that it is of, and why.
@@ -363,7 +399,7 @@ OWN = [
     (["recompact", "own/x", "own/keep"], HEADER + b"-1\t2\t9\tb\t72274e7a30810c7b\n"),
 ]
 
-# The same of logs of versions 6 and 7, each asked for: a torn header, a torn line, one of version 4 that stays, and the hash of version 7.
+# The same of logs of versions 4 to 7, each asked for by its number or by `auto`: a torn header, a torn line, one of version 4 that stays, and the hash of version 7.
 OWN_AS = [
     ("7", ["record", "--", "1", "2", "3", "a", "cc\tx"], None, b"# ninja log v7\n1\t2\t3\ta\t8072fc2ac19230e4\n"),
     ("6", ["record", "--", "1", "2", "3", "a", "cc\tx"], b"# ninja log v6", b"# ninja log v6\n1\t2\t3\ta\t72274e7a30810c7b\n"),
@@ -374,6 +410,17 @@ OWN_AS = [
     ("7", ["recompact", "keep"], b"# ninja log v4\n1\t2\t3\tb\tcc\tx\n", OTHER_VERSION),
     ("6", ["restat", "times"], b"# ninja log v4\n1\t2\t3\tb\tcc\tx\n", OTHER_VERSION),
     ("7", ["record", "--", "1", "2", "3", "a", "cc\tx"], b"# ninja log v4\n", OTHER_VERSION),
+    ("auto", ["record", "--", "1", "2", "3", "a", "cc\tx"], None, b"# ninja log v5\n1\t2\t3\ta\t72274e7a30810c7b\n"),
+    ("auto", ["record", "--", "1", "2", "3", "a", "cc\tx"], b"", b"# ninja log v5\n1\t2\t3\ta\t72274e7a30810c7b\n"),
+    ("auto", ["record", "--", "1", "2", "3", "a", "cc\tx"], b"# ninja log v7\n", b"# ninja log v7\n1\t2\t3\ta\t8072fc2ac19230e4\n"),
+    ("auto", ["record", "--", "1", "2", "3", "a", "cc\tx"], b"# ninja log v7", b"# ninja log v7\n1\t2\t3\ta\t8072fc2ac19230e4\n"),
+    ("auto", ["record", "--", "1", "2", "3", "a", "cc\tx"], b"# ninja log v6\n", b"# ninja log v6\n1\t2\t3\ta\t72274e7a30810c7b\n"),
+    ("auto", ["record", "--", "1", "2", "3", "a", "cc\tx"], b"# ninja log v4\n", b"# ninja log v5\n1\t2\t3\ta\t72274e7a30810c7b\n"),
+    ("auto", ["record", "--", "1", "2", "3", "a", "cc\tx"], b"# ninja log v8\n", OTHER_VERSION),
+    ("auto", ["restat", "times"], b"# ninja log v7\n1\t2\t3\tb\t4\n5\t6", b"# ninja log v7\n1\t2\t9\tb\t4\n"),
+    ("auto", ["restat", "times"], b"# ninja log v6\n1\t2\t3\tb\t4\n", b"# ninja log v6\n1\t2\t9\tb\t4\n"),
+    ("auto", ["recompact", "keep"], b"# ninja log v7\n1\t2\t3\tb\t4\n1\t2\t3\tc\t4\n", b"# ninja log v7\n1\t2\t3\tb\t4\n"),
+    ("auto", ["recompact", "keep"], b"# ninja log v4\n1\t2\t3\tb\tcc\tx\n", b"# ninja log v5\n1\t2\t3\tb\t72274e7a30810c7b\n"),
 ]
 
 
@@ -390,12 +437,14 @@ def try_refused(trials, program, room):
     """First lines that are refused, by each command that reads a log; the file stays as it is."""
     write(f"{room}/keep", b"a\n")
     write(f"{room}/negative", b"-1\ta")
-    for log, why in REFUSED:
+    asking = [["show"], ["check"], ["show", "log"], ["check", "log"], ["record", "log", "1", "2", "3", "a", "c"], ["recompact", "log", "keep"], ["restat", "log", "negative"]]
+    auto = [[*words, "--log-version=auto"] for words in asking]
+    others = [["entries"], ["damage"], ["entries", "log"], ["damage", "log"], ["repair", "log"]]
+    for log, why, each in [(*it, asking + auto + others) for it in REFUSED] + [(*it, asking) for it in UNASKED]:
         write(f"{room}/log", log)
-        for words in (["show"], ["check"], ["entries"], ["damage"]):
+        for words in [words for words in each if "log" not in words]:
             trials.want(f"{words} < {log!r}", asked(program, room, words, log), (1, b"", why))
-        changes = [["record", "log", "1", "2", "3", "a", "c"], ["recompact", "log", "keep"], ["restat", "log", "negative"], ["repair", "log"]]
-        for words in [["show", "log"], ["check", "log"], ["entries", "log"], ["damage", "log"], *changes]:
+        for words in [words for words in each if "log" in words]:
             trials.want(f"{words[0]} of a file, {log!r}", asked(program, room, words), (1, b"", why))
             trials.want(f"the file after {words[0]}, {log!r}", read(f"{room}/log"), log)
 
@@ -432,7 +481,10 @@ def try_changes(trials, program, room):
 
 def try_through(trials, program, room):
     """The commands that go through a log, and what a repair leaves of it; a second one changes nothing."""
-    for log, entries, damage, left in THROUGH:
+    for (log, entries, damage, left), version in itertools.product(THROUGH, (5, 6, 7)):
+        if version > 5 and as_version(log, version) == log:
+            continue
+        log, left = as_version(log, version), as_version(left, version)
         what = f"{log[:40]!r} of {len(log)} bytes"
         write(f"{room}/log", log)
         for given, end in (([], log), (["log"], b"")):
@@ -445,6 +497,10 @@ def try_through(trials, program, room):
             trials.want(f"the {turn} repair of {what}: the log", read(f"{room}/log"), left)
         trials.want(f"damage after it, {what}", asked(program, room, ["damage", "log"]), (0, b"", b""))
         trials.want(f"show of the entries, {what}", asked(program, room, ["show"], HEADER + entries)[1], left[len(HEADER) :])
+        # `apply` opens what was left, and leaves it so.
+        answers = b"ok\n" + left[len(HEADER) :] + b"end\n"
+        trials.want(f"apply after it, {what}", asked(program, room, ["apply", "log"], b"open\ntable\n"), (0, answers, b""))
+        trials.want(f"the log after it, {what}", read(f"{room}/log"), left)
     trials.want("repair of a log that is missing", asked(program, room, ["repair", "none"]), (0, b"", b""))
     trials.want("repair of a log that is missing: the log", read(f"{room}/none"), HEADER)
     for command, wanted in HASHES:
@@ -458,6 +514,7 @@ def try_words(trials, program, room):
     write(f"{room}/six", SIX)
     write(f"{room}/seven", SEVEN)
     write(f"{room}/four", FOUR)
+    write(f"{room}/eight", b"# ninja log v8\n")
     write(f"{room}/script", b"open\nopen")
     write(f"{room}/asks", b"open\nget\tfile\nget\tinput\ntable\n")
     before = sorted(os.listdir(room))
@@ -488,7 +545,7 @@ def try_own(trials, program, room):
         trials.want(what, ended, (1, b"", OTHER_VERSION) if is_refused else (0, b"", b""))
         trials.want(f"{what}: the log", read(f"{room}/own/y"), log if is_refused else left)
         os.remove(f"{room}/own/y")
-    trials.want("the files of version 6 and 7", sorted(os.listdir(f"{room}/own")), ["keep", "times", "x"])
+    trials.want("the files of each version", sorted(os.listdir(f"{room}/own")), ["keep", "times", "x"])
 
 
 def trial(trials, program, room):

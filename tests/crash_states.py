@@ -143,10 +143,15 @@ def try_model(trials):
     trials.check("each behind the line", all(it.startswith(b"ab\n") and len(it) <= 5 for it in tails), tails)
 
 
+def is_of_version_7(command, kind, scratch):
+    """Whether the command takes such a log for one of version 7: `repair` isn't asked for it, and goes by the first line."""
+    return "version 4" not in kind and (not command.startswith("repair") or (KINDS[kind] or b"").startswith(HEADER))
+
+
 def sweep_all(sweep):
     """All of it; gives what was done."""
     first, later, count, moments = {}, {}, 0, 0
-    of_version_7 = itertools.product(CHANGES_V7, [it for it in KINDS if "version 4" not in it], SCRATCHES)
+    of_version_7 = [it for it in itertools.product(CHANGES_V7, KINDS, SCRATCHES) if is_of_version_7(*it)]
     for states, more, at in sweep.over(explore, [*itertools.product(CHANGES, KINDS, SCRATCHES), *of_version_7]):
         first.update(dict.fromkeys(states))
         count, moments = count + more, moments + at

@@ -7,8 +7,9 @@ Each text is read from a file, and from standard input in pieces of one byte (th
 its first 1,000 bytes and its last): that is one end of a pair of sockets, on which a piece is sent when the one before was read, so that no
 read gives more. The end of the text is the end of what is sent. Both ways have to give the same: literal answers,
 taken from docs/FORMAT.md and docs/CLI.md, and where each byte of a log is replaced those of `log_format`; what `entries` and `damage` print
-is that of `log_lines` beside. Each text is read once more as a log of version 6 or 7, its digit changed, by words that are asked for it. At last come names that collide in the table, which `bench/colliding_log.py` finds: they cost time, and change
-no answer.
+is that of `log_lines` beside. Each text is read once more as a log of version 6 or 7, its digit changed, by words that are asked for it,
+and by words that go by its first line. At last come names that collide in the table, which `bench/colliding_log.py` finds: they cost time,
+and change no answer.
 """
 import fcntl
 import itertools
@@ -339,6 +340,20 @@ class Readings:
                 wanted = (wanted[0], wanted[1].replace(b"version 5\n", b"version %d\n" % version), wanted[2])
             ended = run([self.program, word, "--log-version", f"{version}", self.file])
             self.trials.want(f"{what}, as of version {version}: {word}", ended, wanted)
+        # The words that go by the first line, which has the digit.
+        if not text.startswith(HEADERS[5][:-1]):
+            return
+        for word, wanted in answers.items():
+            if word == "hash-file":
+                continue
+            wanted = wanted if isinstance(wanted, tuple) else (0, wanted, b"")
+            words = [self.program, word]
+            if word in ("show", "check"):
+                words.append("--log-version=auto")
+                wanted = (wanted[0], wanted[1].replace(b"version 5\n", b"version %d\n" % version), wanted[2])
+            self.trials.want(f"{what}, of version {version}: {word}", run([*words, self.file]), wanted)
+            if self.pieces:
+                self.trials.want(f"{what}, of version {version}: {word} in pieces", run_in_pieces(words, as_version(text, version)), wanted)
 
 
 def try_kinds(readings):

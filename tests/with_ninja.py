@@ -73,14 +73,14 @@ class Build:
         return [] if self.version == 5 else ["--log-version", f"{self.version}"]
 
     def nlog(self, word, *words):
-        return run([self.program, word, *self.option(), *words], cwd=self.room)
+        option = [] if word == "repair" else self.option()
+        return run([self.program, word, *option, *words], cwd=self.room)
 
     def recipe(self, name, folder=None):
         """Runs a script of docs/CLI.md, with the programs of this folder in place of others."""
         write(f"{self.room}/../{name}", RECIPES[name])
         path = ":".join(it for it in (folder, os.path.dirname(self.program), os.environ.get("PATH", os.defpath)) if it)
-        words = [] if self.version == 5 else [LOG, f"{self.version}"]
-        return run(["sh", f"../{name}", *words], cwd=self.room, env={**os.environ, "PATH": path})
+        return run(["sh", f"../{name}"], cwd=self.room, env={**os.environ, "PATH": path})
 
     def mirror(self):
         """A copy of the build, for Ninja to work on."""
@@ -526,12 +526,10 @@ def try_a_b_a(trials, build):
     build.remove("note")
     build.ninja()
     build.tear(b"note")
-    # (`repair` takes versions 4 and 5 alone)
-    mend = ["repair", LOG] if build.version == 5 else ["restat", LOG, "/dev/null"]
-    trials.want(f"A, torn B, {mend[0]}: ends", build.nlog(*mend), (0, b"", b""))
+    trials.want("A, torn B, repair: ends", build.nlog("repair", LOG), (0, b"", b""))
     build.ninja()
     build.describe("n1")
-    trials.check(f"A, torn B, {mend[0]}, B, A: Ninja runs A again", OTHER % b"note" in build.why(), repr(build.why()))
+    trials.check("A, torn B, repair, B, A: Ninja runs A again", OTHER % b"note" in build.why(), repr(build.why()))
 
 
 PARTS = [
