@@ -167,7 +167,7 @@ REFUSED = [
     (b"\xef\xbb\xbf# ninja log v5\n", NO_LOG),
     (b"\n# ninja log v5\n", NO_LOG),
     (b"# ninja log v\n", NO_LOG),
-    (b"# ninja log v6\n", OTHER_VERSION),
+    (b"# ninja log v8\n", OTHER_VERSION),
     (b"# ninja log v05\n", OTHER_VERSION),
     (b"# ninja log v55\n", OTHER_VERSION),
     (b"# ninja log v04\n", OTHER_VERSION),
@@ -181,7 +181,7 @@ REFUSED = [
     (b"# ninja log v" + b"7" * 262_131 + b"\n", NO_LOG),
     # There is no newline.
     (b"# ninja log v4", NO_LOG),
-    (b"# ninja log v6", NO_LOG),
+    (b"# ninja log v8", NO_LOG),
     (b"# ninja log v5\r", NO_LOG),
     (b"# ninja log v5 ", NO_LOG),
     (b"# ninja logs", NO_LOG),
