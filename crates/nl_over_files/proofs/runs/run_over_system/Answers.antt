@@ -1,5 +1,5 @@
 use Rattle.std.proofs.Common.{sym, ap, subst}
-use Rattle.std.specs.Prelude.{Option, option_map, zip}
+use Rattle.std.specs.Prelude.{Option, zip}
 use Rattle.nl_folder.specs.DiskState.{Disk, FolderState}
 use Rattle.nl_session.specs.Runs.{BeginsAt, OpensAtLast}
 use Rattle.nl_files.specs.FileFolder.{state_of}
