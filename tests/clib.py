@@ -251,7 +251,9 @@ def turns(trials, made, program, room):
         (HEADER + A + B, ["open", *[f"restat 9 {hexed(b'a')} " + " ".join(f"5 {hexed(b'%d' % i + long[9:])}" for i in range(5)) + f" {mtime} {hexed(name)}"
                                     for mtime, name in ((-1, b"b"), (7, lined))], "close"], ["OK", "NEGATIVE_TIME", "BAD_NAME", "OK"], HEADER + A + B),
         (b"hello\n", ["open", "sync", "close"], ["NOT_A_LOG", "NO_HANDLE", "NO_HANDLE"], b"hello\n"),
-        (b"# ninja log v6\n" + A, ["open"], ["OTHER_VERSION"], b"# ninja log v6\n" + A),
+        (b"# ninja log v8\n" + A, ["open"], ["OTHER_VERSION"], b"# ninja log v8\n" + A),
+        (b"# ninja log v6\n" + A + b"4\t5", ["open", f"record 4 5 6 bb {hexed(b'b')}", "close"], ["OK"] * 3, b"# ninja log v6\n" + A + B),
+        (b"# ninja log v7\n" + A * 101 + B, ["open", f"get {hexed(b'a')}", "close"], ["OK", "OK 1 2 3 aa", "OK"], b"# ninja log v7\n" + A + B),
         (b"# ninja log v4\n1\t2\t3\ta\tcc\n", ["open", "close"], ["OK", "OK"], HEADER + line_of(b"a", (1, 2, 3, command_hash(b"cc")))),
         (HEADER + A * 101 + B, ["open", "close"], ["OK", "OK"], HEADER + A + B),
         # Records that nobody waits for, and a read of one.

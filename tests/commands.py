@@ -274,7 +274,8 @@ WORDS = [
     (["apply", "--", "file", "asks"], 0, b"ok\n" + FILE_SHOWN + b"none\n" + FILE_SHOWN + b"end\n", b""),
     # The last line has no newline, and is not done.
     (["apply", "file", "script"], 0, b"ok\nbad line\n", b""),
-    (["apply", "folder", "script"], 0, b"S8 Fault\nbad line\n", b""),
+    # No line is answered where LOG can't be read.
+    (["apply", "folder", "script"], 1, b"", b"nlog: the folder failed\n"),
     (["apply", "seven", "script"], 0, b"ok\nbad line\n", b""),
     (["apply", "six", "asks"], 0, b"ok\nnone\nnone\n" + NEW_SHOWN + b"end\n", b""),
     (["apply", "eight", "script"], 0, b"S6 OtherVersion\nbad line\n", b""),
@@ -381,6 +382,10 @@ WORDS = [
     (["restat", "-v", "seven", "folder"], 1, b"", CANNOT_READ + b"nlog: TIMES folder: " + A_FOLDER),
     (["restat", "-v", "six", "file"], 1, b"", b"nlog: bad line 1\nnlog: TIMES file: line 1\n"),
     (["restat", "-v", "six", "/dev/null"], 1, b"", OTHER_VERSION + b"nlog: LOG six: version 6\n"),
+    # The version is that of LOG, whatever KEEP and TIMES begin with.
+    (["recompact", "-v", "seven", "header"], 1, b"", OTHER_VERSION + b"nlog: LOG seven: version 7\n"),
+    (["recompact", "-v", "eight", "names"], 1, b"", OTHER_VERSION + b"nlog: LOG eight: version 8\n"),
+    (["restat", "-v", "six", "pairs"], 1, b"", OTHER_VERSION + b"nlog: LOG six: version 6\n"),
     (["show", "-v", "seven"], 1, b"", OTHER_VERSION + b"nlog: LOG seven: version 7\n"),
     (["show", "-v", "--log-version", "7", "four"], 1, b"", OTHER_VERSION + b"nlog: LOG four: version 4\n"),
     (["record", "-v", "folder", "1", "2", "3", "n", "c"], 1, b"", b"nlog: the folder failed\nnlog: LOG folder: " + A_FOLDER),
@@ -515,6 +520,9 @@ def try_words(trials, program, room):
     write(f"{room}/seven", SEVEN)
     write(f"{room}/four", FOUR)
     write(f"{room}/eight", b"# ninja log v8\n")
+    write(f"{room}/header", b"# ninja log v9\n")
+    write(f"{room}/names", b"b\nc\n")
+    write(f"{room}/pairs", b"9\tb\n")
     write(f"{room}/script", b"open\nopen")
     write(f"{room}/asks", b"open\nget\tfile\nget\tinput\ntable\n")
     before = sorted(os.listdir(room))

@@ -44,14 +44,16 @@ impl Notes {
         }
     }
 
-    /// Keeps how the log of a folder begins.
+    /// Keeps how the log of a folder begins, in the place of what was read before.
     pub fn look_at<F: Folder>(&mut self, folder: &mut F)
         ensures kept { self.new.folder ≡ self.old.folder }
     {
-        let mut beginning = [0; BEGINNING];
-        if let Ok(count) = folder.read_log(0, &mut beginning) {
-            self.heard.beginning.keep(&beginning[..count]);
-        }
+        let mut bytes = [0; BEGINNING];
+        let len = match folder.read_log(0, &mut bytes) {
+            Ok(count) => count,
+            Err(_) => 0,
+        };
+        self.heard.beginning = Beginning { bytes, len };
     }
 }
 

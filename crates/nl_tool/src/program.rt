@@ -413,8 +413,8 @@ fn apply_noted<P: Print, F: Files + Clone + Drop, R: Read + Drop>(
     noted(done, notes)
 }
 
-// Answers the lines that the reader gives on the log of a folder, of the version that it has when they begin. Where it can't
-// be read then, it is for the answer to `open` to say so.
+// Answers the lines that the reader gives on the log of a folder, of the version that it has when they begin. Where that can't be
+// read, no line is: as a log of version 5 one of 7 would be refused by name.
 fn apply_any<F: Folder + Drop, R: Read + Drop, W: Write>(
     alloc: Global,
     folder: F,
@@ -427,7 +427,8 @@ fn apply_any<F: Folder + Drop, R: Read + Drop, W: Write>(
     match version {
         Ok(LogVersion::Six) => apply_through(alloc, VersionSix, folder, reader, writer),
         Ok(LogVersion::Seven) => apply_through(alloc, VersionSeven, folder, reader, writer),
-        Ok(LogVersion::Five) | Err(_) => apply_on(alloc, folder, reader, writer),
+        Ok(LogVersion::Five) => apply_on(alloc, folder, reader, writer),
+        Err(fault) => (folder, Err(fault)),
     }
 }
 

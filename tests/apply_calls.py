@@ -1,0 +1,169 @@
+#!/usr/bin/env python3
+"""Tries `apply` with each of its system calls disturbed: what was answered, and what the log then holds.
+
+    python3 tests/apply_calls.py PROGRAM
+
+Wants strace, and that it may trace. A script of one line of each kind runs on logs of several kinds. Where the program is killed as a call
+begins, or the call fails with EIO or EINTR, for each call in turn: the answers are those of the script, up to a first refusal, from which on
+no line changes the log; the log has the table behind the lines that were answered, or the one more that was on its way, each entry whole;
+status 0 with all answers comes only of a log that has it all; and an `apply` after it finds the table that is there.
+"""
+import os
+import re
+import shutil
+import sys
+from concurrent.futures import ThreadPoolExecutor
+
+from changes import LOGS
+from log_format import HEADER, Log, as_version, line_of
+from trials import main, read, run, write
+
+WAYS = {"kill": "signal=SIGKILL", "error": "error=EIO", "interrupt": "error=EINTR"}
+ENDS = ("exit_group", "exit")
+# What a line may be answered where the folder or memory failed at it or before it.
+REFUSED = {b"S1 NotOpen", b"S3 Broken", b"S7 OutOfMemory", b"S8 Fault"}
+X, Y, Z = (b"x", (1, 2, 3, 0xAA)), (b"y", (4, 5, 6, 0xBB)), (b"z", (7, 8, 9, 0xCC))
+KINDS = {
+    "a torn log": (LOGS["a log with a torn line"], 5),
+    "a missing log": (None, 5),
+    "a log of a torn header": (LOGS["a log of a torn header"], 5),
+    "a log of version 4": (LOGS["a log of version 4"], 5),
+    "a log that is due": (LOGS["a log that is due"], 5),
+    "a torn log of version 7": (as_version(LOGS["a log with a torn line"], 7), 7),
+}
+
+
+def add(entry):
+    return lambda table: {**table, entry[0]: entry[1]}
+
+
+def lines_of(table):
+    return b"".join(line_of(*it) for it in table.items())
+
+
+def restat(table):
+    return {name: (*it[:2], 50, it[3]) if name == b"x" else it for name, it in table.items()}
+
+
+# Each line of the script, what it makes of the table, and what is answered, by the table then.
+SCRIPT = [
+    (b"open\n", dict, lambda table: b"ok\n"),
+    (b"record\t" + line_of(*X), add(X), lambda table: b"ok\n"),
+    (b"sync\n", dict, lambda table: b"ok\n"),
+    (b"get\tx\n", dict, lambda table: line_of(b"x", table[b"x"])),
+    (b"record\t" + line_of(*Y), add(Y), lambda table: b"ok\n"),
+    (b"restat\t50\tx\n", restat, lambda table: b"ok\n"),
+    (b"recompact\tx\ty\n", lambda table: {name: it for name, it in table.items() if name in (b"x", b"y")}, lambda table: b"ok\n"),
+    (b"table\n", dict, lambda table: lines_of(table) + b"end\n"),
+    (b"record\t" + line_of(*Z), add(Z), lambda table: b"ok\n"),
+    (b"stop\n", dict, lambda table: b"ok\n"),
+]
+
+
+class Kind:
+    """A kind of log, the tables behind each line of the script, and the answers."""
+
+    def __init__(self, name, text, version):
+        self.name, self.text, self.version = name, text, version
+        self.tables = [self.table_of(text)]
+        self.answers = []
+        for _, change, answer in SCRIPT:
+            self.tables.append(change(self.tables[-1]))
+            self.answers.append(answer(self.tables[-1]))
+
+    def table_of(self, text):
+        return Log(as_version(text or b"", self.version)).table
+
+
+def traced(program, kind, room, inject=()):
+    """Runs the script on a log in a new folder: how it ended, and its system calls."""
+    os.makedirs(room)
+    if kind.text is not None:
+        write(f"{room}/LOG", kind.text)
+    write(f"{room}/SCRIPT", b"".join(line for line, _, _ in SCRIPT))
+    words = ["strace", "-y", "-o", f"{room}/TRACE", "-e", "signal=none", *inject, program, "apply", f"{room}/LOG", f"{room}/SCRIPT"]
+    ended = run(words, cwd="/")
+    return ended, [it for it in (read(f"{room}/TRACE") or b"").decode(errors="replace").split("\n") if re.match(r"\w+\(", it)]
+
+
+def read_answers(kind, out):
+    """How many lines were answered as the script wants, and what is wrong with the rest."""
+    count = 0
+    while count < len(SCRIPT) and out.startswith(kind.answers[count]):
+        out = out[len(kind.answers[count]) :]
+        count += 1
+    refusals = out.split(b"\n")
+    if refusals.pop():
+        # A kill between two writes of one answer leaves the first of its bytes.
+        return count, "" if count < len(SCRIPT) and kind.answers[count].startswith(out) else f"it answered {out!r}"
+    # A log that is broken is stopped all the same.
+    stopped = len(SCRIPT) - 1 - count
+    wrong = [it for at, it in enumerate(refusals) if it not in REFUSED and not (at == stopped > 0 and it == b"ok")]
+    if wrong and not (count < len(SCRIPT) and kind.answers[count].startswith(out)):
+        return count, f"it answered {out!r}"
+    if count + len(refusals) > len(SCRIPT):
+        return count, "there are more answers than lines"
+    return count, ""
+
+
+def disturbed(program, kind, room, how, call):
+    """Runs the script with one call disturbed: what is wrong with how it ended and with what it left."""
+    word, nth, line = call
+    (status, out, err), _ = traced(program, kind, room, ["-e", f"inject={word}:{WAYS[how]}:when={nth}"])
+    count, said = read_answers(kind, out)
+    wrong = [said] if said else []
+    left = read(f"{room}/LOG")
+    try:
+        found = kind.table_of(left)
+        skipped = Log(as_version(left or b"", kind.version)).skipped
+    except AssertionError:
+        return [*wrong, f"it left what is no log: {left!r}"]
+    if found not in kind.tables[count : count + 2]:
+        wrong.append(f"behind {count} answers the log has {found!r}")
+    if skipped:
+        wrong.append(f"the log has {skipped} lines that are no entries")
+    if how == "kill" and status != -9:
+        wrong.append(f"it wasn't killed, but ended with status {status}")
+    if how != "kill" and status not in (0, 1):
+        wrong.append(f"it ended with status {status}, and said {err!r}")
+    if status == 0 and (count, found) != (len(SCRIPT), kind.tables[-1]) and not set(out.split(b"\n")) & REFUSED:
+        wrong.append("it ended with status 0, and neither did all nor said so")
+    again = run([program, "apply", f"{room}/LOG"], stdin=None, input=b"open\ntable\nstop\n")
+    if again != (0, b"ok\n" + lines_of(found) + b"end\nok\n", b""):
+        wrong.append(f"after it `apply` answers {again!r}")
+    return wrong
+
+
+def sweep(trials, program, kind, room, pool):
+    ended, calls = traced(program, kind, f"{room}/whole")
+    trials.want(f"{kind.name}: the answers", ended, (0, b"".join(kind.answers), b""))
+    left = read(f"{room}/whole/LOG") or b""
+    trials.want(f"{kind.name}: the log", as_version(left, kind.version), HEADER + lines_of(kind.tables[-1]))
+    counts, chosen = {}, []
+    for call in calls:
+        word = call.split("(")[0]
+        counts[word] = counts.get(word, 0) + 1
+        chosen.append((word, counts[word], call.replace(f"{room}/whole", "ROOM")))
+    begin = next(i for i, call in enumerate(chosen) if i and "ROOM" in call[2])
+    runs = [(how, call) for how in WAYS for call in chosen[begin:] if how == "kill" or call[0] not in ENDS]
+    found = pool.map(lambda one: disturbed(program, kind, f"{room}/{one[0]}", *one[1]), enumerate(runs))
+    for (how, call), wrong in zip(runs, found):
+        trials.check(f"{kind.name}: {how} at {call[2][:120]}", not wrong, "; ".join(wrong))
+    return len(chosen) - begin
+
+
+def trial(trials, program, room):
+    if shutil.which("strace") is None:
+        return trials.skip("all of it", "strace isn't there")
+    if run(["strace", "-o", f"{room}/TRACE", "-e", "inject=write:error=EIO", "true"])[0] != 0:
+        return trials.skip("all of it", "strace may not trace here")
+    count = 0
+    with ThreadPoolExecutor(os.cpu_count()) as pool:
+        for number, (name, (text, version)) in enumerate(KINDS.items()):
+            count += sweep(trials, program, Kind(name, text, version), f"{room}/{number}", pool)
+    print(f"apply_calls.py: {count} calls of {len(KINDS)} runs were disturbed, each in {len(WAYS)} ways")
+    return None
+
+
+if __name__ == "__main__":
+    sys.exit(main(__file__, trial))
