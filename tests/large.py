@@ -20,7 +20,7 @@ import threading
 from functools import partial
 from itertools import chain
 
-from log_format import HEADER, MAX_LINE, MAX_NAME, command_hash, entry_of, line_of
+from log_format import HEADER, MAX_LINE, MAX_NAME, as_version, command_hash, entry_of, line_of
 from trials import SECONDS, main, run
 
 ENTRIES = 1_000_001
@@ -211,6 +211,17 @@ def try_many(trials, program, room):
     large.want_printed("check", [report(5, ENTRIES + 1, ENTRIES + 1, 0, 0, b"no")])
     large.want_log(["restat", large.log, large.times], chain([HEADER], touched_lines(everything), [RECORDED]))
     large.want_log(["recompact", large.log, large.keep], chain([HEADER], touched_lines(filter(is_kept, everything))))
+    # The same as a log of version 7, by its first line and by the option.
+    kept, header = list(filter(is_kept, everything)), as_version(HEADER, 7)
+    with open(large.log, "r+b") as it:
+        it.write(header)
+    shown = streamed([program, "show", "--log-version", "auto", large.log])
+    trials.want(f"{large.what}: show of version 7", shown, (0, sum_of(touched_lines(kept)), b""))
+    large.want_held("entries", touched_lines(kept))
+    large.want_log(["repair", large.log], chain([header], touched_lines(kept)))
+    large.want_log(["restat", "--log-version", "7", large.log, large.times], chain([header], touched_lines(kept)))
+    unasked = streamed([program, "show", large.log])
+    trials.want(f"{large.what}: show where no version is asked for", unasked, (1, sum_of([]), b"nlog: log version not supported\n"))
 
 
 def try_script(trials, program, room):
@@ -230,6 +241,9 @@ def try_script(trials, program, room):
         start, end, mtime, command = numbers_of(RECORDS - OUTPUTS + it)
         left.append(line_of(name_of(it), (start, end, it + 5 if it in stamped else mtime, command)))
     large.want_printed("replay", [b"ok\n" * (RECORDS + 3), b"log %d\n" % sum(map(len, left)), *left])
+    built = f"{room}/BUILT"
+    trials.want(f"{large.what}: apply", streamed([program, "apply", built, large.log]), (0, sum_of([b"ok\n" * (RECORDS + 3)]), b""))
+    trials.want(f"{large.what}: the log after apply", sum_of_file(built), sum_of(left))
 
 
 # The log of long names.
