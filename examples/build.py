@@ -4,7 +4,11 @@
     python3 examples/build.py NLOG LOG COUNT
 
 For each of COUNT outputs it asks the log for the entry. Where that is missing, or has another command's hash, the command is run (here it
-only counts), and its entry recorded. A build whose outputs must outlive a power cut syncs each of them before it records it. After every 16 commands it syncs, and prints how many outputs then stand, whatever comes.
+only counts), and its entry recorded. A build whose outputs must outlive a power cut syncs each of them before it records it. After every
+16 commands it syncs, and prints how many outputs then stand, whatever comes.
+
+An output whose record a power cut took back has its older entry again, which passes for fresh where the command goes back to that one. A
+build that must not take it records the output with another hash, and syncs, before it runs the command.
 """
 import os
 import subprocess
@@ -16,7 +20,7 @@ class Log:
     """A log that `nlog apply` keeps: a line is asked, and its answer is awaited."""
 
     def __init__(self, nlog, path):
-        self.nlog = subprocess.Popen([nlog, "apply", path], stdin=subprocess.PIPE, stdout=subprocess.PIPE)
+        self.nlog = subprocess.Popen([nlog, "apply", "--", path], stdin=subprocess.PIPE, stdout=subprocess.PIPE)
         self.do("open")
 
     def ask(self, *fields):
