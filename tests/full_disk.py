@@ -100,25 +100,28 @@ REPAIRS = {
 
 # By docs/CLI.md, in a folder with the files `a` and `b`, where Ninja has an edge for `edge`: what each script leaves of a log.
 LONG = (b"n" * 3000, (1, 2, 3, 4))
-JOINED = HEADER + line_of(*LONG) + line_of(b"a", (1, 2, 10, 0xAA)) + b"3\t4\t2" + line_of(b"a", (5, 6, 30, 0xBB)) + line_of(b"edge", (1, 2, 3, 4))
+PART = b"3\t4\t2"
+JOINED = HEADER + line_of(*LONG) + line_of(b"a", (1, 2, 10, 0xAA)) + PART + line_of(b"a", (5, 6, 30, 0xBB)) + line_of(b"edge", (1, 2, 3, 4))
+WHOLE = JOINED.replace(PART, b"")
 SCRIPTS = {
-    "recompact.sh": text_of({b"a": (1, 2, 10, 0xAA), b"edge": (1, 2, 3, 4)}),
-    "restat.sh": text_of(dict([LONG, (b"a", (1, 2, 1_700_000_000_000_000_000, 0xAA)), (b"edge", (1, 2, 3, 4))])),
-    "doubt.sh": text_of(dict([LONG, (b"edge", (1, 2, 3, 4))])),
+    "recompact.sh": (WHOLE, text_of({b"a": (5, 6, 30, 0xBB), b"edge": (1, 2, 3, 4)})),
+    "restat.sh": (WHOLE, text_of(dict([LONG, (b"a", (5, 6, 1_700_000_000_000_000_000, 0xBB)), (b"edge", (1, 2, 3, 4))]))),
+    "doubt.sh": (JOINED, text_of(dict([LONG, (b"edge", (1, 2, 3, 4))]))),
 }
 
 
 def try_script(trials, program, disk, room, name):
     """A script whose own files find no room, room for some of them, or for all: the log stays, or all is done."""
+    start, left = SCRIPTS[name]
     write(f"{room}/{name}", read_page("docs/CLI.md")[0][name])
     path = f"{room}/bin:{os.path.dirname(program)}:{os.environ.get('PATH', os.defpath)}"
     stopped = done = 0
     for pages in range(PAGES + 1):
-        write(f"{room}/LOG", JOINED)
+        write(f"{room}/LOG", start)
         fill_up(disk)
         os.truncate(f"{disk}/fill", (PAGES - pages) * PAGE)
         status = run(["sh", name, "LOG"], cwd=room, env={**os.environ, "PATH": path, "TMPDIR": disk})[0]
-        wanted = SCRIPTS[name] if status == 0 else JOINED
+        wanted = left if status == 0 else start
         trials.want(f"{name} with room for {pages} pages, ended with {status}: the log", read(f"{room}/LOG"), wanted)
         trials.want(f"{name} with room for {pages} pages: what it leaves", os.listdir(disk), ["fill"])
         stopped, done = stopped + (status != 0), done + (status == 0)

@@ -19,7 +19,7 @@ import signal
 import sys
 
 from examples import read_page
-from log_format import HEADER, Log, line_of
+from log_format import HEADER, Log, as_version, line_of
 from log_lines import entries_of
 from trials import main, read, run, write
 
@@ -166,6 +166,19 @@ class Reports:
         most = max((sum(a[0] <= b[0] < a[1] for a in spans) for b in spans), default=0)
         return self.want(f"{kind}: lanes", max((it[2] for it in spans), default=0), most)
 
+    def try_versions(self):
+        """A log of version 6 or 7 gives the reports of the same log of version 5, and so does one whose name begins with `-`."""
+        write(f"{self.room}/LOG", OLD)
+        write(f"{self.room}/OTHER", NEW)
+        rows = [("last.sh", "{}"), ("dates.sh", "{}"), ("compare.sh", "{}", "OTHER"), ("compare.sh", "OTHER", "{}"), ("compare.sh", "{}", "{}")]
+        for version, name in ((5, "-LOG"), (5, "LO=G"), (6, "six"), (7, "seven"), (7, "-seven")):
+            write(f"{self.room}/{name}", as_version(OLD, version))
+            for words in rows:
+                wanted = self.script(*(it.format("LOG") for it in words))
+                self.want(f"{words} of LOG", (wanted[0], wanted[2]), (0, b""))
+                self.want(f"{words} of {name}, of version {version}", self.script(*(it.format(name) for it in words)), wanted)
+            os.remove(f"{self.room}/{name}")
+
     def try_failures(self):
         """A script that can't do its work prints nothing, and says so by its status."""
         write(f"{self.room}/LOG", OLD)
@@ -216,6 +229,7 @@ def trial(trials, program, room):
         reports = Reports(trials, program, f"{room}/{awk}", awk)
         for kind, text in LOGS.items():
             reports.try_log(kind, text)
+        reports.try_versions()
         reports.try_failures()
     return None
 

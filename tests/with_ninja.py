@@ -17,6 +17,7 @@ import sys
 
 from examples import read_page
 from log_format import HEADER, Log, as_version, line_of
+from log_lines import damage_of
 from trials import main, read, run, write
 
 RECIPES = read_page("docs/CLI.md")[0]
@@ -76,11 +77,11 @@ class Build:
         option = [] if word == "repair" else self.option()
         return run([self.program, word, *option, *words], cwd=self.room)
 
-    def recipe(self, name, folder=None):
+    def recipe(self, name, *words, folder=None):
         """Runs a script of docs/CLI.md, with the programs of this folder in place of others."""
         write(f"{self.room}/../{name}", RECIPES[name])
         path = ":".join(it for it in (folder, os.path.dirname(self.program), os.environ.get("PATH", os.defpath)) if it)
-        return run(["sh", f"../{name}"], cwd=self.room, env={**os.environ, "PATH": path})
+        return run(["sh", f"../{name}", *words], cwd=self.room, env={**os.environ, "PATH": path})
 
     def mirror(self):
         """A copy of the build, for Ninja to work on."""
@@ -120,6 +121,13 @@ class Build:
         last = text[: -1].rfind(b"\n") + 1
         assert b"\t" + name + b"\t" in text[last:]
         write(f"{self.room}/{LOG}", text[: text.index(b"\t" + name, last) + 3])
+
+    def cut_hash(self, name, behind=b""):
+        """Cuts three bytes off the log, in the hash of the output `name`, and writes these bytes behind the part."""
+        text = read(f"{self.room}/{LOG}")
+        part = text[text[:-1].rfind(b"\n") + 1 : -3]
+        assert b"\t" + name + b"\t" in part and part[-1:] != b"\t"
+        write(f"{self.room}/{LOG}", text[:-3] + behind)
 
 
 def try_recompact(trials, build):
@@ -226,9 +234,13 @@ def try_times_that_fail(trials, build):
     write(f"{build.room}/bin/stat", b"#!/bin/sh\nprintf '1.000000000\\ta.o\\n'\nexit 1\n")
     os.chmod(f"{build.room}/bin/stat", 0o755)
     before = read(f"{build.room}/{LOG}")
-    status = build.recipe("restat.sh", f"{build.room}/bin")[0]
+    status = build.recipe("restat.sh", folder=f"{build.room}/bin")[0]
     trials.check("a stat that fails: restat.sh stops", status not in (0, None), repr(status))
     trials.want("a stat that fails: the log stays", read(f"{build.room}/{LOG}"), before)
+    # One whose locale has a comma, unless it is told to have none.
+    write(f"{build.room}/bin/stat", b"#!/bin/sh\ntest \"${LC_ALL-}\" = C && point=. || point=,\nprintf \"1700000209${point}250000000\\ta.o\\n\"\n")
+    trials.want("a locale with a comma: restat.sh ends", build.recipe("restat.sh", folder=f"{build.room}/bin"), (0, b"", b""))
+    trials.want("a locale with a comma: the time stamp", build.log().table[b"a.o"][2], 1_700_000_209_250_000_000)
     for text in (HEADER, HEADER + b"1\t2\t3\tgone\taa\n"):
         build.write_log(text)
         trials.want(f"a log without files, {text!r}: restat.sh ends", build.recipe("restat.sh"), (0, b"", b""))
@@ -303,19 +315,95 @@ def try_joined(trials, build):
     trials.want("doubt.sh: and it is that of A", read(f"{build.room}/note"), b"n1")
 
 
+def try_joined_in_hash(trials, build):
+    """A, B torn in its hash, A again, and the line of another output behind the part. `damage` names that one alone. Ninja takes the line for
+    an entry of the first, with another hash; a rewriting drops it, and A's entry counts. doubt.sh doubts both."""
+    for zeros in (b"", bytes(100)):
+        what = f"torn in its hash, with {len(zeros)} zero bytes"
+        build.describe("n2")
+        build.ninja()
+        build.cut_hash(b"note", zeros)
+        build.describe("n1")
+        write(f"{build.room}/a.c", b"changed")
+        build.ninja("a.o")
+        trials.want(f"{what}: damage", build.nlog("damage", LOG), (3, damage_of(build.text()), b""))
+        trials.check(f"{what}: it names a.o alone", damage_of(build.text()).split(b"\t")[3:] == [b"a.o\n"], repr(damage_of(build.text())))
+        trials.check(f"{what}: while the line stands Ninja makes the output again", OTHER % b"note" in build.why(), repr(build.why()))
+        mirror = build.mirror()
+        trials.want(f"{what}: repair ends", mirror.nlog("repair", LOG), (0, b"", b""))
+        trials.check(f"{what}: repaired, Ninja lets it be", b"note" not in mirror.why(), repr(mirror.why()))
+        trials.want(f"{what}: a stale file", read(f"{mirror.room}/note"), b"n2")
+        others = {name: it for name, it in build.log().table.items() if name not in (b"note", b"a.o")}
+        trials.want(f"{what}: doubt.sh ends", build.recipe("doubt.sh"), (0, b"", b""))
+        trials.want(f"{what}: the entries that are left", build.log().table, others)
+        build.ninja()
+        trials.want(f"{what}: the output is that of A", read(f"{build.room}/note"), b"n1")
+
+
+def try_zeros(trials, build):
+    """A, B torn in its hash, and zero bytes in place of the rest: `damage` can't name the output, and doubt.sh drops its entry all the same."""
+    build.describe("n2")
+    build.ninja()
+    build.cut_hash(b"note", bytes(5000))
+    build.describe("n1")
+    trials.check("zeros: damage names no output", build.nlog("damage", LOG)[1].endswith(b"\t-\n"))
+    trials.check("zeros: Ninja finds nothing to do", build.is_idle(), repr(build.why()))
+    trials.want("zeros: doubt.sh ends", build.recipe("doubt.sh"), (0, b"", b""))
+    build.ninja()
+    trials.want("zeros: the output is that of A", read(f"{build.room}/note"), b"n1")
+
+
 def try_joined_anywhere(trials, build):
-    """A line that is torn at each of its bytes, with each of these behind it: where the two are no entry, doubt.sh drops the last name."""
-    first = HEADER + line_of(b"a.o", (0, 1, 2, 3)) + line_of(b"note", (0, 9, 1_700_000_000_000_000_000, 0xA1))
+    """A line that is torn at each of its bytes, with each of these behind it: where the two are no entry, doubt.sh drops the last name, and
+    that of the part where its end can be told."""
+    kept, was = line_of(b"a.o", (0, 1, 2, 3)), line_of(b"out/x", (0, 9, 1_700_000_000_000_000_000, 0xA2))
+    first = HEADER + kept + was + line_of(b"note", (0, 9, 1_700_000_000_000_000_000, 0xA1))
+    behind = [line_of(b"note", (it, 3_000_000, 1_700_000_000_000_000_002, 0xC3)) for it in (0, 5, 1234567)]
     for start in (0, 7, 1234567):
         torn = line_of(b"out/x", (start, 2_000_000, 1_700_000_000_000_000_001, 0xB2))
         for cut in range(1, len(torn)):
-            for later in (0, 5, 1234567):
-                text = first + torn[:cut] + line_of(b"note", (later, 3_000_000, 1_700_000_000_000_000_002, 0xC3))
+            rests = [*behind, bytes(9) + behind[0]]
+            for rest in rests:
+                text = first + torn[:cut] + rest
                 if not Log(text).skipped:
                     continue
+                is_told = torn[:cut].count(b"\t") == 4 or b"\0" in rest and torn[:cut].endswith(b"out/x")
                 build.write_log(text)
                 build.recipe("doubt.sh")
-                trials.want(f"doubt.sh on {text!r}", build.text(), HEADER + line_of(b"a.o", (0, 1, 2, 3)))
+                trials.want(f"doubt.sh on {text!r}", build.text(), HEADER + kept + (b"" if is_told else was))
+
+
+def try_joined_thrice(trials, build):
+    """Two torn lines in one, and the line behind them: doubt.sh drops all three."""
+    names = [b"a.o", b"b.o", b"app", b"note"]
+    lines = [line_of(it, (0, 5, 1_700_000_000_000_000_001, 0xABCDEF)) for it in names]
+    build.write_log(HEADER + b"".join(lines) + lines[1][:-3] + lines[2][:-4] + lines[3])
+    trials.want("three lines in one: doubt.sh ends", build.recipe("doubt.sh"), (0, b"", b""))
+    trials.want("three lines in one: what is left", build.text(), HEADER + lines[0])
+
+
+def try_scripts_at_damage(trials, build):
+    """recompact.sh and restat.sh stop at a damaged log, print what `damage` tells, and leave the log."""
+    build.describe("n2")
+    build.ninja()
+    whole = build.text()
+    for what, text in (("torn", whole[:-3]), ("skipped", whole + b"x\n"), ("zeros", whole + bytes(9))):
+        for name in ("recompact.sh", "restat.sh"):
+            build.write_log(text)
+            trials.want(f"a log that is {what}: {name} ends", build.recipe(name), (3, damage_of(text), b""))
+            trials.want(f"a log that is {what}: {name} leaves it", build.text(), text)
+
+
+def try_names_like_options(trials, build):
+    """The scripts on a log whose name begins with `-` do what they do on another."""
+    whole = build.text()
+    for name, text in (("recompact.sh", whole), ("restat.sh", whole), ("doubt.sh", whole[:-3])):
+        left = []
+        for log in ("its.log", "-its.log", "it=s.log"):
+            write(f"{build.room}/{log}", as_version(text, build.version))
+            trials.want(f"{name} of {log} ends", build.recipe(name, log), (0, b"", b""))
+            left.append(read(f"{build.room}/{log}"))
+        trials.want(f"{name}: what is left of a log whose name begins with `-`, or has a `=`", left[1:], left[:1] * 2)
 
 
 def try_changed_in_a_build(trials, build):
@@ -548,7 +636,12 @@ PARTS = [
     try_torn,
     try_other_command,
     try_joined,
+    try_joined_in_hash,
+    try_zeros,
     try_joined_anywhere,
+    try_joined_thrice,
+    try_scripts_at_damage,
+    try_names_like_options,
     try_changed_in_a_build,
     try_mtime,
     try_hash,
