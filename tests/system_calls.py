@@ -1,12 +1,14 @@
 #!/usr/bin/env python3
-"""Tries the system calls of the commands that change a log: their order, and what a kill or an error at each of them leaves.
+"""Tries the system calls of the commands that change a log: their order, and what a kill or an error at each of them leaves; and what
+the commands that read one print where a call fails.
 
     python3 tests/system_calls.py PROGRAM
 
 Wants strace, and that it may trace. Where a command is killed as a call begins, or the call fails with EIO or EINTR, for each
 call in turn, the log has to be one that the rules let it leave; later kills leave no less of the work; status 0 comes only of a
 log that is done, and never where a call on LOG met EIO; the second line of the refusal, by `--verbose`, has the file of the call
-and the error that it met; and the same command again does its work.
+and the error that it met; and the same command again does its work. A command that reads prints all with its own status, or a part
+of it and status 1, and says which file it couldn't read or write.
 """
 import os
 import re
@@ -15,8 +17,8 @@ import sys
 from concurrent.futures import ThreadPoolExecutor
 
 from changes import CASES, FAILED, RECORDED, UNREAD, try_left
-from log_format import HEADER, Log, line_of, text_of
-from trials import main, read, run
+from log_format import HEADER, Log, command_hash, line_of, text_of
+from trials import main, read, run, write
 
 # How a call is disturbed. One that was interrupted may be made again.
 WAYS = {"kill": "signal=SIGKILL", "error": "error=EIO", "interrupt": "error=EINTR"}
@@ -174,6 +176,73 @@ def sweep(trials, program, case, room, pool, is_first):
     return len(calls) - begin
 
 
+# A log that is damaged, and what each word that reads a file prints of it, with its status.
+DAMAGED = HEADER + b"1\t2\t10\ta\taa\nx\n3\t4\t20\ta\tbb\n5\t6"
+READERS = {
+    "show": (0, b"3\t4\t20\ta\tbb\n"),
+    "check": (0, Log(DAMAGED).report()),
+    "entries": (0, b"1\t2\t10\ta\taa\n3\t4\t20\ta\tbb\n"),
+    "damage": (3, b"3\tskipped\t1\t-\n5\ttorn\t3\t-\n"),
+    "hash-file": (0, b"%x\n" % command_hash(DAMAGED)),
+}
+UNWRITTEN = b"nlog: cannot write\n"
+# It answers the old end of memory where it fails, and never the number of an error.
+NO_ERROR = (*ENDS, "brk")
+
+
+def read_traced(program, word, room, inject=()):
+    """Runs a word that reads a log in a new folder: how it ended, and its system calls."""
+    os.makedirs(room)
+    write(f"{room}/LOG", DAMAGED)
+    ended = run(["strace", "-y", "-o", f"{room}/TRACE", "-e", "signal=none", *inject, program, word, "-v", f"{room}/LOG"], cwd="/")
+    return ended, [it for it in (read(f"{room}/TRACE") or b"").decode(errors="replace").split("\n") if re.match(r"\w+\(", it)]
+
+
+def read_disturbed(program, word, room, how, call):
+    """What is wrong with how a word ended that reads, with one call disturbed."""
+    name, count, line = call
+    status, text = READERS[word]
+    (ended, out, err), _ = read_traced(program, word, room, ["-e", f"inject={name}:{WAYS[how]}:when={count}"])
+    file = "FILE" if word == "hash-file" else "LOG"
+    wrong = [] if read(f"{room}/LOG") == DAMAGED else ["LOG was changed"]
+    if not text.startswith(out):
+        wrong.append(f"it printed {out!r}")
+    if how == "kill":
+        return wrong + ([] if ended == -9 else [f"it wasn't killed, but ended with status {ended}"])
+    if ended == status:
+        return wrong + ([] if (out, err) == (text, b"") else [f"it ended well with {out!r} and {err!r}"])
+    said = {
+        UNREAD + f"nlog: {file} {room}/LOG: ".encode() + SAYS[how] + b"\n",
+        UNWRITTEN + b"nlog: standard output: " + SAYS[how] + b"\n",
+        b"nlog: out of memory\n",
+    }
+    if ended != 1 or err not in said:
+        wrong.append(f"status {ended} with {err!r}")
+    elif ("ROOM/LOG" in line) != (err.startswith(UNREAD)) or (name == "write") != (err.startswith(UNWRITTEN)):
+        wrong.append(f"{err!r} is said of another call")
+    return wrong
+
+
+def sweep_readers(trials, program, room, pool):
+    """Disturbs each call of the words that read, from the one on that opens LOG."""
+    count = 0
+    for word, (status, text) in READERS.items():
+        ended, calls = read_traced(program, word, f"{room}/{word}")
+        trials.want(f"{word} ends", ended, (status, text, b""))
+        counts, chosen = {}, []
+        for call in calls:
+            name = call.split("(")[0]
+            counts[name] = counts.get(name, 0) + 1
+            chosen.append((name, counts[name], call.replace(f"{room}/{word}", "ROOM")))
+        begin = next(i for i, call in enumerate(chosen) if i and "ROOM" in call[2])
+        runs = [(how, call) for how in WAYS for call in chosen[begin:] if how == "kill" or call[0] not in NO_ERROR]
+        found = pool.map(lambda one, word=word: read_disturbed(program, word, f"{room}/{word}{one[0]}", *one[1]), enumerate(runs))
+        for (how, call), wrong in zip(runs, found):
+            trials.check(f"{word}: {how} at {call[2][:120]}", not wrong, "; ".join(wrong))
+        count += len(chosen) - begin
+    return count
+
+
 def trial(trials, program, room):
     if shutil.which("strace") is None:
         return trials.skip("all of it", "strace isn't there")
@@ -185,7 +254,8 @@ def trial(trials, program, room):
             word = case.change.words[0]
             count += sweep(trials, program, case, f"{room}/{number}", pool, word not in commands)
             commands.add(word)
-    print(f"system_calls.py: {count} calls of {len(CASES)} runs were disturbed, each in {len(WAYS)} ways")
+        count += sweep_readers(trials, program, f"{room}/readers", pool)
+    print(f"system_calls.py: {count} calls of {len(CASES) + len(READERS)} runs were disturbed, each in {len(WAYS)} ways")
     return None
 
 
