@@ -74,7 +74,7 @@ class Build:
         return [] if self.version == 5 else ["--log-version", f"{self.version}"]
 
     def nlog(self, word, *words):
-        option = [] if word == "repair" else self.option()
+        option = [] if word in ("damage", "repair") else self.option()
         return run([self.program, word, *option, *words], cwd=self.room)
 
     def recipe(self, name, *words, folder=None):
