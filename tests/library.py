@@ -21,7 +21,7 @@ LIBRARY = f"{TOP}/tests/library"
 # `growths.py` runs those of `growths`.
 PARTS = ["fields", "lines", "table", "folder", "files", "system", "session", "words", "disk", "program"]
 CRATE = "nl_library_tests"
-USES = "nl_fields nl_lines nl_table nl_folder nl_files nl_system nl_session nl_words nl_disk nl_replay nl_tool clap"
+USES = "nl_fields nl_lines nl_table nl_folder nl_files nl_system nl_session nl_words nl_disk nl_replay nl_print nl_change nl_tool clap"
 # How long a test may run, and all of them with what they are built in.
 SECONDS, ALL_SECONDS = 300, 1800
 TEST = r"(?m)^#\[test\]\nfn (\w+)"

@@ -1,13 +1,5 @@
-pub mod Files
-pub mod Output
-pub mod Streams
-pub mod StreamSteps
-pub mod Loading
-pub mod Versions
 pub mod VersionChoice
-pub mod RecordWords
+pub mod Answers
 pub mod Faults
-pub mod Updates
 pub mod Ending
-pub mod Applying
 pub mod Reasons

@@ -1,36 +1,3 @@
-//! Laws of what the commands print, each the contract of a function that does nothing.
-ghost use Rattle.std.specs.Prelude.{◌≡◌, ◌++◌, ◌∷◌, ◌≤◌, ◌↔◌, [], ℕ, List, Some, length};
-ghost use Rattle.nl_fields.specs.Header.{header_line, version_five};
-ghost use Rattle.nl_fields.specs.declared.entry.Entry.{Entry};
-ghost use Rattle.nl_lines.specs.Lines.{max_log};
-ghost use Rattle.nl_lines.specs.Split.{lines_of, torn_len};
-ghost use Rattle.nl_lines.specs.Version.{as_version};
-ghost use Rattle.nl_lines.specs.declared.version.LogVersion.{LogVersion};
-ghost use Rattle.nl_table.specs.Log.{Log, log_of, skipped_count};
-ghost use Rattle.nl_tool.specs.Output.{shown};
-ghost use Rattle.nl_tool.specs.Streams.{damaged, listed};
-ghost use Rattle.nl_tool.specs.Updates.{repaired};
-ghost use Rattle.nl_tool.specs.VersionChoice.{version_of};
-ghost use Rattle.nl_tool.specs.Versions.{log_as};
-
-/// What `show` prints of the header line and of what `entries` printed is what it prints of the log.
-pub fn entries_are_shown()
-    ensures { (bytes text : List ℕ) → listed bytes ≡ Some text → length (header_line ++ text) ≤ max_log → shown (header_line ++ text) ≡ shown bytes }
-{}
-
-/// `damage` prints nothing of a log exactly where `check` counts no skipped line and no torn byte.
-pub fn damage_is_what_check_counts()
-    ensures { (bytes text : List ℕ) → damaged bytes ≡ Some text → (text ≡ []) ↔ ((skipped_count bytes ≡ 0) × (torn_len bytes ≡ 0)) }
-{}
-
-/// Of a log that a repair leaves as it is `damage` prints nothing.
-pub fn a_repaired_log_has_no_damage()
-    ensures { (bytes : List ℕ) → repaired bytes ≡ Some bytes → damaged bytes ≡ Some [] }
-{}
-
-/// The version that a log's first line names is the one that is asked for, and a log of version 4 is read as one.
-pub fn auto_is_the_version()
-    ensures each { (version : LogVersion) (bytes : List ℕ) (later : List (List ℕ)) → lines_of bytes ≡ as_version version version_five ∷ later
-        → version_of bytes ≡ version }
-    ensures four { (bytes : List ℕ) (es : List Entry) → log_of bytes ≡ Log 4 es → log_as (version_of bytes) bytes ≡ Log 4 es }
-{}
+//! Laws of what the commands print and leave, which the crates below prove.
+pub use nl_change::laws::{a_repaired_log_has_no_damage, damage_is_what_check_counts};
+pub use nl_print::laws::{auto_is_the_version, entries_are_shown};

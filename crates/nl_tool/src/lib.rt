@@ -1,50 +1,32 @@
-//! The commands of `nlog`: those that print, over any reader and writer, and those that change a log, over any folder.
+//! The program `nlog`: what it does of the words that it was given, over real files, and the status to end with. It hands on what the
+//! crates below do over any reader, writer and folder.
 #![tactic(auto)]
 
-mod apply;
-mod asked;
-mod beginning;
-mod change;
-mod check;
-mod damage;
+mod changing;
 mod ending;
-mod entries;
-mod hash;
-mod hash_file;
-mod keep_file;
+mod files;
 pub mod laws;
-mod loading;
-mod log_fault;
 mod notes;
-mod parts;
+mod printing;
 mod program;
 mod reason;
-mod record_words;
-mod show;
-mod stream;
-mod times_file;
-mod update;
 mod version_choice;
-mod version_updates;
-mod versions;
 
-pub use apply::{apply_on, apply_through};
-pub use check::{check_any, check_as, check_to};
-pub use damage::damage_to;
 pub use ending::{run_line, run_program};
-pub use entries::entries_to;
-pub use hash::hash_to;
-pub use hash_file::hash_file_to;
+pub use nl_change::{
+    apply_any, apply_on, apply_through, entry_as, recompact_as, recompact_on, record_as, record_on,
+    repair_as, repair_on, restat_as, restat_on,
+};
 pub use nl_disk::DiskFolder;
 pub use nl_lines::LogVersion;
+pub use nl_print::{
+    check_any, check_as, check_to, command_hash_as, damage_to, entries_to, hash_as, hash_file_to,
+    hash_to, load_any, load_as, show_any, show_as, show_to, version_in, version_of,
+};
 pub use nl_replay::replay_to;
 pub use nl_texts::{ToolFault, status_of};
 pub use nl_words::{AskedVersion, CommandLine, Words, read_words};
 pub use notes::{Beginning, Heard, NotedReader, NotedWriter, Notes};
 pub use program::{Outcome, run, run_noted};
 pub use reason::{Place, Reason, Refusal, Why, refusal_of};
-pub use show::{show_any, show_as, show_to};
-pub use update::{recompact_on, record_on, repair_on, restat_on};
-pub use version_choice::{asked_version, chosen_in, version_in, version_of};
-pub use version_updates::{recompact_as, record_as, repair_as, restat_as};
-pub use versions::{command_hash_as, entry_as, hash_as, load_any, load_as};
+pub use version_choice::{asked_version, chosen_in};

@@ -1,0 +1,7 @@
+pub mod FileLemmas
+pub mod ChangeLemmas
+mod KeepLemmas
+mod TimesLemmas
+mod DamageLawLemmas
+mod RepairLemmas
+mod ApplyLemmas

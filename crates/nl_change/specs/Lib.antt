@@ -1,0 +1,5 @@
+pub mod Files
+pub mod RecordWords
+pub mod Faults
+pub mod Updates
+pub mod Applying

@@ -1,0 +1,34 @@
+//! What a line of `apply` asks for.
+ghost use Rattle.nl_change.specs.Applying.{Asks};
+
+use nl_replay::{Refusal, read_event_line};
+use nl_session::Event;
+use std::alloc::Global;
+
+/// What a line asks for.
+#[derive(Drop)]
+pub enum Asked<'a> {
+    Does(Event),
+    Gets(&'a [u8]),
+    Lists,
+    /// Nothing that there is.
+    Bad,
+    /// It isn't known: memory was wanting.
+    Unread,
+}
+
+/// What a line asks for. A crash isn't asked for.
+pub fn read_asked(alloc: Global, line: &[u8]) -> Asked<'_>
+    ensures asks { Asks line.now result }
+{
+    match line {
+        b"table" => Asked::Lists,
+        [b'g', b'e', b't', b'\t', name @ ..] => Asked::Gets(name),
+        _ => match read_event_line(alloc, line) {
+            Ok(Event::Crash) => Asked::Bad,
+            Ok(event) => Asked::Does(event),
+            Err(Refusal::BadLine) => Asked::Bad,
+            Err(Refusal::OutOfMemory) => Asked::Unread,
+        },
+    }
+}

@@ -1,0 +1,8 @@
+pub mod OutputLemmas
+pub mod VersionLemmas
+mod DamageLemmas
+mod EntryLemmas
+mod StreamLemmas
+mod VersionOfLemmas
+mod BeginningLemmas
+mod AnyVersionLemmas

@@ -1,0 +1,28 @@
+//! The command `hash`.
+ghost use Rattle.std.specs.Prelude.{IfErr, IfOk};
+ghost use Rattle.nl_print.specs.Faults.{IsHashFault};
+ghost use Rattle.nl_texts.specs.Output.{Prints};
+ghost use Rattle.nl_print.specs.Output.{IsHashText};
+
+use nl_fields::{append_hex64, command_hash};
+use nl_texts::{ToolFault, write_out};
+use std::alloc::{AllocError, Global};
+use std::io::Write;
+
+/// Writes the hash of a command as a log spells it, and a newline.
+pub fn hash_to<W: Write>(alloc: Global, command: &[u8], writer: &mut W) -> Result<(), ToolFault>
+    ensures prints { Prints (IsHashText command.now) (W.contents writer.old) (W.contents writer.new) result }
+    ensures faults { IfErr result IsHashFault }
+{
+    let text = hash_text(alloc, command)?;
+    write_out(text.as_slice(), writer)
+}
+
+fn hash_text(alloc: Global, command: &[u8]) -> Result<Vec<u8>, AllocError>
+    ensures value { IfOk result (λ text. IsHashText command.now text.items) }
+{
+    let mut text = Vec::new(alloc);
+    append_hex64(command_hash(command), &mut text)?;
+    text.push(b'\n')?;
+    Ok(text)
+}
