@@ -1,7 +1,7 @@
 use Rattle.std.proofs.Common.{rules, ◌≡◌, ◌∙◌, false}
 use Rattle.std.proofs.lemmas.Result.{IfOk-weaker}
 use Rattle.nl_words.proofs.ValueLemmas.{or_false}
-use Rattle.nl_words.proofs.definition.with_value.Goals as goal
+use Rattle.nl_words.proofs.commands.with_value.Goals as goal
 
 pub returns-clause-local : goal.returns-clause-local
 returns-clause-local c =

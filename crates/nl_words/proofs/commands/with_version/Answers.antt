@@ -2,7 +2,7 @@ use Rattle.std.proofs.Common.{rules, ◌≡◌, ◌∙◌, ap, false, refl}
 use Rattle.std.proofs.lemmas.Result.{IfOk-weaker}
 use Rattle.clap.specs.Words.{app_of, with_rule}
 use Rattle.nl_words.proofs.ValueLemmas.{or_false, version_told}
-use Rattle.nl_words.proofs.definition.with_version.Goals as goal
+use Rattle.nl_words.proofs.commands.with_version.Goals as goal
 
 pub returns-clause-shape : goal.returns-clause-shape
 returns-clause-shape c =

@@ -1,0 +1,317 @@
+//! The commands of the program, each with its values and the texts of its help.
+ghost use Rattle.std.specs.Prelude.{◌≡◌, IfOk, false};
+ghost use Rattle.clap.specs.Words.{app_of, with_rule};
+ghost use Rattle.clap.specs.declared.builder.command.Command.TheViews.{out-Command};
+ghost use Rattle.nl_words.specs.CommandLine.{apply, check, damage, entries, hash, hash_file, positional, recompact, record_line, record_values, repair, replay, restat, show, version_rule};
+
+use clap::{Arg, Command};
+use std::alloc::{AllocError, Global};
+
+const LOG: &str = "A build log of Ninja, version 4 or 5";
+
+const OPTIONAL_LOG: &str =
+    "A build log of Ninja, version 4 or 5; standard input where it is left out";
+
+const ANY_LOG: &str = "A build log of Ninja, version 4 to 7";
+
+const OPTIONAL_ANY_LOG: &str =
+    "A build log of Ninja, version 4 to 7; standard input where it is left out";
+
+const LOG_VERSION: &str =
+    "5, 6 or 7: the version of LOG; auto: the one that its first line names; 4 or 5 where it is left out";
+
+// The command with one more value, which stands by its place.
+fn with_value<'a>(
+    alloc: Global,
+    command: Command<'a>,
+    id: &'a str,
+    required: bool,
+    help: &'a str,
+) -> Result<Command<'a>, AllocError>
+    ensures shape { IfOk result (λ c. app_of c ≡ with_rule (app_of command.entry) (positional id.entry.now required)) }
+    ensures local { IfOk result (λ c. (out-Command c).has_globals ≡ (out-Command command.entry).has_globals) }
+{
+    command.arg(Arg::new(alloc, id).required(required).help(help))
+}
+
+// The command with the option for the version of its logs.
+fn with_version<'a>(
+    alloc: Global,
+    command: Command<'a>,
+    help: &'a str,
+) -> Result<Command<'a>, AllocError>
+    ensures shape { IfOk result (λ c. app_of c ≡ with_rule (app_of command.entry) version_rule) }
+    ensures local { IfOk result (λ c. (out-Command c).has_globals ≡ (out-Command command.entry).has_globals) }
+{
+    let option = Arg::new(alloc, "log-version")
+        .long("log-version")
+        .value_name("VERSION");
+    command.arg(option.help(help))
+}
+
+pub fn show_command<'a>(alloc: Global) -> Result<Command<'a>, AllocError>
+    ensures shape { IfOk result (λ c. app_of c ≡ show) }
+    ensures local { IfOk result (λ c. (out-Command c).has_globals ≡ false) }
+{
+    let command = Command::new(alloc, "show")
+        .about(
+            "Prints the last entry of each output, in the order in which the outputs first appear",
+        )
+        .after_help(
+            "\
+One line for each output: START, END, MTIME, NAME and HASH with a tab between neighbours.
+
+START  when its command began, in milliseconds since the build began
+END    when its command ended, in milliseconds since the build began
+MTIME  the time stamp that the build recorded, in the unit of its file system: Ninja on Linux
+       writes nanoseconds since 1970
+NAME   the output
+HASH   the hash of the command, in hexadecimal",
+        );
+    let command = with_value(alloc, command, "LOG", false, OPTIONAL_LOG)?;
+    with_version(alloc, command, LOG_VERSION)
+}
+
+pub fn check_command<'a>(alloc: Global) -> Result<Command<'a>, AllocError>
+    ensures shape { IfOk result (λ c. app_of c ≡ check) }
+    ensures local { IfOk result (λ c. (out-Command c).has_globals ≡ false) }
+{
+    let command = Command::new(alloc, "check")
+        .about("Prints what a log holds: version, total, unique, skipped, torn, due")
+        .after_help(
+            "\
+version  4 or 5: the log's version; 6 or 7 where `--log-version` asks for it
+total    how many of its lines are entries
+unique   how many outputs these entries have
+skipped  how many whole lines after the first are no entries
+torn     how many bytes stand after the last newline
+due      `yes` where a build would recompact the log, else `no`",
+        );
+    let command = with_value(alloc, command, "LOG", false, OPTIONAL_LOG)?;
+    with_version(alloc, command, LOG_VERSION)
+}
+
+pub fn hash_command<'a>(alloc: Global) -> Result<Command<'a>, AllocError>
+    ensures shape { IfOk result (λ c. app_of c ≡ hash) }
+    ensures local { IfOk result (λ c. (out-Command c).has_globals ≡ false) }
+{
+    let command = Command::new(alloc, "hash").about(
+        "Prints the hash of a command as a log holds it, in hexadecimal",
+    );
+    let command = with_value(
+        alloc,
+        command,
+        "COMMAND",
+        true,
+        "The command's text, as one word",
+    )?;
+    with_version(
+        alloc,
+        command,
+        "5, 6 or 7: the version of the logs that hold the hash; 5 where it is left out",
+    )
+}
+
+pub fn entries_command<'a>(alloc: Global) -> Result<Command<'a>, AllocError>
+    ensures shape { IfOk result (λ c. app_of c ≡ entries) }
+    ensures local { IfOk result (λ c. (out-Command c).has_globals ≡ false) }
+{
+    let command = Command::new(alloc, "entries")
+        .about("Prints each entry, older ones included, in the order of the file")
+        .after_help(
+            "\
+The lines are those of `show`, which has the last entry of each output alone. They are printed while
+LOG is read, so where a read fails, or LOG is larger than a log may be, the first ones were printed.",
+        );
+    with_value(alloc, command, "LOG", false, OPTIONAL_ANY_LOG)
+}
+
+pub fn damage_command<'a>(alloc: Global) -> Result<Command<'a>, AllocError>
+    ensures shape { IfOk result (λ c. app_of c ≡ damage) }
+    ensures local { IfOk result (λ c. (out-Command c).has_globals ≡ false) }
+{
+    let command = Command::new(alloc, "damage")
+        .about("Prints a line for each line that is no entry; status 3 where there is one")
+        .after_help(
+            "\
+One line for each: LINE, WHAT, LENGTH and OUTPUT with a tab between neighbours.
+
+LINE    its number; the first line of LOG is 1, and isn't looked at
+WHAT    `skipped`: it is no entry; `long`: it has more than 262143 bytes; `torn`: the bytes after
+        the last newline
+LENGTH  its bytes, without the newline
+OUTPUT  the output that its last five fields name, the first of them from some digit on, where
+        these are an entry, as one that was written behind a torn line; else `-`
+
+Status: 0 where nothing is printed, 3 where there is damage.",
+        );
+    with_value(alloc, command, "LOG", false, OPTIONAL_ANY_LOG)
+}
+
+pub fn hash_file_command<'a>(alloc: Global) -> Result<Command<'a>, AllocError>
+    ensures shape { IfOk result (λ c. app_of c ≡ hash_file) }
+    ensures local { IfOk result (λ c. (out-Command c).has_globals ≡ false) }
+{
+    let command = Command::new(alloc, "hash-file").about(
+        "Prints the hash of a command that stands in a file: of each of its bytes",
+    );
+    with_value(
+        alloc,
+        command,
+        "FILE",
+        false,
+        "The file; standard input where it is left out",
+    )
+}
+
+// `record` with its values.
+fn record_values<'a>(alloc: Global) -> Result<Command<'a>, AllocError>
+    ensures shape { IfOk result (λ c. app_of c ≡ record_values) }
+    ensures local { IfOk result (λ c. (out-Command c).has_globals ≡ false) }
+{
+    let command = Command::new(alloc, "record")
+        .about("Adds one entry to a log; prints nothing")
+        .after_help(
+            "\
+The log is made where it is missing. START and END are from -2147483648 to 2147483647, MTIME is a
+64-bit number. A value that begins with `-` stands behind `--`, as in
+
+  nlog record -- .ninja_log -1 2 3 out 'cc out.c'
+
+Nothing else may change LOG meanwhile: a build, or another nlog.",
+        );
+    let command = with_value(alloc, command, "LOG", true, LOG)?;
+    let command = with_value(
+        alloc,
+        command,
+        "START",
+        true,
+        "When the command began, in milliseconds",
+    )?;
+    let command = with_value(
+        alloc,
+        command,
+        "END",
+        true,
+        "When the command ended, in milliseconds",
+    )?;
+    let command = with_value(
+        alloc,
+        command,
+        "MTIME",
+        true,
+        "The time stamp of the output",
+    )?;
+    let command = with_value(alloc, command, "NAME", true, "The name of the output")?;
+    with_value(
+        alloc,
+        command,
+        "COMMAND",
+        true,
+        "The command's text, as one word; its hash is recorded",
+    )
+}
+
+pub fn record_command<'a>(alloc: Global) -> Result<Command<'a>, AllocError>
+    ensures shape { IfOk result (λ c. app_of c ≡ record_line) }
+    ensures local { IfOk result (λ c. (out-Command c).has_globals ≡ false) }
+{
+    with_version(alloc, record_values(alloc)?, LOG_VERSION)
+}
+
+pub fn recompact_command<'a>(alloc: Global) -> Result<Command<'a>, AllocError>
+    ensures shape { IfOk result (λ c. app_of c ≡ recompact) }
+    ensures local { IfOk result (λ c. (out-Command c).has_globals ≡ false) }
+{
+    let command = Command::new(alloc, "recompact")
+        .about("Rewrites a log with the last entry of each output that KEEP names; prints nothing")
+        .after_help(
+            "\
+An empty line of KEEP says nothing, and an empty KEEP drops every entry. The manual page has a script
+that makes KEEP for a build by Ninja. The new log is written to LOG.recompact, and renamed over LOG.
+
+Nothing else may change LOG meanwhile: a build, or another nlog.",
+        );
+    let command = with_value(alloc, command, "LOG", true, LOG)?;
+    let command = with_value(
+        alloc,
+        command,
+        "KEEP",
+        true,
+        "A file with the name of one output a line",
+    )?;
+    with_version(alloc, command, LOG_VERSION)
+}
+
+pub fn restat_command<'a>(alloc: Global) -> Result<Command<'a>, AllocError>
+    ensures shape { IfOk result (λ c. app_of c ≡ restat) }
+    ensures local { IfOk result (λ c. (out-Command c).has_globals ≡ false) }
+{
+    let command = Command::new(alloc, "restat")
+        .about("Rewrites a log with the time stamps that TIMES gives; prints nothing")
+        .after_help(
+            "\
+An empty line of TIMES says nothing. The last line of a name counts, and names that the log lacks are
+passed over. The new log is written to LOG.recompact, and renamed over LOG.
+
+Nothing else may change LOG meanwhile: a build, or another nlog.",
+        );
+    let command = with_value(alloc, command, "LOG", true, LOG)?;
+    let command = with_value(
+        alloc,
+        command,
+        "TIMES",
+        true,
+        "A file with a time stamp, a tab and a name a line",
+    )?;
+    with_version(alloc, command, LOG_VERSION)
+}
+
+pub fn repair_command<'a>(alloc: Global) -> Result<Command<'a>, AllocError>
+    ensures shape { IfOk result (λ c. app_of c ≡ repair) }
+    ensures local { IfOk result (λ c. (out-Command c).has_globals ≡ false) }
+{
+    let command = Command::new(alloc, "repair")
+        .about("Rewrites a log with the last entry of each output; prints nothing")
+        .after_help(
+            "\
+What is torn, skipped or stale is gone after it, version 4 is 5, and what a device forgot is written
+anew. The new log is written to LOG.recompact, and renamed over LOG. A LOG that is missing is made.
+
+Nothing else may change LOG meanwhile: a build, or another nlog.",
+        );
+    with_value(alloc, command, "LOG", true, ANY_LOG)
+}
+
+pub fn replay_command<'a>(alloc: Global) -> Result<Command<'a>, AllocError>
+    ensures shape { IfOk result (λ c. app_of c ≡ replay) }
+    ensures local { IfOk result (λ c. (out-Command c).has_globals ≡ false) }
+{
+    let command = Command::new(alloc, "replay").about(
+        "Runs the events of a script on a log in memory, and prints the replies and that log",
+    );
+    with_value(
+        alloc,
+        command,
+        "SCRIPT",
+        false,
+        "The script; standard input where it is left out",
+    )
+}
+
+pub fn apply_command<'a>(alloc: Global) -> Result<Command<'a>, AllocError>
+    ensures shape { IfOk result (λ c. app_of c ≡ apply) }
+    ensures local { IfOk result (λ c. (out-Command c).has_globals ≡ false) }
+{
+    let command = Command::new(alloc, "apply").about(
+        "Runs the events of a script on a log, and prints the reply to each before it reads the next",
+    );
+    let command = with_value(alloc, command, "LOG", true, ANY_LOG)?;
+    with_value(
+        alloc,
+        command,
+        "SCRIPT",
+        false,
+        "The script; standard input where it is left out",
+    )
+}
