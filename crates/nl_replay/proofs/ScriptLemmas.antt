@@ -1,7 +1,7 @@
 -- The events of a script, one line after another.
 use Rattle.std.proofs.Common.{◌≡◌, ◌∙◌, ℕ, ℤ, ◌<◌, nat_le, List, [], ◌∷◌, ◌++◌, length, map, refl, sym, ap, subst, inl, inr, arith}
 use Rattle.std.specs.Prelude.{Option}
-use Rattle.std.specs.List.{filter, flat_map}
+use Rattle.std.specs.List.{All as Each, filter, flat_map}
 use Rattle.std.proofs.lemmas.Bool.{cases_Bool, cond-true, cond-false}
 use Rattle.std.proofs.lemmas.List.{append-nil, append_assoc, map-append}
 use Rattle.std.proofs.lemmas.List.Elements.{All-append, All-cons, All-nil, filter-append}
@@ -11,7 +11,7 @@ use Rattle.nl_lines.specs.Lines.{Reader, HasEnded, IsReading, TakesLine, TakesRe
 use Rattle.nl_lines.proofs.LinesLemmas.{TakesLines_none, TakesLines_more, TakesLines_rest}
 use Rattle.nl_session.specs.declared.events.Event.{Event}
 use Rattle.nl_texts.specs.Files.{OfBytes, file_lines}
-use Rattle.nl_replay.specs.Replay.{IsScript, IsSetting, TakesIn, event_line, is_filled, time_fields}
+use Rattle.nl_replay.specs.Replay.{IsScript, IsSetting, KeepsSome, TakesIn, event_line, is_filled, time_fields}
 use Rattle.nl_texts.proofs.FileLemmas.{all_lines}
 
 -- the events with one line more
@@ -20,6 +20,7 @@ IsScript_more lines old new [] script same = record {
   settings = script.settings;
   set = script.set;
   is = filter-append is_filled lines ([] ∷ []) ∙ append-nil (filter is_filled lines) ∙ script.is ∙ ap (λ (events : List Event). script.settings ++ map event_line events) (sym same);
+  some = subst (Each KeepsSome) (sym same) script.some;
 }
 IsScript_more lines old new (b ∷ line) script (inl setting) =
     let settings = script.settings ++ (b ∷ line) ∷ [] in
@@ -29,14 +30,16 @@ IsScript_more lines old new (b ∷ line) script (inl setting) =
       is = filter-append is_filled lines ((b ∷ line) ∷ [])
           ∙ ap (λ (l : List (List ℕ)). l ++ (b ∷ line) ∷ []) (script.is ∙ ap (λ (events : List Event). script.settings ++ map event_line events) setting.1 ∙ append-nil script.settings)
           ∙ sym (append-nil settings) ∙ ap (λ (events : List Event). settings ++ map event_line events) (sym setting.2);
+      some = subst (Each KeepsSome) (sym setting.2) (All-nil KeepsSome);
     }
-IsScript_more lines old new (b ∷ line) script (inr (event, says, more)) = record {
+IsScript_more lines old new (b ∷ line) script (inr (event, says, keeps, more)) = record {
   settings = script.settings;
   set = script.set;
   is = filter-append is_filled lines ((b ∷ line) ∷ []) ∙ ap (λ (l : List (List ℕ)). l ++ (b ∷ line) ∷ []) script.is
       ∙ append_assoc script.settings (map event_line old) ((b ∷ line) ∷ [])
       ∙ ap (λ (l : List (List ℕ)). script.settings ++ l) (ap (λ (l : List ℕ). map event_line old ++ l ∷ []) says ∙ sym (map-append event_line old (event ∷ [])))
       ∙ ap (λ (events : List Event). script.settings ++ map event_line events) (sym more);
+  some = subst (Each KeepsSome) (sym more) (All-append KeepsSome old (event ∷ []) script.some (All-cons KeepsSome event [] keeps (All-nil KeepsSome)));
 }
 
 -- the lines so far are a script with these events
@@ -49,7 +52,7 @@ pub Scripted_none : (a : Option (List ℕ)) (events : List Event) → events ≡
 Scripted_none a events none = record {
   lines = [];
   given = TakesLines_none fresh a (omega arith) refl;
-  script = record { settings = []; set = All-nil IsSetting; is = ap (map event_line) (sym none) };
+  script = record { settings = []; set = All-nil IsSetting; is = ap (map event_line) (sym none); some = subst (Each KeepsSome) (sym none) (All-nil KeepsSome) };
 }
 
 -- the reader has not ended

@@ -1,5 +1,5 @@
 -- What `replay` prints, and the words of a script (docs/CLI.md, "`replay`").
-use Rattle.std.specs.Prelude.{◌≡◌, ◌⊎◌, ◌++◌, ◌∷◌, [], List, ℕ, ℤ, Bool, Option, None, Some, codes, decimal, length, map, true, false, zip}
+use Rattle.std.specs.Prelude.{◌≡◌, ◌⊎◌, ◌<◌, ◌++◌, ◌∷◌, [], List, ℕ, ℤ, Bool, Option, None, Some, codes, decimal, length, map, true, false, zip, ⊤}
 use Rattle.std.specs.Borrow.{Bor}
 use Rattle.std.specs.List.{All as Each, filter, flat_map}
 use Rattle.nl_fields.specs.Digits.{decimal_of}
@@ -66,6 +66,17 @@ abbrev pub keep_fields : KeepList → List ℕ
 keep_fields All = []
 keep_fields (Only names) = flat_map name_field names.items
 
+-- where some names are kept alone, there is one: a line without names keeps all
+abbrev pub NamesSome : KeepList → Type 0
+NamesSome All = ⊤
+NamesSome (Only names) = 0 < length names.items
+
+-- an event that keeps names keeps all, or some
+abbrev pub KeepsSome : Event → Type 0
+KeepsSome (OpenLog keep) = NamesSome keep
+KeepsSome (Recompact keep) = NamesSome keep
+KeepsSome _ = ⊤
+
 -- the line of an event
 abbrev pub event_line : Event → List ℕ
 event_line (OpenLog keep) = codes "open" ++ keep_fields keep
@@ -85,15 +96,17 @@ abbrev pub is_filled : List ℕ → Bool
 is_filled [] = false
 is_filled (b ∷ line) = true
 
--- a script of these lines has these events: but for empty ones, its lines are some that set something, and then a line for each event
+-- a script of these lines has these events: but for empty ones, its lines are some that set something, and then a line for each event,
+-- which keeps all names where its line has none
 pub record IsScript (lines : List (List ℕ)) (events : List Event) : Type 0 where
   pub settings : List (List ℕ)
   pub set : Each IsSetting settings
   pub is : filter is_filled lines ≡ settings ++ map event_line events
+  pub some : Each KeepsSome events
 
 -- what a line that isn't empty says: a setting, where no event was there yet, or the next event
 abbrev pub SaysMore : List Event → List Event → List ℕ → Type 0
-SaysMore old new line = (IsSetting line × (old ≡ []) × (new ≡ [])) ⊎ ((event : Event) × (line ≡ event_line event) × (new ≡ old ++ event ∷ []))
+SaysMore old new line = (IsSetting line × (old ≡ []) × (new ≡ [])) ⊎ ((event : Event) × (line ≡ event_line event) × KeepsSome event × (new ≡ old ++ event ∷ []))
 
 -- a line was taken in; an empty one says nothing
 abbrev pub TakesIn : List Event → List Event → List ℕ → Type 0

@@ -9,7 +9,7 @@ ghost use Rattle.nl_fields.specs.declared.name.NameFault.{NameFault};
 ghost use Rattle.nl_replay.specs.declared.script.Refusal.TheVariants.{OutOfMemory};
 ghost use Rattle.nl_replay.specs.declared.script.Word.{Word};
 ghost use Rattle.nl_texts.specs.Files.{OfBytes, file_lines};
-ghost use Rattle.nl_replay.specs.Replay.{IsScript, SaysMore, TakesIn, behind_tab, event_line, keep_fields, name_field, text_of_word, time_fields, word_of};
+ghost use Rattle.nl_replay.specs.Replay.{IsScript, KeepsSome, NamesSome, SaysMore, TakesIn, behind_tab, event_line, keep_fields, name_field, text_of_word, time_fields, word_of};
 
 use nl_fields::{Entry, Name, NameFault, read_entry, read_i64};
 use nl_folder::{Call, Fuse};
@@ -184,6 +184,7 @@ impl Script {
 /// The event that a line says, as one of a script.
 pub fn read_event_line(alloc: Global, line: &[u8]) -> Result<Event, Refusal>
     ensures line { IfOk result (λ event. event_line event ≡ line.now) }
+    ensures some { IfOk result KeepsSome }
 {
     let (word, rest) = split_tab(line);
     match read_word(word) {
@@ -224,6 +225,7 @@ fn read_word(text: &[u8]) -> Option<Word>
 
 fn read_event(alloc: Global, word: Word, rest: Option<&[u8]>) -> Result<Event, Refusal>
     ensures line { IfOk result (λ event. event_line event ≡ text_of_word word ++ behind_tab rest.entry) }
+    ensures some { IfOk result KeepsSome }
 {
     match (word, rest) {
         (Word::Open, names) => Ok(Event::Open(read_keep(alloc, names)?)),
@@ -240,6 +242,7 @@ fn read_event(alloc: Global, word: Word, rest: Option<&[u8]>) -> Result<Event, R
 // The names that a recompaction keeps: all of them where none is given.
 fn read_keep(alloc: Global, text: Option<&[u8]>) -> Result<KeepList, Refusal>
     ensures line { IfOk result (λ keep. keep_fields keep ≡ behind_tab text.entry) }
+    ensures some { IfOk result NamesSome }
 {
     match text {
         Some(text) => Ok(KeepList::Only(read_names(alloc, text)?)),
