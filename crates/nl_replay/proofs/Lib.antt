@@ -1,2 +1,3 @@
 mod ScriptLemmas
+mod ReadingLemmas
 mod ReplayLemmas

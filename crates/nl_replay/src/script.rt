@@ -1,7 +1,9 @@
 //! Reading a script: what a folder in memory is told, and then the events.
-ghost use Rattle.std.specs.Prelude.{◌≡◌, ◌↔◌, ◌<◌, ◌++◌, ◌∷◌, ◌^◌, ℕ, [], pos, Some, length, IfErr, IfOk, IfSome, OnOk};
+ghost use Rattle.std.specs.Prelude.{◌≡◌, ◌↔◌, ◌<◌, ◌++◌, ◌∷◌, ◌^◌, ℕ, [], pos, Some, length, IfErr, IfOk, IfSome, IsErr, IsErrOf, IsSome, OnOk};
 ghost use Rattle.std.specs.List.{flat_map};
 ghost use Rattle.nl_fields.specs.Digits.{IsDecimal};
+ghost use Rattle.nl_fields.specs.EntryLine.{IsEntryLine};
+ghost use Rattle.nl_fields.specs.Fields.{HasNoTab};
 ghost use Rattle.nl_fields.specs.EntryLine.{line_of};
 ghost use Rattle.nl_folder.specs.declared.fuse.Call.{Call};
 ghost use Rattle.nl_replay.specs.Faults.{IsFaultOfLine, IsScriptFault};
@@ -9,6 +11,9 @@ ghost use Rattle.nl_fields.specs.declared.name.NameFault.{NameFault};
 ghost use Rattle.nl_replay.specs.declared.script.Refusal.TheVariants.{OutOfMemory};
 ghost use Rattle.nl_replay.specs.declared.script.Word.{Word};
 ghost use Rattle.nl_texts.specs.Files.{OfBytes, file_lines};
+ghost use Rattle.nl_fields.specs.declared.entry.Entry.{Entry};
+ghost use Rattle.nl_session.specs.declared.events.Event.{Event};
+ghost use Rattle.nl_replay.specs.Reading.{HoldsNames, IsLineOf, IsReadable, SaysNames, SaysTimes, fields_of_event, word_of_event};
 ghost use Rattle.nl_replay.specs.Replay.{IsScript, KeepsSome, NamesSome, SaysMore, TakesIn, behind_tab, event_line, keep_fields, name_field, text_of_word, time_fields, word_of};
 
 use nl_fields::{Entry, Name, NameFault, read_entry, read_i64};
@@ -185,6 +190,8 @@ impl Script {
 pub fn read_event_line(alloc: Global, line: &[u8]) -> Result<Event, Refusal>
     ensures line { IfOk result (λ event. event_line event ≡ line.now) }
     ensures some { IfOk result KeepsSome }
+    ensures accepts { (event : Event) → IsLineOf event line.now → IfErr result (λ refusal. refusal ≡ OutOfMemory) }
+    ensures memory { IsErrOf result OutOfMemory → HoldsNames line.now }
 {
     let (word, rest) = split_tab(line);
     match read_word(word) {
@@ -195,7 +202,8 @@ pub fn read_event_line(alloc: Global, line: &[u8]) -> Result<Event, Refusal>
 
 // What stands before the first tab, and what stands behind it, where there is one.
 fn split_tab(text: &[u8]) -> (&[u8], Option<&[u8]>)
-    ensures { text.now ≡ result.0.now ++ behind_tab result.1 }
+    ensures line { text.now ≡ result.0.now ++ behind_tab result.1 }
+    ensures plain { HasNoTab result.0.now }
 {
     match text.iter().position(|b| *b == b'\t') {
         Some(at) => (&text[..at], Some(&text[at + 1..])),
@@ -226,6 +234,8 @@ fn read_word(text: &[u8]) -> Option<Word>
 fn read_event(alloc: Global, word: Word, rest: Option<&[u8]>) -> Result<Event, Refusal>
     ensures line { IfOk result (λ event. event_line event ≡ text_of_word word ++ behind_tab rest.entry) }
     ensures some { IfOk result KeepsSome }
+    ensures accepts { (event : Event) → word ≡ word_of_event event → behind_tab rest.entry ≡ fields_of_event event → IsReadable event → KeepsSome event → IfErr result (λ refusal. refusal ≡ OutOfMemory) }
+    ensures memory { IsErrOf result OutOfMemory → HoldsNames (text_of_word word ++ behind_tab rest.entry) }
 {
     match (word, rest) {
         (Word::Open, names) => Ok(Event::Open(read_keep(alloc, names)?)),
@@ -243,6 +253,8 @@ fn read_event(alloc: Global, word: Word, rest: Option<&[u8]>) -> Result<Event, R
 fn read_keep(alloc: Global, text: Option<&[u8]>) -> Result<KeepList, Refusal>
     ensures line { IfOk result (λ keep. keep_fields keep ≡ behind_tab text.entry) }
     ensures some { IfOk result NamesSome }
+    ensures accepts { SaysNames (behind_tab text.entry) → IfErr result (λ refusal. refusal ≡ OutOfMemory) }
+    ensures memory { IsErr result → IsSome text.entry }
 {
     match text {
         Some(text) => Ok(KeepList::Only(read_names(alloc, text)?)),
@@ -252,6 +264,7 @@ fn read_keep(alloc: Global, text: Option<&[u8]>) -> Result<KeepList, Refusal>
 
 fn read_names(alloc: Global, text: &[u8]) -> Result<Vec<Name>, Refusal>
     ensures line { IfOk result (λ names. flat_map name_field names.items ≡ name_field text.now) }
+    ensures accepts { SaysNames (name_field text.now) → IfErr result (λ refusal. refusal ≡ OutOfMemory) }
 {
     let mut names = Vec::new(alloc);
     let mut left = Some(text);
@@ -266,6 +279,8 @@ fn read_names(alloc: Global, text: &[u8]) -> Result<Vec<Name>, Refusal>
 // Pairs of an mtime and a name.
 fn read_times(alloc: Global, text: Option<&[u8]>) -> Result<Vec<(Name, i64)>, Refusal>
     ensures line { IfOk result (λ times. flat_map time_fields times.items ≡ behind_tab text.entry) }
+    ensures accepts { SaysTimes (behind_tab text.entry) → IfErr result (λ refusal. refusal ≡ OutOfMemory) }
+    ensures memory { IsErr result → IsSome text.entry }
 {
     let mut pairs = Vec::new(alloc);
     let mut left = text;
@@ -283,6 +298,7 @@ fn read_times(alloc: Global, text: Option<&[u8]>) -> Result<Vec<(Name, i64)>, Re
 
 fn read_record(alloc: Global, line: &[u8]) -> Result<Entry, Refusal>
     ensures line { IfOk result (λ e. line_of e ≡ line.now) }
+    ensures accepts { (e : Entry) → IsEntryLine e line.now → IfErr result (λ refusal. refusal ≡ OutOfMemory) }
 {
     let Some(entry) = read_entry(line) else {
         return Err(Refusal::BadLine);
