@@ -22,4 +22,4 @@ begins_empty : (start : History) → history_of [] ≡ Some start → BeginsAt s
 begins_empty start reads = record { bytes = []; reads = reads; only = only_nothing }
 
 pub returns-clause-headline : goal.returns-clause-headline
-returns-clause-headline c = λ start reads. c.run_over_system.ensures.headline start (subst (λ (it : Model). BeginsAt start (Some (begun it))) (sym c.new.ensures) (begins_empty start reads))
+returns-clause-headline c = λ start reads. c.run_over_system.ensures.headline start (subst (λ (it : Model). BeginsAt start (Some (begun it))) (sym c.new.ensures.model) (begins_empty start reads))
