@@ -1,5 +1,6 @@
 pub mod Model
 pub mod SystemCalls
+pub mod Failures
 pub mod Hands
 pub mod SystemImages
 pub mod Covered
