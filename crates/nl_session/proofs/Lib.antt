@@ -17,5 +17,6 @@ pub mod Growing
 pub mod Smoothly
 pub mod Reopenings
 pub mod EffectLemmas
+pub mod ModeLemmas
 pub mod RunLemmas
 pub mod ExchangeLemmas

@@ -1,0 +1,26 @@
+-- By which answers a log breaks, and what a sync of an open one answers.
+use Rattle.std.proofs.Common.{◌≡◌, ◌∙◌, refl, sym, inl, inr}
+use Rattle.std.specs.Prelude.{◌⊎◌, IfErr, IsErrOf, OnOk, OnErr, Result, Ok, Err}
+use Rattle.nl_session.specs.declared.events.Reply.TheVariants.{Done, Refused}
+use Rattle.nl_session.specs.declared.fault.LogFault.{LogFault}
+use Rattle.nl_session.specs.declared.fault.LogFault.TheVariants.{NotOpen, AlreadyOpen, Broken as BrokenLog, NegativeTime, NotALog, OtherVersion, OutOfMemory, Fault}
+use Rattle.nl_session.specs.declared.state.LogState.{LogState}
+use Rattle.nl_session.specs.declared.state.LogState.TheVariants.{Open, Broken}
+use Rattle.nl_session.specs.Machine.{reply_of}
+
+-- where Ok opens a log, and other refusals leave it, a fault alone breaks it
+pub breaks_by_fault : (r : Result (Unit {0}) LogFault) (old new : LogState) → OnOk r (new ≡ Open) → ((IsErrOf r Fault → ⊥) → OnErr r (new ≡ old)) → new ≡ Broken → (old ≡ Broken) ⊎ (reply_of r ≡ Refused Fault)
+breaks_by_fault (Ok done) old new opens same broken = absurd (cc)
+breaks_by_fault (Err NotOpen) old new opens same broken = inl (sym (same (λ is. absurd (cc is))) ∙ broken)
+breaks_by_fault (Err AlreadyOpen) old new opens same broken = inl (sym (same (λ is. absurd (cc is))) ∙ broken)
+breaks_by_fault (Err BrokenLog) old new opens same broken = inl (sym (same (λ is. absurd (cc is))) ∙ broken)
+breaks_by_fault (Err (NegativeTime i)) old new opens same broken = inl (sym (same (λ is. absurd (cc is))) ∙ broken)
+breaks_by_fault (Err NotALog) old new opens same broken = inl (sym (same (λ is. absurd (cc is))) ∙ broken)
+breaks_by_fault (Err OtherVersion) old new opens same broken = inl (sym (same (λ is. absurd (cc is))) ∙ broken)
+breaks_by_fault (Err OutOfMemory) old new opens same broken = inl (sym (same (λ is. absurd (cc is))) ∙ broken)
+breaks_by_fault (Err Fault) old new opens same broken = inr refl
+
+-- what is refused by a fault alone is done, or a fault
+pub done_or_fault : (r : Result (Unit {0}) LogFault) → IfErr r (λ why. why ≡ Fault) → (reply_of r ≡ Done) ⊎ (reply_of r ≡ Refused Fault)
+done_or_fault (Ok done) refusals = inl refl
+done_or_fault (Err why) refusals = inr (let is : why ≡ Fault = refusals in cc)
