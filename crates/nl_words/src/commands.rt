@@ -7,10 +7,10 @@ ghost use Rattle.nl_words.specs.CommandLine.{apply, check, damage, entries, hash
 use clap::{Arg, Command};
 use std::alloc::{AllocError, Global};
 
-const LOG: &str = "A build log of Ninja, version 4 or 5";
+const LOG: &str = "A build log of Ninja, version 4 or 5; 6 or 7 with `--log-version`";
 
 const OPTIONAL_LOG: &str =
-    "A build log of Ninja, version 4 or 5; standard input where it is left out";
+    "A build log of Ninja, version 4 or 5; 6 or 7 with `--log-version`; standard input where it is left out";
 
 const ANY_LOG: &str = "A build log of Ninja, version 4 to 7";
 
@@ -80,7 +80,7 @@ pub fn check_command<'a>(alloc: Global) -> Result<Command<'a>, AllocError>
         .about("Prints what a log holds: version, total, unique, skipped, torn, due")
         .after_help(
             "\
-version  4 or 5: the log's version; 6 or 7 where `--log-version` asks for it
+version  the log's version: 4 or 5; 6 or 7 with `--log-version`
 total    how many of its lines are entries
 unique   how many outputs these entries have
 skipped  how many whole lines after the first are no entries
@@ -108,7 +108,7 @@ pub fn hash_command<'a>(alloc: Global) -> Result<Command<'a>, AllocError>
     with_version(
         alloc,
         command,
-        "5, 6 or 7: the version of the logs that hold the hash; 5 where it is left out",
+        "5, 6 or 7: the version of the logs that hold the hash; auto: 5, as where it is left out",
     )
 }
 
@@ -173,8 +173,9 @@ fn record_values<'a>(alloc: Global) -> Result<Command<'a>, AllocError>
         .about("Adds one entry to a log; prints nothing")
         .after_help(
             "\
-The log is made where it is missing. START and END are from -2147483648 to 2147483647, MTIME is a
-64-bit number. A value that begins with `-` stands behind `--`, as in
+The log is made where it is missing: one of version 5, or of 6 for Ninja 1.12 or 7 for 1.13 where
+`--log-version` has that number. START and END are from -2147483648 to 2147483647, MTIME is a 64-bit
+number. A value that begins with `-` stands behind `--`, as in
 
   nlog record -- .ninja_log -1 2 3 out 'cc out.c'
 
@@ -303,15 +304,33 @@ pub fn apply_command<'a>(alloc: Global) -> Result<Command<'a>, AllocError>
     ensures shape { IfOk result (λ c. app_of c ≡ apply) }
     ensures local { IfOk result (λ c. (out-Command c).has_globals ≡ false) }
 {
-    let command = Command::new(alloc, "apply").about(
-        "Runs the events of a script on a log, and prints the reply to each before it reads the next",
-    );
+    let command = Command::new(alloc, "apply")
+        .about("Answers lines that ask for changes and entries, one after another, on one open log")
+        .after_help(
+            "\
+Each line is answered before the next is read. There is a tab before each value:
+
+open [NAME ..]                    opens LOG, which is made where it is missing; where it is due it
+                                  keeps these names alone, and all of them where none is given
+record START END MTIME NAME HASH  adds an entry
+sync                              makes what was recorded durable
+recompact [NAME ..]               rewrites LOG with the last entry of each output, as `open` keeps it
+restat [MTIME NAME ..]            rewrites LOG with these time stamps
+stop                              closes LOG
+get NAME                          answers the last entry of NAME, or `none`
+table                             answers the last entry of each output, a line each, and then `end`
+
+The others are answered `ok`, or why they were not done, as `S8 Fault`; any other line `bad line`.
+A LOG that is missing is made one of version 5.
+
+Nothing else may change LOG meanwhile: a build, or another nlog.",
+        );
     let command = with_value(alloc, command, "LOG", true, ANY_LOG)?;
     with_value(
         alloc,
         command,
         "SCRIPT",
         false,
-        "The script; standard input where it is left out",
+        "A file with the lines; standard input where it is left out",
     )
 }

@@ -17,7 +17,9 @@ const VERSION: &str = "0.1.0";
 const AFTER: &str = "\
 Without a command, and where LOG is left out, a log is read from standard input.
 A LOG that is missing is read as one without entries, also where its name is mistyped.
-One of version 6 or 7 is taken where `--log-version`, behind the command, asks for it.
+Of version 6 or 7, which Ninja 1.12 and 1.13 write, `entries`, `damage`, `repair` and `apply` take a
+LOG as it is; `show`, `check`, `record`, `recompact` and `restat` with `--log-version auto`, behind
+the command. A LOG that is missing is made one of version 5, but where that option has a number.
 `record`, `recompact`, `restat` and `repair` first repair a LOG that a crash cut off, and make what
 they change durable before they end. `record` takes one entry, and `apply` many, one by one.
 
@@ -27,7 +29,7 @@ status 0, and two nlogs may leave no log. A build by Ninja changes it until the 
 
 Examples:
   nlog show build/.ninja_log
-  nlog check < .ninja_log
+  nlog check --log-version auto < .ninja_log
   nlog record .ninja_log 0 1200 1700000001200000000 app.o 'cc -c app.c -o app.o'
   nlog damage .ninja_log >> damaged || { test $? = 3 && nlog repair .ninja_log; }
   nlog entries .ninja_log | tail -n 1
