@@ -8,6 +8,7 @@ pub mod LogFile
 pub mod Scratch
 pub mod Stands
 pub mod Start
+pub mod Told
 pub mod MemInode
 pub mod MemSystem
 pub mod FileFolder
