@@ -1,2 +1,3 @@
 pub mod FailedCall
 pub mod Paths
+pub mod OsSystem

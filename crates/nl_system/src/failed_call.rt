@@ -1,4 +1,6 @@
 //! Which call of the operating system failed, on which file, and why.
+ghost use Rattle.std.specs.Prelude.{◌≡◌, ◌<◌, is_some, true};
+
 use std::io::ErrorKind;
 
 /// A call of the operating system.
@@ -35,4 +37,12 @@ pub struct FailedCall {
     /// The system's number of the error, none where the call didn't fail by one: a lock that another process holds, and a write
     /// that took no byte.
     pub errno: Option<i32>,
+}
+
+// The last call that failed, and how many failed, up to the last value of a `u64`.
+#[derive(Drop)]
+pub struct Failures {
+    pub last: Option<FailedCall>,
+    pub count: u64,
+    ghost is_kept: { 0 < count → is_some last ≡ true },
 }

@@ -8,4 +8,5 @@ mod system_file;
 
 pub use failed_call::{FailedCall, FileRole, SystemCall};
 pub use os_system::OsSystem;
+pub use paths::folder_part;
 pub use system_file::SystemFile;

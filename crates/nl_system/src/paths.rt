@@ -29,8 +29,8 @@ impl Paths {
     }
 }
 
-// The folder in which the file of this path stands.
-fn folder_part(path: &str) -> &str
+/// The folder in which the file of this path stands.
+pub fn folder_part(path: &str) -> &str
     ensures value { result.now ≡ folder_of path.now }
 {
     match path.rfind('/') {
