@@ -24,9 +24,9 @@ KEPT = b"recompact\ta" + b"".join(b"\t" + it * 65536 for it in (b"x", b"y", b"z"
 LONG = b"get\t" + b"x" * 262140
 # What a log holds or None where it is missing, the lines, the answers, the status, what is said of it, and what the log then holds.
 TURNS = [
-    (None, b"", b"", 0, b"", None),
+    (None, b"", b"", 0, b"", b""),
     (None, b"open\n", b"ok\n", 0, b"", HEADER),
-    (None, b"sync\nstop\nget\ta\ntable\nrecord\t" + A + b"recompact\nrestat\n", b"S1 NotOpen\n" * 7, 0, b"", None),
+    (None, b"sync\nstop\nget\ta\ntable\nrecord\t" + A + b"recompact\nrestat\n", b"S1 NotOpen\n" * 7, 0, b"", b""),
     (None, b"open\nopen\n", b"ok\nS2 AlreadyOpen\n", 0, b"", HEADER),
     (None, b"open\nrecord\t" + A + b"get\ta\nget\tb\ntable\n", b"ok\nok\n" + A + b"none\n" + A + b"end\n", 0, b"", HEADER + A),
     (HEADER + A, b"open\nrecord\t" + B + b"record\t7\t8\t9\ta\tcc\nget\ta\ntable\nsync\nstop\nget\ta\n",
@@ -188,7 +188,7 @@ def closed(trials, program, room):
             ran = run([program, "apply", log], input=b"open\nrecord\t7\t8\t9\tc\tcc\n", stdin=None, stdout=full, capture_output=False, stderr=subprocess.PIPE)
         trials.want("the end where standard output is full", (ran[0], ran[2]), (1, b"nlog: cannot write\n"))
         trials.want("the log where standard output is full", read(log), HEADER + A + B)
-    trials.want("the answers where LOG's folder is missing", apply(program, f"{room}/gone/log", b"open\nget\ta\n"), (0, b"S8 Fault\nS1 NotOpen\n", b""))
+    trials.want("the answers where LOG's folder is missing", apply(program, f"{room}/gone/log", b"open\nget\ta\n"), (1, b"", b"nlog: the folder failed\n"))
 
 
 def wanted(count):

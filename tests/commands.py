@@ -389,7 +389,7 @@ WORDS = [
     (["show", "-v", "seven"], 1, b"", OTHER_VERSION + b"nlog: LOG seven: version 7\n"),
     (["show", "-v", "--log-version", "7", "four"], 1, b"", OTHER_VERSION + b"nlog: LOG four: version 4\n"),
     (["record", "-v", "folder", "1", "2", "3", "n", "c"], 1, b"", b"nlog: the folder failed\nnlog: LOG folder: " + A_FOLDER),
-    (["record", "-v", "missing/log", "1", "2", "3", "n", "c"], 1, b"", b"nlog: the folder failed\nnlog: folder missing: " + NO_FILE),
+    (["record", "-v", "missing/log", "1", "2", "3", "n", "c"], 1, b"", b"nlog: the folder failed\nnlog: LOG missing/log: " + NO_FILE),
     (["record", "-v", "n" * 256, "1", "2", "3", "n", "c"], 1, b"", b"nlog: the folder failed\nnlog: LOG " + b"n" * 256 + b": " + LONG_NAME),
     # Nothing more is known of these.
     (["record", "-v", "own", "x", "2", "3", "n", "c"], 1, b"", b"nlog: bad number\n"),
@@ -529,7 +529,8 @@ def try_words(trials, program, room):
     for words, status, out, err in WORDS:
         trials.want(f"{words}", asked(program, room, words, INPUT), (status, out, err))
         trials.want(f"{words}: the file", read(f"{room}/file"), FILE)
-    trials.want("the files that are there", sorted(os.listdir(room)), before)
+    # `apply` makes a log that is missing, to lock it.
+    trials.want("the files that are there", sorted(os.listdir(room)), sorted([*before, "none"]))
     for command, wanted in HASHES:
         trials.want(f"hash {command!r}", asked(program, room, ["hash", command]), (0, wanted, b""))
 

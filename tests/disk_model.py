@@ -73,6 +73,10 @@ class Disk:
         self.names[new] = self.names.pop(old)
         self.shown.append(dict(self.names))
 
+    def remove(self, name):
+        del self.names[name]
+        self.shown.append(dict(self.names))
+
     def sync(self):
         self.shown = [dict(self.names)]
 
@@ -122,6 +126,9 @@ class Process:
         if call.startswith("rename") and names == [SCRATCH, LOG] and "RENAME" not in words:
             self.disk.rename(SCRATCH, LOG)
             return ""
+        if call in ("unlink", "unlinkat") and names[0] == SCRATCH and "AT_REMOVEDIR" not in words:
+            self.disk.remove(SCRATCH)
+            return ""
         if PASSED.fullmatch(call):
             return None
         raise Unknown(call)
@@ -144,6 +151,9 @@ class Process:
         hand = self.hands[number]
         file, place = hand
         last = int(words.split(", ")[-1]) if call in ("ftruncate", "pwrite64") else 0
+        if call == "fcntl" and "F_DUPFD" in words:
+            self.hands[answer] = hand
+            return None
         if call in ("fsync", "fdatasync"):
             file.sync()
             return ""

@@ -8,6 +8,7 @@ numbers, a fuse beyond 1,000, and lines of 1,000 names or pairs, against tests/r
 help onto a full output; files that are named `-`; the mode of each file that is made; files that may not be read or written, by a user who
 has no rights.
 """
+import itertools
 import os
 import shutil
 import stat
@@ -292,13 +293,13 @@ def reason(room, mode, log_mode, words):
     return f"nlog: {place}: Permission denied (os error 13)\n".encode()
 
 
-def run_without_rights(program, room, mode, log_mode, words):
+def run_without_rights(program, room, mode, log_mode, words, text=SMALL):
     """Runs a command in a new folder, of which the user is the owner: how it ended, the log, and the names of the files."""
     folder = f"{room}/folder"
     log = f"{folder}/LOG"
     os.mkdir(folder)
     if log_mode is not None:
-        write(log, SMALL)
+        write(log, text)
         os.chmod(log, log_mode)
     if os.geteuid() == 0:
         for path in [folder, *([log] if log_mode is not None else [])]:
@@ -325,6 +326,12 @@ def try_rights(trials, program, room):
         run([program], cwd="/", preexec_fn=without_rights)
     except subprocess.SubprocessError as error:
         return trials.skip("files that may not be read or written", f"no process without rights can be started ({error})")
+    # One that may not be written is read all the same, and what is no log said to be none.
+    for (text, why), words in itertools.product(((b"x\n", b"not a ninja log"), (b"# ninja log v9\n", b"log version not supported")), WRITES):
+        what = f"{words[0]} on {text!r}, which may not be written"
+        ended, left, names_left = run_without_rights(program, room, 0o700, 0o400, words, text)
+        trials.want(f"{what}: ends", ended, (1, b"", b"nlog: " + why + b"\n"))
+        trials.want(f"{what}: the log", (left, names_left), (text, ["LOG"]))
     rows = [(*row[:4], None if row[1] is None else SMALL) for row in RIGHTS]
     rows += [(*row[:3], (0, row[3], b""), row[4]) for row in MAY]
     for mode, log_mode, words, wanted, left in rows:

@@ -36,13 +36,14 @@ def lines_of(log):
 def effects_wanted(case):
     """What the command does to the files and the folder, in order, by docs/DISK_MODEL.md and docs/ARCHITECTURE.md."""
     log = Log(case.start or b"")
-    sync = ["sync LOG", "sync folder"]
+    sync = ["sync folder", "sync LOG"]
 
     def rewrite(text):
-        writes = [f"write LOG.recompact {len(it)}" for it in lines_of(Log(text))]
-        return ["empty LOG.recompact", *writes, "sync LOG.recompact", "rename", *sync]
+        write = f"write LOG.recompact {sum(len(it) for it in lines_of(Log(text)))}"
+        return ["make LOG.recompact", "lock LOG.recompact", write, "sync LOG.recompact", "rename", *sync]
 
-    wanted = ["sync folder"] if case.start is None else [*sync]
+    wanted = ["make LOG"] if case.start is None else []
+    wanted += ["lock LOG", *sync]
     if log.torn:
         wanted += [f"cut LOG {log.whole}", *sync]
     if log.whole == 0:
@@ -54,8 +55,8 @@ def effects_wanted(case):
     return [*wanted, *rewrite(case.done), *sync]
 
 
-def effect(call, room):
-    """What a call did to a file of the room, or None."""
+def effect(call, room, is_missing):
+    """What a call did to a file of the room, or None. The log is missing at the beginning, or isn't."""
     parts = CALL.match(call)
     if not parts or parts[3].startswith(("-", "?")) or room not in parts[2]:
         return None
@@ -70,22 +71,12 @@ def effect(call, room):
         return f"cut {file} {words.split(', ')[-1]}"
     if name.startswith("rename"):
         return "rename"
-    if "O_TRUNC" in words:
-        return "empty " + re.search(r'"([^"]*)"', words)[1]
+    if name == "flock":
+        return f"lock {file}"
+    if name == "openat" and "O_CREAT" in words:
+        made = re.search(r'"([^"]*)"', words)[1]
+        return f"make {made}" if "O_EXCL" in words or is_missing else None
     return name if name in ("unlink", "unlinkat", "truncate", "link") else None
-
-
-def most_open(calls, room):
-    """How many files of the room were open at one time."""
-    now, most = set(), 0
-    for call in calls:
-        parts = CALL.match(call)
-        if parts and parts[1] in ("open", "openat") and room in parts[2] and parts[3][0].isdigit():
-            now.add(int(re.match(r"\d+", parts[3])[0]))
-        elif parts and parts[1] == "close":
-            now.discard(int(re.match(r"\d+", parts[2])[0]))
-        most = max(most, len(now))
-    return most
 
 
 def traced(program, case, room, inject=()):
@@ -121,8 +112,7 @@ class Sweep:
         name, trials = self.case.name, self.trials
         trials.want(f"{name}: ends", ended, (0, b"", b""))
         trials.want(f"{name}: the log", read(f"{room}/LOG"), self.case.done)
-        trials.want(f"{name}: its effects", [it for it in (effect(c, room) for c in calls) if it], effects_wanted(self.case))
-        trials.want(f"{name}: files that are open at one time", most_open(calls, room), 1)
+        trials.want(f"{name}: its effects", [it for it in (effect(c, room, self.case.start is None) for c in calls) if it], effects_wanted(self.case))
         counts = {}
         for call in calls:
             word = call.split("(")[0]

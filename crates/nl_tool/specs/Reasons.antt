@@ -1,7 +1,7 @@
 -- What is said behind a refusal where `--verbose` asks for it: docs/CLI.md, "Why something was refused".
 use Rattle.std.specs.Prelude.{⊤, ◌≡◌, ◌++◌, [], List, ℕ, Option, None, Some, IfSome, codes, decimal, string_bytes}
 use Rattle.std.specs.Borrow.{Bor}
-use Rattle.nl_disk.specs.Paths.{folder_of}
+use Rattle.nl_system.specs.Paths.{folder_of}
 use Rattle.nl_disk.specs.declared.failure.Failure.{Failure}
 use Rattle.nl_disk.specs.declared.failure.LogFile.{LogFile}
 use Rattle.nl_disk.specs.declared.failure.LogFile.TheVariants as file

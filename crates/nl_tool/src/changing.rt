@@ -1,19 +1,21 @@
 //! The words that change a log, over the folder of the real file LOG.
-ghost use Rattle.std.specs.Prelude.{◌≡◌, None, Some, IfErr};
-ghost use Rattle.nl_change.specs.Faults.{IsApplyFault, IsRecompactFault, IsRecordFault, IsRestatFault};
+ghost use Rattle.std.specs.Prelude.{◌≡◌, None, Some, IfErr, OnOk};
+ghost use Rattle.nl_change.specs.Faults.{IsApplyFault, IsEntryFault, IsRecompactFault, IsRecordFault, IsRestatFault};
+ghost use Rattle.nl_change.specs.RecordWords.{GiveEntry};
 ghost use Rattle.nl_words.specs.declared.version.AskedVersion.{AskedVersion};
 
 use crate::files::open;
 use crate::notes::{NotedReader, NotedWriter, Notes};
 use crate::version_choice::chosen_in;
-use nl_change::{apply_any, recompact_as, repair_as, restat_as};
-use nl_disk::DiskFolder;
+use nl_change::{apply_any, entry_as, recompact_as, record_as, repair_as, restat_as};
+use nl_disk::{DiskFolder, SystemFile};
+use nl_lines::LogVersion;
 use nl_print::version_in;
 use nl_texts::ToolFault;
 use nl_words::AskedVersion;
 use std::alloc::Global;
 use std::io::{self, Read};
-use std::rt::{Files, Runtime};
+use std::rt::{Clock, Files, Runtime};
 
 // A log is one of version 5, or 4, where no version is asked for.
 pub fn or_five(asked: Option<AskedVersion>) -> AskedVersion
@@ -26,7 +28,59 @@ pub fn or_five(asked: Option<AskedVersion>) -> AskedVersion
     }
 }
 
-pub fn recompact_in<R: Files>(
+// What is wrong with the words of an entry comes before anything is asked of the log.
+pub fn record_in<R: Files + Clock>(
+    rt: &R,
+    alloc: Global,
+    asked: AskedVersion,
+    log: &str,
+    start: &str,
+    end: &str,
+    mtime: &str,
+    name: &str,
+    command: &str,
+    notes: &mut Notes,
+) -> Result<(), ToolFault>
+where
+    R::File: SystemFile,
+    ensures accepts { OnOk result (GiveEntry start.now end.now mtime.now name.now) }
+    ensures faults { IfErr result (IsEntryFault start.now end.now mtime.now name.now) }
+{
+    let _ = entry_as(LogVersion::Five, start, end, mtime, name, command)?;
+    let folder = DiskFolder::new(rt, alloc, log)?;
+    record_noted(
+        alloc, asked, folder, start, end, mtime, name, command, notes,
+    )
+}
+
+// The same over a folder, for words that give an entry.
+fn record_noted<F: Files + Clock + Drop>(
+    alloc: Global,
+    asked: AskedVersion,
+    folder: DiskFolder<F>,
+    start: &str,
+    end: &str,
+    mtime: &str,
+    name: &str,
+    command: &str,
+    notes: &mut Notes,
+) -> Result<(), ToolFault>
+where
+    F::File: SystemFile,
+    requires { GiveEntry start.now end.now mtime.now name.now }
+    ensures accepts { OnOk result (GiveEntry start.now end.now mtime.now name.now) }
+    ensures faults { IfErr result (IsEntryFault start.now end.now mtime.now name.now) }
+{
+    let (folder, version) = chosen_in(asked, folder);
+    let version = match version {
+        Ok(version) => version,
+        Err(fault) => return noted((folder, Err(fault)), notes),
+    };
+    let entry = entry_as(version, start, end, mtime, name, command)?;
+    noted(record_as(alloc, version, folder, &entry), notes)
+}
+
+pub fn recompact_in<R: Files + Clock>(
     rt: &R,
     alloc: Global,
     asked: AskedVersion,
@@ -34,10 +88,26 @@ pub fn recompact_in<R: Files>(
     keep: &str,
     notes: &mut Notes,
 ) -> Result<(), ToolFault>
+where
+    R::File: SystemFile,
     ensures faults { IfErr result IsRecompactFault }
 {
     let names = open(rt, keep, notes)?;
-    let (folder, version) = chosen_in(asked, DiskFolder::new(rt, alloc, log)?);
+    recompact_noted(alloc, asked, DiskFolder::new(rt, alloc, log)?, names, notes)
+}
+
+fn recompact_noted<F: Files + Clock + Drop, R: Read + Drop>(
+    alloc: Global,
+    asked: AskedVersion,
+    folder: DiskFolder<F>,
+    names: R,
+    notes: &mut Notes,
+) -> Result<(), ToolFault>
+where
+    F::File: SystemFile,
+    ensures faults { IfErr result IsRecompactFault }
+{
+    let (folder, version) = chosen_in(asked, folder);
     match version {
         Ok(version) => {
             let names = NotedReader::new(names, &mut notes.heard);
@@ -48,7 +118,7 @@ pub fn recompact_in<R: Files>(
     }
 }
 
-pub fn restat_in<R: Files>(
+pub fn restat_in<R: Files + Clock>(
     rt: &R,
     alloc: Global,
     asked: AskedVersion,
@@ -56,10 +126,26 @@ pub fn restat_in<R: Files>(
     times: &str,
     notes: &mut Notes,
 ) -> Result<(), ToolFault>
+where
+    R::File: SystemFile,
     ensures faults { IfErr result IsRestatFault }
 {
     let pairs = open(rt, times, notes)?;
-    let (folder, version) = chosen_in(asked, DiskFolder::new(rt, alloc, log)?);
+    restat_noted(alloc, asked, DiskFolder::new(rt, alloc, log)?, pairs, notes)
+}
+
+fn restat_noted<F: Files + Clock + Drop, R: Read + Drop>(
+    alloc: Global,
+    asked: AskedVersion,
+    folder: DiskFolder<F>,
+    pairs: R,
+    notes: &mut Notes,
+) -> Result<(), ToolFault>
+where
+    F::File: SystemFile,
+    ensures faults { IfErr result IsRestatFault }
+{
+    let (folder, version) = chosen_in(asked, folder);
     match version {
         Ok(version) => {
             let pairs = NotedReader::new(pairs, &mut notes.heard);
@@ -77,6 +163,8 @@ pub fn apply_in<R: Runtime>(
     script: Option<&str>,
     notes: &mut Notes,
 ) -> Result<(), ToolFault>
+where
+    R::File: SystemFile,
     ensures faults { IfErr result IsApplyFault }
 {
     let Some(path) = script else {
@@ -88,13 +176,15 @@ pub fn apply_in<R: Runtime>(
     apply_noted(rt, alloc, folder, lines, notes)
 }
 
-fn apply_noted<P: Print, F: Files + Clone + Drop, R: Read + Drop>(
+fn apply_noted<P: Print, F: Files + Clock + Drop, R: Read + Drop>(
     rt: &P,
     alloc: Global,
     folder: DiskFolder<F>,
     reader: R,
     notes: &mut Notes,
 ) -> Result<(), ToolFault>
+where
+    F::File: SystemFile,
     ensures faults { IfErr result IsApplyFault }
 {
     let mut out = NotedWriter::new(io::writer(rt));
@@ -104,15 +194,28 @@ fn apply_noted<P: Print, F: Files + Clone + Drop, R: Read + Drop>(
     noted(done, notes)
 }
 
-pub fn repair_in<R: Files>(
+pub fn repair_in<R: Files + Clock>(
     rt: &R,
     alloc: Global,
     log: &str,
     notes: &mut Notes,
 ) -> Result<(), ToolFault>
+where
+    R::File: SystemFile,
     ensures faults { IfErr result IsRecordFault }
 {
-    let folder = DiskFolder::new(rt, alloc, log)?;
+    repair_noted(alloc, DiskFolder::new(rt, alloc, log)?, notes)
+}
+
+fn repair_noted<F: Files + Clock + Drop>(
+    alloc: Global,
+    folder: DiskFolder<F>,
+    notes: &mut Notes,
+) -> Result<(), ToolFault>
+where
+    F::File: SystemFile,
+    ensures faults { IfErr result IsRecordFault }
+{
     let (folder, version) = version_in(folder);
     match version {
         Ok(version) => noted(repair_as(alloc, version, folder), notes),
@@ -121,10 +224,12 @@ pub fn repair_in<R: Files>(
 }
 
 // What was answered over a folder, of which it is noted why it last failed, and how a log of another version begins.
-pub fn noted<R: Files + Clone + Drop>(
+pub fn noted<R: Files + Clock + Drop>(
     done: (DiskFolder<R>, Result<(), ToolFault>),
     notes: &mut Notes,
 ) -> Result<(), ToolFault>
+where
+    R::File: SystemFile,
     ensures same { result ≡ done.1 }
     ensures kept { notes.new.folder ≡ done.0.last_failure }
 {

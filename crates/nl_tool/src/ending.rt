@@ -11,6 +11,7 @@ use crate::program::{Outcome, run_noted};
 use crate::reason::{Refusal, refusal_of};
 use clap::Error;
 use clap::error::ErrorKind;
+use nl_disk::SystemFile;
 use nl_texts::{ToolFault, status_of};
 use nl_words::{CommandLine, read_words};
 use std::alloc::Global;
@@ -25,6 +26,8 @@ const DAMAGED: u8 = 3;
 
 /// The whole program: reads the words that it was given, does what they say, and answers the status to end with.
 pub fn run_program<R: Runtime + AllocGlobal>(rt: &R) -> u8
+where
+    R::File: SystemFile,
     ensures status { result ≤ 3 }
 {
     match given_words(rt) {
@@ -37,6 +40,8 @@ pub fn run_program<R: Runtime + AllocGlobal>(rt: &R) -> u8
 ///
 /// The text of a command, help and the version go to standard output; why something was refused goes to standard error.
 pub fn run_line<R: Runtime>(rt: &R, alloc: Global, line: &[String]) -> u8
+where
+    R::File: SystemFile,
     ensures status { IsStatusBy (fault_in (map string_bytes line.now)) (subcommand_of nlog (map string_bytes line.now)) result }
     ensures bound { result ≤ 3 }
 {

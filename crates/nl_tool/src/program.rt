@@ -2,14 +2,11 @@
 ghost use Rattle.std.specs.Prelude.{◌≡◌, IfErr, IfOk, OnOk};
 ghost use Rattle.nl_tool.specs.Faults.{AsksForDamage, CanBeDone, IsFaultOf};
 
-use crate::changing::{apply_in, noted, or_five, recompact_in, repair_in, restat_in};
+use crate::changing::{apply_in, or_five, recompact_in, record_in, repair_in, restat_in};
 use crate::files::open;
 use crate::notes::Notes;
 use crate::printing::{answer_log, answer_noted, damage_in, entries_in};
-use crate::version_choice::chosen_in;
-use nl_change::{entry_as, record_as};
-use nl_disk::DiskFolder;
-use nl_lines::LogVersion;
+use nl_disk::SystemFile;
 use nl_texts::ToolFault;
 use nl_words::{AskedVersion, CommandLine, Words};
 use std::alloc::Global;
@@ -27,6 +24,8 @@ pub enum Outcome {
 /// Does what a command line says, with standard output for its text. LOG, FILE or SCRIPT is read, or standard input where it is
 /// left out; a log that is missing is read as one without bytes.
 pub fn run<R: Runtime>(rt: &R, alloc: Global, line: &CommandLine<'_>) -> Result<Outcome, ToolFault>
+where
+    R::File: SystemFile,
     ensures accepts { OnOk result (CanBeDone line.now.words) }
     ensures damaged { IfOk result (λ outcome. outcome ≡ Outcome.Damaged → AsksForDamage line.now.words) }
     ensures faults { IfErr result (IsFaultOf line.now.words) }
@@ -41,6 +40,8 @@ pub fn run_noted<R: Runtime>(
     line: &CommandLine<'_>,
     notes: &mut Notes,
 ) -> Result<Outcome, ToolFault>
+where
+    R::File: SystemFile,
     ensures accepts { OnOk result (CanBeDone line.now.words) }
     ensures damaged { IfOk result (λ outcome. outcome ≡ Outcome.Damaged → AsksForDamage line.now.words) }
     ensures faults { IfErr result (IsFaultOf line.now.words) }
@@ -60,6 +61,8 @@ fn run_command<R: Runtime>(
     version: Option<AskedVersion>,
     notes: &mut Notes,
 ) -> Result<(), ToolFault>
+where
+    R::File: SystemFile,
     requires { ¬ AsksForDamage words.now }
     ensures accepts { OnOk result (CanBeDone words.now) }
     ensures faults { IfErr result (IsFaultOf words.now) }
@@ -84,17 +87,18 @@ fn run_command<R: Runtime>(
             mtime,
             name,
             command,
-        } => {
-            // What is wrong with the words comes before anything is asked of the log.
-            let _ = entry_as(LogVersion::Five, start, end, mtime, name, command)?;
-            let (folder, version) = chosen_in(or_five(version), DiskFolder::new(rt, alloc, log)?);
-            let version = match version {
-                Ok(version) => version,
-                Err(fault) => return noted((folder, Err(fault)), notes),
-            };
-            let entry = entry_as(version, start, end, mtime, name, command)?;
-            noted(record_as(alloc, version, folder, &entry), notes)
-        }
+        } => record_in(
+            rt,
+            alloc,
+            or_five(version),
+            log,
+            start,
+            end,
+            mtime,
+            name,
+            command,
+            notes,
+        ),
         Words::Recompact { log, keep } => {
             recompact_in(rt, alloc, or_five(version), log, keep, notes)
         }

@@ -23,9 +23,9 @@ the command. A LOG that is missing is made one of version 5, but where that opti
 `record`, `recompact`, `restat` and `repair` first repair a LOG that a crash cut off, and make what
 they change durable before they end. `record` takes one entry, and `apply` many, one by one.
 
-Nothing locks LOG. Of two that change it at once one loses what it wrote, though it ended with
-status 0, and two nlogs may leave no log. A build by Ninja changes it until the build ends. So run
-`record`, `recompact`, `restat` and `repair` one at a time, and while no build runs.
+What changes LOG locks it first, and waits 10 seconds at most for another `nlog` that has it locked.
+Ninja locks nothing, and a build by it changes LOG until the build ends. So run `record`,
+`recompact`, `restat`, `repair` and `apply` while no build by Ninja runs.
 
 Examples:
   nlog show build/.ninja_log
