@@ -3,8 +3,8 @@
 
     update.py [-n ROUNDS] FOLDER
 
-FOLDER, on the disk to measure and with room for 1 GB, has the programs `nlog` and `native_append`; logs and lists are made
-there where they are missing. `due` is a log of 1,000,000 lines over 300,000 outputs, which is due to be recompacted; `rests`
+FOLDER, on the disk to measure and with room for 1 GB, has the programs `nlog` and `native_append`, and may have `before`, an
+older `nlog` to compare with; logs and lists are made there where they are missing. `due` is a log of 1,000,000 lines over 300,000 outputs, which is due to be recompacted; `rests`
 is its first 900,000 lines, which aren't. Each round runs every command once, on a copy of its log. For each: the least time of
 a clock and of processors (user and system), the peak of memory, the calls of the system (where strace is there), how many
 of them are writes, and the bytes that these wrote.
@@ -34,13 +34,14 @@ def make_all(folder):
     make(folder, "build.ninja", "(printf 'rule c\\n  command = :\\n'; sed 's/.*/build &: c/' keep)")
 
 
-def commands():
+def commands(folder):
     """What is measured: a name, the log that it runs on, and its words."""
-    record = ["./nlog", "record", ".ninja_log", "1", "2", "3", "an/output.o", "cc -c a.c"]
     for log in ("rests", "due"):
-        yield f"nlog record, {log}", log, record
-        yield f"nlog recompact, {log}", log, ["./nlog", "recompact", ".ninja_log", "keep"]
-        yield f"nlog restat, {log}", log, ["./nlog", "restat", ".ninja_log", "times"]
+        for program in [it for it in ("nlog", "before") if os.path.exists(f"{folder}/{it}")]:
+            words = [f"./{program}"]
+            yield f"{program} record, {log}", log, [*words, "record", ".ninja_log", "1", "2", "3", "an/output.o", "cc -c a.c"]
+            yield f"{program} recompact, {log}", log, [*words, "recompact", ".ninja_log", "keep"]
+            yield f"{program} restat, {log}", log, [*words, "restat", ".ninja_log", "times"]
         yield f"nlog show, {log}", log, ["./nlog", "show", ".ninja_log"]
         if shutil.which("ninja"):
             yield f"ninja -t recompact, {log}", log, ["ninja", "-t", "recompact"]
@@ -86,7 +87,7 @@ def main():
     make_all(args.folder)
     shutil.copyfile(f"{args.folder}/rests", f"{args.folder}/small")
     subprocess.run(["./nlog", "recompact", "small", "keep"], cwd=args.folder, check=True)
-    rows = list(commands())
+    rows = list(commands(args.folder))
     found = [[] for _ in rows]
     for _ in range(args.n):
         for (_, log, words), it in zip(rows, found):

@@ -1,99 +1,140 @@
 #!/usr/bin/env python3
-"""Tries what docs/CLI.md says of two commands that change one log at the same time, and of a lock that puts them in order.
+"""Tries what docs/CLI.md says of two commands that change one log at the same time: the second waits for the first.
 
     python3 tests/two_writers.py PROGRAM
 
-The first command is held where it makes LOG.recompact, by a pipe of that name: it has read the log then. The second is a
-`record`. Wants /proc, which tells that the first waits, and for the lock flock (util-linux).
+The first is an `apply` that is kept open by its input, or this trial, which takes the lock as a command does. Where the first
+doesn't end, the second is refused after 10 seconds, and the log stays. A list of names that is missing or bad is refused at once.
+Then four records at once, 100 times on each of four logs, also with a recompact among them, and with kills: what ended with status 0 stands.
 """
+import fcntl
 import os
+import random
 import shutil
 import subprocess
 import sys
 import time
+from concurrent.futures import ThreadPoolExecutor
 
 from log_format import HEADER, Log, line_of
-from trials import SECONDS, main, run, read, write
+from trials import SECONDS, main, read, write
 
 ENTRY = (1, 2, 3, 4)
 START = HEADER + line_of(b"a", ENTRY) + line_of(b"b", ENTRY)
 DUE = START + line_of(b"a", ENTRY) * 200
-# The first command, and the log that it is given.
-FIRST = {
+FAILED = b"nlog: the folder failed\n"
+# The second command, and the log that it is given.
+SECOND = {
     "recompact": (["recompact", "LOG", "KEEP"], START),
     "restat": (["restat", "LOG", "/dev/null"], START),
     "repair": (["repair", "LOG"], START),
-    "record on a log that is due": (["record", "LOG", "1", "2", "3", "first", "c"], DUE),
+    "record": (["record", "LOG", "1", "2", "3", "second", "c"], START),
+    "record on a log that is due": (["record", "LOG", "1", "2", "3", "second", "c"], DUE),
 }
-SECOND = ["record", "LOG", "1", "2", "3", "second", "c"]
+REFUSED = {
+    "a missing list of names": (["recompact", "LOG", "GONE"], b"nlog: cannot read\n"),
+    "a bad list of names": (["recompact", "LOG", "BAD"], b"nlog: bad line 1\n"),
+    "an entry that is none": (["record", "LOG", "1", "2", "x", "n", "c"], b"nlog: bad number\n"),
+}
 
 
-def waits(process):
-    """Whether a process comes to wait, and goes on to."""
-    end, seen = time.monotonic() + SECONDS, 0
-    while seen < 10 and time.monotonic() < end and process.poll() is None:
-        with open(f"/proc/{process.pid}/stat", encoding="ascii") as it:
-            seen = seen + 1 if it.read().rpartition(")")[2].split()[0] == "S" else 0
-        time.sleep(0.01)
-    return seen == 10
+def begin(words, room):
+    return subprocess.Popen(words, cwd=room, stdin=subprocess.PIPE, stdout=subprocess.PIPE, stderr=subprocess.PIPE)
 
 
-def release(room):
-    """Lets go the process that waits at the pipe, and takes the pipe's name away first."""
-    os.rename(f"{room}/LOG.recompact", f"{room}/pipe")
-    os.close(os.open(f"{room}/pipe", os.O_RDONLY | os.O_NONBLOCK))
-    os.remove(f"{room}/pipe")
-
-
-def start(trials, what, words, room, text):
+def fill(room, text):
+    os.makedirs(room)
     write(f"{room}/LOG", text)
-    write(f"{room}/KEEP", b"a\nb\n")
-    os.mkfifo(f"{room}/LOG.recompact")
-    first = subprocess.Popen(words, cwd=room, stdin=subprocess.DEVNULL)
-    trials.check(f"{what}: the first one waits", waits(first))
-    return first
+    write(f"{room}/KEEP", b"a\nb\nfirst\n")
+    write(f"{room}/BAD", b"a\tb\n")
 
 
-def try_two(trials, program, room, what):
-    """The second one ends while the first stands between its read and its write: its record is lost."""
-    words, text = FIRST[what]
-    first = start(trials, what, [program, *words], room, text)
-    # Of a log that is due the second one rewrites too, by a scratch that it makes.
-    if text == DUE:
-        os.rename(f"{room}/LOG.recompact", f"{room}/held")
-    trials.want(f"{what}: the second one ends", run([program, *SECOND], cwd=room), (0, b"", b""))
-    trials.check(f"{what}: and has its record in the log", b"second" in Log(read(f"{room}/LOG")).table)
-    if text == DUE:
-        os.rename(f"{room}/held", f"{room}/LOG.recompact")
-    release(room)
-    trials.want(f"{what}: the first one ends", first.wait(SECONDS), 0)
-    table = Log(read(f"{room}/LOG")).table
-    trials.check(f"{what}: the record of the second one is lost", b"second" not in table and b"a" in table, repr(table))
+def try_both(trials, program, room, what):
+    """The second waits until the first, which has rewritten the log, ends; and both stand."""
+    words, text = SECOND[what]
+    fill(room, text)
+    first = begin([program, "apply", "LOG"], room)
+    first.stdin.write(b"open\nrecompact\ta\tb\nrecord\t1\t2\t3\tfirst\tff\nsync\n")
+    first.stdin.flush()
+    answers = [first.stdout.readline() for _ in range(4)]
+    trials.want(f"{what}: the first is answered", answers, [b"ok\n"] * 4)
+    second = begin([program, *words], room)
+    time.sleep(0.3)
+    trials.want(f"{what}: the second one waits", second.poll(), None)
+    first.communicate(timeout=SECONDS)
+    trials.want(f"{what}: the second one ends", (*second.communicate(timeout=SECONDS), second.returncode), (b"", b"", 0))
+    wanted = {b"a", b"b", b"first"} | ({b"second"} if "record" in what else set())
+    trials.want(f"{what}: both stand", set(Log(read(f"{room}/LOG")).table), wanted)
 
 
-def try_lock(trials, program, room, what):
-    """The same by the lock of docs/CLI.md: the second one waits, and both stand."""
-    words, text = FIRST[what]
-    lock = ["flock", "lock", program]
-    first = start(trials, f"{what} with a lock", [*lock, *words], room, text)
-    second = subprocess.Popen([*lock, *SECOND], cwd=room, stdin=subprocess.DEVNULL)
-    trials.check(f"{what} with a lock: the second one waits too", waits(second))
-    release(room)
-    trials.want(f"{what} with a lock: both end", (first.wait(SECONDS), second.wait(SECONDS)), (0, 0))
-    table = Log(read(f"{room}/LOG")).table
-    trials.check(f"{what} with a lock: both stand", {b"a", b"b", b"second"} <= set(table), repr(table))
+def try_held(trials, program, room):
+    """A lock that isn't let go of."""
+    fill(room, START)
+    with open(f"{room}/LOG", "rb") as held:
+        fcntl.flock(held, fcntl.LOCK_EX)
+        for what, (words, said) in REFUSED.items():
+            it, at = begin([program, *words], room), time.monotonic()
+            trials.want(f"{what}: is refused", (*it.communicate(timeout=SECONDS), it.returncode), (b"", said, 1))
+            trials.check(f"{what}: at once", time.monotonic() - at < 5)
+        at, every = time.monotonic(), {what: begin([program, *words], room) for what, (words, _) in SECOND.items()}
+        for what, it in every.items():
+            trials.want(f"{what}: is refused", (*it.communicate(timeout=SECONDS), it.returncode), (b"", FAILED, 1))
+        trials.check("after 10 seconds", 10 <= time.monotonic() - at < 20)
+    trials.want("and the log stays", read(f"{room}/LOG"), START)
+
+
+# Logs on which commands are started side by side, by what stands in them, and how many times.
+STARTS = {"clean": START, "torn": START + b"1\t2", "due": DUE, "missing": None}
+ROUNDS = 100
+NAMES = [b"first", b"second", b"third", b"fourth"]
+
+
+def play(program, room, start, others, kills, chance):
+    """Four records at once, with other commands among them, some of which are killed: what is wrong with how it ended, or None."""
+    os.makedirs(room)
+    if start is not None:
+        write(f"{room}/LOG", start)
+    write(f"{room}/KEEP", b"\n".join([b"a", b"b", *NAMES]) + b"\n")
+    records = {it: ["record", "LOG", "1", "2", "3", it.decode(), "c"] for it in NAMES}
+    running = {name: begin([program, *words], room) for name, words in records.items()}
+    running.update((f"{words}", begin([program, *words], room)) for words in others)
+    killed = set(chance.sample(sorted(running, key=str), kills))
+    time.sleep(chance.random() * 0.02 if kills else 0)
+    for name in killed:
+        running[name].kill()
+    ended = {name: (*it.communicate(timeout=SECONDS), it.returncode) for name, it in running.items()}
+    wrong = {name: it for name, it in ended.items() if it != (b"", b"", 0) and not (name in killed and it == (b"", b"", -9))}
+    text = read(f"{room}/LOG")
+    try:
+        table = set(Log(text or b"").table)
+    except AssertionError:
+        return f"ended so: {wrong}, and this is no log: {text!r}"
+    lost = [name for name in [*NAMES, *([b"a", b"b"] if start else [])] if name not in table and ended.get(name, (0, 0, 0))[2] == 0]
+    if not wrong and not lost and table <= {b"a", b"b", *NAMES}:
+        shutil.rmtree(room)
+        return None
+    return f"ended so: {wrong}, lost: {lost}, the log: {text!r}"
+
+
+def try_rounds(trials, program, room):
+    """Commands that are started side by side: each one that ends with status 0 stands, and none ends with another."""
+    kinds = {"": ((), 0), ", and a recompact": ((["recompact", "LOG", "KEEP"],), 0), ", a recompact, and two kills": ((["recompact", "LOG", "KEEP"],), 2)}
+    rows = [(start, kind, number) for start in STARTS for kind in kinds for number in range(ROUNDS)]
+
+    def one(row):
+        start, kind, number = row
+        return play(program, f"{room}/{start}{len(kind)}-{number}", STARTS[start], *kinds[kind], random.Random(f"{row}"))
+
+    with ThreadPoolExecutor(os.cpu_count()) as pool:
+        for (start, kind, number), wrong in zip(rows, pool.map(one, rows)):
+            trials.check(f"four records at once{kind}, on a {start} log, round {number}", wrong is None, wrong or "")
 
 
 def trial(trials, program, room):
-    if not os.path.exists("/proc/self/stat"):
-        return trials.skip("all of it", "/proc isn't there")
-    for what in FIRST:
-        try_two(trials, program, room, what)
-    if shutil.which("flock") is None:
-        return trials.skip("the lock", "flock isn't there")
-    for what in FIRST:
-        try_lock(trials, program, room, what)
-    return None
+    try_rounds(trials, program, f"{room}/rounds")
+    for number, what in enumerate(SECOND):
+        try_both(trials, program, f"{room}/{number}", what)
+    try_held(trials, program, f"{room}/held")
 
 
 if __name__ == "__main__":
