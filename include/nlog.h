@@ -144,9 +144,10 @@ uint64_t nlog_command_hash_v7(const char *command, size_t len);
 /* A log of version 4 to 7 on disk, which keeps its version (4 is rewritten as 5, a missing or empty one is made 5), and which one program
  * `nlog apply` keeps open. The hash of an entry is the caller's, and must be that of the log's version: nlog_command_hash_v7 where
  * nlog_get_facts of the log's bytes, or `nlog check --log-version auto`, tells 7. Each call sends lines to the program and waits for the
- * answers, and may block as long as the disk does. No lock is taken: whoever shares a log between processes keeps them apart. A signal
- * handler may interrupt any call. SIGPIPE doesn't reach the caller, and the program is the caller's child until the close, which waits for
- * it: so SIGCHLD may come, and a caller must not reap it. Every call answers NLOG_NO_HANDLE where the writer is NULL. */
+ * answers, and may block as long as the disk does. The program has the log locked from its first call to the close: a second writer, or a
+ * command that changes the log, waits, and is refused after 10 seconds as where the folder fails. A signal handler may interrupt any call.
+ * SIGPIPE doesn't reach the caller, and the program is the caller's child until the close, which waits for it: so SIGCHLD may come, and a
+ * caller must not reap it. Every call answers NLOG_NO_HANDLE where the writer is NULL. */
 typedef struct nlog_writer nlog_writer;
 
 /* A name by its bytes. */

@@ -179,7 +179,7 @@ number. A value that begins with `-` stands behind `--`, as in
 
   nlog record -- .ninja_log -1 2 3 out 'cc out.c'
 
-Nothing else may change LOG meanwhile: a build, or another nlog.",
+No build by Ninja may change LOG meanwhile; another nlog waits.",
         );
     let command = with_value(alloc, command, "LOG", true, LOG)?;
     let command = with_value(
@@ -231,7 +231,7 @@ pub fn recompact_command<'a>(alloc: Global) -> Result<Command<'a>, AllocError>
 An empty line of KEEP says nothing, and an empty KEEP drops every entry. The manual page has a script
 that makes KEEP for a build by Ninja. The new log is written to LOG.recompact, and renamed over LOG.
 
-Nothing else may change LOG meanwhile: a build, or another nlog.",
+No build by Ninja may change LOG meanwhile; another nlog waits.",
         );
     let command = with_value(alloc, command, "LOG", true, LOG)?;
     let command = with_value(
@@ -255,7 +255,7 @@ pub fn restat_command<'a>(alloc: Global) -> Result<Command<'a>, AllocError>
 An empty line of TIMES says nothing. The last line of a name counts, and names that the log lacks are
 passed over. The new log is written to LOG.recompact, and renamed over LOG.
 
-Nothing else may change LOG meanwhile: a build, or another nlog.",
+No build by Ninja may change LOG meanwhile; another nlog waits.",
         );
     let command = with_value(alloc, command, "LOG", true, LOG)?;
     let command = with_value(
@@ -279,7 +279,7 @@ pub fn repair_command<'a>(alloc: Global) -> Result<Command<'a>, AllocError>
 What is torn, skipped or stale is gone after it, version 4 is 5, and what a device forgot is written
 anew. The new log is written to LOG.recompact, and renamed over LOG. A LOG that is missing is made.
 
-Nothing else may change LOG meanwhile: a build, or another nlog.",
+No build by Ninja may change LOG meanwhile; another nlog waits.",
         );
     with_value(alloc, command, "LOG", true, ANY_LOG)
 }
@@ -323,7 +323,7 @@ table                             answers the last entry of each output, a line 
 The others are answered `ok`, or why they were not done, as `S8 Fault`; any other line `bad line`.
 A LOG that is missing is made one of version 5.
 
-Nothing else may change LOG meanwhile: a build, or another nlog.",
+No build by Ninja may change LOG meanwhile; another nlog waits.",
         );
     let command = with_value(alloc, command, "LOG", true, ANY_LOG)?;
     with_value(
