@@ -121,7 +121,10 @@ pub fn entries_command<'a>(alloc: Global) -> Result<Command<'a>, AllocError>
         .after_help(
             "\
 The lines are those of `show`, which has the last entry of each output alone. They are printed while
-LOG is read, so where a read fails, or LOG is larger than a log may be, the first ones were printed.",
+LOG is read, so where a read fails, or LOG is larger than a log may be, the first ones were printed.
+The entry that was written last is printed by
+
+  nlog entries .ninja_log | tail -n 1",
         );
     with_value(alloc, command, "LOG", false, OPTIONAL_ANY_LOG)
 }
@@ -143,7 +146,9 @@ LENGTH  its bytes, without the newline
 OUTPUT  the output that its last five fields name, the first of them from some digit on, where
         these are an entry, as one that was written behind a torn line; else `-`
 
-Status: 0 where nothing is printed, 3 where there is damage.",
+Status: 0 where nothing is printed, 3 where there is damage. A log is repaired where it has some by
+
+  nlog damage .ninja_log >> damaged || { test $? = 3 && nlog repair .ninja_log; }",
         );
     with_value(alloc, command, "LOG", false, OPTIONAL_ANY_LOG)
 }
@@ -152,9 +157,14 @@ pub fn hash_file_command<'a>(alloc: Global) -> Result<Command<'a>, AllocError>
     ensures shape { IfOk result (λ c. app_of c ≡ hash_file) }
     ensures local { IfOk result (λ c. (out-Command c).has_globals ≡ false) }
 {
-    let command = Command::new(alloc, "hash-file").about(
-        "Prints the hash of a command that stands in a file: of each of its bytes",
-    );
+    let command = Command::new(alloc, "hash-file")
+        .about("Prints the hash of a command that stands in a file: of each of its bytes")
+        .after_help(
+            "\
+A newline at the end of FILE is a byte of it, so a command that has none is hashed by
+
+  printf %s \"$command\" | nlog hash-file",
+        );
     with_value(
         alloc,
         command,
@@ -278,6 +288,9 @@ pub fn repair_command<'a>(alloc: Global) -> Result<Command<'a>, AllocError>
             "\
 What is torn, skipped or stale is gone after it, version 4 is 5, and what a device forgot is written
 anew. The new log is written to LOG.recompact, and renamed over LOG. A LOG that is missing is made.
+What `damage` prints of LOG can't be seen after it, so it is kept first, as by
+
+  nlog damage .ninja_log >> damaged || { test $? = 3 && nlog repair .ninja_log; }
 
 No build by Ninja may change LOG meanwhile; another nlog waits.",
         );
@@ -321,7 +334,9 @@ get NAME                          answers the last entry of NAME, or `none`
 table                             answers the last entry of each output, a line each, and then `end`
 
 The others are answered `ok`, or why they were not done, as `S8 Fault`; any other line `bad line`.
-A LOG that is missing is made one of version 5.
+A LOG that is missing is made one of version 5. The last entry of an output is asked for by
+
+  printf 'open\\nget\\tapp.o\\n' | nlog apply .ninja_log
 
 No build by Ninja may change LOG meanwhile; another nlog waits.",
         );
