@@ -584,7 +584,7 @@ def try_read_error(trials, build):
     """Ninja takes an error in the middle of the log for its end; nlog leaves the log."""
     if shutil.which("strace") is None:
         return trials.skip("a read error, a kill at the rename", "strace isn't there")
-    before = ["strace", "-o", "/dev/null", "-P", LOG, "-e", "trace=read", "-e", "inject=read:error=EIO:when=2+"]
+    before = ["strace", "-o", "/dev/null", "-P", LOG, "-e", "trace=read,pread64", "-e", "inject=read,pread64:error=EIO:when=2+"]
     ninja, nlog = both_recompact(trials, build, "a read error", LONG, before)
     trials.check("a read error: Ninja ends with status 0, and without the last entry", ninja[0] == 0 and Log(ninja[1]).table.keys() == {b"a"}, repr(ninja)[:200])
     return trials.want("a read error: nlog ends with status 1, and the log as it was", nlog, (1, LONG))
