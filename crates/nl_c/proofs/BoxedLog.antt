@@ -1,4 +1,4 @@
--- A box of a loaded log on the heap, as the calls that take one apart and make one see it: the two types as arguments of a call, with their laws.
+-- A box of what it holds on the heap, as the calls that take one apart and make one see it: the two types as arguments of a call, with their laws.
 --     Log, Heap        the log's type and the heap's.        log_lasts, heap_lasts     neither has a lifetime in it
 --     boxed, TheBox    the box of them
 --     held_at, freed_at     what the box owns at its pointer, and of that the right to free the block
@@ -18,9 +18,9 @@ use Rattle.std.specs.contracts.alloc.Global as heap
 use Rattle.std.specs.contracts.impls.GlobalAllocator.TheImpl as global
 use Rattle.std.proofs.alloc.Global.TheLaws as of_heap
 use Rattle.nl_c.specs.Kept.{heap as the_heap}
-use Rattle.nl_c.specs.declared.loaded_log.LoadedLog.{LoadedLog}
-use Rattle.nl_c.specs.contracts.loaded_log.LoadedLog as log
-use Rattle.nl_c.proofs.loaded_log.LoadedLog.TheLaws as of_log
+use Rattle.nl_c.specs.declared.held.Held.{Held}
+use Rattle.nl_c.specs.contracts.held.Held as log
+use Rattle.nl_c.proofs.held.Held.TheLaws as of_log
 
 abbrev log_ty : Ty
 log_ty = raw (layout log.the_row)
@@ -51,7 +51,7 @@ abbrev pub no_drop : Dict
 no_drop = impl ("nl_c::Destruct++none::drop" ∷ []) (tcons heap_ty tnil) dnil
 
 abbrev pub log_drop : Dict
-log_drop = impl ("nl_c::nl_c++loaded_log++LoadedLog+Destruct::drop" ∷ []) tnil dnil
+log_drop = impl ("nl_c::nl_c++held++Held+Destruct::drop" ∷ []) tnil dnil
 
 abbrev pub boxed : Bx
 boxed = record { row = Log; laws = log_laws; al = record { row = Heap; laws = heap_laws; g = global.ghosts; d = global.dict; drops = no_drop } }
@@ -59,7 +59,7 @@ boxed = record { row = Log; laws = log_laws; al = record { row = Heap; laws = he
 abbrev pub TheBox : RattleType
 TheBox = B boxed
 
-abbrev pub held_at : Ptr → LoadedLog → Fml
+abbrev pub held_at : Ptr → Held → Fml
 held_at p v = box_owns (global.ghosts.dealloc_token the_heap) (param 0 Log) p v
 
 abbrev pub freed_at : Ptr → Fml

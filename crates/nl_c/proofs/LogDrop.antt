@@ -1,4 +1,4 @@
--- What lets a loaded log go, as a call that takes its type asks it: of the theorem of its own `drop`. Assumes `Logic`.
+-- What lets what it holds go, as a call that takes its type asks it: of the theorem of its own `drop`. Assumes `Logic`.
 use Rattle.std.proofs.Common.{[], refl}
 use borrow.Fn.Glue.{glue_by, glue_ps}
 use borrow.Fn.Impl.{method_Known, via_longer}
@@ -17,10 +17,10 @@ use prog.Wired.{Wired}
 use seplogic.Ra.Ura.{Ura}
 use types.Logic.{Logic}
 use Rattle.nl_c.proofs.BoxedLog.{Log, log_laws, log_drop}
-use Rattle.nl_c.proofs.nl_c++loaded_log++LoadedLog+Destruct.drop.Kinds.{ps, r}
-use Rattle.nl_c.proofs.nl_c++loaded_log++LoadedLog+Destruct.drop.Met as dropped
-use Rattle.nl_c.proofs.nl_c++loaded_log++LoadedLog+Destruct.drop.Reads as reads
-use Rattle.nl_c.proofs.nl_c++loaded_log++LoadedLog+Destruct.drop.Symbol as symbol
+use Rattle.nl_c.proofs.nl_c++held++Held+Destruct.drop.Kinds.{ps, r}
+use Rattle.nl_c.proofs.nl_c++held++Held+Destruct.drop.Met as dropped
+use Rattle.nl_c.proofs.nl_c++held++Held+Destruct.drop.Reads as reads
+use Rattle.nl_c.proofs.nl_c++held++Held+Destruct.drop.Symbol as symbol
 
 abbrev key : Callee
 key = method log_drop 0 (layouts [] tt)

@@ -5,8 +5,8 @@ use denote.RawPtr.{Ptr}
 use Rattle.std.specs.declared.alloc.Global.{Global}
 use Rattle.std.specs.contracts.impls.GlobalAllocator.TheImpl as global
 use Rattle.std_alloc.specs.Box.Ownership.{box_owns}
-use Rattle.nl_c.specs.declared.loaded_log.LoadedLog.{LoadedLog}
-use Rattle.nl_c.specs.contracts.loaded_log.LoadedLog.{the_row}
+use Rattle.nl_c.specs.declared.held.Held.{Held}
+use Rattle.nl_c.specs.contracts.held.Held.{the_row}
 
 -- the number that stands in a handle with a log
 abbrev pub made : ℕ
@@ -17,6 +17,6 @@ abbrev pub heap : Global
 heap = record { memory = record { seal = tt } }
 
 -- the log and the right to free its block, at the pointer
-abbrev pub owned_if : Ptr → Option LoadedLog → Fml
+abbrev pub owned_if : Ptr → Option Held → Fml
 owned_if at None = ftrue
 owned_if at (Some log) = box_owns (global.ghosts.dealloc_token heap) the_row at log

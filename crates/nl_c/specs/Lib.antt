@@ -1,4 +1,7 @@
 pub mod Statuses
+pub mod MarkedNames
 pub mod LoadedLogs
+pub mod Written
+pub mod Held
 pub mod Answers
 pub mod Kept

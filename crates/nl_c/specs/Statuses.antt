@@ -1,5 +1,7 @@
 -- The statuses of the library's calls: docs/LIBRARY.md.
-use Rattle.std.specs.Prelude.{ℕ, List, ◌++◌, ◌==◌, if◌then◌else◌, codes, drop, length, min, take}
+use Rattle.std.specs.Prelude.{ℕ, Result, Ok, Err, List, ◌++◌, ◌==◌, if◌then◌else◌, codes, drop, length, min, take}
+use Rattle.nl_session.specs.declared.fault.LogFault.{LogFault}
+use Rattle.nl_session.specs.declared.fault.LogFault.TheVariants as log_fault
 use Rattle.nl_table.specs.declared.loader.LoadFault.{LoadFault}
 use Rattle.nl_table.specs.declared.loader.LoadFault.TheVariants as refusal
 
@@ -24,7 +26,6 @@ not_found = 5
 abbrev pub no_room : ℕ
 no_room = 6
 
--- those of the writer, which no function of the crate answers
 abbrev pub not_open : ℕ
 not_open = 7
 
@@ -43,17 +44,9 @@ fault = 11
 abbrev pub bad_name : ℕ
 bad_name = 12
 
-abbrev pub too_long : ℕ
-too_long = 13
-
-abbrev pub no_program : ℕ
-no_program = 14
-
-abbrev pub program_ended : ℕ
-program_ended = 15
-
-abbrev pub bad_answer : ℕ
-bad_answer = 16
+-- of the writer of files alone, which no function of the crate answers
+abbrev pub locked : ℕ
+locked = 13
 
 -- the status of a load that failed; a read fails in no load from memory
 abbrev pub status_of : LoadFault → ℕ
@@ -61,6 +54,36 @@ status_of refusal.NotALog = not_a_log
 status_of refusal.OtherVersion = other_version
 status_of refusal.Read = out_of_memory
 status_of refusal.OutOfMemory = out_of_memory
+
+-- the status of a call of a log that was refused or failed
+abbrev pub status_of_fault : LogFault → ℕ
+status_of_fault log_fault.NotOpen = not_open
+status_of_fault log_fault.AlreadyOpen = already_open
+status_of_fault log_fault.Broken = broken
+status_of_fault (log_fault.NegativeTime place) = negative_time
+status_of_fault log_fault.NotALog = not_a_log
+status_of_fault log_fault.OtherVersion = other_version
+status_of_fault log_fault.OutOfMemory = out_of_memory
+status_of_fault log_fault.Fault = fault
+
+abbrev pub status_of_answer : Result (Unit {0}) LogFault → ℕ
+status_of_answer (Ok done) = ok
+status_of_answer (Err why) = status_of_fault why
+
+-- the place of a pair that was refused, and else the one before
+abbrev pub place_of : LogFault → ℕ → ℕ
+place_of (log_fault.NegativeTime place) old = place
+place_of log_fault.NotOpen old = old
+place_of log_fault.AlreadyOpen old = old
+place_of log_fault.Broken old = old
+place_of log_fault.NotALog old = old
+place_of log_fault.OtherVersion old = old
+place_of log_fault.OutOfMemory old = old
+place_of log_fault.Fault old = old
+
+abbrev pub place_in : Result (Unit {0}) LogFault → ℕ → ℕ
+place_in (Ok done) old = old
+place_in (Err why) old = place_of why old
 
 -- what a status says
 abbrev pub status_text : ℕ → List ℕ
@@ -75,12 +98,9 @@ status_text status = if status == ok then codes "ok"
     else (if status == already_open then codes "the log is open already"
     else (if status == broken then codes "the log is broken"
     else (if status == negative_time then codes "negative time"
-    else (if status == fault then codes "the folder failed"
+    else (if status == fault then codes "a file failed"
     else (if status == bad_name then codes "bad name"
-    else (if status == too_long then codes "names too long for a line"
-    else (if status == no_program then codes "the program did not start"
-    else (if status == program_ended then codes "the program ended"
-    else (if status == bad_answer then codes "bad answer of the program" else codes "unknown status"))))))))))))))))
+    else (if status == locked then codes "another process has the log" else codes "unknown status")))))))))))))
 
 -- the length of a text, and a buffer with as much of the text as it has room for
 abbrev pub text_in : List ℕ → List ℕ → ℕ × List ℕ

@@ -1,24 +1,29 @@
 //! What is exported. Each call takes the log out of its handle, and puts it back.
-ghost use Rattle.std.specs.Prelude.{◌≡◌, ◌≢◌, ◌⊎◌, None, IsSomeAnd};
+ghost use Rattle.std.specs.Prelude.{◌≡◌, ◌≢◌, ◌↔◌, ◌⊎◌, None, IsSomeAnd};
 ghost use Rattle.nl_fields.specs.CommandHash.{IsHash, hash_of};
 ghost use Rattle.nl_fields.specs.RapidHash.{rapid_hash_of};
 ghost use Rattle.nl_table.specs.Log.{NotALog, OtherVersion, log_of};
 ghost use Rattle.nl_c.specs.LoadedLogs.{IsLoadedFrom, seen};
 ghost use Rattle.nl_c.specs.Answers.{answered_at, answered_count, answered_facts, answered_find};
-ghost use Rattle.nl_c.specs.Statuses.{ok, not_a_log, other_version, out_of_memory, text_in, status_text};
+ghost use Rattle.nl_c.specs.Held.{InHandle, IsWrittenAnd, loaded_in, loaded_of, table_in};
+ghost use Rattle.nl_c.specs.Written.{IsNew, Opened, Recorded, Synced, Stopped, Recompacted, Restatted, DeadMarked, TimeMarked, Cleared, IsOpenTold, Texted};
+ghost use Rattle.nl_fields.specs.Name.{IsName};
+ghost use Rattle.nl_c.specs.Statuses.{ok, bad_name, not_a_log, other_version, out_of_memory, text_in, status_text};
 
 use crate::handle::Handle;
+use crate::held::Held;
 use crate::loaded_log::{Facts, LoadedLog, Stamp};
-use crate::status;
-use nl_fields::{command_hash, command_hash_v7};
+use crate::written_log::WrittenLog;
+use crate::{look_up, status};
+use nl_fields::{command_hash, command_hash_v7, name_fault};
 use std::alloc::Global;
 
 /// The version of the library: 1000000 times the first number, 1000 times the second, and the third.
 #[unsafe(no_mangle)]
 pub extern "C" fn nlog_version() -> u32
-    ensures { result ≡ 1000 }
+    ensures { result ≡ 2000 }
 {
-    1000
+    2000
 }
 
 /// Writes as much of the text of a status as the buffer has room for. The length of the whole text comes back.
@@ -35,7 +40,7 @@ pub extern "C" fn nlog_status_text(status: u32, buf: &mut [u8]) -> usize
 /// Loads the log that the bytes are. Where the handle has a log, the new one takes its place.
 #[unsafe(no_mangle)]
 pub extern "C" fn nlog_load(handle: &mut Handle, alloc: Global, bytes: &[u8]) -> u32
-    ensures ok { result ≡ ok → IsSomeAnd handle.new.kept.log (IsLoadedFrom bytes.now) }
+    ensures ok { result ≡ ok → IsSomeAnd handle.new.kept.log (λ held. IsSomeAnd (loaded_of held) (IsLoadedFrom bytes.now)) }
     ensures not_a_log { result ≡ not_a_log → log_of (seen bytes.now) ≡ NotALog }
     ensures other_version { result ≡ other_version → log_of (seen bytes.now) ≡ OtherVersion }
     ensures refusals { (result ≡ ok) ⊎ (result ≡ not_a_log) ⊎ (result ≡ other_version) ⊎ (result ≡ out_of_memory) }
@@ -45,7 +50,7 @@ pub extern "C" fn nlog_load(handle: &mut Handle, alloc: Global, bytes: &[u8]) ->
         Ok(log) => log,
         Err(fault) => return status::of_fault(fault),
     };
-    match Box::new(alloc, log) {
+    match Box::new(alloc, Held::Loaded(log)) {
         Ok(log) => {
             drop(handle.take(alloc));
             *handle = Handle::of(log);
@@ -67,27 +72,39 @@ pub extern "C" fn nlog_free(handle: &mut Handle, alloc: Global)
 #[unsafe(no_mangle)]
 pub extern "C" fn nlog_get_facts(handle: &mut Handle, alloc: Global, facts: &mut Facts) -> u32
     ensures same { handle.new.kept.log ≡ handle.old.kept.log }
-    ensures value { (result, facts.new) ≡ answered_facts handle.old.kept.log facts.old }
+    ensures value { (result, facts.new) ≡ answered_facts (loaded_in handle.old.kept.log) facts.old }
 {
-    let Some(log) = handle.take(alloc) else {
+    let Some(held) = handle.take(alloc) else {
         return status::NO_HANDLE;
     };
-    *facts = log.facts();
-    *handle = Handle::of(log);
-    status::OK
+    let answer = match held.loaded() {
+        Some(log) => {
+            *facts = log.facts();
+            status::OK
+        }
+        None => status::NO_HANDLE,
+    };
+    *handle = Handle::of(held);
+    answer
 }
 
 #[unsafe(no_mangle)]
 pub extern "C" fn nlog_count(handle: &mut Handle, alloc: Global, count: &mut usize) -> u32
     ensures same { handle.new.kept.log ≡ handle.old.kept.log }
-    ensures value { (result, count.new) ≡ answered_count handle.old.kept.log count.old }
+    ensures value { (result, count.new) ≡ answered_count (table_in handle.old.kept.log) count.old }
 {
-    let Some(log) = handle.take(alloc) else {
+    let Some(held) = handle.take(alloc) else {
         return status::NO_HANDLE;
     };
-    *count = log.loaded.table.len();
-    *handle = Handle::of(log);
-    status::OK
+    let answer = match held.table() {
+        Some(table) => {
+            *count = table.len();
+            status::OK
+        }
+        None => status::NO_HANDLE,
+    };
+    *handle = Handle::of(held);
+    answer
 }
 
 /// The entry at a place, and its name where the buffer has room for it.
@@ -101,13 +118,16 @@ pub extern "C" fn nlog_at(
     name_len: &mut usize,
 ) -> u32
     ensures same { handle.new.kept.log ≡ handle.old.kept.log }
-    ensures value { (result, record { stamp = stamp.new; name = name.new; len = name_len.new }) ≡ answered_at handle.old.kept.log place (record { stamp = stamp.old; name = name.old; len = name_len.old }) }
+    ensures value { (result, record { stamp = stamp.new; name = name.new; len = name_len.new }) ≡ answered_at (table_in handle.old.kept.log) place (record { stamp = stamp.old; name = name.old; len = name_len.old }) }
 {
-    let Some(log) = handle.take(alloc) else {
+    let Some(held) = handle.take(alloc) else {
         return status::NO_HANDLE;
     };
-    let answer = log.at(place, stamp, name, name_len);
-    *handle = Handle::of(log);
+    let answer = match held.table() {
+        Some(table) => look_up::at(table, place, stamp, name, name_len),
+        None => status::NO_HANDLE,
+    };
+    *handle = Handle::of(held);
     answer
 }
 
@@ -120,14 +140,201 @@ pub extern "C" fn nlog_find(
     stamp: &mut Stamp,
 ) -> u32
     ensures same { handle.new.kept.log ≡ handle.old.kept.log }
-    ensures value { (result, stamp.new) ≡ answered_find handle.old.kept.log name.now stamp.old }
+    ensures value { (result, stamp.new) ≡ answered_find (table_in handle.old.kept.log) name.now stamp.old }
 {
-    let Some(log) = handle.take(alloc) else {
+    let Some(held) = handle.take(alloc) else {
         return status::NO_HANDLE;
     };
-    let answer = log.find(name, stamp);
-    *handle = Handle::of(log);
+    let answer = match held.table() {
+        Some(table) => look_up::find(table, name, stamp),
+        None => status::NO_HANDLE,
+    };
+    *handle = Handle::of(held);
     answer
+}
+
+/// A closed log without marks. What the handle held is let go.
+#[unsafe(no_mangle)]
+pub extern "C" fn nlog_new(handle: &mut Handle, alloc: Global) -> u32
+    ensures ok { result ≡ ok → IsSomeAnd handle.new.kept.log (IsWrittenAnd IsNew) }
+    ensures refusals { (result ≡ ok) ⊎ (result ≡ out_of_memory) }
+    ensures unchanged { result ≢ ok → handle.new.kept.log ≡ handle.old.kept.log }
+{
+    match Box::new(alloc, Held::Written(WrittenLog::new(alloc))) {
+        Ok(held) => {
+            drop(handle.take(alloc));
+            *handle = Handle::of(held);
+            status::OK
+        }
+        Err(_) => status::OUT_OF_MEMORY,
+    }
+}
+
+/// Opens the log that the bytes are, of a handle with a closed log.
+#[unsafe(no_mangle)]
+pub extern "C" fn nlog_open(
+    handle: &mut Handle,
+    alloc: Global,
+    bytes: &[u8],
+    version: u32,
+    change: &mut u32,
+) -> u32
+    ensures call { InHandle (Opened bytes.now version (change.old, change.new)) result handle.old.kept.log handle.new.kept.log }
+{
+    let Some(mut held) = handle.take(alloc) else {
+        return status::NO_HANDLE;
+    };
+    let answer = held.open(alloc, bytes, version, change);
+    *handle = Handle::of(held);
+    answer
+}
+
+/// Adds the line of an entry to the text of an open log.
+#[unsafe(no_mangle)]
+pub extern "C" fn nlog_record(handle: &mut Handle, alloc: Global, name: &[u8], stamp: &Stamp) -> u32
+    ensures call { InHandle (Recorded name.now stamp.now) result handle.old.kept.log handle.new.kept.log }
+{
+    let Some(mut held) = handle.take(alloc) else {
+        return status::NO_HANDLE;
+    };
+    let answer = held.record(name, stamp);
+    *handle = Handle::of(held);
+    answer
+}
+
+/// What was recorded is to be made durable.
+#[unsafe(no_mangle)]
+pub extern "C" fn nlog_sync(handle: &mut Handle, alloc: Global) -> u32
+    ensures call { InHandle (Synced) result handle.old.kept.log handle.new.kept.log }
+{
+    let Some(mut held) = handle.take(alloc) else {
+        return status::NO_HANDLE;
+    };
+    let answer = held.sync();
+    *handle = Handle::of(held);
+    answer
+}
+
+/// Writes the text anew without what is marked dead.
+#[unsafe(no_mangle)]
+pub extern "C" fn nlog_recompact(handle: &mut Handle, alloc: Global) -> u32
+    ensures call { InHandle (Recompacted) result handle.old.kept.log handle.new.kept.log }
+{
+    let Some(mut held) = handle.take(alloc) else {
+        return status::NO_HANDLE;
+    };
+    let answer = held.recompact(alloc);
+    *handle = Handle::of(held);
+    answer
+}
+
+/// Writes the text anew with the mtimes that are marked.
+#[unsafe(no_mangle)]
+pub extern "C" fn nlog_restat(handle: &mut Handle, alloc: Global, place: &mut usize) -> u32
+    ensures call { InHandle (Restatted (place.old, place.new)) result handle.old.kept.log handle.new.kept.log }
+{
+    let Some(mut held) = handle.take(alloc) else {
+        return status::NO_HANDLE;
+    };
+    let answer = held.restat(alloc, place);
+    *handle = Handle::of(held);
+    answer
+}
+
+/// Closes the log.
+#[unsafe(no_mangle)]
+pub extern "C" fn nlog_close(handle: &mut Handle, alloc: Global) -> u32
+    ensures call { InHandle (Stopped) result handle.old.kept.log handle.new.kept.log }
+{
+    let Some(mut held) = handle.take(alloc) else {
+        return status::NO_HANDLE;
+    };
+    let answer = held.stop();
+    *handle = Handle::of(held);
+    answer
+}
+
+/// Marks an output as dead.
+#[unsafe(no_mangle)]
+pub extern "C" fn nlog_mark_dead(handle: &mut Handle, alloc: Global, name: &[u8]) -> u32
+    ensures call { InHandle (DeadMarked name.now) result handle.old.kept.log handle.new.kept.log }
+{
+    let Some(mut held) = handle.take(alloc) else {
+        return status::NO_HANDLE;
+    };
+    let answer = held.mark_dead(name);
+    *handle = Handle::of(held);
+    answer
+}
+
+/// Marks an output with a new mtime.
+#[unsafe(no_mangle)]
+pub extern "C" fn nlog_mark_time(handle: &mut Handle, alloc: Global, name: &[u8], mtime: i64) -> u32
+    ensures call { InHandle (TimeMarked name.now mtime) result handle.old.kept.log handle.new.kept.log }
+{
+    let Some(mut held) = handle.take(alloc) else {
+        return status::NO_HANDLE;
+    };
+    let answer = held.mark_time(alloc, name, mtime);
+    *handle = Handle::of(held);
+    answer
+}
+
+/// Forgets the marks.
+#[unsafe(no_mangle)]
+pub extern "C" fn nlog_clear_marks(handle: &mut Handle, alloc: Global) -> u32
+    ensures call { InHandle (Cleared) result handle.old.kept.log handle.new.kept.log }
+{
+    let Some(mut held) = handle.take(alloc) else {
+        return status::NO_HANDLE;
+    };
+    let answer = held.clear_marks(alloc);
+    *handle = Handle::of(held);
+    answer
+}
+
+/// Whether the log is open.
+#[unsafe(no_mangle)]
+pub extern "C" fn nlog_is_open(handle: &mut Handle, alloc: Global, is_open: &mut bool) -> u32
+    ensures call { InHandle (IsOpenTold is_open.new) result handle.old.kept.log handle.new.kept.log }
+{
+    let Some(mut held) = handle.take(alloc) else {
+        return status::NO_HANDLE;
+    };
+    let answer = held.is_open(is_open);
+    *handle = Handle::of(held);
+    answer
+}
+
+/// How long the text is, and as much of it from a place on as there is room for.
+#[unsafe(no_mangle)]
+pub extern "C" fn nlog_text(
+    handle: &mut Handle,
+    alloc: Global,
+    from: u64,
+    bytes: &mut [u8],
+    len: &mut u64,
+) -> u32
+    ensures call { InHandle (Texted from (bytes.old, bytes.new) (len.old, len.new)) result handle.old.kept.log handle.new.kept.log }
+{
+    let Some(mut held) = handle.take(alloc) else {
+        return status::NO_HANDLE;
+    };
+    let answer = held.text(from, bytes, len);
+    *handle = Handle::of(held);
+    answer
+}
+
+/// Whether bytes are a name.
+#[unsafe(no_mangle)]
+pub extern "C" fn nlog_check_name(name: &[u8]) -> u32
+    ensures ok { result ≡ ok ↔ IsName name.now }
+    ensures refusals { (result ≡ ok) ⊎ (result ≡ bad_name) }
+{
+    match name_fault(name) {
+        None => status::OK,
+        Some(_) => status::BAD_NAME,
+    }
 }
 
 /// The hash of a command in logs of version 5 and 6.

@@ -2,8 +2,8 @@
 ghost use Rattle.std.specs.Prelude.{◌≡◌, ◌↔◌, IsSome, Some, None, option_map};
 ghost use Rattle.nl_c.specs.Kept.{made as made_mark};
 
+use crate::held::Held;
 use crate::kept::Kept;
-use crate::loaded_log::LoadedLog;
 use std::alloc::Global;
 use std::mem::replace;
 
@@ -29,7 +29,7 @@ impl Handle {
         }
     }
 
-    pub(crate) fn of(log: Box<LoadedLog>) -> Handle
+    pub(crate) fn of(log: Box<Held>) -> Handle
         ensures { result.kept.log ≡ Some log.value }
     {
         Handle {
@@ -38,7 +38,7 @@ impl Handle {
         }
     }
 
-    fn into_log(self, alloc: Global) -> Option<Box<LoadedLog>>
+    fn into_log(self, alloc: Global) -> Option<Box<Held>>
         ensures { self.kept.log ≡ option_map (λ log. log.value) result }
     {
         let Handle { made, kept } = self;
@@ -50,7 +50,7 @@ impl Handle {
     }
 
     /// Takes the log out, if there is one. It leaves a handle without a log.
-    pub(crate) fn take(&mut self, alloc: Global) -> Option<Box<LoadedLog>>
+    pub(crate) fn take(&mut self, alloc: Global) -> Option<Box<Held>>
         ensures held { self.old.kept.log ≡ option_map (λ log. log.value) result }
         ensures empty { self.new.kept.log ≡ None }
     {

@@ -3,7 +3,11 @@
 
 mod exports;
 mod handle;
+mod held;
 mod kept;
 mod laws;
 mod loaded_log;
+mod look_up;
+mod marks;
 mod status;
+mod written_log;

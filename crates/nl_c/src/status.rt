@@ -1,7 +1,8 @@
 //! Statuses as numbers, since no enum crosses to C.
 ghost use Rattle.std.specs.Prelude.{◌≡◌, ◌≢◌, ◌∷◌, [], ◌++◌, drop, length, take};
-ghost use Rattle.nl_c.specs.Statuses.{status_of, status_text};
+ghost use Rattle.nl_c.specs.Statuses.{status_of, status_of_answer, status_of_fault, status_text};
 
+use nl_session::LogFault;
 use nl_table::LoadFault;
 
 pub(crate) const OK: u32 = 0;
@@ -18,26 +19,20 @@ pub(crate) const NOT_FOUND: u32 = 5;
 
 pub(crate) const NO_ROOM: u32 = 6;
 
-// The writer's, which no function here answers.
-const NOT_OPEN: u32 = 7;
+pub(crate) const NOT_OPEN: u32 = 7;
 
-const ALREADY_OPEN: u32 = 8;
+pub(crate) const ALREADY_OPEN: u32 = 8;
 
-const BROKEN: u32 = 9;
+pub(crate) const BROKEN: u32 = 9;
 
-const NEGATIVE_TIME: u32 = 10;
+pub(crate) const NEGATIVE_TIME: u32 = 10;
 
-const FAULT: u32 = 11;
+pub(crate) const FAULT: u32 = 11;
 
-const BAD_NAME: u32 = 12;
+pub(crate) const BAD_NAME: u32 = 12;
 
-const TOO_LONG: u32 = 13;
-
-const NO_PROGRAM: u32 = 14;
-
-const PROGRAM_ENDED: u32 = 15;
-
-const BAD_ANSWER: u32 = 16;
+// The writer's of files, which no function here answers.
+const LOCKED: u32 = 13;
 
 /// The status of a load that failed. A load from memory meets no other fault.
 pub(crate) fn of_fault(fault: LoadFault) -> u32
@@ -48,6 +43,31 @@ pub(crate) fn of_fault(fault: LoadFault) -> u32
         LoadFault::NotALog => NOT_A_LOG,
         LoadFault::OtherVersion => OTHER_VERSION,
         LoadFault::OutOfMemory | LoadFault::Read => OUT_OF_MEMORY,
+    }
+}
+
+/// The status of a call of a log that was refused or failed.
+pub(crate) fn of_log_fault(fault: LogFault) -> u32
+    ensures { result ≡ status_of_fault fault }
+{
+    match fault {
+        LogFault::NotOpen => NOT_OPEN,
+        LogFault::AlreadyOpen => ALREADY_OPEN,
+        LogFault::Broken => BROKEN,
+        LogFault::NegativeTime(_) => NEGATIVE_TIME,
+        LogFault::NotALog => NOT_A_LOG,
+        LogFault::OtherVersion => OTHER_VERSION,
+        LogFault::OutOfMemory => OUT_OF_MEMORY,
+        LogFault::Fault => FAULT,
+    }
+}
+
+pub(crate) fn of_answer(answer: Result<(), LogFault>) -> u32
+    ensures { result ≡ status_of_answer answer }
+{
+    match answer {
+        Ok(()) => OK,
+        Err(fault) => of_log_fault(fault),
     }
 }
 
@@ -67,12 +87,9 @@ pub(crate) fn text(status: u32) -> &'static [u8]
         ALREADY_OPEN => b"the log is open already",
         BROKEN => b"the log is broken",
         NEGATIVE_TIME => b"negative time",
-        FAULT => b"the folder failed",
+        FAULT => b"a file failed",
         BAD_NAME => b"bad name",
-        TOO_LONG => b"names too long for a line",
-        NO_PROGRAM => b"the program did not start",
-        PROGRAM_ENDED => b"the program ended",
-        BAD_ANSWER => b"bad answer of the program",
+        LOCKED => b"another process has the log",
         _ => b"unknown status",
     }
 }

@@ -40,7 +40,7 @@ use Rattle.std.proofs.impls.GlobalAllocator.TheImpl.Met.{passed}
 use Rattle.nl_c.specs.Kept.{owned_if}
 use Rattle.nl_c.proofs.KeptValues.{slot_at, some_of, kept_val, kept_told}
 use Rattle.nl_c.proofs.BoxedLog.{Log, Heap, log_laws, heap_laws, log_lasts, heap_lasts, no_drop, boxed, TheBox, held_at, freed_at}
-use Rattle.nl_c.specs.declared.loaded_log.LoadedLog.{LoadedLog}
+use Rattle.nl_c.specs.declared.held.Held.{Held}
 use Rattle.nl_c.specs.contracts.kept.Kept.into_box.{ended, clauses}
 use Rattle.nl_c.specs.contracts.kept.Kept.into_box.Key.{name as #self}
 use Rattle.nl_c.proofs.kept.Kept.into_box.Statement.{statement}
@@ -67,8 +67,8 @@ into_box_spec {M} 𝓤 𝓛 𝓜 𝓡 wired =
     let Asked : Type 0 = IsSome x.log in
     qed 𝓛 ((raw (alive 𝓛 ended.signature z.0.0 z.0.1) ⊛ ‵ (owns (types_at ended.signature.params z.0.0) z.0.3 z.0.4)) ∷ raw (fact 𝓤 Asked) ∷ []) ∵ move ! (1 ∷ []) $ heard ! Asked (λ asked. split ! $ move ! (1 ∷ []) $
     let found = some_of x.log asked in
-    let v : LoadedLog = found.0 in
-    fsplit ! $ fsplit ! $ drop ! $ rewrite ! 0 (λ (k : Option LoadedLog). ‵ (owned_if x.at k)) found.1 refl $
+    let v : Held = found.0 in
+    fsplit ! $ fsplit ! $ drop ! $ rewrite ! 0 (λ (k : Option Held). ‵ (owned_if x.at k)) found.1 refl $
     in_a_block ! x.at (λ p. held_at p v) (fst∗ 𝓤 (never 𝓤) (sem 𝓛 (freed_at null_ptr))) (λ b o at.
     let at_free : callee.Ghost = ((([], ([], tt)), (full_share, (full_share, tt)), tt, (a, (block_ptr b o, tt)), (h.0 ∷ [], (vptr b o ∷ [], tt))), v) in
     -- [the log's memory; the handle of the heap and nothing; the tokens]
