@@ -4,7 +4,7 @@ ghost use Rattle.nl_fields.specs.CommandHash.{IsHash, hash_of};
 ghost use Rattle.nl_fields.specs.RapidHash.{rapid_hash_of};
 ghost use Rattle.nl_table.specs.Log.{NotALog, OtherVersion, log_of};
 ghost use Rattle.nl_c.specs.LoadedLogs.{IsLoadedFrom, seen};
-ghost use Rattle.nl_c.specs.Answers.{answered_at, answered_count, answered_facts, answered_find};
+ghost use Rattle.nl_c.specs.Answers.{answered_at, answered_count, answered_facts, answered_find, answer_line};
 ghost use Rattle.nl_c.specs.Held.{InHandle, IsWrittenAnd, loaded_in, loaded_of, table_in};
 ghost use Rattle.nl_c.specs.Written.{IsNew, Opened, Recorded, Synced, Stopped, Recompacted, Restatted, DeadMarked, TimeMarked, Cleared, IsOpenTold, Texted};
 ghost use Rattle.nl_fields.specs.Name.{IsName};
@@ -323,6 +323,20 @@ pub extern "C" fn nlog_text(
     let answer = held.text(from, bytes, len);
     *handle = Handle::of(held);
     answer
+}
+
+/// The entry of a line in a log of a version, and its name where the buffer has room for it.
+#[unsafe(no_mangle)]
+pub extern "C" fn nlog_read_line(
+    version: u32,
+    line: &[u8],
+    stamp: &mut Stamp,
+    name: &mut [u8],
+    name_len: &mut usize,
+) -> u32
+    ensures { (result, record { stamp = stamp.new; name = name.new; len = name_len.new }) ≡ answer_line version line.now (record { stamp = stamp.old; name = name.old; len = name_len.old }) }
+{
+    look_up::line(version, line, stamp, name, name_len)
 }
 
 /// Whether bytes are a name.

@@ -1,9 +1,10 @@
 //! What a caller asks of a table.
 ghost use Rattle.std.specs.Prelude.{◌≡◌};
-ghost use Rattle.nl_c.specs.Answers.{answer_at, answer_find};
+ghost use Rattle.nl_c.specs.Answers.{answer_at, answer_find, answer_line, entry_in};
 
 use crate::loaded_log::{Stamp, stamp_of};
 use crate::status;
+use nl_fields::{EntryRef, MAX_LINE, read_entry, read_entry_v4};
 use nl_table::Table;
 
 pub(crate) fn find(table: &Table, name: &[u8], stamp: &mut Stamp) -> u32
@@ -18,16 +19,11 @@ pub(crate) fn find(table: &Table, name: &[u8], stamp: &mut Stamp) -> u32
     }
 }
 
-pub(crate) fn at(
-    table: &Table,
-    place: usize,
-    stamp: &mut Stamp,
-    name: &mut [u8],
-    name_len: &mut usize,
-) -> u32
-    ensures { (result, record { stamp = stamp.new; name = name.new; len = name_len.new }) ≡ answer_at table.now place (record { stamp = stamp.old; name = name.old; len = name_len.old }) }
+/// Fills a stamp, a buffer and a length with an entry, where there is one.
+fn fill(found: Option<EntryRef>, stamp: &mut Stamp, name: &mut [u8], name_len: &mut usize) -> u32
+    ensures { (result, record { stamp = stamp.new; name = name.new; len = name_len.new }) ≡ entry_in found.entry (record { stamp = stamp.old; name = name.old; len = name_len.old }) }
 {
-    let Some(entry) = table.at(place) else {
+    let Some(entry) = found else {
         return status::NOT_FOUND;
     };
     *stamp = stamp_of(&entry);
@@ -38,4 +34,37 @@ pub(crate) fn at(
     }
     name[..bytes.len()].copy_from_slice(bytes);
     status::OK
+}
+
+pub(crate) fn at(
+    table: &Table,
+    place: usize,
+    stamp: &mut Stamp,
+    name: &mut [u8],
+    name_len: &mut usize,
+) -> u32
+    ensures { (result, record { stamp = stamp.new; name = name.new; len = name_len.new }) ≡ answer_at table.now place (record { stamp = stamp.old; name = name.old; len = name_len.old }) }
+{
+    fill(table.at(place), stamp, name, name_len)
+}
+
+/// The entry of a line in a log of a version, which is passed without its newline.
+pub(crate) fn line(
+    version: u32,
+    line: &[u8],
+    stamp: &mut Stamp,
+    name: &mut [u8],
+    name_len: &mut usize,
+) -> u32
+    ensures { (result, record { stamp = stamp.new; name = name.new; len = name_len.new }) ≡ answer_line version line.now (record { stamp = stamp.old; name = name.old; len = name_len.old }) }
+{
+    if line.len() > MAX_LINE {
+        return status::NOT_FOUND;
+    }
+    let entry = if version == 4 {
+        read_entry_v4(line)
+    } else {
+        read_entry(line)
+    };
+    fill(entry, stamp, name, name_len)
 }
