@@ -1,19 +1,5 @@
 -- What a crash leaves: a step of the machine, and a log that opens as one that was found.
-use Rattle.std.proofs.Common.{◌≡◌, ◌∙◌, ℕ, Bool, List, [], refl, sym, ap, subst, Option}
-use Rattle.std.specs.Prelude.{IfSome, option_map}
-use Rattle.nl_fields.specs.declared.entry.Entry.{Entry}
-use Rattle.nl_table.specs.History.{plus}
-use Rattle.nl_folder.specs.DiskState.{Disk, at_rest, empty_file}
-use Rattle.nl_folder.specs.CrashImages.{IsImage}
-use Rattle.nl_folder.specs.Calls.{crashed, Crashes}
-use Rattle.nl_folder.proofs.ImageLemmas.{at_rest_unique}
-use Rattle.nl_session.specs.declared.state.LogState.{LogState}
-use Rattle.nl_session.specs.declared.state.LogState.TheVariants.{Closed}
-use Rattle.nl_session.specs.declared.events.Reply.TheVariants.{Done}
-use Rattle.nl_session.specs.Machine.{CrashesNow, State, durable_at}
-use Rattle.nl_session.specs.States.{IsAt, Goes}
-use Rattle.nl_session.specs.Opened.{OpenedAs, OpensAs, Reopens, StaysAtRest}
-use Rattle.nl_lines.proofs.PrefixLemmas.{prefix_nil}
+use Rattle.nl_session.proofs.Names.{◌≡◌, ◌∙◌, ℕ, Bool, List, [], refl, sym, ap, subst, Option, IfSome, option_map, Entry, plus, Disk, at_rest, empty_file, IsImage, crashed, Crashes, at_rest_unique, LogState, Closed, Done, CrashesNow, State, durable_at, IsAt, Goes, OpenedAs, OpensAs, Reopens, StaysAtRest, prefix_nil}
 use Rattle.nl_session.proofs.StateLemmas.{Carries_alone}
 use Rattle.nl_session.proofs.AgainLemmas.{some_and}
 use Rattle.nl_session.proofs.RestLemmas.{as_rest}

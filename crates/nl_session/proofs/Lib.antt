@@ -1,3 +1,4 @@
+pub mod Names
 pub mod RepresentsLemmas
 pub mod TailLemmas
 pub mod AppendLemmas

@@ -1,12 +1,6 @@
 -- By which answers a log breaks, and what a sync of an open one answers.
-use Rattle.std.proofs.Common.{◌≡◌, ◌∙◌, refl, sym, inl, inr}
-use Rattle.std.specs.Prelude.{◌⊎◌, IfErr, IsErrOf, OnOk, OnErr, Result, Ok, Err}
-use Rattle.nl_session.specs.declared.events.Reply.TheVariants.{Done, Refused}
-use Rattle.nl_session.specs.declared.fault.LogFault.{LogFault}
-use Rattle.nl_session.specs.declared.fault.LogFault.TheVariants.{NotOpen, AlreadyOpen, Broken as BrokenLog, NegativeTime, NotALog, OtherVersion, OutOfMemory, Fault}
-use Rattle.nl_session.specs.declared.state.LogState.{LogState}
-use Rattle.nl_session.specs.declared.state.LogState.TheVariants.{Open, Broken}
-use Rattle.nl_session.specs.Machine.{reply_of}
+use Rattle.nl_session.proofs.Names.{◌≡◌, ◌∙◌, refl, sym, inl, inr, ◌⊎◌, IfErr, IsErrOf, OnOk, OnErr, Result, Ok, Err, Done, Refused, LogFault, NotOpen, AlreadyOpen, BrokenLog, NegativeTime, OutOfMemory, Fault, LogState, Open, Broken, reply_of}
+use Rattle.nl_session.specs.declared.fault.LogFault.TheVariants.{NotALog, OtherVersion}
 
 -- where Ok opens a log, and other refusals leave it, a fault alone breaks it
 pub breaks_by_fault : (r : Result (Unit {0}) LogFault) (old new : LogState) → OnOk r (new ≡ Open) → ((IsErrOf r Fault → ⊥) → OnErr r (new ≡ old)) → new ≡ Broken → (old ≡ Broken) ⊎ (reply_of r ≡ Refused Fault)

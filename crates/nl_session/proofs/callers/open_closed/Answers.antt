@@ -1,11 +1,6 @@
-use Rattle.std.proofs.Common.{◌≡◌, ◌⊎◌, ◌↔◌, ap, sym, subst, refl, inl, inr, Result, Ok, Err}
-use Rattle.std.specs.Prelude.{IsSome, IsErrOf, OnOk, IfErr}
-use Rattle.nl_table.specs.Log.{LogReading, Log, history_of_log, log_of}
+use Rattle.nl_session.proofs.Names.{◌≡◌, ◌⊎◌, ◌↔◌, ap, sym, subst, refl, inl, inr, Result, Ok, Err, IsSome, IsErrOf, OnOk, IfErr, LogReading, Log, history_of_log, log_of, LogFault, AlreadyOpen, OutOfMemory, Fault, LogState, AnswersAs}
 use Rattle.nl_table.specs.Log as no_log
-use Rattle.nl_session.specs.declared.fault.LogFault.{LogFault}
-use Rattle.nl_session.specs.declared.fault.LogFault.TheVariants.{AlreadyOpen, Broken, NotALog, OtherVersion, OutOfMemory, Fault}
-use Rattle.nl_session.specs.declared.state.LogState.{LogState}
-use Rattle.nl_session.specs.Parts.{AnswersAs}
+use Rattle.nl_session.specs.declared.fault.LogFault.TheVariants.{Broken, NotALog, OtherVersion}
 use Rattle.nl_session.proofs.callers.open_closed.Goals as goal
 
 on_ok : (reading : LogReading) → IsSome (history_of_log reading) → AnswersAs {T = Unit {0}} reading (Ok tt)

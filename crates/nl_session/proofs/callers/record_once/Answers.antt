@@ -1,11 +1,4 @@
-use Rattle.std.proofs.Common.{◌≡◌, ◌∙◌, ap, arith, length, List, ℕ, ◌++◌, Option, Some}
-use Rattle.std.specs.Prelude.{option_map}
-use Rattle.std.proofs.lemmas.List.{take_all}
-use Rattle.nl_fields.specs.EntryLine.{line_of}
-use Rattle.nl_lines.specs.Split.{with_newline}
-use Rattle.nl_folder.specs.DiskState.{Disk, at_rest}
-use Rattle.nl_folder.specs.Calls.{log_grown, log_synced}
-use Rattle.nl_session.specs.Parts.{IsLeft}
+use Rattle.nl_session.proofs.Names.{◌≡◌, ◌∙◌, ap, arith, length, List, ℕ, ◌++◌, Option, Some, option_map, take_all, line_of, with_newline, Disk, at_rest, log_grown, log_synced, IsLeft}
 use Rattle.nl_session.proofs.FillLemmas.{on_ok}
 use Rattle.nl_session.proofs.callers.record_once.Goals as goal
 
