@@ -1,6 +1,7 @@
 -- What a crash leaves: a step of the machine, and a log that opens as one that was found.
 use Rattle.nl_session.proofs.Names.{◌≡◌, ◌∙◌, ℕ, Bool, List, [], refl, sym, ap, subst, Option, IfSome, option_map, Entry, plus, Disk, at_rest, empty_file, IsImage, crashed, Crashes, at_rest_unique, LogState, Closed, Done, CrashesNow, State, durable_at, IsAt, Goes, OpenedAs, OpensAs, Reopens, StaysAtRest, prefix_nil}
 use Rattle.nl_session.proofs.StateLemmas.{Carries_alone}
+use Rattle.nl_session.proofs.StepLemmas.{shut_goes}
 use Rattle.nl_session.proofs.AgainLemmas.{some_and}
 use Rattle.nl_session.proofs.RestLemmas.{as_rest}
 
@@ -8,17 +9,8 @@ pub crash_goes : (s : State) (before now : Option Disk) (was is : Bool) (mode : 
 crash_goes s before now was is mode held after crash at =
     let image : IsImage at.honest crash.image = subst (λ (o : Option Disk). IfSome o (λ d. IsImage d crash.image)) at.is crash.is_image in
     let l = at.represents.bytes.images crash.image image in
-    record {
-      next = durable_at (plus s.durable l.prefix) Closed;
-      step = (l.prefix, l.is_prefix, refl);
-      at = record {
-        honest = at_rest crash.image empty_file;
-        is = crash.left ∙ ap (option_map (crashed crash.image)) at.is;
-        represents = record { bytes = Carries_alone crash.image empty_file (plus s.durable l.prefix) l.represents; prefix = prefix_nil []; ready = λ o. absurd (cc o) };
-        mode_is = refl;
-        table_is = λ o. absurd (cc o);
-      };
-    }
+    shut_goes CrashesNow Done s (durable_at (plus s.durable l.prefix) Closed) now is after (at_rest crash.image empty_file) (λ o. absurd (cc o)) (crash.left ∙ ap (option_map (crashed crash.image)) at.is)
+    (Carries_alone crash.image empty_file (plus s.durable l.prefix) l.represents) (prefix_nil []) (l.prefix, l.is_prefix, refl)
 
 pub rest_crashed : (old new : Option Disk) → Crashes old new → StaysAtRest old new
 rest_crashed old new crash d is rest =
