@@ -1,5 +1,5 @@
 -- The names that the proofs take from elsewhere.
-pub use Rattle.std.proofs.Common.{◌≡◌, Bool, true, false, cond, not, ◌&&◌, ◌||◌, List, [], ◌∷◌, ◌++◌, refl, sym, ◌∙◌, ap, subst, inl, inr, Some, None, ℕ, ◌+◌, ◌≤◌, ◌==◌, length, take, arith, Option, length-append, ◌<◌, drop, zero-add, append_assoc, length-drop, ℤ, get_or, map, append-nil, zip, zero, suc, add-one, ◌⊎◌, ◌*◌, ◌≢◌, length-take, pos, ◌≤ℤ◌, ◌<ℤ◌, SFits, to_z, of_z, vec_capacity, rules, ◌-◌, ◌↔◌, Vec, Global}
+pub use Rattle.std.proofs.Common.{◌≡◌, Bool, true, false, cond, not, ◌&&◌, ◌||◌, List, [], ◌∷◌, ◌++◌, refl, sym, ◌∙◌, ap, subst, inl, inr, Some, None, ℕ, ◌+◌, ◌≤◌, ◌==◌, length, take, arith, Option, length-append, ◌<◌, drop, zero-add, append_assoc, length-drop, ℤ, get_or, map, append-nil, zip, zero, suc, add-one, ◌⊎◌, ◌≢◌, length-take, pos, ◌≤ℤ◌, ◌<ℤ◌, SFits, to_z, of_z, vec_capacity, rules, ◌-◌, ◌↔◌, Vec, Global}
 pub use Rattle.std.proofs.Math.Seq.{take-add, drop-append_seam}
 pub use Rattle.std.proofs.lemmas.Bool.{cases_Bool, cond-true, cond-false, or_parts, or_from, cases_eq, eq-eqb, ne_eqb, cases_lt, and_right, le-ltb}
 pub use Rattle.std.proofs.lemmas.Int.{ints, to_z-of_z}
@@ -9,7 +9,7 @@ pub use Rattle.std.proofs.lemmas.Option.{slice_get_within, unwrap_or-slice_get, 
 pub use Rattle.std.proofs.lemmas.Result.{on_err_weaker}
 pub use Rattle.std.specs.Int.{w32}
 pub use Rattle.std.specs.List.{take-map, AllByRecursion}
-pub use Rattle.std.specs.Prelude.{Result, Ok, Err, All, IsSome, IsSomeAnd, IfSome, option_map, OnErr, IsTrue, IsErrOf, OnOk, unwrap_or, slice_get, IfErr, is_err, nat_lt}
+pub use Rattle.std.specs.Prelude.{Result, Ok, Err, All, IsSome, IsSomeAnd, IfSome, option_map, OnErr, IsTrue, IsErrOf, OnOk, unwrap_or, slice_get, IfErr, nat_lt}
 pub use mir.Syntax.{w64}
 pub use Rattle.nl_fields.proofs.HeaderLemmas.{version_five-plain}
 pub use Rattle.nl_fields.specs.EntryLine.{IsEntry, line_of}
@@ -21,7 +21,7 @@ pub use Rattle.nl_lines.proofs.PrefixLemmas.{prefix_itself, prefix_nil, prefix_p
 pub use Rattle.nl_lines.proofs.SplitLemmas.{lines_of-plain, whole_len-torn_len}
 pub use Rattle.nl_lines.specs.Lines.{max_log}
 pub use Rattle.nl_lines.specs.Prefix.{IsPrefix}
-pub use Rattle.nl_lines.specs.Source.{FailedBetween, IsCount, last_count}
+pub use Rattle.nl_lines.specs.Source.{FailedBetween}
 pub use Rattle.nl_lines.specs.Split.{NoNewline, joined, lines_of, whole_len, EndsInNewline, with_newline, torn_len}
 pub use Rattle.nl_table.proofs.HistoryLemmas.{counts-logged, table-enter, plus-push, table-forget, forgotten-dead, table-touch, logged-push, dead_holds, plus-append}
 pub use Rattle.nl_table.proofs.LoadedLemmas.{loaded_length, loaded_is_log, due_by_counts, loaded_history}
@@ -45,12 +45,12 @@ pub use Rattle.nl_session.specs.Answers.{IsSound, HasCounted, Answered, Exchange
 pub use Rattle.nl_session.specs.Effects.{IsOpened, LeavesOk, LeavesFault, Leaves, Rewrites, RewriteFaults}
 pub use Rattle.nl_session.specs.Grows.{EndsClear, Grew}
 pub use Rattle.nl_session.specs.Headline.{Exchange, update_of, makes_durable, is_crash, is_kept, acknowledged, Holds, NoneClears, MayStand, none, idle, stands, failed, lost, Headline}
-pub use Rattle.nl_session.specs.Machine.{CrashesNow, State, durable_at, Act, Records, Step, Run, AllRecorded, all_of, Opens, reply_of, shown_of, opened, Recompacts, Restats, StepOk, StepFault, MayHaveGained, NoneNegative, pending_at, Syncs, gained, moved_to, IsModeRefusal, OpenFailed, IsFirstNegative}
+pub use Rattle.nl_session.specs.Machine.{CrashesNow, State, durable_at, Act, Records, Step, Run, AllRecorded, all_of, Opens, reply_of, shown_of, opened, Recompacts, Restats, StepOk, StepFault, MayHaveGained, NoneNegative, pending_at, Syncs, gained, moved_to, OpenFailed, IsFirstNegative}
 pub use Rattle.nl_session.specs.Opened.{mended_bytes, living, opened_from, opened_bytes, IsLog, OpenedAs, OpensAs, Reopens, IsLogWith, IsRewritten, IsTextFor, StaysAtRest, IsAtRest, IsTableOf}
 pub use Rattle.nl_session.specs.Parts.{OnlyScratch, filled, SwapFailed, Appended, IsLeft, RewriteFailed, rewritten, filling, repaired, RepairFailed, OpenLeaves, OpenFaults, mended, MendFailed, AnswersAs}
 pub use Rattle.nl_session.specs.Reopening.{Moved, IsCalm, Moves, IsTry, OpenedFrom}
 pub use Rattle.nl_session.specs.Represents.{Represents, Agrees, RepresentsPrefix}
-pub use Rattle.nl_session.specs.Runs.{BeginsAt, HeadlineOn, act_of, faults_of, Ran, HasRisen, HadMemory, RestsThrough, OpensAtLast, TakesMemory}
+pub use Rattle.nl_session.specs.Runs.{BeginsAt, HeadlineOn, act_of, faults_of, Ran, HadMemory, RestsThrough, OpensAtLast, TakesMemory}
 pub use Rattle.nl_session.specs.States.{IsAt, Goes, EdgeDone, EdgeFails, Carries, IsReady, RepresentsState, EdgeGoes}
 pub use Rattle.nl_session.specs.View.{View, view_of}
 pub use Rattle.nl_session.specs.declared.events.Event.{Event}
