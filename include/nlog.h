@@ -1,16 +1,19 @@
 /* nlog.h: Ninja's build log (.ninja_log, versions 4 to 7) for C and C++. docs/LIBRARY.md has an example of each part.
  *
- * Part 1 reads a log that stands in memory, and is proved: what each status means is a clause of crates/nl_c/src/exports.rt.
- * Part 2 writes a log by the program `nlog apply`, which is proved; its own C code, lib/nlog_writer.c, is tested and not proved.
+ * Part 1 reads a log that stands in memory, and part 2 writes one in memory, whose changes the caller carries to a file. Both are proved: what
+ *   each status means is a clause of crates/nl_c/src/exports.rt.
+ * Part 3 writes a log on disk, in the caller's process: it carries part 2's changes to the file. It is C code, lib/nlog_writer.c, which is
+ *   tested and not proved.
  *
  * Status: each call answers one, and no call prints, aborts, sets a signal's handler or has global state.
  *   After any status but NLOG_OK the handle, and each thing that the call would have filled, is as it was, but where a call says more.
  * Pointers: none may be NULL, but one to 0 bytes, an nlog_writer, and what a call says. What a call fills must not overlap anything else
- *   that is passed to it. Nothing that is passed is kept when the call returns, and no pointer into the library is handed out.
- * Memory: from malloc, freed by nlog_free and nlog_writer_close. malloc must align as ISO C says; where it gives none, the call answers
+ *   that is passed to it. Nothing that is passed is kept when the call returns, and no pointer into the library is handed out, but the
+ *   texts of nlog_writer_failed_path and nlog_writer_failed_call.
+ * Memory: from malloc, freed by nlog_free and nlog_writer_free. malloc must align as ISO C says; where it gives none, the call answers
  *   NLOG_OUT_OF_MEMORY.
- * Threads: a handle takes one call at a time, on any thread that is in order with the one before (a lock, or a join), reads included.
- *   Calls on different handles need no order. No call may be made in a signal handler, or in the forked child of a process with threads.
+ * Threads: a handle or a writer takes one call at a time, on any thread that is in order with the one before (a lock, or a join), reads
+ *   included. Calls on different ones need no order. No call may be made in a signal handler, or in the forked child of a process with threads.
  * Units: lengths in bytes; start and end in milliseconds from the start of the build; mtime in the writer's unit (Ninja 1.12: nanoseconds
  *   since 1970; 0 for no file). Names and commands are bytes, of no encoding, and end by their length. */
 #ifndef NLOG_H
@@ -21,7 +24,7 @@
 #include <stdint.h>
 
 /* The version of this header; nlog_version() is that of the library. 1000000 times the first number, 1000 times the second, the third. */
-#define NLOG_VERSION 1000
+#define NLOG_VERSION 2000
 
 /* The longest name of an output. */
 #define NLOG_MAX_NAME 65536
@@ -32,23 +35,20 @@ extern "C" {
 
 typedef enum nlog_status {
   NLOG_OK = 0,
-  NLOG_NO_HANDLE = 1,      /* nothing is loaded, or no writer was opened */
+  NLOG_NO_HANDLE = 1,      /* the handle has no log, or the writer is NULL */
   NLOG_NOT_A_LOG = 2,      /* the bytes are no log */
-  NLOG_OTHER_VERSION = 3,  /* a log of a version that isn't read */
+  NLOG_OTHER_VERSION = 3,  /* a log of a version that isn't read, or that wasn't asked for */
   NLOG_OUT_OF_MEMORY = 4,
   NLOG_NOT_FOUND = 5,      /* no entry of this name, or at this place */
   NLOG_NO_ROOM = 6,        /* the buffer for the name is too short */
-  /* of part 2 alone */
-  NLOG_NOT_OPEN = 7,       /* an open failed, so the log isn't open */
+  /* of parts 2 and 3 */
+  NLOG_NOT_OPEN = 7,
   NLOG_ALREADY_OPEN = 8,
-  NLOG_BROKEN = 9,         /* a write failed before: close, and open again, which repairs */
+  NLOG_BROKEN = 9,         /* a change failed before: close, and open again, which repairs */
   NLOG_NEGATIVE_TIME = 10,
-  NLOG_FAULT = 11,         /* a file couldn't be read, written or synced */
+  NLOG_FAULT = 11,         /* a file couldn't be read, written or synced, or memory ran out within a change */
   NLOG_BAD_NAME = 12,      /* empty, longer than NLOG_MAX_NAME, or with a NUL, a tab or a newline */
-  NLOG_TOO_LONG = 13,      /* the names together are longer than a line may be: 262143 bytes */
-  NLOG_NO_PROGRAM = 14,    /* the program, or a pipe to it, couldn't be made: errno says why */
-  NLOG_PROGRAM_ENDED = 15, /* the program ended, or can't be reached any more: what it hadn't answered may stand or not */
-  NLOG_BAD_ANSWER = 16,    /* the program answered what is no answer: it isn't nlog */
+  NLOG_LOCKED = 13,        /* another process has had the log locked for 10 seconds */
   NLOG_STATUS_MAX = 0x7fffffff
 } nlog_status;
 
@@ -68,10 +68,7 @@ static inline const char *nlog_status_name(nlog_status status) {
     case NLOG_NEGATIVE_TIME: return "NLOG_NEGATIVE_TIME";
     case NLOG_FAULT: return "NLOG_FAULT";
     case NLOG_BAD_NAME: return "NLOG_BAD_NAME";
-    case NLOG_TOO_LONG: return "NLOG_TOO_LONG";
-    case NLOG_NO_PROGRAM: return "NLOG_NO_PROGRAM";
-    case NLOG_PROGRAM_ENDED: return "NLOG_PROGRAM_ENDED";
-    case NLOG_BAD_ANSWER: return "NLOG_BAD_ANSWER";
+    case NLOG_LOCKED: return "NLOG_LOCKED";
     case NLOG_STATUS_MAX: break;
   }
   return "NLOG_?";
@@ -86,7 +83,8 @@ uint32_t nlog_version(void);
 
 /* ---- Part 1: a log in memory ---- */
 
-/* A log, or none. The fields are the library's. A copy is not a second handle: after either was passed to a call, the other is of no use. */
+/* A log that was loaded, or one that is written (part 2), or none. The fields are the library's. A copy is not a second handle: after either
+ * was passed to a call, the other is of no use. */
 typedef struct nlog {
   uint64_t made;
   void *at;
@@ -121,10 +119,10 @@ nlog_status nlog_load(nlog *log, const void *bytes, size_t len);
 /* Frees the log. The handle is then without one, as NLOG_INIT; of such a handle it does nothing. */
 void nlog_free(nlog *log);
 
-/* NLOG_NO_HANDLE where the handle is without a log; so in each call below. */
+/* Of a log that was loaded. NLOG_NO_HANDLE where the handle has none. */
 nlog_status nlog_get_facts(nlog *log, nlog_facts *facts);
 
-/* How many outputs there are. */
+/* How many outputs there are, of a log that was loaded or is open (part 2); so in the two calls below. NLOG_NO_HANDLE where it is neither. */
 nlog_status nlog_count(nlog *log, size_t *count);
 
 /* The last entry of the output at a place, from 0, in the order in which the outputs first appear. Its name is written into the buffer, with
@@ -139,15 +137,88 @@ nlog_status nlog_find(nlog *log, const char *name, size_t len, nlog_entry *entry
 uint64_t nlog_command_hash(const char *command, size_t len);
 uint64_t nlog_command_hash_v7(const char *command, size_t len);
 
-/* ---- Part 2: a log that is written, by the program nlog, for POSIX ---- */
+/* ---- Part 2: a log in memory that is written ---- */
 
-/* A log of version 4 to 7 on disk, which keeps its version (4 is rewritten as 5, a missing or empty one is made 5), and which one program
- * `nlog apply` keeps open. The hash of an entry is the caller's, and must be that of the log's version: nlog_command_hash_v7 where
- * nlog_get_facts of the log's bytes, or `nlog check --log-version auto`, tells 7. Each call sends lines to the program and waits for the
- * answers, and may block as long as the disk does. The program has the log locked from its first call to the close: a second writer, or a
- * command that changes the log, waits, and is refused after 10 seconds as where the folder fails. A signal handler may interrupt any call.
- * SIGPIPE doesn't reach the caller, and the program is the caller's child until the close, which waits for it: so SIGCHLD may come, and a
- * caller must not reap it. Every call answers NLOG_NO_HANDLE where the writer is NULL. */
+/* The library keeps the whole text that the file is to have, and makes no call of the system: the caller carries each change to the file, as
+ * part 3 does, or as it likes. A handle from nlog_new is closed, open, or broken:
+ *
+ *   closed --nlog_open--> open --nlog_record, nlog_recompact, nlog_restat, where memory ran out within the text--> broken
+ *   open or broken --nlog_close--> closed
+ *
+ * Each call of part 2 answers NLOG_NO_HANDLE of a handle that nlog_new didn't make. */
+
+/* A closed log without marks. What the handle held before is freed. NLOG_OUT_OF_MEMORY: the handle is as it was. */
+nlog_status nlog_new(nlog *log);
+
+/* What makes the file the text that nlog_text gives. */
+typedef enum nlog_change {
+  NLOG_KEEP = 0,    /* nothing: the file is the text */
+  NLOG_APPEND = 1,  /* the text begins with the file's bytes, which end within the first line: write the rest behind them */
+  NLOG_CUT = 2,     /* the file begins with the text: cut it to the text's length */
+  NLOG_REPLACE = 3, /* write the text into a new file, sync it, and rename it over the log */
+  NLOG_CHANGE_MAX = 0x7fffffff
+} nlog_change;
+
+/* Opens the log that the bytes are: what a crash cut off is taken away, a missing first line is made, and a log that is due is rewritten,
+ * without what is marked dead; such marks are then used up, and only then. `version`: 5 (which takes 4 too), 6 or 7 is the version that the
+ * log must have, and that one is made of which nothing stands; 0 is that of the bytes, and 5 where there are none. `change`: an nlog_change.
+ * NLOG_ALREADY_OPEN, NLOG_BROKEN, NLOG_NOT_A_LOG, NLOG_OTHER_VERSION, NLOG_OUT_OF_MEMORY: nothing was changed. NLOG_FAULT: memory ran out in
+ * the text. */
+nlog_status nlog_open(nlog *log, const void *bytes, size_t len, uint32_t version, uint32_t *change);
+
+nlog_status nlog_is_open(nlog *log, bool *is_open);
+
+/* Writes the text of the open log from byte `from` on into the buffer, as much as there is room for, and the length of the whole text into
+ * len. NLOG_NOT_OPEN, NLOG_BROKEN. */
+nlog_status nlog_text(nlog *log, uint64_t from, void *bytes, size_t room, uint64_t *len);
+
+/* Adds the entry of an output: the text grows by one line, which the caller appends to the file. NLOG_NOT_OPEN, NLOG_BROKEN, NLOG_BAD_NAME,
+ * NLOG_OUT_OF_MEMORY: nothing was changed. NLOG_FAULT: the log is broken. */
+nlog_status nlog_record(nlog *log, const char *name, size_t len, const nlog_entry *entry);
+
+/* NLOG_OK where the bytes are a name that a log can hold, else NLOG_BAD_NAME. */
+nlog_status nlog_check_name(const char *name, size_t len);
+
+/* NLOG_OK where the log is open: the caller syncs the file. NLOG_NOT_OPEN, NLOG_BROKEN. */
+nlog_status nlog_sync(nlog *log);
+
+/* Writes the text anew, with the last entry of each output but of those that are marked dead; such marks are used up. The caller replaces the
+ * file. NLOG_NOT_OPEN, NLOG_BROKEN, NLOG_OUT_OF_MEMORY: nothing was changed. NLOG_FAULT: the log is broken. */
+nlog_status nlog_recompact(nlog *log);
+
+/* Writes the text anew, and gives each output that is marked with a time this mtime; such marks are used up. The caller replaces the file.
+ * NLOG_NEGATIVE_TIME: nothing was changed, and place is that of the first negative one in the order of the marks; else place is as it was. */
+nlog_status nlog_restat(nlog *log, size_t *place);
+
+/* Closes the log. Marks stay. NLOG_NOT_OPEN where it wasn't open. */
+nlog_status nlog_close(nlog *log);
+
+/* Marks an output as one that the next rewriting leaves out. NLOG_BAD_NAME, NLOG_OUT_OF_MEMORY: nothing was changed. */
+nlog_status nlog_mark_dead(nlog *log, const char *name, size_t len);
+
+/* Marks an output with the mtime that the next nlog_restat gives it; the last mark of a name counts. So refused as nlog_mark_dead. */
+nlog_status nlog_mark_time(nlog *log, const char *name, size_t len, int64_t mtime);
+
+nlog_status nlog_clear_marks(nlog *log);
+
+/* ---- Part 3: a log on disk, for POSIX with flock ---- */
+
+/* A log at a path, which the writer opens, and then keeps open and locked until the close. docs/LIBRARY.md has its states.
+ *
+ * Where a call of the system fails, the call here answers NLOG_FAULT, and the writer is broken: each call that reads or changes the log then
+ * answers NLOG_BROKEN until nlog_writer_close, and the next nlog_writer_open repairs the log. What a failed call was to change may be on disk
+ * in part, in whole or not at all; what an nlog_writer_sync had answered NLOG_OK for stands. nlog_writer_errno says why it failed.
+ *
+ * Lock: flock on the log's file, as each `nlog` that changes a log takes it, and no Ninja does. Where the file system has no locks, there is
+ *   none. A child that is forked while the log is open has the lock too, until it ends or runs another program.
+ * Signals: a call goes on where a signal interrupts it. A process that has a limit on the length of files (RLIMIT_FSIZE) must ignore SIGXFSZ,
+ *   or it is ended by it.
+ * Threads and processes: each call may block as long as the disk does. Descriptors are close-on-exec, and none is a standard stream's.
+ * Files: the scratch of a rewriting is the path with `.recompact` behind it, and may be left there by a failure; the next rewriting takes it
+ *   away. A rewritten log is a new file, with the permissions of one, and stands in the place of a symbolic link where the path is one. A
+ *   relative path is looked up at each use: a caller doesn't change its working folder while the log is open.
+ *
+ * Every call but nlog_writer_new and nlog_writer_free answers NLOG_NO_HANDLE, 0 or NULL where the writer is NULL. */
 typedef struct nlog_writer nlog_writer;
 
 /* A name by its bytes. */
@@ -156,45 +227,72 @@ typedef struct nlog_name {
   size_t len;
 } nlog_name;
 
-/* A name and the mtime that it is to have. */
-typedef struct nlog_time {
-  const char *bytes;
-  size_t len;
-  int64_t mtime;
-} nlog_time;
+/* Makes a closed writer of the log at a path, which is copied. No file is touched. `version`: as in nlog_open.
+ * NLOG_OUT_OF_MEMORY, and NLOG_OTHER_VERSION where the number is none of these: *writer is NULL. */
+nlog_status nlog_writer_new(nlog_writer **writer, const char *path, uint32_t version);
 
-/* Starts the program (a path, or a word that is looked for on PATH), and opens the log: it is repaired where a crash cut it off, rewritten
- * where it is due, made where it is missing, and on disk. Any status but NLOG_OK: there is no writer, *writer is NULL, nothing is left
- * running, and after NLOG_NOT_A_LOG and NLOG_OTHER_VERSION the log is as it was. */
-nlog_status nlog_writer_open(nlog_writer **writer, const char *program, const char *log);
+/* Frees the writer, and closes what is open without a sync. *writer is then NULL; where it is NULL nothing is done. */
+void nlog_writer_free(nlog_writer **writer);
 
-/* Adds the entry of an output. NLOG_OK: a load finds it unless the power fails before the next nlog_writer_sync. */
+/* Opens the log: locks it, for which it waits 10 seconds at most, makes it where it is missing, reads it, repairs it where a crash cut it off,
+ * and rewrites it where it is due, without what is marked dead. NLOG_OK: all of that is on disk. NLOG_ALREADY_OPEN, NLOG_BROKEN: nothing was
+ * done. After any other status the writer is closed, and the log is unlocked; after NLOG_LOCKED, NLOG_NOT_A_LOG, NLOG_OTHER_VERSION and
+ * NLOG_OUT_OF_MEMORY the log is as it was (made empty, where it was missing). Marks of dead names are used up where it was to be rewritten.
+ * Where a sync had failed, the next open of this writer rewrites the log, since a second sync may answer for bytes that the first one lost. */
+nlog_status nlog_writer_open(nlog_writer *writer);
+
+/* Whether an open succeeded that no close followed, and nothing broke the writer since. */
+nlog_status nlog_writer_is_open(nlog_writer *writer, bool *is_open);
+
+/* Whether the last open rewrote the log. NLOG_NOT_OPEN, NLOG_BROKEN. */
+nlog_status nlog_writer_rewrote(nlog_writer *writer, bool *rewrote);
+
+/* The version of the open log: 5, 6 or 7. The hash of each entry must be that of the version: nlog_command_hash_v7 of 7, else
+ * nlog_command_hash. NLOG_NOT_OPEN, NLOG_BROKEN. */
+nlog_status nlog_writer_version(nlog_writer *writer, uint32_t *version);
+
+/* Adds the entry of an output, by one write. NLOG_OK: a load finds it, unless the power fails before the next nlog_writer_sync.
+ * NLOG_NOT_OPEN, NLOG_BROKEN, NLOG_BAD_NAME, NLOG_OUT_OF_MEMORY: nothing was changed. */
 nlog_status nlog_writer_record(nlog_writer *writer, const char *name, size_t len, const nlog_entry *entry);
 
-/* Adds one entry for each name, in order. NLOG_BAD_NAME: none is added. After any other refusal those before the refused one may be. */
+/* Adds one entry for each name, in order, by one write. NLOG_NOT_OPEN, NLOG_BROKEN, NLOG_BAD_NAME: none is added. NLOG_OUT_OF_MEMORY: those of
+ * the first names may be added, and the log stays open. */
 nlog_status nlog_writer_record_edge(nlog_writer *writer, const nlog_name *names, size_t count, const nlog_entry *entry);
 
-/* Whether a record waits for its answer, as it does after the open. Where it doesn't, it answers NLOG_OK once its line is sent, and what it
- * was answered is told by the next call that waits, nlog_writer_sync or another: the first refusal is that call's status, whatever its own. */
-nlog_status nlog_writer_set_waits(nlog_writer *writer, bool waits);
+/* As nlog_count, nlog_at and nlog_find, of the open log with all that was recorded. NLOG_NOT_OPEN, NLOG_BROKEN. */
+nlog_status nlog_writer_count(nlog_writer *writer, size_t *count);
+nlog_status nlog_writer_at(nlog_writer *writer, size_t place, nlog_entry *entry, char *name, size_t room, size_t *name_len);
+nlog_status nlog_writer_find(nlog_writer *writer, const char *name, size_t len, nlog_entry *entry);
 
-/* NLOG_OK: all that was recorded before is on disk, and stands whatever comes. */
+/* NLOG_OK: all that was recorded before is on disk, and stands whatever comes. NLOG_NOT_OPEN, NLOG_BROKEN. */
 nlog_status nlog_writer_sync(nlog_writer *writer);
 
-/* The last entry of an output, with all that was recorded before. */
-nlog_status nlog_writer_get(nlog_writer *writer, const char *name, size_t len, nlog_entry *entry);
+/* Rewrites the log, with the last entry of each output but of those that are marked dead; such marks are used up, also where a file fails.
+ * NLOG_OK: it is on disk. NLOG_NOT_OPEN, NLOG_BROKEN, NLOG_OUT_OF_MEMORY: nothing was changed. */
+nlog_status nlog_writer_recompact(nlog_writer *writer);
 
-/* Writes the log anew, with the entries of these names alone, or with all where there are no names, and syncs it.
- * NLOG_TOO_LONG: nothing was done. */
-nlog_status nlog_writer_recompact(nlog_writer *writer, const nlog_name *names, size_t count);
+/* Rewrites the log, and gives each output that is marked with a time this mtime; such marks are used up, also where a file fails. NLOG_OK: it
+ * is on disk. NLOG_NEGATIVE_TIME: nothing was changed, and place is filled as by nlog_restat. */
+nlog_status nlog_writer_restat(nlog_writer *writer, size_t *place);
 
-/* Sets the mtimes of the entries that are named, and syncs. It is sent in lines of up to 262143 bytes, each of which rewrites the log: after
- * a fault those before may stand. NLOG_BAD_NAME, NLOG_NEGATIVE_TIME: nothing was done. */
-nlog_status nlog_writer_restat(nlog_writer *writer, const nlog_time *times, size_t count);
+/* As nlog_mark_dead, nlog_mark_time and nlog_clear_marks, of an open, a closed or a broken writer. */
+nlog_status nlog_writer_mark_dead(nlog_writer *writer, const char *name, size_t len);
+nlog_status nlog_writer_mark_time(nlog_writer *writer, const char *name, size_t len, int64_t mtime);
+nlog_status nlog_writer_clear_marks(nlog_writer *writer);
 
-/* Syncs what was recorded, closes the log, ends the program and frees the writer, whatever the status. NLOG_OK: all that was recorded is on
- * disk. *writer is then NULL. */
-nlog_status nlog_writer_close(nlog_writer **writer);
+/* Syncs what was recorded, closes the log and unlocks it; whatever the status, the writer is then closed, and can be opened again. NLOG_OK:
+ * all that was recorded is on disk. NLOG_BROKEN: it was broken. NLOG_NOT_OPEN. Marks stay. */
+nlog_status nlog_writer_close(nlog_writer *writer);
+
+/* Of the last call of the system that failed since the last open began: its errno (0: none did), the path that it was about, and its name, as
+ * "fsync" (NULL: none did). After NLOG_LOCKED these are EWOULDBLOCK and "flock". The texts last until the next call on the writer. */
+int nlog_writer_errno(const nlog_writer *writer);
+const char *nlog_writer_failed_path(const nlog_writer *writer);
+const char *nlog_writer_failed_call(const nlog_writer *writer);
+
+/* Reads the file and loads it, as nlog_load; the file isn't locked, and nothing is changed. NLOG_FAULT: it couldn't be read, and *error is the
+ * errno (ENOENT: it is missing); else *error is as it was. */
+nlog_status nlog_load_file(nlog *log, const char *path, int *error);
 
 #ifdef __cplusplus
 }
