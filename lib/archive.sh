@@ -1,10 +1,10 @@
 #!/bin/sh
-# Proves and builds the library for C, and makes TO, an archive of it and of lib/nlog_writer.c.
+# Proves and builds the library for C: an archive, and a shared object beside it, in which no name is global but the library's own.
 set -eu
 
 if [ $# -ne 1 ]; then
     echo "usage: lib/archive.sh TO
-makes TO, as libnlog.a, from crates/nl_c and lib/nlog_writer.c" >&2
+makes TO, as libnlog.a, from crates/nl_c and lib/nlog_writer.c, and libnlog.so.VERSION with its links in the same folder" >&2
     exit 2
 fi
 
@@ -21,9 +21,33 @@ fi
 
 room=$(mktemp -d)
 trap 'rm -rf "$room"' EXIT
+cc=${CC:-cc}
 (cd "$room" && ar x "$top/crates/nl_c/out/libnl_c.a" && ar x "$heap")
-"${CC:-cc}" -std=c11 -Wall -Wextra -O2 -fPIC -I "$top/include" -c "$top/lib/nlog_writer.c" -o "$room/nlog_writer.o"
-rm -f "$room/libnlog.a"
-ar rcs "$room/libnlog.a" "$room"/*.o
-cp "$room/libnlog.a" "$1.new"
-mv -f "$1.new" "$1"
+"$cc" -std=c11 -Wall -Wextra -O2 -fPIC -I "$top/include" -c "$top/lib/nlog_writer.c" -o "$room/nlog_writer.o"
+
+# One object, with the names that the header declares for all, and every other for itself.
+"$cc" -r -nostdlib -o "$room/all.obj" "$room"/*.o
+nm -g --defined-only "$room/all.obj" | awk '$3 ~ /^nlog_/ { print $3 }' | sort > "$room/names"
+objcopy --keep-global-symbols="$room/names" "$room/all.obj" "$room/nlog.obj"
+rm -f "$room"/*.o
+mv "$room/nlog.obj" "$room/nlog.o"
+ar rcs "$room/libnlog.a" "$room/nlog.o"
+
+# The version of the header: 2000 is 0.2.0, whose shared object is libnlog.so.0.
+number=$(sed -n 's/^#define NLOG_VERSION \([0-9]*\)$/\1/p' "$top/include/nlog.h")
+major=$((number / 1000000))
+shared=libnlog.so.$major.$((number / 1000 % 1000)).$((number % 1000))
+"$cc" -shared -Wl,-soname,"libnlog.so.$major" -Wl,--no-undefined -Wl,-z,relro,-z,now -o "$room/$shared" "$room/nlog.o"
+
+# Puts a file in the place of another at once, so that a program that has it open stays whole.
+put() {
+    cp "$1" "$2.new"
+    mv -f "$2.new" "$2"
+}
+put "$room/libnlog.a" "$1"
+folder=$(dirname "$1")
+put "$room/$shared" "$folder/$shared"
+for link in "libnlog.so.$major" libnlog.so; do
+    ln -sf "$shared" "$folder/$link.new"
+    mv -f "$folder/$link.new" "$folder/$link"
+done

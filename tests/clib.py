@@ -4,27 +4,38 @@
     python3 tests/clib.py PROGRAM
 
 It builds tests/clib/driver.c, which calls each function, as C11 and as C++17, without a warning, and under AddressSanitizer; and takes what
-the format says of each log from log_format.py. The writer is tried on PROGRAM, and on programs that answer badly, end, or are killed.
+the format says of each log from log_format.py. tests/clib/tool.c has the commands of the program over the library: so the trials of the
+program's system calls, of writes that are cut, of a full disk, of what a crash leaves, and of `apply` are made of the library too, by the
+same rules. Writers run at once, one beside PROGRAM too, and are killed.
 
-Wants `rt` and `cc`; a C++ compiler, AddressSanitizer, valgrind and ctypes where they are there. Each that is missing is said.
+Wants `rt` and `cc`; a C++ compiler, AddressSanitizer, valgrind, ctypes, strace, rustc, and the right to mount a tmpfs, where they are there.
+Each that is missing is said.
 """
 import ctypes
+import fcntl
+import multiprocessing
 import os
 import random
 import re
 import shutil
 import signal
-import stat
 import subprocess
 import sys
 import threading
 import time
+from concurrent.futures import ThreadPoolExecutor
 
-from log_format import HEADER, MAX_NAME, Log, as_version, command_hash, command_hash_v7, line_of, reading_of
+import apply_calls
+import crash_states
+import full_disk
+import short_writes
+import system_calls
+from crash_rules import Sweep, Worker
+from log_format import HEADER, MAX_NAME, Log, as_version, command_hash, command_hash_v7, line_of, reading_of, text_of
 from trials import main, read, run, write
 
 TOP = os.path.dirname(os.path.dirname(os.path.abspath(__file__)))
-DRIVER = f"{TOP}/tests/clib/driver.c"
+DRIVER, TOOL, RUST = (f"{TOP}/tests/clib/{it}" for it in ("driver.c", "tool.c", "safe.rs"))
 STRICT = ["-Wall", "-Wextra", "-Wpedantic", "-Werror", "-D_POSIX_C_SOURCE=200809L", "-I", f"{TOP}/include"]
 SANITIZED = ["-fsanitize=address,undefined", "-fno-sanitize-recover=all"]
 A, B = b"1\t2\t3\ta\taa\n", b"4\t5\t6\tb\tbb\n"
@@ -32,17 +43,20 @@ STATUS = {"log": "NLOG_OK", "not a ninja log": "NLOG_NOT_A_LOG", "log version no
 
 
 def build(trials, room):
-    """The driver by the names of how it was built, and the shared object."""
+    """The driver by the names of how it was built, the tool, and the shared object."""
     archive, made = f"{room}/libnlog.a", {}
     ran = run([f"{TOP}/lib/archive.sh", archive], stdout=subprocess.PIPE, stderr=subprocess.STDOUT, capture_output=False, timeout=1800)
     if not trials.check("lib/archive.sh makes the archive", ran[0] == 0, (ran[1] or b"")[-800:].decode(errors="replace")):
         return made
+    kit = os.path.dirname(os.path.dirname(os.path.realpath(shutil.which("rt"))))
+    parts = [f"{TOP}/lib/nlog_writer.c", f"{TOP}/crates/nl_c/out/libnl_c.a", f"{kit}/c/liblibc_c.a"]
     ways = [
         ("C11", ["cc", "-std=c11", "-O2", *STRICT, DRIVER, archive]),
         ("C++17", ["c++", "-x", "c++", "-std=c++17", *STRICT, DRIVER, "-x", "none", archive]),
-        ("sanitized", ["cc", "-std=c11", "-g", *SANITIZED, *STRICT, DRIVER, f"{TOP}/lib/nlog_writer.c", archive]),
-        ("refused", ["cc", "-std=c11", "-DREFUSES", "-Wl,--wrap=malloc,--wrap=realloc", *STRICT, DRIVER, archive]),
-        ("shared", ["cc", "-shared", "-Wl,--whole-archive", archive, "-Wl,--no-whole-archive"]),
+        ("sanitized", ["cc", "-std=c11", "-g", *SANITIZED, *STRICT, DRIVER, *parts]),
+        ("refused", ["cc", "-std=c11", "-DREFUSES", "-Wl,--wrap=malloc,--wrap=realloc,--wrap=calloc", *STRICT, DRIVER, archive]),
+        ("tool", ["cc", "-std=c11", "-O2", *STRICT, TOOL, archive]),
+        ("rust", ["rustc", "--edition", "2021", "-D", "warnings", "-L", room, "-l", "static=nlog", RUST]),
     ]
     for name, words in ways:
         if shutil.which(words[0]) is None:
@@ -54,7 +68,26 @@ def build(trials, room):
         ran = run([*words, "-o", f"{room}/{name}"])
         if trials.check(f"the driver is built as {name} without a warning", ran[0] == 0 and not ran[2], ran[2][-800:].decode(errors="replace")):
             made[name] = f"{room}/{name}"
+    made["shared"] = f"{room}/libnlog.so"
     return made
+
+
+def names(trials, room):
+    """The names of the archive and of the shared object: those of the header, and no other."""
+    for path, words in ((f"{room}/libnlog.a", ["-g"]), (f"{room}/libnlog.so", ["-D"])):
+        said = run(["nm", *words, "--defined-only", path])[1].decode()
+        trials.want(f"the names of {os.path.basename(path)}", set(re.findall(r"(?m) [A-Za-z] (\S+)$", said)), declared())
+    links = {it: os.readlink(f"{room}/{it}") for it in ("libnlog.so", "libnlog.so.0")}
+    trials.want("the links of the shared object", links, dict.fromkeys(links, "libnlog.so.0.2.0"))
+    if shutil.which("objdump"):
+        said = run(["objdump", "-p", f"{room}/libnlog.so"])[1].decode()
+        found = re.findall(r"(?m)^ +(SONAME|NEEDED) +(\S+)", said)
+        trials.want("what the shared object is called and needs", found, [("NEEDED", "libc.so.6"), ("SONAME", "libnlog.so.0")])
+
+
+def declared():
+    """The functions that the header declares."""
+    return set(re.findall(r"(?m)^\w[\w *]*?(nlog_\w+)\([^;{]*\);", read(f"{TOP}/include/nlog.h").decode()))
 
 
 def sanitizes(room):
@@ -161,7 +194,7 @@ class Entry(ctypes.Structure):
     _fields_ = [("start_ms", ctypes.c_int32), ("end_ms", ctypes.c_int32), ("mtime", ctypes.c_int64), ("hash", ctypes.c_uint64)]
 
 
-def by_ctypes(trials, made):
+def by_ctypes(trials, made, room):
     """The shared object, as a script in Python has it."""
     if "shared" not in made:
         return
@@ -182,19 +215,32 @@ def by_ctypes(trials, made):
     trials.want("ctypes: a hash", library.nlog_command_hash(b"cc x.c", size(6)), command_hash(b"cc x.c"))
     library.nlog_free(ctypes.byref(log))
     trials.want("ctypes: a handle that was freed", library.nlog_count(ctypes.byref(log), ctypes.byref(count)), 1)
+    # The writer.
+    writer, path = ctypes.c_void_p(), f"{room}/ctypes.log"
+    write(path, HEADER + A)
+    entry = Entry(4, 5, 6, 0xBB)
+    trials.want("ctypes: a writer", library.nlog_writer_new(ctypes.byref(writer), path.encode(), ctypes.c_uint32(0)), 0)
+    trials.want("ctypes: a record before an open", library.nlog_writer_record(writer, b"b", size(1), ctypes.byref(entry)), 7)
+    trials.want("ctypes: an open", library.nlog_writer_open(writer), 0)
+    trials.want("ctypes: a record", library.nlog_writer_record(writer, b"b", size(1), ctypes.byref(entry)), 0)
+    trials.want("ctypes: the count of the writer", (library.nlog_writer_count(writer, ctypes.byref(count)), count.value), (0, 2))
+    trials.want("ctypes: a close", library.nlog_writer_close(writer), 0)
+    library.nlog_writer_free(ctypes.byref(writer))
+    trials.want("ctypes: the writer is gone", writer.value, None)
+    trials.want("ctypes: the log", read(path), HEADER + A + B)
 
 
 def header(trials):
     """That the header has each export and no more, and the numbers of the statuses those of the code."""
     text = read(f"{TOP}/include/nlog.h").decode()
-    exports = read(f"{TOP}/crates/nl_c/src/exports.rt").decode()
-    proved = set(re.findall(r'pub extern "C" fn (\w+)', exports))
-    written = set(re.findall(r"^\w[\w *]*?(nlog_writer_\w+)\(", read(f"{TOP}/lib/nlog_writer.c").decode(), re.M))
-    declared = set(re.findall(r"^\w[\w *]*?(nlog_\w+)\([^;{]*\);", text, re.M))
-    trials.want("the functions that the header declares", declared, proved | written)
+    sources = [read(f"{TOP}/crates/nl_c/src/{it}").decode() for it in sorted(os.listdir(f"{TOP}/crates/nl_c/src"))]
+    proved = {it for source in sources for it in re.findall(r'pub extern "C" fn (\w+)', source)}
+    written = set(re.findall(r"(?m)^\w[\w *]*?(nlog_(?:writer_\w+|load_file))\(", read(f"{TOP}/lib/nlog_writer.c").decode()))
+    trials.want("the functions that the header declares", declared(), proved | written)
     numbers = {name: int(number) for name, number in re.findall(r"NLOG_(\w+) = (\d+),", text)}
     statuses = {name: int(number) for name, number in re.findall(r"const (\w+): u32 = (\d+);", read(f"{TOP}/crates/nl_c/src/status.rt").decode())}
     trials.want("the numbers of the statuses", {name: numbers.get(name) for name in statuses}, statuses)
+    trials.want("those of an nlog_change", [numbers.get(it) for it in ("KEEP", "APPEND", "CUT", "REPLACE")], [0, 1, 2, 3])
     version = int(re.search(r"#define NLOG_VERSION (\d+)", text)[1])
     trials.want("the version", f"{version // 1000000}.{version // 1000 % 1000}.{version % 1000}", re.search(r"\n## (\d+\.\d+\.\d+)", read(f"{TOP}/CHANGELOG.md").decode())[1])
 
@@ -214,176 +260,571 @@ def pages(trials, program, room):
     trials.want("the log that the second makes", read(f"{room}/built.log"), HEADER + line_of(b"a.o", (0, 12, 1000, command_hash(b"cc a.c"))))
 
 
-# ---- The writer ----
+# ---- A log in memory that is written ----
 
 
 def hexed(*names):
     return " ".join(it.hex() or "-" for it in names)
 
 
-def turns(trials, made, program, room):
-    """Lines to the writer, what each is answered, and the log that is left."""
-    long, lined, tabbed = b"n" * MAX_NAME, b"b\n", b"a\t"
-    c, d = b"7\t8\t9\ta\tcc\n", b"-1\t0\t-5\td\tffffffffffffffff\n"
-    cases = [
-        (None, ["open", "close"], ["OK", "OK"], HEADER),
-        (None, [f"record 1 2 3 aa {hexed(b'a')}", "sync", "close"], ["NO_HANDLE"] * 3, None),
-        (None, ["open", f"record 1 2 3 aa {hexed(b'a')}", f"get {hexed(b'a')}", f"get {hexed(b'b')}", "sync", "close", "close"],
-         ["OK", "OK", "OK 1 2 3 aa", "NOT_FOUND", "OK", "OK", "NO_HANDLE"], HEADER + A),
-        (HEADER + A + b"4\t5", ["open", f"edge 4 5 6 bb {hexed(b'b')}", f"record -1 0 -5 ffffffffffffffff {hexed(b'd')}", f"get {hexed(b'd')}", "close"],
-         ["OK", "OK", "OK", "OK -1 0 -5 ffffffffffffffff", "OK"], HEADER + A + B + d),
-        (HEADER, ["open", f"edge 1 2 3 aa {hexed(b'x', b'y', b'z')}", "close"], ["OK"] * 3, HEADER + b"".join(b"1\t2\t3\t%s\taa\n" % it for it in (b"x", b"y", b"z"))),
-        # Names that the protocol can't hold are refused, and nothing of an edge with one is sent.
-        (HEADER, ["open"] + [f"record 1 2 3 aa {hexed(it)}" for it in (b"", b"a\tb", b"a\nb", b"a\0b", long + b"n")]
-         + [f"edge 1 2 3 aa {hexed(b'a', lined)}", f"get {hexed(lined)}", f"recompact {hexed(b'a', b'')}", f"restat 5 {hexed(tabbed)}", "close"],
-         ["OK"] + ["BAD_NAME"] * 9 + ["OK"], HEADER),
-        (HEADER, ["open", f"record 1 2 3 aa {hexed(long)}", f"get {hexed(long)}", "close"], ["OK", "OK", "OK 1 2 3 aa", "OK"], HEADER + b"1\t2\t3\t" + long + b"\taa\n"),
-        (HEADER + A + B, ["open", f"recompact {hexed(b'b')}", f"get {hexed(b'a')}", "close"], ["OK", "OK", "NOT_FOUND", "OK"], HEADER + B),
-        (HEADER + A + B + c, ["open", "recompact", "close"], ["OK"] * 3, HEADER + c + B),
-        # The longest line, and one byte more.
-        (HEADER + A, ["open", *["recompact " + hexed(*[b"%d" % i + long[1:] for i in range(3)], b"w" * more) for more in (65523, 65522)], "close"],
-         ["OK", "TOO_LONG", "OK", "OK"], HEADER),
-        (HEADER + A + B, ["open", f"restat 9 {hexed(b'a')} 8 {hexed(b'none')}", f"restat 1 {hexed(b'a')} -1 {hexed(b'b')}", "restat", "close"],
-         ["OK", "OK", "NEGATIVE_TIME", "OK", "OK"], HEADER + b"1\t2\t9\ta\taa\n" + B),
-        # More than a line may hold.
-        (HEADER + A + B, ["open", f"restat 9 {hexed(b'a')} " + " ".join(f"5 {hexed(b'%d' % i + long[9:])}" for i in range(5)) + f" 7 {hexed(b'b')}", "close"],
-         ["OK"] * 3, HEADER + b"1\t2\t9\ta\taa\n4\t5\t7\tb\tbb\n"),
-        (HEADER + A + B, ["open", *[f"restat 9 {hexed(b'a')} " + " ".join(f"5 {hexed(b'%d' % i + long[9:])}" for i in range(5)) + f" {mtime} {hexed(name)}"
-                                    for mtime, name in ((-1, b"b"), (7, lined))], "close"], ["OK", "NEGATIVE_TIME", "BAD_NAME", "OK"], HEADER + A + B),
-        (b"hello\n", ["open", "sync", "close"], ["NOT_A_LOG", "NO_HANDLE", "NO_HANDLE"], b"hello\n"),
-        (b"# ninja log v8\n" + A, ["open"], ["OTHER_VERSION"], b"# ninja log v8\n" + A),
-        (b"# ninja log v6\n" + A + b"4\t5", ["open", f"record 4 5 6 bb {hexed(b'b')}", "close"], ["OK"] * 3, b"# ninja log v6\n" + A + B),
-        (b"# ninja log v7\n" + A * 101 + B, ["open", f"get {hexed(b'a')}", "close"], ["OK", "OK 1 2 3 aa", "OK"], b"# ninja log v7\n" + A + B),
-        (b"# ninja log v4\n1\t2\t3\ta\tcc\n", ["open", "close"], ["OK", "OK"], HEADER + line_of(b"a", (1, 2, 3, command_hash(b"cc")))),
-        (HEADER + A * 101 + B, ["open", "close"], ["OK", "OK"], HEADER + A + B),
-        # Records that nobody waits for, and a read of one.
-        (HEADER, ["open", "hasty"] + [f"record 1 2 3 aa {hexed(b'a')}"] * 5 + [f"get {hexed(b'a')}", "sync", "waits", f"record 4 5 6 bb {hexed(b'b')}", "close"],
-         ["OK"] * 7 + ["OK 1 2 3 aa"] + ["OK"] * 4, HEADER + A * 5 + B),
-    ]
-    for held, lines, answers, left in cases:
+def asked(driver, how, path, version, lines, **more):
+    """Runs the driver on lines: how it ended, with its answers as words behind `NLOG_`."""
+    ran = run([*driver, how, path, str(version)], input="\n".join(lines).encode() + b"\n", stdin=None, **more)
+    return ran[0], ran[1].decode().replace("NLOG_", "").split("\n")[:-1], ran[2]
+
+
+def opened(text, version):
+    """What an open makes of the bytes, by docs/FORMAT.md: its status, the change and the text, both None where it is refused."""
+    named = {b"# ninja log v6": 6, b"# ninja log v7": 7}.get(text.partition(b"\n")[0], 5)
+    as_asked = as_version(text, version or named)
+    status = STATUS[reading_of(as_asked)]
+    if status != "NLOG_OK" or version in (6, 7) and text.startswith(b"# ninja log v4\n"):
+        return "OTHER_VERSION" if status == "NLOG_OK" else status[5:], None, None
+    log = Log(as_asked)
+    if log.whole == 0:
+        change, whole = "APPEND", HEADER
+    elif log.is_due():
+        change, whole = "REPLACE", text_of(log.table)
+    else:
+        change, whole = "CUT" if log.torn else "KEEP", as_asked[: log.whole]
+    return "OK", change, as_version(whole, version or named)
+
+
+CHANGES = ["KEEP", "APPEND", "CUT", "REPLACE"]
+
+
+def texts(trials, made, room):
+    """Each kind of log, opened in memory as each version: what the open changes, and the text then."""
+    path = f"{room}/text.log"
+    every = [*logs(), ("a due log whose rewriting it begins with", HEADER + A * 101 + b"9\t9"), ("a torn digit of version 7", b"# ninja log v7")]
+    for what, text in every:
+        write(path, text)
+        for version in (0, 5, 6, 7):
+            status, change, whole = opened(text, version)
+            ended, answers, err = asked([made["C11"]], "text", path, version, ["open", "text 0", "count", "open", "close", "text 0", "close"])
+            about = f"{what}, opened as {version}"
+            if status != "OK":
+                left = [f"{status} 9", "NOT_OPEN", "NO_HANDLE 99", f"{status} 9", "NOT_OPEN", "NOT_OPEN", "NOT_OPEN"]
+                trials.want(about, (ended, answers, err), (0, left, b""))
+                continue
+            got = answers[0].split()
+            found = CHANGES[int(got[1])] if got[0] == "OK" and int(got[1]) < 4 else "?"
+            trials.check(f"{about}: the change", found == change or change == "REPLACE" and found == "CUT" and text.startswith(whole), answers[0])
+            count = len(Log(as_version(whole, int(whole[13:14]))).table)
+            left = [f"OK {len(whole)} {whole.hex()}", f"OK {count}", "ALREADY_OPEN 9", "OK", "NOT_OPEN", "NOT_OPEN"]
+            trials.want(about, (ended, answers[1:], err), (0, left, b""))
+        for version in (1, 4, 8, 2**32 - 1):
+            trials.want(f"{what}, asked for as {version}", asked([made["C11"]], "text", path, version, ["open"])[1], ["OTHER_VERSION 9"])
+
+
+# Lines to a log in memory and what each is answered; the text is asked for by `text FROM`.
+NAMES = [b"", b"a\tb", b"a\nb", b"a\0b", b"n" * (MAX_NAME + 1)]
+D = b"-1\t0\t-5\td\tffffffffffffffff\n"
+MEMORY = [
+    (b"", 0, ["is_open", "count", f"record 1 2 3 aa {hexed(b'a')}", "sync", "recompact", "restat", "close", f"dead {hexed(b'a')}", "clear", "open", "is_open"],
+     ["OK 0", "NO_HANDLE 99", "NOT_OPEN", "NOT_OPEN", "NOT_OPEN", "NOT_OPEN 99", "NOT_OPEN", "OK", "OK", "OK 1", "OK 1"]),
+    (HEADER + A, 0, ["open", f"record 4 5 6 bb {hexed(b'b')}", f"text {len(HEADER + A)}", f"record -1 0 -5 ffffffffffffffff {hexed(b'd')}", "sync", "count", f"find {hexed(b'd')}", "at 1",
+                     "at 3", f"text {len(HEADER + A + B)}", "text 1000"],
+     ["OK 0", "OK", f"OK {len(HEADER + A + B)} {B.hex()}", "OK", "OK", "OK 3", "OK -1 0 -5 ffffffffffffffff", "OK 4 5 6 bb 62", "NOT_FOUND",
+      f"OK {len(HEADER + A + B + D)} {D.hex()}", f"OK {len(HEADER + A + B + D)} "]),
+    (HEADER, 0, ["open", *[f"record 1 2 3 aa {hexed(it)}" for it in NAMES], *[f"check {hexed(it)}" for it in [*NAMES, b"n" * MAX_NAME]],
+                 *[f"dead {hexed(it)}" for it in NAMES], *[f"time 5 {hexed(it)}" for it in NAMES], "text 0"],
+     ["OK 0", *["BAD_NAME"] * 10, "OK", *["BAD_NAME"] * 10, f"OK 15 {HEADER.hex()}"]),
+    # Marks of dead names: an open that isn't due keeps them, a recompaction uses them up.
+    (HEADER + A + B, 0, [f"dead {hexed(b'a', b'nothing')}", "open", "text 0", "recompact", "text 15", f"record 1 2 3 aa {hexed(b'a')}", "recompact", "text 15"],
+     ["OK", "OK 0", f"OK {15 + len(A + B)} {(HEADER + A + B).hex()}", "OK", f"OK {15 + len(B)} {B.hex()}", "OK", "OK", f"OK {15 + len(B + A)} {(B + A).hex()}"]),
+    (HEADER + A * 101 + B, 0, [f"dead {hexed(b'a')}", "open", "text 15", f"record 1 2 3 aa {hexed(b'a')}", "recompact", "text 15"],
+     ["OK", "OK 3", f"OK {15 + len(B)} {B.hex()}", "OK", "OK", f"OK {15 + len(B + A)} {(B + A).hex()}"]),
+    (HEADER + A + B, 0, [f"dead {hexed(b'a')}", "clear", "open", "recompact", "text 15", f"dead {hexed(b'a')}", "close", "open", "recompact", "count"],
+     ["OK", "OK", "OK 0", "OK", f"OK {15 + len(A + B)} {(A + B).hex()}", "OK", "OK", "OK 0", "OK", "OK 1"]),
+    # Marks of times: the last of a name counts, a restat uses them up, a recompaction leaves them.
+    (HEADER + A + B, 0, ["open", f"time 8 {hexed(b'a')} 7 {hexed(b'a')} 1 {hexed(b'none')}", "recompact", "text 15", "restat", "text 15", f"record 1 2 3 aa {hexed(b'a')}", "restat", "text 15"],
+     ["OK 0", "OK", "OK", f"OK {15 + len(A + B)} {(A + B).hex()}", "OK", f"OK {15 + len(A + B)} {(b'1	2	7	a	aa' + bytes([10]) + B).hex()}", "OK", "OK",
+      f"OK {15 + len(A + B)} {(A + B).hex()}"]),
+    (HEADER + A, 0, ["open", f"time 8 {hexed(b'b')} 5 {hexed(b'a')} -1 {hexed(b'a')} -2 {hexed(b'c')}", "restat", "text 15", "clear", "restat", "text 15"],
+     ["OK 0", "OK", "NEGATIVE_TIME 2", f"OK {15 + len(A)} {A.hex()}", "OK", "OK", f"OK {15 + len(A)} {A.hex()}"]),
+    (b"# ninja log v7\n" + A, 7, ["open", "recompact", "text 0"], ["OK 0", "OK", f"OK {15 + len(A)} {(b'# ninja log v7' + bytes([10]) + A).hex()}"]),
+    (b"", 6, ["open", f"record 1 2 3 aa {hexed(b'a')}", "text 0"], ["OK 1", "OK", f"OK {15 + len(A)} {(b'# ninja log v6' + bytes([10]) + A).hex()}"]),
+]
+
+
+def memory(trials, made, room):
+    path = f"{room}/memory.log"
+    for held, version, lines, answers in MEMORY:
+        write(path, held)
         for way, driver in drivers(made):
-            log = f"{room}/turns.log"
+            trials.want(f"{way}, in memory: {[it[:30] for it in lines]}", asked(driver, "text", path, version, lines), (0, answers, b""))
+
+
+# ---- A log on disk ----
+
+LONG = b"n" * MAX_NAME
+V7 = b"# ninja log v7\n"
+RECORD = f"record 1 2 3 aa {hexed(b'a')}"
+FIND = f"find {hexed(b'a')}"
+# A log, the version that is asked for, lines to the writer, what each is answered, and the log that is left.
+TURNS = [
+    (None, 0, ["open", "version", "rewrote", "is_open", "close", "is_open"], ["OK", "OK 5", "OK 0", "OK 1", "OK", "OK 0"], HEADER),
+    (None, 7, ["open", "version", "close"], ["OK", "OK 7", "OK"], V7),
+    (None, 6, ["open", RECORD, "close"], ["OK", "OK", "OK"], b"# ninja log v6\n" + A),
+    (None, 4, ["open", "is_open", "close"], ["OTHER_VERSION", "NO_HANDLE", "NO_HANDLE", "NO_HANDLE"], None),
+    (None, 8, ["open"], ["OTHER_VERSION", "NO_HANDLE"], None),
+    (b"", 0, ["open", "close"], ["OK", "OK"], HEADER),
+    (HEADER[:7], 0, ["open", "version", "close"], ["OK", "OK 5", "OK"], HEADER),
+    (V7[:-1], 0, ["open", "version", "close"], ["OK", "OK 7", "OK"], V7),
+    # Before an open, after a close, and twice.
+    (HEADER, 0, [RECORD, f"edge 1 2 3 aa {hexed(b'a')}", "sync", "recompact", "restat", "count", FIND, "at 0", "version", "rewrote", "close", "open", "open", "close", "close", RECORD, "free", "open"],
+     ["NOT_OPEN"] * 11 + ["OK", "ALREADY_OPEN", "OK", "NOT_OPEN", "NOT_OPEN", "OK", "NO_HANDLE"], HEADER),
+    (None, 0, ["open", RECORD, FIND, f"find {hexed(b'b')}", "count", "at 0", "at 1", "sync", "close"],
+     ["OK", "OK", "OK 1 2 3 aa", "NOT_FOUND", "OK 1", "OK 1 2 3 aa 61", "NOT_FOUND", "OK", "OK"], HEADER + A),
+    (HEADER + A + b"4\t5", 0, ["open", f"edge 4 5 6 bb {hexed(b'b')}", f"record -1 0 -5 ffffffffffffffff {hexed(b'd')}", f"find {hexed(b'd')}", "close"],
+     ["OK", "OK", "OK", "OK -1 0 -5 ffffffffffffffff", "OK"], HEADER + A + B + D),
+    (HEADER, 0, ["open", f"edge 1 2 3 aa {hexed(b'x', b'y', b'z')}", "edge 1 2 3 aa", "count", "close"], ["OK", "OK", "OK", "OK 3", "OK"],
+     HEADER + b"".join(b"1\t2\t3\t%s\taa\n" % it for it in (b"x", b"y", b"z"))),
+    # A name that a log can't hold is refused, and no line of its edge is written.
+    (HEADER, 0, ["open", *[f"record 1 2 3 aa {hexed(it)}" for it in NAMES], f"edge 1 2 3 aa {hexed(b'a', NAMES[2])}", f"dead {hexed(b'')}", f"time 5 {hexed(NAMES[1])}", "count", "close"],
+     ["OK", *["BAD_NAME"] * 8, "OK 0", "OK"], HEADER),
+    (HEADER, 0, ["open", f"record -2147483648 -2147483648 -9223372036854775808 ffffffffffffffff {hexed(LONG)}", f"find {hexed(LONG)}", "close"],
+     ["OK", "OK", "OK -2147483648 -2147483648 -9223372036854775808 ffffffffffffffff", "OK"], HEADER + line_of(LONG, (-2**31, -2**31, -2**63, 2**64 - 1))),
+    # An edge that is longer than a block, and a rewriting of more than one.
+    (HEADER, 0, ["open", "edge 1 2 3 aa " + hexed(*[b"%d" % i + LONG[1:] for i in range(6)]), "recompact", RECORD, "close"], ["OK"] * 5,
+     HEADER + b"".join(b"1\t2\t3\t%d%s\taa\n" % (i, LONG[1:]) for i in range(6)) + A),
+    (HEADER + A + B, 0, ["open", f"dead {hexed(b'a')}", "recompact", FIND, "count", RECORD, "recompact", "count", "close"],
+     ["OK", "OK", "OK", "NOT_FOUND", "OK 1", "OK", "OK", "OK 2", "OK"], HEADER + B + A),
+    # Marks before an open of a log that is due, and of one that isn't; marks that are cleared.
+    (HEADER + A * 101 + B, 0, [f"dead {hexed(b'a')}", "open", "rewrote", "count", "close", "open", "rewrote", "close"], ["OK", "OK", "OK 1", "OK 1", "OK", "OK", "OK 0", "OK"], HEADER + B),
+    (HEADER + A + B, 0, [f"dead {hexed(b'a')}", "open", "rewrote", "count", "close"], ["OK", "OK", "OK 0", "OK 2", "OK"], HEADER + A + B),
+    (HEADER + A + B, 0, [f"dead {hexed(b'a')}", "clear", "open", "recompact", "close"], ["OK"] * 5, HEADER + A + B),
+    (HEADER + A + B, 0, ["open", f"time 9 {hexed(b'a')} 8 {hexed(b'none')}", "restat", "restat", "close"], ["OK"] * 5, HEADER + b"1\t2\t9\ta\taa\n" + B),
+    (HEADER + A + B, 0, ["open", f"time 9 {hexed(b'a')} -1 {hexed(b'b')}", "restat", "clear", "restat", "close"], ["OK", "OK", "NEGATIVE_TIME 1", "OK", "OK", "OK"], HEADER + A + B),
+    (b"hello\n", 0, ["open", "sync", "close"], ["NOT_A_LOG", "NOT_OPEN", "NOT_OPEN"], b"hello\n"),
+    (b"# ninja log v8\n" + A, 0, ["open"], ["OTHER_VERSION"], b"# ninja log v8\n" + A),
+    (b"# ninja log v6\n" + A + b"4\t5", 0, ["open", "version", f"record 4 5 6 bb {hexed(b'b')}", "close"], ["OK", "OK 6", "OK", "OK"], b"# ninja log v6\n" + A + B),
+    (V7 + A * 101 + B, 0, ["open", "version", FIND, "rewrote", "close"], ["OK", "OK 7", "OK 1 2 3 aa", "OK 1", "OK"], V7 + A + B),
+    *[(text, version, ["open"], ["OTHER_VERSION"], text) for text, version in ((V7 + A, 5), (V7 + A, 6), (HEADER + A, 7), (b"# ninja log v4\n", 6))],
+    (b"# ninja log v4\n1\t2\t3\ta\tcc\n", 5, ["open", "version", "rewrote", "close"], ["OK", "OK 5", "OK 1", "OK"], HEADER + line_of(b"a", (1, 2, 3, command_hash(b"cc")))),
+    (HEADER + A * 101 + B + b"4\t5", 0, ["open", "rewrote", "close"], ["OK", "OK 1", "OK"], HEADER + A + B),
+    # Many opens and closes of one writer.
+    (HEADER, 0, ["open", RECORD, "close"] * 50, ["OK"] * 150, HEADER + A * 50),
+]
+
+
+def turns(trials, made, room):
+    """Lines to the writer, what each is answered, and the files that are left."""
+    os.mkdir(f"{room}/turns")
+    log = f"{room}/turns/.ninja_log"
+    for held, version, lines, answers, left in TURNS:
+        for way, driver in drivers(made):
+            for it in os.listdir(f"{room}/turns"):
+                os.remove(f"{room}/turns/{it}")
+            write(log, held)
+            what = f"{way}: {[it[:30] for it in lines]} on {held and held[:60]!r}"
+            trials.want(what, asked(driver, "write", log, version, lines), (0, answers, b""))
+            trials.want(f"{what}: the log", read(log), left)
+            trials.want(f"{what}: the files", os.listdir(f"{room}/turns"), [] if left is None else [".ninja_log"])
+    # A name without a folder, one in the folder above, and the mode of the files.
+    for path in (".ninja_log", "./.ninja_log", "../turns/.ninja_log"):
+        for mask in (0o022, 0o077):
+            run(["rm", "-f", log])
+            before = os.umask(mask)
+            try:
+                trials.want(f"a writer of {path}", asked([made["C11"]], "write", path, 0, ["open", RECORD, "close"], cwd=f"{room}/turns")[1], ["OK"] * 3)
+                trials.want(f"the mode of {path}", oct(os.stat(log).st_mode & 0o777), oct(0o666 & ~mask))
+                trials.want(f"a writer of {path}, again", asked([made["C11"]], "write", path, 0, ["open", "recompact", "close"], cwd=f"{room}/turns")[1], ["OK"] * 3)
+                trials.want(f"the mode of {path}, rewritten", oct(os.stat(log).st_mode & 0o777), oct(0o666 & ~mask))
+            finally:
+                os.umask(before)
+            trials.want(f"the log {path}", read(log), HEADER + A)
+    for way, driver in drivers(made):
+        run([*driver, "closed", log, f"{room}/closed.txt"])
+        trials.want(f"{way}: closed streams", read(f"{room}/closed.txt"), b"NLOG_OK NLOG_OK NLOG_OK NLOG_OK NLOG_OK 0 0\n")
+
+
+def failing(trials, made, room):
+    """Files that can't be opened, read or written: the status, the errno, the call and the file."""
+    os.mkdir(f"{room}/failing")
+    log = f"{room}/failing/log"
+    os.mkdir(f"{room}/failing/folder")
+    os.symlink("loop", f"{room}/failing/loop")
+    write(f"{room}/failing/file", b"")
+    rows = [
+        (f"{room}/failing/none/log", ["FAULT ENOENT open log", "NOT_OPEN"], "FAULT ENOENT"),
+        (f"{room}/failing/folder", ["FAULT EISDIR open log", "NOT_OPEN"], "FAULT EISDIR"),
+        (f"{room}/failing/file/log", ["FAULT ENOTDIR open log", "NOT_OPEN"], "FAULT ENOTDIR"),
+        (f"{room}/failing/loop", ["FAULT ELOOP open log", "NOT_OPEN"], "FAULT ELOOP"),
+        (f"{room}/failing/{'n' * 300}", ["FAULT ENAMETOOLONG open log", "NOT_OPEN"], "FAULT ENAMETOOLONG"),
+    ]
+    for path, answers, loaded in rows:
+        for way, driver in drivers(made):
+            trials.want(f"{way}: a writer of {path[-40:]}", asked(driver, "write", path, 0, ["open", RECORD]), (0, answers, b""))
+            trials.want(f"{way}: a load of {path[-40:]}", run([*driver, "load", path]), (0, f"NLOG_{loaded}\n".encode(), b""))
+    for text, said in ((None, "FAULT ENOENT"), (b"", "OK - 0"), (HEADER + A + B + b"4", "OK - 2"), (b"hello\n", "NOT_A_LOG -"), (b"# ninja log v8\n", "OTHER_VERSION -"),
+                       (HEADER + b"".join(line_of(b"%d" % i, (i, i, i, i)) for i in range(50000)), "OK - 50000")):
+        write(log, text)
+        trials.want(f"a load of {text and text[:30]!r}", run([made["C11"], "load", log]), (0, f"NLOG_{said}\n".encode(), b""))
+        trials.want("which leaves the file", read(log), text)
+    # A symbolic link: a record goes to its file, and a rewriting takes its place.
+    write(log, HEADER + A)
+    os.symlink("log", f"{room}/failing/link")
+    trials.want("a writer of a link", asked([made["C11"]], "write", f"{room}/failing/link", 0, ["open", f"record 4 5 6 bb {hexed(b'b')}", "close"])[1], ["OK"] * 3)
+    trials.check("the link stays", os.path.islink(f"{room}/failing/link") and read(log) == HEADER + A + B)
+    trials.want("a rewriting of a link", asked([made["C11"]], "write", f"{room}/failing/link", 0, ["open", f"dead {hexed(b'a')}", "recompact", "close"])[1], ["OK"] * 4)
+    trials.check("it takes its place", not os.path.islink(f"{room}/failing/link") and read(f"{room}/failing/link") == HEADER + B and read(log) == HEADER + A + B)
+    # A scratch that can't be taken away is one that the open log's rewriting meets; the writer is broken until it is closed.
+    os.mkdir(f"{room}/failing/log.recompact")
+    said = asked([made["C11"]], "write", log, 0, ["open", f"dead {hexed(b'a')}", "recompact", RECORD, FIND, "count", "version", "sync", "is_open", "open", "close", "open", "count", "close"])[1]
+    wanted = ["OK", "OK", "FAULT EISDIR unlink scratch", *["BROKEN"] * 5, "OK 0", "BROKEN", "BROKEN", "OK", "OK 2", "OK"]
+    trials.want("a folder in the scratch's place", said, wanted)
+    trials.want("the log then", read(log), HEADER + A + B)
+    os.rmdir(f"{room}/failing/log.recompact")
+    without_rights(trials, made, f"{room}/rights")
+
+
+NOBODY = 65534
+
+
+def without_rights(trials, made, room):
+    """Files that the user may not read or write."""
+
+    def end_rights():
+        if os.geteuid() == 0:
+            os.setgroups([])
+            os.setgid(NOBODY)
+            os.setuid(NOBODY)
+
+    os.mkdir(room)
+    driver, log = shutil.copy(made["C11"], f"{room}/driver"), f"{room}/folder/log"
+    os.chmod(os.path.dirname(room), 0o711)
+    os.chmod(room, 0o711)
+    os.chmod(driver, 0o755)
+    try:
+        run([driver, "misuse"], cwd="/", preexec_fn=end_rights)
+    except subprocess.SubprocessError as error:
+        trials.skip("files that may not be read or written", f"no process without rights can be started ({error})")
+        return
+    rows = [
+        (0o700, 0o400, HEADER + A, ["FAULT EACCES open log", "NOT_OPEN", "NOT_OPEN"]),
+        (0o700, 0o400, b"hello\n", ["NOT_A_LOG", "NOT_OPEN", "NOT_OPEN"]),
+        (0o700, 0o400, b"# ninja log v9\n", ["OTHER_VERSION", "NOT_OPEN", "NOT_OPEN"]),
+        (0o700, 0o200, HEADER + A, ["FAULT EACCES open log", "NOT_OPEN", "NOT_OPEN"]),
+        (0o600, 0o600, HEADER + A, ["FAULT EACCES open log", "NOT_OPEN", "NOT_OPEN"]),
+        (0o500, None, None, ["FAULT EACCES open log", "NOT_OPEN", "NOT_OPEN"]),
+        (0o300, 0o600, HEADER + A, ["FAULT EACCES open folder", "NOT_OPEN", "NOT_OPEN"]),
+        (0o500, 0o600, HEADER + A, ["OK", "FAULT EACCES open scratch", "BROKEN"]),
+        (0o500, 0o600, HEADER + A * 101 + B, ["FAULT EACCES open scratch", "NOT_OPEN", "NOT_OPEN"]),
+    ]
+    for mode, log_mode, text, answers in rows:
+        os.mkdir(f"{room}/folder")
+        write(log, text)
+        for path, its in ((log, log_mode), (f"{room}/folder", mode)):
+            if its is not None:
+                os.chmod(path, its)
+                if os.geteuid() == 0:
+                    os.chown(path, NOBODY, NOBODY)
+        said = asked([driver], "write", log, 0, ["open", "recompact", "close"], cwd="/", preexec_fn=end_rights)
+        trials.want(f"a folder of mode {mode:o}, a log of {log_mode} with {text and text[:30]!r}", said, (0, answers, b""))
+        os.chmod(f"{room}/folder", 0o700)
+        trials.want("the log then", read(log), text)
+        shutil.rmtree(f"{room}/folder")
+
+
+# ---- Memory ----
+
+# Lines of which the last one's memory is refused, on a log, and the tables that may be found then.
+REFUSED = [
+    (HEADER + A, ["open"], []),
+    (HEADER + A * 101 + B + b"4\t5", ["open"], []),
+    (b"# ninja log v4\n1\t2\t3\ta\tcc\n", ["open"], []),
+    (None, ["open"], []),
+    (HEADER, ["open", RECORD], [b"a"]),
+    (HEADER, ["open", "edge 1 2 3 aa " + hexed(*[b"%d" % i + LONG[1:] for i in range(6)])], [b"%d" % i + LONG[1:] for i in range(6)]),
+    (HEADER + A, ["open", f"edge 1 2 3 aa {hexed(*[b'%d' % i for i in range(40)])}"], [b"%d" % i for i in range(40)]),
+    (HEADER + A + B, ["open", f"dead {hexed(b'a')}"], []),
+    (HEADER + A + B, ["open", f"dead {hexed(b'a')}", "recompact"], []),
+    (HEADER + A + B, ["open", f"time 3 {hexed(b'a')}"], []),
+    (HEADER + A + B, ["open", f"time 3 {hexed(b'a')}", "restat"], []),
+    (HEADER + A, ["open", RECORD, "sync"], []),
+]
+
+
+def refusals(trials, made, room):
+    """Memory that is refused at each place of a call: what was there stands, and what is new is a prefix of what was asked for."""
+    if "refused" not in made:
+        return
+    log, count = f"{room}/refused.log", 0
+    for held, lines, new in REFUSED:
+        base = [] if held is None else list(Log(as_version(held, 5)).table)
+        for at in range(200):
             if os.path.exists(log):
                 os.remove(log)
             write(log, held)
-            ran = run([*driver, "write", program, log], input="\n".join(lines).encode() + b"\n", stdin=None)
-            trials.want(f"{way}: {[it[:30] for it in lines]}", ran, (0, "".join(f"NLOG_{it}\n" for it in answers).encode(), b""))
-            trials.want(f"{way}: the log behind {[it[:30] for it in lines]}", read(log), left)
+            ended, out, err = run([made["refused"], "refuse-call", log, str(at), str(len(lines))], input="\n".join(lines).encode() + b"\n", stdin=None)
+            first, second = out.decode().split() if len(out.split()) == 2 else ("?", "?")
+            if first == "NLOG_OK":
+                trials.want(f"{lines[-1][:30]} with all its memory", (ended, second, err), (0, "NLOG_OK", b""))
+                break
+            count += 1
+            what = f"{lines[-1][:30]} on {held and held[:40]!r}, with memory refused at place {at}"
+            broken = "NLOG_OK" if lines[-1] == "open" else "NLOG_BROKEN"
+            trials.check(what, (ended, err) == (0, b"") and (first, second) in (("NLOG_OUT_OF_MEMORY", "NLOG_OK"), ("NLOG_FAULT", broken)), (ended, first, second, err))
+            left = read(log) or b""
+            found = list(Log(left).table)
+            dead = [b"a"] if f"dead {hexed(b'a')}" in lines else []
+            kept = [it for it in base if it not in dead]
+            more = [it for it in found if it not in base]
+            trials.check(f"{what}: the log", [it for it in found if it in kept] == kept and more == new[: len(more)] and (second != "NLOG_OK" or more == new), left[:300])
+        else:
+            trials.check(f"{lines[-1][:30]} is done at last", False)
+    trials.check("memory was refused", count > 20, count)
+    print(f"clib.py: memory was refused at {count} places of calls of the writer")
 
 
-def sent(trials, made, room):
-    """The lines that the program is sent, byte by byte: of each call, and that a close syncs what was recorded."""
-    told = f"{room}/told"
-    teller = script(f"{room}/teller", b'while IFS= read -r line; do printf "%%s\\n" "$line" >> "%s"; echo ok; done\n' % told.encode())
-    asked = [
-        ("open", "open"),
-        (f"record -5 7 -9 0 {hexed(b'a b')}", "record\t-5\t7\t-9\ta b\t0"),
-        (f"edge 1 2 3 ff {hexed(b'x', b'y')}", "record\t1\t2\t3\tx\tff\nrecord\t1\t2\t3\ty\tff"),
-        ("sync", "sync"),
-        ("recompact", "recompact"),
-        (f"recompact {hexed(b'x', b'y')}", "recompact\tx\ty"),
-        (f"restat 0 {hexed(b'x')} 9223372036854775807 {hexed(b'y')}", "restat\t0\tx\t9223372036854775807\ty"),
-        ("restat", "restat"),
-        ("close", "sync\nstop"),
-    ]
-    ran = run([made["C11"], "write", teller, f"{room}/log"], input="\n".join(it for it, _ in asked).encode() + b"\n", stdin=None)
-    trials.want("a program that answers ok", ran, (0, b"NLOG_OK\n" * len(asked), b""))
-    trials.want("the lines that it is sent", read(told), "".join(f"{line}\n" for _, line in asked).encode())
+# ---- Locks, and processes at once ----
 
 
-def script(path, text):
-    write(path, b"#!/bin/sh\n" + text)
-    os.chmod(path, os.stat(path).st_mode | stat.S_IXUSR)
-    return path
+def locks(trials, made, program, room):
+    """A log that another has locked: it is waited for, 10 seconds at most; and the file is the one that the name shows then."""
+    os.mkdir(f"{room}/locks")
+    log, lines = f"{room}/locks/log", ["open", RECORD, "close"]
+    write(log, HEADER + B)
+    with open(log, "rb") as held:
+        fcntl.flock(held, fcntl.LOCK_EX)
+        begun = time.monotonic()
+        trials.want("a log that stays locked", asked([made["C11"]], "write", log, 0, lines)[1], ["LOCKED EWOULDBLOCK flock log", "NOT_OPEN", "NOT_OPEN"])
+        trials.check("it waits for 10 seconds", 9.9 < time.monotonic() - begun < 20, time.monotonic() - begun)
+        trials.want("the log stays", read(log), HEADER + B)
+        for is_replaced in (False, True):
+            fcntl.flock(held, fcntl.LOCK_EX)
+            waiting = subprocess.Popen([made["C11"], "write", log, "0"], stdin=subprocess.PIPE, stdout=subprocess.PIPE)
+            waiting.stdin.write("\n".join(lines).encode() + b"\n")
+            waiting.stdin.flush()
+            time.sleep(0.3)
+            trials.want("it waits", waiting.poll(), None)
+            if is_replaced:
+                write(f"{log}.new", HEADER + D)
+                os.rename(f"{log}.new", log)
+            fcntl.flock(held, fcntl.LOCK_UN)
+            trials.want("and goes on", waiting.communicate(timeout=60)[0], b"NLOG_OK\n" * 3)
+            trials.want(f"the log that is {'there now' if is_replaced else 'let go of'}", read(log), HEADER + (D if is_replaced else B) + A)
+    # The log stays locked over rewritings, and until the close.
+    first = subprocess.Popen([made["C11"], "write", log, "0"], stdin=subprocess.PIPE, stdout=subprocess.PIPE)
+    for line in ("open", "recompact", RECORD, "recompact"):
+        first.stdin.write(line.encode() + b"\n")
+        first.stdin.flush()
+        trials.want(f"the first's {line}", first.stdout.readline(), b"NLOG_OK\n")
+        with open(log, "rb") as held:
+            try:
+                fcntl.flock(held, fcntl.LOCK_EX | fcntl.LOCK_NB)
+                is_locked = False
+            except BlockingIOError:
+                is_locked = True
+        trials.check(f"the log is locked behind {line}", is_locked)
+    second = subprocess.Popen([program, "record", log, "4", "5", "6", "beside", "cc"])
+    time.sleep(0.3)
+    trials.want("nlog record waits", second.poll(), None)
+    first.communicate(b"record 4 5 6 bb " + hexed(b"b").encode() + b"\nclose\n", timeout=60)
+    trials.want("and ends", second.wait(60), 0)
+    trials.want("both stand", set(Log(read(log)).table), {b"d", b"a", b"b", b"beside"})
 
 
-def bad_programs(trials, made, program, room):
-    """Programs that are missing, that end, and that answer what nlog answers on a bad disk, or what it never answers."""
-    log, record = f"{room}/bad.log", f"record 1 2 3 aa {hexed(b'a')}"
-    faulty = b"while read -r line; do case $line in open) echo ok;; record*) echo 'S8 Fault';; *) echo 'S3 Broken';; esac; done\n"
-    cases = [
-        (f"{room}/missing", ["open", "sync"], ["NO_PROGRAM ENOENT", "NO_HANDLE"]),
-        (script(f"{room}/ends", b"exit 0\n"), ["open"], ["PROGRAM_ENDED"]),
-        (script(f"{room}/echoes", b"exec cat\n"), ["open"], ["BAD_ANSWER"]),
-        (script(f"{room}/none", b"echo none; exec cat > /dev/null\n"), ["open"], ["BAD_ANSWER"]),
-        (script(f"{room}/faulty", faulty), ["open", record, record, "sync", "close"], ["OK", "FAULT", "FAULT", "BROKEN", "BROKEN"]),
-        # The first refusal of records that nobody waited for is told once, by what waits next.
-        (script(f"{room}/hasty", faulty), ["open", "hasty", record, record, "sync", "sync", "close"], ["OK", "OK", "OK", "OK", "FAULT", "BROKEN", "BROKEN"]),
-        (script(f"{room}/mute", b"read -r line; echo ok; read -r line; exit 0\n"), ["open", record, record, "close"], ["OK"] + ["PROGRAM_ENDED"] * 3),
-        (script(f"{room}/fails", b"while read -r line; do echo ok; done; exit 1\n"), ["open", record, "close"], ["OK", "OK", "PROGRAM_ENDED"]),
-        (script(f"{room}/long", b"read -r line; echo ok; head -c 300000 /dev/zero | tr '\\0' x; exec cat > /dev/null\n"), ["open", "sync"], ["OK", "BAD_ANSWER"]),
-        # Another name's entry, and numbers in other spellings, are no answers to a get.
-        *[(script(f"{room}/entry{i}", b"read -r line; echo ok; read -r line; printf '%%b\\n' '%s'; exec cat > /dev/null\n" % it), ["open", f"get {hexed(b'a')}"], ["OK", "BAD_ANSWER"])
-          for i, it in enumerate([b"1\\t2\\t3\\tb\\taa", b"1\\t2\\t3\\ta\\tAA", b"1\\t2\\t3\\ta", b"2147483648\\t2\\t3\\ta\\taa", b"1\\t2\\t9223372036854775808\\ta\\taa",
-                                  b"1\\t2\\t3\\ta\\t10000000000000000", b"-0\\t2\\t3\\ta\\taa", b"ok"])],
-    ]
-    for path, lines, answers in cases:
-        for way, driver in drivers(made):
-            ran = run([*driver, "write", path, log], input="\n".join(lines).encode() + b"\n", stdin=None)
-            trials.want(f"{way}: {os.path.basename(path)}", ran, (0, "".join(f"NLOG_{it}\n" for it in answers).encode(), b""))
-    for way, driver in drivers(made):
-        for blocked in (False, True):
-            before = lambda: signal.pthread_sigmask(signal.SIG_BLOCK, [signal.SIGPIPE]) if blocked else None
-            run([*driver, "closed", program, f"{room}/closed.log", f"{room}/closed.txt"], preexec_fn=before)
-            wanted = b"NLOG_OK NLOG_OK NLOG_OK 0 1 %d 0\n" % blocked
-            trials.want(f"{way}: closed streams, SIGPIPE {'blocked' if blocked else 'as it is'}", read(f"{room}/closed.txt"), wanted)
+def at_once(trials, made, program, room):
+    """Writers at once, each of which opens the log, records and closes again and again, with records and rewritings of the program beside."""
+    os.mkdir(f"{room}/once")
+    log, count = f"{room}/once/log", 40
+
+    def ours(number):
+        name = [hexed(b"ours%d-%d" % (number, i)) for i in range(count)]
+        lines = [it for i in range(count) for it in ("open", f"record 1 2 3 aa {name[i]}", *(["recompact"] if i % 7 == number else []), "close")]
+        ended, answers, _ = asked([made["C11"]], "write", log, 0, lines)
+        return ended == 0 and set(answers) == {"OK"}
+
+    def theirs(number):
+        words = [["record", log, "1", "2", "3", f"theirs{number}-{i}", "cc"] if i % 5 else ["repair", log] for i in range(count)]
+        return all(run([program, *it])[0] == 0 for it in words)
+
+    with ThreadPoolExecutor(6) as pool:
+        ended = list(pool.map(lambda one: one[0](one[1]), [(ours, 0), (ours, 1), (ours, 2), (theirs, 0), (theirs, 1)]))
+    trials.want("each of those at once ends well", ended, [True] * 5)
+    wanted = {b"ours%d-%d" % (n, i) for n in range(3) for i in range(count)} | {b"theirs%d-%d" % (n, i) for n in range(2) for i in range(count) if i % 5}
+    trials.want("and all that was recorded stands", set(Log(read(log)).table), wanted)
 
 
-def killed(trials, made, program, room):
-    """A program that is killed at some moment: all that a sync acknowledged is in the log, and the writer goes on from there."""
+def killed(trials, made, room):
+    """A process that is killed at some moment: all that a sync acknowledged is in the log, and the next one goes on from there."""
     chance = random.Random(11)
-    pid = f"{room}/pid"
-    traced = script(f"{room}/traced", b'echo $$ > "%s"; exec "%s" "$@"\n' % (pid.encode(), program.encode()))
     for turn in range(12):
-        log, waits = f"{room}/killed{turn}.log", "waits" if turn % 2 else "hasty"
-        if os.path.exists(pid):
-            os.remove(pid)
-        driver = subprocess.Popen([made["C11"], "many", traced, log, "1000000", waits, "16"], stdout=subprocess.PIPE)
-        wanted, stood, said = chance.randrange(1, 60), 0, b""
+        log, wanted, stood = f"{room}/killed{turn}.log", chance.randrange(1, 60), 0
+        driver = subprocess.Popen([made["C11"], "many", log, "100000000", "16"], stdout=subprocess.PIPE)
         for line in driver.stdout:
-            said = line
-            if line.strip().isdigit():
-                stood = int(line)
-                if stood == wanted * 16:
-                    threading.Timer(chance.random() * 0.01, os.kill, (int(read(pid)), signal.SIGKILL)).start()
-        trials.want(f"turn {turn}: the driver lives, and says so", (driver.wait(), said), (0, b"NLOG_PROGRAM_ENDED\n"))
+            stood = int(line) if line.strip().isdigit() else stood
+            if stood == wanted * 16:
+                threading.Timer(chance.random() * 0.01, os.kill, (driver.pid, signal.SIGKILL)).start()
+        trials.want(f"turn {turn}: it was killed", driver.wait(), -signal.SIGKILL)
         found = Log(read(log)).table
-        trials.check(f"turn {turn}: all that was acknowledged is there", len(found) >= stood, f"{len(found)} of {stood}")
+        trials.check(f"turn {turn}: all that was acknowledged is there", len(found) >= stood >= wanted * 16, f"{len(found)} of {stood}")
         trials.check(f"turn {turn}: each entry is one that was recorded", all(found[b"out%d" % i] == (i, i + 5, 1000 + i, i + 1) for i in range(len(found))))
-        ran = run([made["C11"], "write", program, log], input=b"open\nget %s\nclose\n" % hexed(b"out%d" % (stood - 1)).encode(), stdin=None)
-        trials.want(f"turn {turn}: the next writer goes on", ran[1], b"NLOG_OK\nNLOG_OK %d %d %d %x\nNLOG_OK\n" % (stood - 1, stood + 4, stood + 999, stood))
+        said = asked([made["C11"]], "write", log, 0, ["open", f"find {hexed(b'out%d' % (stood - 1))}", "close"])[1]
+        trials.want(f"turn {turn}: the next writer goes on", said, ["OK", f"OK {stood - 1} {stood + 4} {stood + 999} {stood:x}", "OK"])
 
 
-def hasty(trials, made, program, room):
-    """Many records that nobody waits for: more answers than a pipe holds, and fewer writes than answers that are waited for."""
-    for waits, count in (("hasty", 200_000), ("waits", 2_000)):
-        log, begun = f"{room}/{waits}.log", time.monotonic()
-        ran = run([made["C11"], "many", program, log, str(count), waits, "0"])
-        trials.want(f"{count} records, {waits}", ran, (0, b"%d\nNLOG_OK\n" % count, b""))
-        wanted = HEADER + b"".join(line_of(b"out%d" % i, (i, i + 5, 1000 + i, i + 1)) for i in range(count))
-        trials.check(f"{count} records, {waits}: the log", read(log) == wanted)
-        print(f"clib.py: {waits}: {(time.monotonic() - begun) / count * 1e6:.1f} microseconds a record")
+# ---- Calls of the system that fail ----
+
+
+def may_trace(trials, room):
+    if shutil.which("strace") is None:
+        trials.skip("calls of the system that fail, and what a crash leaves", "strace isn't there")
+        return False
+    if run(["strace", "-o", f"{room}/TRACE", "-e", "inject=write:error=EIO", "true"])[0] != 0:
+        trials.skip("calls of the system that fail, and what a crash leaves", "strace may not trace here")
+        return False
+    return True
+
+
+def syncs_that_fail(trials, made, room):
+    """A sync that fails, of the folder, of the log or of a scratch: nothing is acknowledged, the writer is broken, and no later sync of that
+    file counts: the next open writes a new one."""
+    log, lines = f"{room}/sync/log", ["open", RECORD, "sync", RECORD, FIND, "close", "open", "rewrote", FIND, "close", "open", "rewrote", "close"]
+    # The syncs of the first open are the first two.
+    for nth, why in ((3, "folder"), (4, "log")):
+        shutil.rmtree(f"{room}/sync", ignore_errors=True)
+        os.mkdir(f"{room}/sync")
+        write(log, HEADER + B)
+        driver = ["strace", "-y", "-o", f"{room}/TRACE", "-e", f"inject=fsync:error=EIO:when={nth}", made["C11"]]
+        wanted = ["OK", "OK", f"FAULT EIO fsync {why}", "BROKEN", "BROKEN", "BROKEN", "OK", "OK 1", "OK 1 2 3 aa", "OK", "OK", "OK 0", "OK"]
+        trials.want(f"a sync of the {why} that fails", asked(driver, "write", log, 0, lines)[1], wanted)
+        trials.want("the log then", read(log), HEADER + B + A)
+        calls = re.findall(r"(?m)^(fsync|rename)\((?:\d+<([^>]*)>)?", read(f"{room}/TRACE").decode())
+        names = [f"{call} {os.path.basename(path)}".strip() for call, path in calls]
+        trials.want("its syncs", names, ["fsync sync", "fsync log", *["fsync sync", "fsync log"][: nth - 2], "fsync log.recompact", "rename", *["fsync sync", "fsync log"] * 2])
+    # In an open: the writer is closed, and the next open makes a new file.
+    for nth, why in ((1, "folder"), (2, "log")):
+        write(log, HEADER + B + b"4\t5")
+        driver = ["strace", "-o", f"{room}/TRACE", "-e", f"inject=fsync:error=EIO:when={nth}", made["C11"]]
+        wanted = [f"FAULT EIO fsync {why}", "OK 0", "OK", "OK 1", "OK"]
+        trials.want(f"a sync of the {why} that fails in an open", asked(driver, "write", log, 0, ["open", "is_open", "open", "rewrote", "close"])[1], wanted)
+        trials.want("the log then", read(log), HEADER + B)
+    # Of a scratch: the log is as it was, and its own syncs count.
+    write(log, HEADER + B)
+    driver = ["strace", "-o", f"{room}/TRACE", "-e", "inject=fsync:error=EIO:when=3", made["C11"]]
+    said = asked(driver, "write", log, 0, ["open", "recompact", "close", "open", "rewrote", "close"])[1]
+    trials.want("a sync of a scratch that fails", said, ["OK", "FAULT EIO fsync scratch", "BROKEN", "OK", "OK 0", "OK"])
+
+
+def signals(trials, made, room):
+    """A wait for a lock that signals interrupt takes no less time."""
+    log = f"{room}/signals.log"
+    write(log, HEADER)
+    with open(log, "rb") as held:
+        fcntl.flock(held, fcntl.LOCK_EX)
+        begun = time.monotonic()
+        driver = ["strace", "-o", f"{room}/TRACE", "-e", "trace=flock", "-e", "inject=flock:error=EINTR:when=2+3", made["C11"]]
+        said = asked(driver, "write", log, 0, ["open"])[1]
+        trials.want("flocks that are interrupted", said, ["LOCKED EWOULDBLOCK flock log"])
+        trials.check("10 seconds pass all the same", 9.9 < time.monotonic() - begun < 25, time.monotonic() - begun)
+
+
+def by_the_rules_of_the_program(trials, made, room):
+    """The trials of the program's system calls, of writes that are cut, of a full disk, of `apply`, and of what a crash may leave, on the tool."""
+    if "tool" not in made:
+        return
+    passed = {}
+
+    def part(name, work):
+        before, trials.about = trials.passed + trials.failed, f"the tool, {name}: "
+        os.mkdir(f"{room}/{name}")
+        work(f"{room}/{name}")
+        trials.about = ""
+        passed[name] = trials.passed + trials.failed - before
+
+    def calls(folder):
+        with ThreadPoolExecutor(os.cpu_count()) as pool:
+            for number, case in enumerate(system_calls.CASES):
+                system_calls.sweep(trials, made["tool"], case, f"{folder}/{number}", pool, False)
+
+    def applied(folder):
+        with ThreadPoolExecutor(os.cpu_count()) as pool:
+            for number, (name, (text, version)) in enumerate(apply_calls.KINDS.items()):
+                apply_calls.sweep(trials, made["tool"], apply_calls.Kind(name, text, version), f"{folder}/{number}", pool)
+
+    def crashes(folder):
+        with multiprocessing.Pool(os.cpu_count(), Worker.begin, (made["tool"], folder)) as pool:
+            sweep = Sweep(trials, pool)
+            print(f"clib.py: {crash_states.sweep_all(sweep, 100, 500)}")
+            sweep.end()
+
+    def full(folder):
+        why = full_disk.mount(f"{folder}/disk")
+        if why is not None:
+            trials.skip("a full disk", f"no tmpfs may be mounted here ({why})")
+            return
+        try:
+            for command in full_disk.CHANGES:
+                for end in full_disk.ENDS:
+                    full_disk.try_full(trials, made["tool"], f"{folder}/disk", command, end)
+            for kind, start in full_disk.REPAIRS.items():
+                full_disk.try_repair(trials, made["tool"], f"{folder}/disk", kind, start)
+        finally:
+            run(["umount", f"{folder}/disk"])
+
+    part("short writes", lambda folder: short_writes.trial(trials, made["tool"], folder))
+    part("full disk", full)
+    if may_trace(trials, room):
+        part("system calls", calls)
+        part("apply", applied)
+        part("crashes", crashes)
+    print(f"clib.py: of the tool: {', '.join(f'{count} on {name}' for name, count in passed.items())}")
+
+
+# ---- Other languages, and time ----
+
+
+def by_rust(trials, made, room):
+    if "rust" not in made:
+        return
+    write(f"{room}/rust.log", HEADER + A + b"4\t5")
+    trials.want("a program in Rust", run([made["rust"], f"{room}/rust.log"]), (0, b"a 3\nout.o 7\nnot a ninja log\n", b""))
+    trials.want("the log then", read(f"{room}/rust.log"), HEADER + A + line_of(b"out.o", (1, 2, 7, command_hash(b"cc"))))
+
+
+def records(trials, made, room):
+    """The time of a record beside that of fprintf and fflush of the same line."""
+    count = 100_000
+    write(f"{room}/plain.log", HEADER)
+    status, out, _ = run([made["C11"], "time", f"{room}/ours.log", f"{room}/plain.log", str(count)])
+    ours, theirs = (int(it) for it in out.split()) if status == 0 else (0, 1)
+    trials.want("as many lines", status == 0 and read(f"{room}/ours.log").count(b"\n"), count + 1)
+    print(f"clib.py: a record takes {ours} ns, fprintf and fflush of the line {theirs} ns: {ours / theirs:.2f} times as long")
 
 
 def trial(trials, program, room):
     header(trials)
-    for word in ("rt", "cc", "ar"):
+    for word in ("rt", "cc", "ar", "nm", "objcopy"):
         if shutil.which(word) is None:
             trials.skip("all but the header", f"{word} isn't there")
             return
     made = build(trials, room)
     if "C11" not in made:
         return
+    names(trials, room)
     reads(trials, made, room)
     hashes(trials, made, room)
     misuse(trials, made, room)
-    by_ctypes(trials, made)
+    by_ctypes(trials, made, room)
     pages(trials, program, room)
-    turns(trials, made, program, room)
-    sent(trials, made, room)
-    bad_programs(trials, made, program, room)
-    killed(trials, made, program, room)
-    hasty(trials, made, program, room)
+    texts(trials, made, room)
+    memory(trials, made, room)
+    turns(trials, made, room)
+    failing(trials, made, room)
+    refusals(trials, made, room)
+    locks(trials, made, program, room)
+    at_once(trials, made, program, room)
+    killed(trials, made, room)
+    if may_trace(trials, room):
+        syncs_that_fail(trials, made, room)
+        signals(trials, made, room)
+    by_the_rules_of_the_program(trials, made, room)
+    by_rust(trials, made, room)
+    records(trials, made, room)
 
 
 if __name__ == "__main__":

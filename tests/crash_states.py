@@ -148,18 +148,18 @@ def is_of_version_7(command, kind, scratch):
     return "version 4" not in kind and (not command.startswith("repair") or (KINDS[kind] or b"").startswith(HEADER))
 
 
-def sweep_all(sweep):
-    """All of it; gives what was done."""
+def sweep_all(sweep, recoveries=RECOVERIES, recovered=RECOVERED):
+    """All of it; gives what was done. `clib.py` tries it of the library."""
     first, later, count, moments = {}, {}, 0, 0
     of_version_7 = [it for it in itertools.product(CHANGES_V7, KINDS, SCRATCHES) if is_of_version_7(*it)]
     for states, more, at in sweep.over(explore, [*itertools.product(CHANGES, KINDS, SCRATCHES), *of_version_7]):
         first.update(dict.fromkeys(states))
         count, moments = count + more, moments + at
-    begun = sample(list(first), RECOVERIES)
+    begun = sample(list(first), recoveries)
     for states, more, at in sweep.over(recover, in_parts(begun, 8)):
         later.update(dict.fromkeys(it for it in states if it not in first))
         count, moments = count + more, moments + at
-    tried = [*first, *sample(list(later), RECOVERED)]
+    tried = [*first, *sample(list(later), recovered)]
     sweep.try_again(tried)
     return (
         f"{count} states at {moments} moments, {len(first) + len(later)} of them different, {len(tried)} given to the program, "

@@ -4,11 +4,10 @@
 
 #include <errno.h>
 #include <inttypes.h>
-#include <signal.h>
 #include <stdio.h>
 #include <stdlib.h>
 #include <string.h>
-#include <sys/wait.h>
+#include <time.h>
 #include <unistd.h>
 
 #ifdef REFUSES
@@ -20,9 +19,12 @@ void *__real_malloc(size_t size);
 void *__wrap_malloc(size_t size);
 void *__real_realloc(void *block, size_t size);
 void *__wrap_realloc(void *block, size_t size);
+void *__real_calloc(size_t count, size_t size);
+void *__wrap_calloc(size_t count, size_t size);
 static long left = -1;
 void *__wrap_malloc(size_t size) { return left >= 0 && left-- == 0 ? NULL : __real_malloc(size); }
 void *__wrap_realloc(void *block, size_t size) { return left >= 0 && left-- == 0 ? NULL : __real_realloc(block, size); }
+void *__wrap_calloc(size_t count, size_t size) { return left >= 0 && left-- == 0 ? NULL : __real_calloc(count, size); }
 #ifdef __cplusplus
 }
 #endif
@@ -110,6 +112,47 @@ static void without_a_log(nlog *log) {
   WANT(count == 77 && name_len == 88 && memcmp(name, "abcd", 4) == 0);
 }
 
+/* Each call of part 2 on a handle that nlog_new didn't make, and of part 3 without a writer. */
+static void without_a_written_log(nlog *log) {
+  nlog_entry entry = {1, 2, 3, 4};
+  uint32_t number = 66;
+  uint64_t len = 77;
+  size_t place = 88;
+  bool is = true;
+  char bytes[4] = {'a', 'b', 'c', 'd'};
+  WANT(nlog_open(log, "", 0, 0, &number) == NLOG_NO_HANDLE);
+  WANT(nlog_is_open(log, &is) == NLOG_NO_HANDLE);
+  WANT(nlog_text(log, 0, bytes, sizeof bytes, &len) == NLOG_NO_HANDLE);
+  WANT(nlog_record(log, "a", 1, &entry) == NLOG_NO_HANDLE);
+  WANT(nlog_sync(log) == NLOG_NO_HANDLE && nlog_recompact(log) == NLOG_NO_HANDLE && nlog_restat(log, &place) == NLOG_NO_HANDLE);
+  WANT(nlog_mark_dead(log, "a", 1) == NLOG_NO_HANDLE && nlog_mark_time(log, "a", 1, 5) == NLOG_NO_HANDLE && nlog_clear_marks(log) == NLOG_NO_HANDLE);
+  WANT(nlog_close(log) == NLOG_NO_HANDLE);
+  WANT(number == 66 && is && len == 77 && place == 88 && memcmp(bytes, "abcd", 4) == 0);
+}
+
+static void without_a_writer(void) {
+  nlog_entry entry = {1, 2, 3, 4};
+  nlog_name name = {"a", 1};
+  nlog_writer *none = NULL;
+  uint32_t number = 66;
+  size_t count = 77, name_len = 88;
+  bool is = true;
+  char bytes[4] = {'a', 'b', 'c', 'd'};
+  WANT(nlog_writer_open(none) == NLOG_NO_HANDLE && nlog_writer_close(none) == NLOG_NO_HANDLE && nlog_writer_sync(none) == NLOG_NO_HANDLE);
+  WANT(nlog_writer_is_open(none, &is) == NLOG_NO_HANDLE && nlog_writer_rewrote(none, &is) == NLOG_NO_HANDLE && is);
+  WANT(nlog_writer_version(none, &number) == NLOG_NO_HANDLE && number == 66);
+  WANT(nlog_writer_record(none, "a", 1, &entry) == NLOG_NO_HANDLE && nlog_writer_record_edge(none, &name, 1, &entry) == NLOG_NO_HANDLE);
+  WANT(nlog_writer_count(none, &count) == NLOG_NO_HANDLE && nlog_writer_find(none, "a", 1, &entry) == NLOG_NO_HANDLE);
+  WANT(nlog_writer_at(none, 0, &entry, bytes, sizeof bytes, &name_len) == NLOG_NO_HANDLE);
+  WANT(count == 77 && name_len == 88 && entry.hash == 4 && memcmp(bytes, "abcd", 4) == 0);
+  WANT(nlog_writer_recompact(none) == NLOG_NO_HANDLE && nlog_writer_restat(none, &count) == NLOG_NO_HANDLE && count == 77);
+  WANT(nlog_writer_mark_dead(none, "a", 1) == NLOG_NO_HANDLE && nlog_writer_mark_time(none, "a", 1, 5) == NLOG_NO_HANDLE);
+  WANT(nlog_writer_clear_marks(none) == NLOG_NO_HANDLE);
+  WANT(nlog_writer_errno(none) == 0 && nlog_writer_failed_path(none) == NULL && nlog_writer_failed_call(none) == NULL);
+  nlog_writer_free(&none);
+  WANT(none == NULL);
+}
+
 static void misuse(void) {
   nlog log = NLOG_INIT, zeros;
   nlog_entry entry, before;
@@ -118,11 +161,20 @@ static void misuse(void) {
   char name[8], text[64];
   memset(&zeros, 0, sizeof zeros);
   without_a_log(&zeros);
+  without_a_written_log(&zeros);
+  without_a_writer();
   nlog_free(&zeros);
   nlog_free(&zeros);
   without_a_log(&log);
   /* A load that is refused leaves a handle without a log so. */
   WANT(nlog_load(&log, "hello\n", 6) == NLOG_NOT_A_LOG);
+  without_a_log(&log);
+  WANT(nlog_load(&log, GOOD, sizeof GOOD - 1) == NLOG_OK);
+  WANT(nlog_count(&log, &count) == NLOG_OK && count == 2);
+  /* A log that was loaded isn't one that is written, and the other way round. */
+  without_a_written_log(&log);
+  WANT(nlog_count(&log, &count) == NLOG_OK && count == 2);
+  WANT(nlog_new(&log) == NLOG_OK);
   without_a_log(&log);
   WANT(nlog_load(&log, GOOD, sizeof GOOD - 1) == NLOG_OK);
   WANT(nlog_count(&log, &count) == NLOG_OK && count == 2);
@@ -153,7 +205,7 @@ static void misuse(void) {
   nlog_free(&log);
   /* Versions, names and texts. */
   WANT(nlog_version() == NLOG_VERSION);
-  WANT(strcmp(nlog_status_name(NLOG_BAD_ANSWER), "NLOG_BAD_ANSWER") == 0 && strcmp(nlog_status_name((nlog_status)99), "NLOG_?") == 0);
+  WANT(strcmp(nlog_status_name(NLOG_LOCKED), "NLOG_LOCKED") == 0 && strcmp(nlog_status_name((nlog_status)99), "NLOG_?") == 0);
   memset(text, '.', sizeof text);
   WANT(nlog_status_text(NLOG_NOT_A_LOG, text, sizeof text) == 15 && memcmp(text, "not a ninja log.", 16) == 0);
   memset(text, '.', sizeof text);
@@ -194,7 +246,7 @@ static void refuse(const char *path) {
 }
 #endif
 
-/* ---- The writer ---- */
+/* ---- Lines that ask for calls ---- */
 
 static size_t unhex(const char *text, char *to) {
   size_t len = 0;
@@ -203,61 +255,211 @@ static size_t unhex(const char *text, char *to) {
   return len;
 }
 
-/* Does what the lines of standard input say, whose names are in hexadecimal digits, and answers each by the name of a status. */
-static void write_log(const char *program, const char *log) {
+/* What a line asks for: its first word, and what stands behind it. Names are in hexadecimal digits, `-` for none. */
+typedef struct request {
+  const char *word;
+  nlog_entry entry;
+  nlog_name names[1000];
+  int64_t times[1000];
+  size_t count;
+  uint64_t number;
+} request;
+
+static bool next_request(request *to) {
   static char line[2000000], bytes[900000], *words[2000];
-  static nlog_name names[1000];
-  static nlog_time times[1000];
+  size_t count = 0, used = 0, i = 1;
+  char *word;
+  bool has_entry, has_times;
+  if (fgets(line, sizeof line, stdin) == NULL) return false;
+  for (word = strtok(line, " \n"); word != NULL && count < 2000; word = strtok(NULL, " \n")) words[count++] = word;
+  memset(to, 0, sizeof *to);
+  to->word = count > 0 ? words[0] : "";
+  has_entry = strcmp(to->word, "record") == 0 || strcmp(to->word, "edge") == 0;
+  has_times = strcmp(to->word, "time") == 0;
+  if (has_entry && count >= 5) {
+    to->entry.start_ms = (int32_t)strtol(words[1], NULL, 10);
+    to->entry.end_ms = (int32_t)strtol(words[2], NULL, 10);
+    to->entry.mtime = strtoll(words[3], NULL, 10);
+    to->entry.hash = strtoull(words[4], NULL, 16);
+    i = 5;
+  } else if (count > 1) {
+    to->number = strtoull(words[1], NULL, 10);
+  }
+  for (; i < count && to->count < 1000; i++) {
+    if (has_times && i + 1 < count) to->times[to->count] = strtoll(words[i++], NULL, 10);
+    to->names[to->count].bytes = bytes + used;
+    to->names[to->count].len = strcmp(words[i], "-") == 0 ? 0 : unhex(words[i], bytes + used);
+    used += to->names[to->count++].len;
+  }
+  return true;
+}
+
+static bool is(const request *it, const char *word) { return strcmp(it->word, word) == 0; }
+
+static void show_found(const nlog_entry *entry) {
+  printf(" %" PRId32 " %" PRId32 " %" PRId64 " %" PRIx64, entry->start_ms, entry->end_ms, entry->mtime, entry->hash);
+}
+
+static void show_hex(const char *bytes, size_t len) {
+  size_t i;
+  for (i = 0; i < len; i++) printf("%02x", (unsigned int)(unsigned char)bytes[i]);
+}
+
+/* ---- A log in memory that is written ---- */
+
+static void write_text(const char *path, uint32_t version) {
+  static request it;
+  static char text[1000000], name[NLOG_MAX_NAME];
+  nlog log = NLOG_INIT;
+  nlog_entry entry;
+  size_t len, i, count, place, name_len;
+  uint64_t text_len;
+  uint32_t change;
+  bool is_open;
+  char *bytes = file_of(path, &len);
+  WANT(nlog_new(&log) == NLOG_OK);
+  while (next_request(&it)) {
+    nlog_status status = NLOG_STATUS_MAX;
+    memset(&entry, 0, sizeof entry);
+    change = 9;
+    place = 99;
+    count = 99;
+    if (is(&it, "open")) status = nlog_open(&log, bytes, len, version, &change);
+    if (is(&it, "record")) status = nlog_record(&log, it.names[0].bytes, it.names[0].len, &it.entry);
+    if (is(&it, "check")) status = nlog_check_name(it.names[0].bytes, it.names[0].len);
+    if (is(&it, "sync")) status = nlog_sync(&log);
+    if (is(&it, "recompact")) status = nlog_recompact(&log);
+    if (is(&it, "restat")) status = nlog_restat(&log, &place);
+    for (i = 0; i < it.count && is(&it, "dead"); i++) status = nlog_mark_dead(&log, it.names[i].bytes, it.names[i].len);
+    for (i = 0; i < it.count && is(&it, "time"); i++) status = nlog_mark_time(&log, it.names[i].bytes, it.names[i].len, it.times[i]);
+    if (is(&it, "clear")) status = nlog_clear_marks(&log);
+    if (is(&it, "close")) status = nlog_close(&log);
+    if (is(&it, "is_open")) status = nlog_is_open(&log, &is_open);
+    if (is(&it, "count")) status = nlog_count(&log, &count);
+    if (is(&it, "at")) status = nlog_at(&log, (size_t)it.number, &entry, name, sizeof name, &name_len);
+    if (is(&it, "find")) status = nlog_find(&log, it.names[0].bytes, it.names[0].len, &entry);
+    if (is(&it, "text")) status = nlog_text(&log, it.number, text, sizeof text, &text_len);
+    printf("%s", nlog_status_name(status));
+    if (is(&it, "open")) printf(" %" PRIu32, change);
+    if (is(&it, "restat") && status != NLOG_OK) printf(" %zu", place);
+    if (is(&it, "is_open") && status == NLOG_OK) printf(" %d", is_open);
+    if (is(&it, "count")) printf(" %zu", count);
+    if ((is(&it, "find") || is(&it, "at")) && status == NLOG_OK) show_found(&entry);
+    if (is(&it, "at") && status == NLOG_OK) {
+      printf(" ");
+      show_hex(name, name_len);
+    }
+    if (is(&it, "text") && status == NLOG_OK) {
+      printf(" %" PRIu64 " ", text_len);
+      if (it.number < text_len) show_hex(text, (size_t)(text_len - it.number));
+    }
+    printf("\n");
+  }
+  nlog_free(&log);
+  free(bytes);
+}
+
+/* ---- A log on disk ---- */
+
+static const char *error_name(int error) {
+  switch (error) {
+    case 0: return "0";
+    case EACCES: return "EACCES";
+    case EFBIG: return "EFBIG";
+    case EIO: return "EIO";
+    case EISDIR: return "EISDIR";
+    case ELOOP: return "ELOOP";
+    case ENAMETOOLONG: return "ENAMETOOLONG";
+    case ENOENT: return "ENOENT";
+    case ENOSPC: return "ENOSPC";
+    case ENOTDIR: return "ENOTDIR";
+    case EROFS: return "EROFS";
+    case EWOULDBLOCK: return "EWOULDBLOCK";
+    default: return "E?";
+  }
+}
+
+/* Why the last call failed: its errno, its name, and which file it was about. */
+static void show_failure(const nlog_writer *writer, const char *log) {
+  const char *path = nlog_writer_failed_path(writer), *call = nlog_writer_failed_call(writer);
+  printf(" %s %s", error_name(nlog_writer_errno(writer)), call == NULL ? "-" : call);
+  if (path == NULL) printf(" -");
+  else if (strcmp(path, log) == 0) printf(" log");
+  else if (strlen(path) > strlen(log) && memcmp(path, log, strlen(log)) == 0) printf(" scratch");
+  else printf(" folder");
+}
+
+static void write_log(const char *log, uint32_t version) {
+  static request it;
+  static char name[NLOG_MAX_NAME];
   nlog_writer *writer = NULL;
   nlog_entry entry;
-  nlog_status status;
-  memset(&entry, 0, sizeof entry);
-  while (fgets(line, sizeof line, stdin) != NULL) {
-    size_t count = 0, used = 0, i, given = 0;
-    char *word;
-    for (word = strtok(line, " \n"); word != NULL && count < 2000; word = strtok(NULL, " \n")) words[count++] = word;
-    if (count == 0) continue;
+  size_t i, count, place, name_len;
+  uint32_t number;
+  bool flag;
+  nlog_status status = nlog_writer_new(&writer, log, version);
+  if (status != NLOG_OK) printf("%s\n", nlog_status_name(status));
+  while (next_request(&it)) {
     status = NLOG_STATUS_MAX;
-    if (strcmp(words[0], "record") == 0 || strcmp(words[0], "edge") == 0) {
-      entry.start_ms = (int32_t)strtol(words[1], NULL, 10);
-      entry.end_ms = (int32_t)strtol(words[2], NULL, 10);
-      entry.mtime = strtoll(words[3], NULL, 10);
-      entry.hash = strtoull(words[4], NULL, 16);
+    place = 99;
+    if (is(&it, "open")) status = nlog_writer_open(writer);
+    if (is(&it, "record")) status = nlog_writer_record(writer, it.names[0].bytes, it.names[0].len, &it.entry);
+    if (is(&it, "edge")) status = nlog_writer_record_edge(writer, it.names, it.count, &it.entry);
+    if (is(&it, "sync")) status = nlog_writer_sync(writer);
+    if (is(&it, "recompact")) status = nlog_writer_recompact(writer);
+    if (is(&it, "restat")) status = nlog_writer_restat(writer, &place);
+    for (i = 0; i < it.count && is(&it, "dead"); i++) status = nlog_writer_mark_dead(writer, it.names[i].bytes, it.names[i].len);
+    for (i = 0; i < it.count && is(&it, "time"); i++) status = nlog_writer_mark_time(writer, it.names[i].bytes, it.names[i].len, it.times[i]);
+    if (is(&it, "clear")) status = nlog_writer_clear_marks(writer);
+    if (is(&it, "close")) status = nlog_writer_close(writer);
+    if (is(&it, "is_open")) status = nlog_writer_is_open(writer, &flag);
+    if (is(&it, "rewrote")) status = nlog_writer_rewrote(writer, &flag);
+    if (is(&it, "version")) status = nlog_writer_version(writer, &number);
+    if (is(&it, "count")) status = nlog_writer_count(writer, &count);
+    if (is(&it, "at")) status = nlog_writer_at(writer, (size_t)it.number, &entry, name, sizeof name, &name_len);
+    if (is(&it, "find")) status = nlog_writer_find(writer, it.names[0].bytes, it.names[0].len, &entry);
+    if (is(&it, "pause")) status = NLOG_OK;
+    if (is(&it, "free")) {
+      nlog_writer_free(&writer);
+      status = writer == NULL ? NLOG_OK : NLOG_FAULT;
     }
-    for (i = strcmp(words[0], "record") == 0 || strcmp(words[0], "edge") == 0 ? 5 : 1; i < count; i++) {
-      if (strcmp(words[0], "restat") == 0 && i + 1 < count) times[given].mtime = strtoll(words[i++], NULL, 10);
-      names[given].bytes = times[given].bytes = bytes + used;
-      names[given].len = times[given].len = strcmp(words[i], "-") == 0 ? 0 : unhex(words[i], bytes + used);
-      used += names[given++].len;
-    }
-    if (strcmp(words[0], "open") == 0) status = nlog_writer_open(&writer, program, log);
-    if (strcmp(words[0], "record") == 0) status = nlog_writer_record(writer, names[0].bytes, names[0].len, &entry);
-    if (strcmp(words[0], "edge") == 0) status = nlog_writer_record_edge(writer, names, given, &entry);
-    if (strcmp(words[0], "sync") == 0) status = nlog_writer_sync(writer);
-    if (strcmp(words[0], "get") == 0) status = nlog_writer_get(writer, names[0].bytes, names[0].len, &entry);
-    if (strcmp(words[0], "recompact") == 0) status = nlog_writer_recompact(writer, names, given);
-    if (strcmp(words[0], "restat") == 0) status = nlog_writer_restat(writer, times, given);
-    if (strcmp(words[0], "hasty") == 0) status = nlog_writer_set_waits(writer, false);
-    if (strcmp(words[0], "waits") == 0) status = nlog_writer_set_waits(writer, true);
-    if (strcmp(words[0], "close") == 0) status = nlog_writer_close(&writer);
     printf("%s", nlog_status_name(status));
-    if (strcmp(words[0], "get") == 0 && status == NLOG_OK)
-      printf(" %" PRId32 " %" PRId32 " %" PRId64 " %" PRIx64, entry.start_ms, entry.end_ms, entry.mtime, entry.hash);
-    if (strcmp(words[0], "open") == 0 && status == NLOG_NO_PROGRAM) printf(" %s", errno == ENOENT ? "ENOENT" : "?");
+    if (status == NLOG_FAULT || status == NLOG_LOCKED) show_failure(writer, log);
+    if (is(&it, "restat") && status == NLOG_NEGATIVE_TIME) printf(" %zu", place);
+    if ((is(&it, "is_open") || is(&it, "rewrote")) && status == NLOG_OK) printf(" %d", flag);
+    if (is(&it, "version") && status == NLOG_OK) printf(" %" PRIu32, number);
+    if (is(&it, "count") && status == NLOG_OK) printf(" %zu", count);
+    if ((is(&it, "find") || is(&it, "at")) && status == NLOG_OK) show_found(&entry);
+    if (is(&it, "at") && status == NLOG_OK) {
+      printf(" ");
+      show_hex(name, name_len);
+    }
     printf("\n");
     fflush(stdout);
   }
-  if (writer != NULL) nlog_writer_close(&writer);
+  nlog_writer_free(&writer);
 }
 
-/* Records so many entries, and syncs after every 16, or only at the end; prints how many then stand. */
-static int write_many(const char *program, const char *log, int count, bool waits, int syncs) {
+/* Loads a file by its path. */
+static void load_file(const char *path) {
+  nlog log = NLOG_INIT;
+  int error = 77;
+  size_t count = 99;
+  nlog_status status = nlog_load_file(&log, path, &error);
+  printf("%s %s", nlog_status_name(status), error == 77 ? "-" : error_name(error));
+  if (nlog_count(&log, &count) == NLOG_OK) printf(" %zu", count);
+  printf("\n");
+  nlog_free(&log);
+}
+
+/* Records so many entries, and syncs after each so many, or only at the end; prints how many then stand. */
+static int write_many(const char *log, int count, int syncs) {
   nlog_writer *writer;
   nlog_entry entry;
-  nlog_status status = nlog_writer_open(&writer, program, log);
+  nlog_status status = nlog_writer_new(&writer, log, 0), closed;
   char name[32];
   int i;
-  if (status == NLOG_OK) status = nlog_writer_set_waits(writer, waits);
+  if (status == NLOG_OK) status = nlog_writer_open(writer);
   for (i = 0; status == NLOG_OK && i < count; i++) {
     entry.start_ms = i;
     entry.end_ms = i + 5;
@@ -273,11 +475,83 @@ static int write_many(const char *program, const char *log, int count, bool wait
       }
     }
   }
-  if (writer != NULL && status == NLOG_OK) status = nlog_writer_close(&writer);
-  else if (writer != NULL) nlog_writer_close(&writer);
-  printf("%s\n", nlog_status_name(status));
+  closed = nlog_writer_close(writer);
+  nlog_writer_free(&writer);
+  printf("%s\n", nlog_status_name(status == NLOG_OK ? closed : status));
   return 0;
 }
+
+/* The time of a record, beside fprintf and fflush of the same line into a file that is open for appending. */
+static double seconds(void) {
+  struct timespec now;
+  clock_gettime(CLOCK_MONOTONIC, &now);
+  return (double)now.tv_sec + (double)now.tv_nsec / 1e9;
+}
+
+static int time_records(const char *log, const char *plain, int count) {
+  nlog_writer *writer;
+  nlog_entry entry = {1, 2, 3, 4};
+  nlog_status status = nlog_writer_new(&writer, log, 0);
+  char name[64];
+  double begun, ours, theirs;
+  int i;
+  FILE *file = fopen(plain, "ab");
+  if (status == NLOG_OK) status = nlog_writer_open(writer);
+  if (file == NULL || status != NLOG_OK) return 1;
+  begun = seconds();
+  for (i = 0; status == NLOG_OK && i < count; i++) {
+    snprintf(name, sizeof name, "obj/src/module%03d/source_file_%d.o", i % 200, i % 10000);
+    entry.start_ms = i;
+    entry.end_ms = i + 5;
+    entry.hash = 0x9e3779b97f4a7c15u * (uint64_t)(i + 1);
+    status = nlog_writer_record(writer, name, strlen(name), &entry);
+  }
+  ours = seconds() - begun;
+  begun = seconds();
+  for (i = 0; i < count; i++) {
+    snprintf(name, sizeof name, "obj/src/module%03d/source_file_%d.o", i % 200, i % 10000);
+    entry.hash = 0x9e3779b97f4a7c15u * (uint64_t)(i + 1);
+    if (fprintf(file, "%d\t%d\t%" PRId64 "\t%s\t%" PRIx64 "\n", i, i + 5, (int64_t)3, name, entry.hash) < 0 || fflush(file) != 0) return 1;
+  }
+  theirs = seconds() - begun;
+  fclose(file);
+  nlog_writer_free(&writer);
+  printf("%.0f %.0f\n", ours / count * 1e9, theirs / count * 1e9);
+  return status != NLOG_OK;
+}
+
+#ifdef REFUSES
+/* Does what the lines of standard input say, and refuses memory at one place of the last of so many. Prints the status of that call, and that of
+ * the same call again where it was refused. */
+static void refuse_call(const char *log, long at, int count) {
+  static request it;
+  nlog_writer *writer = NULL;
+  nlog_status status = NLOG_OK, first = NLOG_OK;
+  size_t place = 0, i;
+  int line, turn;
+  WANT(nlog_writer_new(&writer, log, 0) == NLOG_OK);
+  for (line = 1; line <= count && next_request(&it); line++) {
+    for (turn = 0; turn < 2; turn++) {
+      if (line == count && turn == 0) left = at;
+      if (is(&it, "open")) status = nlog_writer_open(writer);
+      if (is(&it, "record")) status = nlog_writer_record(writer, it.names[0].bytes, it.names[0].len, &it.entry);
+      if (is(&it, "edge")) status = nlog_writer_record_edge(writer, it.names, it.count, &it.entry);
+      if (is(&it, "sync")) status = nlog_writer_sync(writer);
+      if (is(&it, "recompact")) status = nlog_writer_recompact(writer);
+      if (is(&it, "restat")) status = nlog_writer_restat(writer, &place);
+      for (i = 0; i < it.count && is(&it, "dead"); i++) status = nlog_writer_mark_dead(writer, it.names[i].bytes, it.names[i].len);
+      for (i = 0; i < it.count && is(&it, "time"); i++) status = nlog_writer_mark_time(writer, it.names[i].bytes, it.names[i].len, it.times[i]);
+      left = -1;
+      if (line < count) WANT(status == NLOG_OK);
+      if (status == NLOG_OK) break;
+      if (turn == 0) first = status;
+    }
+  }
+  printf("%s %s\n", nlog_status_name(first), nlog_status_name(status));
+  nlog_writer_close(writer);
+  nlog_writer_free(&writer);
+}
+#endif
 
 static int descriptors(void) {
   int fd, count = 0;
@@ -286,27 +560,28 @@ static int descriptors(void) {
   return count;
 }
 
-/* With the standard streams closed, and SIGPIPE blocked or not: no descriptor, child or signal is left. What came is printed into a file. */
-static void closed_streams(const char *program, const char *log, const char *to) {
+/* With the standard streams closed: no descriptor is left, none is a standard stream's. What came is printed into a file. */
+static void closed_streams(const char *log, const char *to) {
   FILE *file = fopen(to, "w");
   nlog_entry entry = {1, 2, 3, 4};
   nlog_writer *writer = NULL;
-  nlog_status opened, recorded, closed;
-  sigset_t mask, pending;
-  int before, after;
+  nlog_status made, opened, recorded, rewritten, closed;
+  int before, streams, after;
   if (file == NULL) exit(3);
   close(0);
   close(1);
   close(2);
   before = descriptors();
-  opened = nlog_writer_open(&writer, program, log);
+  made = nlog_writer_new(&writer, log, 0);
+  opened = nlog_writer_open(writer);
   recorded = nlog_writer_record(writer, "a", 1, &entry);
-  closed = nlog_writer_close(&writer);
+  rewritten = nlog_writer_recompact(writer);
+  streams = (dup2(0, 0) >= 0) + (dup2(1, 1) >= 0) + (dup2(2, 2) >= 0);
+  closed = nlog_writer_close(writer);
   after = descriptors();
-  sigprocmask(SIG_BLOCK, NULL, &mask);
-  sigpending(&pending);
-  fprintf(file, "%s %s %s %d %d %d %d\n", nlog_status_name(opened), nlog_status_name(recorded), nlog_status_name(closed), after - before,
-          waitpid(-1, NULL, WNOHANG) == -1 && errno == ECHILD, sigismember(&mask, SIGPIPE), sigismember(&pending, SIGPIPE));
+  nlog_writer_free(&writer);
+  fprintf(file, "%s %s %s %s %s %d %d\n", nlog_status_name(made), nlog_status_name(opened), nlog_status_name(recorded), nlog_status_name(rewritten),
+          nlog_status_name(closed), streams, after - before);
   fclose(file);
   exit(0);
 }
@@ -321,17 +596,25 @@ int main(int count, char **words) {
 #ifdef REFUSES
   } else if (count == 3 && strcmp(words[1], "refuse") == 0) {
     refuse(words[2]);
+  } else if (count == 5 && strcmp(words[1], "refuse-call") == 0) {
+    refuse_call(words[2], atol(words[3]), atoi(words[4]));
 #endif
   } else if (count == 3 && strcmp(words[1], "hash") == 0) {
     bytes = file_of(words[2], &len);
     printf("%" PRIx64 " %" PRIx64 "\n", nlog_command_hash(bytes, len), nlog_command_hash_v7(bytes, len));
     free(bytes);
+  } else if (count == 4 && strcmp(words[1], "text") == 0) {
+    write_text(words[2], (uint32_t)strtoul(words[3], NULL, 10));
   } else if (count == 4 && strcmp(words[1], "write") == 0) {
-    write_log(words[2], words[3]);
-  } else if (count == 7 && strcmp(words[1], "many") == 0) {
-    return write_many(words[2], words[3], atoi(words[4]), strcmp(words[5], "waits") == 0, atoi(words[6]));
-  } else if (count == 5 && strcmp(words[1], "closed") == 0) {
-    closed_streams(words[2], words[3], words[4]);
+    write_log(words[2], (uint32_t)strtoul(words[3], NULL, 10));
+  } else if (count == 3 && strcmp(words[1], "load") == 0) {
+    load_file(words[2]);
+  } else if (count == 5 && strcmp(words[1], "many") == 0) {
+    return write_many(words[2], atoi(words[3]), atoi(words[4]));
+  } else if (count == 5 && strcmp(words[1], "time") == 0) {
+    return time_records(words[2], words[3], atoi(words[4]));
+  } else if (count == 4 && strcmp(words[1], "closed") == 0) {
+    closed_streams(words[2], words[3]);
   } else {
     return 2;
   }
