@@ -133,6 +133,10 @@ nlog_status nlog_at(nlog *log, size_t place, nlog_entry *entry, char *name, size
 /* The last entry of an output. */
 nlog_status nlog_find(nlog *log, const char *name, size_t len, nlog_entry *entry);
 
+/* Reads one line of a log of this version, without its newline: the entry and its name, as nlog_at fills them.
+ * NLOG_NOT_FOUND: the line is no entry. NLOG_NO_ROOM: as of nlog_at. */
+nlog_status nlog_read_line(uint32_t version, const char *line, size_t len, nlog_entry *entry, char *name, size_t room, size_t *name_len);
+
 /* The hash of a command, as it stands in logs of version 5 and 6, and of version 7. */
 uint64_t nlog_command_hash(const char *command, size_t len);
 uint64_t nlog_command_hash_v7(const char *command, size_t len);
@@ -160,16 +164,16 @@ typedef enum nlog_change {
 } nlog_change;
 
 /* Opens the log that the bytes are: what a crash cut off is taken away, a missing first line is made, and a log that is due is rewritten,
- * without what is marked dead; such marks are then used up, and only then. `version`: 5 (which takes 4 too), 6 or 7 is the version that the
- * log must have, and that one is made of which nothing stands; 0 is that of the bytes, and 5 where there are none. `change`: an nlog_change.
- * NLOG_ALREADY_OPEN, NLOG_BROKEN, NLOG_NOT_A_LOG, NLOG_OTHER_VERSION, NLOG_OUT_OF_MEMORY: nothing was changed. NLOG_FAULT: memory ran out in
- * the text. */
+ * without what is marked dead. `version`: 5 (which takes 4 too), 6 or 7 is the version that the log must have, and that one is made of which
+ * nothing stands; 0 is that of the bytes, and 5 where there are none. `change`: an nlog_change. NLOG_OK uses up each mark of a dead name of
+ * which the log then has no entry. NLOG_ALREADY_OPEN, NLOG_BROKEN, NLOG_NOT_A_LOG, NLOG_OTHER_VERSION, NLOG_OUT_OF_MEMORY, NLOG_FAULT (memory
+ * ran out in the text): nothing was changed. */
 nlog_status nlog_open(nlog *log, const void *bytes, size_t len, uint32_t version, uint32_t *change);
 
 nlog_status nlog_is_open(nlog *log, bool *is_open);
 
-/* Writes the text of the open log from byte `from` on into the buffer, as much as there is room for, and the length of the whole text into
- * len. NLOG_NOT_OPEN, NLOG_BROKEN. */
+/* Writes the log's text from byte `from` on into the buffer, as much as there is room for, and the length of the whole text into len. Of a
+ * closed log it is the last text, at first none; of a broken one it is of no use. */
 nlog_status nlog_text(nlog *log, uint64_t from, void *bytes, size_t room, uint64_t *len);
 
 /* Adds the entry of an output: the text grows by one line, which the caller appends to the file. NLOG_NOT_OPEN, NLOG_BROKEN, NLOG_BAD_NAME,
@@ -237,7 +241,8 @@ void nlog_writer_free(nlog_writer **writer);
 /* Opens the log: locks it, for which it waits 10 seconds at most, makes it where it is missing, reads it, repairs it where a crash cut it off,
  * and rewrites it where it is due, without what is marked dead. NLOG_OK: all of that is on disk. NLOG_ALREADY_OPEN, NLOG_BROKEN: nothing was
  * done. After any other status the writer is closed, and the log is unlocked; after NLOG_LOCKED, NLOG_NOT_A_LOG, NLOG_OTHER_VERSION and
- * NLOG_OUT_OF_MEMORY the log is as it was (made empty, where it was missing). Marks of dead names are used up where it was to be rewritten.
+ * NLOG_OUT_OF_MEMORY the log is as it was (made empty, where it was missing). Marks of dead names are used up as by nlog_open, also where a
+ * file then fails.
  * Where a sync had failed, the next open of this writer rewrites the log, since a second sync may answer for bytes that the first one lost. */
 nlog_status nlog_writer_open(nlog_writer *writer);
 

@@ -31,7 +31,7 @@ import full_disk
 import short_writes
 import system_calls
 from crash_rules import Sweep, Worker
-from log_format import HEADER, MAX_NAME, Log, as_version, command_hash, command_hash_v7, line_of, reading_of, text_of
+from log_format import HEADER, MAX_NAME, Log, as_version, command_hash, command_hash_v7, entry_of, line_of, reading_of, text_of
 from trials import main, read, run, write
 
 TOP = os.path.dirname(os.path.dirname(os.path.abspath(__file__)))
@@ -171,6 +171,19 @@ def hashes(trials, made, room):
         trials.want(f"the hashes of {len_} bytes", run([made["C11"], "hash", path]), (0, wanted, b""))
 
 
+def lines(trials, made, room):
+    """One line by itself, of each version."""
+    odd = [b"", b"1\t2\t3\ta", b"1\t2\t3\ta\tAA", b"01\t2\t3\ta\taa", b"1\t2\t3\ta\tb\taa", b"1\t2\t3\t\taa", b"1\t2\t3\t" + b"n" * (MAX_NAME + 1) + b"\taa",
+           b"1\t2\t9223372036854775808\ta\taa", b"2147483648\t2\t3\ta\taa", b"1\t2\t3\ta\t" + b"x" * 262144]
+    good = [A[:-1], B[:-1], b"-2147483648\t2147483647\t-9223372036854775808\t" + b"n" * MAX_NAME + b"\tffffffffffffffff", b"1\t2\t3\ta b\t0", b"1\t2\t3\ta\tcc x.c\ty"]
+    for line in odd + good:
+        write(f"{room}/line", line)
+        for version in (4, 5, 6, 7):
+            entry = entry_of(line, 4 if version == 4 else 5)
+            wanted = b"NLOG_NOT_FOUND\n" if entry is None else b"NLOG_OK " + line_of(*entry)
+            trials.want(f"the line {line[:40]!r} of version {version}", run([made["C11"], "line", str(version), f"{room}/line"]), (0, wanted, b""))
+
+
 def misuse(trials, made, room):
     for way, driver in drivers(made):
         trials.want(f"handles that hold no log, and short buffers, by {way}", run([*driver, "misuse"]), (0, b"done\n", b""))
@@ -304,14 +317,14 @@ def texts(trials, made, room):
             ended, answers, err = asked([made["C11"]], "text", path, version, ["open", "text 0", "count", "open", "close", "text 0", "close"])
             about = f"{what}, opened as {version}"
             if status != "OK":
-                left = [f"{status} 9", "NOT_OPEN", "NO_HANDLE 99", f"{status} 9", "NOT_OPEN", "NOT_OPEN", "NOT_OPEN"]
+                left = [f"{status} 9", "OK 0 ", "NO_HANDLE 99", f"{status} 9", "NOT_OPEN", "OK 0 ", "NOT_OPEN"]
                 trials.want(about, (ended, answers, err), (0, left, b""))
                 continue
             got = answers[0].split()
             found = CHANGES[int(got[1])] if got[0] == "OK" and int(got[1]) < 4 else "?"
             trials.check(f"{about}: the change", found == change or change == "REPLACE" and found == "CUT" and text.startswith(whole), answers[0])
             count = len(Log(as_version(whole, int(whole[13:14]))).table)
-            left = [f"OK {len(whole)} {whole.hex()}", f"OK {count}", "ALREADY_OPEN 9", "OK", "NOT_OPEN", "NOT_OPEN"]
+            left = [f"OK {len(whole)} {whole.hex()}", f"OK {count}", "ALREADY_OPEN 9", "OK", f"OK {len(whole)} {whole.hex()}", "NOT_OPEN"]
             trials.want(about, (ended, answers[1:], err), (0, left, b""))
         for version in (1, 4, 8, 2**32 - 1):
             trials.want(f"{what}, asked for as {version}", asked([made["C11"]], "text", path, version, ["open"])[1], ["OTHER_VERSION 9"])
@@ -343,6 +356,9 @@ MEMORY = [
       f"OK {15 + len(A + B)} {(A + B).hex()}"]),
     (HEADER + A, 0, ["open", f"time 8 {hexed(b'b')} 5 {hexed(b'a')} -1 {hexed(b'a')} -2 {hexed(b'c')}", "restat", "text 15", "clear", "restat", "text 15"],
      ["OK 0", "OK", "NEGATIVE_TIME 2", f"OK {15 + len(A)} {A.hex()}", "OK", "OK", f"OK {15 + len(A)} {A.hex()}"]),
+    # An open uses up the mark of a name that the log lacks.
+    (HEADER + A, 0, [f"dead {hexed(b'b')}", "open", f"record 4 5 6 bb {hexed(b'b')}", "recompact", "text 15", f"dead {hexed(b'b')}", "recompact", "text 15"],
+     ["OK", "OK 0", "OK", "OK", f"OK {15 + len(A + B)} {(A + B).hex()}", "OK", "OK", f"OK {15 + len(A)} {A.hex()}"]),
     (b"# ninja log v7\n" + A, 7, ["open", "recompact", "text 0"], ["OK 0", "OK", f"OK {15 + len(A)} {(b'# ninja log v7' + bytes([10]) + A).hex()}"]),
     (b"", 6, ["open", f"record 1 2 3 aa {hexed(b'a')}", "text 0"], ["OK 1", "OK", f"OK {15 + len(A)} {(b'# ninja log v6' + bytes([10]) + A).hex()}"]),
 ]
@@ -808,6 +824,7 @@ def trial(trials, program, room):
     names(trials, room)
     reads(trials, made, room)
     hashes(trials, made, room)
+    lines(trials, made, room)
     misuse(trials, made, room)
     by_ctypes(trials, made, room)
     pages(trials, program, room)

@@ -92,6 +92,24 @@ static void read_log(int count, char **words) {
   free(name);
 }
 
+/* Reads the line that the file is. */
+static void read_line(uint32_t version, const char *path) {
+  static char name[NLOG_MAX_NAME];
+  nlog_entry entry;
+  size_t len, name_len = 0;
+  char *line = file_of(path, &len);
+  nlog_status status = nlog_read_line(version, line, len, &entry, name, sizeof name, &name_len);
+  printf("%s", nlog_status_name(status));
+  if (status == NLOG_OK) {
+    printf(" ");
+    show(&entry, name, name_len);
+    WANT(nlog_read_line(version, line, len, &entry, NULL, 0, &name_len) == NLOG_NO_ROOM && name_len > 0);
+  } else {
+    printf("\n");
+  }
+  free(line);
+}
+
 static const char GOOD[] = "# ninja log v5\n1\t2\t3\tone\taa\n4\t5\t6\ttwo\tbb\n";
 
 /* Each call of a handle without a log: its status, and that nothing is filled. */
@@ -122,7 +140,7 @@ static void without_a_written_log(nlog *log) {
   char bytes[4] = {'a', 'b', 'c', 'd'};
   WANT(nlog_open(log, "", 0, 0, &number) == NLOG_NO_HANDLE);
   WANT(nlog_is_open(log, &is) == NLOG_NO_HANDLE);
-  WANT(nlog_text(log, 0, bytes, sizeof bytes, &len) == NLOG_NO_HANDLE);
+  WANT(nlog_text(log, 0, bytes, sizeof bytes, &len) == NLOG_NO_HANDLE && nlog_sync(log) == NLOG_NO_HANDLE);
   WANT(nlog_record(log, "a", 1, &entry) == NLOG_NO_HANDLE);
   WANT(nlog_sync(log) == NLOG_NO_HANDLE && nlog_recompact(log) == NLOG_NO_HANDLE && nlog_restat(log, &place) == NLOG_NO_HANDLE);
   WANT(nlog_mark_dead(log, "a", 1) == NLOG_NO_HANDLE && nlog_mark_time(log, "a", 1, 5) == NLOG_NO_HANDLE && nlog_clear_marks(log) == NLOG_NO_HANDLE);
@@ -603,6 +621,8 @@ int main(int count, char **words) {
     bytes = file_of(words[2], &len);
     printf("%" PRIx64 " %" PRIx64 "\n", nlog_command_hash(bytes, len), nlog_command_hash_v7(bytes, len));
     free(bytes);
+  } else if (count == 4 && strcmp(words[1], "line") == 0) {
+    read_line((uint32_t)strtoul(words[2], NULL, 10), words[3]);
   } else if (count == 4 && strcmp(words[1], "text") == 0) {
     write_text(words[2], (uint32_t)strtoul(words[3], NULL, 10));
   } else if (count == 4 && strcmp(words[1], "write") == 0) {
