@@ -3,8 +3,9 @@
 set -eu
 
 usage="usage: ./install.sh PREFIX
-puts PREFIX/bin/nlog, PREFIX/share/man/man1/nlog.1 and PREFIX/share/bash-completion/completions/nlog, and where cc and ar are there
-PREFIX/lib/libnlog.a, PREFIX/include/nlog.h and PREFIX/lib/pkgconfig/nlog.pc
+puts PREFIX/bin/nlog, PREFIX/share/man/man1/nlog.1 and PREFIX/share/bash-completion/completions/nlog, and where cc, ar and objcopy are there
+PREFIX/lib/libnlog.a, PREFIX/lib/libnlog.so.0 with its links, PREFIX/include/nlog.h, PREFIX/lib/pkgconfig/nlog.pc and
+PREFIX/share/man/man3/nlog.3
 PREFIX is a folder, as /usr/local"
 
 if [ $# -ne 1 ]; then
@@ -46,15 +47,15 @@ put 644 "$top/man/nlog.1" "$prefix/share/man/man1/nlog.1"
 put 644 "$top/completions/nlog.bash" "$prefix/share/bash-completion/completions/nlog"
 echo "install.sh: $prefix/bin/nlog, $prefix/share/man/man1/nlog.1 and $prefix/share/bash-completion/completions/nlog are there"
 
-if ! command -v cc > /dev/null || ! command -v ar > /dev/null; then
-    echo "install.sh: the library for C is left out: cc or ar isn't there"
+if ! command -v cc > /dev/null || ! command -v ar > /dev/null || ! command -v objcopy > /dev/null; then
+    echo "install.sh: the library for C is left out: cc, ar or objcopy isn't there"
     exit 0
 fi
 
 room=$(mktemp -d)
 trap 'rm -rf "$room"' EXIT
 "$top/lib/archive.sh" "$room/libnlog.a"
-mkdir -p "$prefix/lib/pkgconfig" "$prefix/include"
+mkdir -p "$prefix/lib/pkgconfig" "$prefix/include" "$prefix/share/man/man3"
 version=$(sed -n 's/^## \([0-9][0-9.]*\).*/\1/p' "$top/CHANGELOG.md" | head -n 1)
 cat > "$room/nlog.pc" << END
 prefix=$(cd "$prefix" && pwd)
@@ -63,9 +64,19 @@ Name: nlog
 Description: Ninja's build log, read and written
 Version: $version
 Cflags: -I\${prefix}/include
-Libs: -L\${prefix}/lib -lnlog -pthread
+Libs: -L\${prefix}/lib -lnlog
 END
 put 644 "$room/libnlog.a" "$prefix/lib/libnlog.a"
+for file in "$room"/libnlog.so*; do
+    name=$(basename "$file")
+    if [ -L "$file" ]; then
+        ln -sf "$(readlink "$file")" "$prefix/lib/$name.new"
+        mv -f "$prefix/lib/$name.new" "$prefix/lib/$name"
+    else
+        put 755 "$file" "$prefix/lib/$name"
+    fi
+done
 put 644 "$top/include/nlog.h" "$prefix/include/nlog.h"
 put 644 "$room/nlog.pc" "$prefix/lib/pkgconfig/nlog.pc"
-echo "install.sh: $prefix/lib/libnlog.a, $prefix/include/nlog.h and $prefix/lib/pkgconfig/nlog.pc are there"
+put 644 "$top/man/nlog.3" "$prefix/share/man/man3/nlog.3"
+echo "install.sh: $prefix/lib/libnlog.a, $prefix/lib/libnlog.so.0, $prefix/include/nlog.h, $prefix/lib/pkgconfig/nlog.pc and nlog(3) are there"

@@ -17,10 +17,11 @@ from examples import read_page
 from trials import main, read, run, write
 
 TOP = os.path.dirname(os.path.dirname(os.path.abspath(__file__)))
-PAGE = f"{TOP}/man/nlog.1"
+PAGE, LIBRARY_PAGE = f"{TOP}/man/nlog.1", f"{TOP}/man/nlog.3"
 SECTIONS = ["NAME", "SYNOPSIS", "DESCRIPTION", "COMMANDS", "FILES", "EXIT STATUS", "DIAGNOSTICS", "EXAMPLES", "CAVEATS", "SEE ALSO"]
 # How each formatter says what is wrong with a page.
-FORMATTERS = {"groff": ["groff", "-ww", "-man", "-Tutf8", "-z", PAGE], "mandoc": ["mandoc", "-Tlint", PAGE]}
+FORMATTERS = {"groff": ["groff", "-ww", "-man", "-Tutf8", "-z"], "mandoc": ["mandoc", "-Tlint"]}
+LIBRARY_SECTIONS = ["NAME", "LIBRARY", "SYNOPSIS", "DESCRIPTION", "RETURN VALUE", "EXAMPLES", "CAVEATS", "SEE ALSO"]
 
 
 def plain(text):
@@ -85,17 +86,33 @@ def try_completion(trials, program, room, help_text, commands):
             want([name, "--", "--log-version", ""], ["a file", "b.log"] if values[1:2] and values[1] in FILES else [])
 
 
+def try_library_page(trials):
+    """The page on the library: it has each function and status of the header, and the example of README.md."""
+    page, header = read(LIBRARY_PAGE).decode(), read(f"{TOP}/include/nlog.h").decode()
+    trials.want("its sections", re.findall(r"(?m)^\.SH (.*)$", page), LIBRARY_SECTIONS)
+    synopsis, text = plain(page[: page.index(".SH DESCRIPTION")]), plain(page[page.index(".SH DESCRIPTION") :])
+    functions = re.findall(r"(?m)^(?!static)(\w[\w *]*?nlog_\w+\([^;{]*\));", header)
+    trials.check("there are functions", len(functions) > 30, functions)
+    for it in functions:
+        trials.check(f"the synopsis has {it}", re.sub(r"\s+", "", it) in re.sub(r"\s+", "", synopsis))
+        name = re.search(r"nlog_\w+(?=\()", it)[0]
+        trials.check(f"the description has {name}", f"{name} ()" in text)
+    for it in re.findall(r"(?m)^  (NLOG_\w+) = \d+,", header):
+        trials.check(f"it has {it}", it in text)
+    trials.check("its example is that of README.md", re.search(r"(?s)```c\n(.*?)```", read(f"{TOP}/README.md").decode())[1] in literal(page))
+
+
 def try_install(trials, program, room):
     """install.sh, where the command that proves and builds is one that does nothing, and the program is there."""
     top = f"{room}/top"
-    for name in ("install.sh", "man/nlog.1", "completions/nlog.bash", "include/nlog.h", "CHANGELOG.md"):
+    for name in ("install.sh", "man/nlog.1", "man/nlog.3", "completions/nlog.bash", "include/nlog.h", "CHANGELOG.md"):
         os.makedirs(os.path.dirname(f"{top}/{name}"), exist_ok=True)
         shutil.copy(f"{TOP}/{name}", f"{top}/{name}")
     os.makedirs(f"{top}/crates/nlog/out")
     shutil.copy(program, f"{top}/crates/nlog/out/nlog")
     write(f"{top}/rt", b"#!/bin/sh\n")
     os.mkdir(f"{top}/lib")
-    write(f"{top}/lib/archive.sh", b"#!/bin/sh\ncp include/nlog.h $1\n".replace(b"include", f"{top}/include".encode()))
+    write(f"{top}/lib/archive.sh", b"#!/bin/sh\ncp include/nlog.h $1; cd `dirname $1`; cp $1 libnlog.so.0.2.0; ln -s libnlog.so.0.2.0 libnlog.so\n".replace(b"include", f"{top}/include".encode()))
     for name in ("rt", "lib/archive.sh"):
         os.chmod(f"{top}/{name}", 0o755)
     env = {**os.environ, "PATH": f"{top}:{os.environ.get('PATH', os.defpath)}"}
@@ -104,13 +121,16 @@ def try_install(trials, program, room):
         trials.want(f"the {turn} installation", (status, err), (0, b""))
     made = {os.path.relpath(f"{folder}/{it}", f"{room}/prefix") for folder, _, files in os.walk(f"{room}/prefix") for it in files}
     wanted = {"bin/nlog": program, "share/man/man1/nlog.1": PAGE, "share/bash-completion/completions/nlog": f"{TOP}/completions/nlog.bash"}
-    if shutil.which("cc") and shutil.which("ar"):
-        wanted.update({"lib/libnlog.a": f"{TOP}/include/nlog.h", "include/nlog.h": f"{TOP}/include/nlog.h"})
+    if shutil.which("cc") and shutil.which("ar") and shutil.which("objcopy"):
+        for name in ("lib/libnlog.a", "lib/libnlog.so", "lib/libnlog.so.0.2.0", "include/nlog.h"):
+            wanted[name] = f"{TOP}/include/nlog.h"
+        wanted["share/man/man3/nlog.3"] = LIBRARY_PAGE
+        trials.want("the link of the shared object", os.readlink(f"{room}/prefix/lib/libnlog.so"), "libnlog.so.0.2.0")
         about = read(f"{room}/prefix/lib/pkgconfig/nlog.pc")
-        trials.check("what it says of the library", about and b"\nVersion: 0.1.0\n" in about and f"prefix={room}/prefix\n".encode() in about, about)
+        trials.check("what it says of the library", about and b"\nVersion: 0.2.0\n" in about and f"prefix={room}/prefix\n".encode() in about, about)
         made.discard("lib/pkgconfig/nlog.pc")
     else:
-        trials.skip("that install.sh puts the library", "cc or ar isn't there")
+        trials.skip("that install.sh puts the library", "cc, ar or objcopy isn't there")
     trials.want("what it puts", made, set(wanted))
     for name, path in wanted.items():
         trials.check(f"it puts {name}", read(f"{room}/prefix/{name}") == read(path))
@@ -121,7 +141,9 @@ def trial(trials, program, room):
         if shutil.which(name) is None:
             trials.skip(f"the page as {name} formats it", f"{name} isn't there")
         else:
-            trials.want(f"{name} has no warning", run(words), (0, b"", b""))
+            for path in (PAGE, LIBRARY_PAGE):
+                trials.want(f"{name} has no warning of {os.path.basename(path)}", run([*words, path]), (0, b"", b""))
+    try_library_page(trials)
     page = read(PAGE).decode()
     trials.want("its sections", re.findall(r"(?m)^\.SH (.*)$", page), SECTIONS)
     text = plain(page)
