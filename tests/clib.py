@@ -194,8 +194,9 @@ def misuse(trials, made, room):
     if shutil.which("valgrind") is None:
         trials.skip("reads and leaks under valgrind", "valgrind isn't there")
         return
-    for words in (["misuse"], ["read", path, "out7"]):
-        ran = run(["valgrind", "-q", "--error-exitcode=9", "--leak-check=full", made["C11"], *words])
+    asks = "\n".join(["open", f"record 1 2 3 aa {b'a'.hex()}", f"dead {b'out7'.hex()}", f"time 5 {b'a'.hex()}", "recompact", "restat", "at 0", "sync", "close", "open", "free", "open"])
+    for words in (["misuse"], ["read", path, "out7"], ["text", path, "0"], ["write", f"{room}/valgrind-write.log", "0"]):
+        ran = run(["valgrind", "-q", "--error-exitcode=9", "--leak-check=full", made["C11"], *words], input=asks.encode() + b"\n", stdin=None)
         trials.check(f"{words[0]} under valgrind", ran[0] == 0 and not ran[2], ran[2][-600:].decode(errors="replace"))
 
 
@@ -644,12 +645,30 @@ def locks(trials, made, program, room):
             except BlockingIOError:
                 is_locked = True
         trials.check(f"the log is locked behind {line}", is_locked)
+    held = close_on_exec(first.pid, f"{room}/locks")
+    if held is None:
+        trials.skip("that descriptors are close-on-exec", "/proc isn't there")
+    else:
+        trials.want("its descriptors of the log and the folder, each close-on-exec", held, [("locks", True), ("log", True)])
     second = subprocess.Popen([program, "record", log, "4", "5", "6", "beside", "cc"])
     time.sleep(0.3)
     trials.want("nlog record waits", second.poll(), None)
     first.communicate(b"record 4 5 6 bb " + hexed(b"b").encode() + b"\nclose\n", timeout=60)
     trials.want("and ends", second.wait(60), 0)
     trials.want("both stand", set(Log(read(log)).table), {b"d", b"a", b"b", b"beside"})
+
+
+def close_on_exec(pid, folder):
+    """The open files of a process in a folder, and whether each is close-on-exec; None where that can't be told."""
+    if not os.path.isdir(f"/proc/{pid}/fdinfo"):
+        return None
+    found = []
+    for fd in os.listdir(f"/proc/{pid}/fd"):
+        path = os.readlink(f"/proc/{pid}/fd/{fd}")
+        if path.startswith(folder):
+            flags = int(re.search(r"flags:\s+(\d+)", read(f"/proc/{pid}/fdinfo/{fd}").decode())[1], 8)
+            found.append((os.path.basename(path), bool(flags & 0o2000000)))
+    return sorted(found)
 
 
 def at_once(trials, made, program, room):
