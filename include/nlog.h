@@ -246,6 +246,12 @@ void nlog_writer_free(nlog_writer **writer);
  * Where a sync had failed, the next open of this writer rewrites the log, since a second sync may answer for bytes that the first one lost. */
 nlog_status nlog_writer_open(nlog_writer *writer);
 
+/* Whether the log is shared, which it isn't at first: then the lock is held within each call alone, and not from the open to the close. A call
+ * that finds that another writer had the log since reads and opens it anew, with what it holds now: its lines stand beside this writer's, in the
+ * order in which they were recorded. For a tool whose commands may run the tool itself in the same folder, as a build may run Ninja.
+ * NLOG_ALREADY_OPEN: nothing is changed. NLOG_LOCKED of a later call: nothing is changed, and it may be made again. */
+nlog_status nlog_writer_set_shared(nlog_writer *writer, bool is_shared);
+
 /* Whether an open succeeded that no close followed, and nothing broke the writer since. */
 nlog_status nlog_writer_is_open(nlog_writer *writer, bool *is_open);
 
