@@ -35,7 +35,7 @@ from log_format import HEADER, MAX_NAME, Log, as_version, command_hash, command_
 from trials import main, read, run, write
 
 TOP = os.path.dirname(os.path.dirname(os.path.abspath(__file__)))
-DRIVER, TOOL, RUST = (f"{TOP}/tests/clib/{it}" for it in ("driver.c", "tool.c", "safe.rs"))
+DRIVER, TOOL, SHARER, RUST = (f"{TOP}/tests/clib/{it}" for it in ("driver.c", "tool.c", "shared.c", "safe.rs"))
 STRICT = ["-Wall", "-Wextra", "-Wpedantic", "-Werror", "-D_POSIX_C_SOURCE=200809L", "-I", f"{TOP}/include"]
 SANITIZED = ["-fsanitize=address,undefined", "-fno-sanitize-recover=all"]
 A, B = b"1\t2\t3\ta\taa\n", b"4\t5\t6\tb\tbb\n"
@@ -56,6 +56,7 @@ def build(trials, room):
         ("sanitized", ["cc", "-std=c11", "-g", *SANITIZED, *STRICT, DRIVER, *parts]),
         ("refused", ["cc", "-std=c11", "-DREFUSES", "-Wl,--wrap=malloc,--wrap=realloc,--wrap=calloc", *STRICT, DRIVER, archive]),
         ("tool", ["cc", "-std=c11", "-O2", *STRICT, TOOL, archive]),
+        ("sharer", ["cc", "-std=c11", "-g", *SANITIZED, *STRICT, SHARER, *parts] if sanitizes(room) else ["cc", "-std=c11", *STRICT, SHARER, archive]),
         ("rust", ["rustc", "--edition", "2021", "-D", "warnings", "-L", room, "-l", "static=nlog", RUST]),
     ]
     for name, words in ways:
@@ -693,6 +694,35 @@ def at_once(trials, made, program, room):
     trials.want("and all that was recorded stands", set(Log(read(log)).table), wanted)
 
 
+def shares(trials, made, program, room):
+    """Writers that share a log from their open to their close, one of which rewrites it now and then, and records of the program between their calls."""
+    starts = {
+        "missing": (None, set()),
+        "torn": (HEADER + A + b"4\t5", {b"a"}),
+        "of version 7": (b"# ninja log v7\n" + A, {b"a"}),
+        "due": (HEADER + A * 101, {b"a"}),
+    }
+    for number, (kind, (text, before)) in enumerate(starts.items()):
+        log, count = f"{room}/share{number}.log", 120
+        if text is not None:
+            write(log, text)
+        words = [[made["sharer"], log, "0", str(n), str(count), "25" if n == 0 else "0"] for n in range(4)]
+        open_ones = [subprocess.Popen(it, stdout=subprocess.PIPE) for it in words]
+        theirs = []
+        while kind == "missing" and any(it.poll() is None for it in open_ones) and len(theirs) < 5:
+            theirs.append(run([program, "record", log, "1", "2", "3", f"theirs{len(theirs)}", "cc"])[0])
+        ended = [(it.communicate()[0], it.returncode) for it in open_ones]
+        trials.want(f"{kind}: each that shares the log ends well", [it[1] for it in ended], [0] * 4)
+        trials.want(f"{kind}: and so does what the program records between", theirs, [0] * len(theirs))
+        found = read(log)
+        said = [int(it[0].split()[1]) for it in ended if it[0].startswith(b"outputs: ")]
+        wanted = before | {b"%d/%d" % (n, i) for n in range(4) for i in range(count)} | {b"theirs%d" % i for i in range(len(theirs))}
+        trials.want(f"{kind}: all that was recorded stands", {it.split(b"\t")[3] for it in found.split(b"\n")[1:-1]}, wanted)
+        trials.check(f"{kind}: the last one saw what all recorded", max(said, default=0) >= len(wanted) - 5, f"{said}")
+        trials.want(f"{kind}: the version is kept", found[:15], text[:15] if text is not None else HEADER)
+        trials.check(f"{kind}: no scratch is left", not os.path.exists(f"{log}.recompact"))
+
+
 def killed(trials, made, room):
     """A process that is killed at some moment: all that a sync acknowledged is in the log, and the next one goes on from there."""
     chance = random.Random(11)
@@ -863,6 +893,7 @@ def trial(trials, program, room):
     refusals(trials, made, room)
     locks(trials, made, program, room)
     at_once(trials, made, program, room)
+    shares(trials, made, program, room)
     killed(trials, made, room)
     if may_trace(trials, room):
         syncs_that_fail(trials, made, room)
