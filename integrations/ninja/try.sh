@@ -1,0 +1,152 @@
+#!/usr/bin/env bash
+# Builds Ninja as it is and with the patch of this folder, and tries the two beside each other: README.md says what is tried.
+#
+#   integrations/ninja/try.sh VERSION [FOLDER]
+#
+# VERSION is 1.11.1 or 1.13.2. The sources are FOLDER/ninja-VERSION and, for 1.13.2, FOLDER/googletest; what isn't there is fetched from Debian,
+# by the package manager with lists of its own, into FOLDER, or where none is named into a folder that goes with the trial.
+#
+#   NLOG_CFLAGS, NLOG_LIBS    the library to take, as the compiler is told of it; else lib/archive.sh makes it, which wants rt
+#   NLOG_DEBIAN               the mirror (http://deb.debian.org/debian)
+#   NLOG_PARTS                which of tests, differ, faults, cost are run (all)
+#   NLOG_PROJECTS, NLOG_SEED  how many projects differ.py makes (300), and from which seed (one by the clock)
+#   NLOG_EDGES, NLOG_ROUNDS   the size of what cost.py builds (10000), and how often (9)
+#
+# Needs a C++ compiler, python3 and patch; to fetch, apt-get, dpkg-source and Debian's keyring; strace, and the right to mount, for the faults;
+# script for Ninja's output tests. Where it can't do its work it prints a line `skipped: why`, and ends with status 0.
+set -uo pipefail
+
+version=${1-} folder=${2-}
+case $version in 1.11.1 | 1.13.2) ;; *) sed -n '2,/^$/s/^# \{0,1\}//p' "$0" | head -n 16 >&2; exit 2 ;; esac
+
+here=$(cd "$(dirname "$0")" && pwd)
+top=$(cd "$here/../.." && pwd)
+room=$(mktemp -d)
+trap 'rm -rf "$room"' EXIT
+passed=0
+failed=0
+
+end() {
+    echo "integrations/ninja $version: $passed passed, $failed failed"
+    exit $((failed > 0))
+}
+
+skip() {
+    echo "skipped: $1"
+    end
+}
+
+check() { # name, status
+    if [[ $2 == 0 ]]; then passed=$((passed + 1)) && echo "ok: $1"; else failed=$((failed + 1)) && echo "FAILED: $1"; fi
+}
+
+wants() { [[ " ${NLOG_PARTS-tests differ faults cost} " == *" $1 "* ]]; }
+
+for it in "${CXX:-c++}" python3 patch; do command -v "$it" > /dev/null || skip "$it isn't there"; done
+if [[ -z ${NLOG_LIBS-} ]]; then
+    command -v rt > /dev/null || skip "the library isn't there: NLOG_LIBS names none, and rt, which makes it, isn't there"
+    "$top/lib/archive.sh" "$room/libnlog.a" > "$room/archive" 2>&1 || { tail -n 20 "$room/archive" && skip "the library couldn't be made"; }
+    NLOG_CFLAGS="-I$top/include" NLOG_LIBS="$room/libnlog.a -pthread"
+fi
+export NLOG_CFLAGS NLOG_LIBS
+
+# The package manager, over lists and a cache in the room alone.
+apt() {
+    "$1" -o Dir::State="$room/apt/state" -o Dir::State::status=/dev/null -o Dir::Cache="$room/apt/cache" -o Dir::Etc::SourceList="$room/apt/sources.list" \
+        -o Dir::Etc::SourceParts=/dev/null -o Dir::Etc::PreferencesParts=/dev/null -o APT::Sandbox::User= "${@:2}"
+}
+
+# Fetches a package's source of a version that begins so, and lays it out as this folder.
+fetch() { # package, version, folder
+    local keyring=/usr/share/keyrings/debian-archive-keyring.gpg mirror=${NLOG_DEBIAN:-http://deb.debian.org/debian} full
+    for it in apt-get apt-cache dpkg-source "$keyring"; do
+        [[ -e $it ]] || command -v "$it" > /dev/null || skip "$3 isn't there, and it can't be fetched: $it isn't there"
+    done
+    if [[ ! -e $room/apt/sources.list ]]; then
+        mkdir -p "$room/apt/state/lists/partial" "$room/apt/cache/archives/partial"
+        for suite in bookworm sid; do echo "deb-src [signed-by=$keyring] $mirror $suite main"; done > "$room/apt/sources.list"
+        apt apt-get update > "$room/apt/log" 2>&1 || { tail -n 3 "$room/apt/log" && skip "the lists of $mirror couldn't be fetched"; }
+    fi
+    full=$(apt apt-cache showsrc "$1" 2> /dev/null | sed -n 's/^Version: //p' | grep -F -m 1 "$2-")
+    [[ -n $full ]] || skip "$3 isn't there, and $mirror has no $1 $2"
+    mkdir -p "$room/fetched" "$(dirname "$3")"
+    (cd "$room/fetched" && apt apt-get -q source --download-only "$1=$full" > "$room/apt/log" 2>&1) || { tail -n 3 "$room/apt/log" && skip "$1 $full couldn't be fetched"; }
+    dpkg-source --no-check -x "$room/fetched/$1_${full#*:}.dsc" "$room/laid" > "$room/apt/log" 2>&1 || { tail -n 3 "$room/apt/log" && skip "$1 $full couldn't be laid out"; }
+    mv "$room/laid" "$3"
+}
+
+sources=${folder:-$room/sources}
+[[ -e $sources/ninja-$version ]] || fetch ninja-build "$version" "$sources/ninja-$version"
+if [[ $version == 1.13.2 && -e /usr/src/googletest/googletest/src/gtest-all.cc ]]; then
+    export GTEST_SOURCE_DIR=/usr/src/googletest
+elif [[ $version == 1.13.2 ]]; then
+    [[ -e $sources/googletest ]] || fetch googletest 1.12.1 "$sources/googletest"
+    GTEST_SOURCE_DIR=$(cd "$sources/googletest" && pwd)
+    export GTEST_SOURCE_DIR
+fi
+
+# Ninja builds itself, by the machine's one where it is there. The configure.py of 1.11.1 wants a module that newer Pythons have no more.
+mkdir "$room/python"
+echo 'from shlex import quote' > "$room/python/pipes.py"
+build() { # plain or patched
+    cp -r "$sources/ninja-$version" "$room/$1"
+    if [[ $1 == patched ]]; then patch -s -d "$room/$1" -p1 < "$here/ninja-$version.patch" || return; fi
+    cd "$room/$1" || return
+    if command -v ninja > /dev/null; then
+        PYTHONPATH=$room/python ./configure.py && ninja -j "${NLOG_JOBS:-2}" ninja ninja_test
+    else
+        PYTHONPATH=$room/python ./configure.py --bootstrap && ./ninja -j "${NLOG_JOBS:-2}" ninja ninja_test
+    fi
+}
+for it in plain patched; do
+    (build "$it") > "$room/$it.build" 2>&1
+    status=$?
+    ((status == 0)) || tail -n 20 "$room/$it.build"
+    check "$it Ninja $version is built" "$status"
+done
+((failed == 0)) || end
+
+# Ninja's own tests: how many ran, where all of them passed.
+own_tests() { # plain or patched
+    local count
+    cd "$room/$1" || return
+    ulimit -n 2000 2> /dev/null
+    ./ninja_test > "$room/$1.tests" 2>&1 || { tail -n 5 "$room/$1.tests" && return 1; }
+    count=$(tr '\r' '\n' < "$room/$1.tests" | sed -n -e 's/^\[\([0-9]*\)\/\1\].*/\1/p' -e 's/^\[  PASSED  \] \([0-9]*\) tests.*/\1/p' | tail -n 1)
+    echo "$1: $count tests of ninja_test passed"
+    [[ -n $count ]]
+}
+output_tests() {
+    cd "$room/$1" || return
+    env -u NINJA_STATUS python3 misc/output_test.py > "$room/$1.output" 2>&1 || { tail -n 20 "$room/$1.output" && return 1; }
+    sed -n "s/^Ran \([0-9]*\) tests.*/$1: \1 tests of output_test.py passed/p" "$room/$1.output"
+    grep -q '^Ran [1-9]' "$room/$1.output"
+}
+if wants tests; then
+    for it in plain patched; do (own_tests "$it"); check "$it: ninja_test" $?; done
+    if command -v script > /dev/null; then
+        for it in plain patched; do (output_tests "$it"); check "$it: misc/output_test.py" $?; done
+    else
+        echo "skipped: misc/output_test.py: script isn't there"
+    fi
+fi
+
+# A script of this folder, whose last line is `N passed, M failed`.
+part() { # name, words
+    local status last
+    wants "$1" || return
+    echo "== $1.py"
+    python3 "$here/$1.py" "$room/plain/ninja" "$room/patched/ninja" "${@:2}" 2>&1 | tee "$room/part"
+    status=${PIPESTATUS[0]}
+    last=$(tail -n 1 "$room/part")
+    if [[ $last =~ ^([0-9]+)\ passed,\ ([0-9]+)\ failed$ ]]; then
+        passed=$((passed + BASH_REMATCH[1]))
+        failed=$((failed + BASH_REMATCH[2]))
+        ((status == 0 || BASH_REMATCH[2] > 0)) && return
+    fi
+    check "$1.py ended with status $status" 1
+}
+part faults
+part differ "${NLOG_PROJECTS:-300}" ${NLOG_SEED:+"$NLOG_SEED"}
+part cost "${NLOG_EDGES:-10000}" "${NLOG_ROUNDS:-9}"
+end
