@@ -3,12 +3,12 @@
 
     python3 integrations/ninja/differ.py PLAIN PATCHED [PROJECTS [SEED]]
 
-A project is a manifest, sources and, mostly, a log: entries of outputs that are there, that are gone and that are of no edge, older entries of
+A project is a manifest (with, at times, commands that run Ninja itself in the same folder), sources and, mostly, a log: entries of outputs that are there, that are gone and that are of no edge, older entries of
 them, lines that are no entries, a torn last line. Then come a few steps: builds of all or of some outputs, and such as only tell what they would
 do; edits of sources and of the manifest; outputs that are removed; `-t recompact`, `-t restat`, `-t cleandead`; a last line of the log that is
 cut. After each step the two must have ended alike, said the same (but for times and the order of lines), have the same files with the same
-bytes, and the same logs but for the order of entries: their outputs, their hashes, the numbers that were given them in the same way, and of
-others which are those of before the step.
+bytes, and the same logs but for the order of entries: their outputs, their hashes, the numbers that both were given, and of other time stamps
+which are those of before the step.
 
 A torn line is followed by a recompaction, since a build by the plain one then spoils the log: faults.py shows that.
 """
@@ -22,10 +22,11 @@ import tempfile
 import time
 
 LOG = ".ninja_log"
+# The outputs of one command have the same time: 1.11.1 records the latest of them.
 RULES = """rule copy
   command = cat $in > $out
 rule each
-  command = for it in $out; do cat $in > "$$it"; done
+  command = for it in $out; do cat $in > "$$it"; done; set -- $out; touch -r "$$1" -- "$$@"
 rule same
   command = cat $in > $out.new; if cmp -s $out.new $out; then rm $out.new; else mv $out.new $out; fi
   restat = 1
@@ -46,12 +47,14 @@ rule list
   rspfile = $out.rsp
   rspfile_content = $in $tag
 rule dyn
-  command = cat $in > $out; touch $hidden
+  command = cat $in > $out; touch -r $out $hidden
 rule gone
   command = true
 rule nested
   command = cat $in > $out; "$$NINJA" -t restat > /dev/null
   generator = 1
+rule inner
+  command = "$$NINJA" -j1 $inside > /dev/null && cat $in > $out
 rule remake
   command = cp $in $out
   generator = 1
@@ -73,6 +76,8 @@ class Project:
         self.tag = 0
         self.is_remade = self.random.random() < 0.15
         self.has_dyndep = self.random.random() < 0.3
+        # A command that runs this Ninja in the same folder, on another output.
+        self.has_inner = self.random.random() < 0.3
         self.names = 0
         for _ in range(self.random.randint(1, 12)):
             self.add_edge()
@@ -96,6 +101,8 @@ class Project:
             lines.append(f"build {' '.join(map(escaped, outs))}: {rule} {' '.join(map(escaped, ins))}{' || s0' if has_order else ''}\n")
             if rule in ("made", "list", "copy"):
                 lines.append(f"  tag = {self.tag}\n" if rule != "copy" else "")
+        if self.has_inner:
+            lines.append("build inside: copy s0\nbuild outside: inner s1\n  inside = inside\n")
         if self.has_dyndep:
             lines.append("build dynout: dyn s0 || dd\n  dyndep = dd\n  hidden = hid.den other\n")
         if self.is_remade:
@@ -177,7 +184,7 @@ class Side:
         return found
 
     def log(self):
-        """The header, and of each output its hash, its times where they are known, and whether its line is the one of before."""
+        """The header, and of each output its hash, its times where they are known, and else whether its time stamp is that of before."""
         text = self.bytes(LOG)
         if text is None:
             return None
@@ -187,8 +194,8 @@ class Side:
             if len(fields) < 5:
                 continue
             start, end, mtime, name, command = fields
-            kept[name] = line
-            mtime = mtime if int(mtime) in self.known else self.before.get(name) == line
+            kept[name] = mtime
+            mtime = mtime if int(mtime) in self.known else self.before.get(name) == mtime
             found[name] = (command, mtime, (start, end) if (start, end) in self.given else None)
         self.before = kept
         found[b"header"], found[b"torn"] = lines[0], lines[-1]
@@ -321,7 +328,7 @@ class Differ:
                         it.write(text[: max(at, len(text) - cut)])
                 return run("-t", "recompact")
         elif what == "restat":
-            for name in [*project.outputs(), "dynout", "hid.den", "other"]:
+            for name in [*project.outputs(), "dynout", "hid.den", "other", "inside", "outside"]:
                 dated(name, os.stat(sides[0].path(project.sources[0])).st_mtime_ns + random_numbers.randint(-5, 5))
             return run("-t", "restat", *(["--", *some] if random_numbers.random() < 0.5 else []))
         elif what in ("recompact", "cleandead", "clean"):

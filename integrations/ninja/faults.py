@@ -250,6 +250,25 @@ def try_kill_in_a_build(trial, ninja, header):
     trial.want("a kill: the log after that", sorted(names_in(read(LOG))), [b"a", b"b"])
 
 
+def try_inner(trial, ninja, header):
+    """A command that runs Ninja in the same folder, on another output."""
+    write("build.ninja", f"rule c\n  command = touch $out\nrule d\n  command = '{ninja.path}' c && touch $out\nbuild a: c\nbuild b: d a\nbuild c: c\nbuild e: c b\ndefault e\n")
+    status, said = ninja.run()
+    trial.want("a build in a build: ends", status, 0)
+    trial.want("a build in a build: the log", names_in(read(LOG)), [b"a", b"c", b"b", b"e"])
+    trial.want("a build in a build: nothing is left to do", ninja.run("e", "c"), (0, IDLE))
+
+
+def try_two(trial, ninja, header):
+    """Two builds in one folder at once."""
+    write("build.ninja", "rule c\n  command = touch $out\n" + "".join(f"build {side}{it}: c\n" for side in "ab" for it in range(150))
+          + "".join(f"build {side}: phony " + " ".join(f"{side}{it}" for it in range(150)) + "\n" for side in "ab"))
+    both = [subprocess.Popen([ninja.path, "-j2", it], stdout=subprocess.DEVNULL) for it in "ab"]
+    trial.want("two builds at once: both end", [it.wait() for it in both], [0, 0])
+    trial.want("two builds at once: the log", sorted(names_in(read(LOG))), sorted(f"{side}{it}".encode() for side in "ab" for it in range(150)))
+    trial.want("two builds at once: nothing is left to do", ninja.run(), (0, IDLE))
+
+
 def try_locked(trial, ninja, header):
     """A log that another process has locked is waited for, for ten seconds. A build that records nothing doesn't wait."""
     touching("a")
@@ -262,13 +281,13 @@ def try_locked(trial, ninja, header):
         touching("a", "b")
         text = read(LOG)
         status, said = ninja.run()
-        trial.check("locked: refused, and says so", status == 1 and "build log" in said and "lock" in said, said)
+        trial.check("locked: refused, and says so", status == 1 and "build log .ninja_log: another process" in said, said)
         trial.want("locked: the log", read(LOG), text)
     trial.want("once it is free", ninja.run()[0], 0)
     trial.want("once it is free: the log", names_in(read(LOG)), [b"a", b"b"])
 
 
-OTHERWISE = [try_other_versions, try_no_log, try_names, try_early_time, try_idle, try_kill_in_a_build, try_locked]
+OTHERWISE = [try_other_versions, try_no_log, try_names, try_early_time, try_idle, try_kill_in_a_build, try_inner, try_two, try_locked]
 
 
 def main(plain, patched):
