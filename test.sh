@@ -1,6 +1,6 @@
 #!/usr/bin/env bash
 # The test command of README.md: the gate, and then the trials of tests/ on the program that it built.
-# Each part ends in a line 'N passed, M failed'; the last line is their sum.
+# Each part ends in a line 'N passed, M failed'; the last line is their sum. NLOG_NINJA_SOURCES=FOLDER tries Ninja on the library for C too.
 set -uo pipefail
 cd "$(dirname "$0")"
 
@@ -12,10 +12,10 @@ count() {
     local status=$1 last
     last=$(tail -n 1 "$2")
     shift 2
-    if [[ $last =~ ^([0-9]+)\ passed,\ ([0-9]+)\ failed$ ]]; then
-        passed=$((passed + BASH_REMATCH[1]))
-        failed=$((failed + BASH_REMATCH[2]))
-        ((status == 0 || BASH_REMATCH[2] > 0)) && return
+    if [[ $last =~ ^(integrations/[^:]*: )?([0-9]+)\ passed,\ ([0-9]+)\ failed$ ]]; then
+        passed=$((passed + BASH_REMATCH[2]))
+        failed=$((failed + BASH_REMATCH[3]))
+        ((status == 0 || BASH_REMATCH[3] > 0)) && return
     fi
     echo "test.sh: FAILED: $* ended with status $status"
     failed=$((failed + 1))
@@ -74,6 +74,15 @@ parts < <(
         echo "python3 tests/$trial.py crates/nlog/out/nlog"
     done
 )
+
+# Ninja on the library for C, of each version whose source is in this folder.
+for version in 1.11.1 1.13.2; do
+    if [[ -n ${NLOG_NINJA_SOURCES-} && -e $NLOG_NINJA_SOURCES/ninja-$version ]]; then
+        part integrations/ninja/try.sh "$version" "$NLOG_NINJA_SOURCES"
+    else
+        echo "test.sh: skipped: integrations/ninja/try.sh $version (NLOG_NINJA_SOURCES names no folder that has ninja-$version)"
+    fi
+done
 
 echo "$passed passed, $failed failed"
 ((failed == 0))

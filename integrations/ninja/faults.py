@@ -169,6 +169,37 @@ FAULTS = [("torn", try_torn), ("full", try_full_disk), ("read", try_read_error),
 # ---- what the patched one does otherwise ----
 
 
+def try_plain(trial, ninja, header):
+    """What README.md says of the plain one."""
+    own, lines = int(header[-2:-1]), b"1\t2\t3\tgone\taa\n"
+    touching("a")
+    newer = b"# ninja log v8\n" + lines
+    write(LOG, newer)
+    ninja.run()
+    found = read(LOG)
+    if own == 5:
+        trial.check("plain: a newer log gets lines of this version", found.startswith(newer) and names_in(found) == [b"gone", b"a"], repr(found))
+        write(LOG, b"# ninja log v3\n" + lines)
+        trial.check("plain: a recompaction of an old log fails", ninja.run("-t", "recompact")[0] == 1)
+    else:
+        trial.check("plain: a newer log is removed", found.startswith(header) and names_in(found) == [b"a"], repr(found))
+    write(LOG, b"something else\n")
+    said = ninja.run()[1]
+    trial.check("plain: what is no log is removed, as an old version", "starting over" in said and b"something" not in read(LOG) and not os.path.exists(LOG + ".not-a-log"), said)
+    write(LOG, header + b"1\t2\t3\ta\tcommand\n")
+    ninja.run("-t", "restat")
+    trial.check("plain: a hash is what strtoull makes of it", read(LOG).endswith(b"\ta\tc\n"), repr(read(LOG)))
+    write("build.ninja", "rule c\n  command = touch $out\nbuild a\tb: c\n")
+    os.remove(LOG)
+    ninja.run()
+    trial.check("plain: a name with a tab is an entry of another output", b"\ta\tb\t" in read(LOG), repr(read(LOG)))
+    touching("a")
+    ninja.run()
+    os.utime("a", (-5, -5))
+    ninja.run("-t", "restat", "a")
+    trial.check("plain: a time before 1970 is negative", b"\t-5000000000\ta\t" in read(LOG), repr(read(LOG)))
+
+
 def try_other_versions(trial, ninja, header):
     own = int(header[-2:-1])
     lines = b"1\t2\t3\ta\taa\n"
@@ -307,6 +338,7 @@ def main(plain, patched):
                 before = trial.failed
                 part(trial, Ninja(path, f"{room}/{name}-{which}"), header, which == "plain")
                 print(f"{name}: {which}: {'FAILED' if trial.failed > before else 'the fault is there' if which == 'plain' else 'the fault is gone'}")
+        try_plain(trial, Ninja(plain, f"{room}/plain"), header)
         for at, part in enumerate(OTHERWISE):
             if part == try_idle and not has_strace:
                 print("skipped: no work: nothing can be traced")
