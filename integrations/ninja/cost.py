@@ -4,7 +4,7 @@
     python3 integrations/ninja/cost.py PLAIN PATCHED [EDGES [ROUNDS]]
 
 Two things: a build of EDGES (10000) outputs by trivial commands, and one that finds nothing to do after that. Both Ninjas do each in turn, ROUNDS
-(9) times. What is compared is the median of the processor time of Ninja's own process, user and system, which the kernel counts in nanoseconds;
+(9) times; of what finds nothing to do, a round takes the least of ten runs in turn. What is compared is the median of the processor time of Ninja's own process, user and system, which the kernel counts in nanoseconds;
 the commands' own is left out, and printed beside it. Fails where the patched one takes more than LIMIT times as much.
 """
 import os
@@ -47,14 +47,19 @@ def main(plain, patched, edges="10000", rounds="9"):
         for name in ninjas:
             lay_out(f"{room}/{name}", int(edges))
         for turn in range(int(rounds)):
-            for name in list(ninjas) if turn % 2 == 0 else reversed(list(ninjas)):
+            order = list(ninjas) if turn % 2 == 0 else list(reversed(ninjas))
+            for name in order:
                 folder = f"{room}/{name}"
                 shutil.rmtree(f"{folder}/out", ignore_errors=True)
                 for it in (".ninja_log", ".ninja_deps"):
                     if os.path.exists(f"{folder}/{it}"):
                         os.remove(f"{folder}/{it}")
                 times[name, "build"].append(run(ninjas[name], folder))
-                times[name, "no work"].append(min(run(ninjas[name], folder) for _ in range(5)))
+            least = {name: (9.0, 9.0) for name in ninjas}
+            for name in order * 10:
+                least[name] = min(least[name], run(ninjas[name], f"{room}/{name}"))
+            for name in ninjas:
+                times[name, "no work"].append(least[name])
         for what in ("build", "no work"):
             medians = {name: statistics.median(it[0] for it in times[name, what]) for name in ninjas}
             others = {name: statistics.median(it[1] for it in times[name, what]) for name in ninjas}

@@ -22,7 +22,8 @@ import tempfile
 import time
 
 LOG = ".ninja_log"
-# The outputs of one command have the same time: 1.11.1 records the latest of them.
+# The outputs of one command have the same time, of which 1.11.1 records the latest. A restat within a build is of a file whose time is given:
+# whether the time of an output is the one that was recorded for it is told by the clock's ticks.
 RULES = """rule copy
   command = cat $in > $out
 rule each
@@ -51,7 +52,7 @@ rule dyn
 rule gone
   command = true
 rule nested
-  command = cat $in > $out; "$$NINJA" -t restat > /dev/null
+  command = cat $in > $out; "$$NINJA" -t restat dead0 > /dev/null
   generator = 1
 rule inner
   command = "$$NINJA" -j1 $inside > /dev/null && cat $in > $out
