@@ -3,9 +3,10 @@
 
     python3 integrations/ninja/cost.py PLAIN PATCHED [EDGES [ROUNDS]]
 
-Two things: a build of EDGES (10000) outputs by trivial commands, and one that finds nothing to do after that. Both Ninjas do each in turn, ROUNDS
-(9) times; of what finds nothing to do, a round takes the least of ten runs in turn. What is compared is the median of the processor time of Ninja's own process, user and system, which the kernel counts in nanoseconds;
-the commands' own is left out, and printed beside it. Fails where the patched one takes more than LIMIT times as much.
+Two things: a build of EDGES (10000) outputs by trivial commands, and one that finds nothing to do after that. Both Ninjas do each in turn,
+ROUNDS (9) times; of what finds nothing to do, a round takes the least of ten runs in turn. What is compared is the median of the processor
+time of Ninja's own process, user and system, which the kernel counts in nanoseconds; the commands' own is left out, and printed beside it.
+Fails where the patched one takes more than LIMIT times as much.
 """
 import os
 import shutil

@@ -3,12 +3,12 @@
 
     python3 integrations/ninja/differ.py PLAIN PATCHED [PROJECTS [SEED]]
 
-A project is a manifest (with, at times, commands that run Ninja itself in the same folder), sources and, mostly, a log: entries of outputs that are there, that are gone and that are of no edge, older entries of
-them, lines that are no entries, a torn last line. Then come a few steps: builds of all or of some outputs, and such as only tell what they would
-do; edits of sources and of the manifest; outputs that are removed; `-t recompact`, `-t restat`, `-t cleandead`; a last line of the log that is
-cut. After each step the two must have ended alike, said the same (but for times and the order of lines), have the same files with the same
-bytes, and the same logs but for the order of entries: their outputs, their hashes, the numbers that both were given, and of other time stamps
-which are those of before the step.
+A project is a manifest (with, at times, commands that run Ninja itself in the same folder), sources and, mostly, a log: entries of outputs
+that are there, that are gone and that are of no edge, older entries of them, lines that are no entries, a torn last line. Then come a few
+steps: builds of all or of some outputs, and such as only tell what they would do; edits of sources and of the manifest; outputs that are
+removed; `-t recompact`, `-t restat`, `-t cleandead`; a last line of the log that is cut. After each step the two must have ended alike,
+said the same (but for times and the order of lines), have the same files with the same bytes, and the same logs but for the order of
+entries: their outputs, their hashes, the numbers that both were given, and of other time stamps which are those of before the step.
 
 A torn line is followed by a recompaction, since a build by the plain one then spoils the log: faults.py shows that.
 """
@@ -22,8 +22,8 @@ import tempfile
 import time
 
 LOG = ".ninja_log"
-# The outputs of one command have the same time, of which 1.11.1 records the latest. A restat within a build is of a file whose time is given:
-# whether the time of an output is the one that was recorded for it is told by the clock's ticks.
+# The outputs of one command have the same time, of which 1.11.1 records the latest. A restat within a build is of a file whose time is
+# given: whether the time of an output is the one that was recorded for it is told by the clock's ticks.
 RULES = """rule copy
   command = cat $in > $out
 rule each

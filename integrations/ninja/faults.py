@@ -3,8 +3,9 @@
 
     python3 integrations/ninja/faults.py PLAIN PATCHED
 
-The four faults of README.md are shown on the plain one, and shown to be gone on the patched one. Then what the patch does otherwise: logs of
-other versions and files that are no logs, names that a log can't hold, times before 1970, a log that is locked, a build that does nothing.
+The four faults of README.md are shown on the plain one, and shown to be gone on the patched one. Then what the patch does otherwise: logs
+of other versions and files that are no logs, names that a log can't hold, times before 1970, a log that is locked, a build that does
+nothing.
 """
 import fcntl
 import os
