@@ -247,9 +247,10 @@ void nlog_writer_free(nlog_writer **writer);
 nlog_status nlog_writer_open(nlog_writer *writer);
 
 /* Whether the log is shared, which it isn't at first: then the lock is held within each call alone, and not from the open to the close. A call
- * that finds that another writer had the log since reads and opens it anew, with what it holds now: its lines stand beside this writer's, in the
- * order in which they were recorded. For a tool whose commands may run the tool itself in the same folder, as a build may run Ninja.
- * NLOG_ALREADY_OPEN: nothing is changed. NLOG_LOCKED of a later call: nothing is changed, and it may be made again. */
+ * that changes the log, and finds that another writer had it since, reads and opens it anew, with what it holds now: the lines of both stand in
+ * the order in which they were recorded. What only reads (nlog_writer_find and the like) answers of what the last such call saw. For a tool
+ * whose commands may run the tool itself in the same folder, as a build may run Ninja. The writer has to be closed: NLOG_ALREADY_OPEN, also of a
+ * broken one. NLOG_LOCKED of a later call: the file is as it was, and where nlog_writer_is_open tells so the call may be made again. */
 nlog_status nlog_writer_set_shared(nlog_writer *writer, bool is_shared);
 
 /* Whether an open succeeded that no close followed, and nothing broke the writer since. */
