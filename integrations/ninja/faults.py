@@ -211,6 +211,8 @@ def try_other_versions(trial, ninja, header):
         trial.check(f"version {version}: it starts over, and says so", status == 0 and "build log version" in said and "starting over" in said, said)
         trial.check(f"version {version}: a new log", read(LOG).startswith(header) and names_in(read(LOG)) == [b"a"], repr(read(LOG)))
         os.remove("a")
+        write(LOG, b"# ninja log v%d\n" % version + lines)
+        trial.want(f"version {version}: -t recompact", (ninja.run("-t", "recompact")[0], read(LOG)), (0, header if own == 5 else None))
     for version in (own + 1, own + 2, 8, 9, 10, 77, 18446744073709551615):
         text = b"# ninja log v%d\n" % version + lines
         for words in ([], ["-n"], ["-t", "recompact"], ["-t", "restat"]):
