@@ -785,8 +785,15 @@ def syncs_that_fail(trials, made, room):
 
 
 def signals(trials, made, room):
-    """A wait for a lock that signals interrupt takes no less time."""
+    """Calls that signals interrupt, each of them every other time: all is done. A wait for a lock takes no less time."""
     log = f"{room}/signals.log"
+    for call in ("openat", "flock", "pread64", "ftruncate", "fsync", "write"):
+        write(log, HEADER + B + b"4\t5")
+        driver = ["strace", "-o", f"{room}/TRACE", "-P", log, "-P", f"{log}.recompact", "-e", f"inject={call}:error=EINTR:when=1+2", made["C11"]]
+        said = asked(driver, "write", log, 0, ["open", RECORD, "sync", "recompact", "close"])[1]
+        trials.want(f"{call} that is interrupted", said, ["OK"] * 5)
+        trials.want("the log then", read(log), HEADER + B + A)
+        trials.check("it was interrupted", b"EINTR" in read(f"{room}/TRACE"))
     write(log, HEADER)
     with open(log, "rb") as held:
         fcntl.flock(held, fcntl.LOCK_EX)
@@ -795,6 +802,22 @@ def signals(trials, made, room):
         said = asked(driver, "write", log, 0, ["open"])[1]
         trials.want("flocks that are interrupted", said, ["LOCKED EWOULDBLOCK flock log"])
         trials.check("10 seconds pass all the same", 9.9 < time.monotonic() - begun < 25, time.monotonic() - begun)
+
+
+def replaced(trials, made, room):
+    """A log that is rewritten between the open of its file and the lock: the lock is one of a file without a name, and the new one is opened."""
+    log = f"{room}/replaced.log"
+    write(log, HEADER + B)
+    words = ["strace", "-o", f"{room}/TRACE", "-e", "trace=flock", "-e", "inject=flock:delay_enter=1500000:when=1", made["C11"], "write", log, "0"]
+    waiting = subprocess.Popen(words, stdin=subprocess.PIPE, stdout=subprocess.PIPE)
+    waiting.stdin.write(f"open\n{RECORD}\nclose\n".encode())
+    waiting.stdin.flush()
+    time.sleep(0.75)
+    write(f"{log}.new", HEADER + D)
+    os.rename(f"{log}.new", log)
+    trials.want("a log that is rewritten before the lock", waiting.communicate(timeout=60)[0], b"NLOG_OK\n" * 3)
+    trials.want("the new log has the record", read(log), HEADER + D + A)
+    trials.want("it was locked twice", len(re.findall(rb"(?m)^flock\(", read(f"{room}/TRACE"))), 2)
 
 
 def by_the_rules_of_the_program(trials, made, room):
@@ -898,6 +921,7 @@ def trial(trials, program, room):
     if may_trace(trials, room):
         syncs_that_fail(trials, made, room)
         signals(trials, made, room)
+        replaced(trials, made, room)
     by_the_rules_of_the_program(trials, made, room)
     by_rust(trials, made, room)
     records(trials, made, room)
