@@ -166,8 +166,8 @@ typedef enum nlog_change {
 /* Opens the log that the bytes are: what a crash cut off is taken away, a missing first line is made, and a log that is due is rewritten,
  * without what is marked dead. `version`: 5 (which takes 4 too), 6 or 7 is the version that the log must have, and that one is made of which
  * nothing stands; 0 is that of the bytes, and 5 where there are none. `change`: an nlog_change. NLOG_OK uses up each mark of a dead name of
- * which the log then has no entry. NLOG_ALREADY_OPEN, NLOG_BROKEN, NLOG_NOT_A_LOG, NLOG_OTHER_VERSION (also of a text that is no log, where
- * its digit isn't that of the version asked for), NLOG_OUT_OF_MEMORY, NLOG_FAULT (memory ran out in the text): nothing was changed. */
+ * which the log then has no entry. NLOG_ALREADY_OPEN, NLOG_BROKEN, NLOG_NOT_A_LOG, NLOG_OTHER_VERSION, NLOG_OUT_OF_MEMORY, NLOG_FAULT (memory
+ * ran out in the text): nothing was changed. */
 nlog_status nlog_open(nlog *log, const void *bytes, size_t len, uint32_t version, uint32_t *change);
 
 nlog_status nlog_is_open(nlog *log, bool *is_open);

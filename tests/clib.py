@@ -296,10 +296,6 @@ def asked(driver, how, path, version, lines, **more):
 def opened(text, version):
     """What an open makes of the bytes, by docs/FORMAT.md: its status, the change and the text, both None where it is refused."""
     named = {b"# ninja log v6": 6, b"# ninja log v7": 7}.get(text.partition(b"\n")[0], 5)
-    # A version that is asked for is first held against the digit alone, whatever stands around it.
-    digit = {b"6": 6, b"7": 7}.get(text[13:14], 5)
-    if version not in (0, digit) and len(text) > 13:
-        return "OTHER_VERSION", None, None
     as_asked = as_version(text, version or named)
     status = STATUS[reading_of(as_asked)]
     if status != "NLOG_OK" or version in (6, 7) and text.startswith(b"# ninja log v4\n"):
