@@ -780,6 +780,19 @@ def syncs_that_fail(trials, made, room):
     trials.want("a sync of a scratch that fails", said, ["OK", "FAULT EIO fsync scratch", "BROKEN", "OK", "OK 0", "OK"])
 
 
+def writes_that_fail(trials, made, room):
+    """A write of a record that fails breaks the writer until it is opened again; a close syncs what was recorded, and no more than that."""
+    log = f"{room}/writes.log"
+    write(log, HEADER + B)
+    driver = ["strace", "-o", f"{room}/TRACE", "-P", log, "-e", "inject=write:error=ENOSPC:when=1", made["C11"]]
+    said = asked(driver, "write", log, 0, ["open", RECORD, RECORD, "sync", "recompact", "count", "is_open", "close", "open", RECORD, "close"])[1]
+    trials.want("a write that fails", said, ["OK", "FAULT ENOSPC write log", *["BROKEN"] * 4, "OK 0", "BROKEN", "OK", "OK", "OK"])
+    trials.want("the log then", read(log), HEADER + B + A)
+    for lines, wanted in ((["open", RECORD, "close"], ["fsync", "write", "fsync"]), (["open", RECORD, "sync", "close"], ["fsync", "write", "fsync"]), (["open", "close"], ["fsync"])):
+        run(["strace", "-o", f"{room}/TRACE", "-P", log, made["C11"], "write", log, "0"], input="\n".join(lines).encode() + b"\n", stdin=None)
+        trials.want(f"the calls of {lines}", re.findall(r"(?m)^(fsync|write)\(", read(f"{room}/TRACE").decode()), wanted)
+
+
 def signals(trials, made, room):
     """Calls that signals interrupt, each of them every other time: all is done. A wait for a lock takes no less time."""
     log = f"{room}/signals.log"
@@ -916,6 +929,7 @@ def trial(trials, program, room):
     killed(trials, made, room)
     if may_trace(trials, room):
         syncs_that_fail(trials, made, room)
+        writes_that_fail(trials, made, room)
         signals(trials, made, room)
         replaced(trials, made, room)
     by_the_rules_of_the_program(trials, made, room)
