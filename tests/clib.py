@@ -100,6 +100,18 @@ def drivers(made):
     return [(name, [made[name]]) for name in ("C11", "C++17", "sanitized") if name in made]
 
 
+def linked(trials, made, room):
+    """The driver by each compiler that is there, over the archive and over the shared object."""
+    for compiler in ("gcc", "clang"):
+        if shutil.which(compiler) is None:
+            trials.skip(f"the driver by {compiler}", "it isn't there")
+            continue
+        for how, libraries in (("archive", [f"{room}/libnlog.a"]), ("shared object", [f"-L{room}", f"-Wl,-rpath,{room}", "-lnlog"])):
+            ran = run([compiler, "-std=c11", *STRICT, DRIVER, *libraries, "-o", f"{room}/linked"])
+            trials.check(f"{compiler} links the {how} without a warning", ran[0] == 0 and not ran[2], ran[2][-800:].decode(errors="replace"))
+            trials.want(f"and that by {compiler} over the {how} runs", run([f"{room}/linked", "misuse"]), (0, b"done\n", b""))
+
+
 # ---- A log in memory ----
 
 
@@ -912,6 +924,7 @@ def trial(trials, program, room):
     if "C11" not in made:
         return
     names(trials, room)
+    linked(trials, made, room)
     reads(trials, made, room)
     hashes(trials, made, room)
     lines(trials, made, room)
