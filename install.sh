@@ -56,7 +56,8 @@ room=$(mktemp -d)
 trap 'rm -rf "$room"' EXIT
 "$top/lib/archive.sh" "$room/libnlog.a"
 mkdir -p "$prefix/lib/pkgconfig" "$prefix/include" "$prefix/share/man/man3"
-version=$(sed -n 's/^## \([0-9][0-9.]*\).*/\1/p' "$top/CHANGELOG.md" | head -n 1)
+number=$(sed -n 's/^#define NLOG_VERSION //p' "$top/include/nlog.h")
+version=$((number / 1000000)).$((number / 1000 % 1000)).$((number % 1000))
 cat > "$room/nlog.pc" << END
 prefix=$(cd "$prefix" && pwd)
 
