@@ -269,7 +269,7 @@ def header(trials):
     trials.want("the numbers of the statuses", {name: numbers.get(name) for name in statuses}, statuses)
     trials.want("those of an nlog_change", [numbers.get(it) for it in ("KEEP", "APPEND", "CUT", "REPLACE")], [0, 1, 2, 3])
     version = int(re.search(r"#define NLOG_VERSION (\d+)", text)[1])
-    trials.want("the version", f"{version // 1000000}.{version // 1000 % 1000}.{version % 1000}", re.search(r"\n## (\d+\.\d+\.\d+)", read(f"{TOP}/CHANGELOG.md").decode())[1])
+    trials.want("the version", f"{version // 1000000}.{version // 1000 % 1000}.{version % 1000}", re.search(r"\n## The library for C (\d+\.\d+\.\d+)", read(f"{TOP}/CHANGELOG.md").decode())[1])
 
 
 def pages(trials, room):
