@@ -1,4 +1,6 @@
-// What a load and a look-up of the library for C cost, beside std::unordered_map over the same log: bench/clib.sh builds and runs it.
+// What the library for C costs; bench/clib.sh builds and runs it.
+//   load LOG          the microseconds of processor time that one load of the log takes, from memory
+//   find LOG ROUNDS   the nanoseconds of a look-up, and those of one in a std::unordered_map over the same log
 #include "nlog.h"
 
 #include <algorithm>
@@ -6,7 +8,6 @@
 #include <cstdlib>
 #include <ctime>
 #include <fstream>
-#include <iterator>
 #include <random>
 #include <string>
 #include <string_view>
@@ -23,20 +24,29 @@ double median(std::vector<double> times) {
   return times[times.size() / 2];
 }
 
-}  // namespace
+std::string bytes_of(const char *path) {
+  std::ifstream file(path, std::ios::binary | std::ios::ate);
+  std::string bytes(size_t(file.tellg()), '\0');
+  file.seekg(0);
+  file.read(bytes.data(), std::streamsize(bytes.size()));
+  return bytes;
+}
 
-int main(int count, char **words) {
-  if (count != 3) return 2;
-  const int rounds = std::atoi(words[2]);
-  std::ifstream file(words[1], std::ios::binary);
-  const std::string bytes((std::istreambuf_iterator<char>(file)), std::istreambuf_iterator<char>());
+int time_load(const char *path) {
+  const std::string bytes = bytes_of(path);
   nlog log = NLOG_INIT;
-  std::vector<double> loads, finds, maps;
-  for (int i = 0; i < rounds; i++) {
-    const double begun = seconds();
-    if (nlog_load(&log, bytes.data(), bytes.size()) != NLOG_OK) return 1;
-    loads.push_back(seconds() - begun);
-  }
+  const double begun = seconds();
+  if (nlog_load(&log, bytes.data(), bytes.size()) != NLOG_OK) return 1;
+  std::printf("%.0f\n", (seconds() - begun) * 1e6);
+  nlog_free(&log);
+  return 0;
+}
+
+int time_find(const char *path, int rounds) {
+  const std::string bytes = bytes_of(path);
+  nlog log = NLOG_INIT;
+  if (nlog_load(&log, bytes.data(), bytes.size()) != NLOG_OK) return 1;
+  std::vector<double> finds, maps;
   size_t outputs = 0, len = 0;
   nlog_count(&log, &outputs);
   std::vector<char> name(NLOG_MAX_NAME);
@@ -68,7 +78,15 @@ int main(int count, char **words) {
     maps.push_back(seconds() - begun);
   }
   nlog_free(&log);
-  std::printf("outputs %zu load %.0f ms nlog_find %.0f ns unordered_map %.0f ns\n", outputs, median(loads) * 1e3, median(finds) / double(outputs) * 1e9,
+  std::printf("outputs %zu nlog_find %.0f ns unordered_map %.0f ns\n", outputs, median(finds) / double(outputs) * 1e9,
               median(maps) / double(outputs) * 1e9);
   return sum == other ? 0 : 1;
+}
+
+}  // namespace
+
+int main(int count, char **words) {
+  if (count == 3 && std::string_view(words[1]) == "load") return time_load(words[2]);
+  if (count == 4 && std::string_view(words[1]) == "find") return time_find(words[2], std::atoi(words[3]));
+  return 2;
 }

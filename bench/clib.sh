@@ -1,7 +1,7 @@
 #!/bin/sh
 # Times the library for C on a log: clib.sh PROGRAM LOG [ROUNDS]
-# A load and look-ups of each output, by bench/clib.cc; `check` of PROGRAM on the same log; and records by the writer, beside fprintf and
-# fflush of the same lines.
+# A load, each in a process of its own, in turn with `check` of PROGRAM on the same log; look-ups of each output; and records by the writer, in
+# turn with fprintf and fflush of the same lines, as Ninja calls them.
 set -eu
 top=$(cd "$(dirname "$0")/.." && pwd)
 program=$1
@@ -12,16 +12,50 @@ trap 'rm -rf "$room"' EXIT
 "$top/lib/archive.sh" "$room/libnlog.a" > "$room/said"
 c++ -std=c++17 -O2 -I "$top/include" "$top/bench/clib.cc" "$room/libnlog.a" -o "$room/bench"
 cc -std=c11 -O2 -D_POSIX_C_SOURCE=200809L -I "$top/include" "$top/tests/clib/driver.c" "$room/libnlog.a" -o "$room/driver"
-"$room/bench" "$log" "$rounds"
-python3 "$top/bench/show.py" -n "$rounds" "$log" "check=$program check"
-# Nanoseconds of a record, and of fprintf and fflush of the same line into a file that is open for appending.
-for _ in $(seq "$rounds"); do
-    rm -f "$room/ours.log" "$room/plain.log"
-    "$room/driver" time "$room/ours.log" "$room/plain.log" 200000
-done > "$room/times"
-python3 - "$room/times" << 'END'
-import statistics, sys
-rows = [[int(it) for it in line.split()] for line in open(sys.argv[1], encoding="ascii")]
-ours, theirs = (statistics.median(it) for it in zip(*rows))
-print(f"record {ours:.0f} ns, fprintf and fflush {theirs:.0f} ns, ratio {statistics.median(a / b for a, b in rows):.2f}")
+python3 - "$room" "$program" "$log" "$rounds" << 'END'
+import os, statistics, subprocess, sys
+
+room, program, log, rounds = sys.argv[1:]
+rounds = int(rounds)
+
+
+def check():
+    """The milliseconds of processor time of one `check`."""
+    with open(log, "rb") as source:
+        process = subprocess.Popen([program, "check"], stdin=source, stdout=subprocess.DEVNULL)
+        _, status, usage = os.wait4(process.pid, 0)
+    process.returncode = status
+    if status != 0:
+        sys.exit(f"check: status {status}")
+    return (usage.ru_utime + usage.ru_stime) * 1e3
+
+
+def numbers(*words):
+    return [int(it) for it in subprocess.run(words, capture_output=True, text=True, check=True).stdout.split()]
+
+
+def load():
+    return numbers(f"{room}/bench", "load", log)[0] / 1e3
+
+
+def shown(values):
+    low, middle, high = statistics.quantiles(values, n=4)
+    return f"{middle:.2f} ({low:.2f} to {high:.2f})"
+
+
+check(), load()
+loads = [(load(), check()) for _ in range(rounds)]
+ours, theirs = (statistics.median(it) for it in zip(*loads))
+print(f"load {ours:.0f} ms, check {theirs:.0f} ms, ratio {shown([a / b for a, b in loads])}")
+print(subprocess.run([f"{room}/bench", "find", log, str(rounds)], capture_output=True, text=True, check=True).stdout, end="")
+
+# Nanoseconds of the clock of a record, and of fprintf and fflush of the same line.
+records = []
+for _ in range(rounds):
+    for name in ("ours.log", "plain.log"):
+        if os.path.exists(f"{room}/{name}"):
+            os.remove(f"{room}/{name}")
+    records.append(numbers(f"{room}/driver", "time", f"{room}/ours.log", f"{room}/plain.log", "200000"))
+ours, theirs = (statistics.median(it) for it in zip(*records))
+print(f"record {ours:.0f} ns, fprintf and fflush {theirs:.0f} ns, ratio {shown([a / b for a, b in records])}")
 END

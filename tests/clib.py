@@ -910,7 +910,9 @@ def records(trials, made, room):
     write(f"{room}/plain.log", HEADER)
     status, out, _ = run([made["C11"], "time", f"{room}/ours.log", f"{room}/plain.log", str(count)])
     ours, theirs = (int(it) for it in out.split()) if status == 0 else (0, 1)
-    trials.want("as many lines", status == 0 and read(f"{room}/ours.log").count(b"\n"), count + 1)
+    text = read(f"{room}/ours.log") if status == 0 else b""
+    trials.want("as many lines", text.count(b"\n"), count + 1)
+    trials.want("the lines that fprintf wrote", text == read(f"{room}/plain.log"), True)
     print(f"clib.py: a record takes {ours} ns, fprintf and fflush of the line {theirs} ns: {ours / theirs:.2f} times as long")
 
 

@@ -499,39 +499,48 @@ static int write_many(const char *log, int count, int syncs) {
   return 0;
 }
 
-/* The time of a record, beside fprintf and fflush of the same line into a file that is open for appending. */
+/* The time of a record, beside fprintf and fflush of the same line into a file that is open for appending. Both go on in turn, a block of each, so
+ * that what else the machine does falls on both. */
 static double seconds(void) {
   struct timespec now;
   clock_gettime(CLOCK_MONOTONIC, &now);
   return (double)now.tv_sec + (double)now.tv_nsec / 1e9;
 }
 
+static void fill_entry(int i, nlog_entry *entry) {
+  entry->start_ms = i;
+  entry->end_ms = i + 5;
+  entry->mtime = 1700000000000000000 + i;
+  entry->hash = 0x9e3779b97f4a7c15u * (uint64_t)(i + 1);
+}
+
 static int time_records(const char *log, const char *plain, int count) {
+  enum { NAMES = 10000, TIMED = 500 };
+  static char names[NAMES][48];
   nlog_writer *writer;
-  nlog_entry entry = {1, 2, 3, 4};
+  nlog_entry entry;
   nlog_status status = nlog_writer_new(&writer, log, 0);
-  char name[64];
-  double begun, ours, theirs;
-  int i;
+  double begun, ours = 0, theirs = 0;
+  int i, from;
   FILE *file = fopen(plain, "ab");
   if (status == NLOG_OK) status = nlog_writer_open(writer);
-  if (file == NULL || status != NLOG_OK) return 1;
-  begun = seconds();
-  for (i = 0; status == NLOG_OK && i < count; i++) {
-    snprintf(name, sizeof name, "obj/src/module%03d/source_file_%d.o", i % 200, i % 10000);
-    entry.start_ms = i;
-    entry.end_ms = i + 5;
-    entry.hash = 0x9e3779b97f4a7c15u * (uint64_t)(i + 1);
-    status = nlog_writer_record(writer, name, strlen(name), &entry);
+  if (file == NULL || setvbuf(file, NULL, _IOLBF, BUFSIZ) != 0 || status != NLOG_OK) return 1;
+  for (i = 0; i < NAMES; i++) snprintf(names[i], sizeof names[i], "obj/src/module%03d/source_file_%d.o", i % 200, i);
+  for (from = 0; from < count; from += TIMED) {
+    begun = seconds();
+    for (i = from; status == NLOG_OK && i < count && i < from + TIMED; i++) {
+      fill_entry(i, &entry);
+      status = nlog_writer_record(writer, names[i % NAMES], strlen(names[i % NAMES]), &entry);
+    }
+    ours += seconds() - begun;
+    begun = seconds();
+    for (i = from; i < count && i < from + TIMED; i++) {
+      fill_entry(i, &entry);
+      if (fprintf(file, "%" PRId32 "\t%" PRId32 "\t%" PRId64 "\t%s\t%" PRIx64 "\n", entry.start_ms, entry.end_ms, entry.mtime, names[i % NAMES], entry.hash) < 0) return 1;
+      if (fflush(file) != 0) return 1;
+    }
+    theirs += seconds() - begun;
   }
-  ours = seconds() - begun;
-  begun = seconds();
-  for (i = 0; i < count; i++) {
-    snprintf(name, sizeof name, "obj/src/module%03d/source_file_%d.o", i % 200, i % 10000);
-    entry.hash = 0x9e3779b97f4a7c15u * (uint64_t)(i + 1);
-    if (fprintf(file, "%d\t%d\t%" PRId64 "\t%s\t%" PRIx64 "\n", i, i + 5, (int64_t)3, name, entry.hash) < 0 || fflush(file) != 0) return 1;
-  }
-  theirs = seconds() - begun;
   fclose(file);
   nlog_writer_free(&writer);
   printf("%.0f %.0f\n", ours / count * 1e9, theirs / count * 1e9);
