@@ -7,9 +7,9 @@ ghost use Rattle.nl_print.specs.Streams.{IsSoFar, damaged};
 ghost use Rattle.nl_print.specs.VersionOf.{as_five};
 ghost use Rattle.nl_texts.specs.Output.{Prints};
 ghost use Rattle.nl_tool.specs.Answers.{IsAnswer, IsAnswerAs, IsAnswerOf, IsAnswerOfAny};
-ghost use Rattle.nl_tool.specs.Faults.{IsFaultOf, IsPrinting, ReadsLog};
+ghost use Rattle.nl_tool.specs.Faults.{IsPrintingFault, IsReadingFault};
 
-use crate::files::open_log;
+use crate::files::{open, open_log};
 use crate::notes::{NotedReader, NotedWriter, Notes};
 use crate::program::Outcome;
 use nl_lines::LogVersion;
@@ -19,10 +19,20 @@ use nl_print::{
 };
 use nl_replay::replay_to;
 use nl_texts::ToolFault;
-use nl_words::{AskedVersion, Words};
+use nl_words::AskedVersion;
 use std::alloc::Global;
 use std::io::{self, Read, Write};
-use std::rt::{Files, Runtime};
+use std::rt::Runtime;
+
+/// What prints a text when all is read.
+#[derive(Clone, Copy, Drop)]
+pub enum Printing<'a> {
+    Show,
+    Check,
+    Hash(&'a str),
+    HashFile,
+    Replay,
+}
 
 pub fn entries_in<R: Runtime>(
     rt: &R,
@@ -95,133 +105,135 @@ fn tell_damage<R: Read + Drop, W: Write>(
     }
 }
 
-// Answers over the log at this path.
-pub fn answer_log<R: Files + Print>(
+// Prints of the log at this path, or of standard input.
+pub fn print_log<R: Runtime>(
     rt: &R,
     alloc: Global,
-    words: &Words<'_>,
+    printing: Printing<'_>,
     version: Option<AskedVersion>,
-    path: &str,
+    log: Option<&str>,
     notes: &mut Notes,
 ) -> Result<(), ToolFault>
-    requires { ReadsLog words.now }
-    ensures faults { IfErr result (IsFaultOf words.now) }
+    ensures faults { IfErr result (IsReadingFault printing.entry) }
 {
+    let Some(path) = log else {
+        return print_noted(rt, alloc, printing, version, rt.reader(), notes);
+    };
     match open_log(rt, path, notes)? {
-        Some(file) => answer_noted(rt, alloc, words, version, file, notes),
-        None => answer_noted(rt, alloc, words, version, io::empty(), notes),
+        Some(file) => print_noted(rt, alloc, printing, version, file, notes),
+        None => print_noted(rt, alloc, printing, version, io::empty(), notes),
     }
 }
 
-// The same over what this reader gives.
-pub fn answer_noted<P: Print, R: Read + Drop>(
+// Prints of the file at this path, which has to be there, or of standard input.
+pub fn print_file<R: Runtime>(
+    rt: &R,
+    alloc: Global,
+    printing: Printing<'_>,
+    version: Option<AskedVersion>,
+    file: Option<&str>,
+    notes: &mut Notes,
+) -> Result<(), ToolFault>
+    ensures faults { IfErr result (IsReadingFault printing.entry) }
+{
+    let Some(path) = file else {
+        return print_noted(rt, alloc, printing, version, rt.reader(), notes);
+    };
+    let file = open(rt, path, notes)?;
+    print_noted(rt, alloc, printing, version, file, notes)
+}
+
+// Prints of what this reader gives.
+pub fn print_noted<P: Print, R: Read + Drop>(
     rt: &P,
     alloc: Global,
-    words: &Words<'_>,
+    printing: Printing<'_>,
     version: Option<AskedVersion>,
     reader: R,
     notes: &mut Notes,
 ) -> Result<(), ToolFault>
-    requires { IsPrinting words.now }
-    ensures faults { IfErr result (IsFaultOf words.now) }
+    ensures faults { IfErr result (IsPrintingFault printing.entry) }
 {
     let mut out = NotedWriter::new(io::writer(rt));
     let reader = NotedReader::new(reader, &mut notes.heard);
-    let answer = answer_to(alloc, words, version, reader, &mut out);
+    let answer = print_to(alloc, printing, version, reader, &mut out);
     notes.written = out.failure;
     answer
 }
 
-// Does what words say that print a text, with this reader for what is read and this writer for the text.
-fn answer_to<R: Read + Drop, W: Write>(
+// The same with this writer for the text.
+fn print_to<R: Read + Drop, W: Write>(
     alloc: Global,
-    words: &Words<'_>,
+    printing: Printing<'_>,
     version: Option<AskedVersion>,
     reader: R,
     writer: &mut W,
 ) -> Result<(), ToolFault>
-    requires { IsPrinting words.now }
-    ensures prints { Prints (IsAnswerAs version words.now (R.remaining reader)) (W.contents writer.old) (W.contents writer.new) result }
-    ensures faults { IfErr result (IsFaultOf words.now) }
+    ensures prints { Prints (IsAnswerAs version printing.entry (R.remaining reader)) (W.contents writer.old) (W.contents writer.new) result }
+    ensures faults { IfErr result (IsPrintingFault printing.entry) }
 {
     match version {
-        Some(AskedVersion::Five) => answer_as(alloc, words, LogVersion::Five, reader, writer),
-        Some(AskedVersion::Six) => answer_as(alloc, words, LogVersion::Six, reader, writer),
-        Some(AskedVersion::Seven) => answer_as(alloc, words, LogVersion::Seven, reader, writer),
-        Some(AskedVersion::Auto) => answer_any(alloc, words, reader, writer),
-        None => answer_plain(alloc, words, reader, writer),
+        Some(AskedVersion::Five) => print_as(alloc, printing, LogVersion::Five, reader, writer),
+        Some(AskedVersion::Six) => print_as(alloc, printing, LogVersion::Six, reader, writer),
+        Some(AskedVersion::Seven) => print_as(alloc, printing, LogVersion::Seven, reader, writer),
+        Some(AskedVersion::Auto) => print_any(alloc, printing, reader, writer),
+        None => print_plain(alloc, printing, reader, writer),
     }
 }
 
 // The same where no version is asked for.
-fn answer_plain<R: Read + Drop, W: Write>(
+fn print_plain<R: Read + Drop, W: Write>(
     alloc: Global,
-    words: &Words<'_>,
+    printing: Printing<'_>,
     reader: R,
     writer: &mut W,
 ) -> Result<(), ToolFault>
-    requires { IsPrinting words.now }
-    ensures prints { Prints (IsAnswer words.now (R.remaining reader)) (W.contents writer.old) (W.contents writer.new) result }
-    ensures faults { IfErr result (IsFaultOf words.now) }
+    ensures prints { Prints (IsAnswer printing.entry (R.remaining reader)) (W.contents writer.old) (W.contents writer.new) result }
+    ensures faults { IfErr result (IsPrintingFault printing.entry) }
 {
-    match *words {
-        Words::Show(_) => show_to(alloc, reader, writer),
-        Words::Check(_) => check_to(alloc, reader, writer),
-        Words::Hash(command) => hash_to(alloc, command.as_bytes(), writer),
-        Words::HashFile(_) => hash_file_to(alloc, reader, writer),
-        Words::Replay(_) => replay_to(alloc, reader, writer),
-        Words::Entries(_)
-        | Words::Damage(_)
-        | Words::Record { .. }
-        | Words::Recompact { .. }
-        | Words::Restat { .. }
-        | Words::Repair(_)
-        | Words::Apply { .. } => unreachable!(),
+    match printing {
+        Printing::Show => show_to(alloc, reader, writer),
+        Printing::Check => check_to(alloc, reader, writer),
+        Printing::Hash(command) => hash_to(alloc, command.as_bytes(), writer),
+        Printing::HashFile => hash_file_to(alloc, reader, writer),
+        Printing::Replay => replay_to(alloc, reader, writer),
     }
 }
 
 // The same over logs of the version.
-fn answer_as<R: Read + Drop, W: Write>(
+fn print_as<R: Read + Drop, W: Write>(
     alloc: Global,
-    words: &Words<'_>,
+    printing: Printing<'_>,
     version: LogVersion,
     reader: R,
     writer: &mut W,
 ) -> Result<(), ToolFault>
-    requires { IsPrinting words.now }
-    ensures prints { Prints (IsAnswerOf version words.now (R.remaining reader)) (W.contents writer.old) (W.contents writer.new) result }
-    ensures faults { IfErr result (IsFaultOf words.now) }
+    ensures prints { Prints (IsAnswerOf version printing.entry (R.remaining reader)) (W.contents writer.old) (W.contents writer.new) result }
+    ensures faults { IfErr result (IsPrintingFault printing.entry) }
 {
-    match *words {
-        Words::Show(_) => show_as(alloc, version, reader, writer),
-        Words::Check(_) => check_as(alloc, version, reader, writer),
-        Words::Hash(command) => hash_as(alloc, version, command.as_bytes(), writer),
-        Words::HashFile(_) => hash_file_to(alloc, reader, writer),
-        Words::Replay(_) => replay_to(alloc, reader, writer),
-        Words::Entries(_)
-        | Words::Damage(_)
-        | Words::Record { .. }
-        | Words::Recompact { .. }
-        | Words::Restat { .. }
-        | Words::Repair(_)
-        | Words::Apply { .. } => unreachable!(),
+    match printing {
+        Printing::Show => show_as(alloc, version, reader, writer),
+        Printing::Check => check_as(alloc, version, reader, writer),
+        Printing::Hash(command) => hash_as(alloc, version, command.as_bytes(), writer),
+        Printing::HashFile | Printing::Replay => print_plain(alloc, printing, reader, writer),
     }
 }
 
 // The same over logs of whichever version their first line names.
-fn answer_any<R: Read + Drop, W: Write>(
+fn print_any<R: Read + Drop, W: Write>(
     alloc: Global,
-    words: &Words<'_>,
+    printing: Printing<'_>,
     reader: R,
     writer: &mut W,
 ) -> Result<(), ToolFault>
-    requires { IsPrinting words.now }
-    ensures prints { Prints (IsAnswerOfAny words.now (R.remaining reader)) (W.contents writer.old) (W.contents writer.new) result }
-    ensures faults { IfErr result (IsFaultOf words.now) }
+    ensures prints { Prints (IsAnswerOfAny printing.entry (R.remaining reader)) (W.contents writer.old) (W.contents writer.new) result }
+    ensures faults { IfErr result (IsPrintingFault printing.entry) }
 {
-    match *words {
-        Words::Show(_) => show_any(alloc, reader, writer),
-        Words::Check(_) => check_any(alloc, reader, writer),
-        _ => answer_plain(alloc, words, reader, writer),
+    match printing {
+        Printing::Show => show_any(alloc, reader, writer),
+        Printing::Check => check_any(alloc, reader, writer),
+        Printing::Hash(_) | Printing::HashFile | Printing::Replay => {
+            print_plain(alloc, printing, reader, writer)
+        }
     }
 }

@@ -3,12 +3,11 @@ ghost use Rattle.std.specs.Prelude.{◌≡◌, IfErr, IfOk, OnOk};
 ghost use Rattle.nl_tool.specs.Faults.{AsksForDamage, CanBeDone, IsFaultOf};
 
 use crate::changing::{apply_in, or_five, recompact_in, record_in, repair_in, restat_in};
-use crate::files::open;
 use crate::notes::Notes;
-use crate::printing::{answer_log, answer_noted, damage_in, entries_in};
+use crate::printing::{Printing, damage_in, entries_in, print_file, print_log, print_noted};
 use nl_disk::SystemFile;
 use nl_texts::ToolFault;
-use nl_words::{AskedVersion, CommandLine, Words};
+use nl_words::{CommandLine, Words};
 use std::alloc::Global;
 use std::io;
 use std::rt::Runtime;
@@ -46,40 +45,18 @@ where
     ensures damaged { IfOk result (λ outcome. outcome ≡ Outcome.Damaged → AsksForDamage line.now.words) }
     ensures faults { IfErr result (IsFaultOf line.now.words) }
 {
-    if let Words::Damage(log) = line.words {
-        return damage_in(rt, alloc, log, notes);
-    }
-    run_command(rt, alloc, &line.words, line.version, notes)?;
-    Ok(Outcome::Done)
-}
-
-// Does what words say that don't ask for damage, over logs of the version that is asked for.
-fn run_command<R: Runtime>(
-    rt: &R,
-    alloc: Global,
-    words: &Words<'_>,
-    version: Option<AskedVersion>,
-    notes: &mut Notes,
-) -> Result<(), ToolFault>
-where
-    R::File: SystemFile,
-    requires { ¬ AsksForDamage words.now }
-    ensures accepts { OnOk result (CanBeDone words.now) }
-    ensures faults { IfErr result (IsFaultOf words.now) }
-{
-    match *words {
-        Words::Show(Some(path)) | Words::Check(Some(path)) => answer_log(
-            rt, alloc, words, version, path, notes,
-        ),
-        Words::Replay(Some(path)) | Words::HashFile(Some(path)) => {
-            let file = open(rt, path, notes)?;
-            answer_noted(rt, alloc, words, version, file, notes)
+    let version = line.version;
+    let done = match line.words {
+        Words::Show(log) => print_log(rt, alloc, Printing::Show, version, log, notes),
+        Words::Check(log) => print_log(rt, alloc, Printing::Check, version, log, notes),
+        Words::Hash(command) => {
+            let printing = Printing::Hash(command);
+            print_noted(rt, alloc, printing, version, io::empty(), notes)
         }
-        Words::Show(None) | Words::Check(None) | Words::Replay(None) | Words::HashFile(None) =>
-            answer_noted(rt, alloc, words, version, rt.reader(), notes),
-        Words::Hash(_) => answer_noted(rt, alloc, words, version, io::empty(), notes),
+        Words::HashFile(file) => print_file(rt, alloc, Printing::HashFile, version, file, notes),
+        Words::Replay(script) => print_file(rt, alloc, Printing::Replay, version, script, notes),
         Words::Entries(log) => entries_in(rt, alloc, log, notes),
-        Words::Damage(_) => unreachable!(),
+        Words::Damage(log) => return damage_in(rt, alloc, log, notes),
         Words::Record {
             log,
             start,
@@ -107,5 +84,7 @@ where
         }
         Words::Repair(log) => repair_in(rt, alloc, log, notes),
         Words::Apply { log, script } => apply_in(rt, alloc, log, script, notes),
-    }
+    };
+    done?;
+    Ok(Outcome::Done)
 }
