@@ -5,7 +5,7 @@ ghost use Rattle.nl_c.specs.Answers.{answer_at, answer_find, answer_line, entry_
 use crate::loaded_log::{Stamp, stamp_of};
 use crate::status;
 use nl_fields::{EntryRef, MAX_LINE, read_entry, read_entry_v4};
-use nl_table::Table;
+use nl_table::{OLDEST_VERSION, Table};
 
 pub(crate) fn find(table: &Table, name: &[u8], stamp: &mut Stamp) -> u32
     ensures { (result, stamp.new) ≡ answer_find table.now name.now stamp.old }
@@ -61,7 +61,7 @@ pub(crate) fn line(
     if line.len() > MAX_LINE {
         return status::NOT_FOUND;
     }
-    let entry = if version == 4 {
+    let entry = if version == OLDEST_VERSION as u32 {
         read_entry_v4(line)
     } else {
         read_entry(line)

@@ -9,7 +9,7 @@ ghost use Rattle.nl_print.specs.VersionOf.{as_five};
 
 use crate::stream::{LineText, stream_to};
 use nl_fields::append_entry;
-use nl_table::read_line;
+use nl_table::{OLDEST_VERSION, read_line};
 use nl_texts::ToolFault;
 use std::alloc::{AllocError, Global};
 use std::io::{Read, Write};
@@ -33,7 +33,7 @@ impl LineText for EntryLines {
         out: &mut Vec<u8>,
     ) -> Result<(), AllocError> {
         match read_line(version, line) {
-            Some(entry) if version == 4 => append_entry(&entry, out),
+            Some(entry) if version == OLDEST_VERSION => append_entry(&entry, out),
             Some(_) => append_whole(line, out),
             None => Ok(()),
         }

@@ -7,6 +7,7 @@ ghost use Rattle.nl_lines.specs.Split.{lines_of};
 ghost use Rattle.nl_lines.specs.Version.{as_version};
 ghost use Rattle.nl_lines.specs.declared.version.LogVersion.{LogVersion};
 ghost use Rattle.nl_table.specs.Log.{Log, log_of};
+ghost use Rattle.nl_table.specs.Versions.{oldest_version};
 ghost use Rattle.nl_print.specs.Output.{shown};
 ghost use Rattle.nl_print.specs.Streams.{listed};
 ghost use Rattle.nl_print.specs.VersionOf.{version_of};
@@ -21,5 +22,5 @@ pub fn entries_are_shown()
 pub fn auto_is_the_version()
     ensures each { (version : LogVersion) (bytes : List ℕ) (later : List (List ℕ)) → lines_of bytes ≡ as_version version version_five ∷ later
         → version_of bytes ≡ version }
-    ensures four { (bytes : List ℕ) (es : List Entry) → log_of bytes ≡ Log 4 es → log_as (version_of bytes) bytes ≡ Log 4 es }
+    ensures four { (bytes : List ℕ) (es : List Entry) → log_of bytes ≡ Log oldest_version es → log_as (version_of bytes) bytes ≡ Log oldest_version es }
 {}

@@ -8,3 +8,4 @@ pub mod Log
 pub mod LogText
 pub mod Loading
 pub mod LoadSteps
+pub mod Versions

@@ -8,8 +8,10 @@ mod loader;
 mod log_user;
 mod output_key;
 mod table;
+mod versions;
 
 pub use due::is_due;
 pub use loader::{First, LoadFault, Loaded, load, read_first, read_line};
 pub use log_user::{KeepAll, KeepList, LogUser};
 pub use table::Table;
+pub use versions::{CURRENT_VERSION, OLDEST_VERSION};
