@@ -1,7 +1,7 @@
 /* nlog.h: Ninja's build log (.ninja_log, versions 4 to 7) for C and C++. docs/LIBRARY.md has an example of each part.
  *
- * Part 1 reads a log that stands in memory, and part 2 writes one in memory, whose changes the caller carries to a file. Both are proved: what
- *   each status means is a clause of crates/nl_c/src/exports.rt.
+ * Part 1 reads a log that stands in memory, and part 2 writes one in memory, whose changes the caller carries to a file. Both are proved, but
+ *   for nlog_next_damage: what each status means is a clause of crates/nl_c/src/exports.rt.
  * Part 3 writes a log on disk, in the caller's process: it carries part 2's changes to the file. It is C code, lib/nlog_writer.c, which is
  *   tested and not proved.
  *
@@ -136,6 +136,31 @@ nlog_status nlog_find(nlog *log, const char *name, size_t len, nlog_entry *entry
 /* Reads one line of a log of this version, without its newline: the entry and its name, as nlog_at fills them.
  * NLOG_NOT_FOUND: the line is no entry. NLOG_NO_ROOM: as of nlog_at. */
 nlog_status nlog_read_line(uint32_t version, const char *line, size_t len, nlog_entry *entry, char *name, size_t room, size_t *name_len);
+
+/* What a line is that is no entry. */
+typedef enum nlog_damage_kind {
+  NLOG_SKIPPED = 0, /* a whole line that is no entry */
+  NLOG_LONG = 1,    /* a whole line of more than 262143 bytes, of which nothing is looked at */
+  NLOG_TORN = 2,    /* the bytes behind the last newline, of a line that a crash cut off */
+  NLOG_DAMAGE_KIND_MAX = 0x7fffffff
+} nlog_damage_kind;
+
+/* A line that is no entry, as `nlog damage` has it. */
+typedef struct nlog_damage {
+  uint64_t number;       /* of the line; the first line is 1, and is told where it is torn alone. 0 before the first call */
+  size_t from;           /* where it begins in the log's bytes */
+  size_t len;            /* without the newline */
+  nlog_damage_kind kind;
+  size_t output_from;    /* where in the log's bytes the output stands that its last five fields name, where these are an entry, as one that */
+  size_t output_len;     /*   was written behind a torn line. No bytes where they are none, and of more than 262143 bytes */
+} nlog_damage;
+
+#define NLOG_DAMAGE_INIT {0, 0, 0, NLOG_SKIPPED, 0, 0}
+
+/* The first line that is no entry, of a log that nlog_load takes, by its bytes and the version of nlog_get_facts; and the next one where `damage`
+ * is what the call before filled. As many are told as nlog_facts.skipped counts, and one more where there are torn bytes. It takes time by the
+ * bytes that it goes over, and no memory. Tested and not proved (lib/nlog_damage.c). NLOG_NOT_FOUND: there is no further one. */
+nlog_status nlog_next_damage(uint32_t version, const void *bytes, size_t len, nlog_damage *damage);
 
 /* The hash of a command, as it stands in logs of version 5 and 6, and of version 7. */
 uint64_t nlog_command_hash(const char *command, size_t len);

@@ -4,7 +4,7 @@ set -eu
 
 if [ $# -ne 1 ]; then
     echo "usage: lib/archive.sh TO
-makes TO, as libnlog.a, from crates/nl_c and lib/nlog_writer.c, and libnlog.so.VERSION with its links in the same folder" >&2
+makes TO, as libnlog.a, from crates/nl_c and the C below lib/, and libnlog.so.VERSION with its links in the same folder" >&2
     exit 2
 fi
 
@@ -23,7 +23,9 @@ room=$(mktemp -d)
 trap 'rm -rf "$room"' EXIT
 cc=${CC:-cc}
 (cd "$room" && ar x "$top/crates/nl_c/out/libnl_c.a" && ar x "$heap")
-"$cc" -std=c11 -Wall -Wextra -O2 -fPIC -I "$top/include" -c "$top/lib/nlog_writer.c" -o "$room/nlog_writer.o"
+for part in nlog_writer nlog_damage; do
+    "$cc" -std=c11 -Wall -Wextra -O2 -fPIC -I "$top/include" -c "$top/lib/$part.c" -o "$room/$part.o"
+done
 
 # One object, with the names that the header declares for all, and every other for itself.
 "$cc" -r -nostdlib -o "$room/all.obj" "$room"/*.o

@@ -1,5 +1,5 @@
 #!/usr/bin/env python3
-"""Tries the library for C: include/nlog.h, crates/nl_c and lib/nlog_writer.c.
+"""Tries the library for C: include/nlog.h, crates/nl_c and the C below lib/.
 
     python3 tests/clib.py PROGRAM
 
@@ -31,7 +31,8 @@ import full_disk
 import short_writes
 import system_calls
 from crash_rules import Sweep, Worker
-from log_format import HEADER, MAX_NAME, Log, as_version, command_hash, command_hash_v7, entry_of, line_of, reading_of, text_of
+from log_format import HEADER, MAX_LINE, MAX_NAME, Log, as_version, command_hash, command_hash_v7, entry_of, line_of, reading_of, text_of
+from log_lines import damage_of
 from trials import main, read, run, write
 
 TOP = os.path.dirname(os.path.dirname(os.path.abspath(__file__)))
@@ -49,7 +50,7 @@ def build(trials, room):
     if not trials.check("lib/archive.sh makes the archive", ran[0] == 0, (ran[1] or b"")[-800:].decode(errors="replace")):
         return made
     kit = os.path.dirname(os.path.dirname(os.path.realpath(shutil.which("rt"))))
-    parts = [f"{TOP}/lib/nlog_writer.c", f"{TOP}/crates/nl_c/out/libnl_c.a", f"{kit}/c/liblibc_c.a"]
+    parts = [f"{TOP}/lib/nlog_writer.c", f"{TOP}/lib/nlog_damage.c", f"{TOP}/crates/nl_c/out/libnl_c.a", f"{kit}/c/liblibc_c.a"]
     ways = [
         ("C11", ["cc", "-std=c11", "-O2", *STRICT, DRIVER, archive]),
         ("C++17", ["c++", "-x", "c++", "-std=c++17", *STRICT, DRIVER, "-x", "none", archive]),
@@ -146,9 +147,14 @@ def logs():
     yield "a short first line with a digit behind it", b"# ninja log\nv6\n"
 
 
+def version_seen(text):
+    """The version as of which a text is seen: 6 or 7 where its first line is that of one."""
+    return {b"# ninja log v6": 6, b"# ninja log v7": 7}.get(text.partition(b"\n")[0], 5)
+
+
 def said_of(text, names):
     """What the driver prints of a text."""
-    version = {b"# ninja log v6": 6, b"# ninja log v7": 7}.get(text.partition(b"\n")[0], 5)
+    version = version_seen(text)
     seen = as_version(text, version)
     said = [STATUS[reading_of(seen)].encode() + b"\n"]
     if said == [b"NLOG_OK\n"]:
@@ -195,6 +201,37 @@ def lines(trials, made, room):
             entry = entry_of(line, 4 if version == 4 else 5)
             wanted = b"NLOG_NOT_FOUND\n" if entry is None else b"NLOG_OK " + line_of(*entry)
             trials.want(f"the line {line[:40]!r} of version {version}", run([made["C11"], "line", str(version), f"{room}/line"]), (0, wanted, b""))
+
+
+def damaged(chance):
+    """Logs with lines that are no entries: parts of lines, lines behind a part, zero bytes, long ones."""
+    yield HEADER + A[:-4] + B + A[:7] + B + b"\0\0\0\0" + A + b"\n" + b"\t\t\t\t\n" + B[:-1]
+    yield HEADER + A + b"x" * MAX_LINE + b"\n" + b"y" * (MAX_LINE + 1) + b"\n" + B + b"z" * (MAX_LINE + 1)
+    yield HEADER + b"5\t" * 70000 + b"1\t2\t3\tlast\taa\n" + A + b"9" * (MAX_LINE - len(A) + 1) + A[:-1]
+    yield HEADER + b"\t2\t3\ta\taa\n" + b"a\t2\t3\ta\taa\n" + b"-1\t2\t3\ta\taa\n" + b"1\t2\t3\t-\taa\taa\n" + b"01\t2\t3\tb c\taa"
+    yield b"# ninja log v4\n1\t2\t3\ta\tcc\tx.c\n1\t2\t3\ta\n4\t51\t2\t3\tb\tcc x.c\n4\t5\t6\tb\tcc"
+    for _ in range(300):
+        parts = [line_of(b"out%d" % chance.randrange(9), (chance.randrange(99), chance.randrange(99), chance.randrange(-9, 99), chance.randrange(2**64))) for _ in range(9)]
+        for at in range(len(parts)):
+            if chance.random() < 0.4:
+                low, high = sorted(chance.randrange(len(parts[at]) + 1) for _ in range(2))
+                parts[at] = chance.choice([parts[at][:high], parts[at][low:], parts[at][:low] + parts[at][high:], parts[at] + b"\n", parts[at].replace(b"\t", b"", 1)])
+        yield as_version(HEADER, chance.choice([5, 6, 7])) + b"".join(parts)
+
+
+def damage(trials, made, program, room):
+    """Each line that is no entry, as the page of `nlog damage` has it, and as PROGRAM prints it."""
+    path, known = f"{room}/damaged.log", 0
+    for text in [*(text for _, text in logs()), *damaged(random.Random(5))]:
+        write(path, text)
+        status = STATUS[reading_of(as_version(text, version_seen(text)))]
+        wanted = damage_of(text) if status == "NLOG_OK" else status.encode() + b"\n"
+        for way, driver in drivers(made):
+            trials.want(f"the damage of {text[:60]!r} by {way}", run([*driver, "damage", path]), (0, wanted, b""))
+        if status == "NLOG_OK":
+            known += wanted.count(b"\n")
+            trials.want(f"that of {text[:60]!r} by the program", run([program, "damage", path]), (3 if wanted else 0, wanted, b""))
+    trials.check("many lines are told", known > 600, str(known))
 
 
 def misuse(trials, made, room):
@@ -262,7 +299,8 @@ def header(trials):
     text = read(f"{TOP}/include/nlog.h").decode()
     sources = [read(f"{TOP}/crates/nl_c/src/{it}").decode() for it in sorted(os.listdir(f"{TOP}/crates/nl_c/src"))]
     proved = {it for source in sources for it in re.findall(r'pub extern "C" fn (\w+)', source)}
-    written = set(re.findall(r"(?m)^\w[\w *]*?(nlog_(?:writer_\w+|load_file))\(", read(f"{TOP}/lib/nlog_writer.c").decode()))
+    c_parts = "".join(read(f"{TOP}/lib/{it}").decode() for it in ("nlog_writer.c", "nlog_damage.c"))
+    written = set(re.findall(r"(?m)^\w[\w *]*?(nlog_(?:writer_\w+|load_file|next_damage))\(", c_parts))
     trials.want("the functions that the header declares", declared(), proved | written)
     numbers = {name: int(number) for name, number in re.findall(r"NLOG_(\w+) = (\d+),", text)}
     statuses = {name: int(number) for name, number in re.findall(r"const (\w+): u32 = (\d+);", read(f"{TOP}/crates/nl_c/src/status.rt").decode())}
@@ -276,7 +314,7 @@ def pages(trials, room):
     """The examples in C of README.md and docs/LIBRARY.md, as they stand there."""
     library = read(f"{TOP}/docs/LIBRARY.md").decode()
     blocks = [*re.findall(r"(?s)```c\n(.*?)```", library), *re.findall(r"(?s)```c\n(.*?)```", read(f"{TOP}/README.md").decode())]
-    printed = [b"a.o: another command\na.o\nb.o\n", b"", b"cut to 29 bytes\nappend: 3\t4\t20\tb.o\tbb\n", b""]
+    printed = [b"a.o: another command\na.o\nb.o\n", b"", b"cut to 29 bytes\nappend: 3\t4\t20\tb.o\tbb\n", b"line 2 is no entry, distrust b.o\nline 3 is torn\n", b""]
     trials.want("the number of examples", len(blocks), len(printed))
     for i, (block, wanted) in enumerate(zip(blocks, printed)):
         write(f"{room}/page{i}.c", block.encode())
@@ -930,6 +968,7 @@ def trial(trials, program, room):
     reads(trials, made, room)
     hashes(trials, made, room)
     lines(trials, made, room)
+    damage(trials, made, program, room)
     misuse(trials, made, room)
     by_ctypes(trials, made, room)
     pages(trials, room)

@@ -110,6 +110,36 @@ static void read_line(uint32_t version, const char *path) {
   free(line);
 }
 
+/* Tells the damage of the log that the file is, as `nlog damage` does. */
+static void tell_damage(const char *path) {
+  static const char *const kinds[] = {"skipped", "long", "torn"};
+  nlog_damage damage = NLOG_DAMAGE_INIT, before;
+  nlog log = NLOG_INIT;
+  nlog_facts facts;
+  nlog_status status;
+  uint64_t told = 0;
+  size_t len;
+  char *bytes = file_of(path, &len);
+  status = nlog_load(&log, bytes, len);
+  if (status == NLOG_OK) {
+    WANT(nlog_get_facts(&log, &facts) == NLOG_OK);
+    while (nlog_next_damage(facts.version, bytes, len, &damage) == NLOG_OK) {
+      const char *output = damage.output_len > 0 ? bytes + damage.output_from : "-";
+      printf("%" PRIu64 "\t%s\t%zu\t", damage.number, kinds[damage.kind], damage.len);
+      fwrite(output, 1, damage.output_len > 0 ? damage.output_len : 1, stdout);
+      printf("\n");
+      told += 1;
+      memcpy(&before, &damage, sizeof damage);
+    }
+    WANT(told == facts.skipped + (facts.torn > 0));
+    WANT(told == 0 ? damage.number == 0 : memcmp(&before, &damage, sizeof damage) == 0);
+  } else {
+    printf("%s\n", nlog_status_name(status));
+  }
+  nlog_free(&log);
+  free(bytes);
+}
+
 static const char GOOD[] = "# ninja log v5\n1\t2\t3\tone\taa\n4\t5\t6\ttwo\tbb\n";
 
 /* Each call of a handle without a log: its status, and that nothing is filled. */
@@ -632,6 +662,8 @@ int main(int count, char **words) {
     free(bytes);
   } else if (count == 4 && strcmp(words[1], "line") == 0) {
     read_line((uint32_t)strtoul(words[2], NULL, 10), words[3]);
+  } else if (count == 3 && strcmp(words[1], "damage") == 0) {
+    tell_damage(words[2]);
   } else if (count == 4 && strcmp(words[1], "text") == 0) {
     write_text(words[2], (uint32_t)strtoul(words[3], NULL, 10));
   } else if (count == 4 && strcmp(words[1], "write") == 0) {
