@@ -1,9 +1,9 @@
 -- The names that the proofs take from elsewhere.
 pub use Rattle.std.proofs.Common.{◌≡◌, Bool, true, false, cond, not, ◌&&◌, ◌||◌, List, [], ◌∷◌, ◌++◌, refl, sym, ◌∙◌, ap, subst, inl, inr, Some, None, ℕ, ◌+◌, ◌≤◌, ◌==◌, length, take, arith, Option, length-append, ◌<◌, drop, zero-add, append_assoc, length-drop, ℤ, get_or, map, append-nil, zip, zero, suc, add-one, ◌⊎◌, ◌≢◌, length-take, pos, ◌≤ℤ◌, ◌<ℤ◌, SFits, to_z, of_z, vec_capacity, rules, ◌-◌, ◌↔◌, Vec, Global}
-pub use Rattle.std.proofs.Math.Seq.{take-add, drop-append_seam}
-pub use Rattle.std.proofs.lemmas.Bool.{cases_Bool, cond-true, cond-false, or_parts, or_from, cases_eq, eq-eqb, ne_eqb, cases_lt, and_right, le-ltb}
+pub use Rattle.std.proofs.Math.Seq.{take-add, drop-append_seam, take-append_seam}
+pub use Rattle.std.proofs.lemmas.Bool.{cases_Bool, cond-true, cond-false, or_parts, or_from, cases_eq, eq-eqb, ne_eqb, cases_lt, and_right, le-ltb, ltb-false}
 pub use Rattle.std.proofs.lemmas.Int.{ints, to_z-of_z}
-pub use Rattle.std.proofs.lemmas.List.{take_all, map-append, take_more, take-append-le, take-take, length-take-le, take_rest}
+pub use Rattle.std.proofs.lemmas.List.{take_all, map-append, take_more, take-append-le, take-take, length-take-le, take_rest, nil_from_length}
 pub use Rattle.std.proofs.lemmas.List.Elements.{All-more, All-nil, All-cons}
 pub use Rattle.std.proofs.lemmas.Option.{slice_get_within, unwrap_or-slice_get, slice_get_read}
 pub use Rattle.std.proofs.lemmas.Result.{on_err_weaker}
