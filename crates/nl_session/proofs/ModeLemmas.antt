@@ -5,14 +5,8 @@ use Rattle.nl_session.specs.declared.fault.LogFault.TheVariants.{NotALog, OtherV
 -- where Ok opens a log, and other refusals leave it, a fault alone breaks it
 pub breaks_by_fault : (r : Result (Unit {0}) LogFault) (old new : LogState) → OnOk r (new ≡ Open) → ((IsErrOf r Fault → ⊥) → OnErr r (new ≡ old)) → new ≡ Broken → (old ≡ Broken) ⊎ (reply_of r ≡ Refused Fault)
 breaks_by_fault (Ok done) old new opens same broken = absurd (cc)
-breaks_by_fault (Err NotOpen) old new opens same broken = inl (sym (same (λ is. absurd (cc is))) ∙ broken)
-breaks_by_fault (Err AlreadyOpen) old new opens same broken = inl (sym (same (λ is. absurd (cc is))) ∙ broken)
-breaks_by_fault (Err BrokenLog) old new opens same broken = inl (sym (same (λ is. absurd (cc is))) ∙ broken)
-breaks_by_fault (Err (NegativeTime i)) old new opens same broken = inl (sym (same (λ is. absurd (cc is))) ∙ broken)
-breaks_by_fault (Err NotALog) old new opens same broken = inl (sym (same (λ is. absurd (cc is))) ∙ broken)
-breaks_by_fault (Err OtherVersion) old new opens same broken = inl (sym (same (λ is. absurd (cc is))) ∙ broken)
-breaks_by_fault (Err OutOfMemory) old new opens same broken = inl (sym (same (λ is. absurd (cc is))) ∙ broken)
 breaks_by_fault (Err Fault) old new opens same broken = inr refl
+breaks_by_fault (Err why) old new opens same broken = inl (sym (same (λ is. absurd (cc is))) ∙ broken)
 
 -- what is refused by a fault alone is done, or a fault
 pub done_or_fault : (r : Result (Unit {0}) LogFault) → IfErr r (λ why. why ≡ Fault) → (reply_of r ≡ Done) ⊎ (reply_of r ≡ Refused Fault)
