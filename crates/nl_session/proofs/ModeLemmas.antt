@@ -1,6 +1,5 @@
 -- By which answers a log breaks, and what a sync of an open one answers.
-use Rattle.nl_session.proofs.Names.{◌≡◌, ◌∙◌, refl, sym, inl, inr, ◌⊎◌, IfErr, IsErrOf, OnOk, OnErr, Result, Ok, Err, Done, Refused, LogFault, NotOpen, AlreadyOpen, BrokenLog, NegativeTime, OutOfMemory, Fault, LogState, Open, Broken, reply_of}
-use Rattle.nl_session.specs.declared.fault.LogFault.TheVariants.{NotALog, OtherVersion}
+use Rattle.nl_session.proofs.Names.{◌≡◌, ◌∙◌, refl, sym, inl, inr, ◌⊎◌, IfErr, IsErrOf, OnOk, OnErr, Result, Ok, Err, Done, Refused, LogFault, Fault, LogState, Open, Broken, reply_of}
 
 -- where Ok opens a log, and other refusals leave it, a fault alone breaks it
 pub breaks_by_fault : (r : Result (Unit {0}) LogFault) (old new : LogState) → OnOk r (new ≡ Open) → ((IsErrOf r Fault → ⊥) → OnErr r (new ≡ old)) → new ≡ Broken → (old ≡ Broken) ⊎ (reply_of r ≡ Refused Fault)

@@ -5,7 +5,7 @@ pub use Rattle.std.proofs.lemmas.Bool.{cases_Bool, cond-true, cond-false, or_par
 pub use Rattle.std.proofs.lemmas.Int.{ints, to_z-of_z}
 pub use Rattle.std.proofs.lemmas.List.{take_all, map-append, take_more, take-append-le, take-take, length-take-le, take_rest, nil_from_length}
 pub use Rattle.std.proofs.lemmas.List.Elements.{All-more, All-nil, All-cons}
-pub use Rattle.std.proofs.lemmas.Option.{IfSome_then, slice_get_within, unwrap_or-slice_get, slice_get_read}
+pub use Rattle.std.proofs.lemmas.Option.{IfSome_then, slice_get_within, get_or_from_slice_get, unwrap_or-slice_get, slice_get_read}
 pub use Rattle.std.proofs.lemmas.Result.{on_err_weaker}
 pub use Rattle.std.specs.Int.{w32}
 pub use Rattle.std.specs.List.{take-map, AllByRecursion}

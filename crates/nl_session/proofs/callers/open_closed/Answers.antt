@@ -5,8 +5,7 @@ use Rattle.nl_session.proofs.callers.open_closed.Goals as goal
 
 on_ok : (reading : LogReading) → IsSome (history_of_log reading) → AnswersAs {T = Unit {0}} reading (Ok tt)
 on_ok (Log version entries) is = refl
-on_ok no_log.OtherVersion is = absurd (cc is)
-on_ok no_log.NotALog is = absurd (cc is)
+on_ok other is = absurd (cc is)
 
 -- what the clauses of an open leave
 decided : (r : Result (Unit {0}) LogFault) (reading : LogReading) (mode : LogState) → mode ≡ LogState.Closed
