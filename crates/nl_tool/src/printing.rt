@@ -1,11 +1,13 @@
 //! The words that print, over LOG, FILE, SCRIPT or standard input, with standard output for their text.
-ghost use Rattle.std.specs.Prelude.{◌≡◌, ◌<◌, ◌↔◌, ℕ, List, IfErr, MatchResult, length};
+ghost use Rattle.std.specs.Prelude.{◌≡◌, ◌<◌, ◌↔◌, ℕ, List, IfErr, IfSome, IsErrOf, MatchResult, length};
 ghost use Rattle.std.specs.Io.KnownBytes.{Appends};
 ghost use Rattle.nl_print.specs.Faults.{IsLogFault};
 ghost use Rattle.nl_print.specs.Output.{IsTextFor};
 ghost use Rattle.nl_print.specs.Streams.{IsSoFar, damaged};
 ghost use Rattle.nl_print.specs.VersionOf.{as_five};
+ghost use Rattle.nl_table.specs.Log.{NotALog, OtherVersion, log_of};
 ghost use Rattle.nl_texts.specs.Output.{Prints};
+ghost use Rattle.nl_texts.specs.declared.fault.ToolFault.{ToolFault};
 ghost use Rattle.nl_tool.specs.Answers.{IsAnswer, IsAnswerAs, IsAnswerOf, IsAnswerOfAny};
 ghost use Rattle.nl_tool.specs.Faults.{IsPrintingFault, IsReadingFault};
 
@@ -96,6 +98,8 @@ fn tell_damage<R: Read + Drop, W: Write>(
         (λ outcome. (text : List ℕ) × IsTextFor (λ bs. damaged (as_five bs)) (R.remaining reader) text × Appends (W.contents writer.old) (W.contents writer.new) text
         × ((outcome ≡ Outcome.Damaged) ↔ (0 < length text)))
         (λ _. IsSoFar (λ bs. damaged (as_five bs)) (R.remaining reader) (W.contents writer.old) (W.contents writer.new)) }
+    ensures not_a_log { IsErrOf result ToolFault.NotALog → IfSome (R.remaining reader) (λ bs. log_of (as_five bs) ≡ NotALog) }
+    ensures other_version { IsErrOf result ToolFault.OtherVersion → IfSome (R.remaining reader) (λ bs. log_of (as_five bs) ≡ OtherVersion) }
     ensures faults { IfErr result IsLogFault }
 {
     match damage_to(alloc, reader, writer) {
