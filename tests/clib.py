@@ -209,6 +209,7 @@ def damaged(chance):
     yield HEADER + A + b"x" * MAX_LINE + b"\n" + b"y" * (MAX_LINE + 1) + b"\n" + B + b"z" * (MAX_LINE + 1)
     yield HEADER + b"5\t" * 70000 + b"1\t2\t3\tlast\taa\n" + A + b"9" * (MAX_LINE - len(A) + 1) + A[:-1]
     yield HEADER + b"\t2\t3\ta\taa\n" + b"a\t2\t3\ta\taa\n" + b"-1\t2\t3\ta\taa\n" + b"1\t2\t3\t-\taa\taa\n" + b"01\t2\t3\tb c\taa"
+    yield HEADER + b"x" * MAX_LINE + A + A + b"9" * MAX_LINE + A[:-1]
     yield HEADER + b"x1\t2\t3\tone digit\ta\n" + b"x1\t2\t3\tno digit\t\n"
     yield b"# ninja log v4\n1\t2\t3\ta\tcc\tx.c\n1\t2\t3\ta\n4\t51\t2\t3\tb\tcc x.c\n4\t5\t6\tb\tcc"
     for _ in range(300):
