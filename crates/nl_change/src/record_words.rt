@@ -49,13 +49,7 @@ pub fn entry_as<'a>(
     ensures faults { IfErr result (IsWordFault start.now end.now mtime.now name.entry.now) }
 {
     let entry = entry_of(start, end, mtime, name, command)?;
-    Ok(EntryRef::from_checked(
-        entry.start_ms,
-        entry.end_ms,
-        entry.mtime,
-        entry.name(),
-        command_hash_as(version, command.as_bytes()),
-    ))
+    Ok(entry.with_hash(command_hash_as(version, command.as_bytes())))
 }
 
 fn of_name_fault(fault: NameFault) -> ToolFault

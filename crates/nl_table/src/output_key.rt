@@ -6,12 +6,13 @@ ghost use Rattle.std.specs.Cmp.Lexicographic.{pointwise, bytes_decides, nat_list
 ghost use Rattle.nl_table.specs.Stamps.{key_bytes};
 
 use indexmap::Equivalent;
+use nl_fields::Name;
 use std::hash::{Hash, Hasher};
 
-/// A name that a table holds. A vector by itself would be hashed byte by byte.
+/// A name that a table holds. A `Name` by itself has no hash.
 #[derive(Drop)]
 pub(crate) struct OutputKey {
-    pub bytes: Vec<u8>,
+    pub name: Name,
 }
 
 impl PartialEq for OutputKey {
@@ -20,7 +21,7 @@ impl PartialEq for OutputKey {
     ghost laws = { on_per key_bytes (partial_equiv_from_equiv nat_list_eq_equiv) };
 
     fn eq(&self, other: &OutputKey) -> bool {
-        self.bytes == other.bytes
+        self.name.bytes() == other.name.bytes()
     }
 }
 
@@ -34,7 +35,7 @@ impl Hash for OutputKey {
     ghost respects_eq = { λ x y same. ap (λ bytes. bytes ∷ []) ((bytes_decides (key_bytes x) (key_bytes y)).0 same) };
 
     fn hash<H: Hasher>(&self, state: &mut H) {
-        state.write(self.bytes.as_slice());
+        state.write(self.name.bytes());
     }
 }
 
@@ -76,6 +77,6 @@ impl Equivalent<OutputKey> for NameKey<'_> {
     ghost respects_eq = { λ name x y. nat_list_eq_equiv.congr name.bytes.now (key_bytes x) (key_bytes y) };
 
     fn equivalent(&self, key: &OutputKey) -> bool {
-        self.bytes == key.bytes.as_slice()
+        self.bytes == key.name.bytes()
     }
 }
