@@ -1,5 +1,6 @@
 pub mod HistoryLemmas
 pub mod NameLemmas
+pub mod NameSetLemmas
 pub mod OrderLemmas
 pub mod TableLemmas
 pub mod TouchLemmas
