@@ -4,4 +4,5 @@ mod KeepLemmas
 mod TimesLemmas
 mod DamageLawLemmas
 mod RepairLemmas
+mod SeenLemmas
 mod ApplyLemmas

@@ -1,5 +1,5 @@
 -- Which faults each command that changes a log may answer (docs/CLI.md, "Messages").
-use Rattle.std.specs.Prelude.{◌⊎◌, List, ℕ, ⊤}
+use Rattle.std.specs.Prelude.{◌⊎◌, List, ℕ, ⊤, Result, Ok, Err}
 use Rattle.nl_session.specs.declared.fault.LogFault.{LogFault}
 use Rattle.nl_session.specs.declared.fault.LogFault.TheVariants as refusal
 use Rattle.nl_change.specs.RecordWords.{GiveEntry, IsWordFault}
@@ -20,12 +20,6 @@ IsChangeRefusal refusal.OutOfMemory = ⊤
 IsChangeRefusal refusal.Fault = ⊤
 IsChangeRefusal _ = ⊥
 
--- the bytes are no log, or one of another version
-abbrev pub IsNoLog : LogFault → Type 0
-IsNoLog refusal.NotALog = ⊤
-IsNoLog refusal.OtherVersion = ⊤
-IsNoLog _ = ⊥
-
 -- the fault of what was refused; those that say no more than the state of the log don't come here
 abbrev pub of_log_fault : LogFault → ToolFault
 of_log_fault (refusal.NegativeTime index) = NegativeTime index
@@ -33,6 +27,11 @@ of_log_fault refusal.NotALog = NotALog
 of_log_fault refusal.OtherVersion = OtherVersion
 of_log_fault refusal.OutOfMemory = Memory
 of_log_fault _ = Folder
+
+-- the same of an answer
+abbrev pub told : Result (Unit {0}) LogFault → Result (Unit {0}) ToolFault
+told (Ok done) = Ok done
+told (Err why) = Err (of_log_fault why)
 
 -- the faults of a file that is read line by line
 abbrev pub IsFileFault : ToolFault → Type 0

@@ -2,4 +2,5 @@ pub mod Files
 pub mod RecordWords
 pub mod Faults
 pub mod Updates
+pub mod Calls
 pub mod Applying

@@ -4,7 +4,6 @@ use Rattle.nl_fields.specs.declared.entry.Entry.{Entry}
 use Rattle.nl_table.specs.History.{Update, History, Then, holds, table}
 use Rattle.nl_table.specs.Log.{history_of}
 use Rattle.nl_table.specs.LogText.{text_of}
-use Rattle.nl_table.specs.LogUser.{forget_dead}
 use Rattle.nl_folder.specs.DiskState.{Disk}
 use Rattle.nl_folder.specs.CrashImages.{IsImage}
 use Rattle.nl_session.specs.declared.fault.LogFault.{LogFault}
@@ -25,14 +24,6 @@ none_dead name = false
 -- what isn't among the names is dead
 abbrev pub dead_but : List (List ℕ) → List ℕ → Bool
 dead_but names name = not (holds names name)
-
--- the names of the history's table that aren't among these are forgotten
-abbrev pub forgets_but : List (List ℕ) → History → Update
-forgets_but names h = forget_dead (dead_but names) h
-
--- no name is forgotten, and what is stale goes
-abbrev pub forgets_none : History → Update
-forgets_none h = forget_dead none_dead h
 
 -- the history that an open leaves, which drops nothing
 abbrev pub opened_history : History → History

@@ -1,0 +1,158 @@
+-- What each call that changes a log makes of what contracts see of its folder, by the answer: docs/PROMISES.md.
+use Rattle.std.specs.Prelude.{◌≡◌, ◌⊎◌, ◌++◌, ℕ, ℤ, Bool, List, [], Option, Some, IsSomeAnd, IsTrue, Result, IsErr, IsErrOf, IfErr, OnErr, OnOk, if◌then◌else◌}
+use Rattle.std.specs.Result.{IsErrAnd}
+use Rattle.nl_fields.specs.declared.entry.Entry.{Entry}
+use Rattle.nl_fields.specs.EntryLine.{line_of}
+use Rattle.nl_lines.specs.Source.{FailedBetween}
+use Rattle.nl_lines.specs.Split.{with_newline}
+use Rattle.nl_lines.specs.Version.{as_version}
+use Rattle.nl_lines.specs.declared.version.LogVersion.{LogVersion}
+use Rattle.nl_lines.specs.declared.version.LogVersion.TheVariants.{Five}
+use Rattle.nl_table.specs.History.{Enter, History, Touch, Update}
+use Rattle.nl_table.specs.Log.{LogReading, log_of}
+use Rattle.nl_table.specs.Log as no_log
+use Rattle.nl_table.specs.LogText.{text_of}
+use Rattle.nl_table.specs.LogUser.{forget_dead}
+use Rattle.nl_table.specs.Table.{touched}
+use Rattle.nl_folder.specs.DiskState.{Disk, FolderState, SameState}
+use Rattle.nl_folder.specs.Version.{seen_as_version}
+use Rattle.nl_folder.specs.declared.folder.Folder.{Ghosts}
+use Rattle.nl_session.specs.declared.fault.LogFault.{LogFault}
+use Rattle.nl_session.specs.declared.fault.LogFault.TheVariants as refusal
+use Rattle.nl_session.specs.declared.state.LogState.{LogState}
+use Rattle.nl_session.specs.Calls as log
+use Rattle.nl_session.specs.Machine.{IsFirstNegative, State, all_of}
+use Rattle.nl_session.specs.Opened.{living}
+use Rattle.nl_session.specs.Runs.{BeginsAt}
+use Rattle.nl_session.specs.View.{StandsAt, View}
+use Rattle.nl_print.specs.Versions.{is_barred}
+use Rattle.nl_texts.specs.Files.{OfBytes}
+use Rattle.nl_texts.specs.declared.fault.ToolFault.{ToolFault}
+use Rattle.nl_texts.specs.declared.fault.ToolFault.TheVariants.{BadLine, Folder, NegativeTime, NotALog, OtherVersion}
+use Rattle.nl_change.specs.Faults.{IsChangeFault, IsChangeRefusal, IsFileFault, IsNoLogFault}
+use Rattle.nl_change.specs.Files.{BadAt, FileReading}
+use Rattle.nl_change.specs.Updates.{AsSaid, Changes, HasTable, IsOpened, IsRepaired, IsUnmade, IsUpdated, Leaves, OfAllFound, StaysRepaired, dead_but, none_dead}
+
+-- ---- what is seen
+
+-- what contracts see of a folder
+pub record FolderView : Type 0 where
+  pub disk : Option Disk
+  pub settled : Bool
+  pub scratch : Bool
+  pub failures : ℕ
+
+abbrev pub folder_view : {F : Type 0} → Ghosts F → F → FolderView
+folder_view g folder = record { disk = g.disk folder; settled = g.is_settled folder; scratch = g.has_scratch folder; failures = g.failures folder }
+
+-- the same, of the folder of a log
+abbrev pub log_folder : View → FolderView
+log_folder v = record { disk = v.disk; settled = v.settled; scratch = v.scratch; failures = v.failures }
+
+-- what is seen beside the count
+abbrev pub folder_state : FolderView → FolderState
+folder_state v = record { disk = v.disk; is_settled = v.settled; has_scratch = v.scratch }
+
+-- ---- what is asked
+
+-- a change: the update that it is of a history, what it makes of the bytes of a log with this table, and the mtimes that it sets
+pub record Meaning : Type 0 where
+  pub update : History → Update
+  pub bytes : List Entry → List ℕ → List ℕ
+  pub times : List (List ℕ × ℤ)
+
+-- an entry comes last
+abbrev pub adding : Entry → Meaning
+adding e = record { update = λ h. Enter e; bytes = λ es bs. bs ++ with_newline (line_of e); times = [] }
+
+-- the dead leave the table, whose text is then the log
+abbrev pub dropping : (List ℕ → Bool) → Meaning
+dropping dead = record { update = forget_dead dead; bytes = λ es bs. text_of (living dead es); times = [] }
+
+-- all but these do
+abbrev pub keeping : List (List ℕ) → Meaning
+keeping names = dropping (dead_but names)
+
+-- none does
+abbrev pub keeping_all : Meaning
+keeping_all = dropping none_dead
+
+-- names get these mtimes, and the text of the table with them is the log
+abbrev pub touching : List (List ℕ × ℤ) → Meaning
+touching pairs = record { update = λ h. Touch pairs; bytes = λ es bs. text_of (touched pairs es); times = pairs }
+
+-- ---- an open log
+
+-- an open log is changed
+pub record Makes (m : Meaning) (result : Result (Unit {0}) LogFault) (old new : View) : Type 0 where
+  pub stays_open : OnOk result (new.mode ≡ LogState.Open)
+  pub contents : (d : Disk) → old.disk ≡ Some d → OnOk result (IsSomeAnd new.disk (λ e. e.visible ≡ m.bytes old.held d.visible))
+  pub refusals : IfErr result IsChangeRefusal
+  pub negative_time : (index : ℕ) → IsErrOf result (refusal.NegativeTime index) → IsFirstNegative m.times index
+  pub accepts : OnOk result ((index : ℕ) → ¬ IsFirstNegative m.times index)
+  pub unchanged : ¬ IsErrOf result refusal.Fault → OnErr result (new.disk ≡ old.disk)
+  pub count : log.IsCounted result old new
+  pub goes : (s : State) → StandsAt old s → Changes (m.update (all_of s)) result s new.disk new.settled new.mode new.held
+
+-- ---- the log of a folder
+
+-- what is on disk then, of an honest folder: the change is made, or it isn't; where an mtime is negative the log was opened
+pub record ChangesDisk (m : Meaning) (result : Result (Unit {0}) ToolFault) (old new : Option Disk) : Type 0 where
+  pub leaves : (start : History) → BeginsAt start old → Leaves m.update start result new
+  pub contents : (d : Disk) → old ≡ Some d → OnOk result (IsUpdated m.bytes d.visible new)
+  pub unmade : (d : Disk) → old ≡ Some d → ¬ IsErrOf result Folder → OnErr result (IsUnmade d new)
+  pub opened : (d : Disk) (index : ℕ) → old ≡ Some d → IsErrOf result (NegativeTime index) → IsOpened d new
+  pub negative_time : (index : ℕ) → IsErrOf result (NegativeTime index) → IsFirstNegative m.times index
+  pub accepts : OnOk result ((index : ℕ) → ¬ IsFirstNegative m.times index)
+
+-- bytes are refused for what they are
+pub record RefusesBytes (reading : List ℕ → LogReading) (result : Result (Unit {0}) ToolFault) (old : Option Disk) : Type 0 where
+  pub not_a_log : (d : Disk) → old ≡ Some d → IsErrOf result NotALog → reading d.visible ≡ no_log.NotALog
+  pub other_version : (d : Disk) → old ≡ Some d → IsErrOf result OtherVersion → reading d.visible ≡ no_log.OtherVersion
+
+-- a fault of the folder has a failed call of it as its cause, and no other answer changes the count
+pub record IsCounted (result : Result (Unit {0}) ToolFault) (before after : ℕ) : Type 0 where
+  pub cause : IsErrOf result Folder → FailedBetween before after
+  pub steady : ¬ IsErrOf result Folder → after ≡ before
+
+-- the log is opened, changed, synced and stopped
+pub record ChangesLog (m : Meaning) (result : Result (Unit {0}) ToolFault) (old new : FolderView) : Type 0 where
+  pub disk : ChangesDisk m result old.disk new.disk
+  pub settled : OnOk result (IsTrue new.settled)
+  pub bytes : RefusesBytes log_of result old.disk
+  pub unchanged : IsErrAnd result IsNoLogFault → SameState (folder_state old) (folder_state new)
+  pub count : IsCounted result old.failures new.failures
+  pub refusals : IfErr result IsChangeFault
+
+-- the same of a log that is seen as one of the version: such bytes are barred, refused and left as they are on every exit
+pub record ChangesSeen (version : LogVersion) (bars : List ℕ → Bool) (m : Meaning) (result : Result (Unit {0}) ToolFault) (old new : FolderView) : Type 0 where
+  pub disk : ChangesDisk m result (seen_as_version version old.disk) (seen_as_version version new.disk)
+  pub settled : OnOk result (IsTrue new.settled)
+  pub barred : (d : Disk) → old.disk ≡ Some d → IsTrue (bars d.visible) → IsErr result × (new.disk ≡ old.disk)
+  pub bytes : RefusesBytes (λ bs. if bars bs then no_log.OtherVersion else log_of (as_version version bs)) result old.disk
+  pub unchanged : IsErrAnd result IsNoLogFault → new.disk ≡ old.disk
+  pub count : old.failures ≡ 0 → IsCounted result old.failures new.failures
+  pub refusals : IfErr result IsChangeFault
+
+-- the same of a log of the version that is asked for
+pub record ChangesLogAs (version : LogVersion) (m : Meaning) (result : Result (Unit {0}) ToolFault) (old new : FolderView) : Type 0 where
+  pub seen : ChangesSeen version (is_barred version) m result old new
+  pub five : version ≡ Five → IsCounted result old.failures new.failures
+
+-- ---- what stands about it
+
+-- a file couldn't be read, or has this bad line, and the folder is as it came
+pub record IsUnread {T F : Type 0} (reading : List ℕ → FileReading T) (known : Option (List ℕ)) (result : Result (Unit {0}) ToolFault) (old new : F) : Type 0 where
+  pub refused : IsErrAnd result IsFileFault
+  pub bad_line : (number : ℕ) → IsErrOf result (BadLine number) → OfBytes known (λ bytes. reading bytes ≡ BadAt number)
+  pub stays : new ≡ old
+
+-- a file is read first: nothing else was done, or this holds of what it says
+abbrev pub ReadsFirst : {T F : Type 0} → (List ℕ → FileReading T) → Option (List ℕ) → (List T → Type 0) → Result (Unit {0}) ToolFault → F → F → Type 0
+ReadsFirst reading known Holds result old new = IsUnread reading known result old new ⊎ AsSaid reading known Holds
+
+-- a repair: whatever is found has the table that was found before; on Ok the log is the text of that, which a repair leaves as it is
+pub record Repairs (result : Result (Unit {0}) ToolFault) (old new : Option Disk) : Type 0 where
+  pub keeps : (start : History) → BeginsAt start old → OfAllFound (HasTable start) new
+  pub contents : (d : Disk) → old ≡ Some d → OnOk result (IsRepaired d.visible new)
+  pub again : (d : Disk) → old ≡ Some d → OnOk result (StaysRepaired new)
