@@ -1,6 +1,6 @@
 use Rattle.std.proofs.Common.{◌≡◌, ap, Err}
 use Rattle.nl_texts.specs.declared.fault.ToolFault.TheVariants.{BadLine}
-use Rattle.nl_change.proofs.KeepLemmas.{is_err, index_keeps}
+use Rattle.nl_change.proofs.KeepLemmas.{is_err}
 use Rattle.nl_change.proofs.keep_file.read_keep.Goals as goal
 
 pub returns-in_err-names-clause-bad_line : goal.returns-in_err-names-clause-bad_line
@@ -11,8 +11,4 @@ returns-in_err-names-clause-bad_line g c number is =
 pub returns-clause-value : goal.returns-clause-value
 returns-clause-value g c =
     let told = c.in_ok-names.ensures.value in
-    record {
-      bytes = told.bytes;
-      given = told.given;
-      holds = (_, told.holds, λ name. rw c.in_ok-put_edge.ensures.ok (index_keeps _ _ _ _ _ _ c.new-outputs.ensures.empty name));
-    }
+    record { bytes = told.bytes; given = told.given; holds = (_, told.holds, c.in_ok-of.ensures) }
