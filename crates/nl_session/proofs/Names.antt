@@ -47,7 +47,7 @@ pub use Rattle.nl_session.specs.Grows.{EndsClear, Grew}
 pub use Rattle.nl_session.specs.Headline.{Exchange, update_of, makes_durable, is_crash, is_kept, acknowledged, Holds, NoneClears, MayStand, none, idle, stands, failed, lost, Headline}
 pub use Rattle.nl_session.specs.Machine.{CrashesNow, State, durable_at, Act, Records, Step, Run, AllRecorded, all_of, Opens, reply_of, shown_of, opened, Recompacts, Restats, StepOk, StepFault, MayHaveGained, NoneNegative, pending_at, Syncs, gained, moved_to, OpenFailed, IsFirstNegative}
 pub use Rattle.nl_session.specs.Opened.{mended_bytes, living, opened_from, opened_bytes, IsLog, OpenedAs, OpensAs, Reopens, IsLogWith, IsRewritten, IsTextFor, StaysAtRest, IsAtRest, IsTableOf}
-pub use Rattle.nl_session.specs.Parts.{OnlyScratch, filled, SwapFailed, Appended, IsLeft, RewriteFailed, rewritten, filling, repaired, RepairFailed, OpenLeaves, OpenFaults, mended, MendFailed, AnswersAs}
+pub use Rattle.nl_session.specs.Parts.{OnlyScratch, filled, SwapFailed, Appended, IsLeft, RewriteFailed, rewritten, filling, repaired, RepairFailed, OpenLeaves, OpenFaults, mended, MendFailed}
 pub use Rattle.nl_session.specs.Reopening.{Moved, IsCalm, Moves, IsTry, OpenedFrom}
 pub use Rattle.nl_session.specs.Represents.{Represents, Agrees, RepresentsPrefix}
 pub use Rattle.nl_session.specs.Runs.{BeginsAt, HeadlineOn, act_of, faults_of, Ran, HadMemory, RestsThrough, OpensAtLast, TakesMemory}

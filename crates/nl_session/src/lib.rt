@@ -3,7 +3,6 @@
 
 mod answers;
 mod append;
-mod callers;
 mod edge;
 mod events;
 mod fault;
