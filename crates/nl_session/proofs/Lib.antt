@@ -11,13 +11,11 @@ pub mod AgainLemmas
 pub mod RestLemmas
 pub mod OpenLemmas
 pub mod TimesLemmas
-pub mod CrashLemmas
 pub mod Acknowledgements
 pub mod Stories
 pub mod Growing
 pub mod Smoothly
-pub mod Reopenings
 pub mod EffectLemmas
-pub mod ModeLemmas
+pub mod Reopenings
 pub mod RunLemmas
 pub mod ExchangeLemmas
