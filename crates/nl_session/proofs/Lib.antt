@@ -1,7 +1,5 @@
 pub mod Names
 pub mod RepresentsLemmas
-pub mod TailLemmas
-pub mod AppendLemmas
 pub mod FillLemmas
 pub mod StateLemmas
 pub mod StepLemmas
@@ -11,11 +9,8 @@ pub mod AgainLemmas
 pub mod RestLemmas
 pub mod OpenLemmas
 pub mod TimesLemmas
-pub mod Acknowledgements
 pub mod Stories
 pub mod Growing
-pub mod Smoothly
 pub mod EffectLemmas
 pub mod Reopenings
 pub mod RunLemmas
-pub mod ExchangeLemmas
