@@ -6,11 +6,9 @@ pub mod StepLemmas
 pub mod RewriteLemmas
 pub mod EdgeLemmas
 pub mod AgainLemmas
-pub mod RestLemmas
 pub mod OpenLemmas
 pub mod TimesLemmas
 pub mod Stories
 pub mod Growing
 pub mod EffectLemmas
-pub mod Reopenings
 pub mod RunLemmas
