@@ -31,7 +31,7 @@ use Rattle.nl_texts.specs.declared.fault.ToolFault.{ToolFault}
 use Rattle.nl_texts.specs.declared.fault.ToolFault.TheVariants.{BadLine, Folder, NegativeTime, NotALog, OtherVersion}
 use Rattle.nl_change.specs.Faults.{IsChangeFault, IsChangeRefusal, IsFileFault, IsNoLogFault}
 use Rattle.nl_change.specs.Files.{BadAt, FileReading}
-use Rattle.nl_change.specs.Updates.{AsSaid, Changes, HasTable, IsOpened, IsRepaired, IsUnmade, IsUpdated, Leaves, OfAllFound, StaysRepaired, dead_but, none_dead}
+use Rattle.nl_change.specs.Updates.{AsSaid, Changes, HasTable, IsOpenLeft, IsRepaired, IsUnmade, IsUpdated, Leaves, OfAllFound, StaysRepaired, dead_but, none_dead}
 
 -- ---- what is seen
 
@@ -101,7 +101,7 @@ pub record ChangesDisk (m : Meaning) (result : Result (Unit {0}) ToolFault) (old
   pub leaves : (start : History) → BeginsAt start old → Leaves m.update start result new
   pub contents : (d : Disk) → old ≡ Some d → OnOk result (IsUpdated m.bytes d.visible new)
   pub unmade : (d : Disk) → old ≡ Some d → ¬ IsErrOf result Folder → OnErr result (IsUnmade d new)
-  pub opened : (d : Disk) (index : ℕ) → old ≡ Some d → IsErrOf result (NegativeTime index) → IsOpened d new
+  pub opened : (d : Disk) (index : ℕ) → old ≡ Some d → IsErrOf result (NegativeTime index) → IsOpenLeft d new
   pub negative_time : (index : ℕ) → IsErrOf result (NegativeTime index) → IsFirstNegative m.times index
   pub accepts : OnOk result ((index : ℕ) → ¬ IsFirstNegative m.times index)
 

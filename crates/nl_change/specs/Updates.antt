@@ -67,13 +67,13 @@ abbrev pub HasTable : History → List ℕ → Type 0
 HasTable h bs = IsSomeAnd (history_of bs) (λ (found : History). table found ≡ table h)
 
 -- the bytes were a log, and the log is what an open leaves of it, whatever crash comes
-pub record IsOpened (found : Disk) (disk : Option Disk) : Type 0 where
+pub record IsOpenLeft (found : Disk) (disk : Option Disk) : Type 0 where
   pub log : IsLog found.visible
   pub left : IsLeft (opened_bytes none_dead found.visible) disk
 
 -- nothing of an update was made: the disk is as it was, or opened
 abbrev pub IsUnmade : Disk → Option Disk → Type 0
-IsUnmade found disk = (disk ≡ Some found) ⊎ IsOpened found disk
+IsUnmade found disk = (disk ≡ Some found) ⊎ IsOpenLeft found disk
 
 -- a file was read, and this holds of what it says
 pub record AsSaid {T : Type 0} (reading : List ℕ → FileReading T) (known : Option (List ℕ)) (Holds : List T → Type 0) : Type 0 where
@@ -82,12 +82,12 @@ pub record AsSaid {T : Type 0} (reading : List ℕ → FileReading T) (known : O
   pub holds : Holds parts
 
 -- where an open log goes by its answer to this update
-abbrev pub Goes : Update → Result Unit LogFault → State → State → Type 0
-Goes update (Ok done) s t = (t ≡ gained s update) ⊎ (t ≡ durable_at (Then (all_of s) update) Open)
-Goes update (Err why) s t = (t ≡ s) ⊎ MayHaveGained s update t
+abbrev pub GoesBy : Update → Result Unit LogFault → State → State → Type 0
+GoesBy update (Ok done) s t = (t ≡ gained s update) ⊎ (t ≡ durable_at (Then (all_of s) update) Open)
+GoesBy update (Err why) s t = (t ≡ s) ⊎ MayHaveGained s update t
 
 -- the log goes there from the state at which it was
 pub record Changes (update : Update) (result : Result Unit LogFault) (s : State) (disk : Option Disk) (settled : Bool) (mode : LogState) (held : List Entry) : Type 0 where
   pub next : State
-  pub goes : Goes update result s next
+  pub goes : GoesBy update result s next
   pub at : IsAt disk settled mode held next

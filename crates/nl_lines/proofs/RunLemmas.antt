@@ -4,7 +4,7 @@ use Rattle.std.specs.Prelude.{Option, None, Some, Ok, map}
 use Rattle.std.proofs.lemmas.Bool.{le-leb, lt-leb}
 use Rattle.nl_lines.specs.Split.{with_newline, joined, lines_of, rest_of, whole_len}
 use Rattle.nl_lines.specs.Lines.{Reader, IsReading, HasEnded, fresh, text_left, TakesLine, TakesRest, Answers, Gives, max_line, lent_rest}
-use Rattle.nl_lines.specs.Runs.{Shown, ALine, ALongLine, ARest, Run, shown_of, line_shown, rest_shown, text_shown}
+use Rattle.nl_lines.specs.Runs.{Shown, ALine, ALongLine, ARest, GivenInTurn, as_shown, line_shown, rest_shown, text_shown}
 use Rattle.nl_lines.specs.declared.window.Phase.{Phase}
 use Rattle.nl_lines.specs.declared.window.Phase.TheVariants.{Reading, Ended}
 use Rattle.nl_lines.specs.declared.lines.Line.{Line}
@@ -23,7 +23,7 @@ rest_shown-some at [] some = absurd (omega arith)
 rest_shown-some at (b ∷ rest) some = refl
 
 -- no line comes after the end
-pub ended_run : (lines : List Line) (s : Reader) (a : Option (List ℕ)) (last : Reader) (b : Option (List ℕ)) → HasEnded s → Run s a lines last b → lines ≡ []
+pub ended_run : (lines : List Line) (s : Reader) (a : Option (List ℕ)) (last : Reader) (b : Option (List ℕ)) → HasEnded s → GivenInTurn s a lines last b → lines ≡ []
 ended_run [] s a last b ended run = refl
 ended_run (Whole bytes ∷ lines) s a last b ended run = absurd (reading_not_ended s.phase run.2.0.was ended)
 ended_run (TooLong ∷ lines) s a last b ended run = absurd (reading_not_ended s.phase run.2.1.was ended)
@@ -52,7 +52,7 @@ module _ (s : Reader) (a : Option (List ℕ)) (t : Reader) (d : Option (List ℕ
       ap (λ (l : List (List ℕ)). map line_shown l ++ rest_shown (s.position + whole_len text) (rest_of text)) left.1
       ∙ ap (λ (n : ℕ). rest_shown n (rest_of text)) {y = s.position} (omega (arith, lens)) ∙ ap (rest_shown s.position) left.2
 
-run_shows : (lines : List Line) (s : Reader) (a : Option (List ℕ)) (text : List ℕ) (last : Reader) (b : Option (List ℕ)) (end : Reader) (c : Option (List ℕ)) → IsReading s → text_left s a ≡ Some text → Run s a lines last b → Gives last b end c None → map shown_of lines ≡ shown_behind s.position text
+run_shows : (lines : List Line) (s : Reader) (a : Option (List ℕ)) (text : List ℕ) (last : Reader) (b : Option (List ℕ)) (end : Reader) (c : Option (List ℕ)) → IsReading s → text_left s a ≡ Some text → GivenInTurn s a lines last b → Gives last b end c None → map as_shown lines ≡ shown_behind s.position text
 run_shows [] s a text last b end c reading is run none =
     elim none [
       | inl takes ↦
@@ -71,9 +71,9 @@ run_shows (TooLong ∷ lines) s a text last b end c reading is run none =
 run_shows (Torn at len bytes ∷ lines) s a text last b end c reading is run none =
     let over : lines ≡ [] = ended_run lines run.0 run.1 last b run.2.1.is run.3 in
     let shown : ARest at len bytes.now ≡ ARest s.position (length run.2.0) (lent_rest run.2.0) = (λ i. ARest (run.2.3 i) (run.2.4 i) (run.2.5 i)) in
-    (λ i. shown i ∷ map shown_of (over i)) ∙ sym (rest_shown-some s.position run.2.0 run.2.2) ∙ sym (behind_rest s a run.0 run.1 text is run.2.0 run.2.1)
+    (λ i. shown i ∷ map as_shown (over i)) ∙ sym (rest_shown-some s.position run.2.0 run.2.2) ∙ sym (behind_rest s a run.0 run.1 text is run.2.0 run.2.1)
 
-pub run_of_text : (text : List ℕ) (lines : List Line) (last : Reader) (b : Option (List ℕ)) (end : Reader) (c : Option (List ℕ)) → Run fresh (Some text) lines last b → Answers last b end c (Ok None) → map shown_of lines ≡ text_shown text
+pub run_of_text : (text : List ℕ) (lines : List Line) (last : Reader) (b : Option (List ℕ)) (end : Reader) (c : Option (List ℕ)) → GivenInTurn fresh (Some text) lines last b → Answers last b end c (Ok None) → map as_shown lines ≡ text_shown text
 run_of_text text lines last b end c run none =
     run_shows lines fresh (Some text) text last b end c refl refl run none
     ∙ ap (λ (n : ℕ). map line_shown (lines_of text) ++ rest_shown n (rest_of text)) {y = whole_len text} (omega arith)

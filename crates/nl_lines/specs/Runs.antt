@@ -12,10 +12,10 @@ pub data Shown : Type 0 where
   ARest : ℕ → ℕ → List ℕ → Shown
 
 -- what a line that `next` gave shows
-abbrev pub shown_of : Line → Shown
-shown_of (Whole bytes) = ALine bytes.now
-shown_of TooLong = ALongLine
-shown_of (Torn at len bytes) = ARest at len bytes.now
+abbrev pub as_shown : Line → Shown
+as_shown (Whole bytes) = ALine bytes.now
+as_shown TooLong = ALongLine
+as_shown (Torn at len bytes) = ARest at len bytes.now
 
 -- how a line of a text is shown
 abbrev pub line_shown : List ℕ → Shown
@@ -31,6 +31,6 @@ abbrev pub text_shown : List ℕ → List Shown
 text_shown text = map line_shown (lines_of text) ++ rest_shown (whole_len text) (rest_of text)
 
 -- calls of `next`, over one source that nothing else reads, gave these lines
-abbrev pub Run : Reader → Option (List ℕ) → List Line → Reader → Option (List ℕ) → Type 0
-Run old a [] new b = (new ≡ old) × (b ≡ a)
-Run old a (line ∷ lines) new b = (next : Reader) × (ahead : Option (List ℕ)) × Answers old a next ahead (Ok (Some line)) × Run next ahead lines new b
+abbrev pub GivenInTurn : Reader → Option (List ℕ) → List Line → Reader → Option (List ℕ) → Type 0
+GivenInTurn old a [] new b = (new ≡ old) × (b ≡ a)
+GivenInTurn old a (line ∷ lines) new b = (next : Reader) × (ahead : Option (List ℕ)) × Answers old a next ahead (Ok (Some line)) × GivenInTurn next ahead lines new b

@@ -3,7 +3,7 @@ ghost use Rattle.std.specs.Prelude.{◌≡◌, ◌⊎◌, ◌<◌, ◌≤◌, �
 ghost use Rattle.nl_lines.specs.Prefix.{IsPrefix};
 ghost use Rattle.nl_lines.specs.Split.{NoNewline, EndsInNewline, SplitsInto, with_newline, joined, lines_of, rest_of, whole_len, torn_len};
 ghost use Rattle.nl_lines.specs.Lines.{Reader, TakesLine, TakesRest, Answers, fresh, max_line, max_log, text_left};
-ghost use Rattle.nl_lines.specs.Runs.{Run, shown_of, text_shown};
+ghost use Rattle.nl_lines.specs.Runs.{GivenInTurn, as_shown, text_shown};
 ghost use Rattle.nl_lines.specs.Version.{as_version, as_version_from, digit_place};
 ghost use Rattle.nl_lines.specs.declared.lines.Line.{Line};
 ghost use Rattle.nl_lines.specs.declared.version.LogVersion.{LogVersion};
@@ -97,15 +97,15 @@ pub fn the_rest_is_last()
 pub fn a_run_shows_the_text()
     ensures { (text : List ℕ) (lines : List Line)
         (last : Reader) (b : Option (List ℕ)) (end : Reader) (c : Option (List ℕ))
-        → Run fresh (Some text) lines last b → Answers last b end c (Ok None)
-        → map shown_of lines ≡ text_shown text }
+        → GivenInTurn fresh (Some text) lines last b → Answers last b end c (Ok None)
+        → map as_shown lines ≡ text_shown text }
 {}
 
 /// Such a run comes to its `None` only where the text is within the limit.
 pub fn a_text_that_is_shown_is_within_the_limit()
     ensures { (text : List ℕ) (lines : List Line)
         (last : Reader) (b : Option (List ℕ)) (end : Reader) (c : Option (List ℕ))
-        → Run fresh (Some text) lines last b → Answers last b end c (Ok None)
+        → GivenInTurn fresh (Some text) lines last b → Answers last b end c (Ok None)
         → length text ≤ max_log }
 {}
 
@@ -113,7 +113,7 @@ pub fn a_text_that_is_shown_is_within_the_limit()
 pub fn a_text_that_is_too_large_is_beyond_the_limit()
     ensures { (text : List ℕ) (lines : List Line)
         (last : Reader) (b : Option (List ℕ)) (end : Reader) (c : Option (List ℕ))
-        → Run fresh (Some text) lines last b → Answers last b end c (Err LineFault.TooLarge)
+        → GivenInTurn fresh (Some text) lines last b → Answers last b end c (Err LineFault.TooLarge)
         → max_log < length text }
 {}
 

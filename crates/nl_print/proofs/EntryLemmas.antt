@@ -13,7 +13,7 @@ use Rattle.nl_table.specs.History.{Began}
 use Rattle.nl_table.proofs.LogTextLemmas.{log_of-text}
 use Rattle.nl_table.proofs.TableLemmas.{table-plus}
 use Rattle.nl_table.proofs.ValidLemmas.{log_valid}
-use Rattle.nl_print.specs.Output.{shown, shown_of}
+use Rattle.nl_print.specs.Output.{shown, show_text}
 use Rattle.nl_lines.specs.Split.{joined, lines_of, rest_of, with_newline}
 use Rattle.nl_table.specs.Log.{LogReading, Log, NotALog, OtherVersion, entries_on, entry_by, entry_on, log_of}
 use Rattle.nl_table.specs.LogText.{lines_of_entries}
@@ -65,14 +65,14 @@ some_listed known w v so_far = subst (λ (text_of : List ℕ → Option (List �
 pub entries_shown : (bytes text : List ℕ) → listed bytes ≡ Some text → length (header_line ++ text) ≤ max_log → shown (header_line ++ text) ≡ shown bytes
 entries_shown bytes text is fits = go (log_of bytes) refl is
   where
-    go : (r : LogReading) → log_of bytes ≡ r → listed_of r ≡ Some text → shown (header_line ++ text) ≡ shown_of r
+    go : (r : LogReading) → log_of bytes ≡ r → listed_of r ≡ Some text → shown (header_line ++ text) ≡ show_text r
     go OtherVersion reads none = absurd (cc none)
     go NotALog reads none = absurd (cc none)
     go (Log v es) reads some =
         let same : lines_of_entries es ≡ text = cc some in
         let again : log_of (header_line ++ text) ≡ Log 5 es =
         ap (λ (t : List ℕ). log_of (header_line ++ t)) (sym same) ∙ log_of-text es (log_valid bytes v es reads) (subst (λ (t : List ℕ). length (header_line ++ t) ≤ max_log) (sym same) fits) in
-        ap shown_of again ∙ ap (λ (l : List Entry). Some (joined (map line_of l))) (table-plus (Began 5) es ∙ sym (table-plus (Began v) es))
+        ap show_text again ∙ ap (λ (l : List Entry). Some (joined (map line_of l))) (table-plus (Began 5) es ∙ sym (table-plus (Began v) es))
 
 -- a line of version 5 is the one spelling of its entry
 pub entry_whole : (v : ℕ) (line : List ℕ) (e : Entry) → (v ≡ 4 → ⊥) → length line ≤ max_line → entry_by v line ≡ Some e → entry_text (entry_on v line) ≡ with_newline line

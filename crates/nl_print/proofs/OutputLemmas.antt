@@ -7,14 +7,14 @@ use Rattle.nl_lines.specs.Split.{joined}
 use Rattle.std.specs.Io.KnownBytes.{Appends}
 use Rattle.std.proofs.KnownBytes.{Appends-nil, Appends-trans}
 use Rattle.nl_texts.specs.Output.{AppendsPrefixOf}
-use Rattle.nl_print.specs.Output.{Moves, report_lines}
+use Rattle.nl_print.specs.Output.{HoldsAllBut, report_lines}
 
 -- a text was written where the rest that was held is written
-pub all_moved : (old mid new : Option (List ℕ)) (text held : List ℕ) → Moves old mid text held → Appends mid new held → Appends old new text
+pub all_moved : (old mid new : Option (List ℕ)) (text held : List ℕ) → HoldsAllBut old mid text held → Appends mid new held → Appends old new text
 all_moved old mid new text held moves appends = rw (moves.is) (Appends-trans old mid new moves.written held moves.appended appends)
 
 -- what is held is moved on
-pub moved_on : (old mid new : Option (List ℕ)) (text held left : List ℕ) → Moves old mid text held → Moves mid new held left → Moves old new text left
+pub moved_on : (old mid new : Option (List ℕ)) (text held left : List ℕ) → HoldsAllBut old mid text held → HoldsAllBut mid new held left → HoldsAllBut old new text left
 moved_on old mid new text held left first next = record {
   written = first.written ++ next.written;
   is = first.is ∙ ap (λ rest. first.written ++ rest) next.is ∙ sym (append_assoc first.written next.written left);
@@ -22,7 +22,7 @@ moved_on old mid new text held left first next = record {
 }
 
 -- a line more is held
-pub held_more : (old new : Option (List ℕ)) (text held line : List ℕ) → Moves old new text held → Moves old new (text ++ line) (held ++ line)
+pub held_more : (old new : Option (List ℕ)) (text held line : List ℕ) → HoldsAllBut old new text held → HoldsAllBut old new (text ++ line) (held ++ line)
 held_more old new text held line moves = record {
   written = moves.written;
   is = ap (λ front. front ++ line) moves.is ∙ append_assoc moves.written held line;
@@ -30,11 +30,11 @@ held_more old new text held line moves = record {
 }
 
 -- nothing is held of nothing
-pub nothing_moved : (known : Option (List ℕ)) → Moves known known [] []
+pub nothing_moved : (known : Option (List ℕ)) → HoldsAllBut known known [] []
 nothing_moved known = record { written = []; is = refl; appended = Appends-nil known }
 
 -- where a prefix of what was held is written, it ends a prefix of the text
-pub prefix_after : (old mid new : Option (List ℕ)) (whole text later held : List ℕ) → whole ≡ text ++ later → Moves old mid text held
+pub prefix_after : (old mid new : Option (List ℕ)) (whole text later held : List ℕ) → whole ≡ text ++ later → HoldsAllBut old mid text held
     → AppendsPrefixOf mid new held → AppendsPrefixOf old new whole
 prefix_after old mid new whole text later held is moves part = record {
   prefix = moves.written ++ part.prefix;

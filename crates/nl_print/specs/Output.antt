@@ -11,7 +11,7 @@ use Rattle.nl_table.specs.Log.{LogReading, Log, NotALog, OtherVersion, log_of, s
 use Rattle.nl_texts.specs.Files.{OfBytes}
 
 -- a text is held but for its prefix, by which known bytes grew
-pub record Moves (old new : Option (List ℕ)) (text held : List ℕ) : Type 0 where
+pub record HoldsAllBut (old new : Option (List ℕ)) (text held : List ℕ) : Type 0 where
   pub written : List ℕ
   pub is : text ≡ written ++ held
   pub appended : Appends old new written
@@ -27,13 +27,13 @@ abbrev pub IsFileHash : Option (List ℕ) → List ℕ → Type 0
 IsFileHash known text = OfBytes known (λ command. IsHashText command text)
 
 -- the text of `show`: the line of each entry of the table, in order; none where there is no log
-abbrev pub shown_of : LogReading → Option (List ℕ)
-shown_of (Log version entries) = Some (joined (map line_of (table (logged version entries))))
-shown_of OtherVersion = None
-shown_of NotALog = None
+abbrev pub show_text : LogReading → Option (List ℕ)
+show_text (Log version entries) = Some (joined (map line_of (table (logged version entries))))
+show_text OtherVersion = None
+show_text NotALog = None
 
 abbrev pub shown : List ℕ → Option (List ℕ)
-shown bytes = shown_of (log_of bytes)
+shown bytes = show_text (log_of bytes)
 
 abbrev pub yes_or_no : Bool → List ℕ
 yes_or_no b = if b then codes "yes" else codes "no"
@@ -58,7 +58,7 @@ abbrev pub checked : List ℕ → Option (List ℕ)
 checked bytes = checked_of (skipped_count bytes) (torn_len bytes) (log_of bytes)
 
 -- the text is that of the bytes which a reader gave: the known ones where they are known
-pub record IsTextFor (text_of : List ℕ → Option (List ℕ)) (known : Option (List ℕ)) (text : List ℕ) : Type 0 where
+pub record IsTextAsRead (text_of : List ℕ → Option (List ℕ)) (known : Option (List ℕ)) (text : List ℕ) : Type 0 where
   pub bytes : List ℕ
   pub given : IfSome known (λ bs. bs ≡ bytes)
   pub is : text_of bytes ≡ Some text

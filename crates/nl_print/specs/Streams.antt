@@ -10,7 +10,7 @@ use Rattle.nl_lines.specs.Lines.{lent_rest, max_line}
 use Rattle.nl_table.specs.Log.{LogReading, Log, OtherVersion, NotALog, entry_by, log_of}
 use Rattle.nl_table.specs.LogText.{lines_of_entries}
 use Rattle.nl_texts.specs.declared.fault.ToolFault.{ToolFault}
-use Rattle.nl_print.specs.Output.{IsTextFor}
+use Rattle.nl_print.specs.Output.{IsTextAsRead}
 
 -- ---- the text of a log that is told line by line
 
@@ -104,10 +104,10 @@ pub record IsSoFar (text_of : List ℕ → Option (List ℕ)) (known old new : O
 
 -- after a command that writes while it reads: on Ok all of the text, after a refusal a part of that of what was read so far
 abbrev pub Streams : (List ℕ → Option (List ℕ)) → Option (List ℕ) → Option (List ℕ) → Option (List ℕ) → Result (Unit {0}) ToolFault → Type 0
-Streams text_of known old new (Ok done) = (text : List ℕ) × IsTextFor text_of known text × Appends old new text
+Streams text_of known old new (Ok done) = (text : List ℕ) × IsTextAsRead text_of known text × Appends old new text
 Streams text_of known old new (Err fault) = IsSoFar text_of known old new
 
 -- the same, where the answer says whether there was any text
 abbrev pub Finds : (List ℕ → Option (List ℕ)) → Option (List ℕ) → Option (List ℕ) → Option (List ℕ) → Result Bool ToolFault → Type 0
-Finds text_of known old new (Ok any) = (text : List ℕ) × IsTextFor text_of known text × Appends old new text × (any ≡ nat_lt 0 (length text))
+Finds text_of known old new (Ok any) = (text : List ℕ) × IsTextAsRead text_of known text × Appends old new text × (any ≡ nat_lt 0 (length text))
 Finds text_of known old new (Err fault) = IsSoFar text_of known old new

@@ -6,7 +6,7 @@ ghost use Rattle.nl_lines.specs.Split.{joined};
 ghost use Rattle.nl_table.specs.Log.{log_of, NotALog, OtherVersion};
 ghost use Rattle.nl_print.specs.Faults.{IsLogFault};
 ghost use Rattle.nl_texts.specs.Output.{AppendsPrefixOf, Prints};
-ghost use Rattle.nl_print.specs.Output.{IsTextFor, Moves, shown};
+ghost use Rattle.nl_print.specs.Output.{IsTextAsRead, HoldsAllBut, shown};
 ghost use Rattle.nl_print.specs.Versions.{log_as, shown_as};
 ghost use Rattle.nl_print.specs.VersionOf.{as_five, shown_any};
 ghost use Rattle.nl_texts.specs.declared.fault.ToolFault.{ToolFault};
@@ -29,7 +29,7 @@ pub fn show_to<R: Read + Drop, W: Write>(
     reader: R,
     writer: &mut W,
 ) -> Result<(), ToolFault>
-    ensures prints { Prints (IsTextFor shown (R.remaining reader)) (W.contents writer.old) (W.contents writer.new) result }
+    ensures prints { Prints (IsTextAsRead shown (R.remaining reader)) (W.contents writer.old) (W.contents writer.new) result }
     ensures not_a_log { IsErrOf result ToolFault.NotALog → IfSome (R.remaining reader) (λ bs. log_of bs ≡ NotALog) }
     ensures other_version { IsErrOf result ToolFault.OtherVersion → IfSome (R.remaining reader) (λ bs. log_of bs ≡ OtherVersion) }
     ensures faults { IfErr result IsLogFault }
@@ -47,7 +47,7 @@ pub fn show_as<R: Read + Drop, W: Write>(
     reader: R,
     writer: &mut W,
 ) -> Result<(), ToolFault>
-    ensures prints { Prints (IsTextFor (shown_as version) (R.remaining reader)) (W.contents writer.old) (W.contents writer.new) result }
+    ensures prints { Prints (IsTextAsRead (shown_as version) (R.remaining reader)) (W.contents writer.old) (W.contents writer.new) result }
     ensures not_a_log { IsErrOf result ToolFault.NotALog → IfSome (R.remaining reader) (λ bs. log_as version bs ≡ NotALog) }
     ensures other_version { IsErrOf result ToolFault.OtherVersion → IfSome (R.remaining reader) (λ bs. log_as version bs ≡ OtherVersion) }
     ensures faults { IfErr result IsLogFault }
@@ -63,7 +63,7 @@ pub fn show_any<R: Read + Drop, W: Write>(
     reader: R,
     writer: &mut W,
 ) -> Result<(), ToolFault>
-    ensures prints { Prints (IsTextFor shown_any (R.remaining reader)) (W.contents writer.old) (W.contents writer.new) result }
+    ensures prints { Prints (IsTextAsRead shown_any (R.remaining reader)) (W.contents writer.old) (W.contents writer.new) result }
     ensures not_a_log { IsErrOf result ToolFault.NotALog → IfSome (R.remaining reader) (λ bs. log_of (as_five bs) ≡ NotALog) }
     ensures other_version { IsErrOf result ToolFault.OtherVersion → IfSome (R.remaining reader) (λ bs. log_of (as_five bs) ≡ OtherVersion) }
     ensures faults { IfErr result IsLogFault }
@@ -100,7 +100,7 @@ pub fn make_room<W: Write>(held: &mut Vec<u8>, writer: &mut W) -> Result<(), Too
     requires { MAX_ENTRY_LINE ≤ vec_capacity held.old }
     ensures room { OnOk result (vec_len held.new + MAX_ENTRY_LINE ≤ vec_capacity held.new) }
     ensures capacity { vec_capacity held.old ≤ vec_capacity held.new }
-    ensures moved { OnOk result (Moves (W.contents writer.old) (W.contents writer.new) held.old.items held.new.items) }
+    ensures moved { OnOk result (HoldsAllBut (W.contents writer.old) (W.contents writer.new) held.old.items held.new.items) }
     ensures prefix { OnErr result (AppendsPrefixOf (W.contents writer.old) (W.contents writer.new) held.old.items) }
     ensures faults { IfErr result (λ e. e ≡ ToolFault.Write) }
 {

@@ -11,11 +11,11 @@ use Rattle.nl_lines.specs.Lines.{Reader, HasEnded, IsReading, TakesLine, TakesRe
 use Rattle.nl_lines.proofs.LinesLemmas.{TakesLines_none, TakesLines_more, TakesLines_rest}
 use Rattle.nl_session.specs.declared.events.Event.{Event}
 use Rattle.nl_texts.specs.Files.{OfBytes, file_lines}
-use Rattle.nl_replay.specs.Replay.{IsScript, IsSetting, KeepsSome, TakesIn, event_line, is_filled, time_fields}
+use Rattle.nl_replay.specs.Replay.{IsScript, IsSetting, KeepsSome, TakesScriptLine, event_line, is_filled, time_fields}
 use Rattle.nl_texts.proofs.FileLemmas.{all_lines}
 
 -- the events with one line more
-IsScript_more : (lines : List (List ℕ)) (old new : List Event) (line : List ℕ) → IsScript lines old → TakesIn old new line → IsScript (lines ++ line ∷ []) new
+IsScript_more : (lines : List (List ℕ)) (old new : List Event) (line : List ℕ) → IsScript lines old → TakesScriptLine old new line → IsScript (lines ++ line ∷ []) new
 IsScript_more lines old new [] script same = record {
   settings = script.settings;
   set = script.set;
@@ -60,14 +60,14 @@ pub Scripted_reading : (a : Option (List ℕ)) (now : Reader) (b : Option (List 
 Scripted_reading a now b events scripted ended = let reading : IsReading now = scripted.given.is in cc
 
 module _ (a : Option (List ℕ)) (now : Reader) (b : Option (List ℕ)) (events : List Event) (scripted : Scripted a now b events) (new : Reader) (c : Option (List ℕ)) where
-  pub Scripted_more : (line : List ℕ) (more : List Event) → TakesLine now b new c line → TakesIn events more line → Scripted a new c more
+  pub Scripted_more : (line : List ℕ) (more : List Event) → TakesLine now b new c line → TakesScriptLine events more line → Scripted a new c more
   Scripted_more line more takes says = record {
     lines = scripted.lines ++ line ∷ [];
     given = TakesLines_more fresh a now b scripted.lines scripted.given new c line takes;
     script = IsScript_more scripted.lines events more line scripted.script says;
   }
 
-  pub Scripted_rest : (rest : List ℕ) (more : List Event) → TakesRest now b new c rest → TakesIn events more rest → OfBytes a (λ bytes. IsScript (file_lines bytes) more)
+  pub Scripted_rest : (rest : List ℕ) (more : List Event) → TakesRest now b new c rest → TakesScriptLine events more rest → OfBytes a (λ bytes. IsScript (file_lines bytes) more)
   Scripted_rest rest more takes says =
       let file = all_lines a c scripted.lines rest (TakesLines_rest fresh a now b scripted.lines scripted.given new c rest takes) in
       record {

@@ -109,9 +109,9 @@ abbrev pub SaysMore : List Event → List Event → List ℕ → Type 0
 SaysMore old new line = (IsSetting line × (old ≡ []) × (new ≡ [])) ⊎ ((event : Event) × (line ≡ event_line event) × KeepsSome event × (new ≡ old ++ event ∷ []))
 
 -- a line was taken in; an empty one says nothing
-abbrev pub TakesIn : List Event → List Event → List ℕ → Type 0
-TakesIn old new [] = new ≡ old
-TakesIn old new (b ∷ line) = SaysMore old new (b ∷ line)
+abbrev pub TakesScriptLine : List Event → List Event → List ℕ → Type 0
+TakesScriptLine old new [] = new ≡ old
+TakesScriptLine old new (b ∷ line) = SaysMore old new (b ∷ line)
 
 -- what a script tells a folder in memory
 abbrev pub told_by : Script → Choices

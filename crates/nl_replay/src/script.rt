@@ -14,7 +14,7 @@ ghost use Rattle.nl_texts.specs.Files.{OfBytes, file_lines};
 ghost use Rattle.nl_fields.specs.declared.entry.Entry.{Entry};
 ghost use Rattle.nl_session.specs.declared.events.Event.{Event};
 ghost use Rattle.nl_replay.specs.Reading.{HoldsNames, IsLineOf, IsReadable, SaysNames, SaysTimes, fields_of_event, word_of_event};
-ghost use Rattle.nl_replay.specs.Replay.{IsScript, KeepsSome, NamesSome, SaysMore, TakesIn, behind_tab, event_line, keep_fields, name_field, text_of_word, time_fields, word_of};
+ghost use Rattle.nl_replay.specs.Replay.{IsScript, KeepsSome, NamesSome, SaysMore, TakesScriptLine, behind_tab, event_line, keep_fields, name_field, text_of_word, time_fields, word_of};
 
 use nl_fields::{Entry, Name, NameFault, read_entry, read_i64};
 use nl_folder::{Call, Fuse};
@@ -120,7 +120,7 @@ fn with_last(
     line: &[u8],
     number: u64,
 ) -> Result<Script, ToolFault>
-    ensures value { IfOk result (λ new. (0 < length line.now) × TakesIn script.events.items new.events.items line.now) }
+    ensures value { IfOk result (λ new. (0 < length line.now) × TakesScriptLine script.events.items new.events.items line.now) }
     ensures faults { IfErr result (IsFaultOfLine number) }
 {
     if line.is_empty() {
@@ -132,7 +132,7 @@ fn with_last(
 
 // Takes in a line with this number, or passes over an empty one.
 fn take_line(alloc: Global, line: &[u8], number: u64, script: &mut Script) -> Result<(), ToolFault>
-    ensures ok { OnOk result (TakesIn script.old.events.items script.new.events.items line.now) }
+    ensures ok { OnOk result (TakesScriptLine script.old.events.items script.new.events.items line.now) }
     ensures faults { IfErr result (IsFaultOfLine number) }
 {
     if line.is_empty() {

@@ -1,6 +1,6 @@
 //! Why a command of the tool is refused, and the text that says so.
 ghost use Rattle.std.specs.Prelude.{◌≡◌, Some};
-ghost use Rattle.nl_texts.specs.Faults.{of_line_fault, of_load_fault, text_of};
+ghost use Rattle.nl_texts.specs.Faults.{of_line_fault, of_load_fault, fault_text};
 ghost use Rattle.nl_texts.specs.declared.fault.ToolFault.TheVariants.{Memory};
 
 use nl_lines::LineFault;
@@ -32,7 +32,7 @@ pub enum ToolFault {
 }
 
 impl fmt::Display for ToolFault {
-    ghost output = { λ f. Some (text_of f) };
+    ghost output = { λ f. Some (fault_text f) };
 
     fn fmt<W: fmt::Write>(&self, f: &mut fmt::Formatter<W>) -> fmt::Result {
         match self {

@@ -5,7 +5,7 @@ use Rattle.nl_system.specs.Paths.{folder_of}
 use Rattle.nl_disk.specs.declared.failure.Failure.{Failure}
 use Rattle.nl_disk.specs.declared.failure.LogFile.{LogFile}
 use Rattle.nl_disk.specs.declared.failure.LogFile.TheVariants as file
-use Rattle.nl_texts.specs.Faults.{text_of}
+use Rattle.nl_texts.specs.Faults.{fault_text}
 use Rattle.nl_texts.specs.declared.fault.ToolFault.{ToolFault}
 use Rattle.nl_texts.specs.declared.fault.ToolFault.TheVariants as fault
 use Rattle.nl_words.specs.declared.command_line.Words.{Words}
@@ -46,7 +46,7 @@ behind (Some why) = codes "\nnlog: " ++ why_text why
 
 -- the text of the fault, and behind it that of the reason, where there is one
 abbrev pub refusal_text : Refusal → List ℕ
-refusal_text refusal = text_of refusal.fault ++ behind refusal.why
+refusal_text refusal = fault_text refusal.fault ++ behind refusal.why
 
 -- ---- of which file it is
 

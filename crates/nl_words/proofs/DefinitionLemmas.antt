@@ -130,6 +130,6 @@ fails_on (Ok x) e kinds h k = absurd h
 fails_on (Err x) e kinds h k = subst (HasKind kinds) (sym h) k
 
 -- a command that was made by adding one to another, each by its name
-pub joined : (new old named sub sub_named : App) → new ≡ with_command old sub → old ≡ named
+pub added_as_named : (new old named sub sub_named : App) → new ≡ with_command old sub → old ≡ named
     → sub ≡ sub_named → new ≡ with_command named sub_named
-joined new old named sub sub_named e f g = e ∙ ap₂ with_command f g
+added_as_named new old named sub sub_named e f g = e ∙ ap₂ with_command f g

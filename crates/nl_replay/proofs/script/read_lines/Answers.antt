@@ -1,6 +1,6 @@
 use Rattle.std.proofs.Common.{◌∷◌, [], arith, inl, inr, refl, subst, length-append}
 use Rattle.std.proofs.lemmas.Result.{IfOk-weaker}
-use Rattle.nl_replay.specs.Replay.{TakesIn}
+use Rattle.nl_replay.specs.Replay.{TakesScriptLine}
 use Rattle.nl_replay.proofs.ScriptLemmas.{Scripted_none, Scripted_more, Scripted_rest, Scripted_end, Scripted_reading, lent_whole}
 use Rattle.nl_replay.proofs.script.read_lines.Goals as goal
 
@@ -17,7 +17,7 @@ pub returns-in-Some-Torn-clause-value : goal.returns-in-Some-Torn-clause-value
 returns-in-Some-Torn-clause-value g c =
     let h = rw (c.in_ok-line.was, c.in-Some-Torn.is, c.in-Some-Torn.field-0-is) at c.next.follows.holds-at-none in
     IfOk-weaker c.with_last.result _ _ (λ script says. Scripted_rest _ _ _ _ c.lines.invariant.scripted _ _ h.0 script.events.items h.1
-    (subst (TakesIn c.lines.script.events.items script.events.items) (lent_whole h.0 c.in-Some-Torn.bytes.now h.5 says.0) says.1)) c.with_last.ensures.value
+    (subst (TakesScriptLine c.lines.script.events.items script.events.items) (lent_whole h.0 c.in-Some-Torn.bytes.now h.5 says.0) says.1)) c.with_last.ensures.value
 
 pub returns-in-None-clause-value : goal.returns-in-None-clause-value
 returns-in-None-clause-value g c =
