@@ -1,4 +1,5 @@
--- A box of what it holds on the heap, as the calls that take one apart and make one see it: the two types as arguments of a call, with their laws.
+-- A box of what it holds on the heap, as the calls that take one apart and make one see it: the two types as arguments of a call, with
+-- their laws.
 --     Log, Heap        the log's type and the heap's.        log_lasts, heap_lasts     neither has a lifetime in it
 --     boxed, TheBox    the box of them
 --     held_at, freed_at     what the box owns at its pointer, and of that the right to free the block
@@ -54,7 +55,8 @@ abbrev pub log_drop : Dict
 log_drop = impl ("nl_c::nl_c++held++Held+Destruct::drop" ∷ []) tnil dnil
 
 abbrev pub boxed : Bx
-boxed = record { row = Log; laws = log_laws; al = record { row = Heap; laws = heap_laws; g = global.ghosts; d = global.dict; drops = no_drop } }
+boxed =
+    record { row = Log; laws = log_laws; al = record { row = Heap; laws = heap_laws; g = global.ghosts; d = global.dict; drops = no_drop } }
 
 abbrev pub TheBox : RattleType
 TheBox = B boxed

@@ -25,13 +25,16 @@ use Rattle.nl_c.proofs.nl_c++held++Held+Destruct.drop.Symbol as symbol
 abbrev key : Callee
 key = method log_drop 0 (layouts [] tt)
 
-pub log_dropped : {M : Type 1} (𝓤 : Ura M) (𝓛 : Logic 𝓤) (𝓜 : Model 𝓤 𝓛.H) (𝓡 : Running 𝓤 𝓛.H 𝓜) → Wired 𝓡.env symbol.code → Met 𝓛 𝓜 𝓡 𝓡.env Log log_drop
+pub log_dropped : {M : Type 1} (𝓤 : Ura M) (𝓛 : Logic 𝓤) (𝓜 : Model 𝓤 𝓛.H) (𝓡 : Running 𝓤 𝓛.H 𝓜) → Wired 𝓡.env symbol.code
+    → Met 𝓛 𝓜 𝓡 𝓡.env Log log_drop
 log_dropped {M} 𝓤 𝓛 𝓜 𝓡 wired =
     let w : World = record { M = M; 𝓤 = 𝓤; 𝓛 = 𝓛; 𝓜 = 𝓜; 𝓡 = 𝓡 } in
     glue_by Log log_laws w log_drop 𝓡.env (λ κs a. Lasts (ended_of 0 ps r) tt a) (λ κs a. lasts (ended_of 0 ps r) tt a)
     (λ κs a x ws. Fit (ended_of 0 ps r) (stays ps) tt a ws × reads.Learnt tt a x (at_exit (ended_of 0 ps r) tt a ws))
     (λ κs a. AllWithin 1 (κs.0, tt) (Log.lives, tt) × Unit {0}) 0 tt (λ κs a h. ((h, tt), tt))
-    (via_longer 𝓛 (Over 𝓛 𝓜 𝓡 𝓡.env) 1 (glue_ps Log log_laws) r_unit (λ κs a. Lasts (ended_of 0 ps r) tt a) (λ κs a. lasts (ended_of 0 ps r) tt a)
+    (via_longer 𝓛 (Over 𝓛 𝓜 𝓡 𝓡.env) 1
+    (glue_ps Log log_laws) r_unit (λ κs a. Lasts (ended_of 0 ps r) tt a) (λ κs a. lasts (ended_of 0 ps r) tt a)
     (λ κs a x ws. Fit (ended_of 0 ps r) (stays ps) tt a ws × reads.Learnt tt a x (at_exit (ended_of 0 ps r) tt a ws))
     (λ κs a. AllWithin 1 (κs.0, tt) (Log.lives, tt) × Unit {0}) key 0 tt (λ κs. tt) (λ κs a. reads.Asked tt a) (λ κs a p. (tt, tt))
-    (λ κs bd within a vss qs. method_Known 0 ps r reads.requires reads.ensures reads.Asked reads.Learnt reads.known w symbol.name key (symbol.as_method 𝓡.env wired key refl) (dropped.met 𝓤 𝓛 𝓜 𝓡 wired) ((tt, qs, tt, a, vss), tt)))
+    (λ κs bd within a vss qs. method_Known 0 ps r reads.requires reads.ensures reads.Asked reads.Learnt reads.known w symbol.name key
+    (symbol.as_method 𝓡.env wired key refl) (dropped.met 𝓤 𝓛 𝓜 𝓡 wired) ((tt, qs, tt, a, vss), tt)))

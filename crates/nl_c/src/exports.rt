@@ -40,10 +40,12 @@ pub extern "C" fn nlog_status_text(status: u32, buf: &mut [u8]) -> usize
 /// Loads the log that the bytes are. Where the handle has a log, the new one takes its place.
 #[unsafe(no_mangle)]
 pub extern "C" fn nlog_load(handle: &mut Handle, alloc: Global, bytes: &[u8]) -> u32
-    ensures ok { result ≡ ok → IsSomeAnd handle.new.kept.log (λ held. IsSomeAnd (loaded_of held) (IsLoadedFrom bytes.now)) }
+    ensures ok { result ≡ ok → IsSomeAnd handle.new.kept.log
+        (λ held. IsSomeAnd (loaded_of held) (IsLoadedFrom bytes.now)) }
     ensures not_a_log { result ≡ not_a_log → log_of (seen bytes.now) ≡ NotALog }
     ensures other_version { result ≡ other_version → log_of (seen bytes.now) ≡ OtherVersion }
-    ensures refusals { (result ≡ ok) ⊎ (result ≡ not_a_log) ⊎ (result ≡ other_version) ⊎ (result ≡ out_of_memory) }
+    ensures refusals { (result ≡ ok) ⊎ (result ≡ not_a_log) ⊎ (result ≡ other_version)
+        ⊎ (result ≡ out_of_memory) }
     ensures unchanged { result ≢ ok → handle.new.kept.log ≡ handle.old.kept.log }
 {
     let log = match LoadedLog::load(alloc, bytes) {
@@ -118,7 +120,9 @@ pub extern "C" fn nlog_at(
     name_len: &mut usize,
 ) -> u32
     ensures same { handle.new.kept.log ≡ handle.old.kept.log }
-    ensures value { (result, record { stamp = stamp.new; name = name.new; len = name_len.new }) ≡ answered_at (table_in handle.old.kept.log) place (record { stamp = stamp.old; name = name.old; len = name_len.old }) }
+    ensures value { (result, record { stamp = stamp.new; name = name.new; len = name_len.new })
+        ≡ answered_at (table_in handle.old.kept.log) place
+        (record { stamp = stamp.old; name = name.old; len = name_len.old }) }
 {
     let Some(held) = handle.take(alloc) else {
         return status::NO_HANDLE;
@@ -140,7 +144,8 @@ pub extern "C" fn nlog_find(
     stamp: &mut Stamp,
 ) -> u32
     ensures same { handle.new.kept.log ≡ handle.old.kept.log }
-    ensures value { (result, stamp.new) ≡ answered_find (table_in handle.old.kept.log) name.now stamp.old }
+    ensures value { (result, stamp.new)
+        ≡ answered_find (table_in handle.old.kept.log) name.now stamp.old }
 {
     let Some(held) = handle.take(alloc) else {
         return status::NO_HANDLE;
@@ -179,7 +184,8 @@ pub extern "C" fn nlog_open(
     version: u32,
     change: &mut u32,
 ) -> u32
-    ensures call { InHandle (Opened bytes.now version (change.old, change.new)) result handle.old.kept.log handle.new.kept.log }
+    ensures call { InHandle (Opened bytes.now version (change.old, change.new)) result
+        handle.old.kept.log handle.new.kept.log }
 {
     let Some(mut held) = handle.take(alloc) else {
         return status::NO_HANDLE;
@@ -192,7 +198,8 @@ pub extern "C" fn nlog_open(
 /// Adds the line of an entry to the text of an open log.
 #[unsafe(no_mangle)]
 pub extern "C" fn nlog_record(handle: &mut Handle, alloc: Global, name: &[u8], stamp: &Stamp) -> u32
-    ensures call { InHandle (Recorded name.now stamp.now) result handle.old.kept.log handle.new.kept.log }
+    ensures call { InHandle (Recorded name.now stamp.now) result handle.old.kept.log
+        handle.new.kept.log }
 {
     let Some(mut held) = handle.take(alloc) else {
         return status::NO_HANDLE;
@@ -231,7 +238,8 @@ pub extern "C" fn nlog_recompact(handle: &mut Handle, alloc: Global) -> u32
 /// Writes the text anew with the mtimes that are marked.
 #[unsafe(no_mangle)]
 pub extern "C" fn nlog_restat(handle: &mut Handle, alloc: Global, place: &mut usize) -> u32
-    ensures call { InHandle (Restatted (place.old, place.new)) result handle.old.kept.log handle.new.kept.log }
+    ensures call { InHandle (Restatted (place.old, place.new)) result handle.old.kept.log
+        handle.new.kept.log }
 {
     let Some(mut held) = handle.take(alloc) else {
         return status::NO_HANDLE;
@@ -270,7 +278,8 @@ pub extern "C" fn nlog_mark_dead(handle: &mut Handle, alloc: Global, name: &[u8]
 /// Marks an output with a new mtime.
 #[unsafe(no_mangle)]
 pub extern "C" fn nlog_mark_time(handle: &mut Handle, alloc: Global, name: &[u8], mtime: i64) -> u32
-    ensures call { InHandle (TimeMarked name.now mtime) result handle.old.kept.log handle.new.kept.log }
+    ensures call { InHandle (TimeMarked name.now mtime) result handle.old.kept.log
+        handle.new.kept.log }
 {
     let Some(mut held) = handle.take(alloc) else {
         return status::NO_HANDLE;
@@ -296,7 +305,8 @@ pub extern "C" fn nlog_clear_marks(handle: &mut Handle, alloc: Global) -> u32
 /// Whether the log is open.
 #[unsafe(no_mangle)]
 pub extern "C" fn nlog_is_open(handle: &mut Handle, alloc: Global, is_open: &mut bool) -> u32
-    ensures call { InHandle (IsOpenTold is_open.new) result handle.old.kept.log handle.new.kept.log }
+    ensures call { InHandle (IsOpenTold is_open.new) result handle.old.kept.log
+        handle.new.kept.log }
 {
     let Some(mut held) = handle.take(alloc) else {
         return status::NO_HANDLE;
@@ -315,7 +325,8 @@ pub extern "C" fn nlog_text(
     bytes: &mut [u8],
     len: &mut u64,
 ) -> u32
-    ensures call { InHandle (Texted from (bytes.old, bytes.new) (len.old, len.new)) result handle.old.kept.log handle.new.kept.log }
+    ensures call { InHandle (Texted from (bytes.old, bytes.new) (len.old, len.new)) result
+        handle.old.kept.log handle.new.kept.log }
 {
     let Some(mut held) = handle.take(alloc) else {
         return status::NO_HANDLE;
@@ -334,7 +345,9 @@ pub extern "C" fn nlog_read_line(
     name: &mut [u8],
     name_len: &mut usize,
 ) -> u32
-    ensures { (result, record { stamp = stamp.new; name = name.new; len = name_len.new }) ≡ answer_line version line.now (record { stamp = stamp.old; name = name.old; len = name_len.old }) }
+    ensures { (result, record { stamp = stamp.new; name = name.new; len = name_len.new })
+        ≡ answer_line version line.now
+        (record { stamp = stamp.old; name = name.old; len = name_len.old }) }
 {
     look_up::line(version, line, stamp, name, name_len)
 }

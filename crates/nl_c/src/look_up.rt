@@ -21,7 +21,8 @@ pub(crate) fn find(table: &Table, name: &[u8], stamp: &mut Stamp) -> u32
 
 /// Fills a stamp, a buffer and a length with an entry, where there is one.
 fn fill(found: Option<EntryRef>, stamp: &mut Stamp, name: &mut [u8], name_len: &mut usize) -> u32
-    ensures { (result, record { stamp = stamp.new; name = name.new; len = name_len.new }) ≡ entry_in found.entry (record { stamp = stamp.old; name = name.old; len = name_len.old }) }
+    ensures { (result, record { stamp = stamp.new; name = name.new; len = name_len.new })
+        ≡ entry_in found.entry (record { stamp = stamp.old; name = name.old; len = name_len.old }) }
 {
     let Some(entry) = found else {
         return status::NOT_FOUND;
@@ -43,7 +44,9 @@ pub(crate) fn at(
     name: &mut [u8],
     name_len: &mut usize,
 ) -> u32
-    ensures { (result, record { stamp = stamp.new; name = name.new; len = name_len.new }) ≡ answer_at table.now place (record { stamp = stamp.old; name = name.old; len = name_len.old }) }
+    ensures { (result, record { stamp = stamp.new; name = name.new; len = name_len.new })
+        ≡ answer_at table.now place
+        (record { stamp = stamp.old; name = name.old; len = name_len.old }) }
 {
     fill(table.at(place), stamp, name, name_len)
 }
@@ -56,7 +59,9 @@ pub(crate) fn line(
     name: &mut [u8],
     name_len: &mut usize,
 ) -> u32
-    ensures { (result, record { stamp = stamp.new; name = name.new; len = name_len.new }) ≡ answer_line version line.now (record { stamp = stamp.old; name = name.old; len = name_len.old }) }
+    ensures { (result, record { stamp = stamp.new; name = name.new; len = name_len.new })
+        ≡ answer_line version line.now
+        (record { stamp = stamp.old; name = name.old; len = name_len.old }) }
 {
     if line.len() > MAX_LINE {
         return status::NOT_FOUND;

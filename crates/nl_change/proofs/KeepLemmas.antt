@@ -19,7 +19,8 @@ is_err (Err f) e is = ap Err is
 
 -- what is made by the set is made by the names that the file holds
 pub kept : {known : Option (List ℕ)} (set : List (List ℕ)) (P : Meaning → Type 0)
-    → OfBytes known (λ bytes. (names : List (List ℕ)) × (keep_of bytes ≡ Says names) × ((name : List ℕ) → holds set name ≡ holds names name))
+    → OfBytes known
+    (λ bytes. (names : List (List ℕ)) × (keep_of bytes ≡ Says names) × ((name : List ℕ) → holds set name ≡ holds names name))
     → P (keeping set) → AsSaid keep_of known (λ names. P (keeping names))
 kept set P said made =
     let same : dead_but set ≡ dead_but said.holds.0 = λ i name. not (said.holds.2 name i) in

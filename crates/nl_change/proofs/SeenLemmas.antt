@@ -17,8 +17,8 @@ use Rattle.nl_change.proofs.ChangeLemmas.{found_first, ok_with}
 
 module _ {m : Meaning} {old new : FolderView} where
   -- where bytes that are barred were found, and nothing was done
-  pub refused : (version : LogVersion) (bars : List ℕ → Bool) → ((d : Disk) → old.disk ≡ Some d → bars d.visible ≡ true) → new.disk ≡ old.disk → new.failures ≡ old.failures
-      → ChangesSeen version bars m (Err OtherVersion) old new
+  pub refused : (version : LogVersion) (bars : List ℕ → Bool) → ((d : Disk) → old.disk ≡ Some d → bars d.visible ≡ true)
+      → new.disk ≡ old.disk → new.failures ≡ old.failures → ChangesSeen version bars m (Err OtherVersion) old new
   refused version bars four same steady = record {
     disk = record {
       leaves = λ start at. found_first m.update start _ (subst (λ d. BeginsAt start (seen_as_version version d)) (sym same) at);
@@ -38,22 +38,27 @@ module _ {m : Meaning} {old new : FolderView} where
 
 module _ {m : Meaning} {r : Result (Unit {0}) ToolFault} {old new : FolderView} where
   -- through a folder that sees it so, where no bytes are barred
-  pub through : {from to : FolderView} (version : LogVersion) (bars : List ℕ → Bool) → ((d : Disk) → old.disk ≡ Some d → bars d.visible ≡ false)
-      → from.disk ≡ seen_as_version version old.disk → new.disk ≡ seen_as_version version to.disk → (IsTrue to.settled → IsTrue new.settled)
+  pub through : {from to : FolderView} (version : LogVersion) (bars : List ℕ → Bool)
+      → ((d : Disk) → old.disk ≡ Some d → bars d.visible ≡ false) → from.disk ≡ seen_as_version version old.disk
+      → new.disk ≡ seen_as_version version to.disk → (IsTrue to.settled → IsTrue new.settled)
       → from.failures ≡ old.failures → new.failures ≤ to.failures → (0 < to.failures → 0 < new.failures)
       → ChangesLog m r from to → ChangesSeen version bars m r old new
   through {from} {to} version bars free below above settled same rose risen call =
       let seen : seen_as_version version new.disk ≡ to.disk = ap (seen_as_version version) above ∙ seen-twice version to.disk in
       record {
-        disk = subst (λ d. ChangesDisk m r d (seen_as_version version new.disk)) below (subst (ChangesDisk m r from.disk) (sym seen) call.disk);
+        disk = subst (λ d. ChangesDisk m r d (seen_as_version version new.disk)) below
+            (subst (ChangesDisk m r from.disk) (sym seen) call.disk);
         settled = ok_with r _ _ call.settled settled;
         barred = λ d is four. absurd (cc (free d is, four));
         bytes = record {
-          not_a_log = λ d is refused. cond-false (bars d.visible) _ _ (free d is) ∙ call.bytes.not_a_log (disk_as_version version d) (below ∙ ap (seen_as_version version) is) refused;
-          other_version = λ d is refused. cond-false (bars d.visible) _ _ (free d is) ∙ call.bytes.other_version (disk_as_version version d) (below ∙ ap (seen_as_version version) is) refused;
+          not_a_log = λ d is refused. cond-false (bars d.visible) _ _ (free d is)
+              ∙ call.bytes.not_a_log (disk_as_version version d) (below ∙ ap (seen_as_version version) is) refused;
+          other_version = λ d is refused. cond-false (bars d.visible) _ _ (free d is)
+              ∙ call.bytes.other_version (disk_as_version version d) (below ∙ ap (seen_as_version version) is) refused;
         };
         unchanged = λ refused.
-            sym (seen-twice version new.disk) ∙ ap (seen_as_version version) (seen ∙ (call.unchanged refused).disk ∙ below) ∙ seen-twice version old.disk;
+            sym (seen-twice version new.disk) ∙ ap (seen_as_version version) (seen ∙ (call.unchanged refused).disk ∙ below)
+            ∙ seen-twice version old.disk;
         count = λ none. record {
           cause = λ failed less.
               let more : from.failures < to.failures = call.count.cause failed (omega (arith, same, less)) in
@@ -70,9 +75,11 @@ module _ {m : Meaning} {r : Result (Unit {0}) ToolFault} {old new : FolderView} 
       let same = seen_five version is in
       record {
         seen = record {
-          disk = subst (λ d. ChangesDisk m r d (seen_as_version version new.disk)) (sym (same old.disk)) (subst (ChangesDisk m r old.disk) (sym (same new.disk)) call.disk);
+          disk = subst (λ d. ChangesDisk m r d (seen_as_version version new.disk)) (sym (same old.disk))
+              (subst (ChangesDisk m r old.disk) (sym (same new.disk)) call.disk);
           settled = call.settled;
-          barred = λ d was four. let free : is_barred version d.visible ≡ false = ap (λ v. is_barred v d.visible) is in absurd (cc (free, four));
+          barred =
+              λ d was four. let free : is_barred version d.visible ≡ false = ap (λ v. is_barred v d.visible) is in absurd (cc (free, four));
           bytes = record {
             not_a_log = λ d was refused. log_five version is d.visible ∙ call.bytes.not_a_log d was refused;
             other_version = λ d was refused. log_five version is d.visible ∙ call.bytes.other_version d was refused;
@@ -85,7 +92,8 @@ module _ {m : Meaning} {r : Result (Unit {0}) ToolFault} {old new : FolderView} 
       }
 
   -- of another
-  pub as_other : {version seen : LogVersion} → version ≡ seen → (seen ≡ Five → ⊥) → ChangesSeen seen (is_barred seen) m r old new → ChangesLogAs version m r old new
+  pub as_other : {version seen : LogVersion} → version ≡ seen → (seen ≡ Five → ⊥) → ChangesSeen seen (is_barred seen) m r old new
+      → ChangesLogAs version m r old new
   as_other is other call = record {
     seen = subst (λ v. ChangesSeen v (is_barred v) m r old new) (sym is) call;
     five = λ five. absurd (other (sym is ∙ five));

@@ -1,5 +1,6 @@
 -- A line of TIMES, by its first tab.
-use Rattle.std.proofs.Common.{◌≡◌, ◌∙◌, ℕ, ℤ, ◌+◌, Bool, true, false, cond, ◌&&◌, ◌==◌, List, [], length, take, drop, get_or, refl, sym, ap, subst, inl, inr, arith, ltb-true, lt-ltb, ◌^◌, pos, negsuc, FitsSigned, w64, bytes_eq}
+use Rattle.std.proofs.Common.{◌≡◌, ◌∙◌, ℕ, ℤ, ◌+◌, Bool, true, false, cond, ◌&&◌, ◌==◌, List, [], length, take, drop, get_or, refl, sym, ap}
+use Rattle.std.proofs.Common.{subst, inl, inr, arith, ltb-true, lt-ltb, ◌^◌, pos, negsuc, FitsSigned, w64, bytes_eq}
 use Rattle.std.specs.Option.{option_map}
 use Rattle.std.proofs.lemmas.Bool.{and_parts, cases_Bool, cond-false}
 use Rattle.std.proofs.lemmas.Slice.Eq.{bytes_eq-Decides}
@@ -23,20 +24,24 @@ not_true false h = refl
 pub no_tab : (line : List ℕ) → IsFirstByte (λ b. b == 9) line None → after_tab line ≡ []
 no_tab line nowhere =
     let e : position_or_len (λ b. b == 9) line ≡ length line =
-    position_or_len_is (λ b. b == 9) line (length line) 0 (omega arith) (λ k h. not_true (get_or line k 0 == 9) (nowhere k (omega arith) h)) (λ h. absurd (omega arith)) in
+    position_or_len_is (λ b. b == 9) line (length line) 0 (omega arith) (λ k h. not_true (get_or line k 0 == 9) (nowhere k (omega arith) h))
+    (λ h. absurd (omega arith)) in
     drop_of_length-le line (omega (arith, e))
 
 -- the texts at the two sides of the first tab
-pub at_tab : (line : List ℕ) (k : ℕ) → IsFirstByte (λ b. b == 9) line (Some k) → (take k line ≡ before_tab line) × (drop (k + 1) line ≡ after_tab line)
+pub at_tab : (line : List ℕ) (k : ℕ) → IsFirstByte (λ b. b == 9) line (Some k)
+    → (take k line ≡ before_tab line) × (drop (k + 1) line ≡ after_tab line)
 at_tab line k first =
     let e : position_or_len (λ b. b == 9) line ≡ k =
-    position_or_len_is (λ b. b == 9) line k 0 (omega arith) (λ i h. not_true (get_or line i 0 == 9) (first.0.before i (omega arith) h)) (λ h. first.1) in
+    position_or_len_is (λ b. b == 9) line k 0 (omega arith) (λ i h. not_true (get_or line i 0 == 9) (first.0.before i (omega arith) h))
+    (λ h. first.1) in
     (ap (λ (n : ℕ). take n line) (sym e), ap (λ (n : ℕ). drop (n + 1) line) (sym e))
 
 -- what a line says where no mtime or no name is read
 pub no_pair : (line : List ℕ) → after_tab line ≡ [] → pair_on line ≡ None
 no_pair line none = ap (λ (name : List ℕ). cond (is_pair (before_tab line) name) (Some (name, integer_of (before_tab line))) None) none
-    ∙ cond-false (is_pair (before_tab line) []) (Some ([], integer_of (before_tab line))) None (both (is_within 63 (integer_of (before_tab line))) (bytes_eq (decimal_of (integer_of (before_tab line))) (before_tab line)))
+    ∙ cond-false (is_pair (before_tab line) []) (Some ([], integer_of (before_tab line))) None
+    (both (is_within 63 (integer_of (before_tab line))) (bytes_eq (decimal_of (integer_of (before_tab line))) (before_tab line)))
   where
     both : (x y : Bool) → (x && (y && false)) ≡ false
     both true true = refl
@@ -50,7 +55,8 @@ no_time line none = elim (cases_Bool (is_pair (before_tab line) (after_tab line)
       let time = before_tab line in
       let parts = and_parts (is_within 63 (integer_of time)) _ is in
       let fits : FitsSigned w64 (integer_of time) = within (integer_of time) parts.0 in
-      let spelled : decimal_of (integer_of time) ≡ time = (bytes_eq-Decides (decimal_of (integer_of time)) time).0 (and_parts (bytes_eq (decimal_of (integer_of time)) time) _ parts.1).0 in
+      let spelled : decimal_of (integer_of time) ≡ time = (bytes_eq-Decides (decimal_of (integer_of time)) time).0
+      (and_parts (bytes_eq (decimal_of (integer_of time)) time) _ parts.1).0 in
       absurd (none (integer_of time) fits (subst (IsDecimal (integer_of time)) spelled (IsDecimal-decimal_of (integer_of time) fits)))
   | inr other ↦ cond-false _ _ None other
 ]
@@ -60,21 +66,26 @@ no_time line none = elim (cases_Bool (is_pair (before_tab line) (after_tab line)
     within (negsuc n) e = record { sfits = omega (arith, ltb-true n (2 ^ 63) e) }
 
 -- where it spells this one, the name decides
-pub with_time : (line : List ℕ) (n : ℤ) → FitsSigned w64 n → IsDecimal n (before_tab line) → pair_on line ≡ option_map (λ (name : List ℕ). (name, n)) (name_on (after_tab line))
+pub with_time : (line : List ℕ) (n : ℤ) → FitsSigned w64 n → IsDecimal n (before_tab line)
+    → pair_on line ≡ option_map (λ (name : List ℕ). (name, n)) (name_on (after_tab line))
 with_time line n fits spelled =
     let time = before_tab line in
     let is : integer_of time ≡ n = integer_of-decimal n time spelled in
     let one : is_within 63 (integer_of time) ≡ true = ap (is_within 63) is ∙ within n fits in
-    let two : bytes_eq (decimal_of (integer_of time)) time ≡ true = (bytes_eq-Decides (decimal_of (integer_of time)) time).1 (ap decimal_of is ∙ same_decimal_spelling n (IsDecimal-decimal_of n fits) spelled) in
+    let two : bytes_eq (decimal_of (integer_of time)) time ≡ true = (bytes_eq-Decides (decimal_of (integer_of time)) time).1
+    (ap decimal_of is ∙ same_decimal_spelling n (IsDecimal-decimal_of n fits) spelled) in
     let pair : ℤ → List ℕ × ℤ = λ m. (after_tab line, m) in
     ap (λ (m : ℤ). cond (is_pair time (after_tab line)) (Some (pair m)) None) is
-    ∙ ap (λ (b : Bool). cond b (Some (pair n)) None) (ap (λ (b : Bool). b && (bytes_eq (decimal_of (integer_of time)) time && is_name (after_tab line))) one ∙ ap (λ (b : Bool). true && (b && is_name (after_tab line))) two)
+    ∙ ap (λ (b : Bool). cond b (Some (pair n)) None)
+    (ap (λ (b : Bool). b && (bytes_eq (decimal_of (integer_of time)) time && is_name (after_tab line))) one
+    ∙ ap (λ (b : Bool). true && (b && is_name (after_tab line))) two)
     ∙ named (is_name (after_tab line))
   where
     within : (n : ℤ) → FitsSigned w64 n → is_within 63 n ≡ true
     within (pos n) fits = lt-ltb n (2 ^ 63) (omega (arith, fits.sfits))
     within (negsuc n) fits = lt-ltb n (2 ^ 63) (omega (arith, fits.sfits))
 
-    named : (b : Bool) → cond {A = Option (List ℕ × ℤ)} b (Some (after_tab line, n)) None ≡ option_map (λ name. (name, n)) (cond b (Some (after_tab line)) None)
+    named : (b : Bool) → cond {A = Option (List ℕ × ℤ)} b (Some (after_tab line, n)) None
+        ≡ option_map (λ name. (name, n)) (cond b (Some (after_tab line)) None)
     named true = refl
     named false = refl

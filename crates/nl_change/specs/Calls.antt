@@ -1,5 +1,6 @@
 -- What each call that changes a log makes of what contracts see of its folder, by the answer: docs/PROMISES.md.
-use Rattle.std.specs.Prelude.{◌≡◌, ◌⊎◌, ◌++◌, ℕ, ℤ, Bool, List, [], Option, Some, IsSomeAnd, IsTrue, Result, IsErr, IsErrOf, IfErr, OnErr, OnOk, if◌then◌else◌}
+use Rattle.std.specs.Prelude.{◌≡◌, ◌⊎◌, ◌++◌, ℕ, ℤ, Bool, List, [], Option, Some, IsSomeAnd, IsTrue, Result, IsErr, IsErrOf, IfErr, OnErr}
+use Rattle.std.specs.Prelude.{OnOk, if◌then◌else◌}
 use Rattle.std.specs.Result.{IsErrAnd}
 use Rattle.nl_fields.specs.declared.entry.Entry.{Entry}
 use Rattle.nl_fields.specs.EntryLine.{line_of}
@@ -31,7 +32,8 @@ use Rattle.nl_texts.specs.declared.fault.ToolFault.{ToolFault}
 use Rattle.nl_texts.specs.declared.fault.ToolFault.TheVariants.{BadLine, Folder, NegativeTime, NotALog, OtherVersion}
 use Rattle.nl_change.specs.Faults.{IsChangeFault, IsChangeRefusal, IsFileFault, IsNoLogFault}
 use Rattle.nl_change.specs.Files.{BadAt, FileReading}
-use Rattle.nl_change.specs.Updates.{AsSaid, Changes, HasTable, IsOpenLeft, IsRepaired, IsUnmade, IsUpdated, Leaves, OfAllFound, StaysRepaired, dead_but, none_dead}
+use Rattle.nl_change.specs.Updates.{AsSaid, Changes, HasTable, IsOpenLeft, IsRepaired, IsUnmade, IsUpdated, Leaves, OfAllFound}
+use Rattle.nl_change.specs.Updates.{StaysRepaired, dead_but, none_dead}
 
 -- ---- what is seen
 
@@ -43,7 +45,8 @@ pub record FolderView : Type 0 where
   pub failures : ℕ
 
 abbrev pub folder_view : {F : Type 0} → Ghosts F → F → FolderView
-folder_view g folder = record { disk = g.disk folder; settled = g.is_settled folder; scratch = g.has_scratch folder; failures = g.failures folder }
+folder_view g folder =
+    record { disk = g.disk folder; settled = g.is_settled folder; scratch = g.has_scratch folder; failures = g.failures folder }
 
 -- the same, of the folder of a log
 abbrev pub log_folder : View → FolderView
@@ -125,7 +128,8 @@ pub record ChangesLog (m : Meaning) (result : Result (Unit {0}) ToolFault) (old 
   pub refusals : IfErr result IsChangeFault
 
 -- the same of a log that is seen as one of the version: such bytes are barred, refused and left as they are on every exit
-pub record ChangesSeen (version : LogVersion) (bars : List ℕ → Bool) (m : Meaning) (result : Result (Unit {0}) ToolFault) (old new : FolderView) : Type 0 where
+pub record ChangesSeen (version : LogVersion) (bars : List ℕ → Bool) (m : Meaning) (result : Result (Unit {0}) ToolFault)
+    (old new : FolderView) : Type 0 where
   pub disk : ChangesDisk m result (seen_as_version version old.disk) (seen_as_version version new.disk)
   pub settled : OnOk result (IsTrue new.settled)
   pub barred : (d : Disk) → old.disk ≡ Some d → IsTrue (bars d.visible) → IsErr result × (new.disk ≡ old.disk)
@@ -142,13 +146,15 @@ pub record ChangesLogAs (version : LogVersion) (m : Meaning) (result : Result (U
 -- ---- what stands about it
 
 -- a file couldn't be read, or has this bad line, and the folder is as it came
-pub record IsUnread {T F : Type 0} (reading : List ℕ → FileReading T) (known : Option (List ℕ)) (result : Result (Unit {0}) ToolFault) (old new : F) : Type 0 where
+pub record IsUnread {T F : Type 0} (reading : List ℕ → FileReading T) (known : Option (List ℕ)) (result : Result (Unit {0}) ToolFault)
+    (old new : F) : Type 0 where
   pub refused : IsErrAnd result IsFileFault
   pub bad_line : (number : ℕ) → IsErrOf result (BadLine number) → OfBytes known (λ bytes. reading bytes ≡ BadAt number)
   pub stays : new ≡ old
 
 -- a file is read first: nothing else was done, or this holds of what it says
-abbrev pub ReadsFirst : {T F : Type 0} → (List ℕ → FileReading T) → Option (List ℕ) → (List T → Type 0) → Result (Unit {0}) ToolFault → F → F → Type 0
+abbrev pub ReadsFirst : {T F : Type 0} → (List ℕ → FileReading T) → Option (List ℕ) → (List T → Type 0) → Result (Unit {0}) ToolFault
+    → F → F → Type 0
 ReadsFirst reading known Holds result old new = IsUnread reading known result old new ⊎ AsSaid reading known Holds
 
 -- a repair: whatever is found has the table that was found before; on Ok the log is the text of that, which a repair leaves as it is

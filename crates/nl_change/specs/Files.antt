@@ -35,7 +35,8 @@ said_from part_of number ((b ∷ line) ∷ lines) = said_before (part_on part_of
 abbrev pub said_after : {T : Type 0} → (List ℕ → Option T) → ℕ → List ℕ → FileReading T → FileReading T
 said_after part_of number line (BadAt earlier) = BadAt earlier
 said_after part_of number [] (Says parts) = Says parts
-said_after part_of number (b ∷ line) (Says parts) = elim (part_on part_of (b ∷ line)) [ None ↦ BadAt number | Some part ↦ Says (parts ++ part ∷ []) ]
+said_after part_of number (b ∷ line) (Says parts) =
+    elim (part_on part_of (b ∷ line)) [ None ↦ BadAt number | Some part ↦ Says (parts ++ part ∷ []) ]
 
 -- what parts say, or the number of a bad line
 abbrev pub said_of : {T : Type 0} → List T → Option ℕ → FileReading T

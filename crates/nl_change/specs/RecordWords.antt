@@ -61,4 +61,5 @@ pub record IsNoName (bytes : List ℕ) (fault : ToolFault) : Type 0 where
 
 -- a number is none; or the numbers are right, and the name is none
 abbrev pub IsWordFault : List ℕ → List ℕ → List ℕ → List ℕ → ToolFault → Type 0
-IsWordFault start end mtime name fault = ((fault ≡ BadNumber) × ¬ AreNumbers start end mtime) ⊎ (AreNumbers start end mtime × IsNoName name fault)
+IsWordFault start end mtime name fault =
+    ((fault ≡ BadNumber) × ¬ AreNumbers start end mtime) ⊎ (AreNumbers start end mtime × IsNoName name fault)

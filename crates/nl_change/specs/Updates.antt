@@ -48,7 +48,8 @@ Leaves update start (Err fault) disk = OfAllFound (MayRepresent update start) di
 
 -- the bytes that are made of opened ones and their table are the log, and every crash leaves them so
 abbrev pub IsUpdated : (List Entry → List ℕ → List ℕ) → List ℕ → Option Disk → Type 0
-IsUpdated bytes found disk = IsSomeAnd (history_of (opened_bytes none_dead found)) (λ h. IsLeft (bytes (table h) (opened_bytes none_dead found)) disk)
+IsUpdated bytes found disk =
+    IsSomeAnd (history_of (opened_bytes none_dead found)) (λ h. IsLeft (bytes (table h) (opened_bytes none_dead found)) disk)
 
 -- the text that a repair leaves of the bytes of a log: the header line, and the line of each entry of its table, in order
 abbrev pub repaired : List ℕ → Option (List ℕ)
@@ -87,7 +88,8 @@ GoesBy update (Ok done) s t = (t ≡ gained s update) ⊎ (t ≡ durable_at (The
 GoesBy update (Err why) s t = (t ≡ s) ⊎ MayHaveGained s update t
 
 -- the log goes there from the state at which it was
-pub record Changes (update : Update) (result : Result Unit LogFault) (s : State) (disk : Option Disk) (settled : Bool) (mode : LogState) (held : List Entry) : Type 0 where
+pub record Changes (update : Update) (result : Result Unit LogFault) (s : State) (disk : Option Disk) (settled : Bool) (mode : LogState)
+    (held : List Entry) : Type 0 where
   pub next : State
   pub goes : GoesBy update result s next
   pub at : IsAt disk settled mode held next

@@ -7,7 +7,8 @@ ghost use Rattle.nl_change.specs.Updates.{repaired};
 
 /// `damage` prints nothing of a log exactly where `check` counts no skipped line and no torn byte.
 pub fn damage_is_what_check_counts()
-    ensures { (bytes text : List ℕ) → damaged bytes ≡ Some text → (text ≡ []) ↔ ((skipped_count bytes ≡ 0) × (torn_len bytes ≡ 0)) }
+    ensures { (bytes text : List ℕ) → damaged bytes ≡ Some text
+        → (text ≡ []) ↔ ((skipped_count bytes ≡ 0) × (torn_len bytes ≡ 0)) }
 {}
 
 /// Of a log that a repair leaves as it is `damage` prints nothing.

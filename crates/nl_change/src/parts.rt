@@ -32,8 +32,10 @@ struct SoFar<P: Part> {
 
 /// The parts of the file that a reader gives, which is read to its end.
 pub fn read_parts<P: Part, R: Read + Drop>(alloc: Global, reader: R) -> Result<Vec<P>, ToolFault>
-    ensures value { IfOk result (λ parts. OfBytes (R.remaining reader) (λ bytes. said_by P.part_of bytes ≡ Says parts.items)) }
-    ensures bad_line { (number : ℕ) → IsErrOf result (ToolFault.BadLine number) → OfBytes (R.remaining reader) (λ bytes. said_by P.part_of bytes ≡ BadAt number) }
+    ensures value { IfOk result (λ parts.
+        OfBytes (R.remaining reader) (λ bytes. said_by P.part_of bytes ≡ Says parts.items)) }
+    ensures bad_line { (number : ℕ) → IsErrOf result (ToolFault.BadLine number)
+        → OfBytes (R.remaining reader) (λ bytes. said_by P.part_of bytes ≡ BadAt number) }
     ensures faults { IfErr result IsFileFault }
 {
     let so_far = read_lines(alloc, &mut ReadSource::new(reader))?;
@@ -42,7 +44,8 @@ pub fn read_parts<P: Part, R: Read + Drop>(alloc: Global, reader: R) -> Result<V
 
 // What all lines of a source say.
 fn read_lines<P: Part, S: Source>(alloc: Global, source: &mut S) -> Result<SoFar<P>, ToolFault>
-    ensures value { IfOk result (λ so_far. OfBytes (S.ahead source.old) (λ bytes. said_by P.part_of bytes ≡ said_of so_far.parts.items so_far.bad)) }
+    ensures value { IfOk result (λ so_far. OfBytes (S.ahead source.old)
+        (λ bytes. said_by P.part_of bytes ≡ said_of so_far.parts.items so_far.bad)) }
     ensures faults { IfErr result (λ e. (e ≡ ToolFault.Read) ⊎ (e ≡ ToolFault.Memory)) }
 {
     let mut lines = Lines::new(alloc)?;
@@ -68,7 +71,8 @@ fn read_lines<P: Part, S: Source>(alloc: Global, source: &mut S) -> Result<SoFar
 fn take<P: Part>(alloc: Global, line: &[u8], so_far: &mut SoFar<P>) -> Result<(), AllocError>
     requires short { length line.now ≤ max_line }
     requires room { so_far.old.count < 2 ^ 63 }
-    ensures ok { OnOk result (said_of so_far.new.parts.items so_far.new.bad ≡ said_after P.part_of so_far.new.count line.now (said_of so_far.old.parts.items so_far.old.bad)) }
+    ensures ok { OnOk result (said_of so_far.new.parts.items so_far.new.bad ≡ said_after P.part_of
+        so_far.new.count line.now (said_of so_far.old.parts.items so_far.old.bad)) }
     ensures count { so_far.new.count ≡ so_far.old.count + 1 }
 {
     so_far.count += 1;
@@ -85,7 +89,9 @@ fn take<P: Part>(alloc: Global, line: &[u8], so_far: &mut SoFar<P>) -> Result<()
 // Takes in a line that is too long.
 fn refuse<P: Part>(so_far: &mut SoFar<P>)
     requires room { so_far.old.count < 2 ^ 63 }
-    ensures value { (line : List ℕ) → max_line < length line → said_of so_far.new.parts.items so_far.new.bad ≡ said_after P.part_of so_far.new.count line (said_of so_far.old.parts.items so_far.old.bad) }
+    ensures value { (line : List ℕ) → max_line < length line
+        → said_of so_far.new.parts.items so_far.new.bad ≡ said_after P.part_of so_far.new.count line
+        (said_of so_far.old.parts.items so_far.old.bad) }
     ensures count { so_far.new.count ≡ so_far.old.count + 1 }
 {
     so_far.count += 1;
@@ -104,7 +110,8 @@ fn take_rest<P: Part>(
     requires short { length lent.now ≤ max_line }
     requires room { so_far.old.count < 2 ^ 63 }
     ensures ok { (rest : List ℕ) → len ≡ length rest → lent.now ≡ lent_rest rest
-        → OnOk result (said_of so_far.new.parts.items so_far.new.bad ≡ said_after P.part_of so_far.new.count rest (said_of so_far.old.parts.items so_far.old.bad)) }
+        → OnOk result (said_of so_far.new.parts.items so_far.new.bad ≡ said_after P.part_of
+        so_far.new.count rest (said_of so_far.old.parts.items so_far.old.bad)) }
     ensures count { so_far.new.count ≡ so_far.old.count + 1 }
 {
     if len > MAX_LINE as u64 {
@@ -116,7 +123,8 @@ fn take_rest<P: Part>(
 
 // The parts, unless a line was bad.
 fn parts_of<P: Part>(so_far: SoFar<P>) -> Result<Vec<P>, ToolFault>
-    ensures value { MatchResult result (λ parts. (so_far.bad ≡ None) × (parts ≡ so_far.parts)) (λ e. IsSomeAnd so_far.bad (λ number. e ≡ ToolFault.BadLine number)) }
+    ensures value { MatchResult result (λ parts. (so_far.bad ≡ None) × (parts ≡ so_far.parts))
+        (λ e. IsSomeAnd so_far.bad (λ number. e ≡ ToolFault.BadLine number)) }
 {
     let SoFar {
         parts,

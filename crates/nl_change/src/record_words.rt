@@ -44,7 +44,8 @@ pub fn entry_as<'a>(
     name: &'a str,
     command: &str,
 ) -> Result<EntryRef<'a>, ToolFault>
-    ensures value { IfOk result (IsEntryAs version start.now end.now mtime.now name.entry.now command.now) }
+    ensures value { IfOk result
+        (IsEntryAs version start.now end.now mtime.now name.entry.now command.now) }
     ensures accepts { OnOk result (GiveEntry start.now end.now mtime.now name.entry.now) }
     ensures faults { IfErr result (IsWordFault start.now end.now mtime.now name.entry.now) }
 {

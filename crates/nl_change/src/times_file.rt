@@ -32,7 +32,8 @@ impl Part for (Name, i64) {
 
 // The bytes before the first tab, and those after it.
 fn split_tab(line: &[u8]) -> Option<(&[u8], &[u8])>
-    ensures found { IfSome result (λ parts. (parts.0.now ≡ before_tab line.now) × (parts.1.now ≡ after_tab line.now)) }
+    ensures found { IfSome result
+        (λ parts. (parts.0.now ≡ before_tab line.now) × (parts.1.now ≡ after_tab line.now)) }
     ensures none { IsNone result → after_tab line.now ≡ [] }
 {
     let tab = memchr(b'\t', line)?;
@@ -41,8 +42,10 @@ fn split_tab(line: &[u8]) -> Option<(&[u8], &[u8])>
 
 /// Reads TIMES. It takes the memory of the pairs.
 pub fn read_times<R: Read + Drop>(alloc: Global, reader: R) -> Result<Vec<(Name, i64)>, ToolFault>
-    ensures value { IfOk result (λ times. OfBytes (R.remaining reader) (λ bytes. times_of bytes ≡ Says times.items)) }
-    ensures bad_line { (number : ℕ) → IsErrOf result (ToolFault.BadLine number) → OfBytes (R.remaining reader) (λ bytes. times_of bytes ≡ BadAt number) }
+    ensures value { IfOk result
+        (λ times. OfBytes (R.remaining reader) (λ bytes. times_of bytes ≡ Says times.items)) }
+    ensures bad_line { (number : ℕ) → IsErrOf result (ToolFault.BadLine number)
+        → OfBytes (R.remaining reader) (λ bytes. times_of bytes ≡ BadAt number) }
     ensures faults { IfErr result IsFileFault }
 {
     read_parts(alloc, reader)

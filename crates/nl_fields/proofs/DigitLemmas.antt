@@ -1,6 +1,8 @@
 -- Laws of the spelling of numbers: a spelling has one number, a number has one spelling, and each prefix of a
 -- spelling is the spelling of a number that is no larger.
-use Rattle.std.proofs.Common.{◌≡◌, ℕ, suc, ◌+◌, ◌-◌, ◌*◌, ◌%◌, ◌^◌, ◌<◌, ◌≤◌, List, [], ◌∷◌, ◌++◌, length, take, drop, get_or, refl, sym, ◌∙◌, ap, subst, inl, inr, ◌⊎◌, arith, length-append, add-one, ℤ, pos, negsuc, ◌-ℤ◌, Option, Some, None, FitsSigned, SomeIff, w64}
+use Rattle.std.proofs.Common.{◌≡◌, ℕ, suc, ◌+◌, ◌-◌, ◌*◌, ◌%◌, ◌^◌, ◌<◌, ◌≤◌, List, [], ◌∷◌, ◌++◌, length, take, drop, get_or, refl, sym}
+use Rattle.std.proofs.Common.{◌∙◌, ap, subst, inl, inr, ◌⊎◌, arith, length-append, add-one, ℤ, pos, negsuc, ◌-ℤ◌, Option, Some, None}
+use Rattle.std.proofs.Common.{FitsSigned, SomeIff, w64}
 use Rattle.std.proofs.lemmas.Int.{ints}
 use Rattle.std.proofs.lemmas.Bool.Decides.{nat_tests}
 use Rattle.std.proofs.lemmas.List.{same_from_push, take-append-le, take_all, take_more, length_push, take-append-drop}
@@ -23,7 +25,8 @@ same_digit d e same = grind (arith, nat_tests)
 pub IsDigits-decimal : (n : ℕ) → n < 2 ^ 64 → IsDigits 10 n (decimal n)
 IsDigits-decimal = decimal_by_steps (IsDigits 10)
     (λ n small. one (record { below = small; byte = decimal_digit n small }))
-    (λ n ds large front. more front (omega arith) (record { below = omega arith; byte = decimal_digit (n % 10) (omega arith) }) (omega arith))
+    (λ n ds large front.
+    more front (omega arith) (record { below = omega arith; byte = decimal_digit (n % 10) (omega arith) }) (omega arith))
 
 -- a spelling of two digits or more, taken apart before its last
 record Pushed (base n : ℕ) (bytes : List ℕ) : Type 0 where
@@ -40,7 +43,8 @@ record Pushed (base n : ℕ) (bytes : List ℕ) : Type 0 where
 by_last : {base n : ℕ} {bytes : List ℕ} → IsDigits base n bytes → ((c : ℕ) × (bytes ≡ c ∷ []) × IsDigit base n c) ⊎ Pushed base n bytes
 by_last (one {c = c} digit) = inl (c, refl, digit)
 by_last (more {q = q} {d = d} {c = c} {ds = ds} spells some digit value) =
-    inr (record { front = ds; last = c; quotient = q; remainder = d; is = refl; spells = spells; some = some; digit = digit; value = value })
+    inr
+    (record { front = ds; last = c; quotient = q; remainder = d; is = refl; spells = spells; some = some; digit = digit; value = value })
 
 pub nonempty : {base n : ℕ} {bytes : List ℕ} → IsDigits base n bytes → 0 < length bytes
 nonempty (one digit) = omega arith
@@ -99,7 +103,8 @@ some_base : {base d c : ℕ} → IsDigit base d c → 1 ≤ base
 some_base digit = omega (arith, digit.below)
 
 -- a prefix of a spelling spells a number that is no larger
-pub front_of : {base n : ℕ} {bytes : List ℕ} → IsDigits base n bytes → (i : ℕ) → 0 < i → i ≤ length bytes → (m : ℕ) × (m ≤ n) × IsDigits base m (take i bytes)
+pub front_of : {base n : ℕ} {bytes : List ℕ} → IsDigits base n bytes → (i : ℕ) → 0 < i → i ≤ length bytes
+    → (m : ℕ) × (m ≤ n) × IsDigits base m (take i bytes)
 front_of {n = n} (one {c = c} digit) i low high = (n, omega arith, rw (take_all i (c ∷ []) low) (one digit))
 front_of {base = base} {n = n} (more {q = q} {d = d} {c = c} {ds = ds} spells some digit value) i low high =
     elim (cases_lt (length ds) i) [
@@ -114,7 +119,8 @@ abbrev pub IsNext : ℕ → ℕ → ℕ → ℕ → Type 0
 IsNext base v c m = (d : ℕ) × (1 ≤ v) × IsDigit base d c × (m ≡ base * v + d)
 
 -- What follows the digits of v in a spelling is a digit, v is at least 1, and the number so far is no larger.
-pub next_of : {base n v : ℕ} (ds : List ℕ) (c : ℕ) (rest : List ℕ) → IsDigits base n (ds ++ c ∷ rest) → IsDigits base v ds → (m : ℕ) × (m ≤ n) × IsNext base v c m
+pub next_of : {base n v : ℕ} (ds : List ℕ) (c : ℕ) (rest : List ℕ) → IsDigits base n (ds ++ c ∷ rest) → IsDigits base v ds
+    → (m : ℕ) × (m ≤ n) × IsNext base v c m
 next_of {base = base} {n = n} {v = v} ds c rest whole front =
     let fits : length ds + 1 ≤ length (ds ++ c ∷ rest) = omega (arith, length-append ds (c ∷ rest)) in
     let longer = front_of whole (length ds + 1) (omega arith) fits in
@@ -145,19 +151,25 @@ first_of {base = base} x rest whole =
 pub taken_one : (bytes : List ℕ) (x : ℕ) (rest : List ℕ) → bytes ≡ x ∷ rest → take (0 + 1) bytes ≡ x ∷ []
 taken_one bytes x rest is = ap (λ (s : List ℕ). take 1 s) is
 
-pub taken_more : (bytes : List ℕ) (x : ℕ) (rest : List ℕ) (i : ℕ) → bytes ≡ x ∷ rest → i < length rest → take (i + 1 + 1) bytes ≡ take (i + 1) bytes ++ get_or rest i 0 ∷ []
-taken_more bytes x rest i is within = rw is (rw (add-one (i + 1)) (ap (λ (s : List ℕ). x ∷ s) (take_more rest i 0 within) ∙ rw (add-one i) refl))
+pub taken_more : (bytes : List ℕ) (x : ℕ) (rest : List ℕ) (i : ℕ) → bytes ≡ x ∷ rest → i < length rest
+    → take (i + 1 + 1) bytes ≡ take (i + 1) bytes ++ get_or rest i 0 ∷ []
+taken_more bytes x rest i is within =
+    rw is (rw (add-one (i + 1)) (ap (λ (s : List ℕ). x ∷ s) (take_more rest i 0 within) ∙ rw (add-one i) refl))
 
 pub all_taken : (bytes : List ℕ) (x : ℕ) (rest : List ℕ) (i : ℕ) → bytes ≡ x ∷ rest → length rest ≤ i → take (i + 1) bytes ≡ bytes
 all_taken bytes x rest i is past = take_all (i + 1) bytes (omega (arith, ap length is))
 
-split_taken : (bytes : List ℕ) (x : ℕ) (rest : List ℕ) (i : ℕ) → bytes ≡ x ∷ rest → i < length rest → bytes ≡ take (i + 1) bytes ++ get_or rest i 0 ∷ drop (suc i) rest
-split_taken bytes x rest i is within = rw (is, add-one, ← drop-cons rest i 0 within) (ap (λ (s : List ℕ). x ∷ s) (sym (take-append-drop i rest)))
+split_taken : (bytes : List ℕ) (x : ℕ) (rest : List ℕ) (i : ℕ) → bytes ≡ x ∷ rest → i < length rest
+    → bytes ≡ take (i + 1) bytes ++ get_or rest i 0 ∷ drop (suc i) rest
+split_taken bytes x rest i is within =
+    rw (is, add-one, ← drop-cons rest i 0 within) (ap (λ (s : List ℕ). x ∷ s) (sym (take-append-drop i rest)))
 
 -- if the whole is a spelling then so is one byte more than what was read
-pub next_taken : {base n v : ℕ} (bytes : List ℕ) (x : ℕ) (rest : List ℕ) (i : ℕ) → bytes ≡ x ∷ rest → i < length rest → IsDigits base n bytes → IsDigits base v (take (i + 1) bytes) → (m : ℕ) × (m ≤ n) × IsNext base v (get_or rest i 0) m
+pub next_taken : {base n v : ℕ} (bytes : List ℕ) (x : ℕ) (rest : List ℕ) (i : ℕ) → bytes ≡ x ∷ rest → i < length rest
+    → IsDigits base n bytes → IsDigits base v (take (i + 1) bytes) → (m : ℕ) × (m ≤ n) × IsNext base v (get_or rest i 0) m
 next_taken {base = base} {n = n} bytes x rest i is within whole front =
-    next_of (take (i + 1) bytes) (get_or rest i 0) (drop (suc i) rest) (subst (λ (s : List ℕ). IsDigits base n s) (split_taken bytes x rest i is within) whole) front
+    next_of (take (i + 1) bytes) (get_or rest i 0) (drop (suc i) rest)
+    (subst (λ (s : List ℕ). IsDigits base n s) (split_taken bytes x rest i is within) whole) front
 
 minus_is_no_digit : {d : ℕ} → IsDigit 10 d 45 → ⊥
 minus_is_no_digit {d = d} digit = grind (arith, nat_tests, digit.byte, digit.below)
@@ -170,7 +182,8 @@ pub negative_of : (n : ℤ) (digits : List ℕ) → IsDecimal n (45 ∷ digits) 
 negative_of (pos n) digits whole = absurd (minus_is_no_digit (first_of 45 digits whole).1)
 negative_of (negsuc m) digits whole = (m, refl, rw (tail_of digits whole.0 whole.1) whole.2)
 
-pub behind_minus : (n : ℤ) (bytes : List ℕ) → get_or bytes 0 0 ≡ 45 → IsDecimal n bytes → (m : ℕ) × (n ≡ negsuc m) × IsDigits 10 (suc m) (take (length bytes - 1) (drop 1 bytes))
+pub behind_minus : (n : ℤ) (bytes : List ℕ) → get_or bytes 0 0 ≡ 45 → IsDecimal n bytes
+    → (m : ℕ) × (n ≡ negsuc m) × IsDigits 10 (suc m) (take (length bytes - 1) (drop 1 bytes))
 behind_minus n [] is whole = absurd (omega arith)
 behind_minus n (x ∷ rest) is whole =
     let parts = negative_of n rest (rw is at whole) in
@@ -186,7 +199,9 @@ magnitude_fits n m fits is =
     omega (arith, bounded.sfits)
 
 -- what is answered for the digits after a `-`
-pub negation_answered : (r : Option ℤ) (magnitude : ℕ) (n : ℤ) (m : ℕ) → SomeIff r (FitsSigned w64 (pos 0 -ℤ pos magnitude)) (pos 0 -ℤ pos magnitude) → FitsSigned w64 n → n ≡ negsuc m → magnitude ≡ suc m → r ≡ Some n
+pub negation_answered : (r : Option ℤ) (magnitude : ℕ) (n : ℤ) (m : ℕ)
+    → SomeIff r (FitsSigned w64 (pos 0 -ℤ pos magnitude)) (pos 0 -ℤ pos magnitude) → FitsSigned w64 n → n ≡ negsuc m
+    → magnitude ≡ suc m → r ≡ Some n
 negation_answered (Some x) magnitude n m answer fits is same = ap Some (answer.1 ∙ ap (λ k. pos 0 -ℤ pos k) same ∙ negated m ∙ sym is)
 negation_answered None magnitude n m answer fits is same =
     absurd (answer (subst (λ (z : ℤ). FitsSigned w64 z) (is ∙ sym (negated m) ∙ ap (λ k. pos 0 -ℤ pos k) (sym same)) fits))

@@ -1,5 +1,6 @@
 -- The functions that spell a number and read it back, against the spelling.
-use Rattle.std.proofs.Common.{◌≡◌, ◌≢◌, ℕ, zero, suc, ◌+◌, ◌*◌, ◌/◌, ◌%◌, ◌^◌, ◌<◌, ◌≤◌, List, [], ◌∷◌, length, refl, sym, ◌∙◌, ap, subst, inl, inr, arith, ℤ, pos, negsuc, neg_ℤ, nat_abs, lt-ltb, le-ltb, ne_eqb, FitsSigned, w32, w64, to_z, of_z}
+use Rattle.std.proofs.Common.{◌≡◌, ◌≢◌, ℕ, zero, suc, ◌+◌, ◌*◌, ◌/◌, ◌%◌, ◌^◌, ◌<◌, ◌≤◌, List, [], ◌∷◌, length, refl, sym, ◌∙◌, ap, subst}
+use Rattle.std.proofs.Common.{inl, inr, arith, ℤ, pos, negsuc, neg_ℤ, nat_abs, lt-ltb, le-ltb, ne_eqb, FitsSigned, w32, w64, to_z, of_z}
 use Rattle.std.specs.Fmt.{decimal, signed_decimal}
 use Rattle.std.proofs.lemmas.Int.{to_z-of_z}
 use Rattle.std.specs.List.{All}
@@ -9,7 +10,8 @@ use Rattle.std.proofs.lemmas.List.{length_push}
 use Rattle.std.proofs.lemmas.List.Elements.{All-cons, All-push, All-nil}
 use Rattle.std.proofs.lemmas.List.Sums.{fold-append}
 use Rattle.std.proofs.Math.Nat.{mul-le-mul_right, pow-suc, pow-zero, div-add-mod, mod-lt, le-div_iff_mul-le, lt_of_mul-lt-mul_left}
-use Rattle.nl_fields.specs.Digits.{digit_of, IsDigit, IsDigits, one, more, IsDecimal, last_digits, digits_of, decimal_of, value_of, number_of, integer_of}
+use Rattle.nl_fields.specs.Digits.{digit_of, IsDigit, IsDigits, one, more, IsDecimal, last_digits, digits_of, decimal_of, value_of}
+use Rattle.nl_fields.specs.Digits.{number_of, integer_of}
 use Rattle.nl_fields.proofs.DigitLemmas.{first_of, not_below, same_decimal_spelling, IsDigits-decimal}
 
 -- ---- spelling
@@ -77,12 +79,14 @@ pow-one base = pow-suc base zero ∙ ap (λ p. p * base) (pow-zero base) ∙ ome
 
 length-digits : {base n : ℕ} {bytes : List ℕ} → IsDigits base n bytes → (k : ℕ) → n < base ^ suc k → length bytes ≤ suc k
 length-digits (one digit) k fits = omega arith
-length-digits {base = base} {n = n} (more {q = q} {d = d} spells some digit value) zero fits = absurd (not_below base n q d (omega (arith, pow-one base, fits)) some value)
+length-digits {base = base} {n = n} (more {q = q} {d = d} spells some digit value) zero fits =
+    absurd (not_below base n q d (omega (arith, pow-one base, fits)) some value)
 length-digits {base = base} {n = n} (more {q = q} {d = d} {c = c} {ds = ds} spells some digit value) (suc k) fits =
     let less : base * q < base * base ^ suc k = omega (arith, value, fits, pow-suc base (suc k)) in
     omega (arith, length_push ds c, length-digits spells k (lt_of_mul-lt-mul_left base less))
 
-pub length_within : {base n : ℕ} {bytes : List ℕ} → IsDigits base n bytes → (longest : ℕ) → 1 ≤ longest → n < base ^ longest → length bytes ≤ longest
+pub length_within : {base n : ℕ} {bytes : List ℕ} → IsDigits base n bytes → (longest : ℕ) → 1 ≤ longest → n < base ^ longest
+    → length bytes ≤ longest
 length_within spelled zero some fits = absurd (omega arith)
 length_within spelled (suc k) some fits = length-digits spelled k fits
 
@@ -111,11 +115,13 @@ length-decimal64 n bytes fits spelled = length-decimal n 18 bytes spelled (small
 
 pub All-digits : {base n : ℕ} {bytes : List ℕ} (P : ℕ → Type 0) → ((d : ℕ) → P (digit_of d)) → IsDigits base n bytes → All P bytes
 All-digits {n = n} P each (one {c = c} digit) = All-cons P c [] (subst P (sym digit.byte) (each n)) (All-nil P)
-All-digits P each (more {d = d} {c = c} {ds = ds} spells some digit value) = All-push P ds c (All-digits P each spells) (subst P (sym digit.byte) (each d))
+All-digits P each (more {d = d} {c = c} {ds = ds} spells some digit value) =
+    All-push P ds c (All-digits P each spells) (subst P (sym digit.byte) (each d))
 
 pub All-decimal : (P : ℕ → Type 0) → ((d : ℕ) → P (digit_of d)) → P 45 → (n : ℤ) (bytes : List ℕ) → IsDecimal n bytes → All P bytes
 All-decimal P each minus (pos n) bytes spelled = All-digits P each spelled
-All-decimal P each minus (negsuc n) bytes spelled = subst (All P) (sym spelled.1) (All-cons P 45 spelled.0 minus (All-digits P each spelled.2))
+All-decimal P each minus (negsuc n) bytes spelled =
+    subst (All P) (sym spelled.1) (All-cons P 45 spelled.0 minus (All-digits P each spelled.2))
 
 -- ---- printing
 
@@ -125,4 +131,5 @@ IsDecimal-signed_decimal (negsuc n) fits = (decimal (suc n), refl, IsDigits-deci
 
 -- what itoa prints of a machine number is the spelling
 pub printed : (n : ℤ) → FitsSigned w64 n → {text : List ℕ} → text ≡ signed_decimal (to_z w64 (of_z w64 n)) → text ≡ decimal_of n
-printed n fits is = is ∙ ap signed_decimal (to_z-of_z w64 n fits) ∙ same_decimal_spelling n (IsDecimal-signed_decimal n fits) (IsDecimal-decimal_of n fits)
+printed n fits is =
+    is ∙ ap signed_decimal (to_z-of_z w64 n fits) ∙ same_decimal_spelling n (IsDecimal-signed_decimal n fits) (IsDecimal-decimal_of n fits)

@@ -1,5 +1,7 @@
--- Digits that are read: the table of their values, held against the definition at each of the 256 bytes by computing, and room for one more.
-use Rattle.std.proofs.Common.{◌≡◌, ℕ, zero, suc, ◌+◌, ◌-◌, ◌*◌, ◌^◌, ◌<◌, ◌≤◌, Bool, true, false, ◌&&◌, nat_lt, if◌then◌else◌, get_or, List, refl, arith, inl, inr, ◌∙◌}
+-- Digits that are read: the table of their values, held against the definition at each of the 256 bytes by computing, and room for one
+-- more.
+use Rattle.std.proofs.Common.{◌≡◌, ℕ, zero, suc, ◌+◌, ◌-◌, ◌*◌, ◌^◌, ◌<◌, ◌≤◌, Bool, true, false, ◌&&◌, nat_lt, if◌then◌else◌, get_or, List}
+use Rattle.std.proofs.Common.{refl, arith, inl, inr, ◌∙◌}
 use Rattle.std.proofs.Math.Dec.{eqb}
 use Rattle.std.proofs.lemmas.Bool.{cases_eq, eqb-true}
 use Rattle.std.proofs.lemmas.Bool.Decides.{nat_tests}
@@ -54,9 +56,21 @@ digit_found base d c small fits digit = holds_at VALUES 256 table_holds c fits �
 -- a number below a power of the base and one digit more are below the next
 pub bound_more : (base number digit i : ℕ) → number < base ^ (i + 1) → digit < base → base * number + digit < base ^ (i + 1 + 1)
 bound_more base number digit i small below =
-    omega (arith, pow_more base (i + 1), mul-add-lt number base digit (base ^ (i + 1)) small below, mul_comm base number, mul_comm base (base ^ (i + 1)))
+    omega (
+      arith,
+      pow_more base (i + 1),
+      mul-add-lt number base digit (base ^ (i + 1)) small below,
+      mul_comm base number,
+      mul_comm base (base ^ (i + 1)),
+    )
 
 -- a number of fewer digits than the longest has room for one more
-pub bound_left : (base number digit i longest : ℕ) → number < base ^ (i + 1) → digit < base → i + 2 ≤ longest → base ^ longest ≤ 2 ^ 64 → base * number + digit < 2 ^ 64
+pub bound_left : (base number digit i longest : ℕ) → number < base ^ (i + 1) → digit < base → i + 2 ≤ longest → base ^ longest ≤ 2 ^ 64
+    → base * number + digit < 2 ^ 64
 bound_left base number digit i longest small below next fits =
-    omega (arith, bound_more base number digit i small below, fits, pow-le-pow_right {n = base} (omega (arith, below)) {i = i + 1 + 1} {j = longest} (omega (arith, next)))
+    omega (
+      arith,
+      bound_more base number digit i small below,
+      fits,
+      pow-le-pow_right {n = base} (omega (arith, below)) {i = i + 1 + 1} {j = longest} (omega (arith, next)),
+    )

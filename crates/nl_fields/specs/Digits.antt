@@ -1,5 +1,6 @@
 -- How numbers are spelled: docs/FORMAT.md, "Canonical spelling".
-use Rattle.std.specs.Prelude.{◌≡◌, ℕ, zero, suc, ◌+◌, ◌-◌, ◌*◌, ◌/◌, ◌%◌, ◌<◌, ◌≤◌, nat_lt, ◌==◌, if◌then◌else◌, List, [], ◌∷◌, ◌++◌, fold, ℤ, pos, negsuc, neg_ℤ}
+use Rattle.std.specs.Prelude.{◌≡◌, ℕ, zero, suc, ◌+◌, ◌-◌, ◌*◌, ◌/◌, ◌%◌, ◌<◌, ◌≤◌, nat_lt, ◌==◌, if◌then◌else◌, List, [], ◌∷◌, ◌++◌, fold}
+use Rattle.std.specs.Prelude.{ℤ, pos, negsuc, neg_ℤ}
 
 -- the digit of value d: `0` to `9`, and from ten on `a` to `f`
 abbrev pub digit_of : ℕ → ℕ

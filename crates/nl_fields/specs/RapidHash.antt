@@ -34,7 +34,8 @@ with_sixteen secret at hash bytes = folded (xor (wide_at at bytes) secret) (xor 
 -- a number with some groups of 48 bytes: each third of each goes into a number of its own
 abbrev pub with_groups : ℕ → List (List ℕ) → ℕ
 with_groups hash groups =
-    xor (xor (fold (with_sixteen secret_0 0) hash groups) (fold (with_sixteen secret_1 16) hash groups)) (fold (with_sixteen secret_2 32) hash groups)
+    xor (xor (fold (with_sixteen secret_0 0) hash groups) (fold (with_sixteen secret_1 16) hash groups))
+    (fold (with_sixteen secret_2 32) hash groups)
 
 -- a number with what is after the groups: 16 bytes of it where it has more, and 16 more where it has more than 32
 abbrev pub with_first : ℕ → List ℕ → ℕ
@@ -47,7 +48,8 @@ with_last hash rest = if nat_lt 32 (length rest) then with_sixteen secret_2 16 h
 abbrev pub over_bytes : ℕ → List ℕ → ℕ
 over_bytes hash bytes =
     if nat_lt 48 (length bytes)
-    then (let rest = drop (length bytes / 48 * 48) bytes in with_last (with_first (with_groups hash (first_chunks 48 (length bytes / 48) bytes)) rest) rest)
+    then (let rest = drop (length bytes / 48 * 48) bytes in
+    with_last (with_first (with_groups hash (first_chunks 48 (length bytes / 48) bytes)) rest) rest)
     else with_last (with_first hash bytes) bytes
 
 -- up to three bytes as one number: the first, the one in the middle and the last

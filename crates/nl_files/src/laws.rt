@@ -9,11 +9,13 @@ ghost use Rattle.nl_files.specs.Scratch.{KeepsAll};
 
 /// Writing what waits leaves the record.
 pub fn writing_leaves_the_record()
-    ensures { (m m_now : Model) (pad pad_now : Pad) (h : Hands) → h.scratch ≡ Some pad → KeepsAll m pad m_now pad_now → IsNone pad.id m.log → IsNotAside pad.id h.other
+    ensures { (m m_now : Model) (pad pad_now : Pad) (h : Hands) → h.scratch ≡ Some pad
+        → KeepsAll m pad m_now pad_now → IsNone pad.id m.log → IsNotAside pad.id h.other
         → disk_of (with_scratch (Some pad_now) h) m_now ≡ disk_of h m }
 {}
 
 /// What a crash may leave of a system is a crash image of the folder's record, where the folder knows what the name may show.
 pub fn a_crash_leaves_an_image_of_the_record()
-    ensures { (m : Model) (h : Hands) (settled : Bool) (bs : List ℕ) → Covers m h settled → SystemImage m bs → IsImage (disk_of h m) bs }
+    ensures { (m : Model) (h : Hands) (settled : Bool) (bs : List ℕ) → Covers m h settled
+        → SystemImage m bs → IsImage (disk_of h m) bs }
 {}

@@ -1,5 +1,6 @@
 -- Prefixes of lists.
-use Rattle.std.proofs.Common.{◌≡◌, ◌≢◌, ◌⊎◌, ◌∙◌, ℕ, ◌≤◌, List, [], ◌∷◌, ◌++◌, length, take, drop, refl, sym, ap, subst, inl, inr, arith, append_assoc, take-append-drop, length-take}
+use Rattle.std.proofs.Common.{◌≡◌, ◌≢◌, ◌⊎◌, ◌∙◌, ℕ, ◌≤◌, List, [], ◌∷◌, ◌++◌, length, take, drop, refl, sym, ap, subst, inl, inr, arith}
+use Rattle.std.proofs.Common.{append_assoc, take-append-drop, length-take}
 use Rattle.std.proofs.lemmas.List.{append-nil, take_all}
 use Rattle.std.proofs.lemmas.List.Elements.{All-take}
 use Rattle.std.proofs.Math.Seq.{take-append_seam}
@@ -20,7 +21,8 @@ pub prefix_nil : {X : Type 0} (xs : List X) → IsPrefix [] xs
 prefix_nil xs = prefix_of [] xs xs refl
 
 pub prefix_more : {X : Type 0} (f xs more : List X) → IsPrefix f xs → IsPrefix f (xs ++ more)
-prefix_more f xs more is = prefix_of f (drop (length f) xs ++ more) (xs ++ more) (ap (λ l. l ++ more) (prefix_joins f xs is) ∙ append_assoc f (drop (length f) xs) more)
+prefix_more f xs more is = prefix_of f (drop (length f) xs ++ more) (xs ++ more)
+    (ap (λ l. l ++ more) (prefix_joins f xs is) ∙ append_assoc f (drop (length f) xs) more)
 
 pub prefix_trans : {X : Type 0} (f g xs : List X) → IsPrefix f g → IsPrefix g xs → IsPrefix f xs
 prefix_trans f g xs a b = subst (IsPrefix f) (sym (prefix_joins g xs b)) (prefix_more f g (drop (length g) xs) a)
@@ -35,7 +37,8 @@ pub prefix_take : {X : Type 0} (n : ℕ) (xs : List X) → IsPrefix (take n xs) 
 prefix_take n xs = prefix_of (take n xs) (drop n xs) xs (sym (take-append-drop n xs))
 
 -- a list that is cut in two ways: the one cut stands before the other or after it
-split_at : {X : Type 0} (a b c left : List X) → a ++ b ≡ c ++ left → ((more : List X) × (a ≡ c ++ more)) ⊎ ((f : List X) × (c ≡ a ++ f) × (b ≡ f ++ left))
+split_at : {X : Type 0} (a b c left : List X) → a ++ b ≡ c ++ left
+    → ((more : List X) × (a ≡ c ++ more)) ⊎ ((f : List X) × (c ≡ a ++ f) × (b ≡ f ++ left))
 split_at [] b c left e = inr (c, refl, e)
 split_at (x ∷ a) b [] left e = inl (x ∷ a, refl)
 split_at (x ∷ a) b (y ∷ c) left e =

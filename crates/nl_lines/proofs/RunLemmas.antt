@@ -23,7 +23,8 @@ rest_shown-some at [] some = absurd (omega arith)
 rest_shown-some at (b ∷ rest) some = refl
 
 -- no line comes after the end
-pub ended_run : (lines : List Line) (s : Reader) (a : Option (List ℕ)) (last : Reader) (b : Option (List ℕ)) → HasEnded s → GivenInTurn s a lines last b → lines ≡ []
+pub ended_run : (lines : List Line) (s : Reader) (a : Option (List ℕ)) (last : Reader) (b : Option (List ℕ)) → HasEnded s
+    → GivenInTurn s a lines last b → lines ≡ []
 ended_run [] s a last b ended run = refl
 ended_run (Whole bytes ∷ lines) s a last b ended run = absurd (reading_not_ended s.phase run.2.0.was ended)
 ended_run (TooLong ∷ lines) s a last b ended run = absurd (reading_not_ended s.phase run.2.1.was ended)
@@ -31,7 +32,8 @@ ended_run (Torn at len bytes ∷ lines) s a last b ended run = absurd (reading_n
 
 module _ (s : Reader) (a : Option (List ℕ)) (t : Reader) (d : Option (List ℕ)) (text : List ℕ) (is : text_left s a ≡ Some text) where
   -- a line is shown, and then what is left
-  behind_line : (line : List ℕ) (takes : TakesLine s a t d line) → (left : List ℕ) × (text_left t d ≡ Some left) × (shown_behind s.position text ≡ line_shown line ∷ shown_behind t.position left)
+  behind_line : (line : List ℕ) (takes : TakesLine s a t d line)
+      → (left : List ℕ) × (text_left t d ≡ Some left) × (shown_behind s.position text ≡ line_shown line ∷ shown_behind t.position left)
   behind_line line takes =
       let left = TakesLine-text_left s a t d line takes text is in
       let lens : whole_len text ≡ length (with_newline line) + whole_len left.0 =
@@ -41,7 +43,8 @@ module _ (s : Reader) (a : Option (List ℕ)) (t : Reader) (d : Option (List ℕ
         left.1,
         ap (λ (l : List (List ℕ)). map line_shown l ++ rest_shown (s.position + whole_len text) (rest_of text)) left.3
             ∙ ap (λ (n : ℕ). line_shown line ∷ map line_shown (lines_of left.0) ++ rest_shown n (rest_of text)) places
-            ∙ ap (λ (r : List ℕ). line_shown line ∷ map line_shown (lines_of left.0) ++ rest_shown (t.position + whole_len left.0) r) left.4,
+            ∙ ap (λ (r : List ℕ). line_shown line ∷ map line_shown (lines_of left.0) ++ rest_shown (t.position + whole_len left.0) r)
+            left.4,
       )
 
   -- the rest is all that is shown
@@ -52,11 +55,14 @@ module _ (s : Reader) (a : Option (List ℕ)) (t : Reader) (d : Option (List ℕ
       ap (λ (l : List (List ℕ)). map line_shown l ++ rest_shown (s.position + whole_len text) (rest_of text)) left.1
       ∙ ap (λ (n : ℕ). rest_shown n (rest_of text)) {y = s.position} (omega (arith, lens)) ∙ ap (rest_shown s.position) left.2
 
-run_shows : (lines : List Line) (s : Reader) (a : Option (List ℕ)) (text : List ℕ) (last : Reader) (b : Option (List ℕ)) (end : Reader) (c : Option (List ℕ)) → IsReading s → text_left s a ≡ Some text → GivenInTurn s a lines last b → Gives last b end c None → map as_shown lines ≡ shown_behind s.position text
+run_shows : (lines : List Line) (s : Reader) (a : Option (List ℕ)) (text : List ℕ) (last : Reader) (b : Option (List ℕ)) (end : Reader)
+    (c : Option (List ℕ)) → IsReading s → text_left s a ≡ Some text → GivenInTurn s a lines last b → Gives last b end c None
+    → map as_shown lines ≡ shown_behind s.position text
 run_shows [] s a text last b end c reading is run none =
     elim none [
       | inl takes ↦
-          let here : TakesRest s a end c [] = subst (λ (r : Reader). TakesRest r a end c []) run.0 (subst (λ (o : Option (List ℕ)). TakesRest last o end c []) run.1 takes) in
+          let here : TakesRest s a end c [] = subst (λ (r : Reader). TakesRest r a end c []) run.0
+          (subst (λ (o : Option (List ℕ)). TakesRest last o end c []) run.1 takes) in
           sym (behind_rest s a end c text is [] here)
       | inr stays ↦ absurd (reading_not_ended s.phase reading (sym (ap (λ (r : Reader). r.phase) run.0) ∙ stays.0))
     ]
@@ -70,10 +76,13 @@ run_shows (TooLong ∷ lines) s a text last b end c reading is run none =
     (λ i. sym line i ∷ run_shows lines run.0 run.1 left.0 last b end c run.2.1.is left.1 run.3 none i) ∙ sym left.2
 run_shows (Torn at len bytes ∷ lines) s a text last b end c reading is run none =
     let over : lines ≡ [] = ended_run lines run.0 run.1 last b run.2.1.is run.3 in
-    let shown : ARest at len bytes.now ≡ ARest s.position (length run.2.0) (lent_rest run.2.0) = (λ i. ARest (run.2.3 i) (run.2.4 i) (run.2.5 i)) in
-    (λ i. shown i ∷ map as_shown (over i)) ∙ sym (rest_shown-some s.position run.2.0 run.2.2) ∙ sym (behind_rest s a run.0 run.1 text is run.2.0 run.2.1)
+    let shown : ARest at len bytes.now ≡ ARest s.position (length run.2.0) (lent_rest run.2.0) =
+    (λ i. ARest (run.2.3 i) (run.2.4 i) (run.2.5 i)) in
+    (λ i. shown i ∷ map as_shown (over i)) ∙ sym (rest_shown-some s.position run.2.0 run.2.2)
+    ∙ sym (behind_rest s a run.0 run.1 text is run.2.0 run.2.1)
 
-pub run_of_text : (text : List ℕ) (lines : List Line) (last : Reader) (b : Option (List ℕ)) (end : Reader) (c : Option (List ℕ)) → GivenInTurn fresh (Some text) lines last b → Answers last b end c (Ok None) → map as_shown lines ≡ text_shown text
+pub run_of_text : (text : List ℕ) (lines : List Line) (last : Reader) (b : Option (List ℕ)) (end : Reader) (c : Option (List ℕ))
+    → GivenInTurn fresh (Some text) lines last b → Answers last b end c (Ok None) → map as_shown lines ≡ text_shown text
 run_of_text text lines last b end c run none =
     run_shows lines fresh (Some text) text last b end c refl refl run none
     ∙ ap (λ (n : ℕ). map line_shown (lines_of text) ++ rest_shown n (rest_of text)) {y = whole_len text} (omega arith)

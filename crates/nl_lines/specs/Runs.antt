@@ -33,4 +33,5 @@ text_shown text = map line_shown (lines_of text) ++ rest_shown (whole_len text) 
 -- calls of `next`, over one source that nothing else reads, gave these lines
 abbrev pub GivenInTurn : Reader → Option (List ℕ) → List Line → Reader → Option (List ℕ) → Type 0
 GivenInTurn old a [] new b = (new ≡ old) × (b ≡ a)
-GivenInTurn old a (line ∷ lines) new b = (next : Reader) × (ahead : Option (List ℕ)) × Answers old a next ahead (Ok (Some line)) × GivenInTurn next ahead lines new b
+GivenInTurn old a (line ∷ lines) new b =
+    (next : Reader) × (ahead : Option (List ℕ)) × Answers old a next ahead (Ok (Some line)) × GivenInTurn next ahead lines new b

@@ -45,42 +45,52 @@ pub fn without_whole_bytes_there_is_no_line()
 
 /// Lines that are joined are read as these lines, and what stands after them as before.
 pub fn joined_lines_come_back()
-    ensures lines { (lines : List (List ℕ)) (tail : List ℕ) → All NoNewline lines → lines_of (joined lines ++ tail) ≡ lines ++ lines_of tail }
-    ensures rest { (lines : List (List ℕ)) (tail : List ℕ) → All NoNewline lines → rest_of (joined lines ++ tail) ≡ rest_of tail }
+    ensures lines { (lines : List (List ℕ)) (tail : List ℕ) → All NoNewline lines
+        → lines_of (joined lines ++ tail) ≡ lines ++ lines_of tail }
+    ensures rest { (lines : List (List ℕ)) (tail : List ℕ) → All NoNewline lines
+        → rest_of (joined lines ++ tail) ≡ rest_of tail }
 {}
 
 /// A text that ends in a newline has a line, and no rest.
 pub fn a_last_newline_leaves_no_rest()
     ensures lines { (text : List ℕ) → EndsInNewline text → 1 ≤ length (lines_of text) }
     ensures rest { (text : List ℕ) → EndsInNewline text → rest_of text ≡ [] }
-    ensures joined { (line : List ℕ) (lines : List (List ℕ)) → EndsInNewline (joined (line ∷ lines)) }
+    ensures joined { (line : List ℕ) (lines : List (List ℕ))
+        → EndsInNewline (joined (line ∷ lines)) }
 {}
 
 /// A prefix that has all whole lines has the same lines, and a prefix of the rest.
 pub fn a_cut_rest_leaves_the_lines()
-    ensures lines { (text prefix : List ℕ) → IsPrefix prefix text → whole_len text ≤ length prefix → lines_of prefix ≡ lines_of text }
-    ensures rest { (text prefix : List ℕ) → IsPrefix prefix text → whole_len text ≤ length prefix → IsPrefix (rest_of prefix) (rest_of text) }
+    ensures lines { (text prefix : List ℕ) → IsPrefix prefix text → whole_len text ≤ length prefix
+        → lines_of prefix ≡ lines_of text }
+    ensures rest { (text prefix : List ℕ) → IsPrefix prefix text → whole_len text ≤ length prefix
+        → IsPrefix (rest_of prefix) (rest_of text) }
 {}
 
 /// Bytes without a newline behind a text change no whole line of it, and go on with its rest.
 pub fn a_tail_without_a_newline_changes_no_line()
-    ensures lines { (text tail : List ℕ) → NoNewline tail → lines_of (text ++ tail) ≡ lines_of text }
-    ensures rest { (text tail : List ℕ) → NoNewline tail → rest_of (text ++ tail) ≡ rest_of text ++ tail }
+    ensures lines { (text tail : List ℕ) → NoNewline tail
+        → lines_of (text ++ tail) ≡ lines_of text }
+    ensures rest { (text tail : List ℕ) → NoNewline tail
+        → rest_of (text ++ tail) ≡ rest_of text ++ tail }
 {}
 
 /// The lines of a prefix are the first lines of the text.
 pub fn a_prefix_has_the_first_lines()
-    ensures { (text prefix : List ℕ) → IsPrefix prefix text → IsPrefix (lines_of prefix) (lines_of text) }
+    ensures { (text prefix : List ℕ) → IsPrefix prefix text
+        → IsPrefix (lines_of prefix) (lines_of text) }
 {}
 
 /// A prefix of a line and its newline is all of it, or has no newline.
 pub fn a_prefix_of_a_line_is_whole_or_torn()
-    ensures { (line prefix : List ℕ) → NoNewline line → IsPrefix prefix (with_newline line) → (prefix ≡ with_newline line) ⊎ NoNewline prefix }
+    ensures { (line prefix : List ℕ) → NoNewline line → IsPrefix prefix (with_newline line)
+        → (prefix ≡ with_newline line) ⊎ NoNewline prefix }
 {}
 
 /// A line that is given is the first line of the text that was still to be given, and the later ones are still to come.
 pub fn a_line_is_the_first()
-    ensures { (old : Reader) (a : Option (List ℕ)) (new : Reader) (b : Option (List ℕ)) (line text : List ℕ)
+    ensures { (old : Reader) (a : Option (List ℕ)) (new : Reader) (b : Option (List ℕ))
+        (line text : List ℕ)
         → TakesLine old a new b line → text_left old a ≡ Some text
         → (left : List ℕ) × (text_left new b ≡ Some left)
         × (lines_of text ≡ line ∷ lines_of left) × (rest_of text ≡ rest_of left) }
@@ -88,7 +98,8 @@ pub fn a_line_is_the_first()
 
 /// Where the rest is given, no line was still to be given.
 pub fn the_rest_is_last()
-    ensures { (old : Reader) (a : Option (List ℕ)) (new : Reader) (b : Option (List ℕ)) (rest text : List ℕ)
+    ensures { (old : Reader) (a : Option (List ℕ)) (new : Reader) (b : Option (List ℕ))
+        (rest text : List ℕ)
         → TakesRest old a new b rest → text_left old a ≡ Some text
         → (lines_of text ≡ []) × (rest_of text ≡ rest) }
 {}
@@ -119,33 +130,43 @@ pub fn a_text_that_is_too_large_is_beyond_the_limit()
 
 /// A text that is seen as one of another version, and seen so again, is as it was. One of version 5 stays as it is.
 pub fn a_version_is_seen_back()
-    ensures back { (version : LogVersion) (text : List ℕ) → as_version version (as_version version text) ≡ text }
+    ensures back { (version : LogVersion) (text : List ℕ)
+        → as_version version (as_version version text) ≡ text }
     ensures five { (text : List ℕ) → as_version LogVersion.Five text ≡ text }
 {}
 
 /// One byte is seen as another, and no other byte is.
 pub fn a_version_is_one_byte()
-    ensures before { (version : LogVersion) (text : List ℕ) → take digit_place (as_version version text) ≡ take digit_place text }
+    ensures before { (version : LogVersion) (text : List ℕ)
+        → take digit_place (as_version version text) ≡ take digit_place text }
     ensures behind { (version : LogVersion) (text : List ℕ)
         → drop (digit_place + 1) (as_version version text) ≡ drop (digit_place + 1) text }
 {}
 
 /// Lengths and prefixes stay, and so do newlines: each line and the rest keep their places.
 pub fn a_version_keeps_the_shape()
-    ensures length { (version : LogVersion) (text : List ℕ) → length (as_version version text) ≡ length text }
+    ensures length { (version : LogVersion) (text : List ℕ)
+        → length (as_version version text) ≡ length text }
     ensures prefix { (version : LogVersion) (prefix text : List ℕ) → IsPrefix prefix text
         → IsPrefix (as_version version prefix) (as_version version text) }
     ensures joins { (version : LogVersion) (text more : List ℕ)
-        → as_version version (text ++ more) ≡ as_version version text ++ as_version_from version (length text) more }
-    ensures plain { (version : LogVersion) (text : List ℕ) → NoNewline text → NoNewline (as_version version text) }
-    ensures lines { (version : LogVersion) (text : List ℕ) → map length (lines_of (as_version version text)) ≡ map length (lines_of text) }
-    ensures whole { (version : LogVersion) (text : List ℕ) → whole_len (as_version version text) ≡ whole_len text }
+        → as_version version (text ++ more)
+        ≡ as_version version text ++ as_version_from version (length text) more }
+    ensures plain { (version : LogVersion) (text : List ℕ) → NoNewline text
+        → NoNewline (as_version version text) }
+    ensures lines { (version : LogVersion) (text : List ℕ)
+        → map length (lines_of (as_version version text)) ≡ map length (lines_of text) }
+    ensures whole { (version : LogVersion) (text : List ℕ)
+        → whole_len (as_version version text) ≡ whole_len text }
 {}
 
 /// Behind a first line that has the digit, each line is seen as it is, and so is the rest.
 pub fn later_lines_are_of_each_version()
-    ensures lines { (version : LogVersion) (text first : List ℕ) (later : List (List ℕ)) → lines_of text ≡ first ∷ later
-        → digit_place < length first → lines_of (as_version version text) ≡ as_version version first ∷ later }
-    ensures rest { (version : LogVersion) (text first : List ℕ) (later : List (List ℕ)) → lines_of text ≡ first ∷ later
+    ensures lines { (version : LogVersion) (text first : List ℕ) (later : List (List ℕ))
+        → lines_of text ≡ first ∷ later
+        → digit_place < length first
+        → lines_of (as_version version text) ≡ as_version version first ∷ later }
+    ensures rest { (version : LogVersion) (text first : List ℕ) (later : List (List ℕ))
+        → lines_of text ≡ first ∷ later
         → digit_place < length first → rest_of (as_version version text) ≡ rest_of text }
 {}

@@ -33,36 +33,45 @@ entries_text : (v n : ℕ) (lines : List (List ℕ)) → texts_from (entry_line 
 entries_text v n [] = refl
 entries_text v n (line ∷ lines) = go (entry_on v line) (entries_text v (n + 1) lines)
   where
-    go : (o : Option Entry) → texts_from (entry_line v) (n + 1) lines ≡ lines_of_entries (entries_on v lines) → entry_text o ++ texts_from (entry_line v) (n + 1) lines ≡ lines_of_entries (cons_option o (entries_on v lines))
+    go : (o : Option Entry) → texts_from (entry_line v) (n + 1) lines ≡ lines_of_entries (entries_on v lines)
+        → entry_text o ++ texts_from (entry_line v) (n + 1) lines ≡ lines_of_entries (cons_option o (entries_on v lines))
     go None later = later
     go (Some e) later = ap (λ (t : List ℕ). with_newline (line_of e) ++ t) later
 
 told_listed : (bytes : List ℕ) → told entry_line no_rest bytes ≡ listed bytes
 told_listed bytes = go (log_of bytes) refl
   where
-    by_lines : (v : ℕ) (es : List Entry) → log_of bytes ≡ Log v es → (lines : List (List ℕ)) → lines_of bytes ≡ lines → texts_from (entry_line v) 2 (drop 1 lines) ≡ lines_of_entries es
+    by_lines : (v : ℕ) (es : List Entry) → log_of bytes ≡ Log v es → (lines : List (List ℕ)) → lines_of bytes ≡ lines
+        → texts_from (entry_line v) 2 (drop 1 lines) ≡ lines_of_entries es
     by_lines v es reads [] none =
         let empty : [] ≡ es = cc ((rest_is_header bytes v es none reads).1) in
         ap lines_of_entries empty
     by_lines v es reads (first ∷ later) some =
-        entries_text v 2 later ∙ ap lines_of_entries (is_versioned (header_of first) (length bytes) v later es (sym (log_of-lines bytes first later some) ∙ reads)).entries
+        entries_text v 2 later ∙ ap lines_of_entries
+        (is_versioned (header_of first) (length bytes) v later es (sym (log_of-lines bytes first later some) ∙ reads)).entries
 
     go : (r : LogReading) → log_of bytes ≡ r → told_of entry_line no_rest (lines_of bytes) (rest_of bytes) r ≡ listed_of r
-    go (Log v es) reads = ap (λ (l : List ℕ). Some l) (append-nil (texts_from (entry_line v) 2 (drop 1 (lines_of bytes))) ∙ by_lines v es reads (lines_of bytes) refl)
+    go (Log v es) reads = ap (λ (l : List ℕ). Some l)
+        (append-nil (texts_from (entry_line v) 2 (drop 1 (lines_of bytes))) ∙ by_lines v es reads (lines_of bytes) refl)
     go OtherVersion reads = refl
     go NotALog reads = refl
 
 same_text : told entry_line no_rest ≡ listed
 same_text = λ i bytes. told_listed bytes i
 
-pub all_listed : (known w v : Option (List ℕ)) (any : Bool) → Finds (λ bs. told entry_line no_rest (as_five bs)) known w v (Ok any) → Streams (λ bs. listed (as_five bs)) known w v (Ok tt)
-all_listed known w v any found = subst (λ (text_of : List ℕ → Option (List ℕ)). Streams (λ bs. text_of (as_five bs)) known w v (Ok tt)) same_text (found.0, found.1, found.2)
+pub all_listed : (known w v : Option (List ℕ)) (any : Bool) → Finds (λ bs. told entry_line no_rest (as_five bs)) known w v (Ok any)
+    → Streams (λ bs. listed (as_five bs)) known w v (Ok tt)
+all_listed known w v any found = subst (λ (text_of : List ℕ → Option (List ℕ)). Streams (λ bs. text_of (as_five bs)) known w v (Ok tt))
+    same_text (found.0, found.1, found.2)
 
-pub some_listed : (known w v : Option (List ℕ)) → IsSoFar (λ bs. told entry_line no_rest (as_five bs)) known w v → IsSoFar (λ bs. listed (as_five bs)) known w v
-some_listed known w v so_far = subst (λ (text_of : List ℕ → Option (List ℕ)). IsSoFar (λ bs. text_of (as_five bs)) known w v) same_text so_far
+pub some_listed : (known w v : Option (List ℕ)) → IsSoFar (λ bs. told entry_line no_rest (as_five bs)) known w v
+    → IsSoFar (λ bs. listed (as_five bs)) known w v
+some_listed known w v so_far =
+    subst (λ (text_of : List ℕ → Option (List ℕ)). IsSoFar (λ bs. text_of (as_five bs)) known w v) same_text so_far
 
 -- the entries of a log, loaded again, are its table
-pub entries_shown : (bytes text : List ℕ) → listed bytes ≡ Some text → length (header_line ++ text) ≤ max_log → shown (header_line ++ text) ≡ shown bytes
+pub entries_shown : (bytes text : List ℕ) → listed bytes ≡ Some text → length (header_line ++ text) ≤ max_log
+    → shown (header_line ++ text) ≡ shown bytes
 entries_shown bytes text is fits = go (log_of bytes) refl is
   where
     go : (r : LogReading) → log_of bytes ≡ r → listed_of r ≡ Some text → shown (header_line ++ text) ≡ show_text r
@@ -71,11 +80,15 @@ entries_shown bytes text is fits = go (log_of bytes) refl is
     go (Log v es) reads some =
         let same : lines_of_entries es ≡ text = cc some in
         let again : log_of (header_line ++ text) ≡ Log 5 es =
-        ap (λ (t : List ℕ). log_of (header_line ++ t)) (sym same) ∙ log_of-text es (log_valid bytes v es reads) (subst (λ (t : List ℕ). length (header_line ++ t) ≤ max_log) (sym same) fits) in
-        ap show_text again ∙ ap (λ (l : List Entry). Some (joined (map line_of l))) (table-plus (Began 5) es ∙ sym (table-plus (Began v) es))
+        ap (λ (t : List ℕ). log_of (header_line ++ t)) (sym same)
+        ∙ log_of-text es (log_valid bytes v es reads) (subst (λ (t : List ℕ). length (header_line ++ t) ≤ max_log) (sym same) fits) in
+        ap show_text again
+        ∙ ap (λ (l : List Entry). Some (joined (map line_of l))) (table-plus (Began 5) es ∙ sym (table-plus (Began v) es))
 
 -- a line of version 5 is the one spelling of its entry
-pub entry_whole : (v : ℕ) (line : List ℕ) (e : Entry) → (v ≡ 4 → ⊥) → length line ≤ max_line → entry_by v line ≡ Some e → entry_text (entry_on v line) ≡ with_newline line
+pub entry_whole : (v : ℕ) (line : List ℕ) (e : Entry) → (v ≡ 4 → ⊥) → length line ≤ max_line → entry_by v line ≡ Some e
+    → entry_text (entry_on v line) ≡ with_newline line
 entry_whole v line e five short found =
     let read : entry_of line ≡ Some e = sym (cond-false (v == 4) (entry_of_four line) (entry_of line) (ne_eqb v 4 five)) ∙ found in
-    ap entry_text (cond-true (leb (length line) max_line) _ _ (le-leb (length line) max_line short) ∙ found) ∙ ap with_newline (sym (line_is_line_of line (line_of_entry_of line read)))
+    ap entry_text (cond-true (leb (length line) max_line) _ _ (le-leb (length line) max_line short) ∙ found)
+    ∙ ap with_newline (sym (line_is_line_of line (line_of_entry_of line read)))

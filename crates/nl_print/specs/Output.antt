@@ -50,7 +50,8 @@ report version total unique skipped torn = report_lines version total unique ski
 
 -- the text of `check`, by the numbers of skipped lines and of torn bytes; none where there is no log
 abbrev pub checked_of : ℕ → ℕ → LogReading → Option (List ℕ)
-checked_of skipped torn (Log version entries) = Some (report version (length entries) (length (table (logged version entries))) skipped torn)
+checked_of skipped torn (Log version entries) =
+    Some (report version (length entries) (length (table (logged version entries))) skipped torn)
 checked_of skipped torn OtherVersion = None
 checked_of skipped torn NotALog = None
 

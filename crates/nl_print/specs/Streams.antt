@@ -1,6 +1,7 @@
 -- What the commands print that go through a log line by line (docs/CLI.md, "`entries`" and "`damage`"), and what a writer
 -- holds after them.
-use Rattle.std.specs.Prelude.{◌≡◌, ℕ, ◌+◌, ◌==◌, ◌&&◌, nat_le, nat_lt, Bool, false, List, [], ◌∷◌, ◌++◌, length, drop, Option, None, Some, IfSome, Result, Ok, Err, codes, decimal, count_by, if◌then◌else◌}
+use Rattle.std.specs.Prelude.{◌≡◌, ℕ, ◌+◌, ◌==◌, ◌&&◌, nat_le, nat_lt, Bool, false, List, [], ◌∷◌, ◌++◌, length, drop, Option, None, Some}
+use Rattle.std.specs.Prelude.{IfSome, Result, Ok, Err, codes, decimal, count_by, if◌then◌else◌}
 use Rattle.std.specs.Io.KnownBytes.{Appends}
 use Rattle.nl_fields.specs.declared.entry.Entry.{Entry}
 use Rattle.nl_fields.specs.EntryLine.{line_of}
@@ -21,7 +22,8 @@ texts_from of_line number (line ∷ lines) = of_line number line ++ texts_from o
 
 -- the text of each line after the first, and that of the rest, by the version and by their numbers; none where there is no log
 abbrev pub told_of : (ℕ → ℕ → List ℕ → List ℕ) → (ℕ → ℕ → List ℕ → List ℕ) → List (List ℕ) → List ℕ → LogReading → Option (List ℕ)
-told_of of_line of_rest lines rest (Log version entries) = Some (texts_from (of_line version) 2 (drop 1 lines) ++ of_rest version (length lines + 1) rest)
+told_of of_line of_rest lines rest (Log version entries) =
+    Some (texts_from (of_line version) 2 (drop 1 lines) ++ of_rest version (length lines + 1) rest)
 told_of of_line of_rest lines rest OtherVersion = None
 told_of of_line of_rest lines rest NotALog = None
 
@@ -109,5 +111,6 @@ Streams text_of known old new (Err fault) = IsSoFar text_of known old new
 
 -- the same, where the answer says whether there was any text
 abbrev pub Finds : (List ℕ → Option (List ℕ)) → Option (List ℕ) → Option (List ℕ) → Option (List ℕ) → Result Bool ToolFault → Type 0
-Finds text_of known old new (Ok any) = (text : List ℕ) × IsTextAsRead text_of known text × Appends old new text × (any ≡ nat_lt 0 (length text))
+Finds text_of known old new (Ok any) =
+    (text : List ℕ) × IsTextAsRead text_of known text × Appends old new text × (any ≡ nat_lt 0 (length text))
 Finds text_of known old new (Err fault) = IsSoFar text_of known old new

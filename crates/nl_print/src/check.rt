@@ -23,9 +23,12 @@ pub fn check_to<R: Read + Drop, W: Write>(
     reader: R,
     writer: &mut W,
 ) -> Result<(), ToolFault>
-    ensures prints { Prints (IsTextAsRead checked (R.remaining reader)) (W.contents writer.old) (W.contents writer.new) result }
-    ensures not_a_log { IsErrOf result ToolFault.NotALog → IfSome (R.remaining reader) (λ bs. log_of bs ≡ NotALog) }
-    ensures other_version { IsErrOf result ToolFault.OtherVersion → IfSome (R.remaining reader) (λ bs. log_of bs ≡ OtherVersion) }
+    ensures prints { Prints (IsTextAsRead checked (R.remaining reader)) (W.contents writer.old)
+        (W.contents writer.new) result }
+    ensures not_a_log { IsErrOf result ToolFault.NotALog
+        → IfSome (R.remaining reader) (λ bs. log_of bs ≡ NotALog) }
+    ensures other_version { IsErrOf result ToolFault.OtherVersion
+        → IfSome (R.remaining reader) (λ bs. log_of bs ≡ OtherVersion) }
     ensures faults { IfErr result IsLogFault }
 {
     let loaded = load_all(alloc, reader)?;
@@ -40,9 +43,12 @@ pub fn check_as<R: Read + Drop, W: Write>(
     reader: R,
     writer: &mut W,
 ) -> Result<(), ToolFault>
-    ensures prints { Prints (IsTextAsRead (checked_as version) (R.remaining reader)) (W.contents writer.old) (W.contents writer.new) result }
-    ensures not_a_log { IsErrOf result ToolFault.NotALog → IfSome (R.remaining reader) (λ bs. log_as version bs ≡ NotALog) }
-    ensures other_version { IsErrOf result ToolFault.OtherVersion → IfSome (R.remaining reader) (λ bs. log_as version bs ≡ OtherVersion) }
+    ensures prints { Prints (IsTextAsRead (checked_as version) (R.remaining reader))
+        (W.contents writer.old) (W.contents writer.new) result }
+    ensures not_a_log { IsErrOf result ToolFault.NotALog
+        → IfSome (R.remaining reader) (λ bs. log_as version bs ≡ NotALog) }
+    ensures other_version { IsErrOf result ToolFault.OtherVersion
+        → IfSome (R.remaining reader) (λ bs. log_as version bs ≡ OtherVersion) }
     ensures faults { IfErr result IsLogFault }
 {
     let mut loaded = load_as(alloc, version, reader)?;
@@ -57,9 +63,12 @@ pub fn check_any<R: Read + Drop, W: Write>(
     reader: R,
     writer: &mut W,
 ) -> Result<(), ToolFault>
-    ensures prints { Prints (IsReportOfAny (R.remaining reader)) (W.contents writer.old) (W.contents writer.new) result }
-    ensures not_a_log { IsErrOf result ToolFault.NotALog → IfSome (R.remaining reader) (λ bs. log_of (as_five bs) ≡ NotALog) }
-    ensures other_version { IsErrOf result ToolFault.OtherVersion → IfSome (R.remaining reader) (λ bs. log_of (as_five bs) ≡ OtherVersion) }
+    ensures prints { Prints (IsReportOfAny (R.remaining reader)) (W.contents writer.old)
+        (W.contents writer.new) result }
+    ensures not_a_log { IsErrOf result ToolFault.NotALog
+        → IfSome (R.remaining reader) (λ bs. log_of (as_five bs) ≡ NotALog) }
+    ensures other_version { IsErrOf result ToolFault.OtherVersion
+        → IfSome (R.remaining reader) (λ bs. log_of (as_five bs) ≡ OtherVersion) }
     ensures faults { IfErr result IsLogFault }
 {
     let (version, mut loaded) = load_any(alloc, reader)?;
@@ -81,7 +90,8 @@ fn numbered(version: LogVersion, seen: u8) -> u8
 
 fn report_text(alloc: Global, loaded: &Loaded) -> Result<String, AllocError>
     ensures value { IfOk result (λ text. string_bytes text
-        ≡ report loaded.now.version loaded.now.total (length loaded.now.table) loaded.now.skipped loaded.now.torn) }
+        ≡ report loaded.now.version loaded.now.total
+        (length loaded.now.table) loaded.now.skipped loaded.now.torn) }
 {
     let Loaded {
         version,

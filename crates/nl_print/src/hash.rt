@@ -11,7 +11,8 @@ use std::io::Write;
 
 /// Writes the hash of a command as a log spells it, and a newline.
 pub fn hash_to<W: Write>(alloc: Global, command: &[u8], writer: &mut W) -> Result<(), ToolFault>
-    ensures prints { Prints (IsHashText command.now) (W.contents writer.old) (W.contents writer.new) result }
+    ensures prints { Prints (IsHashText command.now) (W.contents writer.old)
+        (W.contents writer.new) result }
     ensures faults { IfErr result IsHashFault }
 {
     let text = hash_text(alloc, command)?;

@@ -21,7 +21,8 @@ pub fn hash_file_to<R: Read + Drop, W: Write>(
     reader: R,
     writer: &mut W,
 ) -> Result<(), ToolFault>
-    ensures prints { Prints (IsFileHash (R.remaining reader)) (W.contents writer.old) (W.contents writer.new) result }
+    ensures prints { Prints (IsFileHash (R.remaining reader)) (W.contents writer.old)
+        (W.contents writer.new) result }
     ensures faults { IfErr result IsHashFileFault }
 {
     let command = read_all(alloc, reader)?;

@@ -15,12 +15,15 @@ ghost use Rattle.nl_print.specs.Versions.{log_as};
 
 /// What `show` prints of the header line and of what `entries` printed is what it prints of the log.
 pub fn entries_are_shown()
-    ensures { (bytes text : List ℕ) → listed bytes ≡ Some text → length (header_line ++ text) ≤ max_log → shown (header_line ++ text) ≡ shown bytes }
+    ensures { (bytes text : List ℕ) → listed bytes ≡ Some text
+        → length (header_line ++ text) ≤ max_log → shown (header_line ++ text) ≡ shown bytes }
 {}
 
 /// The version that a log's first line names is the one that is asked for, and a log of version 4 is read as one.
 pub fn auto_is_the_version()
-    ensures each { (version : LogVersion) (bytes : List ℕ) (later : List (List ℕ)) → lines_of bytes ≡ as_version version version_five ∷ later
+    ensures each { (version : LogVersion) (bytes : List ℕ) (later : List (List ℕ))
+        → lines_of bytes ≡ as_version version version_five ∷ later
         → version_of bytes ≡ version }
-    ensures four { (bytes : List ℕ) (es : List Entry) → log_of bytes ≡ Log oldest_version es → log_as (version_of bytes) bytes ≡ Log oldest_version es }
+    ensures four { (bytes : List ℕ) (es : List Entry) → log_of bytes ≡ Log oldest_version es
+        → log_as (version_of bytes) bytes ≡ Log oldest_version es }
 {}

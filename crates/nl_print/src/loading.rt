@@ -14,8 +14,10 @@ use std::io::Read;
 /// The table and the counts of the bytes that the reader has left.
 pub fn load_all<R: Read + Drop>(alloc: Global, reader: R) -> Result<Loaded, ToolFault>
     ensures loaded { IfOk result (IsLoadFrom (R.remaining reader)) }
-    ensures not_a_log { IsErrOf result ToolFault.NotALog → IfSome (R.remaining reader) (λ bs. log_of bs ≡ NotALog) }
-    ensures other_version { IsErrOf result ToolFault.OtherVersion → IfSome (R.remaining reader) (λ bs. log_of bs ≡ OtherVersion) }
+    ensures not_a_log { IsErrOf result ToolFault.NotALog
+        → IfSome (R.remaining reader) (λ bs. log_of bs ≡ NotALog) }
+    ensures other_version { IsErrOf result ToolFault.OtherVersion
+        → IfSome (R.remaining reader) (λ bs. log_of bs ≡ OtherVersion) }
     ensures faults { IfErr result IsLogFault }
     ensures write { IsErrOf result ToolFault.Write → ⊥ }
 {

@@ -29,9 +29,12 @@ pub fn show_to<R: Read + Drop, W: Write>(
     reader: R,
     writer: &mut W,
 ) -> Result<(), ToolFault>
-    ensures prints { Prints (IsTextAsRead shown (R.remaining reader)) (W.contents writer.old) (W.contents writer.new) result }
-    ensures not_a_log { IsErrOf result ToolFault.NotALog → IfSome (R.remaining reader) (λ bs. log_of bs ≡ NotALog) }
-    ensures other_version { IsErrOf result ToolFault.OtherVersion → IfSome (R.remaining reader) (λ bs. log_of bs ≡ OtherVersion) }
+    ensures prints { Prints (IsTextAsRead shown (R.remaining reader)) (W.contents writer.old)
+        (W.contents writer.new) result }
+    ensures not_a_log { IsErrOf result ToolFault.NotALog
+        → IfSome (R.remaining reader) (λ bs. log_of bs ≡ NotALog) }
+    ensures other_version { IsErrOf result ToolFault.OtherVersion
+        → IfSome (R.remaining reader) (λ bs. log_of bs ≡ OtherVersion) }
     ensures faults { IfErr result IsLogFault }
 {
     let loaded = load_all(alloc, reader)?;
@@ -47,9 +50,12 @@ pub fn show_as<R: Read + Drop, W: Write>(
     reader: R,
     writer: &mut W,
 ) -> Result<(), ToolFault>
-    ensures prints { Prints (IsTextAsRead (shown_as version) (R.remaining reader)) (W.contents writer.old) (W.contents writer.new) result }
-    ensures not_a_log { IsErrOf result ToolFault.NotALog → IfSome (R.remaining reader) (λ bs. log_as version bs ≡ NotALog) }
-    ensures other_version { IsErrOf result ToolFault.OtherVersion → IfSome (R.remaining reader) (λ bs. log_as version bs ≡ OtherVersion) }
+    ensures prints { Prints (IsTextAsRead (shown_as version) (R.remaining reader))
+        (W.contents writer.old) (W.contents writer.new) result }
+    ensures not_a_log { IsErrOf result ToolFault.NotALog
+        → IfSome (R.remaining reader) (λ bs. log_as version bs ≡ NotALog) }
+    ensures other_version { IsErrOf result ToolFault.OtherVersion
+        → IfSome (R.remaining reader) (λ bs. log_as version bs ≡ OtherVersion) }
     ensures faults { IfErr result IsLogFault }
 {
     let seen = load_as(alloc, version, reader)?;
@@ -63,9 +69,12 @@ pub fn show_any<R: Read + Drop, W: Write>(
     reader: R,
     writer: &mut W,
 ) -> Result<(), ToolFault>
-    ensures prints { Prints (IsTextAsRead shown_any (R.remaining reader)) (W.contents writer.old) (W.contents writer.new) result }
-    ensures not_a_log { IsErrOf result ToolFault.NotALog → IfSome (R.remaining reader) (λ bs. log_of (as_five bs) ≡ NotALog) }
-    ensures other_version { IsErrOf result ToolFault.OtherVersion → IfSome (R.remaining reader) (λ bs. log_of (as_five bs) ≡ OtherVersion) }
+    ensures prints { Prints (IsTextAsRead shown_any (R.remaining reader)) (W.contents writer.old)
+        (W.contents writer.new) result }
+    ensures not_a_log { IsErrOf result ToolFault.NotALog
+        → IfSome (R.remaining reader) (λ bs. log_of (as_five bs) ≡ NotALog) }
+    ensures other_version { IsErrOf result ToolFault.OtherVersion
+        → IfSome (R.remaining reader) (λ bs. log_of (as_five bs) ≡ OtherVersion) }
     ensures faults { IfErr result IsLogFault }
 {
     let seen = load_any(alloc, reader)?.1;
@@ -82,8 +91,10 @@ pub fn write_lines<W: Write>(
     requires empty { piece.old.items ≡ [] }
     requires room { MAX_ENTRY_LINE ≤ vec_capacity piece.old }
     ensures capacity { vec_capacity piece.old ≤ vec_capacity piece.new }
-    ensures ok { OnOk result (Appends (W.contents writer.old) (W.contents writer.new) (joined (map line_of table.now))) }
-    ensures prefix { OnErr result (AppendsPrefixOf (W.contents writer.old) (W.contents writer.new) (joined (map line_of table.now))) }
+    ensures ok { OnOk result
+        (Appends (W.contents writer.old) (W.contents writer.new) (joined (map line_of table.now))) }
+    ensures prefix { OnErr result (AppendsPrefixOf (W.contents writer.old) (W.contents writer.new)
+        (joined (map line_of table.now))) }
     ensures faults { IfErr result (λ e. e ≡ ToolFault.Write) }
 {
     for place in 0..table.len() {
@@ -100,8 +111,10 @@ pub fn make_room<W: Write>(held: &mut Vec<u8>, writer: &mut W) -> Result<(), Too
     requires { MAX_ENTRY_LINE ≤ vec_capacity held.old }
     ensures room { OnOk result (vec_len held.new + MAX_ENTRY_LINE ≤ vec_capacity held.new) }
     ensures capacity { vec_capacity held.old ≤ vec_capacity held.new }
-    ensures moved { OnOk result (HoldsAllBut (W.contents writer.old) (W.contents writer.new) held.old.items held.new.items) }
-    ensures prefix { OnErr result (AppendsPrefixOf (W.contents writer.old) (W.contents writer.new) held.old.items) }
+    ensures moved { OnOk result (HoldsAllBut (W.contents writer.old)
+        (W.contents writer.new) held.old.items held.new.items) }
+    ensures prefix { OnErr result
+        (AppendsPrefixOf (W.contents writer.old) (W.contents writer.new) held.old.items) }
     ensures faults { IfErr result (λ e. e ≡ ToolFault.Write) }
 {
     if held.capacity() - held.len() >= MAX_ENTRY_LINE {

@@ -1,5 +1,6 @@
 -- What the line of an event says, between its tabs.
-use Rattle.std.proofs.Common.{◌≡◌, ◌≢◌, ◌==◌, ◌∙◌, false, ℕ, ℤ, List, [], ◌∷◌, ◌++◌, length, inl, inr, refl, sym, ap, subst, arith, FitsSigned, w64, Bor, codes}
+use Rattle.std.proofs.Common.{◌≡◌, ◌≢◌, ◌==◌, ◌∙◌, false, ℕ, ℤ, List, [], ◌∷◌, ◌++◌, length, inl, inr, refl, sym, ap, subst, arith}
+use Rattle.std.proofs.Common.{FitsSigned, w64, Bor, codes}
 use Rattle.std.specs.Prelude.{◌↔◌, Option, None, Some, IsSome, IfErr, Result, Ok, Err, ⊤}
 use Rattle.std.specs.List.{All as Each, flat_map, position}
 use Rattle.std.proofs.lemmas.Bool.Decides.{nat_tests}
@@ -59,42 +60,51 @@ fields-tail Crash = tt
 -- the texts at the two sides of the first tab, or of the end where there is none
 same_sides : (a b x y : List ℕ) → HasNoTab a → HasNoTab b → IsTail x → IsTail y → a ++ x ≡ b ++ y → (a ≡ b) × (x ≡ y)
 same_sides a b [] [] no_a no_b is_x is_y same = (sym (append-nil a) ∙ same ∙ append-nil b, refl)
-same_sides a b [] (d ∷ y) no_a no_b is_x is_y same = absurd (tab_there b y (subst HasNoTab (sym (append-nil a) ∙ same ∙ ap (λ (c : ℕ). b ++ c ∷ y) is_y) no_a))
-same_sides a b (c ∷ x) [] no_a no_b is_x is_y same = absurd (tab_there a x (subst HasNoTab (sym (append-nil b) ∙ sym same ∙ ap (λ (d : ℕ). a ++ d ∷ x) is_x) no_b))
+same_sides a b [] (d ∷ y) no_a no_b is_x is_y same =
+    absurd (tab_there b y (subst HasNoTab (sym (append-nil a) ∙ same ∙ ap (λ (c : ℕ). b ++ c ∷ y) is_y) no_a))
+same_sides a b (c ∷ x) [] no_a no_b is_x is_y same =
+    absurd (tab_there a x (subst HasNoTab (sym (append-nil b) ∙ sym same ∙ ap (λ (d : ℕ). a ++ d ∷ x) is_x) no_b))
 same_sides a b (c ∷ x) (d ∷ y) no_a no_b is_x is_y same =
     let both = same_split a b x y no_a no_b (ap (λ (e : ℕ). a ++ e ∷ x) (sym is_x) ∙ same ∙ ap (λ (e : ℕ). b ++ e ∷ y) is_y) in
     (both.0, ap (λ (e : ℕ). e ∷ x) is_x ∙ ap (λ (l : List ℕ). 9 ∷ l) both.1 ∙ ap (λ (e : ℕ). e ∷ y) (sym is_y))
 
 -- names that are said begin with the first one
-pub names_more : (text name : List ℕ) (rest : Option (Bor (List ℕ))) → text ≡ name ++ behind_tab rest → HasNoTab name → SaysNames (9 ∷ text) → IsName name × SaysNames (behind_tab rest)
+pub names_more : (text name : List ℕ) (rest : Option (Bor (List ℕ))) → text ≡ name ++ behind_tab rest → HasNoTab name → SaysNames (9 ∷ text)
+    → IsName name × SaysNames (behind_tab rest)
 names_more text name rest is no_tab ([], each, said) = absurd (omega (arith, ap length said))
 names_more text name rest is no_tab (first ∷ names, each, said) =
     let left : text ≡ first ++ flat_map name_field names = cc in
     let named : IsName first = All-head IsName first names each in
-    let both = same_sides name first (behind_tab rest) (flat_map name_field names) no_tab (HasNoTab-name named) (behind-tail rest) (names-tail names) (sym is ∙ left) in
+    let both = same_sides name first (behind_tab rest) (flat_map name_field names) no_tab (HasNoTab-name named) (behind-tail rest)
+    (names-tail names) (sym is ∙ left) in
     (subst IsName (sym both.0) named, (names, All-tail IsName first names each, both.1))
 
 -- mtimes and names that are said begin with an mtime, and then a name
 pub time_first : (text time : List ℕ) (rest : Option (Bor (List ℕ))) → text ≡ time ++ behind_tab rest → HasNoTab time → SaysTimes (9 ∷ text)
-    → (mtime : ℤ) × FitsSigned w64 mtime × IsDecimal mtime time × ((pair : List ℕ × ℤ) × (times : List (List ℕ × ℤ)) × IsTime pair × Each IsTime times × (behind_tab rest ≡ 9 ∷ (pair.0 ++ flat_map time_fields times)))
+    → (mtime : ℤ) × FitsSigned w64 mtime × IsDecimal mtime time × ((pair : List ℕ × ℤ) × (times : List (List ℕ × ℤ)) × IsTime pair
+    × Each IsTime times × (behind_tab rest ≡ 9 ∷ (pair.0 ++ flat_map time_fields times)))
 time_first text time rest is no_tab ([], each, said) = absurd (omega (arith, ap length said))
 time_first text time rest is no_tab (pair ∷ times, each, said) =
     let first : IsTime pair = All-head IsTime pair times each in
     let spelled : IsDecimal pair.1 (decimal_of pair.1) = IsDecimal-decimal_of pair.1 first.1 in
     let fields = flat_map time_fields times in
-    let whole : 9 ∷ text ≡ 9 ∷ (decimal_of pair.1 ++ 9 ∷ (pair.0 ++ fields)) = said ∙ append_assoc (9 ∷ decimal_of pair.1) (9 ∷ pair.0) fields in
+    let whole : 9 ∷ text ≡ 9 ∷ (decimal_of pair.1 ++ 9 ∷ (pair.0 ++ fields)) = said
+    ∙ append_assoc (9 ∷ decimal_of pair.1) (9 ∷ pair.0) fields in
     let left : text ≡ decimal_of pair.1 ++ 9 ∷ (pair.0 ++ fields) = cc in
-    let both = same_sides time (decimal_of pair.1) (behind_tab rest) (9 ∷ (pair.0 ++ fields)) no_tab (HasNoTab-decimal pair.1 (decimal_of pair.1) spelled) (behind-tail rest) refl (sym is ∙ left) in
+    let both = same_sides time (decimal_of pair.1) (behind_tab rest) (9 ∷ (pair.0 ++ fields)) no_tab
+    (HasNoTab-decimal pair.1 (decimal_of pair.1) spelled) (behind-tail rest) refl (sym is ∙ left) in
     (pair.1, first.1, subst (IsDecimal pair.1) (sym both.0) spelled, (pair, times, first, All-tail IsTime pair times each, both.1))
 
-pub times_more : (text time behind name : List ℕ) (rest more : Option (Bor (List ℕ))) → text ≡ time ++ behind_tab rest → HasNoTab time → behind_tab rest ≡ 9 ∷ behind → behind ≡ name ++ behind_tab more → HasNoTab name → SaysTimes (9 ∷ text)
+pub times_more : (text time behind name : List ℕ) (rest more : Option (Bor (List ℕ))) → text ≡ time ++ behind_tab rest
+    → HasNoTab time → behind_tab rest ≡ 9 ∷ behind → behind ≡ name ++ behind_tab more → HasNoTab name → SaysTimes (9 ∷ text)
     → IsName name × SaysTimes (behind_tab more)
 times_more text time behind name rest more is no_tab there parts none says =
     let first = time_first text time rest is no_tab says in
     let left = first.3 in
     let fields = flat_map time_fields left.1 in
     let whole : behind ≡ left.0.0 ++ fields = let both : 9 ∷ behind ≡ 9 ∷ (left.0.0 ++ fields) = sym there ∙ left.4 in cc in
-    let sides = same_sides name left.0.0 (behind_tab more) fields none (HasNoTab-name left.2.0) (behind-tail more) (times-tail left.1) (sym parts ∙ whole) in
+    let sides = same_sides name left.0.0 (behind_tab more) fields none (HasNoTab-name left.2.0) (behind-tail more) (times-tail left.1)
+    (sym parts ∙ whole) in
     (subst IsName (sym sides.0) left.2.0, (left.1, left.3, sides.1))
 
 -- where a tab is behind a text, something is
@@ -132,10 +142,11 @@ line_parts Stop = refl
 line_parts Crash = refl
 
 -- a line of an event has its word before the first tab, and its fields behind
-pub word_found : (line w : List ℕ) (rest : Option (Bor (List ℕ))) (event : Event) → line ≡ w ++ behind_tab rest → HasNoTab w → IsLineOf event line → (w ≡ text_of_word (word_of_event event)) × (behind_tab rest ≡ fields_of_event event)
+pub word_found : (line w : List ℕ) (rest : Option (Bor (List ℕ))) (event : Event) → line ≡ w ++ behind_tab rest → HasNoTab w
+    → IsLineOf event line → (w ≡ text_of_word (word_of_event event)) × (behind_tab rest ≡ fields_of_event event)
 word_found line w rest event is no_tab says =
-    same_sides w (text_of_word (word_of_event event)) (behind_tab rest) (fields_of_event event) no_tab (no_tab_in (word_of_event event)) (behind-tail rest) (fields-tail event)
-    (sym is ∙ says.is ∙ line_parts event)
+    same_sides w (text_of_word (word_of_event event)) (behind_tab rest) (fields_of_event event) no_tab (no_tab_in (word_of_event event))
+    (behind-tail rest) (fields-tail event) (sym is ∙ says.is ∙ line_parts event)
 
 -- what refuses a name is want of memory, in a loop over names too
 only_memory : (name : List ℕ) (why : NameFault) → HasFault name why → IsName name → why ≡ fault.OutOfMemory
@@ -144,19 +155,24 @@ only_memory name (fault.BadByte at) has named = absurd (none-some _ (sym named.a
 only_memory name fault.TooLong has named = absurd (omega (arith, named.short, has.0))
 only_memory name fault.OutOfMemory has named = refl
 
-pub memory_kept : {T : Type 0} (r : Result T Refusal) (why : Refusal) → IsErrAnd r (λ refusal. refusal ≡ why) → why ≡ OutOfMemory → IfErr r (λ refusal. refusal ≡ OutOfMemory)
+pub memory_kept : {T : Type 0} (r : Result T Refusal) (why : Refusal) → IsErrAnd r (λ refusal. refusal ≡ why) → why ≡ OutOfMemory
+    → IfErr r (λ refusal. refusal ≡ OutOfMemory)
 memory_kept (Ok value) why is memory = absurd is
 memory_kept (Err refusal) why is memory = is ∙ memory
 
-pub memory_alone : {T : Type 0} (r : Result T Refusal) (name : List ℕ) (why : NameFault) → IsErrAnd r (λ refusal. (refusal ≡ OutOfMemory) ↔ (why ≡ fault.OutOfMemory)) → HasFault name why → IsName name
+pub memory_alone : {T : Type 0} (r : Result T Refusal) (name : List ℕ) (why : NameFault)
+    → IsErrAnd r (λ refusal. (refusal ≡ OutOfMemory) ↔ (why ≡ fault.OutOfMemory)) → HasFault name why → IsName name
     → IfErr r (λ refusal. refusal ≡ OutOfMemory)
 memory_alone (Ok value) name why is has named = absurd is
 memory_alone (Err refusal) name why is has named = is.1 (only_memory name why has named)
 
 -- the line of an entry stands behind its word
-pub record_said : (event : Event) (w : Word) (line : List ℕ) → w ≡ word.Record → w ≡ word_of_event event → 9 ∷ line ≡ fields_of_event event → IsReadable event → (e : Entry) × IsEntryLine e line
+pub record_said : (event : Event) (w : Word) (line : List ℕ) → w ≡ word.Record → w ≡ word_of_event event → 9 ∷ line ≡ fields_of_event event
+    → IsReadable event → (e : Entry) × IsEntryLine e line
 record_said (OpenLog keep) w line is same fields readable = absurd (cc)
-record_said (Record e) w line is same fields readable = let whole : line_of e ≡ line = cc in (e, subst (IsEntryLine e) whole (IsEntryLine-line_of readable))
+record_said (Record e) w line is same fields readable =
+    let whole : line_of e ≡ line = cc in
+    (e, subst (IsEntryLine e) whole (IsEntryLine-line_of readable))
 record_said Sync w line is same fields readable = absurd (cc)
 record_said (Recompact keep) w line is same fields readable = absurd (cc)
 record_said (Restat times) w line is same fields readable = absurd (cc)
@@ -168,14 +184,17 @@ pub open_holds : (w : Word) (rest : Option (Bor (List ℕ))) → w ≡ word.Open
 open_holds w None is some = absurd (cc)
 open_holds w (Some rest) is some = (rest.now, inl (ap (λ (v : Word). text_of_word v ++ 9 ∷ rest.now) is))
 
-pub record_holds : (w : Word) (rest : Option (Bor (List ℕ))) → w ≡ word.Record → IsSome rest → HoldsNames (text_of_word w ++ behind_tab rest)
+pub record_holds : (w : Word) (rest : Option (Bor (List ℕ))) → w ≡ word.Record → IsSome rest
+    → HoldsNames (text_of_word w ++ behind_tab rest)
 record_holds w None is some = absurd (cc)
 record_holds w (Some rest) is some = (rest.now, inr (inl (ap (λ (v : Word). text_of_word v ++ 9 ∷ rest.now) is)))
 
-pub recompact_holds : (w : Word) (rest : Option (Bor (List ℕ))) → w ≡ word.Recompact → IsSome rest → HoldsNames (text_of_word w ++ behind_tab rest)
+pub recompact_holds : (w : Word) (rest : Option (Bor (List ℕ))) → w ≡ word.Recompact → IsSome rest
+    → HoldsNames (text_of_word w ++ behind_tab rest)
 recompact_holds w None is some = absurd (cc)
 recompact_holds w (Some rest) is some = (rest.now, inr (inr (inl (ap (λ (v : Word). text_of_word v ++ 9 ∷ rest.now) is))))
 
-pub restat_holds : (w : Word) (rest : Option (Bor (List ℕ))) → w ≡ word.Restat → IsSome rest → HoldsNames (text_of_word w ++ behind_tab rest)
+pub restat_holds : (w : Word) (rest : Option (Bor (List ℕ))) → w ≡ word.Restat → IsSome rest
+    → HoldsNames (text_of_word w ++ behind_tab rest)
 restat_holds w None is some = absurd (cc)
 restat_holds w (Some rest) is some = (rest.now, inr (inr (inr (ap (λ (v : Word). text_of_word v ++ 9 ∷ rest.now) is))))

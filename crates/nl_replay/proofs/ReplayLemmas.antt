@@ -18,8 +18,8 @@ begins_empty = record {
 }
 
 -- the text of a run over an empty log
-pub replayed : (events : List Event) (replies : List Reply) (old : Option Disk) (new : Disk) (settled : Bool) (text : List ℕ) → old ≡ Some (at_rest [] empty_file)
-    → ((start : History) → BeginsAt start old → HeadlineOn start (zip events replies) (Some new))
+pub replayed : (events : List Event) (replies : List Reply) (old : Option Disk) (new : Disk) (settled : Bool) (text : List ℕ)
+    → old ≡ Some (at_rest [] empty_file) → ((start : History) → BeginsAt start old → HeadlineOn start (zip events replies) (Some new))
     → ((start : History) → BeginsAt start old → Ran start events replies (Some new) settled)
     → length replies ≡ length events → HadMemory replies → text ≡ printed replies new.visible → IsReplayOf events text
 replayed events replies old new settled text empty headline run each memory is =

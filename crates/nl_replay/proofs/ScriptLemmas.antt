@@ -15,20 +15,24 @@ use Rattle.nl_replay.specs.Replay.{IsScript, IsSetting, KeepsSome, TakesScriptLi
 use Rattle.nl_texts.proofs.FileLemmas.{all_lines}
 
 -- the events with one line more
-IsScript_more : (lines : List (List ℕ)) (old new : List Event) (line : List ℕ) → IsScript lines old → TakesScriptLine old new line → IsScript (lines ++ line ∷ []) new
+IsScript_more : (lines : List (List ℕ)) (old new : List Event) (line : List ℕ) → IsScript lines old → TakesScriptLine old new line
+    → IsScript (lines ++ line ∷ []) new
 IsScript_more lines old new [] script same = record {
   settings = script.settings;
   set = script.set;
-  is = filter-append is_filled lines ([] ∷ []) ∙ append-nil (filter is_filled lines) ∙ script.is ∙ ap (λ (events : List Event). script.settings ++ map event_line events) (sym same);
+  is = filter-append is_filled lines ([] ∷ []) ∙ append-nil (filter is_filled lines) ∙ script.is
+      ∙ ap (λ (events : List Event). script.settings ++ map event_line events) (sym same);
   some = subst (Each KeepsSome) (sym same) script.some;
 }
 IsScript_more lines old new (b ∷ line) script (inl setting) =
     let settings = script.settings ++ (b ∷ line) ∷ [] in
     record {
       settings = settings;
-      set = All-append IsSetting script.settings ((b ∷ line) ∷ []) script.set (All-cons IsSetting (b ∷ line) [] setting.0 (All-nil IsSetting));
+      set = All-append IsSetting script.settings ((b ∷ line) ∷ []) script.set
+          (All-cons IsSetting (b ∷ line) [] setting.0 (All-nil IsSetting));
       is = filter-append is_filled lines ((b ∷ line) ∷ [])
-          ∙ ap (λ (l : List (List ℕ)). l ++ (b ∷ line) ∷ []) (script.is ∙ ap (λ (events : List Event). script.settings ++ map event_line events) setting.1 ∙ append-nil script.settings)
+          ∙ ap (λ (l : List (List ℕ)). l ++ (b ∷ line) ∷ [])
+          (script.is ∙ ap (λ (events : List Event). script.settings ++ map event_line events) setting.1 ∙ append-nil script.settings)
           ∙ sym (append-nil settings) ∙ ap (λ (events : List Event). settings ++ map event_line events) (sym setting.2);
       some = subst (Each KeepsSome) (sym setting.2) (All-nil KeepsSome);
     }
@@ -37,9 +41,11 @@ IsScript_more lines old new (b ∷ line) script (inr (event, says, keeps, more))
   set = script.set;
   is = filter-append is_filled lines ((b ∷ line) ∷ []) ∙ ap (λ (l : List (List ℕ)). l ++ (b ∷ line) ∷ []) script.is
       ∙ append_assoc script.settings (map event_line old) ((b ∷ line) ∷ [])
-      ∙ ap (λ (l : List (List ℕ)). script.settings ++ l) (ap (λ (l : List ℕ). map event_line old ++ l ∷ []) says ∙ sym (map-append event_line old (event ∷ [])))
+      ∙ ap (λ (l : List (List ℕ)). script.settings ++ l)
+      (ap (λ (l : List ℕ). map event_line old ++ l ∷ []) says ∙ sym (map-append event_line old (event ∷ [])))
       ∙ ap (λ (events : List Event). script.settings ++ map event_line events) (sym more);
-  some = subst (Each KeepsSome) (sym more) (All-append KeepsSome old (event ∷ []) script.some (All-cons KeepsSome event [] keeps (All-nil KeepsSome)));
+  some = subst (Each KeepsSome) (sym more)
+      (All-append KeepsSome old (event ∷ []) script.some (All-cons KeepsSome event [] keeps (All-nil KeepsSome)));
 }
 
 -- the lines so far are a script with these events
@@ -52,28 +58,38 @@ pub Scripted_none : (a : Option (List ℕ)) (events : List Event) → events ≡
 Scripted_none a events none = record {
   lines = [];
   given = TakesLines_none fresh a (omega arith) refl;
-  script = record { settings = []; set = All-nil IsSetting; is = ap (map event_line) (sym none); some = subst (Each KeepsSome) (sym none) (All-nil KeepsSome) };
+  script = record {
+    settings = [];
+    set = All-nil IsSetting;
+    is = ap (map event_line) (sym none);
+    some = subst (Each KeepsSome) (sym none) (All-nil KeepsSome);
+  };
 }
 
 -- the reader has not ended
-pub Scripted_reading : (a : Option (List ℕ)) (now : Reader) (b : Option (List ℕ)) (events : List Event) → Scripted a now b events → HasEnded now → ⊥
+pub Scripted_reading : (a : Option (List ℕ)) (now : Reader) (b : Option (List ℕ)) (events : List Event) → Scripted a now b events
+    → HasEnded now → ⊥
 Scripted_reading a now b events scripted ended = let reading : IsReading now = scripted.given.is in cc
 
-module _ (a : Option (List ℕ)) (now : Reader) (b : Option (List ℕ)) (events : List Event) (scripted : Scripted a now b events) (new : Reader) (c : Option (List ℕ)) where
-  pub Scripted_more : (line : List ℕ) (more : List Event) → TakesLine now b new c line → TakesScriptLine events more line → Scripted a new c more
+module _ (a : Option (List ℕ)) (now : Reader) (b : Option (List ℕ)) (events : List Event) (scripted : Scripted a now b events)
+    (new : Reader) (c : Option (List ℕ)) where
+  pub Scripted_more : (line : List ℕ) (more : List Event) → TakesLine now b new c line → TakesScriptLine events more line
+      → Scripted a new c more
   Scripted_more line more takes says = record {
     lines = scripted.lines ++ line ∷ [];
     given = TakesLines_more fresh a now b scripted.lines scripted.given new c line takes;
     script = IsScript_more scripted.lines events more line scripted.script says;
   }
 
-  pub Scripted_rest : (rest : List ℕ) (more : List Event) → TakesRest now b new c rest → TakesScriptLine events more rest → OfBytes a (λ bytes. IsScript (file_lines bytes) more)
+  pub Scripted_rest : (rest : List ℕ) (more : List Event) → TakesRest now b new c rest → TakesScriptLine events more rest
+      → OfBytes a (λ bytes. IsScript (file_lines bytes) more)
   Scripted_rest rest more takes says =
       let file = all_lines a c scripted.lines rest (TakesLines_rest fresh a now b scripted.lines scripted.given new c rest takes) in
       record {
         bytes = file.bytes;
         given = file.given;
-        holds = subst (λ (lines : List (List ℕ)). IsScript lines more) (sym file.holds) (IsScript_more scripted.lines events more rest scripted.script says);
+        holds = subst (λ (lines : List (List ℕ)). IsScript lines more) (sym file.holds)
+            (IsScript_more scripted.lines events more rest scripted.script says);
       }
 
   pub Scripted_end : TakesRest now b new c [] → OfBytes a (λ bytes. IsScript (file_lines bytes) events)
@@ -88,10 +104,13 @@ lent_whole rest lent is some = elim (cases_Bool (nat_le (length rest) max_line))
 
 -- an mtime and a name more, and what is left behind them
 pub pairs_more : (pairs : List (List ℕ × ℤ)) (time name left text : List ℕ) (mtime : ℤ) → time ≡ decimal_of mtime
-    → flat_map time_fields pairs ++ 9 ∷ (time ++ 9 ∷ (name ++ left)) ≡ text → flat_map time_fields (pairs ++ (name, mtime) ∷ []) ++ left ≡ text
+    → flat_map time_fields pairs ++ 9 ∷ (time ++ 9 ∷ (name ++ left)) ≡ text
+    → flat_map time_fields (pairs ++ (name, mtime) ∷ []) ++ left ≡ text
 pairs_more pairs time name left text mtime spelled whole =
     let fields = flat_map time_fields pairs in
-    ap (λ (l : List ℕ). l ++ left) (flat_map-append time_fields pairs ((name, mtime) ∷ []) ∙ ap (λ (l : List ℕ). fields ++ l) (append-nil (time_fields (name, mtime))))
+    ap (λ (l : List ℕ). l ++ left)
+    (flat_map-append time_fields pairs ((name, mtime) ∷ []) ∙ ap (λ (l : List ℕ). fields ++ l) (append-nil (time_fields (name, mtime))))
     ∙ append_assoc fields (time_fields (name, mtime)) left
-    ∙ ap (λ (l : List ℕ). fields ++ 9 ∷ l) (append_assoc (decimal_of mtime) (9 ∷ name) left ∙ ap (λ (l : List ℕ). l ++ 9 ∷ (name ++ left)) (sym spelled))
+    ∙ ap (λ (l : List ℕ). fields ++ 9 ∷ l)
+    (append_assoc (decimal_of mtime) (9 ∷ name) left ∙ ap (λ (l : List ℕ). l ++ 9 ∷ (name ++ left)) (sym spelled))
     ∙ whole

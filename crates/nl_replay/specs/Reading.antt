@@ -62,4 +62,5 @@ SaysTimes text = (times : List (List ℕ × ℤ)) × Each IsTime times × (text 
 
 -- the word of an event that holds names, and a tab behind it: what is read then takes memory
 abbrev pub HoldsNames : List ℕ → Type 0
-HoldsNames line = (rest : List ℕ) × ((line ≡ codes "open" ++ 9 ∷ rest) ⊎ (line ≡ codes "record" ++ 9 ∷ rest) ⊎ (line ≡ codes "recompact" ++ 9 ∷ rest) ⊎ (line ≡ codes "restat" ++ 9 ∷ rest))
+HoldsNames line = (rest : List ℕ) × ((line ≡ codes "open" ++ 9 ∷ rest) ⊎ (line ≡ codes "record" ++ 9 ∷ rest)
+    ⊎ (line ≡ codes "recompact" ++ 9 ∷ rest) ⊎ (line ≡ codes "restat" ++ 9 ∷ rest))

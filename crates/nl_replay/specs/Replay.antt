@@ -1,5 +1,6 @@
 -- What `replay` prints, and the words of a script (docs/CLI.md, "`replay`").
-use Rattle.std.specs.Prelude.{◌≡◌, ◌⊎◌, ◌<◌, ◌++◌, ◌∷◌, [], List, ℕ, ℤ, Bool, Option, None, Some, codes, decimal, length, map, true, false, zip, ⊤}
+use Rattle.std.specs.Prelude.{◌≡◌, ◌⊎◌, ◌<◌, ◌++◌, ◌∷◌, [], List, ℕ, ℤ, Bool, Option, None, Some, codes, decimal, length, map, true, false}
+use Rattle.std.specs.Prelude.{zip, ⊤}
 use Rattle.std.specs.Borrow.{Bor}
 use Rattle.std.specs.List.{All as Each, filter, flat_map}
 use Rattle.nl_fields.specs.Digits.{decimal_of}
@@ -8,13 +9,15 @@ use Rattle.nl_table.specs.declared.log_user.KeepList.{KeepList}
 use Rattle.nl_table.specs.declared.log_user.KeepList.TheVariants.{All, Only}
 use Rattle.nl_table.specs.History.{Began}
 use Rattle.nl_folder.specs.declared.fuse.Call.{Call}
-use Rattle.nl_folder.specs.declared.fuse.Call.TheVariants.{ReadLog, AppendLog, CutLog, SyncLog, StartScratch, AppendScratch, SyncScratch, Replace, Any}
+use Rattle.nl_folder.specs.declared.fuse.Call.TheVariants.{ReadLog, AppendLog, CutLog, SyncLog, StartScratch, AppendScratch, SyncScratch}
+use Rattle.nl_folder.specs.declared.fuse.Call.TheVariants.{Replace, Any}
 use Rattle.nl_folder.specs.DiskState.{Disk}
 use Rattle.nl_session.specs.declared.events.Event.{Event}
 use Rattle.nl_session.specs.declared.events.Event.TheVariants.{Open as OpenLog, Record, Sync, Recompact, Restat, Stop, Crash}
 use Rattle.nl_session.specs.declared.events.Reply.{Reply}
 use Rattle.nl_session.specs.declared.events.Reply.TheVariants.{Done, Refused}
-use Rattle.nl_session.specs.declared.fault.LogFault.TheVariants.{NotOpen, AlreadyOpen, Broken, NegativeTime, NotALog, OtherVersion, OutOfMemory, Fault}
+use Rattle.nl_session.specs.declared.fault.LogFault.TheVariants.{NotOpen, AlreadyOpen, Broken, NegativeTime, NotALog, OtherVersion}
+use Rattle.nl_session.specs.declared.fault.LogFault.TheVariants.{OutOfMemory, Fault}
 use Rattle.nl_session.specs.Headline.{Headline}
 use Rattle.nl_session.specs.Runs.{HadMemory, Ran}
 use Rattle.nl_texts.specs.Files.{OfBytes, file_lines}
@@ -89,7 +92,8 @@ event_line Crash = codes "crash"
 
 -- a line that sets what the folder does
 abbrev pub IsSetting : List ℕ → Type 0
-IsSetting line = (rest : List ℕ) × ((line ≡ codes "writes" ++ 9 ∷ rest) ⊎ (line ≡ codes "fates" ++ 9 ∷ rest) ⊎ (line ≡ codes "tails" ++ 9 ∷ rest) ⊎ (line ≡ codes "fuse" ++ 9 ∷ rest))
+IsSetting line = (rest : List ℕ) × ((line ≡ codes "writes" ++ 9 ∷ rest) ⊎ (line ≡ codes "fates" ++ 9 ∷ rest)
+    ⊎ (line ≡ codes "tails" ++ 9 ∷ rest) ⊎ (line ≡ codes "fuse" ++ 9 ∷ rest))
 
 -- a line that says something
 abbrev pub is_filled : List ℕ → Bool
@@ -106,7 +110,8 @@ pub record IsScript (lines : List (List ℕ)) (events : List Event) : Type 0 whe
 
 -- what a line that isn't empty says: a setting, where no event was there yet, or the next event
 abbrev pub SaysMore : List Event → List Event → List ℕ → Type 0
-SaysMore old new line = (IsSetting line × (old ≡ []) × (new ≡ [])) ⊎ ((event : Event) × (line ≡ event_line event) × KeepsSome event × (new ≡ old ++ event ∷ []))
+SaysMore old new line =
+    (IsSetting line × (old ≡ []) × (new ≡ [])) ⊎ ((event : Event) × (line ≡ event_line event) × KeepsSome event × (new ≡ old ++ event ∷ []))
 
 -- a line was taken in; an empty one says nothing
 abbrev pub TakesScriptLine : List Event → List Event → List ℕ → Type 0
@@ -115,7 +120,13 @@ TakesScriptLine old new (b ∷ line) = SaysMore old new (b ∷ line)
 
 -- what a script tells a folder in memory
 abbrev pub told_by : Script → Choices
-told_by script = record { writes = script.writes.items; fates = script.fates.items; tails = script.tails.items; fuse = script.fuse; other_was_scratch = false }
+told_by script = record {
+  writes = script.writes.items;
+  fates = script.fates.items;
+  tails = script.tails.items;
+  fuse = script.fuse;
+  other_was_scratch = false;
+}
 
 -- a reply as it is printed: `ok`, or the number and the name of the refusal
 abbrev pub reply_words : Reply → List ℕ

@@ -21,7 +21,8 @@ pub fn replay_to<R: Read + Drop, W: Write>(
     reader: R,
     writer: &mut W,
 ) -> Result<(), ToolFault>
-    ensures prints { Prints (IsReplayText (R.remaining reader)) (W.contents writer.old) (W.contents writer.new) result }
+    ensures prints { Prints (IsReplayText (R.remaining reader)) (W.contents writer.old)
+        (W.contents writer.new) result }
     ensures faults { IfErr result IsReplayFault }
 {
     let script = read_script(alloc, reader)?;
@@ -31,7 +32,8 @@ pub fn replay_to<R: Read + Drop, W: Write>(
 
 // A folder in memory whose log is empty, which is told what the script sets, and the events.
 fn set_up(alloc: Global, script: Script) -> (MemFolder, Vec<Event>)
-    ensures state { state_of result.0 ≡ record { disk = Some (at_rest [] empty_file); is_settled = true; has_scratch = false } }
+    ensures state { state_of result.0
+        ≡ record { disk = Some (at_rest [] empty_file); is_settled = true; has_scratch = false } }
     ensures failures { failure_count result.0 ≡ 0 }
     ensures choices { choices_of result.0 ≡ told_by script }
     ensures events { result.1.items ≡ script.events.items }

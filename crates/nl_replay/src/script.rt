@@ -88,7 +88,8 @@ impl From<NameFault> for Refusal {
 
 /// Reads the script that the reader gives, up to its first bad line.
 pub fn read_script<R: Read + Drop>(alloc: Global, reader: R) -> Result<Script, ToolFault>
-    ensures value { IfOk result (λ script. OfBytes (R.remaining reader) (λ bytes. IsScript (file_lines bytes) script.events.items)) }
+    ensures value { IfOk result (λ script.
+        OfBytes (R.remaining reader) (λ bytes. IsScript (file_lines bytes) script.events.items)) }
     ensures faults { IfErr result IsScriptFault }
 {
     read_lines(alloc, &mut ReadSource::new(reader))
@@ -96,7 +97,8 @@ pub fn read_script<R: Read + Drop>(alloc: Global, reader: R) -> Result<Script, T
 
 // What the lines of a source say, up to the first bad one.
 fn read_lines<S: Source>(alloc: Global, source: &mut S) -> Result<Script, ToolFault>
-    ensures value { IfOk result (λ script. OfBytes (S.ahead source.old) (λ bytes. IsScript (file_lines bytes) script.events.items)) }
+    ensures value { IfOk result (λ script.
+        OfBytes (S.ahead source.old) (λ bytes. IsScript (file_lines bytes) script.events.items)) }
     ensures faults { IfErr result IsScriptFault }
 {
     let mut lines = Lines::new(alloc)?;
@@ -120,7 +122,8 @@ fn with_last(
     line: &[u8],
     number: u64,
 ) -> Result<Script, ToolFault>
-    ensures value { IfOk result (λ new. (0 < length line.now) × TakesScriptLine script.events.items new.events.items line.now) }
+    ensures value { IfOk result (λ new.
+        (0 < length line.now) × TakesScriptLine script.events.items new.events.items line.now) }
     ensures faults { IfErr result (IsFaultOfLine number) }
 {
     if line.is_empty() {
@@ -132,7 +135,8 @@ fn with_last(
 
 // Takes in a line with this number, or passes over an empty one.
 fn take_line(alloc: Global, line: &[u8], number: u64, script: &mut Script) -> Result<(), ToolFault>
-    ensures ok { OnOk result (TakesScriptLine script.old.events.items script.new.events.items line.now) }
+    ensures ok { OnOk result
+        (TakesScriptLine script.old.events.items script.new.events.items line.now) }
     ensures faults { IfErr result (IsFaultOfLine number) }
 {
     if line.is_empty() {
@@ -190,7 +194,8 @@ impl Script {
 pub fn read_event_line(alloc: Global, line: &[u8]) -> Result<Event, Refusal>
     ensures line { IfOk result (λ event. event_line event ≡ line.now) }
     ensures some { IfOk result KeepsSome }
-    ensures accepts { (event : Event) → IsLineOf event line.now → IfErr result (λ refusal. refusal ≡ OutOfMemory) }
+    ensures accepts { (event : Event) → IsLineOf event line.now
+        → IfErr result (λ refusal. refusal ≡ OutOfMemory) }
     ensures memory { IsErrOf result OutOfMemory → HoldsNames line.now }
 {
     let (word, rest) = split_tab(line);
@@ -232,10 +237,14 @@ fn read_word(text: &[u8]) -> Option<Word>
 }
 
 fn read_event(alloc: Global, word: Word, rest: Option<&[u8]>) -> Result<Event, Refusal>
-    ensures line { IfOk result (λ event. event_line event ≡ text_of_word word ++ behind_tab rest.entry) }
+    ensures line { IfOk result
+        (λ event. event_line event ≡ text_of_word word ++ behind_tab rest.entry) }
     ensures some { IfOk result KeepsSome }
-    ensures accepts { (event : Event) → word ≡ word_of_event event → behind_tab rest.entry ≡ fields_of_event event → IsReadable event → KeepsSome event → IfErr result (λ refusal. refusal ≡ OutOfMemory) }
-    ensures memory { IsErrOf result OutOfMemory → HoldsNames (text_of_word word ++ behind_tab rest.entry) }
+    ensures accepts { (event : Event) → word ≡ word_of_event event
+        → behind_tab rest.entry ≡ fields_of_event event → IsReadable event → KeepsSome event
+        → IfErr result (λ refusal. refusal ≡ OutOfMemory) }
+    ensures memory { IsErrOf result OutOfMemory
+        → HoldsNames (text_of_word word ++ behind_tab rest.entry) }
 {
     match (word, rest) {
         (Word::Open, names) => Ok(Event::Open(read_keep(alloc, names)?)),
@@ -253,7 +262,8 @@ fn read_event(alloc: Global, word: Word, rest: Option<&[u8]>) -> Result<Event, R
 fn read_keep(alloc: Global, text: Option<&[u8]>) -> Result<KeepList, Refusal>
     ensures line { IfOk result (λ keep. keep_fields keep ≡ behind_tab text.entry) }
     ensures some { IfOk result NamesSome }
-    ensures accepts { SaysNames (behind_tab text.entry) → IfErr result (λ refusal. refusal ≡ OutOfMemory) }
+    ensures accepts { SaysNames (behind_tab text.entry)
+        → IfErr result (λ refusal. refusal ≡ OutOfMemory) }
     ensures memory { IsErr result → IsSome text.entry }
 {
     match text {
@@ -264,7 +274,8 @@ fn read_keep(alloc: Global, text: Option<&[u8]>) -> Result<KeepList, Refusal>
 
 fn read_names(alloc: Global, text: &[u8]) -> Result<Vec<Name>, Refusal>
     ensures line { IfOk result (λ names. flat_map name_field names.items ≡ name_field text.now) }
-    ensures accepts { SaysNames (name_field text.now) → IfErr result (λ refusal. refusal ≡ OutOfMemory) }
+    ensures accepts { SaysNames (name_field text.now)
+        → IfErr result (λ refusal. refusal ≡ OutOfMemory) }
 {
     let mut names = Vec::new(alloc);
     let mut left = Some(text);
@@ -279,7 +290,8 @@ fn read_names(alloc: Global, text: &[u8]) -> Result<Vec<Name>, Refusal>
 // Pairs of an mtime and a name.
 fn read_times(alloc: Global, text: Option<&[u8]>) -> Result<Vec<(Name, i64)>, Refusal>
     ensures line { IfOk result (λ times. flat_map time_fields times.items ≡ behind_tab text.entry) }
-    ensures accepts { SaysTimes (behind_tab text.entry) → IfErr result (λ refusal. refusal ≡ OutOfMemory) }
+    ensures accepts { SaysTimes (behind_tab text.entry)
+        → IfErr result (λ refusal. refusal ≡ OutOfMemory) }
     ensures memory { IsErr result → IsSome text.entry }
 {
     let mut pairs = Vec::new(alloc);
@@ -298,7 +310,8 @@ fn read_times(alloc: Global, text: Option<&[u8]>) -> Result<Vec<(Name, i64)>, Re
 
 fn read_record(alloc: Global, line: &[u8]) -> Result<Entry, Refusal>
     ensures line { IfOk result (λ e. line_of e ≡ line.now) }
-    ensures accepts { (e : Entry) → IsEntryLine e line.now → IfErr result (λ refusal. refusal ≡ OutOfMemory) }
+    ensures accepts { (e : Entry) → IsEntryLine e line.now
+        → IfErr result (λ refusal. refusal ≡ OutOfMemory) }
 {
     let Some(entry) = read_entry(line) else {
         return Err(Refusal::BadLine);

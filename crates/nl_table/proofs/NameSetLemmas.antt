@@ -15,7 +15,8 @@ use Rattle.nl_table.proofs.NameLemmas.{bytes_eq_comm}
 use Rattle.nl_table.proofs.TableLemmas.{same_key}
 
 -- a name that is looked up among keys
-pub found_in : (keys : List OutputKey) (name : List ℕ) → list_any (λ key. pointwise nat_eq name (key_bytes key)) keys ≡ holds (names_of_keys keys) name
+pub found_in : (keys : List OutputKey) (name : List ℕ)
+    → list_any (λ key. pointwise nat_eq name (key_bytes key)) keys ≡ holds (names_of_keys keys) name
 found_in [] name = refl
 found_in (key ∷ keys) name = λ i. bytes_eq_comm name (key_bytes key) i || found_in keys name i
 
@@ -32,7 +33,8 @@ held_twice names new name there = list_any-append (λ other. bytes_eq other name
     here (inr apart) = rw apart (itself (holds names name))
 
 -- one name more
-pub inserted : (keys : List OutputKey) (key : OutputKey) (name : List ℕ) → holds (names_of_keys (insert_key same_key keys key)) name ≡ holds (names_of_keys keys ++ key_bytes key ∷ []) name
+pub inserted : (keys : List OutputKey) (key : OutputKey) (name : List ℕ)
+    → holds (names_of_keys (insert_key same_key keys key)) name ≡ holds (names_of_keys keys ++ key_bytes key ∷ []) name
 inserted keys key name = elim (cases_Bool (list_any (same_key key) keys)) [
   | inl there ↦
       ap (λ l. holds (names_of_keys l) name) (cond-true (list_any (same_key key) keys) _ _ there)
@@ -44,7 +46,8 @@ inserted keys key name = elim (cases_Bool (list_any (same_key key) keys)) [
 
 -- one name more of those that a set is made of
 pub held_more : (new keys : List OutputKey) (key : OutputKey) (names : List (List ℕ)) → new ≡ insert_key same_key keys key
-    → ((name : List ℕ) → holds (names_of_keys keys) name ≡ holds names name) → (name : List ℕ) → holds (names_of_keys new) name ≡ holds (names ++ key_bytes key ∷ []) name
+    → ((name : List ℕ) → holds (names_of_keys keys) name ≡ holds names name)
+    → (name : List ℕ) → holds (names_of_keys new) name ≡ holds (names ++ key_bytes key ∷ []) name
 held_more new keys key names is held name =
     let test : List ℕ → Bool = λ other. bytes_eq other name in
     ap (λ l. holds (names_of_keys l) name) is ∙ inserted keys key name ∙ list_any-append test (names_of_keys keys) (key_bytes key ∷ [])

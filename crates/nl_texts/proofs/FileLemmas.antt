@@ -9,7 +9,8 @@ use Rattle.nl_lines.proofs.SplitLemmas.{SplitsInto_unique}
 use Rattle.nl_texts.specs.Files.{OfBytes, file_lines}
 
 -- the lines of a file that was read to its end
-pub all_lines : (a c : Option (List ℕ)) (lines : List (List ℕ)) (rest : List ℕ) → TakesAll fresh a c lines rest → OfBytes a (λ bytes. file_lines bytes ≡ lines ++ rest ∷ [])
+pub all_lines : (a c : Option (List ℕ)) (lines : List (List ℕ)) (rest : List ℕ) → TakesAll fresh a c lines rest
+    → OfBytes a (λ bytes. file_lines bytes ≡ lines ++ rest ∷ [])
 all_lines a c lines rest all =
     let split = SplitsInto_unique all.got lines rest all.splits in
     record {

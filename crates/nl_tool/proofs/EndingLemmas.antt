@@ -10,9 +10,11 @@ use Rattle.nl_tool.specs.declared.program.Outcome.{Outcome}
 use Rattle.nl_tool.specs.declared.program.Outcome.TheVariants.{Done, Damaged}
 use Rattle.nl_words.specs.CommandLine.{IsSaid}
 use Rattle.nl_words.specs.declared.command_line.Words.{Words}
-use Rattle.nl_words.specs.declared.command_line.Words.TheVariants.{Show, Check, Hash, Entries, Damage, HashFile, Record, Recompact, Restat, Repair, Replay, Apply}
+use Rattle.nl_words.specs.declared.command_line.Words.TheVariants.{Show, Check, Hash, Entries, Damage, HashFile, Record, Recompact, Restat}
+use Rattle.nl_words.specs.declared.command_line.Words.TheVariants.{Repair, Replay, Apply}
 
-pub IsStatusBy_kind : (kinds : Kinds) (entered : Option (Text × List Row)) (e : Error) (status : ℕ) → HasKind kinds e → IsStatusOfKind (kind_of e) status → IsStatusBy kinds entered status
+pub IsStatusBy_kind : (kinds : Kinds) (entered : Option (Text × List Row)) (e : Error) (status : ℕ) → HasKind kinds e
+    → IsStatusOfKind (kind_of e) status → IsStatusBy kinds entered status
 IsStatusBy_kind [] entered e status (inl memory) s = inl (inr (subst (λ k. IsStatusOfKind k status) memory s))
 IsStatusBy_kind [] entered e status (inr among) s = absurd among
 IsStatusBy_kind (k ∷ ks) entered e status (inl memory) s = inl (subst (λ k. IsStatusOfKind k status) memory s)
@@ -35,11 +37,14 @@ names_damage (Replay script) entered said asks = absurd asks
 names_damage (Apply log script) entered said asks = absurd asks
 
 -- the status after a command
-pub command_ended : (kinds : Kinds) (w : Words) (entered : Option (Text × List Row)) (answer : Result Outcome ToolFault) (status : ℕ) → kinds ≡ [] → IsSaid w entered → IfOk answer (λ outcome. outcome ≡ Damaged → AsksForDamage w)
-    → status ≡ status_after answer → IsStatusBy kinds entered status
-command_ended kinds w entered answer status none said only is = subst (λ (ks : Kinds). IsStatusBy ks entered status) (sym none) (ended answer only is)
+pub command_ended : (kinds : Kinds) (w : Words) (entered : Option (Text × List Row)) (answer : Result Outcome ToolFault) (status : ℕ)
+    → kinds ≡ [] → IsSaid w entered → IfOk answer (λ outcome. outcome ≡ Damaged → AsksForDamage w) → status ≡ status_after answer
+    → IsStatusBy kinds entered status
+command_ended kinds w entered answer status none said only is =
+    subst (λ (ks : Kinds). IsStatusBy ks entered status) (sym none) (ended answer only is)
   where
-    ended : (answer : Result Outcome ToolFault) → IfOk answer (λ outcome. outcome ≡ Damaged → AsksForDamage w) → status ≡ status_after answer → IsEnded entered status
+    ended : (answer : Result Outcome ToolFault) → IfOk answer (λ outcome. outcome ≡ Damaged → AsksForDamage w)
+        → status ≡ status_after answer → IsEnded entered status
     ended (Ok Done) only is = inl (inl is)
     ended (Ok Damaged) only is = inr (is, names_damage w entered said (only refl))
     ended (Err fault) only is = inl (inr is)

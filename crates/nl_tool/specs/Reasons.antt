@@ -9,7 +9,8 @@ use Rattle.nl_texts.specs.Faults.{fault_text}
 use Rattle.nl_texts.specs.declared.fault.ToolFault.{ToolFault}
 use Rattle.nl_texts.specs.declared.fault.ToolFault.TheVariants as fault
 use Rattle.nl_words.specs.declared.command_line.Words.{Words}
-use Rattle.nl_words.specs.declared.command_line.Words.TheVariants.{Show, Check, Hash, Entries, Damage, HashFile, Record, Recompact, Restat, Repair, Replay, Apply}
+use Rattle.nl_words.specs.declared.command_line.Words.TheVariants.{Show, Check, Hash, Entries, Damage, HashFile, Record, Recompact, Restat}
+use Rattle.nl_words.specs.declared.command_line.Words.TheVariants.{Repair, Replay, Apply}
 use Rattle.nl_tool.specs.declared.reason.Place.{Place}
 use Rattle.nl_tool.specs.declared.reason.Place.TheVariants as at
 use Rattle.nl_tool.specs.declared.reason.Reason.{Reason}

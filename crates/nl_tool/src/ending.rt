@@ -42,7 +42,8 @@ where
 pub fn run_line<R: Runtime>(rt: &R, alloc: Global, line: &[String]) -> u8
 where
     R::File: SystemFile,
-    ensures status { IsStatusBy (fault_in (map string_bytes line.now)) (subcommand_of nlog (map string_bytes line.now)) result }
+    ensures status { IsStatusBy (fault_in (map string_bytes line.now))
+        (subcommand_of nlog (map string_bytes line.now)) result }
     ensures bound { result ≤ 3 }
 {
     match read_words(alloc, line) {

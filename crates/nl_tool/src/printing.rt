@@ -95,11 +95,16 @@ fn tell_damage<R: Read + Drop, W: Write>(
     writer: &mut W,
 ) -> Result<Outcome, ToolFault>
     ensures found { MatchResult result
-        (λ outcome. (text : List ℕ) × IsTextAsRead (λ bs. damaged (as_five bs)) (R.remaining reader) text × Appends (W.contents writer.old) (W.contents writer.new) text
+        (λ outcome.
+        (text : List ℕ) × IsTextAsRead (λ bs. damaged (as_five bs)) (R.remaining reader) text
+        × Appends (W.contents writer.old) (W.contents writer.new) text
         × ((outcome ≡ Outcome.Damaged) ↔ (0 < length text)))
-        (λ _. IsSoFar (λ bs. damaged (as_five bs)) (R.remaining reader) (W.contents writer.old) (W.contents writer.new)) }
-    ensures not_a_log { IsErrOf result ToolFault.NotALog → IfSome (R.remaining reader) (λ bs. log_of (as_five bs) ≡ NotALog) }
-    ensures other_version { IsErrOf result ToolFault.OtherVersion → IfSome (R.remaining reader) (λ bs. log_of (as_five bs) ≡ OtherVersion) }
+        (λ _. IsSoFar (λ bs. damaged (as_five bs)) (R.remaining reader) (W.contents writer.old)
+        (W.contents writer.new)) }
+    ensures not_a_log { IsErrOf result ToolFault.NotALog
+        → IfSome (R.remaining reader) (λ bs. log_of (as_five bs) ≡ NotALog) }
+    ensures other_version { IsErrOf result ToolFault.OtherVersion
+        → IfSome (R.remaining reader) (λ bs. log_of (as_five bs) ≡ OtherVersion) }
     ensures faults { IfErr result IsLogFault }
 {
     match damage_to(alloc, reader, writer) {
@@ -173,7 +178,8 @@ fn print_to<R: Read + Drop, W: Write>(
     reader: R,
     writer: &mut W,
 ) -> Result<(), ToolFault>
-    ensures prints { Prints (IsAnswerAs version printing.entry (R.remaining reader)) (W.contents writer.old) (W.contents writer.new) result }
+    ensures prints { Prints (IsAnswerAs version printing.entry (R.remaining reader))
+        (W.contents writer.old) (W.contents writer.new) result }
     ensures faults { IfErr result (IsPrintingFault printing.entry) }
 {
     match version {
@@ -192,7 +198,8 @@ fn print_plain<R: Read + Drop, W: Write>(
     reader: R,
     writer: &mut W,
 ) -> Result<(), ToolFault>
-    ensures prints { Prints (IsAnswer printing.entry (R.remaining reader)) (W.contents writer.old) (W.contents writer.new) result }
+    ensures prints { Prints (IsAnswer printing.entry (R.remaining reader)) (W.contents writer.old)
+        (W.contents writer.new) result }
     ensures faults { IfErr result (IsPrintingFault printing.entry) }
 {
     match printing {
@@ -212,7 +219,8 @@ fn print_as<R: Read + Drop, W: Write>(
     reader: R,
     writer: &mut W,
 ) -> Result<(), ToolFault>
-    ensures prints { Prints (IsAnswerOf version printing.entry (R.remaining reader)) (W.contents writer.old) (W.contents writer.new) result }
+    ensures prints { Prints (IsAnswerOf version printing.entry (R.remaining reader))
+        (W.contents writer.old) (W.contents writer.new) result }
     ensures faults { IfErr result (IsPrintingFault printing.entry) }
 {
     match printing {
@@ -230,7 +238,8 @@ fn print_any<R: Read + Drop, W: Write>(
     reader: R,
     writer: &mut W,
 ) -> Result<(), ToolFault>
-    ensures prints { Prints (IsAnswerOfAny printing.entry (R.remaining reader)) (W.contents writer.old) (W.contents writer.new) result }
+    ensures prints { Prints (IsAnswerOfAny printing.entry (R.remaining reader))
+        (W.contents writer.old) (W.contents writer.new) result }
     ensures faults { IfErr result (IsPrintingFault printing.entry) }
 {
     match printing {

@@ -26,7 +26,8 @@ pub fn run<R: Runtime>(rt: &R, alloc: Global, line: &CommandLine<'_>) -> Result<
 where
     R::File: SystemFile,
     ensures accepts { OnOk result (CanBeDone line.now.words) }
-    ensures damaged { IfOk result (λ outcome. outcome ≡ Outcome.Damaged → AsksForDamage line.now.words) }
+    ensures damaged { IfOk result
+        (λ outcome. outcome ≡ Outcome.Damaged → AsksForDamage line.now.words) }
     ensures faults { IfErr result (IsFaultOf line.now.words) }
 {
     run_noted(rt, alloc, line, &mut Notes::new(false))
@@ -42,7 +43,8 @@ pub fn run_noted<R: Runtime>(
 where
     R::File: SystemFile,
     ensures accepts { OnOk result (CanBeDone line.now.words) }
-    ensures damaged { IfOk result (λ outcome. outcome ≡ Outcome.Damaged → AsksForDamage line.now.words) }
+    ensures damaged { IfOk result
+        (λ outcome. outcome ≡ Outcome.Damaged → AsksForDamage line.now.words) }
     ensures faults { IfErr result (IsFaultOf line.now.words) }
 {
     let version = line.version;

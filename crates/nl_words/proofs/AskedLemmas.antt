@@ -24,14 +24,15 @@ pub none_wrong : (asked : Option Text) → asked ≡ None → version_fault aske
 none_wrong asked e = ap version_fault e
 
 -- where one is
-pub some_asked : (asked : Option Text) (text : Text) (version : AskedVersion) → asked ≡ Some text → text ≡ version_text version → IsAsked (Some version) asked
+pub some_asked : (asked : Option Text) (text : Text) (version : AskedVersion) → asked ≡ Some text → text ≡ version_text version
+    → IsAsked (Some version) asked
 some_asked asked text version e is = subst (IsAsked (Some version)) (sym e) is
 
 pub some_right : (asked : Option Text) (text : Text) → asked ≡ Some text → true ≡ is_version_text text → version_fault asked ≡ []
 some_right asked text e right = ap version_fault e ∙ rw (← right) refl
 
-pub some_wrong : (asked : Option Text) (text : Text) (error : Error) → asked ≡ Some text → false ≡ is_version_text text → kind_of error ≡ InvalidValue
-    → HasKind (version_fault asked) error
+pub some_wrong : (asked : Option Text) (text : Text) (error : Error) → asked ≡ Some text → false ≡ is_version_text text
+    → kind_of error ≡ InvalidValue → HasKind (version_fault asked) error
 some_wrong asked text error e wrong kind = rw e rw (← wrong) (inr (inl kind))
 
 -- the kinds of the first step that fails

@@ -1,9 +1,11 @@
 -- The program as a simple command: that it is one, and what the commands that it enters have.
-use Rattle.std.proofs.Common.{◌≡◌, ◌∙◌, Bool, true, false, List, [], ◌∷◌, Option, Some, None, option_map, refl, inl, inr, cond, codes, is_some, subst, sym, Result, Ok, Err, IsErrAnd, ap₂}
+use Rattle.std.proofs.Common.{◌≡◌, ◌∙◌, Bool, true, false, List, [], ◌∷◌, Option, Some, None, option_map, refl, inl, inr, cond, codes}
+use Rattle.std.proofs.Common.{is_some, subst, sym, Result, Ok, Err, IsErrAnd, ap₂}
 use Rattle.std.specs.Prelude.{IfSome}
 use Rattle.std.specs.List.{find, list_all}
 use Rattle.std.specs.Option.{option_map_or}
-use Rattle.clap.specs.Words.{App, Row, Shape, Text, FailsBy, HasKind, Kinds, built, fault_of, first_of, is_simple, is_simple_and_free, subcommand_of}
+use Rattle.clap.specs.Words.{App, Row, Shape, Text, FailsBy, HasKind, Kinds, built, fault_of, first_of, is_simple, is_simple_and_free}
+use Rattle.clap.specs.Words.{subcommand_of}
 use Rattle.clap.specs.Faults.{entered_fault, level_fault, walk_fault}
 use Rattle.clap.specs.Simple.{argument_words, entered, label_of, names_of, rows_at}
 use Rattle.clap.specs.declared.error.Error.{Error}
@@ -48,7 +50,8 @@ entered_whole : (a : App) (stop : Option (Text × List Text)) → AllOwn a.subs 
 entered_whole a None own e = tt
 entered_whole a (Some p) own e = go (find (λ s. answers_to p.0 (label_of s)) a.subs) (found_own _ a.subs own) e
   where
-    go : (o : Option Shape) → IfSome o IsOwn → option_map_or (λ s. level_fault s [] nothing_held p.1 false []) o [] ≡ [] → IsWhole (option_map (λ s. rows_at s p.1) o)
+    go : (o : Option Shape) → IfSome o IsOwn → option_map_or (λ s. level_fault s [] nothing_held p.1 false []) o [] ≡ []
+        → IsWhole (option_map (λ s. rows_at s p.1) o)
     go None own e = tt
     go (Some s) own e =
         let there = level_required s p.1 own.plain own.negates e in
@@ -73,13 +76,33 @@ built_own = (
               (
                 record { named = inr (inr (inr (inr (inr (inr (inr (inl refl))))))); plain = refl; negates = refl; needs = λ rows h. h },
                 (
-                  record { named = inr (inr (inr (inr (inr (inr (inr (inr (inl refl)))))))); plain = refl; negates = refl; needs = λ rows h. h },
+                  record {
+                    named = inr (inr (inr (inr (inr (inr (inr (inr (inl refl))))))));
+                    plain = refl;
+                    negates = refl;
+                    needs = λ rows h. h;
+                  },
                   (
-                    record { named = inr (inr (inr (inr (inr (inr (inr (inr (inr (inl refl))))))))); plain = refl; negates = refl; needs = λ rows h. h },
+                    record {
+                      named = inr (inr (inr (inr (inr (inr (inr (inr (inr (inl refl)))))))));
+                      plain = refl;
+                      negates = refl;
+                      needs = λ rows h. h;
+                    },
                     (
-                      record { named = inr (inr (inr (inr (inr (inr (inr (inr (inr (inr (inl refl)))))))))); plain = refl; negates = refl; needs = λ rows h. refl },
+                      record {
+                        named = inr (inr (inr (inr (inr (inr (inr (inr (inr (inr (inl refl))))))))));
+                        plain = refl;
+                        negates = refl;
+                        needs = λ rows h. refl;
+                      },
                       (
-                        record { named = inr (inr (inr (inr (inr (inr (inr (inr (inr (inr (inr (refl))))))))))); plain = refl; negates = refl; needs = λ rows h. h },
+                        record {
+                          named = inr (inr (inr (inr (inr (inr (inr (inr (inr (inr (inr (refl)))))))))));
+                          plain = refl;
+                          negates = refl;
+                          needs = λ rows h. h;
+                        },
                         tt,
                       ),
                     ),

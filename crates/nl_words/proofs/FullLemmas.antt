@@ -1,10 +1,18 @@
 -- A walk over words leaves no row without a value, but for that of the option for a version.
-use Rattle.std.proofs.Common.{◌≡◌, ◌∙◌, ◌<◌, ◌&&◌, ◌||◌, ◌⊎◌, not, inl, inr, ℕ, Bool, true, false, zero, suc, List, [], ◌∷◌, ◌++◌, length, Option, Some, None, is_some, cond, refl, sym, subst, arith, true≢false, length-append}
+use Rattle.std.proofs.Common.{◌≡◌, ◌∙◌, ◌<◌, ◌&&◌, ◌||◌, ◌⊎◌, not, inl, inr, ℕ, Bool, true, false, zero, suc, List, [], ◌∷◌, ◌++◌, length}
+use Rattle.std.proofs.Common.{Option, Some, None, is_some, cond, refl, sym, subst, arith, true≢false, length-append}
 use Rattle.std.specs.Prelude.{slice_get}
 use Rattle.std.specs.List.{find, fold, list_all}
 use Rattle.std.specs.Str.{bytes_eq, chars}
 use Rattle.clap.specs.Lexer.{long_of, short_of}
-use Rattle.clap.specs.Walk.{Held, Names, Outcome, Row, Rule, Step, Text, Waiting, Walk, action_of, after_flag, after_step, arg_by_id, arg_by_index, arg_by_long, arg_by_short, at_row, attached_value, bundle_met, bundle_step, default_rows, done, flag_met, has_row, has_long, has_short, idle, is_empty, is_pending, long_met, long_or_other, more_values, next, nothing_held, option, option_met, option_word, plain, plain_word, positional, positional_held, pushed, reacted, reading_by, refused, rows_after, settled, settled_rows, short_met, short_or_plain, started, subcommand, subcommand_met, subcommand_or_other, takes_several, takes_values, to_positional, trailing, used, used_as, used_by_id, value, values_or_missing, waits, walk, walk_from, walked, walked_from, with_default, with_values, without, word_met}
+use Rattle.clap.specs.Walk.{Held, Names, Outcome, Row, Rule, Step, Text, Waiting, Walk, action_of, after_flag, after_step, arg_by_id}
+use Rattle.clap.specs.Walk.{arg_by_index, arg_by_long, arg_by_short, at_row, attached_value, bundle_met, bundle_step, default_rows, done}
+use Rattle.clap.specs.Walk.{flag_met, has_row, has_long, has_short, idle, is_empty, is_pending, long_met, long_or_other, more_values, next}
+use Rattle.clap.specs.Walk.{nothing_held, option, option_met, option_word, plain, plain_word, positional, positional_held, pushed, reacted}
+use Rattle.clap.specs.Walk.{reading_by, refused, rows_after, settled, settled_rows, short_met, short_or_plain, started, subcommand}
+use Rattle.clap.specs.Walk.{subcommand_met, subcommand_or_other, takes_several, takes_values, to_positional, trailing, used, used_as}
+use Rattle.clap.specs.Walk.{used_by_id, value, values_or_missing, waits, walk, walk_from, walked, walked_from, with_default, with_values}
+use Rattle.clap.specs.Walk.{without, word_met}
 use Rattle.clap.specs.declared.builder.action.ArgAction.{ArgAction}
 use Rattle.clap.specs.declared.builder.action.ArgAction.TheVariants.{Set, SetTrue, Help}
 use Rattle.clap.specs.declared.parser.matches.ValueSource.{ValueSource}
@@ -120,7 +128,8 @@ found_passes : {X : Type 0} (p q : X → Bool) (xs : List X) (x : X) → list_al
 found_passes p q [] x all is = cc
 found_passes p q (y ∷ ys) x all is = go (p y) refl is (found_passes p q ys x (both (q y) _ all).1)
   where
-    go : (b : Bool) → p y ≡ b → cond b (Some y) (find p ys) ≡ Some x → (find p ys ≡ Some x → (p x ≡ true) × (q x ≡ true)) → (p x ≡ true) × (q x ≡ true)
+    go : (b : Bool) → p y ≡ b → cond b (Some y) (find p ys) ≡ Some x → (find p ys ≡ Some x → (p x ≡ true) × (q x ≡ true))
+        → (p x ≡ true) × (q x ≡ true)
     go true here e later =
         let same : y ≡ x = cc in
         subst (λ z. (p z ≡ true) × (q z ≡ true)) same (here, (both (q y) _ all).0)
@@ -132,8 +141,8 @@ AllFull-append : (xs ys : List Row) → AllFull xs → AllFull ys → AllFull (x
 AllFull-append [] ys h k = k
 AllFull-append (x ∷ xs) ys h k = (h.0, AllFull-append xs ys h.1 k)
 
-at_row-full : (id : Text) (change : Row → List Row) (missing rows : List Row) → ((r : Row) → Full r → AllFull (change r)) → AllFull missing → AllFull rows
-    → AllFull (at_row id change missing rows)
+at_row-full : (id : Text) (change : Row → List Row) (missing rows : List Row) → ((r : Row) → Full r → AllFull (change r)) → AllFull missing
+    → AllFull rows → AllFull (at_row id change missing rows)
 at_row-full id change missing [] f m h = m
 at_row-full id change missing (r ∷ rs) f m h =
     elim (bytes_eq r.id id) as (λ b. AllFull (cond b (change r ++ rs) (r ∷ at_row id change missing rs))) [
@@ -148,8 +157,10 @@ grown : (id : Text) (xs ys : List Text) → IsFilled id xs → IsFilled id (xs +
 grown id xs ys (inl h) = inl h
 grown id xs ys (inr h) = inr (omega (arith, length-append xs ys))
 
-with_values-full : (id : Text) (how : Reading) (s : ValueSource) (values : List Text) (rows : List Row) → IsFilled id values → AllFull rows → AllFull (with_values id how s values rows)
-with_values-full id how s values rows filled h = at_row-full id (more_values s values) _ rows (λ r full. (grown r.id r.values values full, tt)) (filled, tt) h
+with_values-full : (id : Text) (how : Reading) (s : ValueSource) (values : List Text) (rows : List Row) → IsFilled id values → AllFull rows
+    → AllFull (with_values id how s values rows)
+with_values-full id how s values rows filled h =
+    at_row-full id (more_values s values) _ rows (λ r full. (grown r.id r.values values full, tt)) (filled, tt) h
 
 given-full : (a : Rule) (values : List Text) → IsFilled a.id values → IsFilled a.id (values_or_missing a values)
 given-full a values (inl k) = inl k
@@ -161,10 +172,12 @@ missing-full a [] lt = inr lt
 missing-full a (v ∷ vs) lt = inr (omega arith)
 
 -- a use of one that is set
-set-full : (a : Rule) (values : List Text) (rows : List Row) → action_of a ≡ Set → IsFilled a.id values → AllFull rows → AllFull (used a values rows)
+set-full : (a : Rule) (values : List Text) (rows : List Row) → action_of a ≡ Set → IsFilled a.id values → AllFull rows
+    → AllFull (used a values rows)
 set-full a values rows set filled h =
     subst (λ x. AllFull (used_as x a.id (reading_by a) (values_or_missing a values) rows)) (sym set)
-    (with_values-full a.id (reading_by a) CommandLine (values_or_missing a values) (without a.id rows) (given-full a values filled) (without-full a.id rows h))
+    (with_values-full a.id (reading_by a) CommandLine (values_or_missing a values) (without a.id rows) (given-full a values filled)
+    (without-full a.id rows h))
 
 -- a use of one that is met by its name
 named-full : (a : Rule) (values : List Text) (rows : List Row) → IsNamed a → AllFull rows → AllFull (used a values rows)
@@ -173,10 +186,12 @@ named-full a values rows (inr flag) h =
     elim flag.1 [
       | inl help ↦ subst (λ x. AllFull (used_as x a.id (reading_by a) (values_or_missing a values) rows)) (sym help) h
       | inr k ↦ subst (λ x. AllFull (used_as x a.id (reading_by a) (values_or_missing a values) rows)) (sym k.0)
-          (with_values-full a.id (reading_by a) CommandLine (values_or_missing a values) (without a.id rows) (missing-full a values k.1) (without-full a.id rows h))
+          (with_values-full a.id (reading_by a) CommandLine (values_or_missing a values) (without a.id rows) (missing-full a values k.1)
+          (without-full a.id rows h))
     ]
 
-used-full : (a : Rule) (values : List Text) (rows : List Row) → IsPlain a → IsFilled a.id values → AllFull rows → AllFull (used a values rows)
+used-full : (a : Rule) (values : List Text) (rows : List Row) → IsPlain a → IsFilled a.id values → AllFull rows
+    → AllFull (used a values rows)
 used-full a values rows (inl k) filled h = set-full a values rows k.0 filled h
 used-full a values rows (inr named) filled h = named-full a values rows named h
 
@@ -184,7 +199,8 @@ used-full a values rows (inr named) filled h = named-full a values rows named h
 
 module _ (c : List Rule) (all : list_all is_plain_rule c ≡ true) where
   -- an argument by its id, with what is pending for it
-  found_filled : (id : Text) (values : List Text) (a : Rule) → IsFilled id values → arg_by_id c id ≡ Some a → IsPlain a × IsFilled a.id values
+  found_filled : (id : Text) (values : List Text) (a : Rule) → IsFilled id values → arg_by_id c id ≡ Some a
+      → IsPlain a × IsFilled a.id values
   found_filled id values a filled is =
       let met = found_passes (λ a. bytes_eq a.id id) is_plain_rule c a all is in
       let same : a.id ≡ id = (bytes_eq-Decides a.id id).0 met.0 in
@@ -202,7 +218,8 @@ module _ (c : List Rule) (all : list_all is_plain_rule c ≡ true) where
   settled-full : (h : Held) → Good h → Good (settled c h)
   settled-full h good = (go h.pending good.1, tt)
     where
-      by_id : (o : Option Rule) (values : List Text) → ((a : Rule) → o ≡ Some a → IsPlain a × IsFilled a.id values) → AllFull (used_by_id o values h.rows)
+      by_id : (o : Option Rule) (values : List Text) → ((a : Rule) → o ≡ Some a → IsPlain a × IsFilled a.id values)
+          → AllFull (used_by_id o values h.rows)
       by_id None values f = good.0
       by_id (Some a) values f = used-full a values h.rows (f a refl).0 (f a refl).1 good.0
 
@@ -224,7 +241,8 @@ module _ (c : List Rule) (all : list_all is_plain_rule c ≡ true) where
   option_met-full a None h takes (inl k) good = ((settled-full h good).0, inl k.1)
   option_met-full a None h takes (inr flag) good = absurd (true≢false (sym takes ∙ flag.0))
 
-  long_met-full : (o : Option Rule) (v : Option Text) (h : Held) → ((a : Rule) → o ≡ Some a → IsNamed a) → Good h → Good (long_met c o v h).0
+  long_met-full : (o : Option Rule) (v : Option Text) (h : Held) → ((a : Rule) → o ≡ Some a → IsNamed a) → Good h
+      → Good (long_met c o v h).0
   long_met-full None v h f good = good
   long_met-full (Some a) v h f good = go (takes_values a) refl
     where
@@ -241,8 +259,10 @@ module _ (c : List Rule) (all : list_all is_plain_rule c ≡ true) where
       go true takes = option_met-full a (attached_value rest) h takes (f a refl) good
       go false takes = g (reacted c a [] h) (reacted-full a [] h (f a refl) good)
 
-  bundle_step-full : (o : Option ℕ) (flags : Text) (skip : ℕ) (so_far : Outcome) (h : Held) (then_on : Text → ℕ → Outcome → Held → Held × Outcome)
-      → ((t : Text) (n : ℕ) (x : Outcome) (k : Held) → Good k → Good (then_on t n x k).0) → Good h → Good (bundle_step c o flags skip so_far h then_on).0
+  bundle_step-full : (o : Option ℕ) (flags : Text) (skip : ℕ) (so_far : Outcome) (h : Held)
+      (then_on : Text → ℕ → Outcome → Held → Held × Outcome)
+      → ((t : Text) (n : ℕ) (x : Outcome) (k : Held) → Good k → Good (then_on t n x k).0) → Good h
+      → Good (bundle_step c o flags skip so_far h then_on).0
   bundle_step-full None flags skip so_far h then_on g good = good
   bundle_step-full (Some x) flags zero so_far h then_on g good =
       short_met-full (arg_by_short c x) _ h _ (named_found (λ a. has_short a x)) (λ k. g _ 0 done k) good
@@ -279,12 +299,14 @@ module _ (c : List Rule) (all : list_all is_plain_rule c ≡ true) where
   short_or_plain-full waiting word (Some flags) h good =
       after_flag-full waiting word _ _ (bundle_met-full (length flags) flags h.skip plain (record h { skip = 0 }) good)
 
-  long_or_other-full : (waiting : Waiting) (word : Text) (o : Option (Text × Option Text)) (h : Held) → Good h → Good (long_or_other c waiting word o h).0
+  long_or_other-full : (waiting : Waiting) (word : Text) (o : Option (Text × Option Text)) (h : Held) → Good h
+      → Good (long_or_other c waiting word o h).0
   long_or_other-full waiting word None h good = short_or_plain-full waiting word (short_of word) h good
   long_or_other-full waiting word (Some p) h good =
       after_flag-full waiting word _ _ (long_met-full (arg_by_long c p.0) p.1 h (named_found (λ a. has_long a p.0)) good)
 
-  subcommand_or_other-full : (o : Option Text) (waiting : Waiting) (position : ℕ) (word : Text) (h : Held) → Good h → Good (subcommand_or_other c o waiting position word h).0
+  subcommand_or_other-full : (o : Option Text) (waiting : Waiting) (position : ℕ) (word : Text) (h : Held) → Good h
+      → Good (subcommand_or_other c o waiting position word h).0
   subcommand_or_other-full (Some name) waiting position word h good = good
   subcommand_or_other-full None waiting position word h good =
       elim (bytes_eq word (45 ∷ 45 ∷ [])) as (λ b. Good (cond b (h, trailing position) (long_or_other c waiting word (long_of word) h)).0) [
@@ -292,9 +314,11 @@ module _ (c : List Rule) (all : list_all is_plain_rule c ≡ true) where
         | false ↦ long_or_other-full waiting word (long_of word) h good
       ]
 
-  word_met-full : (names : Names) (is_trailing : Bool) (waiting : Waiting) (position : ℕ) (word : Text) (h : Held) → Good h → Good (word_met c names is_trailing waiting position word h).0
+  word_met-full : (names : Names) (is_trailing : Bool) (waiting : Waiting) (position : ℕ) (word : Text) (h : Held) → Good h
+      → Good (word_met c names is_trailing waiting position word h).0
   word_met-full names true waiting position word h good = good
-  word_met-full names false waiting position word h good = subcommand_or_other-full (subcommand_met names waiting word) waiting position word h good
+  word_met-full names false waiting position word h good =
+      subcommand_or_other-full (subcommand_met names waiting word) waiting position word h good
 
   -- ---- the walk
 
@@ -316,7 +340,8 @@ module _ (c : List Rule) (all : list_all is_plain_rule c ≡ true) where
   after_step-full word w h (subcommand name) good = good
   after_step-full word w h value good = to_positional-full (arg_by_index c w.position) word w h good
 
-  walked_from-full : (names : Names) (o : Option (Text × List Text)) (w : Walk) (word : Text) → Good w.held → Good (walked_from c names o w word).held
+  walked_from-full : (names : Names) (o : Option (Text × List Text)) (w : Walk) (word : Text) → Good w.held
+      → Good (walked_from c names o w word).held
   walked_from-full names (Some p) w word good = good
   walked_from-full names None w word good =
       after_step-full word w _ _ (word_met-full names w.is_trailing w.waiting w.position word w.held good)
@@ -328,7 +353,8 @@ module _ (c : List Rule) (all : list_all is_plain_rule c ≡ true) where
 
 -- ---- the end
 
-default_rows-full : (id : Text) (how : Reading) (values : List Text) (rows : List Row) → AllFull rows → AllFull (default_rows id how values rows)
+default_rows-full : (id : Text) (how : Reading) (values : List Text) (rows : List Row) → AllFull rows
+    → AllFull (default_rows id how values rows)
 default_rows-full id how [] rows h = h
 default_rows-full id how (v ∷ vs) rows h = with_values-full id how DefaultValue (v ∷ vs) rows (inr (omega arith)) h
 
@@ -344,7 +370,8 @@ defaults-full rows [] h = h
 defaults-full rows (a ∷ as_rest) h = defaults-full (with_default rows a) as_rest (default-full rows a h)
 
 -- at the end of a walk each row has a value, but for the option's
-pub rows_after-full : (c : List Rule) (names : Names) (words : List Text) → list_all is_plain_rule c ≡ true → AllFull (rows_after c names words)
+pub rows_after-full : (c : List Rule) (names : Names) (words : List Text) → list_all is_plain_rule c ≡ true
+    → AllFull (rows_after c names words)
 rows_after-full c names words all =
     let end = (walk c names nothing_held words).held in
     let good = walk-full c all names (walk_from nothing_held) words (tt, tt) in

@@ -1,5 +1,6 @@
 -- Where clap finds no fault, each value that a command requires is there.
-use Rattle.std.proofs.Common.{◌≡◌, ◌<◌, ◌&&◌, ◌||◌, not, Bool, true, false, List, [], ◌∷◌, length, is_some, inl, inr, refl, sym, ap, ◌∙◌, arith, true≢false}
+use Rattle.std.proofs.Common.{◌≡◌, ◌<◌, ◌&&◌, ◌||◌, not, Bool, true, false, List, [], ◌∷◌, length, is_some, inl, inr, refl, sym, ap, ◌∙◌}
+use Rattle.std.proofs.Common.{arith, true≢false}
 use Rattle.std.specs.Prelude.{slice_get}
 use Rattle.std.specs.List.{list_all, list_any}
 use Rattle.std.specs.Str.{bytes_eq}
@@ -24,7 +25,8 @@ nothing_wanted false false true e = cc
 nothing_wanted false false false e = refl
 
 -- a row that was given has a value
-given_text : (id : Text) (rows : List Row) → is_option id ≡ false → AllFull rows → is_given id rows ≡ true → is_some (first_of id rows) ≡ true
+given_text : (id : Text) (rows : List Row) → is_option id ≡ false → AllFull rows → is_given id rows ≡ true
+    → is_some (first_of id rows) ≡ true
 given_text id [] other full e = e
 given_text id (r ∷ rs) other full e = go (bytes_eq r.id id) refl e (given_text id rs other full.1)
   where
@@ -36,7 +38,8 @@ given_text id (r ∷ rs) other full e = go (bytes_eq r.id id) refl e (given_text
     filled (inl option) same = absurd (true≢false (sym option ∙ ap is_option same ∙ other))
     filled (inr lt) same = lt
 
-    go : (b : Bool) → bytes_eq r.id id ≡ b → is_given id (r ∷ rs) ≡ true → (is_given id rs ≡ true → is_some (first_of id rs) ≡ true) → is_some (first_of id (r ∷ rs)) ≡ true
+    go : (b : Bool) → bytes_eq r.id id ≡ b → is_given id (r ∷ rs) ≡ true → (is_given id rs ≡ true → is_some (first_of id rs) ≡ true)
+        → is_some (first_of id (r ∷ rs)) ≡ true
     go true here e later = rw here (first r.values (filled full.0 ((bytes_eq-Decides r.id id).0 here)))
     go false here e later = rw here (later (rw here at e))
 
@@ -58,7 +61,8 @@ required_there [] rows plain full e = refl
 required_there (a ∷ rest) rows plain full e =
     go a.required (is_given a.id rows) refl refl e (required_there rest rows (both (is_plain_rule a) _ plain).1 full)
   where
-    go : (b g : Bool) → a.required ≡ b → is_given a.id rows ≡ g → ((b && not g) || list_any (λ a. a.required && not (is_given a.id rows)) rest) ≡ false
+    go : (b g : Bool) → a.required ≡ b
+        → is_given a.id rows ≡ g → ((b && not g) || list_any (λ a. a.required && not (is_given a.id rows)) rest) ≡ false
         → (list_any (λ a. a.required && not (is_given a.id rows)) rest ≡ false → has_required rest rows ≡ true)
         → ((not b || is_some (first_of a.id rows)) && has_required rest rows) ≡ true
     go false g required given e later = later e

@@ -1,5 +1,6 @@
 -- The texts behind references that may be missing.
-use Rattle.std.proofs.Common.{◌≡◌, ◌∙◌, ◌||◌, ℕ, Bool, true, false, List, Option, Some, None, IsSome, is_some, option_map, refl, sym, subst, ap, ap₂, Bor, true≢false}
+use Rattle.std.proofs.Common.{◌≡◌, ◌∙◌, ◌||◌, ℕ, Bool, true, false, List, Option, Some, None, IsSome, is_some, option_map, refl, sym, subst}
+use Rattle.std.proofs.Common.{ap, ap₂, Bor, true≢false}
 use Rattle.std.specs.Prelude.{Box}
 use Rattle.std.specs.Box.{box_value}
 use Rattle.std.specs.declared.alloc.Global.{Global}
@@ -17,7 +18,8 @@ pub some_of : (o : Option (Bor Text)) (t : Option Text) → option_map (λ (s : 
 some_of None t e there = absurd (true≢false (sym there ∙ ap is_some (sym e)))
 some_of (Some s) t e there = refl
 
-pub text_of_some : (o : Option (Bor Text)) (r : Bor Text) (t : Option Text) → o ≡ Some r → option_map (λ (s : Bor Text). s.now) o ≡ t → t ≡ Some r.now
+pub text_of_some : (o : Option (Bor Text)) (r : Bor Text) (t : Option Text) → o ≡ Some r → option_map (λ (s : Bor Text). s.now) o ≡ t
+    → t ≡ Some r.now
 text_of_some o r t e f = sym f ∙ ap (option_map (λ (s : Bor Text). s.now)) e
 
 pub or_false : (a b : Bool) → b ≡ false → (a || b) ≡ a
@@ -58,4 +60,5 @@ pub verbose_told : (new long short flag told : Arg) (name text : Bor Text) (lett
     → rule_of new ≡ new_rule verbose_id → name.now ≡ verbose_id → letter ≡ 118 → rule_of told ≡ verbose_rule
 verbose_told new long short flag told name text letter e f g h is id v =
     ap rule_of h ∙ (ap rule_of g ∙ ap (λ (a : Rule). record a { action = Some SetTrue }) (ap rule_of f
-    ∙ ap₂ (λ (a : Rule) (c : ℕ). record a { short = Some c }) (ap rule_of e ∙ ap₂ (λ (a : Rule) (t : Text). record a { long = Some t }) is id) v))
+    ∙ ap₂ (λ (a : Rule) (c : ℕ). record a { short = Some c })
+    (ap rule_of e ∙ ap₂ (λ (a : Rule) (t : Text). record a { long = Some t }) is id) v))

@@ -1,15 +1,18 @@
 -- The words of the program, as a simple command of `clap`, and the command that they name.
-use Rattle.std.specs.Prelude.{◌≡◌, ◌⊎◌, ⊤, List, [], Bool, true, false, Option, Some, None, codes, is_some, option_and_then, option_map, ◌∷◌, ◌||◌, if◌then◌else◌}
+use Rattle.std.specs.Prelude.{◌≡◌, ◌⊎◌, ⊤, List, [], Bool, true, false, Option, Some, None, codes, is_some, option_and_then, option_map}
+use Rattle.std.specs.Prelude.{◌∷◌, ◌||◌, if◌then◌else◌}
 use Rattle.std.specs.Option.{option_map_or}
 use Rattle.std.specs.Str.{bytes_eq}
-use Rattle.clap.specs.Words.{App, Kinds, Row, Rule, Shape, Text, fault_of, first_of, new_app, new_rule, subcommand_of, with_rule, with_subcommand}
+use Rattle.clap.specs.Words.{App, Kinds, Row, Rule, Shape, Text, fault_of, first_of, new_app, new_rule, subcommand_of, with_rule}
+use Rattle.clap.specs.Words.{with_subcommand}
 use Rattle.clap.specs.Kinds.{or_else}
 use Rattle.clap.specs.declared.builder.action.ArgAction.TheVariants.{SetTrue}
 use Rattle.clap.specs.declared.error.kind.ErrorKind.TheVariants.{InvalidValue}
 use Rattle.nl_words.specs.declared.version.AskedVersion.{AskedVersion}
 use Rattle.nl_words.specs.declared.version.AskedVersion.TheVariants.{Auto, Five, Six, Seven}
 use Rattle.nl_words.specs.declared.command_line.Words.{Words}
-use Rattle.nl_words.specs.declared.command_line.Words.TheVariants.{Show, Check, Hash, Entries, Damage, HashFile, Record, Recompact, Restat, Repair, Replay, Apply}
+use Rattle.nl_words.specs.declared.command_line.Words.TheVariants.{Show, Check, Hash, Entries, Damage, HashFile, Record, Recompact, Restat}
+use Rattle.nl_words.specs.declared.command_line.Words.TheVariants.{Repair, Replay, Apply}
 use Rattle.std.specs.Borrow.{Bor}
 
 -- a value that stands by its place
@@ -180,7 +183,8 @@ version_text Seven = codes "7"
 version_text Auto = codes "auto"
 
 abbrev pub is_version_text : Text → Bool
-is_version_text text = bytes_eq text (codes "5") || (bytes_eq text (codes "6") || (bytes_eq text (codes "7") || bytes_eq text (codes "auto")))
+is_version_text text =
+    bytes_eq text (codes "5") || (bytes_eq text (codes "6") || (bytes_eq text (codes "7") || bytes_eq text (codes "auto")))
 
 -- the value of the option, where the command that was entered was given it
 abbrev pub asked_text : Option (Text × List Row) → Option Text

@@ -57,9 +57,12 @@ pub struct CommandLine<'a> {
 ///
 /// Help and the version of the program are an `Err` too: its text is what was asked for.
 pub fn read_words<'a>(alloc: Global, words: &'a [String]) -> Result<CommandLine<'a>, Error>
-    ensures value { IfOk result (λ line. IsSaid line.words (subcommand_of nlog (map string_bytes words.entry.now))) }
-    ensures version { IfOk result (λ line. IsAsked line.version (asked_text (subcommand_of nlog (map string_bytes words.entry.now)))) }
-    ensures verbose { IfOk result (λ line. line.verbose ≡ asks_reason (subcommand_of nlog (map string_bytes words.entry.now))) }
+    ensures value { IfOk result
+        (λ line. IsSaid line.words (subcommand_of nlog (map string_bytes words.entry.now))) }
+    ensures version { IfOk result (λ line.
+        IsAsked line.version (asked_text (subcommand_of nlog (map string_bytes words.entry.now)))) }
+    ensures verbose { IfOk result (λ line.
+        line.verbose ≡ asks_reason (subcommand_of nlog (map string_bytes words.entry.now))) }
     ensures accepts { FailsBy (fault_in (map string_bytes words.entry.now)) result }
 {
     let matches = nlog_command(alloc)?.try_get_matches_from(words)?;
@@ -86,7 +89,8 @@ fn is_verbose(matches: &ArgMatches<'_>) -> bool
 
 // The version that is asked for, where one is.
 fn asked<'a>(alloc: Global, matches: &ArgMatches<'a>) -> Result<Option<AskedVersion>, Error>
-    ensures value { IfOk result (λ version. IsAsked version (asked_text (subcommand_rows_of matches.now))) }
+    ensures value { IfOk result
+        (λ version. IsAsked version (asked_text (subcommand_rows_of matches.now))) }
     ensures accepts { FailsBy (version_fault (asked_text (subcommand_rows_of matches.now))) result }
 {
     let Some((_, inner)) = matches.subcommand() else {

@@ -28,8 +28,10 @@ fn with_value<'a>(
     required: bool,
     help: &'a str,
 ) -> Result<Command<'a>, AllocError>
-    ensures shape { IfOk result (λ c. app_of c ≡ with_rule (app_of command.entry) (positional id.entry.now required)) }
-    ensures local { IfOk result (λ c. (out-Command c).has_globals ≡ (out-Command command.entry).has_globals) }
+    ensures shape { IfOk result
+        (λ c. app_of c ≡ with_rule (app_of command.entry) (positional id.entry.now required)) }
+    ensures local { IfOk result
+        (λ c. (out-Command c).has_globals ≡ (out-Command command.entry).has_globals) }
 {
     command.arg(Arg::new(alloc, id).required(required).help(help))
 }
@@ -41,7 +43,8 @@ fn with_version<'a>(
     help: &'a str,
 ) -> Result<Command<'a>, AllocError>
     ensures shape { IfOk result (λ c. app_of c ≡ with_rule (app_of command.entry) version_rule) }
-    ensures local { IfOk result (λ c. (out-Command c).has_globals ≡ (out-Command command.entry).has_globals) }
+    ensures local { IfOk result
+        (λ c. (out-Command c).has_globals ≡ (out-Command command.entry).has_globals) }
 {
     let option = Arg::new(alloc, "log-version")
         .long("log-version")

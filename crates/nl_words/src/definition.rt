@@ -87,7 +87,8 @@ fn with_command<'a>(
     command: Command<'a>,
 ) -> Result<Command<'a>, AllocError>
     requires { (out-Command command).has_globals ≡ false }
-    ensures { IfOk result (λ c. app_of c ≡ with_command (app_of nlog.entry) (app_of command.entry)) }
+    ensures { IfOk result
+        (λ c. app_of c ≡ with_command (app_of nlog.entry) (app_of command.entry)) }
 {
     nlog.subcommand(with_verbose(alloc, command)?)
 }
@@ -95,7 +96,8 @@ fn with_command<'a>(
 // The command with the flag for the reason of a refusal.
 fn with_verbose<'a>(alloc: Global, command: Command<'a>) -> Result<Command<'a>, AllocError>
     ensures shape { IfOk result (λ c. app_of c ≡ with_rule (app_of command.entry) verbose_rule) }
-    ensures local { IfOk result (λ c. (out-Command c).has_globals ≡ (out-Command command.entry).has_globals) }
+    ensures local { IfOk result
+        (λ c. (out-Command c).has_globals ≡ (out-Command command.entry).has_globals) }
 {
     let flag = Arg::new(alloc, "verbose").long("verbose").short('v');
     let flag = flag.action(ArgAction::SetTrue);

@@ -41,7 +41,8 @@ returns-clause-kept c bytes text e =
     begin_as text bytes tests.0 ∙ ap (λ rest. bytes ++ rest) (sym (ap (λ n. drop n text) same) ∙ drop-length text) ∙ append-nil bytes
 
 pub returns-clause-appended : goal.returns-clause-appended
-returns-clause-appended c bytes text e = begin_as text bytes (appends (starts_with nat_eq text bytes) (length text == length bytes) (starts_with nat_eq bytes text) e)
+returns-clause-appended c bytes text e =
+    begin_as text bytes (appends (starts_with nat_eq text bytes) (length text == length bytes) (starts_with nat_eq bytes text) e)
 
 pub returns-clause-cut : goal.returns-clause-cut
 returns-clause-cut c bytes text e =

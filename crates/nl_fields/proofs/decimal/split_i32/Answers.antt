@@ -6,4 +6,5 @@ use Rattle.nl_fields.proofs.decimal.split_i32.Goals as goal
 pub returns-in_err-to_i32-clause-accepts : goal.returns-in_err-to_i32-clause-accepts
 returns-in_err-to_i32-clause-accepts c n rest fits begins =
     let same = same_decimal_begun begins c.in_ok-number.ensures.found in
-    absurd (c.in_err-to_i32.ensures (subst (λ (z : ℤ). FitsSigned w32 z) (same ∙ sym (to_z-of_z w64 c.in_ok-number.number (search rules))) fits))
+    absurd
+    (c.in_err-to_i32.ensures (subst (λ (z : ℤ). FitsSigned w32 z) (same ∙ sym (to_z-of_z w64 c.in_ok-number.number (search rules))) fits))

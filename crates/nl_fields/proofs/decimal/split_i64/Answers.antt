@@ -29,7 +29,8 @@ returns-in_ok-checked_sub_unsigned-clause-found c =
     let answer = c.in_ok-checked_sub_unsigned.ensures in
     let minus = c.in_ok-first.ensures.cases.0 ∙ ap (λ (x : ℕ). x ∷ c.in_ok-first.digits.now) c.if-first-eq45.true in
     let fits = subst (λ (z : ℤ). FitsSigned w64 z) (sym answer.1) answer.0 in
-    rw (to_z-of_z w64 _ fits) (minus_begins _ _ _ _ _ minus (omega (arith, c.if-magnitude-eq0.false)) answer.1 c.in_ok-magnitude.ensures.found)
+    rw (to_z-of_z w64 _ fits)
+    (minus_begins _ _ _ _ _ minus (omega (arith, c.if-magnitude-eq0.false)) answer.1 c.in_ok-magnitude.ensures.found)
 
 pub returns-in_err-magnitude-2-clause-accepts : goal.returns-in_err-magnitude-2-clause-accepts
 returns-in_err-magnitude-2-clause-accepts c n rest fits begins =

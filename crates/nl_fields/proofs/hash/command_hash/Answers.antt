@@ -11,8 +11,10 @@ loop-group-init c = xor_is seed c.times-hash.result (omega arith) (search rules)
 pub returns-clause-hash : goal.returns-clause-hash
 returns-clause-hash c =
     let whole : c.loop-group.hash ≡ fold with_group (xor seed (times (length c.args.command.now))) c.as_chunks.result.0.now =
-    c.loop-group.invariant ∙ ap (fold with_group (xor seed (times (length c.args.command.now)))) (take_all c.loop-group.group-index c.as_chunks.result.0.now c.loop-group-test.false) in
-    hash_is c.args.command.now c.as_chunks.result.0.now c.as_chunks.result.1.now _ _ _ _ _ c.as_chunks.ensures.front c.as_chunks.ensures.back c.as_chunks.ensures.back_len whole c.with_rest.ensures c.mixed.ensures c.times.ensures c.mixed-2.ensures
+    c.loop-group.invariant ∙ ap (fold with_group (xor seed (times (length c.args.command.now))))
+    (take_all c.loop-group.group-index c.as_chunks.result.0.now c.loop-group-test.false) in
+    hash_is c.args.command.now c.as_chunks.result.0.now c.as_chunks.result.1.now _ _ _ _ _ c.as_chunks.ensures.front
+    c.as_chunks.ensures.back c.as_chunks.ensures.back_len whole c.with_rest.ensures c.mixed.ensures c.times.ensures c.mixed-2.ensures
 
 pub returns-clause-value : goal.returns-clause-value
 returns-clause-value c = is_hash_of c.args.command.now _ (returns-clause-hash c)

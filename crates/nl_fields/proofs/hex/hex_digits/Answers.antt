@@ -14,8 +14,10 @@ loop-left-preserved c =
       omega arith,
       room.1,
       rw (written_more c.loop-left.digits c.loop-left.start _ room.0 (omega arith))
-          (Completes-more c.args.number c.loop-left.left _ _ c.loop-left.invariant.3 c.loop-left-test.true c.hex_digit-in-loop-left.ensures),
+          (Completes-more c.args.number c.loop-left.left _ _ c.loop-left.invariant.3 c.loop-left-test.true
+          c.hex_digit-in-loop-left.ensures),
     )
 
 pub returns-clause-digits : goal.returns-clause-digits
-returns-clause-digits c = same_spelling (c.loop-left.invariant.3.done (omega arith)) (IsDigits-digits_of 16 c.args.number (omega arith) (search rules))
+returns-clause-digits c =
+    same_spelling (c.loop-left.invariant.3.done (omega arith)) (IsDigits-digits_of 16 c.args.number (omega arith) (search rules))

@@ -12,7 +12,8 @@ returns-in_err-at-clause-accepts c name rest is line =
 pub returns-then-bytes-at-ne9-clause-accepts : goal.returns-then-bytes-at-ne9-clause-accepts
 returns-then-bytes-at-ne9-clause-accepts c name rest is line =
     let same = same_Some _ _ (c.in_ok-at.ensures ∙ ends_there _ name rest is line) in
-    absurd (c.if-bytes-at-ne9.true (ap (λ (k : ℕ). get_or c.args.bytes.now k 0) same ∙ ap (λ (s : List ℕ). get_or s (length name) 0) line ∙ at_seam name 9 rest))
+    absurd (c.if-bytes-at-ne9.true
+    (ap (λ (k : ℕ). get_or c.args.bytes.now k 0) same ∙ ap (λ (s : List ℕ). get_or s (length name) 0) line ∙ at_seam name 9 rest))
 
 pub returns-then-at-eq0-clause-accepts : goal.returns-then-at-eq0-clause-accepts
 returns-then-at-eq0-clause-accepts c name rest is line =

@@ -5,4 +5,5 @@ use Rattle.nl_lines.proofs.PrefixLemmas.{prefix_of}
 use Rattle.nl_lines.proofs.laws.a_prefix_has_the_first_lines.Goals as goal
 
 pub returns : goal.returns
-returns c text prefix is = prefix_of (lines_of prefix) (lines_of (rest_of prefix ++ drop (length prefix) text)) (lines_of text) (prefix_lines text prefix is)
+returns c text prefix is =
+    prefix_of (lines_of prefix) (lines_of (rest_of prefix ++ drop (length prefix) text)) (lines_of text) (prefix_lines text prefix is)

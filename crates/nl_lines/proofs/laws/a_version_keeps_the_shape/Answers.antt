@@ -1,4 +1,5 @@
-use Rattle.nl_lines.proofs.VersionLemmas.{length-as_version_from, prefix-as_version, as_version-append, plain-as_version_from, lengths-as_version_from, whole_len-as_version}
+use Rattle.nl_lines.proofs.VersionLemmas.{length-as_version_from, prefix-as_version, as_version-append, plain-as_version_from}
+use Rattle.nl_lines.proofs.VersionLemmas.{lengths-as_version_from, whole_len-as_version}
 use Rattle.nl_lines.proofs.laws.a_version_keeps_the_shape.Goals as goal
 
 pub returns-clause-length : goal.returns-clause-length

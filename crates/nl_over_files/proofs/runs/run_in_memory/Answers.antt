@@ -23,11 +23,15 @@ begins_empty : (start : History) → history_of [] ≡ Some start → BeginsAt s
 begins_empty start reads = record { bytes = []; reads = reads; only = only_nothing }
 
 pub returns-clause-headline : goal.returns-clause-headline
-returns-clause-headline c = λ start reads. c.run_over_system.ensures.headline start (subst (λ (it : Model). BeginsAt start (Some (begun it))) (sym c.new.ensures.model) (begins_empty start reads))
+returns-clause-headline c = λ start reads. c.run_over_system.ensures.headline start
+    (subst (λ (it : Model). BeginsAt start (Some (begun it))) (sym c.new.ensures.model) (begins_empty start reads))
 
 pub returns-clause-run : goal.returns-clause-run
-returns-clause-run c = λ start reads. c.run_over_system.ensures.run start (subst (λ (it : Model). BeginsAt start (Some (begun it))) (sym c.new.ensures.model) (begins_empty start reads))
+returns-clause-run c = λ start reads. c.run_over_system.ensures.run start
+    (subst (λ (it : Model). BeginsAt start (Some (begun it))) (sym c.new.ensures.model) (begins_empty start reads))
 
 pub returns-clause-reopens : goal.returns-clause-reopens
 returns-clause-reopens c =
-    subst (λ (it : Model). IfOk c.run_over_system.result (λ r. OpensAtLast (zip c.args.events.now r.1.items) (Some (begun it)) (state_of r.0).disk)) c.new.ensures.model c.run_over_system.ensures.reopens
+    subst (λ (it : Model).
+    IfOk c.run_over_system.result (λ r. OpensAtLast (zip c.args.events.now r.1.items) (Some (begun it)) (state_of r.0).disk))
+    c.new.ensures.model c.run_over_system.ensures.reopens

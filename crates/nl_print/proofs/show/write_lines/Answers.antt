@@ -19,11 +19,14 @@ loop-place-preserved g c =
     elim c.match-at.branch [
       | in-Some+in_ok-make_room w ↦
           let line = line_of w.in-Some.entry ++ 10 ∷ [] in
-          let text : joined (map line_of (take (place + 1) table)) ≡ joined (map line_of (take place table)) ++ line = lines_more table place w.in-Some.entry (sym w.in-Some.ensures) in
-          let held : c.match-at.piece.items ≡ w.make_room.new.held.items ++ line = ap (λ (v : Vec ℕ Global). v.items) w.piece-is ∙ (rw w.unwrap.ensures at w.append_entry.ensures.ok) in (
+          let text : joined (map line_of (take (place + 1) table)) ≡ joined (map line_of (take place table)) ++ line =
+          lines_more table place w.in-Some.entry (sym w.in-Some.ensures) in
+          let held : c.match-at.piece.items ≡ w.make_room.new.held.items ++ line = ap (λ (v : Vec ℕ Global). v.items) w.piece-is
+          ∙ (rw w.unwrap.ensures at w.append_entry.ensures.ok) in (
             rw w.piece-is (omega (arith, w.in_ok-make_room.ensures.room, w.append_entry.ensures.capacity)),
             rw w.piece-is (omega (arith, c.loop-place.invariant.1, w.make_room.ensures.capacity, w.append_entry.ensures.capacity)),
-            rw (text, held, w.writer-is) (held_more _ _ _ _ line (moved_on _ _ _ _ _ _ c.loop-place.invariant.2 w.in_ok-make_room.ensures.moved)),
+            rw (text, held, w.writer-is)
+                (held_more _ _ _ _ line (moved_on _ _ _ _ _ _ c.loop-place.invariant.2 w.in_ok-make_room.ensures.moved)),
           )
       | in_default w ↦
           let there : place < length table = omega (arith, c.len-place-end.ensures.count) in

@@ -11,7 +11,8 @@ use Rattle.nl_print.proofs.versions.load_as.Goals as goal
 pub returns-in_err-loaded-clause-not_a_log : goal.returns-in_err-loaded-clause-not_a_log
 returns-in_err-loaded-clause-not_a_log g c refused =
     let known = g.R.Read.remaining c.args.reader in
-    let seen : IsErrOf c.from_residual.result fault.NotALog → IfSome (seen_bytes c.args.version known) (λ bs. log_of bs ≡ NotALog) = search rules in
+    let seen : IsErrOf c.from_residual.result fault.NotALog → IfSome (seen_bytes c.args.version known) (λ bs. log_of bs ≡ NotALog) =
+    search rules in
     not_a_log_as c.args.version known (seen refused)
 
 pub returns-then-loaded-ne5-clause-other_version : goal.returns-then-loaded-ne5-clause-other_version

@@ -11,5 +11,6 @@ loop-reply-preserved c =
     let i = c.loop-reply.reply-index in
     let there : i < length replies = omega arith in
     let more : flat_map reply_line (take (i + 1) replies) ≡ flat_map reply_line (take i replies) ++ reply_line (get_or replies i Done)
-    = ap (flat_map reply_line) (take_more replies i Done there) ∙ sym (flat_map_more reply_line [] (take i replies) (get_or replies i Done)) in
+    = ap (flat_map reply_line) (take_more replies i Done there)
+    ∙ sym (flat_map_more reply_line [] (take i replies) (get_or replies i Done)) in
     cc (c.in_ok-extend_from_slice.ensures.items, c.in_ok-line.ensures.ok)

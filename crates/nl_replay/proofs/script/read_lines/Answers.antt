@@ -6,7 +6,8 @@ use Rattle.nl_replay.proofs.script.read_lines.Goals as goal
 
 pub lines-init : goal.lines-init
 lines-init g c = record {
-  scripted = rw c.in_ok-lines.ensures.value (Scripted_none (g.S.Source.ahead c.args.source.now) c.new-script.result.events.items c.new-script.ensures);
+  scripted = rw c.in_ok-lines.ensures.value
+      (Scripted_none (g.S.Source.ahead c.args.source.now) c.new-script.result.events.items c.new-script.ensures);
   reading = rw c.in_ok-lines.ensures.value refl;
   from_one = omega arith;
   counted = omega arith;
@@ -17,7 +18,8 @@ pub returns-in-Some-Torn-clause-value : goal.returns-in-Some-Torn-clause-value
 returns-in-Some-Torn-clause-value g c =
     let h = rw (c.in_ok-line.was, c.in-Some-Torn.is, c.in-Some-Torn.field-0-is) at c.next.follows.holds-at-none in
     IfOk-weaker c.with_last.result _ _ (λ script says. Scripted_rest _ _ _ _ c.lines.invariant.scripted _ _ h.0 script.events.items h.1
-    (subst (TakesScriptLine c.lines.script.events.items script.events.items) (lent_whole h.0 c.in-Some-Torn.bytes.now h.5 says.0) says.1)) c.with_last.ensures.value
+    (subst (TakesScriptLine c.lines.script.events.items script.events.items) (lent_whole h.0 c.in-Some-Torn.bytes.now h.5 says.0) says.1))
+    c.with_last.ensures.value
 
 pub returns-in-None-clause-value : goal.returns-in-None-clause-value
 returns-in-None-clause-value g c =
@@ -31,7 +33,8 @@ pub lines-preserved : goal.lines-preserved
 lines-preserved g c =
     let h = rw (c.in_ok-line.was, c.in-Some-Whole.is, c.in-Some-Whole.field-0-is) at c.next.follows.holds-at-none in
     record {
-      scripted = Scripted_more _ _ _ _ c.lines.invariant.scripted _ _ c.in-Some-Whole.line.now c.take_line.new.script.events.items h.0 c.in_ok-take_line-in-Some-Whole.ensures.ok;
+      scripted = Scripted_more _ _ _ _ c.lines.invariant.scripted _ _ c.in-Some-Whole.line.now c.take_line.new.script.events.items h.0
+          c.in_ok-take_line-in-Some-Whole.ensures.ok;
       reading = h.0.is;
       from_one = omega arith;
       counted = omega (arith, c.lines.invariant.counted, h.0.position, length-append c.in-Some-Whole.line.now (10 ∷ []));

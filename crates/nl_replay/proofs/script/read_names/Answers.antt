@@ -9,7 +9,8 @@ use Rattle.nl_replay.proofs.script.read_names.Goals as goal
 pub returns-in_err-read-clause-accepts : goal.returns-in_err-read-clause-accepts
 returns-in_err-read-clause-accepts c = λ says.
     let left = subst (λ (r : Option (Bor (List ℕ))). SaysNames (behind_tab r)) c.in-Some.is (c.names.invariant.says says) in
-    let more = names_more c.in-Some.text.now c.split_tab.result.0.now c.split_tab.result.1 c.split_tab.ensures.line c.split_tab.ensures.plain left in
+    let more = names_more c.in-Some.text.now c.split_tab.result.0.now c.split_tab.result.1 c.split_tab.ensures.line
+    c.split_tab.ensures.plain left in
     memory_alone c.from_residual.result c.split_tab.result.0.now _ c.from_residual.ensures.1 c.in_err-read.ensures.fault more.0
 
 pub names-preserved : goal.names-preserved
@@ -17,5 +18,6 @@ names-preserved c = record {
   line = grind (arith, common_steps);
   says = λ says.
       let left = subst (λ (r : Option (Bor (List ℕ))). SaysNames (behind_tab r)) c.in-Some.is (c.names.invariant.says says) in
-      (names_more c.in-Some.text.now c.split_tab.result.0.now c.split_tab.result.1 c.split_tab.ensures.line c.split_tab.ensures.plain left).1;
+      (names_more c.in-Some.text.now c.split_tab.result.0.now c.split_tab.result.1 c.split_tab.ensures.line
+      c.split_tab.ensures.plain left).1;
 }

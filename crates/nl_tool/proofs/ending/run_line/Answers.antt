@@ -7,12 +7,14 @@ use Rattle.nl_tool.proofs.ending.run_line.Goals as goal
 pub returns-in-Ok-clause-status : goal.returns-in-Ok-clause-status
 returns-in-Ok-clause-status g c =
     let line = map string_bytes c.args.line.now in
-    command_ended (fault_in line) c.in-Ok.said.words (subcommand_of nlog line) c.run_noted-answer.result c.end.result c.in-Ok.ensures.accepts c.in-Ok.ensures.value c.run_noted-answer.ensures.damaged c.end.ensures.status
+    command_ended (fault_in line) c.in-Ok.said.words (subcommand_of nlog line) c.run_noted-answer.result c.end.result
+    c.in-Ok.ensures.accepts c.in-Ok.ensures.value c.run_noted-answer.ensures.damaged c.end.ensures.status
 
 pub returns-in-Err : goal.returns-in-Err
 returns-in-Err g c =
     let line = map string_bytes c.args.line.now in
     record {
-      status = IsStatusBy_kind (fault_in line) (subcommand_of nlog line) c.in-Err.error c.explain.result c.in-Err.ensures.accepts c.explain.ensures.status;
+      status = IsStatusBy_kind (fault_in line)
+          (subcommand_of nlog line) c.in-Err.error c.explain.result c.in-Err.ensures.accepts c.explain.ensures.status;
       bound = omega (arith, c.explain.ensures.bound);
     }

@@ -6,4 +6,5 @@ use Rattle.nl_tool.proofs.version_choice.chosen_in.Goals as goal
 
 pub returns-in-Auto-clause-version : goal.returns-in-Auto-clause-version
 returns-in-Auto-clause-version g c d old =
-    subst (λ (asked : AskedVersion). IfOk c.version_in.result.1 (λ version. version ≡ chosen asked d.visible)) (sym c.in-Auto.is) (c.version_in.ensures.version d old)
+    subst (λ (asked : AskedVersion). IfOk c.version_in.result.1 (λ version. version ≡ chosen asked d.visible)) (sym c.in-Auto.is)
+    (c.version_in.ensures.version d old)

@@ -10,7 +10,8 @@ said-requires c =
     let words = map string_bytes c.args.words.now in
     let is_nlog : app_of c.in_ok-nlog_command.field-0 ≡ nlog = c.in_ok-nlog_command.ensures in
     let e = (c.in_ok-matches.ensures.matches (ap is_simple is_nlog ∙ nlog_is_simple)).1 ∙ ap (λ (a : App). subcommand_of a words) is_nlog in
-    let free = sym (ap (λ (a : App). fault_of a words) is_nlog) ∙ c.in_ok-matches.ensures.kinds (ap is_simple_and_free is_nlog ∙ nlog_is_free) in
+    let free = sym (ap (λ (a : App). fault_of a words) is_nlog)
+    ∙ c.in_ok-matches.ensures.kinds (ap is_simple_and_free is_nlog ∙ nlog_is_free) in
     subst IsWhole (sym e) (nlog_whole words free)
 
 pub returns-in_err-matches-clause-accepts : goal.returns-in_err-matches-clause-accepts
@@ -19,8 +20,8 @@ returns-in_err-matches-clause-accepts c =
     let is_nlog : app_of c.in_ok-nlog_command.field-0 ≡ nlog = c.in_ok-nlog_command.ensures in
     let error = c.in_err-matches.field-0.0 in
     let k = c.in_err-matches.ensures.kinds (ap is_simple_and_free is_nlog ∙ nlog_is_free) in
-    let first : HasKind (fault_in words) error = first_kind (fault_of nlog words) (version_fault (asked_text (subcommand_of nlog words))) error
-    (subst (λ (a : App). HasKind (fault_of a words) error) is_nlog k) in
+    let first : HasKind (fault_in words) error = first_kind (fault_of nlog words)
+    (version_fault (asked_text (subcommand_of nlog words))) error (subst (λ (a : App). HasKind (fault_of a words) error) is_nlog k) in
     fails_on _ error (fault_in words) c.from_residual-in_err-matches.ensures.1 first
 
 pub returns-in_err-version-clause-accepts : goal.returns-in_err-version-clause-accepts
@@ -28,10 +29,13 @@ returns-in_err-version-clause-accepts c =
     let words = map string_bytes c.args.words.now in
     let is_nlog : app_of c.in_ok-nlog_command.field-0 ≡ nlog = c.in_ok-nlog_command.ensures in
     let e = (c.in_ok-matches.ensures.matches (ap is_simple is_nlog ∙ nlog_is_simple)).1 ∙ ap (λ (a : App). subcommand_of a words) is_nlog in
-    let free = sym (ap (λ (a : App). fault_of a words) is_nlog) ∙ c.in_ok-matches.ensures.kinds (ap is_simple_and_free is_nlog ∙ nlog_is_free) in
+    let free = sym (ap (λ (a : App). fault_of a words) is_nlog)
+    ∙ c.in_ok-matches.ensures.kinds (ap is_simple_and_free is_nlog ∙ nlog_is_free) in
     let error = c.in_err-version.field-0.0 in
-    let second : HasKind (fault_in words) error = second_kind (fault_of nlog words) (version_fault (asked_text (subcommand_of nlog words))) error free
-    (subst (λ (entered : Option (Text × List Row)). HasKind (version_fault (asked_text entered)) error) e c.in_err-version.ensures.accepts) in
+    let second : HasKind (fault_in words) error = second_kind (fault_of nlog words)
+    (version_fault (asked_text (subcommand_of nlog words))) error free
+    (subst (λ (entered : Option (Text × List Row)). HasKind (version_fault (asked_text entered)) error) e
+    c.in_err-version.ensures.accepts) in
     fails_on _ error (fault_in words) c.from_residual-in_err-version.ensures.1 second
 
 pub returns-clause-value : goal.returns-clause-value
@@ -53,7 +57,8 @@ returns-clause-accepts c =
     let words = map string_bytes c.args.words.now in
     let is_nlog : app_of c.in_ok-nlog_command.field-0 ≡ nlog = c.in_ok-nlog_command.ensures in
     let e = (c.in_ok-matches.ensures.matches (ap is_simple is_nlog ∙ nlog_is_simple)).1 ∙ ap (λ (a : App). subcommand_of a words) is_nlog in
-    let free = sym (ap (λ (a : App). fault_of a words) is_nlog) ∙ c.in_ok-matches.ensures.kinds (ap is_simple_and_free is_nlog ∙ nlog_is_free) in
+    let free = sym (ap (λ (a : App). fault_of a words) is_nlog)
+    ∙ c.in_ok-matches.ensures.kinds (ap is_simple_and_free is_nlog ∙ nlog_is_free) in
     no_kind (fault_of nlog words) (version_fault (asked_text (subcommand_of nlog words))) free
     (sym (ap (λ (entered : Option (Text × List Row)). version_fault (asked_text entered)) e) ∙ c.in_ok-version.ensures.accepts)
 

@@ -7,7 +7,8 @@ use Rattle.nl_words.proofs.definition.with_verbose.Goals as goal
 pub returns-clause-shape : goal.returns-clause-shape
 returns-clause-shape c =
     let local : c.help.result.global ≡ false = search rules in
-    let is = verbose_told c.new.result c.long.result c.short-flag.result c.action-flag.result c.help.result _ _ _ c.long.ensures c.short-flag.ensures c.action-flag.ensures c.help.ensures c.new.ensures.rule refl refl in
+    let is = verbose_told c.new.result c.long.result c.short-flag.result c.action-flag.result c.help.result _ _ _ c.long.ensures
+    c.short-flag.ensures c.action-flag.ensures c.help.ensures c.new.ensures.rule refl refl in
     IfOk-weaker c.arg.result _ _ (λ r h. h.shape local ∙ ap (with_rule (app_of c.args.command)) is) c.arg.ensures
 
 pub returns-clause-local : goal.returns-clause-local

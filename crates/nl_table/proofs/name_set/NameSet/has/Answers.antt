@@ -4,4 +4,5 @@ use Rattle.nl_table.proofs.NameSetLemmas.{found_in}
 use Rattle.nl_table.proofs.name_set.NameSet.has.Goals as goal
 
 pub returns : goal.returns
-returns c = c.contains.ensures ∙ found_in c.self.inside.names.keys c.args.name.now ∙ ap (λ names. holds names c.args.name.now) c.self.view_is
+returns c =
+    c.contains.ensures ∙ found_in c.self.inside.names.keys c.args.name.now ∙ ap (λ names. holds names c.args.name.now) c.self.view_is
