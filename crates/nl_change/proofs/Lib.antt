@@ -3,6 +3,7 @@ pub mod ChangeLemmas
 mod KeepLemmas
 mod TimesLemmas
 mod DamageLawLemmas
+mod ReadLemmas
 mod RepairLemmas
 mod SeenLemmas
 mod ApplyLemmas

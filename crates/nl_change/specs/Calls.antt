@@ -29,7 +29,7 @@ use Rattle.nl_session.specs.View.{StandsAt, View}
 use Rattle.nl_print.specs.Versions.{is_barred}
 use Rattle.nl_texts.specs.Files.{OfBytes}
 use Rattle.nl_texts.specs.declared.fault.ToolFault.{ToolFault}
-use Rattle.nl_texts.specs.declared.fault.ToolFault.TheVariants.{BadLine, Folder, NegativeTime, NotALog, OtherVersion}
+use Rattle.nl_texts.specs.declared.fault.ToolFault.TheVariants.{BadLine, Folder, NegativeTime, NotALog, OtherVersion, Read}
 use Rattle.nl_change.specs.Faults.{IsChangeFault, IsChangeRefusal, IsFileFault, IsNoLogFault}
 use Rattle.nl_change.specs.Files.{BadAt, FileReading}
 use Rattle.nl_change.specs.Updates.{AsSaid, Changes, HasTable, IsOpenLeft, IsRepaired, IsUnmade, IsUpdated, Leaves, OfAllFound}
@@ -156,6 +156,33 @@ pub record IsUnread {T F : Type 0} (reading : List ℕ → FileReading T) (known
 abbrev pub ReadsFirst : {T F : Type 0} → (List ℕ → FileReading T) → Option (List ℕ) → (List T → Type 0) → Result (Unit {0}) ToolFault
     → F → F → Type 0
 ReadsFirst reading known Holds result old new = IsUnread reading known result old new ⊎ AsSaid reading known Holds
+
+-- the log of a folder is changed by what a file says, which is read first
+abbrev pub ChangesAsRead : {T : Type 0} → (List ℕ → FileReading T) → (List T → Meaning) → Option (List ℕ) → Result (Unit {0}) ToolFault
+    → FolderView → FolderView → Type 0
+ChangesAsRead reading meaning known result old new =
+    ReadsFirst reading known (λ parts. ChangesLog (meaning parts) result old new) result old new
+
+-- what each answer then says: nothing was done, or it is of what the file says
+pub record SaysAsRead {T : Type 0} (reading : List ℕ → FileReading T) (meaning : List T → Meaning) (known : Option (List ℕ))
+    (result : Result (Unit {0}) ToolFault) (old new : FolderView) : Type 0 where
+  pub leaves : (start : History) → BeginsAt start old.disk
+      → (IsErr result × (new ≡ old)) ⊎ AsSaid reading known (λ parts. Leaves (meaning parts).update start result new.disk)
+  pub contents : (d : Disk) → old.disk ≡ Some d
+      → OnOk result (AsSaid reading known (λ parts. IsUpdated (meaning parts).bytes d.visible new.disk))
+  pub settled : OnOk result (IsTrue new.settled)
+  pub accepts : OnOk result (AsSaid reading known (λ parts. (index : ℕ) → ¬ IsFirstNegative (meaning parts).times index))
+  pub said : (IsErr result × (new ≡ old)) ⊎ AsSaid reading known (λ parts. Unit {0})
+  pub read : IsErrOf result Read → new ≡ old
+  pub bad_line : (number : ℕ) → IsErrOf result (BadLine number)
+      → OfBytes known (λ bytes. reading bytes ≡ BadAt number) × (new ≡ old)
+  pub negative_time : (index : ℕ) → IsErrOf result (NegativeTime index)
+      → AsSaid reading known (λ parts. IsFirstNegative (meaning parts).times index)
+  pub opened : (d : Disk) (index : ℕ) → old.disk ≡ Some d → IsErrOf result (NegativeTime index) → IsOpenLeft d new.disk
+  pub unmade : (d : Disk) → old.disk ≡ Some d → ¬ IsErrOf result Folder → OnErr result (IsUnmade d new.disk)
+  pub bytes : RefusesBytes log_of result old.disk
+  pub unchanged : IsErrAnd result IsNoLogFault → SameState (folder_state old) (folder_state new)
+  pub count : IsCounted result old.failures new.failures
 
 -- a repair: whatever is found has the table that was found before; on Ok the log is the text of that, which a repair leaves as it is
 pub record Repairs (result : Result (Unit {0}) ToolFault) (old new : Option Disk) : Type 0 where

@@ -1,8 +1,11 @@
-//! Laws of a repaired log and of one that is damaged, each the contract of a function that does nothing.
-ghost use Rattle.std.specs.Prelude.{◌≡◌, ◌↔◌, [], ℕ, List, Some};
+//! Laws of a repaired log, of one that is damaged, and of a change by a file, each the contract of a function that does nothing.
+ghost use Rattle.std.specs.Prelude.{◌≡◌, ◌↔◌, [], ℕ, List, Option, Some, Result};
 ghost use Rattle.nl_lines.specs.Split.{torn_len};
 ghost use Rattle.nl_table.specs.Log.{skipped_count};
 ghost use Rattle.nl_print.specs.Streams.{damaged};
+ghost use Rattle.nl_texts.specs.declared.fault.ToolFault.{ToolFault};
+ghost use Rattle.nl_change.specs.Calls.{ChangesAsRead, FolderView, SaysAsRead, keeping, touching};
+ghost use Rattle.nl_change.specs.Files.{keep_of, times_of};
 ghost use Rattle.nl_change.specs.Updates.{repaired};
 
 /// `damage` prints nothing of a log exactly where `check` counts no skipped line and no torn byte.
@@ -14,4 +17,20 @@ pub fn damage_is_what_check_counts()
 /// Of a log that a repair leaves as it is `damage` prints nothing.
 pub fn a_repaired_log_has_no_damage()
     ensures { (bytes : List ℕ) → repaired bytes ≡ Some bytes → damaged bytes ≡ Some [] }
+{}
+
+/// Where KEEP is read first, each answer of a change by it is of the names that it holds, or nothing was done.
+pub fn keep_is_read_first()
+    ensures { (known : Option (List ℕ)) (result : Result (Unit {0}) ToolFault)
+        (old new : FolderView)
+        → ChangesAsRead keep_of keeping known result old new
+        → SaysAsRead keep_of keeping known result old new }
+{}
+
+/// The same of TIMES and its pairs.
+pub fn times_are_read_first()
+    ensures { (known : Option (List ℕ)) (result : Result (Unit {0}) ToolFault)
+        (old new : FolderView)
+        → ChangesAsRead times_of touching known result old new
+        → SaysAsRead times_of touching known result old new }
 {}
