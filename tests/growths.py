@@ -38,6 +38,7 @@ ENDS = {
     "lines::a_line_takes_no_memory": (NONE, 2),
     "table::a_refused_put_leaves_the_table_and_gives_the_entry_back": (REFUSED, 8),
     "table::a_refused_edge_leaves_the_table": (REFUSED, 20),
+    "table::names_that_were_refused_are_a_set": (REFUSED, 4),
     "table::a_log_that_was_refused_is_loaded": (REFUSED, 8),
     "table::a_log_of_version_4_that_was_refused_is_loaded": (REFUSED, 8),
     "opening::an_empty_log_that_was_refused_is_opened": (BOTH, 4),
