@@ -5,45 +5,33 @@ pub use Rattle.std.proofs.Common.{append_assoc, length-drop, ℤ, get_or, map, a
 pub use Rattle.std.proofs.Common.{pos, ◌≤ℤ◌, ◌<ℤ◌, SFits, to_z, of_z, vec_capacity, rules, ◌-◌, Vec, Global}
 pub use Rattle.std.proofs.Math.Seq.{take-add, drop-append_seam, take-append_seam}
 pub use Rattle.std.proofs.lemmas.Bool.{cases_Bool, cond-true, cond-false, or_parts, cases_eq, eq-eqb, ne_eqb, cases_lt, and_right, le-ltb}
-pub use Rattle.std.proofs.lemmas.Bool.{ltb-false}
-pub use Rattle.std.proofs.lemmas.Int.{ints, to_z-of_z}
+pub use Rattle.std.proofs.lemmas.{Bool.ltb-false, Int.ints, Int.to_z-of_z, List.nil_from_length, Result.on_err_weaker}
 pub use Rattle.std.proofs.lemmas.List.{take_all, map-append, take_more, take-append-le, take-take, length-take-le, take_rest}
-pub use Rattle.std.proofs.lemmas.List.{nil_from_length}
 pub use Rattle.std.proofs.lemmas.List.Elements.{All-more, All-nil, All-cons}
 pub use Rattle.std.proofs.lemmas.Option.{IfSome_then, slice_get_within, get_or_from_slice_get, slice_get_read}
-pub use Rattle.std.proofs.lemmas.Result.{on_err_weaker}
-pub use Rattle.std.specs.Int.{w32}
-pub use Rattle.std.specs.List.{take-map, AllByRecursion}
+pub use Rattle.std.specs.{Int.w32, List.take-map, List.AllByRecursion, Prelude.IfErr, Prelude.nat_lt}
 pub use Rattle.std.specs.Prelude.{Result, Ok, Err, All, IsSome, IsSomeAnd, IfSome, option_map, OnErr, IsTrue, IsErrOf, OnOk, slice_get}
-pub use Rattle.std.specs.Prelude.{IfErr, nat_lt}
 pub use mir.Syntax.{w64}
 pub use Rattle.nl_fields.proofs.HeaderLemmas.{version_five-plain}
-pub use Rattle.nl_fields.specs.EntryLine.{IsEntry, line_of}
-pub use Rattle.nl_fields.specs.Header.{version_five, header_line}
-pub use Rattle.nl_fields.specs.Limits.{max_entry_line}
+pub use Rattle.nl_fields.specs.{EntryLine.IsEntry, EntryLine.line_of, Header.version_five, Header.header_line, Limits.max_entry_line}
 pub use Rattle.nl_fields.specs.declared.entry.Entry.{Entry}
 pub use Rattle.nl_lines.proofs.NewlineLemmas.{adds_no_line, keeps_lines, no_rest, take-whole_len, no_whole_line, ends_whole}
 pub use Rattle.nl_lines.proofs.NewlineLemmas.{prefix-whole_len, joined-ends}
 pub use Rattle.nl_lines.proofs.PrefixLemmas.{prefix_itself, prefix_nil, prefix_push, prefix_trans, prefix_take, plain_prefix, prefix_joins}
 pub use Rattle.nl_lines.proofs.PrefixLemmas.{prefix_more, prefix_of, prefix_length, prefix_split, line_prefix}
 pub use Rattle.nl_lines.proofs.SplitLemmas.{lines_of-plain, whole_len-torn_len}
-pub use Rattle.nl_lines.specs.Lines.{max_log}
-pub use Rattle.nl_lines.specs.Prefix.{IsPrefix}
-pub use Rattle.nl_lines.specs.Source.{FailedBetween}
+pub use Rattle.nl_lines.specs.{Lines.max_log, Prefix.IsPrefix, Source.FailedBetween}
 pub use Rattle.nl_lines.specs.Split.{NoNewline, joined, lines_of, whole_len, EndsInNewline, with_newline, torn_len}
 pub use Rattle.nl_table.proofs.HistoryLemmas.{counts-logged, table-enter, plus-push, table-forget, forgotten-dead, table-touch, logged-push}
-pub use Rattle.nl_table.proofs.HistoryLemmas.{dead_holds, plus-append}
+pub use Rattle.nl_table.proofs.{HistoryLemmas.dead_holds, HistoryLemmas.plus-append, LogLemmas.zero_after, LogLemmas.log_of-tail}
 pub use Rattle.nl_table.proofs.LoadedLemmas.{loaded_length, loaded_is_log, due_by_counts}
 pub use Rattle.nl_table.proofs.LogLemmas.{rest_is_header, log_of-header, log_of-cut, log_of-torn, log_of-line, log_of-version, plain_line}
-pub use Rattle.nl_table.proofs.LogLemmas.{zero_after, log_of-tail}
 pub use Rattle.nl_table.proofs.LogTextLemmas.{log_of-text, table-logged, text-ends}
 pub use Rattle.nl_table.proofs.NameLemmas.{distinct-table, named-forgotten, without_mtimes-touched}
 pub use Rattle.nl_table.proofs.ValidLemmas.{logged_valid, forget_valid}
-pub use Rattle.nl_table.specs.Due.{is_due, is_history_due}
+pub use Rattle.nl_table.specs.{Due.is_due, Due.is_history_due, Loading.IsLoadOf, LogText.text_of, LogText.lines_of_entries}
 pub use Rattle.nl_table.specs.History.{Update, History, Then, logged, table, plus, Enter, version, Forget, Touch, total, holds}
-pub use Rattle.nl_table.specs.Loading.{IsLoadOf}
 pub use Rattle.nl_table.specs.Log.{LogReading, Log, history_of_log, log_of, history_of}
-pub use Rattle.nl_table.specs.LogText.{text_of, lines_of_entries}
 pub use Rattle.nl_table.specs.LogUser.{dead_names, forget_dead, is_dead_by}
 pub use Rattle.nl_table.specs.Table.{AreDistinct, entry_names, entered, edge_entries, touched, entry_named, all_entered, without_mtimes}
 pub use Rattle.nl_table.specs.declared.loader.Loaded.{Loaded}
@@ -55,21 +43,19 @@ pub use Rattle.nl_folder.specs.CrashImages.{IsImageOf, IsDisk, IsImage, IsPrefix
 pub use Rattle.nl_folder.specs.DiskState.{Disk, at_rest, empty_file, File, durable_file}
 pub use Rattle.nl_session.specs.Answers.{HasCounted, Answered, Exchanged, events_of, replies_of, RunSoFar}
 pub use Rattle.nl_session.specs.Effects.{LeavesOk, LeavesFault, Leaves, Rewrites, RewriteFaults}
-pub use Rattle.nl_session.specs.Grows.{EndsClear, Grew}
+pub use Rattle.nl_session.specs.{Grows.EndsClear, Grows.Grew, View.View, View.view_of, Represents.Represents, Represents.Agrees}
 pub use Rattle.nl_session.specs.Headline.{Exchange, update_of, makes_durable, is_crash, is_kept, acknowledged, Holds, NoneClears, MayStand}
 pub use Rattle.nl_session.specs.Headline.{none, idle, stands, failed, lost, Headline}
 pub use Rattle.nl_session.specs.Machine.{CrashesNow, State, durable_at, Act, Records, Step, Run, AllRecorded, all_of, Opens, reply_of}
 pub use Rattle.nl_session.specs.Machine.{shown_of, opened, Recompacts, Restats, StepOk, StepFault, MayHaveGained, NoneNegative, pending_at}
-pub use Rattle.nl_session.specs.Machine.{Syncs, gained, moved_to, IsFirstNegative}
 pub use Rattle.nl_session.specs.Opened.{mended_bytes, living, opened_from, opened_bytes, IsLog, OpenedAs, OpensAs, Reopens, IsLogWith}
 pub use Rattle.nl_session.specs.Opened.{IsRewritten, IsTextFor, StaysAtRest, IsAtRest, IsTableOf}
 pub use Rattle.nl_session.specs.Parts.{OnlyScratch, filled, SwapFailed, Appended, IsLeft, RewriteFailed, rewritten, filling, repaired}
 pub use Rattle.nl_session.specs.Parts.{RepairFailed, OpenLeaves, OpenFaults, mended}
 pub use Rattle.nl_session.specs.Reopening.{Moved, IsCalm, Moves, IsTry, OpenedFrom}
-pub use Rattle.nl_session.specs.Represents.{Represents, Agrees, RepresentsPrefix}
+pub use Rattle.nl_session.specs.{Represents.RepresentsPrefix, Machine.Syncs, Machine.gained, Machine.moved_to, Machine.IsFirstNegative}
 pub use Rattle.nl_session.specs.Runs.{BeginsAt, HeadlineOn, act_of, faults_of, Ran, RestsThrough, OpensAtLast, TakesMemory}
 pub use Rattle.nl_session.specs.States.{IsAt, Goes, EdgeDone, EdgeFails, Carries, IsReady, RepresentsState}
-pub use Rattle.nl_session.specs.View.{View, view_of}
 pub use Rattle.nl_session.specs.declared.events.Event.{Event}
 pub use Rattle.nl_session.specs.declared.events.Event.TheVariants.{Open as OpenLog, Record, Sync, Recompact, Restat, Stop, Crash}
 pub use Rattle.nl_session.specs.declared.events.Reply.{Reply}
