@@ -9,6 +9,5 @@ pub mod AgainLemmas
 pub mod OpenLemmas
 pub mod TimesLemmas
 pub mod Stories
-pub mod Growing
 pub mod EffectLemmas
 pub mod RunLemmas
