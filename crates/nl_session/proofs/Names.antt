@@ -16,11 +16,10 @@ pub use Rattle.nl_fields.proofs.HeaderLemmas.{version_five-plain}
 pub use Rattle.nl_fields.specs.{EntryLine.IsEntry, EntryLine.line_of, Header.version_five, Header.header_line, Limits.max_entry_line}
 pub use Rattle.nl_fields.specs.declared.entry.Entry.{Entry}
 pub use Rattle.nl_lines.proofs.NewlineLemmas.{adds_no_line, keeps_lines, no_rest, take-whole_len, no_whole_line, ends_whole}
-pub use Rattle.nl_lines.proofs.NewlineLemmas.{prefix-whole_len, joined-ends}
 pub use Rattle.nl_lines.proofs.PrefixLemmas.{prefix_itself, prefix_nil, prefix_push, prefix_trans, prefix_take, plain_prefix, prefix_joins}
 pub use Rattle.nl_lines.proofs.PrefixLemmas.{prefix_more, prefix_of, prefix_length, prefix_split, line_prefix}
-pub use Rattle.nl_lines.proofs.SplitLemmas.{lines_of-plain, whole_len-torn_len}
-pub use Rattle.nl_lines.specs.{Lines.max_log, Prefix.IsPrefix, Source.FailedBetween}
+pub use Rattle.nl_lines.proofs.{NewlineLemmas.prefix-whole_len, NewlineLemmas.joined-ends, SplitLemmas.lines_of-plain}
+pub use Rattle.nl_lines.{specs.Lines.max_log, specs.Prefix.IsPrefix, specs.Source.FailedBetween, proofs.SplitLemmas.whole_len-torn_len}
 pub use Rattle.nl_lines.specs.Split.{NoNewline, joined, lines_of, whole_len, EndsInNewline, with_newline, torn_len}
 pub use Rattle.nl_table.proofs.HistoryLemmas.{counts-logged, table-enter, plus-push, table-forget, forgotten-dead, table-touch, logged-push}
 pub use Rattle.nl_table.proofs.{HistoryLemmas.dead_holds, HistoryLemmas.plus-append, LogLemmas.zero_after, LogLemmas.log_of-tail}
@@ -32,9 +31,8 @@ pub use Rattle.nl_table.proofs.ValidLemmas.{logged_valid, forget_valid}
 pub use Rattle.nl_table.specs.{Due.is_due, Due.is_history_due, Loading.IsLoadOf, LogText.text_of, LogText.lines_of_entries}
 pub use Rattle.nl_table.specs.History.{Update, History, Then, logged, table, plus, Enter, version, Forget, Touch, total, holds}
 pub use Rattle.nl_table.specs.Log.{LogReading, Log, history_of_log, log_of, history_of}
-pub use Rattle.nl_table.specs.LogUser.{dead_names, forget_dead, is_dead_by}
+pub use Rattle.nl_table.specs.{declared.loader.Loaded.Loaded, LogUser.dead_names, LogUser.forget_dead, LogUser.is_dead_by}
 pub use Rattle.nl_table.specs.Table.{AreDistinct, entry_names, entered, edge_entries, touched, entry_named, all_entered, without_mtimes}
-pub use Rattle.nl_table.specs.declared.loader.Loaded.{Loaded}
 pub use Rattle.nl_folder.proofs.ImageLemmas.{visible-IsImage, at_rest_unique, durable_unique, IsImage_fits, prefix-IsImageOf}
 pub use Rattle.nl_folder.proofs.ImageLemmas.{undurable-IsPrefixImageOf}
 pub use Rattle.nl_folder.specs.Calls.{log_cut, log_synced, log_grown, CutsSome, GrowsLog, SyncsLog, replaced, not_replaced, crashed}
@@ -56,12 +54,9 @@ pub use Rattle.nl_session.specs.Reopening.{Moved, IsCalm, Moves, IsTry, OpenedFr
 pub use Rattle.nl_session.specs.{Represents.RepresentsPrefix, Machine.Syncs, Machine.gained, Machine.moved_to, Machine.IsFirstNegative}
 pub use Rattle.nl_session.specs.Runs.{BeginsAt, HeadlineOn, act_of, faults_of, Ran, RestsThrough, OpensAtLast, TakesMemory}
 pub use Rattle.nl_session.specs.States.{IsAt, Goes, EdgeDone, EdgeFails, Carries, IsReady, RepresentsState}
-pub use Rattle.nl_session.specs.declared.events.Event.{Event}
+pub use Rattle.nl_session.specs.declared.{events.Event.Event, events.Reply.Reply, fault.LogFault.LogFault, state.LogState.LogState}
 pub use Rattle.nl_session.specs.declared.events.Event.TheVariants.{Open as OpenLog, Record, Sync, Recompact, Restat, Stop, Crash}
-pub use Rattle.nl_session.specs.declared.events.Reply.{Reply}
 pub use Rattle.nl_session.specs.declared.events.Reply.TheVariants.{Done, Refused}
-pub use Rattle.nl_session.specs.declared.fault.LogFault.{LogFault}
 pub use Rattle.nl_session.specs.declared.fault.LogFault.TheVariants.{Fault, NotOpen, Broken as BrokenLog, NegativeTime, OutOfMemory}
 pub use Rattle.nl_session.specs.declared.fault.LogFault.TheVariants.{OutOfMemory as NoMemory}
-pub use Rattle.nl_session.specs.declared.state.LogState.{LogState}
 pub use Rattle.nl_session.specs.declared.state.LogState.TheVariants.{Closed, Open, Broken as IsBroken}
