@@ -12,9 +12,8 @@ pub use Rattle.std.proofs.lemmas.Option.{IfSome_then, slice_get_within, get_or_f
 pub use Rattle.std.specs.{Int.w32, List.take-map, List.AllByRecursion, Prelude.IfErr, Prelude.nat_lt}
 pub use Rattle.std.specs.Prelude.{Result, Ok, Err, All, IsSome, IsSomeAnd, IfSome, option_map, OnErr, IsTrue, IsErrOf, OnOk, slice_get}
 pub use mir.Syntax.{w64}
-pub use Rattle.nl_fields.proofs.HeaderLemmas.{version_five-plain}
+pub use Rattle.nl_fields.{proofs.HeaderLemmas.version_five-plain, specs.declared.entry.Entry.Entry}
 pub use Rattle.nl_fields.specs.{EntryLine.IsEntry, EntryLine.line_of, Header.version_five, Header.header_line, Limits.max_entry_line}
-pub use Rattle.nl_fields.specs.declared.entry.Entry.{Entry}
 pub use Rattle.nl_lines.proofs.NewlineLemmas.{adds_no_line, keeps_lines, no_rest, take-whole_len, no_whole_line, ends_whole}
 pub use Rattle.nl_lines.proofs.PrefixLemmas.{prefix_itself, prefix_nil, prefix_push, prefix_trans, prefix_take, plain_prefix, prefix_joins}
 pub use Rattle.nl_lines.proofs.PrefixLemmas.{prefix_more, prefix_of, prefix_length, prefix_split, line_prefix}
@@ -39,7 +38,7 @@ pub use Rattle.nl_folder.specs.Calls.{log_cut, log_synced, log_grown, CutsSome, 
 pub use Rattle.nl_folder.specs.Calls.{Crashes, scratch_grown, scratch_synced, GrowsScratch, SyncsScratch}
 pub use Rattle.nl_folder.specs.CrashImages.{IsImageOf, IsDisk, IsImage, IsPrefixImageOf}
 pub use Rattle.nl_folder.specs.DiskState.{Disk, at_rest, empty_file, File, durable_file}
-pub use Rattle.nl_session.specs.Answers.{HasCounted, Answered, Exchanged, events_of, replies_of, RunSoFar}
+pub use Rattle.nl_session.specs.Answers.{HasCounted, Answered, Exchanged, events_of, replies_of, RunSoFar, RanTo}
 pub use Rattle.nl_session.specs.Effects.{LeavesOk, LeavesFault, Leaves, Rewrites, RewriteFaults}
 pub use Rattle.nl_session.specs.{Grows.EndsClear, Grows.Grew, View.View, View.view_of, Represents.Represents, Represents.Agrees}
 pub use Rattle.nl_session.specs.Headline.{Exchange, update_of, makes_durable, is_crash, is_kept, acknowledged, Holds, NoneClears, MayStand}
