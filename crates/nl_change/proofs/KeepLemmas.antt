@@ -5,7 +5,7 @@ use Rattle.std.specs.Result.{IsErrAnd}
 use Rattle.std.proofs.Math.Bool.{and-true}
 use Rattle.nl_fields.specs.declared.entry.Entry.{Entry}
 use Rattle.nl_table.specs.History.{holds}
-use Rattle.nl_table.specs.Table.{entry_named, entered, all_entered, edge_entries}
+use Rattle.nl_table.specs.Table.{entry_named, entered_table, all_entered_table, edge_entries}
 use Rattle.nl_table.proofs.NameLemmas.{bytes_eq_comm, named-entered}
 use Rattle.nl_texts.specs.Files.{OfBytes}
 use Rattle.nl_change.specs.Calls.{Meaning, dropping, keeping}

@@ -14,7 +14,7 @@ use Rattle.nl_table.specs.Log.{LogReading, log_of}
 use Rattle.nl_table.specs.Log as no_log
 use Rattle.nl_table.specs.LogText.{text_of}
 use Rattle.nl_table.specs.LogUser.{forget_dead}
-use Rattle.nl_table.specs.Table.{touched}
+use Rattle.nl_table.specs.Table.{touched_table}
 use Rattle.nl_folder.specs.DiskState.{Disk, FolderState, SameState}
 use Rattle.nl_folder.specs.Version.{seen_as_version}
 use Rattle.nl_folder.specs.declared.folder.Folder.{Ghosts}
@@ -82,20 +82,20 @@ keeping_all = dropping none_dead
 
 -- names get these mtimes, and the text of the table with them is the log
 abbrev pub touching : List (List ℕ × ℤ) → Meaning
-touching pairs = record { update = λ h. Touch pairs; bytes = λ es bs. text_of (touched pairs es); times = pairs }
+touching pairs = record { update = λ h. Touch pairs; bytes = λ es bs. text_of (touched_table pairs es); times = pairs }
 
 -- ---- an open log
 
 -- an open log is changed
 pub record Makes (m : Meaning) (result : Result (Unit {0}) LogFault) (old new : View) : Type 0 where
   pub stays_open : OnOk result (new.mode ≡ LogState.Open)
-  pub contents : (d : Disk) → old.disk ≡ Some d → OnOk result (IsSomeAnd new.disk (λ e. e.visible ≡ m.bytes old.held d.visible))
+  pub contents : (d : Disk) → old.disk ≡ Some d → OnOk result (IsSomeAnd new.disk (λ e. e.visible ≡ m.bytes old.table d.visible))
   pub refusals : IfErr result IsChangeRefusal
   pub negative_time : (index : ℕ) → IsErrOf result (refusal.NegativeTime index) → IsFirstNegative m.times index
   pub accepts : OnOk result ((index : ℕ) → ¬ IsFirstNegative m.times index)
   pub unchanged : ¬ IsErrOf result refusal.Fault → OnErr result (new.disk ≡ old.disk)
   pub count : log.IsCounted result old new
-  pub goes : (s : State) → StandsAt old s → Changes (m.update (all_of s)) result s new.disk new.settled new.mode new.held
+  pub goes : (s : State) → StandsAt old s → Changes (m.update (all_of s)) result s new.disk new.settled new.mode new.table
 
 -- ---- the log of a folder
 

@@ -9,7 +9,7 @@ use Rattle.nl_folder.specs.CrashImages.{IsImage}
 use Rattle.nl_session.specs.declared.fault.LogFault.{LogFault}
 use Rattle.nl_session.specs.declared.state.LogState.{LogState}
 use Rattle.nl_session.specs.declared.state.LogState.TheVariants.{Open}
-use Rattle.nl_session.specs.Machine.{State, MayHaveGained, all_of, durable_at, gained, opened}
+use Rattle.nl_session.specs.Machine.{State, MayHaveGained, all_of, durable_at, gained_state, history_opened}
 use Rattle.nl_session.specs.Opened.{IsLog, opened_bytes}
 use Rattle.nl_session.specs.Parts.{IsLeft}
 use Rattle.nl_session.specs.Represents.{Represents}
@@ -27,7 +27,7 @@ dead_but names name = not (holds names name)
 
 -- the history that an open leaves, which drops nothing
 abbrev pub opened_history : History → History
-opened_history h = opened none_dead h
+opened_history h = history_opened none_dead h
 
 -- that history and then the update, which depends on it
 abbrev pub updated : (History → Update) → History → History
@@ -84,12 +84,12 @@ pub record AsSaid {T : Type 0} (reading : List ℕ → FileReading T) (known : O
 
 -- where an open log goes by its answer to this update
 abbrev pub GoesBy : Update → Result Unit LogFault → State → State → Type 0
-GoesBy update (Ok done) s t = (t ≡ gained s update) ⊎ (t ≡ durable_at (Then (all_of s) update) Open)
+GoesBy update (Ok done) s t = (t ≡ gained_state s update) ⊎ (t ≡ durable_at (Then (all_of s) update) Open)
 GoesBy update (Err why) s t = (t ≡ s) ⊎ MayHaveGained s update t
 
 -- the log goes there from the state at which it was
 pub record Changes (update : Update) (result : Result Unit LogFault) (s : State) (disk : Option Disk) (settled : Bool) (mode : LogState)
-    (held : List Entry) : Type 0 where
+    (entries : List Entry) : Type 0 where
   pub next : State
   pub goes : GoesBy update result s next
-  pub at : IsAt disk settled mode held next
+  pub at : IsAt disk settled mode entries next

@@ -3,9 +3,9 @@ ghost use Rattle.std.specs.Prelude.{◌≡◌, ◌⊎◌, ◌≤◌, ◌++◌, �
 ghost use Rattle.nl_lines.specs.Lines.{max_log};
 ghost use Rattle.nl_lines.specs.Prefix.{IsPrefix};
 ghost use Rattle.nl_lines.specs.Split.{joined, lines_of};
-ghost use Rattle.nl_folder.specs.DiskState.{Disk, File, at_rest};
+ghost use Rattle.nl_folder.specs.DiskState.{Disk, File, durable_disk};
 ghost use Rattle.nl_folder.specs.CrashImages.{IsDisk, IsImage, IsImageOf, IsPrefixImage};
-ghost use Rattle.nl_folder.specs.Calls.{log_grown, log_cut, log_synced, replaced, not_replaced, AppendsLog, CutsLog, SyncsLog, AppendsScratch, SyncsScratch, Replaces, Crashes};
+ghost use Rattle.nl_folder.specs.Calls.{log_grown, log_cut, log_synced, replaced_disk, not_replaced_disk, AppendsLog, CutsLog, SyncsLog, AppendsScratch, SyncsScratch, Replaces, Crashes};
 ghost use Rattle.nl_folder.specs.declared.folder.Fault.{Fault};
 
 /// A crash may leave what a read gives.
@@ -55,7 +55,8 @@ pub fn a_prefix_image_after_an_append_is_an_old_one_or_goes_on()
 
 /// A log at rest is all that a crash may leave.
 pub fn a_log_at_rest_has_one_image()
-    ensures { (text bs : List ℕ) (scratch : File) → IsImage (at_rest text scratch) bs → bs ≡ text }
+    ensures { (text bs : List ℕ) (scratch : File) → IsImage (durable_disk text scratch) bs
+        → bs ≡ text }
 {}
 
 /// After a cut a prefix image is one from before, or a prefix of one from the cut on.
@@ -68,7 +69,7 @@ pub fn a_prefix_image_after_a_cut_has_the_bytes_before_it()
 /// After a replacement, and after one that failed, a crash may leave the scratch or the old log, each within its own lengths.
 pub fn a_replacement_leaves_either_file()
     ensures { (disk : Disk) (bs : List ℕ)
-        → IsImage (replaced disk) bs ⊎ IsImage (not_replaced disk) bs
+        → IsImage (replaced_disk disk) bs ⊎ IsImage (not_replaced_disk disk) bs
         → IsImageOf disk.scratch bs ⊎ IsImageOf disk.log bs }
 {}
 

@@ -13,7 +13,7 @@ use Rattle.nl_table.specs.History.{Began}
 use Rattle.nl_table.proofs.LogTextLemmas.{log_of-text}
 use Rattle.nl_table.proofs.TableLemmas.{table-plus}
 use Rattle.nl_table.proofs.ValidLemmas.{log_valid}
-use Rattle.nl_print.specs.Output.{shown, show_text}
+use Rattle.nl_print.specs.Output.{show_text_of, show_text}
 use Rattle.nl_lines.specs.Split.{joined, lines_of, rest_of, with_newline}
 use Rattle.nl_table.specs.Log.{LogReading, Log, NotALog, OtherVersion, entries_on, entry_by, entry_on, log_of}
 use Rattle.nl_table.specs.LogText.{lines_of_entries}
@@ -71,10 +71,10 @@ some_listed known w v so_far =
 
 -- the entries of a log, loaded again, are its table
 pub entries_shown : (bytes text : List ℕ) → listed bytes ≡ Some text → length (header_line ++ text) ≤ max_log
-    → shown (header_line ++ text) ≡ shown bytes
+    → show_text_of (header_line ++ text) ≡ show_text_of bytes
 entries_shown bytes text is fits = go (log_of bytes) refl is
   where
-    go : (r : LogReading) → log_of bytes ≡ r → listed_of r ≡ Some text → shown (header_line ++ text) ≡ show_text r
+    go : (r : LogReading) → log_of bytes ≡ r → listed_of r ≡ Some text → show_text_of (header_line ++ text) ≡ show_text r
     go OtherVersion reads none = absurd (cc none)
     go NotALog reads none = absurd (cc none)
     go (Log v es) reads some =

@@ -32,8 +32,8 @@ show_text (Log version entries) = Some (joined (map line_of (table (logged versi
 show_text OtherVersion = None
 show_text NotALog = None
 
-abbrev pub shown : List ℕ → Option (List ℕ)
-shown bytes = show_text (log_of bytes)
+abbrev pub show_text_of : List ℕ → Option (List ℕ)
+show_text_of bytes = show_text (log_of bytes)
 
 abbrev pub yes_or_no : Bool → List ℕ
 yes_or_no b = if b then codes "yes" else codes "no"

@@ -6,9 +6,9 @@ ghost use Rattle.nl_lines.specs.Split.{joined};
 ghost use Rattle.nl_table.specs.Log.{log_of, NotALog, OtherVersion};
 ghost use Rattle.nl_print.specs.Faults.{IsLogFault};
 ghost use Rattle.nl_texts.specs.Output.{AppendsPrefixOf, Prints};
-ghost use Rattle.nl_print.specs.Output.{IsTextAsRead, HoldsAllBut, shown};
-ghost use Rattle.nl_print.specs.Versions.{log_as, shown_as};
-ghost use Rattle.nl_print.specs.VersionOf.{as_five, shown_any};
+ghost use Rattle.nl_print.specs.Output.{IsTextAsRead, HoldsAllBut, show_text_of};
+ghost use Rattle.nl_print.specs.Versions.{log_as, show_text_as};
+ghost use Rattle.nl_print.specs.VersionOf.{as_five, show_text_of_any};
 ghost use Rattle.nl_texts.specs.declared.fault.ToolFault.{ToolFault};
 
 use crate::loading::load_all;
@@ -29,7 +29,7 @@ pub fn show_to<R: Read + Drop, W: Write>(
     reader: R,
     writer: &mut W,
 ) -> Result<(), ToolFault>
-    ensures prints { Prints (IsTextAsRead shown (R.remaining reader)) (W.contents writer.old)
+    ensures prints { Prints (IsTextAsRead show_text_of (R.remaining reader)) (W.contents writer.old)
         (W.contents writer.new) result }
     ensures not_a_log { IsErrOf result ToolFault.NotALog
         → IfSome (R.remaining reader) (λ bs. log_of bs ≡ NotALog) }
@@ -50,7 +50,7 @@ pub fn show_as<R: Read + Drop, W: Write>(
     reader: R,
     writer: &mut W,
 ) -> Result<(), ToolFault>
-    ensures prints { Prints (IsTextAsRead (shown_as version) (R.remaining reader))
+    ensures prints { Prints (IsTextAsRead (show_text_as version) (R.remaining reader))
         (W.contents writer.old) (W.contents writer.new) result }
     ensures not_a_log { IsErrOf result ToolFault.NotALog
         → IfSome (R.remaining reader) (λ bs. log_as version bs ≡ NotALog) }
@@ -69,7 +69,8 @@ pub fn show_any<R: Read + Drop, W: Write>(
     reader: R,
     writer: &mut W,
 ) -> Result<(), ToolFault>
-    ensures prints { Prints (IsTextAsRead shown_any (R.remaining reader)) (W.contents writer.old)
+    ensures prints { Prints (IsTextAsRead show_text_of_any (R.remaining reader))
+        (W.contents writer.old)
         (W.contents writer.new) result }
     ensures not_a_log { IsErrOf result ToolFault.NotALog
         → IfSome (R.remaining reader) (λ bs. log_of (as_five bs) ≡ NotALog) }

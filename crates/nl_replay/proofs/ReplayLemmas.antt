@@ -2,24 +2,24 @@
 use Rattle.std.proofs.Common.{◌≡◌, ℕ, List, [], Bool, length, refl, inl, inr, subst, sym}
 use Rattle.std.specs.Prelude.{Option, Some, zip}
 use Rattle.nl_table.specs.History.{History, Began}
-use Rattle.nl_folder.specs.DiskState.{Disk, at_rest, empty_file}
-use Rattle.nl_folder.proofs.ImageLemmas.{at_rest_unique}
+use Rattle.nl_folder.specs.DiskState.{Disk, durable_disk, empty_file}
+use Rattle.nl_folder.proofs.ImageLemmas.{durable_disk_unique}
 use Rattle.nl_session.specs.declared.events.Event.{Event}
 use Rattle.nl_session.specs.declared.events.Reply.{Reply}
 use Rattle.nl_session.specs.Runs.{BeginsAt, Ran, HeadlineOn, HadMemory}
 use Rattle.nl_replay.specs.Replay.{IsReplayOf, printed}
 
 -- an empty log that is at rest has the history of no entry
-pub begins_empty : BeginsAt (Began 5) (Some (at_rest [] empty_file))
+pub begins_empty : BeginsAt (Began 5) (Some (durable_disk [] empty_file))
 begins_empty = record {
   bytes = [];
   reads = refl;
-  only = λ c found. elim found [ inl same ↦ same | inr image ↦ at_rest_unique [] c empty_file image ];
+  only = λ c found. elim found [ inl same ↦ same | inr image ↦ durable_disk_unique [] c empty_file image ];
 }
 
 -- the text of a run over an empty log
 pub replayed : (events : List Event) (replies : List Reply) (old : Option Disk) (new : Disk) (settled : Bool) (text : List ℕ)
-    → old ≡ Some (at_rest [] empty_file) → ((start : History) → BeginsAt start old → HeadlineOn start (zip events replies) (Some new))
+    → old ≡ Some (durable_disk [] empty_file) → ((start : History) → BeginsAt start old → HeadlineOn start (zip events replies) (Some new))
     → ((start : History) → BeginsAt start old → Ran start events replies (Some new) settled)
     → length replies ≡ length events → HadMemory replies → text ≡ printed replies new.visible → IsReplayOf events text
 replayed events replies old new settled text empty headline run each memory is =

@@ -31,26 +31,31 @@ pub use Rattle.nl_table.specs.{Due.is_due, Due.is_history_due, Loading.IsLoadOf,
 pub use Rattle.nl_table.specs.History.{Update, History, Then, logged, table, plus, Enter, version, Forget, Touch, total, holds}
 pub use Rattle.nl_table.specs.Log.{LogReading, Log, history_of_log, log_of, history_of}
 pub use Rattle.nl_table.specs.{declared.loader.Loaded.Loaded, LogUser.dead_names, LogUser.forget_dead, LogUser.is_dead_by}
-pub use Rattle.nl_table.specs.Table.{AreDistinct, entry_names, entered, edge_entries, touched, entry_named, all_entered, without_mtimes}
-pub use Rattle.nl_folder.proofs.ImageLemmas.{visible-IsImage, at_rest_unique, durable_unique, IsImage_fits, prefix-IsImageOf}
+pub use Rattle.nl_table.specs.Table.{AreDistinct, entry_names, entered_table, edge_entries, touched_table, entry_named, all_entered_table}
+pub use Rattle.nl_table.specs.Table.{without_mtimes}
+pub use Rattle.nl_folder.proofs.ImageLemmas.{visible-IsImage, durable_disk_unique, durable_unique, IsImage_fits, prefix-IsImageOf}
 pub use Rattle.nl_folder.proofs.ImageLemmas.{undurable-IsPrefixImageOf}
-pub use Rattle.nl_folder.specs.Calls.{log_cut, log_synced, log_grown, CutsSome, GrowsLog, SyncsLog, replaced, not_replaced, crashed}
+pub use Rattle.nl_folder.specs.Calls.{log_cut, log_synced, log_grown, CutsSome, GrowsLog, SyncsLog, replaced_disk, not_replaced_disk}
+pub use Rattle.nl_folder.specs.Calls.{crashed_disk}
 pub use Rattle.nl_folder.specs.Calls.{Crashes, scratch_grown, scratch_synced, GrowsScratch, SyncsScratch}
 pub use Rattle.nl_folder.specs.CrashImages.{IsImageOf, IsDisk, IsImage, IsPrefixImageOf}
-pub use Rattle.nl_folder.specs.DiskState.{Disk, at_rest, empty_file, File, durable_file}
+pub use Rattle.nl_folder.specs.DiskState.{Disk, durable_disk, empty_file, File, durable_file}
 pub use Rattle.nl_session.specs.Answers.{HasCounted, Answered, Exchanged, events_of, replies_of, RunSoFar, RanTo}
 pub use Rattle.nl_session.specs.Effects.{LeavesOk, LeavesFault, Leaves, Rewrites, RewriteFaults}
 pub use Rattle.nl_session.specs.{Grows.EndsClear, Grows.Grew, View.View, View.view_of, Represents.Represents, Represents.Agrees}
 pub use Rattle.nl_session.specs.Headline.{Exchange, update_of, makes_durable, is_crash, is_kept, acknowledged, Holds, NoneClears, MayStand}
 pub use Rattle.nl_session.specs.Headline.{none, idle, stands, failed, lost, Headline}
 pub use Rattle.nl_session.specs.Machine.{CrashesNow, State, durable_at, Act, Records, Step, Run, AllRecorded, all_of, Opens, reply_of}
-pub use Rattle.nl_session.specs.Machine.{shown_of, opened, Recompacts, Restats, StepOk, StepFault, MayHaveGained, NoneNegative, pending_at}
+pub use Rattle.nl_session.specs.Machine.{shown_of, history_opened, Recompacts, Restats, StepOk, StepFault, MayHaveGained, NoneNegative}
+pub use Rattle.nl_session.specs.Machine.{pending_at}
 pub use Rattle.nl_session.specs.Opened.{mended_bytes, living, opened_from, opened_bytes, IsLog, OpenedAs, OpensAs, Reopens, IsLogWith}
 pub use Rattle.nl_session.specs.Opened.{IsRewritten, IsTextFor, StaysAtRest, IsAtRest, IsTableOf}
-pub use Rattle.nl_session.specs.Parts.{OnlyScratch, filled, SwapFailed, Appended, IsLeft, RewriteFailed, rewritten, filling, repaired}
-pub use Rattle.nl_session.specs.Parts.{RepairFailed, OpenLeaves, OpenFaults, mended}
+pub use Rattle.nl_session.specs.Parts.{OnlyScratch, filled_disk, SwapFailed, Appended, IsLeft, RewriteFailed, rewritten_disk, filling_disk}
+pub use Rattle.nl_session.specs.Parts.{repaired_disk}
+pub use Rattle.nl_session.specs.Parts.{RepairFailed, OpenLeaves, OpenFaults, mended_disk}
 pub use Rattle.nl_session.specs.Reopening.{Moved, IsCalm, Moves, IsTry, OpenedFrom}
-pub use Rattle.nl_session.specs.{Represents.RepresentsPrefix, Machine.Syncs, Machine.gained, Machine.moved_to, Machine.IsFirstNegative}
+pub use Rattle.nl_session.specs.{Represents.RepresentsPrefix, Machine.Syncs, Machine.gained_state, Machine.moved_to}
+pub use Rattle.nl_session.specs.{Machine.IsFirstNegative}
 pub use Rattle.nl_session.specs.Runs.{BeginsAt, HeadlineOn, act_of, faults_of, Ran, RestsThrough, OpensAtLast, TakesMemory}
 pub use Rattle.nl_session.specs.States.{IsAt, Goes, EdgeDone, EdgeFails, Carries, IsReady, RepresentsState}
 pub use Rattle.nl_session.specs.declared.{events.Event.Event, events.Reply.Reply, fault.LogFault.LogFault, state.LogState.LogState}

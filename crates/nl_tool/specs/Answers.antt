@@ -2,9 +2,9 @@
 use Rattle.std.specs.Prelude.{◌≡◌, ℕ, List, Option, None, Some}
 use Rattle.nl_lines.specs.declared.version.LogVersion.{LogVersion}
 use Rattle.nl_lines.specs.declared.version.LogVersion.TheVariants.{Five, Six, Seven}
-use Rattle.nl_print.specs.Output.{IsFileHash, IsHashText, IsTextAsRead, checked, shown}
-use Rattle.nl_print.specs.VersionOf.{IsReportOfAny, shown_any}
-use Rattle.nl_print.specs.Versions.{checked_as, hash_text_as, shown_as}
+use Rattle.nl_print.specs.Output.{IsFileHash, IsHashText, IsTextAsRead, checked, show_text_of}
+use Rattle.nl_print.specs.VersionOf.{IsReportOfAny, show_text_of_any}
+use Rattle.nl_print.specs.Versions.{checked_as, hash_text_as, show_text_as}
 use Rattle.nl_replay.specs.Replay.{IsReplayText}
 use Rattle.nl_tool.specs.declared.printing.Printing.{Printing}
 use Rattle.nl_tool.specs.declared.printing.Printing.TheVariants.{Show, Check, Hash, HashFile, Replay}
@@ -13,7 +13,7 @@ use Rattle.nl_words.specs.declared.version.AskedVersion.TheVariants as asked
 
 -- the text of each such command, by the known bytes of what it reads
 abbrev pub IsAnswer : Printing → Option (List ℕ) → List ℕ → Type 0
-IsAnswer Show known text = IsTextAsRead shown known text
+IsAnswer Show known text = IsTextAsRead show_text_of known text
 IsAnswer Check known text = IsTextAsRead checked known text
 IsAnswer (Hash command) known text = IsHashText command.now text
 IsAnswer HashFile known text = IsFileHash known text
@@ -21,14 +21,14 @@ IsAnswer Replay known text = IsReplayText known text
 
 -- the text of each such command, where logs are those of the version
 abbrev pub IsAnswerOf : LogVersion → Printing → Option (List ℕ) → List ℕ → Type 0
-IsAnswerOf version Show known text = IsTextAsRead (shown_as version) known text
+IsAnswerOf version Show known text = IsTextAsRead (show_text_as version) known text
 IsAnswerOf version Check known text = IsTextAsRead (checked_as version) known text
 IsAnswerOf version (Hash command) known text = text ≡ hash_text_as version command.now
 IsAnswerOf version printing known text = IsAnswer printing known text
 
 -- the text of each such command, where a log is of the version that its first line names; `hash` has no log, so its version is 5
 abbrev pub IsAnswerOfAny : Printing → Option (List ℕ) → List ℕ → Type 0
-IsAnswerOfAny Show known text = IsTextAsRead shown_any known text
+IsAnswerOfAny Show known text = IsTextAsRead show_text_of_any known text
 IsAnswerOfAny Check known text = IsReportOfAny known text
 IsAnswerOfAny printing known text = IsAnswer printing known text
 

@@ -79,7 +79,7 @@ impl Beginning {
     }
 
     /// Keeps the bytes that were read next, as far as there is room.
-    pub fn keep(&mut self, bytes: &[u8]) {
+    pub fn note(&mut self, bytes: &[u8]) {
         for byte in bytes {
             if self.len >= BEGINNING {
                 return;
@@ -116,7 +116,7 @@ impl<R: Read> Read for NotedReader<'_, R> {
     {
         match self.reader.read(buf) {
             Ok(count) => {
-                self.heard.beginning.keep(&buf[..count]);
+                self.heard.beginning.note(&buf[..count]);
                 Ok(count)
             }
             Err(error) => {
