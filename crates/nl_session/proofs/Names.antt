@@ -40,7 +40,7 @@ pub use Rattle.nl_folder.specs.Calls.{crashed_disk}
 pub use Rattle.nl_folder.specs.Calls.{Crashes, scratch_grown, scratch_synced, GrowsScratch, SyncsScratch}
 pub use Rattle.nl_folder.specs.CrashImages.{IsImageOf, IsDisk, IsImage, IsPrefixImageOf}
 pub use Rattle.nl_folder.specs.DiskState.{Disk, durable_disk, empty_file, File, durable_file}
-pub use Rattle.nl_session.specs.Answers.{HasCounted, Answered, Exchanged, events_of, replies_of, RunSoFar, RanTo}
+pub use Rattle.nl_session.specs.Answers.{HasCounted, Answered, Exchanged, events_of, replies_of, RanTo}
 pub use Rattle.nl_session.specs.Effects.{LeavesOk, LeavesFault, Leaves, Rewrites, RewriteFaults}
 pub use Rattle.nl_session.specs.{Grows.EndsClear, Grows.Grew, View.View, View.view_of, Represents.Represents, Represents.Agrees}
 pub use Rattle.nl_session.specs.Headline.{Exchange, update_of, makes_durable, is_crash, is_kept, acknowledged, Holds, NoneClears, MayStand}
@@ -56,7 +56,7 @@ pub use Rattle.nl_session.specs.Parts.{RepairFailed, OpenLeaves, OpenFaults, men
 pub use Rattle.nl_session.specs.Reopening.{Moved, IsCalm, Moves, IsTry, OpenedFrom}
 pub use Rattle.nl_session.specs.{Represents.RepresentsPrefix, Machine.Syncs, Machine.gained_state, Machine.moved_to}
 pub use Rattle.nl_session.specs.{Machine.IsFirstNegative}
-pub use Rattle.nl_session.specs.Runs.{BeginsAt, HeadlineOn, act_of, faults_of, Ran, RestsThrough, OpensAtLast, TakesMemory}
+pub use Rattle.nl_session.specs.Runs.{BeginsAt, HeadlineOn, act_of, faults_of, Ran, RestsThrough, OpensAtLast, TakesMemory, HadMemory}
 pub use Rattle.nl_session.specs.States.{IsAt, Goes, EdgeDone, EdgeFails, Carries, IsReady, RepresentsState}
 pub use Rattle.nl_session.specs.declared.{events.Event.Event, events.Reply.Reply, fault.LogFault.LogFault, state.LogState.LogState}
 pub use Rattle.nl_session.specs.declared.events.Event.TheVariants.{Open as OpenLog, Record, Sync, Recompact, Restat, Stop, Crash}
