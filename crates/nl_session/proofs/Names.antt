@@ -52,11 +52,12 @@ pub use Rattle.nl_session.specs.Machine.{pending_at}
 pub use Rattle.nl_session.specs.Opened.{mended_bytes, living, opened_from, opened_bytes, IsLog, OpenedAs, OpensAs, Reopens, IsLogWith}
 pub use Rattle.nl_session.specs.Opened.{IsRewritten, IsTextFor, StaysAtRest, IsAtRest, IsTableOf}
 pub use Rattle.nl_session.specs.Parts.{OnlyScratch, filled_disk, SwapFailed, Appended, IsLeft, RewriteFailed, rewritten_disk, filling_disk}
-pub use Rattle.nl_session.specs.Parts.{repaired_disk, RepairFailed, OpenLeaves, OpenFaults, mended_disk, stamped}
+pub use Rattle.nl_session.specs.Parts.{repaired_disk, RepairFailed, OpenLeaves, OpenFaults, mended_disk, stamped, grown_at, GrowsAt}
 pub use Rattle.nl_session.specs.Reopening.{Moved, IsCalm, Moves, IsTry, OpenedFrom}
 pub use Rattle.nl_session.specs.Runs.{BeginsAt, HeadlineOn, act_of, faults_of, Ran, RestsThrough, OpensAtLast, TakesMemory, HadMemory}
 pub use Rattle.nl_session.specs.States.{IsAt, Goes, EdgeDone, EdgeFails, Carries, IsReady, RepresentsState}
 pub use Rattle.nl_session.specs.declared.{events.Event.Event, events.Reply.Reply, fault.LogFault.LogFault, state.LogState.LogState}
+pub use Rattle.nl_session.specs.declared.{append.End.End, append.End.TheVariants.Log as OfLog, append.End.TheVariants.Scratch as OfScratch}
 pub use Rattle.nl_session.specs.declared.events.Event.TheVariants.{Open as OpenLog, Record, Sync, Recompact, Restat, Stop, Crash}
 pub use Rattle.nl_session.specs.declared.events.Reply.TheVariants.{Done, Refused}
 pub use Rattle.nl_session.specs.declared.fault.LogFault.TheVariants.{Fault, NotOpen, Broken as BrokenLog, NegativeTime, OutOfMemory}
