@@ -49,8 +49,8 @@ pub use Rattle.nl_session.specs.Headline.{none, idle, stands, failed, lost, Head
 pub use Rattle.nl_session.specs.Machine.{CrashesNow, State, durable_at, Act, Records, Step, Run, AllRecorded, all_of, Opens, reply_of}
 pub use Rattle.nl_session.specs.Machine.{shown_of, history_opened, Recompacts, Restats, StepOk, StepFault, MayHaveGained, NoneNegative}
 pub use Rattle.nl_session.specs.Machine.{pending_at}
-pub use Rattle.nl_session.specs.Opened.{mended_bytes, living, opened_from, opened_bytes, IsLog, OpenedAs, OpensAs, Reopens, IsLogWith}
-pub use Rattle.nl_session.specs.Opened.{IsRewritten, IsTextFor, StaysAtRest, IsAtRest, IsTableOf}
+pub use Rattle.nl_session.specs.Opened.{mended_bytes, living, opened_from, opened_bytes, IsLog, OpenedAs, OpensAs, Reopens, StaysAtRest}
+pub use Rattle.nl_session.specs.Opened.{IsAtRest, IsTableOf}
 pub use Rattle.nl_session.specs.Parts.{OnlyScratch, filled_disk, SwapFailed, Appended, IsLeft, RewriteFailed, rewritten_disk, filling_disk}
 pub use Rattle.nl_session.specs.Parts.{repaired_disk, RepairFailed, OpenLeaves, OpenFaults, mended_disk, stamped, grown_at, GrowsAt}
 pub use Rattle.nl_session.specs.Reopening.{Moved, IsCalm, Moves, IsTry, OpenedFrom}
