@@ -1,8 +1,8 @@
 -- The names that the proofs take from elsewhere.
-pub use Rattle.std.proofs.Common.{◌≡◌, Bool, true, false, cond, not, ◌&&◌, ◌||◌, List, [], ◌∷◌, ◌++◌, refl, sym, ◌∙◌, ap, subst, inl, inr}
-pub use Rattle.std.proofs.Common.{Some, None, ℕ, ◌+◌, ◌≤◌, ◌==◌, length, take, arith, Option, length-append, ◌<◌, drop, zero-add}
-pub use Rattle.std.proofs.Common.{append_assoc, length-drop, ℤ, get_or, map, append-nil, zip, zero, suc, add-one, ◌⊎◌, ◌≢◌, length-take}
-pub use Rattle.std.proofs.Common.{pos, ◌≤ℤ◌, ◌<ℤ◌, SFits, to_z, of_z, vec_capacity, rules, ◌-◌, Vec, Global, take-append-drop}
+pub use Rattle.std.proofs.Common.{◌≡◌, Bool, true, false, cond, not, ◌||◌, List, [], ◌∷◌, ◌++◌, refl, sym, ◌∙◌, ap, subst, inl, inr, Some}
+pub use Rattle.std.proofs.Common.{None, ℕ, ◌+◌, ◌≤◌, ◌==◌, length, take, arith, Option, length-append, ◌<◌, drop, zero-add, append_assoc}
+pub use Rattle.std.proofs.Common.{length-drop, ℤ, get_or, map, append-nil, zip, zero, suc, add-one, ◌⊎◌, ◌≢◌, length-take, pos, ◌≤ℤ◌, ◌<ℤ◌}
+pub use Rattle.std.proofs.Common.{SFits, to_z, of_z, vec_capacity, rules, ◌-◌, Vec, Global, take-append-drop}
 pub use Rattle.std.proofs.Math.Seq.{take-add, drop-append_seam, take-append_seam}
 pub use Rattle.std.proofs.lemmas.Bool.{cases_Bool, cond-true, cond-false, or_parts, cases_eq, eq-eqb, ne_eqb, cases_lt, and_right, le-ltb}
 pub use Rattle.std.proofs.lemmas.{Bool.ltb-false, Int.ints, Int.to_z-of_z, List.nil_from_length, Result.on_err_weaker}
@@ -31,28 +31,26 @@ pub use Rattle.nl_table.specs.{Due.is_due, Due.is_history_due, Loading.IsLoadOf,
 pub use Rattle.nl_table.specs.{declared.loader.Loaded.Loaded, LogUser.dead_names, LogUser.forget_dead, LogUser.is_dead_by}
 pub use Rattle.nl_table.specs.History.{Update, History, Then, logged, table, plus, Enter, version, Forget, Touch, total, holds}
 pub use Rattle.nl_table.specs.Log.{LogReading, Log, history_of_log, log_of, history_of}
-pub use Rattle.nl_table.specs.Table.{AreDistinct, entry_names, entered_table, edge_entries, touched_table, entry_named, all_entered_table}
-pub use Rattle.nl_table.specs.Table.{without_mtimes}
+pub use Rattle.nl_table.specs.Table.{AreDistinct, entry_names, touched_table, entry_named, without_mtimes}
 pub use Rattle.nl_folder.proofs.ImageLemmas.{visible-IsImage, durable_disk_unique, durable_unique, IsImage_fits, prefix-IsImageOf}
 pub use Rattle.nl_folder.proofs.ImageLemmas.{undurable-IsPrefixImageOf}
-pub use Rattle.nl_folder.specs.Calls.{log_cut, log_synced, log_grown, CutsSome, GrowsLog, SyncsLog, replaced_disk, not_replaced_disk}
-pub use Rattle.nl_folder.specs.Calls.{crashed_disk, Crashes, scratch_grown, scratch_synced, GrowsScratch, SyncsScratch}
+pub use Rattle.nl_folder.specs.Calls.{log_cut, log_synced, log_grown, GrowsLog, replaced_disk, not_replaced_disk, crashed_disk, Crashes}
+pub use Rattle.nl_folder.specs.Calls.{scratch_grown, scratch_synced, GrowsScratch, SyncsScratch}
 pub use Rattle.nl_folder.specs.CrashImages.{IsImageOf, IsDisk, IsImage, IsPrefixImageOf}
 pub use Rattle.nl_folder.specs.DiskState.{Disk, durable_disk, empty_file, File, durable_file}
-pub use Rattle.nl_session.specs.Answers.{HasCounted, Answered, Exchanged, events_of, replies_of, RanTo}
+pub use Rattle.nl_session.specs.Answers.{HasCounted, Answered, Exchanged, events_of, replies_of, StandsSound}
 pub use Rattle.nl_session.specs.Effects.{LeavesOk, LeavesFault, Leaves, Rewrites, RewriteFaults}
-pub use Rattle.nl_session.specs.{Grows.EndsClear, Grows.Grew, View.View, View.view_of, Represents.Represents, Represents.Agrees}
-pub use Rattle.nl_session.specs.{Represents.RepresentsPrefix, Machine.Syncs, Machine.gained_state, Machine.moved_to}
-pub use Rattle.nl_session.specs.{Machine.IsFirstNegative}
+pub use Rattle.nl_session.specs.{Grows.EndsClear, Grows.Grew, View.View, View.view_of, View.StandsAt, View.HasStayed, View.StepsBy}
+pub use Rattle.nl_session.specs.{Represents.Represents, Represents.Agrees, Represents.RepresentsPrefix, Machine.Syncs, Machine.gained_state}
+pub use Rattle.nl_session.specs.{Machine.moved_to, Machine.IsFirstNegative}
 pub use Rattle.nl_session.specs.Headline.{Exchange, update_of, makes_durable, is_crash, is_kept, acknowledged, Holds, NoneClears, MayStand}
 pub use Rattle.nl_session.specs.Headline.{none, idle, stands, failed, lost, Headline}
-pub use Rattle.nl_session.specs.Machine.{CrashesNow, State, durable_at, Act, Records, Step, Run, AllRecorded, all_of, Opens, reply_of}
-pub use Rattle.nl_session.specs.Machine.{shown_of, history_opened, Recompacts, Restats, StepOk, StepFault, MayHaveGained, NoneNegative}
-pub use Rattle.nl_session.specs.Machine.{pending_at}
+pub use Rattle.nl_session.specs.Machine.{CrashesNow, State, durable_at, Act, Records, Step, Run, all_of, Opens, reply_of, shown_of}
+pub use Rattle.nl_session.specs.Machine.{history_opened, Recompacts, Restats, StepOk, StepFault, MayHaveGained, NoneNegative, pending_at}
 pub use Rattle.nl_session.specs.Opened.{mended_bytes, living, opened_from, opened_bytes, IsLog, OpenedAs, OpensAs, Reopens, StaysAtRest}
 pub use Rattle.nl_session.specs.Opened.{IsAtRest, IsTableOf}
-pub use Rattle.nl_session.specs.Parts.{OnlyScratch, filled_disk, SwapFailed, Appended, IsLeft, RewriteFailed, rewritten_disk, filling_disk}
-pub use Rattle.nl_session.specs.Parts.{repaired_disk, RepairFailed, OpenLeaves, OpenFaults, mended_disk, stamped, grown_at, GrowsAt}
+pub use Rattle.nl_session.specs.Parts.{OnlyScratch, filled_disk, Appended, IsLeft, RewriteFailed, rewritten_disk, filling_disk}
+pub use Rattle.nl_session.specs.Parts.{repaired_disk, RepairFailed, OpenLeaves, OpenFaults, stamped, grown_at, GrowsAt}
 pub use Rattle.nl_session.specs.Reopening.{Moved, IsCalm, Moves, IsTry, OpenedFrom}
 pub use Rattle.nl_session.specs.Runs.{BeginsAt, HeadlineOn, act_of, faults_of, Ran, RestsThrough, OpensAtLast, TakesMemory, HadMemory}
 pub use Rattle.nl_session.specs.States.{IsAt, Goes, EdgeDone, EdgeFails, Carries, IsReady, RepresentsState}
@@ -64,3 +62,4 @@ pub use Rattle.nl_session.specs.declared.fault.LogFault.TheVariants.{Fault, NotO
 pub use Rattle.nl_session.specs.declared.fault.LogFault.TheVariants.{OutOfMemory as NoMemory}
 pub use Rattle.nl_session.specs.declared.state.LogState.TheVariants.{Closed, Open, Broken as IsBroken}
 pub use Rattle.nl_session.specs.declared.edge.Stamp.{Stamp}
+pub use Rattle.nl_session.specs.Calls.{IsForOpen, IsCounted}
