@@ -1,11 +1,9 @@
 pub mod Names
 pub mod RepresentsLemmas
-pub mod FillLemmas
 pub mod StateLemmas
 pub mod StepLemmas
 pub mod RewriteLemmas
-pub mod EdgeLemmas
-pub mod AgainLemmas
+pub mod AppendLemmas
 pub mod OpenLemmas
 pub mod TimesLemmas
 pub mod Stories
