@@ -29,7 +29,7 @@ pub use Rattle.nl_table.proofs.NameLemmas.{distinct-table, named-forgotten, with
 pub use Rattle.nl_table.proofs.ValidLemmas.{logged_valid, forget_valid}
 pub use Rattle.nl_table.specs.{Due.is_due, Due.is_history_due, Loading.IsLoadOf, LogText.text_of, LogText.lines_of_entries}
 pub use Rattle.nl_table.specs.{declared.loader.Loaded.Loaded, LogUser.dead_names, LogUser.forget_dead, LogUser.is_dead_by}
-pub use Rattle.nl_table.specs.History.{Update, History, Then, logged, table, plus, Enter, version, Forget, Touch, total, holds}
+pub use Rattle.nl_table.specs.History.{Update, History, Then, logged, table, plus, Enter, version, Forget, Touch, total}
 pub use Rattle.nl_table.specs.Log.{LogReading, Log, history_of_log, log_of, history_of}
 pub use Rattle.nl_table.specs.Table.{AreDistinct, entry_names, touched_table, entry_named, without_mtimes}
 pub use Rattle.nl_folder.proofs.ImageLemmas.{visible-IsImage, durable_disk_unique, durable_unique, IsImage_fits, prefix-IsImageOf}
@@ -59,7 +59,6 @@ pub use Rattle.nl_session.specs.declared.{append.End.End, append.End.TheVariants
 pub use Rattle.nl_session.specs.declared.events.Event.TheVariants.{Open as OpenLog, Record, Sync, Recompact, Restat, Stop, Crash}
 pub use Rattle.nl_session.specs.declared.events.Reply.TheVariants.{Done, Refused}
 pub use Rattle.nl_session.specs.declared.fault.LogFault.TheVariants.{Fault, NotOpen, Broken as BrokenLog, NegativeTime, OutOfMemory}
-pub use Rattle.nl_session.specs.declared.fault.LogFault.TheVariants.{OutOfMemory as NoMemory}
 pub use Rattle.nl_session.specs.declared.state.LogState.TheVariants.{Closed, Open, Broken as IsBroken}
 pub use Rattle.nl_session.specs.declared.edge.Stamp.{Stamp}
 pub use Rattle.nl_session.specs.Calls.{IsForOpen, IsCounted}
