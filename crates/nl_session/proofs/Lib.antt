@@ -1,11 +1,7 @@
 pub mod Names
 pub mod RepresentsLemmas
-pub mod StateLemmas
 pub mod StepLemmas
-pub mod RewriteLemmas
 pub mod AppendLemmas
 pub mod OpenLemmas
-pub mod TimesLemmas
 pub mod Stories
-pub mod EffectLemmas
 pub mod RunLemmas
