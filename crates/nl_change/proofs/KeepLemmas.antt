@@ -1,12 +1,8 @@
 -- The set of the names of KEEP.
-use Rattle.std.proofs.Common.{◌≡◌, ◌∙◌, ℕ, ℤ, Bool, true, false, cond, not, ◌&&◌, ◌||◌, List, [], ◌∷◌, refl, sym, ap, subst, bytes_eq}
-use Rattle.std.specs.Prelude.{Option, None, Some, is_none, Result, Ok, Err}
+use Rattle.std.proofs.Common.{◌≡◌, ℕ, Bool, not, List, ap, subst}
+use Rattle.std.specs.Prelude.{Option, Result, Ok, Err}
 use Rattle.std.specs.Result.{IsErrAnd}
-use Rattle.std.proofs.Math.Bool.{and-true}
-use Rattle.nl_fields.specs.declared.entry.Entry.{Entry}
 use Rattle.nl_table.specs.History.{holds}
-use Rattle.nl_table.specs.Table.{entry_named, entered_table, all_entered_table, edge_entries}
-use Rattle.nl_table.proofs.NameLemmas.{bytes_eq_comm, named-entered}
 use Rattle.nl_texts.specs.Files.{OfBytes}
 use Rattle.nl_change.specs.Calls.{Meaning, dropping, keeping}
 use Rattle.nl_change.specs.Files.{Says, keep_of}

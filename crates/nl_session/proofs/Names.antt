@@ -2,7 +2,7 @@
 pub use Rattle.std.proofs.Common.{◌≡◌, Bool, true, false, cond, not, ◌||◌, List, [], ◌∷◌, ◌++◌, refl, sym, ◌∙◌, ap, subst, inl, inr, Some}
 pub use Rattle.std.proofs.Common.{None, ℕ, ◌+◌, ◌≤◌, ◌==◌, length, take, arith, Option, length-append, ◌<◌, drop, zero-add, append_assoc}
 pub use Rattle.std.proofs.Common.{length-drop, ℤ, get_or, map, append-nil, zip, zero, suc, add-one, ◌⊎◌, ◌≢◌, length-take, pos, ◌≤ℤ◌, ◌<ℤ◌}
-pub use Rattle.std.proofs.Common.{SFits, to_z, of_z, vec_capacity, rules, ◌-◌, Vec, Global, take-append-drop}
+pub use Rattle.std.proofs.Common.{SFits, to_z, of_z, vec_capacity, rules, ◌-◌, take-append-drop}
 pub use Rattle.std.proofs.Math.Seq.{take-add, drop-append_seam, take-append_seam}
 pub use Rattle.std.proofs.lemmas.Bool.{cases_Bool, cond-true, cond-false, or_parts, cases_eq, eq-eqb, ne_eqb, cases_lt, and_right, le-ltb}
 pub use Rattle.std.proofs.lemmas.{Bool.ltb-false, Int.ints, Int.to_z-of_z, List.nil_from_length, Result.on_err_weaker}
@@ -23,12 +23,13 @@ pub use Rattle.nl_lines.specs.Split.{NoNewline, joined, lines_of, whole_len, End
 pub use Rattle.nl_table.proofs.HistoryLemmas.{counts-logged, table-enter, plus-push, table-forget, forgotten-dead, table-touch, logged-push}
 pub use Rattle.nl_table.proofs.{HistoryLemmas.dead_holds, HistoryLemmas.plus-append, LogLemmas.zero_after, LogLemmas.log_of-tail}
 pub use Rattle.nl_table.proofs.LoadedLemmas.{loaded_length, loaded_is_log, due_by_counts}
-pub use Rattle.nl_table.proofs.LogLemmas.{rest_is_header, log_of-header, log_of-cut, log_of-torn, log_of-line, log_of-version, plain_line}
+pub use Rattle.nl_table.proofs.LogLemmas.{rest_is_header, log_of-header, log_of-cut, log_of-line, log_of-version, plain_line}
 pub use Rattle.nl_table.proofs.LogTextLemmas.{log_of-text, table-logged, text-ends}
 pub use Rattle.nl_table.proofs.NameLemmas.{distinct-table, named-forgotten, without_mtimes-touched}
 pub use Rattle.nl_table.proofs.ValidLemmas.{logged_valid, forget_valid}
 pub use Rattle.nl_table.specs.{Due.is_due, Due.is_history_due, Loading.IsLoadOf, LogText.text_of, LogText.lines_of_entries}
-pub use Rattle.nl_table.specs.{declared.loader.Loaded.Loaded, LogUser.dead_names, LogUser.forget_dead, LogUser.is_dead_by}
+pub use Rattle.nl_table.specs.{declared.loader.Loaded.Loaded, declared.log_user.KeepList.KeepList, LogUser.dead_names, LogUser.forget_dead}
+pub use Rattle.nl_table.specs.{LogUser.is_dead_by}
 pub use Rattle.nl_table.specs.History.{Update, History, Then, logged, table, plus, Enter, version, Forget, Touch, total}
 pub use Rattle.nl_table.specs.Log.{LogReading, Log, history_of_log, log_of, history_of}
 pub use Rattle.nl_table.specs.Table.{AreDistinct, entry_names, touched_table, entry_named, without_mtimes}
@@ -36,12 +37,12 @@ pub use Rattle.nl_folder.proofs.ImageLemmas.{visible-IsImage, durable_disk_uniqu
 pub use Rattle.nl_folder.proofs.ImageLemmas.{undurable-IsPrefixImageOf}
 pub use Rattle.nl_folder.specs.Calls.{log_cut, log_synced, log_grown, GrowsLog, replaced_disk, not_replaced_disk, crashed_disk, Crashes}
 pub use Rattle.nl_folder.specs.Calls.{scratch_grown, scratch_synced, GrowsScratch, SyncsScratch}
-pub use Rattle.nl_folder.specs.CrashImages.{IsImageOf, IsDisk, IsImage, IsPrefixImageOf}
+pub use Rattle.nl_folder.specs.CrashImages.{IsImageOf, IsDisk, IsImage}
 pub use Rattle.nl_folder.specs.DiskState.{Disk, durable_disk, empty_file, File, durable_file}
 pub use Rattle.nl_session.specs.Answers.{HasCounted, Answered, Exchanged, events_of, replies_of, StandsSound}
 pub use Rattle.nl_session.specs.Effects.{LeavesOk, LeavesFault, Leaves, Rewrites, RewriteFaults}
 pub use Rattle.nl_session.specs.{Grows.EndsClear, Grows.Grew, View.View, View.view_of, View.StandsAt, View.HasStayed, View.StepsBy}
-pub use Rattle.nl_session.specs.{Represents.Represents, Represents.Agrees, Represents.RepresentsPrefix, Machine.Syncs, Machine.gained_state}
+pub use Rattle.nl_session.specs.{Represents.Represents, Represents.Agrees, Represents.RepresentsPrefix, Machine.gained_state}
 pub use Rattle.nl_session.specs.{Machine.moved_to, Machine.IsFirstNegative}
 pub use Rattle.nl_session.specs.Headline.{Exchange, update_of, makes_durable, is_crash, is_kept, acknowledged, Holds, NoneClears, MayStand}
 pub use Rattle.nl_session.specs.Headline.{none, idle, stands, failed, lost, Headline}
