@@ -6,3 +6,4 @@ pub mod RunLemmas
 pub mod LimitLemmas
 pub mod VersionLemmas
 mod WindowLemmas
+pub mod ResultLemmas

@@ -1,7 +1,7 @@
 -- A text that is written piece by piece, and a report.
 use Rattle.std.proofs.Common.{◌≡◌, ◌++◌, ◌∷◌, [], ◌+◌, ◌<◌, ◌∙◌, codes, List, ℕ, zero, suc, Some, None, map, take, drop, length, add-one}
-use Rattle.std.proofs.Common.{ap, sym, append-nil, append_assoc, length-append, refl, Option, Result, Ok, Err, arith}
-use Rattle.std.specs.Prelude.{decimal, slice_get, OnErr}
+use Rattle.std.proofs.Common.{ap, sym, append-nil, append_assoc, length-append, refl, Option, arith}
+use Rattle.std.specs.Prelude.{decimal, slice_get}
 use Rattle.nl_fields.specs.declared.entry.Entry.{Entry}
 use Rattle.nl_fields.specs.EntryLine.{line_of}
 use Rattle.nl_lines.specs.Split.{joined}
@@ -47,11 +47,6 @@ prefix_after old mid new whole text later held is moves part = record {
   missing = omega (arith, part.missing, length-append part.rest later);
   appended = Appends-trans old mid new moves.written part.prefix moves.appended part.appended;
 }
-
--- what holds at any error
-pub on_err : {T E P : Type 0} (r : Result T E) → P → OnErr r P
-on_err (Ok x) p = tt
-on_err (Err e) p = p
 
 -- the lines of the entries before a place, and those of the others
 pub lines_split : (es : List Entry) (i : ℕ) → joined (map line_of es) ≡ joined (map line_of (take i es)) ++ joined (map line_of (drop i es))

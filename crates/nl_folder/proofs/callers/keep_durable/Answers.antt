@@ -1,4 +1,5 @@
-use Rattle.nl_folder.proofs.CallerLemmas.{on_err, MayKeep_same, MayKeep_cut}
+use Rattle.nl_lines.proofs.ResultLemmas.{on_err}
+use Rattle.nl_folder.proofs.CallerLemmas.{MayKeep_same, MayKeep_cut}
 use Rattle.nl_folder.proofs.callers.keep_durable.Goals as goal
 
 pub returns-in_err-sync_log-clause-left : goal.returns-in_err-sync_log-clause-left

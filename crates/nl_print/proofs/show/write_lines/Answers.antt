@@ -2,7 +2,8 @@ use Rattle.std.proofs.Common.{◌≡◌, ◌<◌, ◌∙◌, ◌++◌, ◌∷◌
 use Rattle.std.proofs.lemmas.Result.{on_err_weaker}
 use Rattle.nl_fields.specs.EntryLine.{line_of}
 use Rattle.nl_lines.specs.Split.{joined}
-use Rattle.nl_print.proofs.OutputLemmas.{entry_there, held_more, lines_more, lines_split, moved_on, on_err, prefix_after}
+use Rattle.nl_lines.proofs.ResultLemmas.{on_err}
+use Rattle.nl_print.proofs.OutputLemmas.{entry_there, held_more, lines_more, lines_split, moved_on, prefix_after}
 use Rattle.nl_print.proofs.show.write_lines.Goals as goal
 use Rattle.nl_print.proofs.show.write_lines.Goals.{in-Some+in_ok-make_room, in_default}
 
