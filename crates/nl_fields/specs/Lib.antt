@@ -6,3 +6,4 @@ pub mod Fields
 pub mod Header
 pub mod CommandHash
 pub mod RapidHash
+pub mod Stamps

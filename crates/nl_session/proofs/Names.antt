@@ -12,8 +12,9 @@ pub use Rattle.std.proofs.lemmas.Option.{IfSome_then, slice_get_within, get_or_f
 pub use Rattle.std.specs.{Int.w32, List.take-map, List.AllByRecursion, Prelude.IfErr, Prelude.nat_lt}
 pub use Rattle.std.specs.Prelude.{Result, Ok, Err, All, IsSome, IsSomeAnd, IfSome, option_map, OnErr, IsTrue, IsErrOf, OnOk, slice_get}
 pub use mir.Syntax.{w64}
-pub use Rattle.nl_fields.{proofs.HeaderLemmas.version_five-plain, specs.declared.entry.Entry.Entry}
+pub use Rattle.nl_fields.{proofs.HeaderLemmas.version_five-plain, specs.declared.entry.Entry.Entry, specs.declared.entry.Stamp.Stamp}
 pub use Rattle.nl_fields.specs.{EntryLine.IsEntry, EntryLine.line_of, Header.version_five, Header.header_line, Limits.max_entry_line}
+pub use Rattle.nl_fields.specs.Stamps.{stamped}
 pub use Rattle.nl_lines.proofs.NewlineLemmas.{adds_no_line, keeps_lines, no_rest, take-whole_len, no_whole_line, ends_whole}
 pub use Rattle.nl_lines.proofs.PrefixLemmas.{prefix_itself, prefix_nil, prefix_push, prefix_trans, prefix_take, plain_prefix, prefix_joins}
 pub use Rattle.nl_lines.proofs.PrefixLemmas.{prefix_more, prefix_of, prefix_length, prefix_split, line_prefix}
@@ -51,7 +52,7 @@ pub use Rattle.nl_session.specs.Machine.{history_opened, Recompacts, Restats, St
 pub use Rattle.nl_session.specs.Opened.{mended_bytes, living, opened_from, opened_bytes, IsLog, OpenedAs, OpensAs, Reopens, StaysAtRest}
 pub use Rattle.nl_session.specs.Opened.{IsAtRest, IsTableOf}
 pub use Rattle.nl_session.specs.Parts.{OnlyScratch, filled_disk, Appended, IsLeft, RewriteFailed, rewritten_disk, filling_disk}
-pub use Rattle.nl_session.specs.Parts.{repaired_disk, RepairFailed, OpenLeaves, OpenFaults, stamped, grown_at, GrowsAt}
+pub use Rattle.nl_session.specs.Parts.{repaired_disk, RepairFailed, OpenLeaves, OpenFaults, grown_at, GrowsAt}
 pub use Rattle.nl_session.specs.Reopening.{Moved, IsCalm, Moves, IsTry, OpenedFrom}
 pub use Rattle.nl_session.specs.Runs.{BeginsAt, HeadlineOn, act_of, faults_of, Ran, RestsThrough, OpensAtLast, TakesMemory, HadMemory}
 pub use Rattle.nl_session.specs.States.{IsAt, Goes, EdgeDone, EdgeFails, Carries, IsReady, RepresentsState}
@@ -61,5 +62,4 @@ pub use Rattle.nl_session.specs.declared.events.Event.TheVariants.{Open as OpenL
 pub use Rattle.nl_session.specs.declared.events.Reply.TheVariants.{Done, Refused}
 pub use Rattle.nl_session.specs.declared.fault.LogFault.TheVariants.{Fault, NotOpen, Broken as BrokenLog, NegativeTime, OutOfMemory}
 pub use Rattle.nl_session.specs.declared.state.LogState.TheVariants.{Closed, Open, Broken as IsBroken}
-pub use Rattle.nl_session.specs.declared.edge.Stamp.{Stamp}
 pub use Rattle.nl_session.specs.Calls.{IsForOpen, IsCounted}

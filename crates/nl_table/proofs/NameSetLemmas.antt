@@ -9,7 +9,7 @@ use Rattle.std.proofs.lemmas.List.Folds.{list_any-append}
 use Rattle.indexmap.specs.IndexSet.{insert_key}
 use Rattle.nl_table.specs.declared.output_key.OutputKey.{OutputKey}
 use Rattle.nl_table.specs.History.{holds}
-use Rattle.nl_table.specs.Stamps.{key_bytes, names_of_keys}
+use Rattle.nl_table.specs.Keys.{key_bytes, names_of_keys}
 use Rattle.nl_table.proofs.HistoryLemmas.{same_bytes}
 use Rattle.nl_table.proofs.NameLemmas.{bytes_eq_comm}
 use Rattle.nl_table.proofs.TableLemmas.{same_key}

@@ -1,7 +1,7 @@
 pub mod History
 pub mod Order
 pub mod Table
-pub mod Stamps
+pub mod Keys
 pub mod Due
 pub mod LogUser
 pub mod Log

@@ -17,7 +17,7 @@ pub struct NameSet {
 
 impl Model for NameSet {
     ghost use Rattle.std.specs.Prelude.{ℕ, List};
-    ghost use Rattle.nl_table.specs.Stamps.{names_of_keys};
+    ghost use Rattle.nl_table.specs.Keys.{names_of_keys};
 
     ghost Value = { List (List ℕ) };
 

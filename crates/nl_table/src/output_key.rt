@@ -3,7 +3,7 @@ ghost use Rattle.std.specs.Prelude.{◌≡◌, ◌∷◌, [], nat_eq};
 ghost use Rattle.std.proofs.Common.{ap};
 ghost use Rattle.std.specs.Cmp.{on_per, on_equiv, partial_equiv_from_equiv};
 ghost use Rattle.std.specs.Cmp.Lexicographic.{pointwise, bytes_decides, nat_list_eq_equiv};
-ghost use Rattle.nl_table.specs.Stamps.{key_bytes};
+ghost use Rattle.nl_table.specs.Keys.{key_bytes};
 
 use indexmap::Equivalent;
 use nl_fields::Name;

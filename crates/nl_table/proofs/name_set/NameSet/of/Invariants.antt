@@ -1,7 +1,7 @@
 use Rattle.std.proofs.Common.{◌≡◌, ℕ, ◌≤◌, List}
 use Rattle.indexmap.specs.IndexSet.{spare}
 use Rattle.nl_table.specs.History.{holds}
-use Rattle.nl_table.specs.Stamps.{names_of_keys}
+use Rattle.nl_table.specs.Keys.{names_of_keys}
 use Rattle.nl_table.proofs.name_set.NameSet.of.Given as goal
 
 abbrev pub invariant-loop-name : goal.invariant-loop-name
