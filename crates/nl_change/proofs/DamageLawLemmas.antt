@@ -22,8 +22,8 @@ use Rattle.nl_table.proofs.FirstLineLemmas.{log_of-lines}
 use Rattle.nl_table.proofs.LogLemmas.{entry_on-line, is_versioned, log_fits, plain_line, rest_is_header}
 use Rattle.nl_table.proofs.LogTextLemmas.{log_of-text}
 use Rattle.nl_table.proofs.ValidLemmas.{logged_valid}
-use Rattle.nl_print.specs.Streams.{damage_line, damage_on, damaged, named_last, skipped_text, texts_from, told_of, torn_on}
-use Rattle.nl_change.specs.Updates.{repaired}
+use Rattle.nl_print.specs.Streams.{damage_line, damage_on, damage_text_of, named_last, skipped_text, texts_from, text_by_parts, torn_on}
+use Rattle.nl_change.specs.Updates.{repaired_text}
 
 -- the lines of entries
 lines_plain : (es : List Entry) → All IsEntry es → All NoNewline (map line_of es)
@@ -157,10 +157,11 @@ module _ (bytes : List ℕ) (v : ℕ) (es : List Entry) (reads : log_of bytes �
     )
   ]
 
-pub damage_counts : (bytes text : List ℕ) → damaged bytes ≡ Some text → (text ≡ []) ↔ ((skipped_count bytes ≡ 0) × (torn_len bytes ≡ 0))
+pub damage_counts : (bytes text : List ℕ) → damage_text_of bytes ≡ Some text
+    → (text ≡ []) ↔ ((skipped_count bytes ≡ 0) × (torn_len bytes ≡ 0))
 damage_counts bytes text is = go (log_of bytes) refl is
   where
-    go : (r : LogReading) → log_of bytes ≡ r → told_of damage_on torn_on (lines_of bytes) (rest_of bytes) r ≡ Some text
+    go : (r : LogReading) → log_of bytes ≡ r → text_by_parts damage_on torn_on (lines_of bytes) (rest_of bytes) r ≡ Some text
         → (text ≡ []) ↔ ((skipped_count bytes ≡ 0) × (torn_len bytes ≡ 0))
     go (Log v es) reads some =
         let same : text_told bytes v es reads ≡ text = cc some in
@@ -169,26 +170,26 @@ damage_counts bytes text is = go (log_of bytes) refl is
     go NotALog reads none = absurd (cc none)
 
 -- a text of entries has no other line, and nothing is torn
-of_entries : (es : List Entry) → All IsEntry es → length (text_of es) ≤ max_log → damaged (text_of es) ≡ Some []
+of_entries : (es : List Entry) → All IsEntry es → length (text_of es) ≤ max_log → damage_text_of (text_of es) ≡ Some []
 of_entries es all fits =
     let split = text_split es all in
     let whole : texts_from (damage_on 5) 2 (map line_of es) ≡ [] = elim (counted 5 2 (map line_of es)) [
       | inl none ↦ none.0
       | inr some ↦ absurd (omega (arith, some.1, ap length (entries_back es all), length-map es line_of))
     ] in
-    ap (told_of damage_on torn_on (lines_of (text_of es)) (rest_of (text_of es))) (log_of-text es all fits)
+    ap (text_by_parts damage_on torn_on (lines_of (text_of es)) (rest_of (text_of es))) (log_of-text es all fits)
     ∙ (λ i. Some (texts_from (damage_on 5) 2 (drop 1 (split.0 i)) ++ torn_on 5 (length (split.0 i) + 1) (split.1 i)))
     ∙ ap (λ (t : List ℕ). Some (t ++ [])) whole
 
-pub repaired_whole : (bytes : List ℕ) → repaired bytes ≡ Some bytes → damaged bytes ≡ Some []
+pub repaired_whole : (bytes : List ℕ) → repaired_text bytes ≡ Some bytes → damage_text_of bytes ≡ Some []
 repaired_whole bytes is = go (log_of bytes) refl is
   where
     go : (r : LogReading) → log_of bytes ≡ r → option_map (λ (h : History). text_of (table h)) (history_of_log r) ≡ Some bytes
-        → damaged bytes ≡ Some []
+        → damage_text_of bytes ≡ Some []
     go (Log v es) reads some =
         let held : List Entry = table (logged v es) in
         let same : text_of held ≡ bytes = cc some in
         let short : length (text_of held) ≤ max_log = omega (arith, log_fits bytes v es reads, ap length same) in
-        subst (λ (bs : List ℕ). damaged bs ≡ Some []) same (of_entries held (logged_valid bytes v es reads) short)
+        subst (λ (bs : List ℕ). damage_text_of bs ≡ Some []) same (of_entries held (logged_valid bytes v es reads) short)
     go OtherVersion reads none = absurd (cc none)
     go NotALog reads none = absurd (cc none)

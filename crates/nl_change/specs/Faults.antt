@@ -29,9 +29,9 @@ of_log_fault refusal.OutOfMemory = Memory
 of_log_fault _ = Folder
 
 -- the same of an answer
-abbrev pub told : Result (Unit {0}) LogFault → Result (Unit {0}) ToolFault
-told (Ok done) = Ok done
-told (Err why) = Err (of_log_fault why)
+abbrev pub of_log_answer : Result (Unit {0}) LogFault → Result (Unit {0}) ToolFault
+of_log_answer (Ok done) = Ok done
+of_log_answer (Err why) = Err (of_log_fault why)
 
 -- the faults of a file that is read line by line
 abbrev pub IsFileFault : ToolFault → Type 0

@@ -52,16 +52,16 @@ IsUpdated bytes found disk =
     IsSomeAnd (history_of (opened_bytes none_dead found)) (λ h. IsLeft (bytes (table h) (opened_bytes none_dead found)) disk)
 
 -- the text that a repair leaves of the bytes of a log: the header line, and the line of each entry of its table, in order
-abbrev pub repaired : List ℕ → Option (List ℕ)
-repaired bytes = option_map (λ (h : History). text_of (table h)) (history_of bytes)
+abbrev pub repaired_text : List ℕ → Option (List ℕ)
+repaired_text bytes = option_map (λ (h : History). text_of (table h)) (history_of bytes)
 
 -- the bytes were a log, and what a repair leaves of them is the log, whatever crash comes
 abbrev pub IsRepaired : List ℕ → Option Disk → Type 0
-IsRepaired found disk = IsSomeAnd (repaired found) (λ text. IsLeft text disk)
+IsRepaired found disk = IsSomeAnd (repaired_text found) (λ text. IsLeft text disk)
 
 -- a repair leaves the log as it is
 abbrev pub StaysRepaired : Option Disk → Type 0
-StaysRepaired disk = IsSomeAnd disk (λ d. repaired d.visible ≡ Some d.visible)
+StaysRepaired disk = IsSomeAnd disk (λ d. repaired_text d.visible ≡ Some d.visible)
 
 -- the bytes are a log with the table of this history
 abbrev pub HasTable : History → List ℕ → Type 0

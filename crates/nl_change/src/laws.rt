@@ -2,21 +2,21 @@
 ghost use Rattle.std.specs.Prelude.{◌≡◌, ◌↔◌, [], ℕ, List, Option, Some, Result};
 ghost use Rattle.nl_lines.specs.Split.{torn_len};
 ghost use Rattle.nl_table.specs.Log.{skipped_count};
-ghost use Rattle.nl_print.specs.Streams.{damaged};
+ghost use Rattle.nl_print.specs.Streams.{damage_text_of};
 ghost use Rattle.nl_texts.specs.declared.fault.ToolFault.{ToolFault};
 ghost use Rattle.nl_change.specs.Calls.{ChangesAsRead, FolderView, SaysAsRead, keeping, touching};
 ghost use Rattle.nl_change.specs.Files.{keep_of, times_of};
-ghost use Rattle.nl_change.specs.Updates.{repaired};
+ghost use Rattle.nl_change.specs.Updates.{repaired_text};
 
 /// `damage` prints nothing of a log exactly where `check` counts no skipped line and no torn byte.
 pub fn damage_is_what_check_counts()
-    ensures { (bytes text : List ℕ) → damaged bytes ≡ Some text
+    ensures { (bytes text : List ℕ) → damage_text_of bytes ≡ Some text
         → (text ≡ []) ↔ ((skipped_count bytes ≡ 0) × (torn_len bytes ≡ 0)) }
 {}
 
 /// Of a log that a repair leaves as it is `damage` prints nothing.
 pub fn a_repaired_log_has_no_damage()
-    ensures { (bytes : List ℕ) → repaired bytes ≡ Some bytes → damaged bytes ≡ Some [] }
+    ensures { (bytes : List ℕ) → repaired_text bytes ≡ Some bytes → damage_text_of bytes ≡ Some [] }
 {}
 
 /// Where KEEP is read first, each answer of a change by it is of the names that it holds, or nothing was done.

@@ -19,7 +19,8 @@ use Rattle.nl_table.specs.Log.{LogReading, Log, NotALog, OtherVersion, entries_o
 use Rattle.nl_table.specs.LogText.{lines_of_entries}
 use Rattle.nl_table.proofs.FirstLineLemmas.{log_of-lines}
 use Rattle.nl_table.proofs.LogLemmas.{is_versioned, rest_is_header}
-use Rattle.nl_print.specs.Streams.{Finds, IsSoFar, Streams, entry_text, listed, listed_of, texts_from, told, told_of}
+use Rattle.nl_print.specs.Streams.{Finds, IsSoFar, Streams, entry_text, entries_text_of, entries_text, texts_from}
+use Rattle.nl_print.specs.Streams.{text_by_lines, text_by_parts}
 use Rattle.nl_print.specs.VersionOf.{as_five}
 
 -- what is told of a line, and of the rest
@@ -29,16 +30,16 @@ entry_line version number line = entry_text (entry_on version line)
 abbrev pub no_rest : ℕ → ℕ → List ℕ → List ℕ
 no_rest version number rest = []
 
-entries_text : (v n : ℕ) (lines : List (List ℕ)) → texts_from (entry_line v) n lines ≡ lines_of_entries (entries_on v lines)
-entries_text v n [] = refl
-entries_text v n (line ∷ lines) = go (entry_on v line) (entries_text v (n + 1) lines)
+texts_are_lines : (v n : ℕ) (lines : List (List ℕ)) → texts_from (entry_line v) n lines ≡ lines_of_entries (entries_on v lines)
+texts_are_lines v n [] = refl
+texts_are_lines v n (line ∷ lines) = go (entry_on v line) (texts_are_lines v (n + 1) lines)
   where
     go : (o : Option Entry) → texts_from (entry_line v) (n + 1) lines ≡ lines_of_entries (entries_on v lines)
         → entry_text o ++ texts_from (entry_line v) (n + 1) lines ≡ lines_of_entries (cons_option o (entries_on v lines))
     go None later = later
     go (Some e) later = ap (λ (t : List ℕ). with_newline (line_of e) ++ t) later
 
-told_listed : (bytes : List ℕ) → told entry_line no_rest bytes ≡ listed bytes
+told_listed : (bytes : List ℕ) → text_by_lines entry_line no_rest bytes ≡ entries_text_of bytes
 told_listed bytes = go (log_of bytes) refl
   where
     by_lines : (v : ℕ) (es : List Entry) → log_of bytes ≡ Log v es → (lines : List (List ℕ)) → lines_of bytes ≡ lines
@@ -47,34 +48,34 @@ told_listed bytes = go (log_of bytes) refl
         let empty : [] ≡ es = cc ((rest_is_header bytes v es none reads).1) in
         ap lines_of_entries empty
     by_lines v es reads (first ∷ later) some =
-        entries_text v 2 later ∙ ap lines_of_entries
+        texts_are_lines v 2 later ∙ ap lines_of_entries
         (is_versioned (header_of first) (length bytes) v later es (sym (log_of-lines bytes first later some) ∙ reads)).entries
 
-    go : (r : LogReading) → log_of bytes ≡ r → told_of entry_line no_rest (lines_of bytes) (rest_of bytes) r ≡ listed_of r
+    go : (r : LogReading) → log_of bytes ≡ r → text_by_parts entry_line no_rest (lines_of bytes) (rest_of bytes) r ≡ entries_text r
     go (Log v es) reads = ap (λ (l : List ℕ). Some l)
         (append-nil (texts_from (entry_line v) 2 (drop 1 (lines_of bytes))) ∙ by_lines v es reads (lines_of bytes) refl)
     go OtherVersion reads = refl
     go NotALog reads = refl
 
-same_text : told entry_line no_rest ≡ listed
+same_text : text_by_lines entry_line no_rest ≡ entries_text_of
 same_text = λ i bytes. told_listed bytes i
 
-pub all_listed : (known w v : Option (List ℕ)) (any : Bool) → Finds (λ bs. told entry_line no_rest (as_five bs)) known w v (Ok any)
-    → Streams (λ bs. listed (as_five bs)) known w v (Ok tt)
+pub all_listed : (known w v : Option (List ℕ)) (any : Bool) → Finds (λ bs. text_by_lines entry_line no_rest (as_five bs)) known w v (Ok any)
+    → Streams (λ bs. entries_text_of (as_five bs)) known w v (Ok tt)
 all_listed known w v any found = subst (λ (text_of : List ℕ → Option (List ℕ)). Streams (λ bs. text_of (as_five bs)) known w v (Ok tt))
     same_text (found.0, found.1, found.2)
 
-pub some_listed : (known w v : Option (List ℕ)) → IsSoFar (λ bs. told entry_line no_rest (as_five bs)) known w v
-    → IsSoFar (λ bs. listed (as_five bs)) known w v
+pub some_listed : (known w v : Option (List ℕ)) → IsSoFar (λ bs. text_by_lines entry_line no_rest (as_five bs)) known w v
+    → IsSoFar (λ bs. entries_text_of (as_five bs)) known w v
 some_listed known w v so_far =
     subst (λ (text_of : List ℕ → Option (List ℕ)). IsSoFar (λ bs. text_of (as_five bs)) known w v) same_text so_far
 
 -- the entries of a log, loaded again, are its table
-pub entries_shown : (bytes text : List ℕ) → listed bytes ≡ Some text → length (header_line ++ text) ≤ max_log
+pub entries_shown : (bytes text : List ℕ) → entries_text_of bytes ≡ Some text → length (header_line ++ text) ≤ max_log
     → show_text_of (header_line ++ text) ≡ show_text_of bytes
 entries_shown bytes text is fits = go (log_of bytes) refl is
   where
-    go : (r : LogReading) → log_of bytes ≡ r → listed_of r ≡ Some text → show_text_of (header_line ++ text) ≡ show_text r
+    go : (r : LogReading) → log_of bytes ≡ r → entries_text r ≡ Some text → show_text_of (header_line ++ text) ≡ show_text r
     go OtherVersion reads none = absurd (cc none)
     go NotALog reads none = absurd (cc none)
     go (Log v es) reads some =

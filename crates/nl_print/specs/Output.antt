@@ -55,8 +55,8 @@ checked_of skipped torn (Log version entries) =
 checked_of skipped torn OtherVersion = None
 checked_of skipped torn NotALog = None
 
-abbrev pub checked : List ℕ → Option (List ℕ)
-checked bytes = checked_of (skipped_count bytes) (torn_len bytes) (log_of bytes)
+abbrev pub check_text_of : List ℕ → Option (List ℕ)
+check_text_of bytes = checked_of (skipped_count bytes) (torn_len bytes) (log_of bytes)
 
 -- the text is that of the bytes which a reader gave: the known ones where they are known
 pub record IsTextAsRead (text_of : List ℕ → Option (List ℕ)) (known : Option (List ℕ)) (text : List ℕ) : Type 0 where

@@ -21,25 +21,25 @@ texts_from of_line number [] = []
 texts_from of_line number (line ∷ lines) = of_line number line ++ texts_from of_line (number + 1) lines
 
 -- the text of each line after the first, and that of the rest, by the version and by their numbers; none where there is no log
-abbrev pub told_of : (ℕ → ℕ → List ℕ → List ℕ) → (ℕ → ℕ → List ℕ → List ℕ) → List (List ℕ) → List ℕ → LogReading → Option (List ℕ)
-told_of of_line of_rest lines rest (Log version entries) =
+abbrev pub text_by_parts : (ℕ → ℕ → List ℕ → List ℕ) → (ℕ → ℕ → List ℕ → List ℕ) → List (List ℕ) → List ℕ → LogReading → Option (List ℕ)
+text_by_parts of_line of_rest lines rest (Log version entries) =
     Some (texts_from (of_line version) 2 (drop 1 lines) ++ of_rest version (length lines + 1) rest)
-told_of of_line of_rest lines rest OtherVersion = None
-told_of of_line of_rest lines rest NotALog = None
+text_by_parts of_line of_rest lines rest OtherVersion = None
+text_by_parts of_line of_rest lines rest NotALog = None
 
-abbrev pub told : (ℕ → ℕ → List ℕ → List ℕ) → (ℕ → ℕ → List ℕ → List ℕ) → List ℕ → Option (List ℕ)
-told of_line of_rest bytes = told_of of_line of_rest (lines_of bytes) (rest_of bytes) (log_of bytes)
+abbrev pub text_by_lines : (ℕ → ℕ → List ℕ → List ℕ) → (ℕ → ℕ → List ℕ → List ℕ) → List ℕ → Option (List ℕ)
+text_by_lines of_line of_rest bytes = text_by_parts of_line of_rest (lines_of bytes) (rest_of bytes) (log_of bytes)
 
 -- ---- `entries`
 
 -- the line of each entry, in the order of the file; none where there is no log
-abbrev pub listed_of : LogReading → Option (List ℕ)
-listed_of (Log version entries) = Some (lines_of_entries entries)
-listed_of OtherVersion = None
-listed_of NotALog = None
+abbrev pub entries_text : LogReading → Option (List ℕ)
+entries_text (Log version entries) = Some (lines_of_entries entries)
+entries_text OtherVersion = None
+entries_text NotALog = None
 
-abbrev pub listed : List ℕ → Option (List ℕ)
-listed bytes = listed_of (log_of bytes)
+abbrev pub entries_text_of : List ℕ → Option (List ℕ)
+entries_text_of bytes = entries_text (log_of bytes)
 
 -- the line of the entry that a line is, and nothing where it is none
 abbrev pub entry_text : Option Entry → List ℕ
@@ -89,8 +89,8 @@ torn_on version number [] = []
 torn_on version number (b ∷ bytes) = damage_line number (codes "torn") (length (b ∷ bytes)) (named_last version (lent_rest (b ∷ bytes)))
 
 -- the text of `damage`; none where there is no log
-abbrev pub damaged : List ℕ → Option (List ℕ)
-damaged bytes = told damage_on torn_on bytes
+abbrev pub damage_text_of : List ℕ → Option (List ℕ)
+damage_text_of bytes = text_by_lines damage_on torn_on bytes
 
 -- ---- what a writer holds
 

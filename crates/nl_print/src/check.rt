@@ -3,7 +3,7 @@ ghost use Rattle.std.specs.Prelude.{◌≡◌, length, string_bytes, IfErr, IfOk
 ghost use Rattle.nl_table.specs.Log.{log_of, NotALog, OtherVersion};
 ghost use Rattle.nl_print.specs.Faults.{IsLogFault};
 ghost use Rattle.nl_texts.specs.Output.{Prints};
-ghost use Rattle.nl_print.specs.Output.{checked, report, yes_or_no, IsTextAsRead};
+ghost use Rattle.nl_print.specs.Output.{check_text_of, report, yes_or_no, IsTextAsRead};
 ghost use Rattle.nl_print.specs.Versions.{checked_as, log_as, numbered};
 ghost use Rattle.nl_print.specs.VersionOf.{IsReportOfAny, as_five};
 ghost use Rattle.nl_texts.specs.declared.fault.ToolFault.{ToolFault};
@@ -23,8 +23,8 @@ pub fn check_to<R: Read + Drop, W: Write>(
     reader: R,
     writer: &mut W,
 ) -> Result<(), ToolFault>
-    ensures prints { Prints (IsTextAsRead checked (R.remaining reader)) (W.contents writer.old)
-        (W.contents writer.new) result }
+    ensures prints { Prints (IsTextAsRead check_text_of (R.remaining reader))
+        (W.contents writer.old) (W.contents writer.new) result }
     ensures not_a_log { IsErrOf result ToolFault.NotALog
         → IfSome (R.remaining reader) (λ bs. log_of bs ≡ NotALog) }
     ensures other_version { IsErrOf result ToolFault.OtherVersion

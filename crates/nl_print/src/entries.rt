@@ -4,7 +4,7 @@ ghost use Rattle.nl_lines.specs.Split.{with_newline};
 ghost use Rattle.nl_table.specs.Log.{entry_on, log_of, NotALog, OtherVersion};
 ghost use Rattle.nl_texts.specs.declared.fault.ToolFault.{ToolFault};
 ghost use Rattle.nl_print.specs.Faults.{IsLogFault};
-ghost use Rattle.nl_print.specs.Streams.{Streams, entry_text, listed};
+ghost use Rattle.nl_print.specs.Streams.{Streams, entry_text, entries_text_of};
 ghost use Rattle.nl_print.specs.VersionOf.{as_five};
 
 use crate::stream::{LineText, stream_to};
@@ -77,7 +77,7 @@ pub fn entries_to<R: Read + Drop, W: Write>(
     reader: R,
     writer: &mut W,
 ) -> Result<(), ToolFault>
-    ensures streams { Streams (λ bs. listed (as_five bs)) (R.remaining reader)
+    ensures streams { Streams (λ bs. entries_text_of (as_five bs)) (R.remaining reader)
         (W.contents writer.old) (W.contents writer.new) result }
     ensures not_a_log { IsErrOf result ToolFault.NotALog
         → IfSome (R.remaining reader) (λ bs. log_of (as_five bs) ≡ NotALog) }

@@ -9,13 +9,13 @@ ghost use Rattle.nl_lines.specs.declared.version.LogVersion.{LogVersion};
 ghost use Rattle.nl_table.specs.Log.{Log, log_of};
 ghost use Rattle.nl_table.specs.Versions.{oldest_version};
 ghost use Rattle.nl_print.specs.Output.{show_text_of};
-ghost use Rattle.nl_print.specs.Streams.{listed};
+ghost use Rattle.nl_print.specs.Streams.{entries_text_of};
 ghost use Rattle.nl_print.specs.VersionOf.{version_of};
 ghost use Rattle.nl_print.specs.Versions.{log_as};
 
 /// What `show` prints of the header line and of what `entries` printed is what it prints of the log.
 pub fn entries_are_shown()
-    ensures { (bytes text : List ℕ) → listed bytes ≡ Some text
+    ensures { (bytes text : List ℕ) → entries_text_of bytes ≡ Some text
         → length (header_line ++ text) ≤ max_log
         → show_text_of (header_line ++ text) ≡ show_text_of bytes }
 {}

@@ -2,7 +2,7 @@
 use Rattle.std.specs.Prelude.{◌≡◌, ℕ, List, Option, None, Some}
 use Rattle.nl_lines.specs.declared.version.LogVersion.{LogVersion}
 use Rattle.nl_lines.specs.declared.version.LogVersion.TheVariants.{Five, Six, Seven}
-use Rattle.nl_print.specs.Output.{IsFileHash, IsHashText, IsTextAsRead, checked, show_text_of}
+use Rattle.nl_print.specs.Output.{IsFileHash, IsHashText, IsTextAsRead, check_text_of, show_text_of}
 use Rattle.nl_print.specs.VersionOf.{IsReportOfAny, show_text_of_any}
 use Rattle.nl_print.specs.Versions.{checked_as, hash_text_as, show_text_as}
 use Rattle.nl_replay.specs.Replay.{IsReplayText}
@@ -14,7 +14,7 @@ use Rattle.nl_words.specs.declared.version.AskedVersion.TheVariants as asked
 -- the text of each such command, by the known bytes of what it reads
 abbrev pub IsAnswer : Printing → Option (List ℕ) → List ℕ → Type 0
 IsAnswer Show known text = IsTextAsRead show_text_of known text
-IsAnswer Check known text = IsTextAsRead checked known text
+IsAnswer Check known text = IsTextAsRead check_text_of known text
 IsAnswer (Hash command) known text = IsHashText command.now text
 IsAnswer HashFile known text = IsFileHash known text
 IsAnswer Replay known text = IsReplayText known text

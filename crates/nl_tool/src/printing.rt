@@ -3,7 +3,7 @@ ghost use Rattle.std.specs.Prelude.{◌≡◌, ◌<◌, ◌↔◌, ℕ, List, If
 ghost use Rattle.std.specs.Io.KnownBytes.{Appends};
 ghost use Rattle.nl_print.specs.Faults.{IsLogFault};
 ghost use Rattle.nl_print.specs.Output.{IsTextAsRead};
-ghost use Rattle.nl_print.specs.Streams.{IsSoFar, damaged};
+ghost use Rattle.nl_print.specs.Streams.{IsSoFar, damage_text_of};
 ghost use Rattle.nl_print.specs.VersionOf.{as_five};
 ghost use Rattle.nl_table.specs.Log.{NotALog, OtherVersion, log_of};
 ghost use Rattle.nl_texts.specs.Output.{Prints};
@@ -96,10 +96,10 @@ fn tell_damage<R: Read + Drop, W: Write>(
 ) -> Result<Outcome, ToolFault>
     ensures found { MatchResult result
         (λ outcome.
-        (text : List ℕ) × IsTextAsRead (λ bs. damaged (as_five bs)) (R.remaining reader) text
+        (text : List ℕ) × IsTextAsRead (λ bs. damage_text_of (as_five bs)) (R.remaining reader) text
         × Appends (W.contents writer.old) (W.contents writer.new) text
         × ((outcome ≡ Outcome.Damaged) ↔ (0 < length text)))
-        (λ _. IsSoFar (λ bs. damaged (as_five bs)) (R.remaining reader) (W.contents writer.old)
+        (λ _. IsSoFar (λ bs. damage_text_of (as_five bs)) (R.remaining reader) (W.contents writer.old)
         (W.contents writer.new)) }
     ensures not_a_log { IsErrOf result ToolFault.NotALog
         → IfSome (R.remaining reader) (λ bs. log_of (as_five bs) ≡ NotALog) }
