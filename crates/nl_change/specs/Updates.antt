@@ -11,7 +11,7 @@ use Rattle.nl_session.specs.declared.state.LogState.{LogState}
 use Rattle.nl_session.specs.declared.state.LogState.TheVariants.{Open}
 use Rattle.nl_session.specs.Machine.{State, MayHaveGained, all_of, durable_at, gained_state, history_opened}
 use Rattle.nl_session.specs.Opened.{IsLog, opened_bytes}
-use Rattle.nl_session.specs.Parts.{IsLeft}
+use Rattle.nl_session.specs.Parts.{IsDurable}
 use Rattle.nl_session.specs.Represents.{Represents}
 use Rattle.nl_session.specs.States.{IsAt}
 use Rattle.nl_texts.specs.Files.{OfBytes}
@@ -26,12 +26,12 @@ abbrev pub dead_but : List (List ℕ) → List ℕ → Bool
 dead_but names name = not (holds names name)
 
 -- the history that an open leaves, which drops nothing
-abbrev pub opened_history : History → History
-opened_history h = history_opened none_dead h
+abbrev pub history_kept : History → History
+history_kept h = history_opened none_dead h
 
 -- that history and then the update, which depends on it
 abbrev pub updated : (History → Update) → History → History
-updated update start = Then (opened_history start) (update (opened_history start))
+updated update start = Then (history_kept start) (update (history_kept start))
 
 -- this holds of whatever is found, also after a crash
 abbrev pub OfAllFound : (List ℕ → Type 0) → Option Disk → Type 0
@@ -39,7 +39,7 @@ OfAllFound Holds disk = IsSomeAnd disk (λ d. (bs : List ℕ) → IsImage d bs �
 
 -- the bytes represent the history that was found, the one that an open leaves, or that and then the update
 abbrev pub MayRepresent : (History → Update) → History → List ℕ → Type 0
-MayRepresent update start bs = Represents bs start ⊎ Represents bs (opened_history start) ⊎ Represents bs (updated update start)
+MayRepresent update start bs = Represents bs start ⊎ Represents bs (history_kept start) ⊎ Represents bs (updated update start)
 
 -- what is found after the answer to an update of a log with this history
 abbrev pub Leaves : {E : Type 0} → (History → Update) → History → Result Unit E → Option Disk → Type 0
@@ -49,7 +49,7 @@ Leaves update start (Err fault) disk = OfAllFound (MayRepresent update start) di
 -- the bytes that are made of opened ones and their table are the log, and every crash leaves them so
 abbrev pub IsUpdated : (List Entry → List ℕ → List ℕ) → List ℕ → Option Disk → Type 0
 IsUpdated bytes found disk =
-    IsSomeAnd (history_of (opened_bytes none_dead found)) (λ h. IsLeft (bytes (table h) (opened_bytes none_dead found)) disk)
+    IsSomeAnd (history_of (opened_bytes none_dead found)) (λ h. IsDurable (bytes (table h) (opened_bytes none_dead found)) disk)
 
 -- the text that a repair leaves of the bytes of a log: the header line, and the line of each entry of its table, in order
 abbrev pub repaired_text : List ℕ → Option (List ℕ)
@@ -57,7 +57,7 @@ repaired_text bytes = option_map (λ (h : History). text_of (table h)) (history_
 
 -- the bytes were a log, and what a repair leaves of them is the log, whatever crash comes
 abbrev pub IsRepaired : List ℕ → Option Disk → Type 0
-IsRepaired found disk = IsSomeAnd (repaired_text found) (λ text. IsLeft text disk)
+IsRepaired found disk = IsSomeAnd (repaired_text found) (λ text. IsDurable text disk)
 
 -- a repair leaves the log as it is
 abbrev pub StaysRepaired : Option Disk → Type 0
@@ -70,7 +70,7 @@ HasTable h bs = IsSomeAnd (history_of bs) (λ (found : History). table found ≡
 -- the bytes were a log, and the log is what an open leaves of it, whatever crash comes
 pub record IsOpenLeft (found : Disk) (disk : Option Disk) : Type 0 where
   pub log : IsLog found.visible
-  pub left : IsLeft (opened_bytes none_dead found.visible) disk
+  pub left : IsDurable (opened_bytes none_dead found.visible) disk
 
 -- nothing of an update was made: the disk is as it was, or opened
 abbrev pub IsUnmade : Disk → Option Disk → Type 0

@@ -4,7 +4,7 @@ ghost use Rattle.nl_table.specs.Log.{log_of, NotALog, OtherVersion};
 ghost use Rattle.nl_print.specs.Faults.{IsLogFault};
 ghost use Rattle.nl_texts.specs.Output.{Prints};
 ghost use Rattle.nl_print.specs.Output.{check_text_of, report, yes_or_no, IsTextAsRead};
-ghost use Rattle.nl_print.specs.Versions.{checked_as, log_as, numbered};
+ghost use Rattle.nl_print.specs.Versions.{check_text_as, log_as, numbered};
 ghost use Rattle.nl_print.specs.VersionOf.{IsReportOfAny, as_five};
 ghost use Rattle.nl_texts.specs.declared.fault.ToolFault.{ToolFault};
 
@@ -43,7 +43,7 @@ pub fn check_as<R: Read + Drop, W: Write>(
     reader: R,
     writer: &mut W,
 ) -> Result<(), ToolFault>
-    ensures prints { Prints (IsTextAsRead (checked_as version) (R.remaining reader))
+    ensures prints { Prints (IsTextAsRead (check_text_as version) (R.remaining reader))
         (W.contents writer.old) (W.contents writer.new) result }
     ensures not_a_log { IsErrOf result ToolFault.NotALog
         → IfSome (R.remaining reader) (λ bs. log_as version bs ≡ NotALog) }

@@ -49,9 +49,9 @@ pub use Rattle.nl_session.specs.Headline.{Exchange, update_of, makes_durable, is
 pub use Rattle.nl_session.specs.Headline.{none, idle, stands, failed, lost, Headline}
 pub use Rattle.nl_session.specs.Machine.{CrashesNow, State, durable_at, Act, Records, Step, Run, all_of, Opens, reply_of, shown_of}
 pub use Rattle.nl_session.specs.Machine.{history_opened, Recompacts, Restats, StepOk, StepFault, MayHaveGained, NoneNegative, pending_at}
-pub use Rattle.nl_session.specs.Opened.{mended_bytes, living, opened_from, opened_bytes, IsLog, OpenedAs, OpensAs, Reopens, StaysAtRest}
+pub use Rattle.nl_session.specs.Opened.{mended_bytes, living, opened_bytes_by, opened_bytes, IsLog, OpenedAs, OpensAs, Reopens, StaysAtRest}
 pub use Rattle.nl_session.specs.Opened.{IsAtRest, IsTableOf}
-pub use Rattle.nl_session.specs.Parts.{OnlyScratch, filled_disk, Appended, IsLeft, RewriteFailed, rewritten_disk, filling_disk}
+pub use Rattle.nl_session.specs.Parts.{OnlyScratch, filled_disk, Appended, IsDurable, RewriteFailed, rewritten_disk, filling_disk}
 pub use Rattle.nl_session.specs.Parts.{repaired_disk, RepairFailed, OpenLeaves, OpenFaults, grown_at, GrowsAt}
 pub use Rattle.nl_session.specs.Reopening.{Moved, IsCalm, Moves, IsTry, OpenedFrom}
 pub use Rattle.nl_session.specs.Runs.{BeginsAt, HeadlineOn, act_of, faults_of, Ran, RestsThrough, OpensAtLast, TakesMemory, HadMemory}

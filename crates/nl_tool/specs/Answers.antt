@@ -4,7 +4,7 @@ use Rattle.nl_lines.specs.declared.version.LogVersion.{LogVersion}
 use Rattle.nl_lines.specs.declared.version.LogVersion.TheVariants.{Five, Six, Seven}
 use Rattle.nl_print.specs.Output.{IsFileHash, IsHashText, IsTextAsRead, check_text_of, show_text_of}
 use Rattle.nl_print.specs.VersionOf.{IsReportOfAny, show_text_of_any}
-use Rattle.nl_print.specs.Versions.{checked_as, hash_text_as, show_text_as}
+use Rattle.nl_print.specs.Versions.{check_text_as, hash_text_as, show_text_as}
 use Rattle.nl_replay.specs.Replay.{IsReplayText}
 use Rattle.nl_tool.specs.declared.printing.Printing.{Printing}
 use Rattle.nl_tool.specs.declared.printing.Printing.TheVariants.{Show, Check, Hash, HashFile, Replay}
@@ -22,7 +22,7 @@ IsAnswer Replay known text = IsReplayText known text
 -- the text of each such command, where logs are those of the version
 abbrev pub IsAnswerOf : LogVersion → Printing → Option (List ℕ) → List ℕ → Type 0
 IsAnswerOf version Show known text = IsTextAsRead (show_text_as version) known text
-IsAnswerOf version Check known text = IsTextAsRead (checked_as version) known text
+IsAnswerOf version Check known text = IsTextAsRead (check_text_as version) known text
 IsAnswerOf version (Hash command) known text = text ≡ hash_text_as version command.now
 IsAnswerOf version printing known text = IsAnswer printing known text
 

@@ -136,7 +136,7 @@ pub struct NotedWriter<W> {
 
 impl<W: Write> NotedWriter<W> {
     pub fn new(writer: W) -> Self
-        ensures contents { ⟦<NotedWriter<W> as Write>⟧.contents result ≡ W.contents writer }
+        ensures same { ⟦<NotedWriter<W> as Write>⟧.contents result ≡ W.contents writer }
         ensures none { result.failure ≡ None }
     {
         NotedWriter {
