@@ -1,9 +1,10 @@
 #!/usr/bin/env python3
 """Holds the table of clause labels in CONTRIBUTING.md to the code: python3 tests/labels.py
 
-Each label of a clause outside of laws.rt and callers.rt stands in the table, once, and each label of the table is one of a clause. The first
-line of each must-fail edit names a place and a clause of the crate, which stand in its sources or in those of the crate's specs and proofs.
-It reads the repository's texts alone, and needs no toolchain.
+Each label of a clause outside of laws.rt and callers.rt stands in the table, once, and so does each part of a call's relation (a field of a
+record of a `specs/Calls` of RELATIONS), whose clause is `call`; each label of the table is one of these. The first line of each must-fail
+edit names a place and a clause of the crate, which stand in its sources or in those of the crate's specs and proofs. It reads the
+repository's texts alone, and needs no toolchain.
 """
 
 import collections
@@ -15,6 +16,12 @@ from glob import glob
 TOP = os.path.dirname(os.path.dirname(os.path.abspath(__file__)))
 CLAUSE = re.compile(r"\b(?:ensures|requires)\*?\s+([a-z]\w*)\s*\{")
 LAWS = ("laws.rt", "callers.rt")
+RECORD = re.compile(r"^pub record (\w+).*\n(?:    .*\n)*((?:  (?:pub|  |--).*\n)*)", re.MULTILINE)
+FIELD = re.compile(r"^  pub (\w+) :", re.MULTILINE)
+
+# The crates with relations of calls in specs/Calls, and the records there that are values and no relations.
+RELATIONS = ("nl_session", "nl_change")
+VALUES = {"FolderView", "Meaning"}
 
 # The clause of std's Display that each text of a fault meets: what is written.
 OF_STD = {"writes"}
@@ -46,6 +53,17 @@ def labels_in_use():
     return found
 
 
+def parts_in_use():
+    """Each part of a call's relation, with the pages that have it."""
+    found = collections.defaultdict(list)
+    for crate in RELATIONS:
+        page = f"{TOP}/crates/{crate}/specs/Calls.antt"
+        for name, fields in RECORD.findall(text_of(page)):
+            for field in FIELD.findall(fields) if name not in VALUES else []:
+                found[field].append(os.path.relpath(page, TOP))
+    return found
+
+
 def faults_of_edits():
     """Says of each edit whose first line names no clause, or one that no function of its crate has."""
     for edit in sorted(glob(f"{TOP}/crates/*/must-fail/*.edit")):
@@ -64,8 +82,10 @@ def main():
     checks = []
     table = labels_of_table(text_of(f"{TOP}/CONTRIBUTING.md"))
     used = labels_in_use()
+    for label, pages in parts_in_use().items():
+        used[label] += pages
     for label, files in sorted(used.items()):
-        checks.append(None if label in table else f"{label}: a clause of {files[0]} has it, and the table in CONTRIBUTING.md doesn't")
+        checks.append(None if label in table else f"{label}: {files[0]} has it, and the table in CONTRIBUTING.md doesn't")
     for label, times in sorted(collections.Counter(table).items()):
         checks.append(None if label in used else f"{label}: it stands in the table in CONTRIBUTING.md, and no clause has it")
         checks.append(None if times == 1 else f"{label}: the table in CONTRIBUTING.md has it {times} times")
