@@ -11,13 +11,13 @@ use thiserror::Error;
 /// Why bytes are refused as a name.
 #[derive(Clone, Copy, Debug, PartialEq, Eq, Error)]
 pub enum NameFault {
-    #[error("empty name")]
+    #[error("a name has at least one byte")]
     Empty,
-    #[error("bad byte in name at {0}")]
+    #[error("a name cannot have the byte at {0}")]
     BadByte(usize),
-    #[error("name too long")]
+    #[error("a name has at most 65536 bytes")]
     TooLong,
-    #[error("out of memory")]
+    #[error("no memory for the name")]
     OutOfMemory,
 }
 

@@ -53,8 +53,8 @@ pub fn a_prefix_image_after_an_append_is_an_old_one_or_goes_on()
         ⊎ ((more : List ℕ) × (bs ≡ disk.visible ++ more) × IsPrefix more (take n bytes)) }
 {}
 
-/// A log at rest is all that a crash may leave.
-pub fn a_log_at_rest_has_one_image()
+/// A log that is all durable is all that a crash may leave.
+pub fn a_durable_log_has_one_image()
     ensures { (text bs : List ℕ) (scratch : File) → IsImage (durable_disk text scratch) bs
         → bs ≡ text }
 {}

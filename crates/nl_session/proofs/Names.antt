@@ -40,7 +40,7 @@ pub use Rattle.nl_folder.specs.Calls.{log_cut, log_synced, log_grown, GrowsLog, 
 pub use Rattle.nl_folder.specs.Calls.{scratch_grown, scratch_synced, GrowsScratch, SyncsScratch}
 pub use Rattle.nl_folder.specs.CrashImages.{IsImageOf, IsDisk, IsImage}
 pub use Rattle.nl_folder.specs.DiskState.{Disk, durable_disk, empty_file, File, durable_file}
-pub use Rattle.nl_session.specs.Answers.{HasCounted, Answered, Exchanged, events_of, replies_of, StandsSound}
+pub use Rattle.nl_session.specs.Answers.{HasCounted, Answered, CallOf, Exchanged, events_of, replies_of, StandsSound}
 pub use Rattle.nl_session.specs.Effects.{LeavesOk, LeavesFault, Leaves, Rewrites, RewriteFaults}
 pub use Rattle.nl_session.specs.{Grows.EndsClear, Grows.Grew, View.View, View.view_of, View.StandsAt, View.HasStayed, View.StepsBy}
 pub use Rattle.nl_session.specs.{Represents.Represents, Represents.Agrees, Represents.RepresentsPrefix, Machine.gained_state}
