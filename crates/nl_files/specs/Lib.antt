@@ -1,3 +1,4 @@
+pub mod Limits
 pub mod Model
 pub mod SystemCalls
 pub mod Failures
