@@ -1,7 +1,7 @@
 #!/usr/bin/env python3
 """Holds the table of clause labels in CONTRIBUTING.md to the code: python3 tests/labels.py
 
-Each label of a clause outside of laws.rt and callers.rt stands in the table, once, and so does each part of a call's relation (a field of a
+Each label of a clause outside of laws.rt stands in the table, once, and so does each part of a call's relation (a field of a
 record of a `specs/Calls` of RELATIONS), whose clause is `call`; each label of the table is one of these. The first line of each must-fail
 edit names a place and a clause of the crate, which stand in its sources or in those of the crate's specs and proofs. It reads the
 repository's texts alone, and needs no toolchain.
@@ -15,7 +15,7 @@ from glob import glob
 
 TOP = os.path.dirname(os.path.dirname(os.path.abspath(__file__)))
 CLAUSE = re.compile(r"\b(?:ensures|requires)\*?\s+([a-z]\w*)\s*\{")
-LAWS = ("laws.rt", "callers.rt")
+LAWS = ("laws.rt",)
 RECORD = re.compile(r"^pub record (\w+).*\n(?:    .*\n)*((?:  (?:pub|  |--).*\n)*)", re.MULTILINE)
 FIELD = re.compile(r"^  pub (\w+) :", re.MULTILINE)
 

@@ -2,4 +2,3 @@ pub mod ReadsAtLemmas
 pub mod ImageLemmas
 pub mod VersionFolderLemmas
 mod MemFolderLemmas
-mod CallerLemmas

@@ -9,4 +9,3 @@ pub mod MemFolder
 pub mod LogReader
 pub mod Version
 pub mod SeenDisk
-pub mod Callers

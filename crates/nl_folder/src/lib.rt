@@ -1,7 +1,6 @@
 //! A folder with a log and a scratch, what a crash may leave of it, and one in memory that crashes as it is told.
 #![tactic(auto)]
 
-pub mod callers;
 mod choices;
 mod folder;
 mod fuse;
