@@ -26,6 +26,8 @@ module _ {T : Type 0} (reading : List ℕ → FileReading T) (meaning : List T �
     negative_time = λ index is. absurd (subst Refuses is u.refused);
     opened = λ d index there is. absurd (subst Refuses is u.refused);
     unmade = λ d is none. inl (ap (λ (v : FolderView). v.disk) u.stays ∙ is);
+    untouched = λ d is none. ap (λ (v : FolderView). v.disk) u.stays;
+    scratch = tt;
     bytes = record {
       not_a_log = λ d there is. absurd (subst Refuses is u.refused);
       other_version = λ d there is. absurd (subst Refuses is u.refused);
@@ -61,6 +63,8 @@ module _ {T : Type 0} (reading : List ℕ → FileReading T) (meaning : List T �
     negative_time = λ index is. said_so _ said (said.holds.disk.negative_time index is);
     opened = said.holds.disk.opened;
     unmade = said.holds.disk.unmade;
+    untouched = said.holds.disk.untouched;
+    scratch = said.holds.scratch;
     bytes = said.holds.bytes;
     unchanged = said.holds.unchanged;
     count = said.holds.count;

@@ -27,6 +27,7 @@ module _ {m : Meaning} {old new : FolderView} where
       opened = λ d index is other. absurd (cc other);
       negative_time = λ index other. absurd (cc other);
       accepts = tt;
+      untouched = λ d is none. ap (seen_as_version version) same;
     };
     settled = tt;
     barred = λ d is four. (refl, same);
@@ -88,7 +89,7 @@ module _ {m : Meaning} {r : Result (Unit {0}) ToolFault} {old new : FolderView} 
           count = λ none. call.count;
           refusals = call.refusals;
         };
-        five = λ five. call.count;
+        five = λ five. call;
       }
 
   -- of another

@@ -1,6 +1,6 @@
 -- What each call that changes a log makes of what contracts see of its folder, by the answer: docs/PROMISES.md.
-use Rattle.std.specs.Prelude.{◌≡◌, ◌⊎◌, ◌++◌, ℕ, ℤ, Bool, List, [], Option, Some, IsSomeAnd, IsTrue, Result, IsErr, IsErrOf, IfErr, OnErr}
-use Rattle.std.specs.Prelude.{OnOk, if◌then◌else◌}
+use Rattle.std.specs.Prelude.{◌≡◌, ◌⊎◌, ◌++◌, ℕ, ℤ, Bool, false, List, [], Option, Some, IsSomeAnd, IsTrue, Result, IsErr, IsErrOf, IfErr}
+use Rattle.std.specs.Prelude.{OnErr, OnOk, if◌then◌else◌}
 use Rattle.std.specs.Result.{IsErrAnd}
 use Rattle.nl_fields.specs.declared.entry.Entry.{Entry}
 use Rattle.nl_fields.specs.EntryLine.{line_of}
@@ -11,7 +11,7 @@ use Rattle.nl_lines.specs.declared.version.LogVersion.{LogVersion}
 use Rattle.nl_lines.specs.declared.version.LogVersion.TheVariants.{Five}
 use Rattle.nl_table.specs.History.{Enter, History, Touch, Update}
 use Rattle.nl_table.specs.Log.{LogReading, log_of}
-use Rattle.nl_table.specs.Log as no_log
+use Rattle.nl_table.specs.Log as log_reading
 use Rattle.nl_table.specs.LogText.{text_of}
 use Rattle.nl_table.specs.LogUser.{forget_dead}
 use Rattle.nl_table.specs.Table.{touched_table}
@@ -23,7 +23,7 @@ use Rattle.nl_session.specs.declared.fault.LogFault.TheVariants as refusal
 use Rattle.nl_session.specs.declared.state.LogState.{LogState}
 use Rattle.nl_session.specs.Calls as log
 use Rattle.nl_session.specs.Machine.{IsFirstNegative, State, all_of}
-use Rattle.nl_session.specs.Opened.{living}
+use Rattle.nl_session.specs.Opened.{IsLog, living}
 use Rattle.nl_session.specs.Runs.{BeginsAt}
 use Rattle.nl_session.specs.View.{StandsAt, View}
 use Rattle.nl_print.specs.Versions.{is_barred}
@@ -93,13 +93,15 @@ pub record Makes (m : Meaning) (result : Result (Unit {0}) LogFault) (old new : 
   pub refusals : IfErr result IsChangeRefusal
   pub negative_time : (index : ℕ) → IsErrOf result (refusal.NegativeTime index) → IsFirstNegative m.times index
   pub accepts : OnOk result ((index : ℕ) → ¬ IsFirstNegative m.times index)
+  pub scratch : OnOk result ((new.scratch ≡ old.scratch) ⊎ (new.scratch ≡ false))
   pub unchanged : ¬ IsErrOf result refusal.Fault → OnErr result (new.disk ≡ old.disk)
   pub count : log.IsCounted result old new
   pub goes : (s : State) → StandsAt old s → Changes (m.update (all_of s)) result s new.disk new.settled new.mode new.table
 
 -- ---- the log of a folder
 
--- what is on disk then, of an honest folder: the change is made, or it isn't; where an mtime is negative the log was opened
+-- what is on disk then, of an honest folder: the change is made, or it isn't, or after a fault a crash decides; where an mtime is negative
+-- the log was opened; and bytes that are no log stay as they are, whatever the answer
 pub record ChangesDisk (m : Meaning) (result : Result (Unit {0}) ToolFault) (old new : Option Disk) : Type 0 where
   pub leaves : (start : History) → BeginsAt start old → Leaves m.update start result new
   pub contents : (d : Disk) → old ≡ Some d → OnOk result (IsUpdated m.bytes d.visible new)
@@ -107,41 +109,44 @@ pub record ChangesDisk (m : Meaning) (result : Result (Unit {0}) ToolFault) (old
   pub opened : (d : Disk) (index : ℕ) → old ≡ Some d → IsErrOf result (NegativeTime index) → IsOpenLeft d new
   pub negative_time : (index : ℕ) → IsErrOf result (NegativeTime index) → IsFirstNegative m.times index
   pub accepts : OnOk result ((index : ℕ) → ¬ IsFirstNegative m.times index)
+  pub untouched : (d : Disk) → old ≡ Some d → ¬ IsLog d.visible → new ≡ old
 
 -- bytes are refused for what they are
 pub record RefusesBytes (reading : List ℕ → LogReading) (result : Result (Unit {0}) ToolFault) (old : Option Disk) : Type 0 where
-  pub not_a_log : (d : Disk) → old ≡ Some d → IsErrOf result NotALog → reading d.visible ≡ no_log.NotALog
-  pub other_version : (d : Disk) → old ≡ Some d → IsErrOf result OtherVersion → reading d.visible ≡ no_log.OtherVersion
+  pub not_a_log : (d : Disk) → old ≡ Some d → IsErrOf result NotALog → reading d.visible ≡ log_reading.NotALog
+  pub other_version : (d : Disk) → old ≡ Some d → IsErrOf result OtherVersion → reading d.visible ≡ log_reading.OtherVersion
 
 -- a fault of the folder has a failed call of it as its cause, and no other answer changes the count
 pub record IsCounted (result : Result (Unit {0}) ToolFault) (before after : ℕ) : Type 0 where
   pub cause : IsErrOf result Folder → FailedBetween before after
   pub steady : ¬ IsErrOf result Folder → after ≡ before
 
--- the log is opened, changed, synced and stopped
+-- the log is opened and changed; after Ok the change is durable, no cut or rename awaits a sync, and no scratch was left
 pub record ChangesLog (m : Meaning) (result : Result (Unit {0}) ToolFault) (old new : FolderView) : Type 0 where
   pub disk : ChangesDisk m result old.disk new.disk
   pub settled : OnOk result (IsTrue new.settled)
+  pub scratch : OnOk result ((new.scratch ≡ old.scratch) ⊎ (new.scratch ≡ false))
   pub bytes : RefusesBytes log_of result old.disk
   pub unchanged : IsErrAnd result IsNoLogFault → SameState (folder_state old) (folder_state new)
   pub count : IsCounted result old.failures new.failures
   pub refusals : IfErr result IsChangeFault
 
--- the same of a log that is seen as one of the version: such bytes are barred, refused and left as they are on every exit
+-- the same of a log that is seen as one of the version: bytes that are barred (a log of version 4) are refused, and left as they are, on
+-- every exit
 pub record ChangesSeen (version : LogVersion) (bars : List ℕ → Bool) (m : Meaning) (result : Result (Unit {0}) ToolFault)
     (old new : FolderView) : Type 0 where
   pub disk : ChangesDisk m result (seen_as_version version old.disk) (seen_as_version version new.disk)
   pub settled : OnOk result (IsTrue new.settled)
   pub barred : (d : Disk) → old.disk ≡ Some d → IsTrue (bars d.visible) → IsErr result × (new.disk ≡ old.disk)
-  pub bytes : RefusesBytes (λ bs. if bars bs then no_log.OtherVersion else log_of (as_version version bs)) result old.disk
+  pub bytes : RefusesBytes (λ bs. if bars bs then log_reading.OtherVersion else log_of (as_version version bs)) result old.disk
   pub unchanged : IsErrAnd result IsNoLogFault → new.disk ≡ old.disk
   pub count : old.failures ≡ 0 → IsCounted result old.failures new.failures
   pub refusals : IfErr result IsChangeFault
 
--- the same of a log of the version that is asked for
+-- the same of a log of the version that is asked for; of version 5 it is no more and no less
 pub record ChangesLogAs (version : LogVersion) (m : Meaning) (result : Result (Unit {0}) ToolFault) (old new : FolderView) : Type 0 where
   pub seen : ChangesSeen version (is_barred version) m result old new
-  pub five : version ≡ Five → IsCounted result old.failures new.failures
+  pub five : version ≡ Five → ChangesLog m result old new
 
 -- ---- what stands about it
 
@@ -171,6 +176,7 @@ pub record SaysAsRead {T : Type 0} (reading : List ℕ → FileReading T) (meani
   pub contents : (d : Disk) → old.disk ≡ Some d
       → OnOk result (AsSaid reading known (λ parts. IsUpdated (meaning parts).bytes d.visible new.disk))
   pub settled : OnOk result (IsTrue new.settled)
+  pub scratch : OnOk result ((new.scratch ≡ old.scratch) ⊎ (new.scratch ≡ false))
   pub accepts : OnOk result (AsSaid reading known (λ parts. (index : ℕ) → ¬ IsFirstNegative (meaning parts).times index))
   pub said : (IsErr result × (new ≡ old)) ⊎ AsSaid reading known (λ parts. Unit {0})
   pub read : IsErrOf result Read → new ≡ old
@@ -180,6 +186,7 @@ pub record SaysAsRead {T : Type 0} (reading : List ℕ → FileReading T) (meani
       → AsSaid reading known (λ parts. IsFirstNegative (meaning parts).times index)
   pub opened : (d : Disk) (index : ℕ) → old.disk ≡ Some d → IsErrOf result (NegativeTime index) → IsOpenLeft d new.disk
   pub unmade : (d : Disk) → old.disk ≡ Some d → ¬ IsErrOf result Folder → OnErr result (IsUnmade d new.disk)
+  pub untouched : (d : Disk) → old.disk ≡ Some d → ¬ IsLog d.visible → new.disk ≡ old.disk
   pub bytes : RefusesBytes log_of result old.disk
   pub unchanged : IsErrAnd result IsNoLogFault → SameState (folder_state old) (folder_state new)
   pub count : IsCounted result old.failures new.failures

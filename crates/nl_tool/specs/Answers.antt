@@ -1,11 +1,15 @@
--- What each command that prints a text when all is read has to print.
-use Rattle.std.specs.Prelude.{◌≡◌, ℕ, List, Option, None, Some}
+-- What each command that prints a text when all is read has to print, and for which bytes it refuses a log.
+use Rattle.std.specs.Prelude.{◌≡◌, ℕ, List, Option, None, Some, Result, IfSome, IsErrOf}
 use Rattle.nl_lines.specs.declared.version.LogVersion.{LogVersion}
 use Rattle.nl_lines.specs.declared.version.LogVersion.TheVariants.{Five, Six, Seven}
 use Rattle.nl_print.specs.Output.{IsFileHash, IsHashText, IsTextAsRead, check_text_of, show_text_of}
-use Rattle.nl_print.specs.VersionOf.{IsReportOfAny, show_text_of_any}
-use Rattle.nl_print.specs.Versions.{check_text_as, hash_text_as, show_text_as}
+use Rattle.nl_print.specs.VersionOf.{IsReportOfAny, as_five, show_text_of_any}
+use Rattle.nl_print.specs.Versions.{check_text_as, hash_text_as, log_as, show_text_as}
 use Rattle.nl_replay.specs.Replay.{IsReplayText}
+use Rattle.nl_table.specs.Log.{LogReading, log_of}
+use Rattle.nl_table.specs.Log as log_reading
+use Rattle.nl_texts.specs.declared.fault.ToolFault.{ToolFault}
+use Rattle.nl_texts.specs.declared.fault.ToolFault.TheVariants.{NotALog, OtherVersion}
 use Rattle.nl_tool.specs.declared.printing.Printing.{Printing}
 use Rattle.nl_tool.specs.declared.printing.Printing.TheVariants.{Show, Check, Hash, HashFile, Replay}
 use Rattle.nl_words.specs.declared.version.AskedVersion.{AskedVersion}
@@ -39,3 +43,16 @@ IsAnswerAs (Some asked.Five) printing known text = IsAnswerOf Five printing know
 IsAnswerAs (Some asked.Six) printing known text = IsAnswerOf Six printing known text
 IsAnswerAs (Some asked.Seven) printing known text = IsAnswerOf Seven printing known text
 IsAnswerAs (Some asked.Auto) printing known text = IsAnswerOfAny printing known text
+
+-- how the bytes of a log are read, where a version may be asked for
+abbrev pub log_asked : Option AskedVersion → List ℕ → LogReading
+log_asked None bytes = log_of bytes
+log_asked (Some asked.Five) bytes = log_as Five bytes
+log_asked (Some asked.Six) bytes = log_as Six bytes
+log_asked (Some asked.Seven) bytes = log_as Seven bytes
+log_asked (Some asked.Auto) bytes = log_of (as_five bytes)
+
+-- a log is refused for what its bytes are, where they are known
+pub record RefusesLog (reading : List ℕ → LogReading) (known : Option (List ℕ)) (result : Result (Unit {0}) ToolFault) : Type 0 where
+  pub not_a_log : IsErrOf result NotALog → IfSome known (λ bytes. reading bytes ≡ log_reading.NotALog)
+  pub other_version : IsErrOf result OtherVersion → IfSome known (λ bytes. reading bytes ≡ log_reading.OtherVersion)

@@ -5,10 +5,11 @@ ghost use Rattle.nl_print.specs.Faults.{IsLogFault};
 ghost use Rattle.nl_print.specs.Output.{IsTextAsRead};
 ghost use Rattle.nl_print.specs.Streams.{IsSoFar, damage_text_of};
 ghost use Rattle.nl_print.specs.VersionOf.{as_five};
+ghost use Rattle.nl_print.specs.Versions.{log_as};
 ghost use Rattle.nl_table.specs.Log.{NotALog, OtherVersion, log_of};
 ghost use Rattle.nl_texts.specs.Output.{Prints};
 ghost use Rattle.nl_texts.specs.declared.fault.ToolFault.{ToolFault};
-ghost use Rattle.nl_tool.specs.Answers.{IsAnswer, IsAnswerAs, IsAnswerOf, IsAnswerOfAny};
+ghost use Rattle.nl_tool.specs.Answers.{IsAnswer, IsAnswerAs, IsAnswerOf, IsAnswerOfAny, RefusesLog, log_asked};
 ghost use Rattle.nl_tool.specs.Faults.{IsPrintingFault, IsReadingFault};
 
 use crate::files::{open, open_log};
@@ -161,6 +162,7 @@ pub fn print_noted<P: Print, R: Read + Drop>(
     reader: R,
     notes: &mut Notes,
 ) -> Result<(), ToolFault>
+    ensures bytes { RefusesLog (log_asked version) (R.remaining reader) result }
     ensures faults { IfErr result (IsPrintingFault printing.entry) }
 {
     let mut out = NotedWriter::new(io::writer(rt));
@@ -180,6 +182,7 @@ fn print_to<R: Read + Drop, W: Write>(
 ) -> Result<(), ToolFault>
     ensures prints { Prints (IsAnswerAs version printing.entry (R.remaining reader))
         (W.contents writer.old) (W.contents writer.new) result }
+    ensures bytes { RefusesLog (log_asked version) (R.remaining reader) result }
     ensures faults { IfErr result (IsPrintingFault printing.entry) }
 {
     match version {
@@ -200,6 +203,7 @@ fn print_plain<R: Read + Drop, W: Write>(
 ) -> Result<(), ToolFault>
     ensures prints { Prints (IsAnswer printing.entry (R.remaining reader)) (W.contents writer.old)
         (W.contents writer.new) result }
+    ensures bytes { RefusesLog log_of (R.remaining reader) result }
     ensures faults { IfErr result (IsPrintingFault printing.entry) }
 {
     match printing {
@@ -221,6 +225,7 @@ fn print_as<R: Read + Drop, W: Write>(
 ) -> Result<(), ToolFault>
     ensures prints { Prints (IsAnswerOf version printing.entry (R.remaining reader))
         (W.contents writer.old) (W.contents writer.new) result }
+    ensures bytes { RefusesLog (log_as version) (R.remaining reader) result }
     ensures faults { IfErr result (IsPrintingFault printing.entry) }
 {
     match printing {
@@ -240,6 +245,7 @@ fn print_any<R: Read + Drop, W: Write>(
 ) -> Result<(), ToolFault>
     ensures prints { Prints (IsAnswerOfAny printing.entry (R.remaining reader))
         (W.contents writer.old) (W.contents writer.new) result }
+    ensures bytes { RefusesLog (λ bs. log_of (as_five bs)) (R.remaining reader) result }
     ensures faults { IfErr result (IsPrintingFault printing.entry) }
 {
     match printing {
