@@ -23,7 +23,7 @@ use Rattle.nl_session.specs.declared.fault.LogFault.TheVariants as refusal
 use Rattle.nl_session.specs.declared.state.LogState.{LogState}
 use Rattle.nl_session.specs.Calls as log
 use Rattle.nl_session.specs.Machine.{IsFirstNegative, State, all_of}
-use Rattle.nl_session.specs.Opened.{IsLog, living}
+use Rattle.nl_session.specs.Opened.{IsLog, survivors}
 use Rattle.nl_session.specs.Runs.{BeginsAt}
 use Rattle.nl_session.specs.View.{StandsAt, View}
 use Rattle.nl_print.specs.Versions.{is_barred}
@@ -70,7 +70,7 @@ adding e = record { update = λ h. Enter e; bytes = λ es bs. bs ++ with_newline
 
 -- the dead leave the table, whose text is then the log
 abbrev pub dropping : (List ℕ → Bool) → Meaning
-dropping dead = record { update = forget_dead dead; bytes = λ es bs. text_of (living dead es); times = [] }
+dropping dead = record { update = forget_dead dead; bytes = λ es bs. text_of (survivors dead es); times = [] }
 
 -- all but these do
 abbrev pub keeping : List (List ℕ) → Meaning

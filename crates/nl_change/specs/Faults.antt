@@ -7,11 +7,11 @@ use Rattle.nl_texts.specs.declared.fault.ToolFault.{ToolFault}
 use Rattle.nl_texts.specs.declared.fault.ToolFault.TheVariants.{NotALog, OtherVersion, Read, Memory, Write, Folder, NegativeTime, BadLine}
 
 -- what an open log, or the opening of a closed one, may refuse
-abbrev pub IsUpdateRefusal : LogFault → Type 0
-IsUpdateRefusal refusal.NotOpen = ⊥
-IsUpdateRefusal refusal.AlreadyOpen = ⊥
-IsUpdateRefusal refusal.Broken = ⊥
-IsUpdateRefusal _ = ⊤
+abbrev pub IsOpenOrChangeRefusal : LogFault → Type 0
+IsOpenOrChangeRefusal refusal.NotOpen = ⊥
+IsOpenOrChangeRefusal refusal.AlreadyOpen = ⊥
+IsOpenOrChangeRefusal refusal.Broken = ⊥
+IsOpenOrChangeRefusal _ = ⊤
 
 -- what an open log may refuse to change
 abbrev pub IsChangeRefusal : LogFault → Type 0

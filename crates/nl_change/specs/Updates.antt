@@ -30,8 +30,8 @@ abbrev pub history_kept : History → History
 history_kept h = history_opened none_dead h
 
 -- that history and then the update, which depends on it
-abbrev pub updated : (History → Update) → History → History
-updated update start = Then (history_kept start) (update (history_kept start))
+abbrev pub history_updated : (History → Update) → History → History
+history_updated update start = Then (history_kept start) (update (history_kept start))
 
 -- this holds of whatever is found, also after a crash
 abbrev pub OfAllFound : (List ℕ → Type 0) → Option Disk → Type 0
@@ -39,11 +39,11 @@ OfAllFound Holds disk = IsSomeAnd disk (λ d. (bs : List ℕ) → IsImage d bs �
 
 -- the bytes represent the history that was found, the one that an open leaves, or that and then the update
 abbrev pub MayRepresent : (History → Update) → History → List ℕ → Type 0
-MayRepresent update start bs = Represents bs start ⊎ Represents bs (history_kept start) ⊎ Represents bs (updated update start)
+MayRepresent update start bs = Represents bs start ⊎ Represents bs (history_kept start) ⊎ Represents bs (history_updated update start)
 
 -- what is found after the answer to an update of a log with this history
 abbrev pub Leaves : {E : Type 0} → (History → Update) → History → Result Unit E → Option Disk → Type 0
-Leaves update start (Ok done) disk = OfAllFound (λ bs. Represents bs (updated update start)) disk
+Leaves update start (Ok done) disk = OfAllFound (λ bs. Represents bs (history_updated update start)) disk
 Leaves update start (Err fault) disk = OfAllFound (MayRepresent update start) disk
 
 -- the bytes that are made of opened ones and their table are the log, and every crash leaves them so

@@ -1,13 +1,13 @@
 //! The fault of a log, as the tool says it.
 ghost use Rattle.std.specs.Prelude.{◌≡◌};
-ghost use Rattle.nl_change.specs.Faults.{IsUpdateRefusal, of_log_fault};
+ghost use Rattle.nl_change.specs.Faults.{IsOpenOrChangeRefusal, of_log_fault};
 
 use nl_session::LogFault;
 use nl_texts::ToolFault;
 
 /// The fault of an update that an open log, or the opening of a closed one, refused.
 pub fn of_log_fault(fault: LogFault) -> ToolFault
-    requires { IsUpdateRefusal fault }
+    requires { IsOpenOrChangeRefusal fault }
     ensures value { result ≡ of_log_fault fault }
 {
     match fault {

@@ -21,12 +21,12 @@ pub use Rattle.nl_lines.proofs.PrefixLemmas.{prefix_more, prefix_of, prefix_leng
 pub use Rattle.nl_lines.proofs.{NewlineLemmas.prefix-whole_len, NewlineLemmas.joined-ends, SplitLemmas.lines_of-plain}
 pub use Rattle.nl_lines.{specs.Lines.max_log, specs.Prefix.IsPrefix, specs.Source.FailedBetween, proofs.SplitLemmas.whole_len-torn_len}
 pub use Rattle.nl_lines.specs.Split.{NoNewline, joined, lines_of, whole_len, EndsInNewline, with_newline, torn_len}
-pub use Rattle.nl_table.proofs.HistoryLemmas.{counts-logged, table-enter, plus-push, table-forget, forgotten-dead, table-touch, logged-push}
+pub use Rattle.nl_table.proofs.HistoryLemmas.{counts-logged, table-enter, plus-push, table-forget, table_without-dead, table-touch}
 pub use Rattle.nl_table.proofs.{HistoryLemmas.dead_holds, HistoryLemmas.plus-append, LogLemmas.zero_after, LogLemmas.log_of-tail}
 pub use Rattle.nl_table.proofs.LoadedLemmas.{loaded_length, loaded_is_log, due_by_counts}
 pub use Rattle.nl_table.proofs.LogLemmas.{rest_is_header, log_of-header, log_of-cut, log_of-line, log_of-version, plain_line}
-pub use Rattle.nl_table.proofs.LogTextLemmas.{log_of-text, table-logged, text-ends}
-pub use Rattle.nl_table.proofs.NameLemmas.{distinct-table, named-forgotten, without_mtimes-touched}
+pub use Rattle.nl_table.proofs.{HistoryLemmas.logged-push, LogTextLemmas.log_of-text, LogTextLemmas.table-logged, LogTextLemmas.text-ends}
+pub use Rattle.nl_table.proofs.NameLemmas.{distinct-table, named-table_without, without_mtimes-touched}
 pub use Rattle.nl_table.proofs.ValidLemmas.{logged_valid, forget_valid}
 pub use Rattle.nl_table.specs.{Due.is_due, Due.is_history_due, Loading.IsLoadOf, LogText.text_of, LogText.lines_of_entries}
 pub use Rattle.nl_table.specs.{declared.loader.Loaded.Loaded, declared.log_user.KeepList.KeepList, LogUser.dead_names, LogUser.forget_dead}
@@ -45,12 +45,12 @@ pub use Rattle.nl_session.specs.Effects.{LeavesOk, LeavesFault, Leaves, Rewrites
 pub use Rattle.nl_session.specs.{Grows.EndsClear, Grows.Grew, View.View, View.view_of, View.StandsAt, View.HasStayed, View.StepsBy}
 pub use Rattle.nl_session.specs.{Represents.Represents, Represents.Agrees, Represents.RepresentsPrefix, Machine.gained_state}
 pub use Rattle.nl_session.specs.{Machine.moved_to, Machine.IsFirstNegative}
-pub use Rattle.nl_session.specs.Headline.{Exchange, update_of, makes_durable, is_crash, is_kept, acknowledged, Holds, NoneClears, MayStand}
+pub use Rattle.nl_session.specs.Headline.{Exchange, update_of, makes_durable, is_crash, is_kept, acks, Holds, NoneClears, MayStand}
 pub use Rattle.nl_session.specs.Headline.{none, idle, stands, failed, lost, Headline}
 pub use Rattle.nl_session.specs.Machine.{CrashesNow, State, durable_at, Act, Records, Step, Run, all_of, Opens, reply_of, shown_of}
 pub use Rattle.nl_session.specs.Machine.{history_opened, Recompacts, Restats, StepOk, StepFault, MayHaveGained, NoneNegative, pending_at}
-pub use Rattle.nl_session.specs.Opened.{mended_bytes, living, opened_bytes_by, opened_bytes, IsLog, OpenedAs, OpensAs, Reopens, StaysAtRest}
-pub use Rattle.nl_session.specs.Opened.{IsAtRest, IsTableOf}
+pub use Rattle.nl_session.specs.Opened.{mended_bytes, survivors, opened_bytes_by, opened_bytes, IsLog, OpenedAs, OpensAs, Reopens}
+pub use Rattle.nl_session.specs.Opened.{IsAtRest, IsTableOf, StaysAtRest}
 pub use Rattle.nl_session.specs.Parts.{OnlyScratch, filled_disk, Appended, IsDurable, RewriteFailed, rewritten_disk, filling_disk}
 pub use Rattle.nl_session.specs.Parts.{repaired_disk, RepairFailed, OpenLeaves, OpenFaults, grown_at, GrowsAt}
 pub use Rattle.nl_session.specs.Reopening.{Moved, IsCalm, Moves, IsTry, OpenedFrom}

@@ -100,8 +100,8 @@ fn tell_damage<R: Read + Drop, W: Write>(
         (text : List ℕ) × IsTextAsRead (λ bs. damage_text_of (as_five bs)) (R.remaining reader) text
         × Appends (W.contents writer.old) (W.contents writer.new) text
         × ((outcome ≡ Outcome.Damaged) ↔ (0 < length text)))
-        (λ _. IsSoFar (λ bs. damage_text_of (as_five bs)) (R.remaining reader) (W.contents writer.old)
-        (W.contents writer.new)) }
+        (λ _. IsSoFar (λ bs. damage_text_of (as_five bs)) (R.remaining reader)
+        (W.contents writer.old) (W.contents writer.new)) }
     ensures not_a_log { IsErrOf result ToolFault.NotALog
         → IfSome (R.remaining reader) (λ bs. log_of (as_five bs) ≡ NotALog) }
     ensures other_version { IsErrOf result ToolFault.OtherVersion
