@@ -121,7 +121,8 @@ pub record IsCounted (result : Result (Unit {0}) ToolFault) (before after : ℕ)
   pub cause : IsErrOf result Folder → FailedBetween before after
   pub steady : ¬ IsErrOf result Folder → after ≡ before
 
--- the log is opened and changed; after Ok the change is durable, no cut or rename awaits a sync, and no scratch was left
+-- the log is opened and changed; after Ok the change is durable, no cut or rename awaits a sync, and there is no scratch that wasn't there
+-- before
 pub record ChangesLog (m : Meaning) (result : Result (Unit {0}) ToolFault) (old new : FolderView) : Type 0 where
   pub disk : ChangesDisk m result old.disk new.disk
   pub settled : OnOk result (IsTrue new.settled)
