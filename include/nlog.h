@@ -14,6 +14,9 @@
  *   NLOG_OUT_OF_MEMORY.
  * Threads: a handle or a writer takes one call at a time, on any thread that is in order with the one before (a lock, or a join), reads
  *   included. Calls on different ones need no order. No call may be made in a signal handler, or in the forked child of a process with threads.
+ * Fork: a child may go on with each handle and with each closed writer, by itself. A writer whose log is open, or broken, stays the parent's: in
+ *   the child each call on it answers NLOG_FORKED, and does nothing, but nlog_writer_free, which frees the child's part and lets go of its
+ *   descriptors; the parent's log stays open, and locked.
  * Units: lengths in bytes; start and end in milliseconds from the start of the build; mtime in the writer's unit (Ninja 1.12: nanoseconds
  *   since 1970; 0 for no file). Names and commands are bytes, of no encoding, and end by their length. */
 #ifndef NLOG_H
@@ -49,6 +52,7 @@ typedef enum nlog_status {
   NLOG_FAULT = 11,         /* a file couldn't be read, written or synced, or memory ran out within a change */
   NLOG_BAD_NAME = 12,      /* empty, longer than NLOG_MAX_NAME, or with a NUL, a tab or a newline */
   NLOG_LOCKED = 13,        /* another process has had the log locked for 10 seconds */
+  NLOG_FORKED = 14,        /* the writer's log was opened by this process's parent */
   NLOG_STATUS_MAX = 0x7fffffff
 } nlog_status;
 
@@ -69,13 +73,14 @@ static inline const char *nlog_status_name(nlog_status status) {
     case NLOG_FAULT: return "NLOG_FAULT";
     case NLOG_BAD_NAME: return "NLOG_BAD_NAME";
     case NLOG_LOCKED: return "NLOG_LOCKED";
+    case NLOG_FORKED: return "NLOG_FORKED";
     case NLOG_STATUS_MAX: break;
   }
   return "NLOG_?";
 }
 
 /* What a status says, in words, as "out of memory": as much as there is room for is written, with no NUL behind it. The length of the whole
- * text comes back. */
+ * text comes back. Of NLOG_FORKED it is "unknown status". */
 size_t nlog_status_text(nlog_status status, char *text, size_t room);
 
 /* The version of the library. */
@@ -239,7 +244,8 @@ nlog_status nlog_clear_marks(nlog *log);
  * in part, in whole or not at all; what an nlog_writer_sync had answered NLOG_OK for stands. nlog_writer_errno says why it failed.
  *
  * Lock: flock on the log's file, as each `nlog` that changes a log takes it, and no Ninja does. Where the file system has no locks, there is
- *   none. A child that is forked while the log is open has the lock too, until it ends or runs another program.
+ *   none. A child that is forked while the log is open has the lock too, until it frees the writer, ends or runs another program, and can do
+ *   nothing with it: see "Fork" above.
  * Signals: a call goes on where a signal interrupts it. A process that has a limit on the length of files (RLIMIT_FSIZE) must ignore SIGXFSZ,
  *   or it is ended by it.
  * Threads and processes: each call may block as long as the disk does. Descriptors are close-on-exec, and none is a standard stream's.

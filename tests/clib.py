@@ -687,13 +687,7 @@ def locks(trials, made, program, room):
         first.stdin.write(line.encode() + b"\n")
         first.stdin.flush()
         trials.want(f"the first's {line}", first.stdout.readline(), b"NLOG_OK\n")
-        with open(log, "rb") as held:
-            try:
-                fcntl.flock(held, fcntl.LOCK_EX | fcntl.LOCK_NB)
-                is_locked = False
-            except BlockingIOError:
-                is_locked = True
-        trials.check(f"the log is locked behind {line}", is_locked)
+        trials.check(f"the log is locked behind {line}", is_locked(log))
     held = close_on_exec(first.pid, f"{room}/locks")
     if held is None:
         trials.skip("that descriptors are close-on-exec", "/proc isn't there")
@@ -705,6 +699,48 @@ def locks(trials, made, program, room):
     first.communicate(b"record 4 5 6 bb " + hexed(b"b").encode() + b"\nclose\n", timeout=60)
     trials.want("and ends", second.wait(60), 0)
     trials.want("both stand", set(Log(read(log)).table), {b"d", b"a", b"b", b"beside"})
+
+
+def is_locked(path):
+    with open(path, "rb") as it:
+        try:
+            fcntl.flock(it, fcntl.LOCK_EX | fcntl.LOCK_NB)
+        except BlockingIOError:
+            return True
+    return False
+
+
+def answers_of(process, line):
+    """Asks a driver that runs for one more line, and gives what it answers, as words behind `NLOG_`."""
+    process.stdin.write(line.encode() + b"\n")
+    process.stdin.flush()
+    return process.stdout.readline().decode().replace("NLOG_", "").strip()
+
+
+def forks(trials, made, room):
+    """A fork while the log is open: the child may free the writer and no more, and the parent's log stays open, whole and locked."""
+    refused = " ".join(["FORKED"] * 17)
+    ways = drivers(made)
+    if may_trace(trials, room):
+        # A system that clears no page in a child.
+        ways.append(("C11 by its number", ["strace", "-o", f"{room}/TRACE", "-e", "inject=madvise:error=EINVAL", made["C11"]]))
+    for way, driver in ways:
+        for is_shared in (False, True):
+            log, what = f"{room}/fork.log", f"{way}, {'shared' if is_shared else 'alone'}, "
+            write(log, HEADER + A)
+            parent = subprocess.Popen([*driver, "write", log, "0"], stdin=subprocess.PIPE, stdout=subprocess.PIPE)
+            for line in [*(["shared"] if is_shared else []), "open", f"record 4 5 6 bb {hexed(b'b')}"]:
+                trials.want(f"{what}{line}", answers_of(parent, line), "OK")
+            trials.want(f"{what}each call in a child", answers_of(parent, "call-in-child"), f"{refused} freed")
+            trials.want(f"{what}the child ends", parent.stdout.readline(), b"NLOG_OK\n")
+            trials.want(f"{what}the log is locked behind it", is_locked(log), not is_shared)
+            for line in ("recompact", f"record -1 0 -5 ffffffffffffffff {hexed(b'd')}", "close"):
+                trials.want(f"{what}the parent's {line}", answers_of(parent, line), "OK")
+            trials.want(f"{what}the log", read(log), HEADER + A + B + D)
+            trials.want(f"{what}a closed writer in a child", answers_of(parent, "open-in-child"), "OK OK OK closed")
+            parent.stdout.readline()
+            ended = parent.communicate(f"open\nfind {hexed(b'child')}\nclose\n".encode())[0]
+            trials.want(f"{what}what it recorded", ended, b"NLOG_OK\nNLOG_OK 7 8 9 a\nNLOG_OK\n")
 
 
 def close_on_exec(pid, folder):
@@ -980,6 +1016,7 @@ def trial(trials, program, room):
     failing(trials, made, room)
     refusals(trials, made, room)
     locks(trials, made, program, room)
+    forks(trials, made, room)
     at_once(trials, made, program, room)
     shares(trials, made, program, room)
     killed(trials, made, room)

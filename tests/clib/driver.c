@@ -7,6 +7,8 @@
 #include <stdio.h>
 #include <stdlib.h>
 #include <string.h>
+#include <sys/types.h>
+#include <sys/wait.h>
 #include <time.h>
 #include <unistd.h>
 
@@ -437,6 +439,56 @@ static void show_failure(const nlog_writer *writer, const char *log) {
   else printf(" folder");
 }
 
+#define SAY(call) printf("%s ", nlog_status_name(call))
+
+/* Makes each call on the writer in a forked child, which then frees it, and waits for the child's end. */
+static nlog_status call_in_child(nlog_writer *writer) {
+  nlog_entry entry = {7, 8, 9, 10};
+  nlog_name name = {"child", 5};
+  char buffer[16];
+  size_t size = 0;
+  uint32_t number;
+  bool flag;
+  int ended = 1;
+  pid_t child = fork();
+  if (child != 0) return child > 0 && waitpid(child, &ended, 0) == child && ended == 0 ? NLOG_OK : NLOG_FAULT;
+  SAY(nlog_writer_open(writer));
+  SAY(nlog_writer_set_shared(writer, true));
+  SAY(nlog_writer_is_open(writer, &flag));
+  SAY(nlog_writer_rewrote(writer, &flag));
+  SAY(nlog_writer_version(writer, &number));
+  SAY(nlog_writer_record(writer, "child", 5, &entry));
+  SAY(nlog_writer_record_edge(writer, &name, 1, &entry));
+  SAY(nlog_writer_count(writer, &size));
+  SAY(nlog_writer_at(writer, 0, &entry, buffer, sizeof buffer, &size));
+  SAY(nlog_writer_find(writer, "a", 1, &entry));
+  SAY(nlog_writer_sync(writer));
+  SAY(nlog_writer_mark_dead(writer, "a", 1));
+  SAY(nlog_writer_mark_time(writer, "a", 1, 5));
+  SAY(nlog_writer_recompact(writer));
+  SAY(nlog_writer_restat(writer, &size));
+  SAY(nlog_writer_clear_marks(writer));
+  SAY(nlog_writer_close(writer));
+  nlog_writer_free(&writer);
+  printf("%s\n", writer == NULL && entry.hash == 10 ? "freed" : "?");
+  fflush(stdout);
+  _exit(0);
+}
+
+/* Opens the log by a closed writer in a forked child, and records "child" there. */
+static nlog_status open_in_child(nlog_writer *writer) {
+  nlog_entry entry = {7, 8, 9, 10};
+  int ended = 1;
+  pid_t child = fork();
+  if (child != 0) return child > 0 && waitpid(child, &ended, 0) == child && ended == 0 ? NLOG_OK : NLOG_FAULT;
+  SAY(nlog_writer_open(writer));
+  SAY(nlog_writer_record(writer, "child", 5, &entry));
+  SAY(nlog_writer_close(writer));
+  printf("closed\n");
+  fflush(stdout);
+  _exit(0);
+}
+
 static void write_log(const char *log, uint32_t version) {
   static request it;
   static char name[NLOG_MAX_NAME];
@@ -467,6 +519,9 @@ static void write_log(const char *log, uint32_t version) {
     if (is(&it, "at")) status = nlog_writer_at(writer, (size_t)it.number, &entry, name, sizeof name, &name_len);
     if (is(&it, "find")) status = nlog_writer_find(writer, it.names[0].bytes, it.names[0].len, &entry);
     if (is(&it, "pause")) status = NLOG_OK;
+    if (is(&it, "shared")) status = nlog_writer_set_shared(writer, true);
+    if (is(&it, "call-in-child")) status = call_in_child(writer);
+    if (is(&it, "open-in-child")) status = open_in_child(writer);
     if (is(&it, "free")) {
       nlog_writer_free(&writer);
       status = writer == NULL ? NLOG_OK : NLOG_FAULT;
