@@ -523,9 +523,9 @@ def failing(trials, made, room):
     os.symlink("loop", f"{room}/failing/loop")
     write(f"{room}/failing/file", b"")
     rows = [
-        (f"{room}/failing/none/log", ["FAULT ENOENT open log", "NOT_OPEN"], "FAULT ENOENT"),
+        (f"{room}/failing/none/log", ["FAULT ENOENT open folder", "NOT_OPEN"], "FAULT ENOENT"),
         (f"{room}/failing/folder", ["FAULT EISDIR open log", "NOT_OPEN"], "FAULT EISDIR"),
-        (f"{room}/failing/file/log", ["FAULT ENOTDIR open log", "NOT_OPEN"], "FAULT ENOTDIR"),
+        (f"{room}/failing/file/log", ["FAULT ENOTDIR open folder", "NOT_OPEN"], "FAULT ENOTDIR"),
         (f"{room}/failing/loop", ["FAULT ELOOP open log", "NOT_OPEN"], "FAULT ELOOP"),
         (f"{room}/failing/{'n' * 300}", ["FAULT ENAMETOOLONG open log", "NOT_OPEN"], "FAULT ENAMETOOLONG"),
     ]
@@ -743,6 +743,71 @@ def forks(trials, made, room):
             trials.want(f"{what}what it recorded", ended, b"NLOG_OK\nNLOG_OK 7 8 9 a\nNLOG_OK\n")
 
 
+# Lines to a writer that is open behind A and has recorded B, on a log to which something else was done, what each is answered, and the log that
+# is left: gone, longer by a line, or another file.
+KEPT_AWAY = [
+    ("gone", ["sync", RECORD, "close", "open", "count", "close"], ["FAULT ENOENT stat log", "BROKEN", "BROKEN", "OK", "OK 0", "OK"], HEADER),
+    ("gone", [RECORD, "close", "close"], ["OK", "FAULT ENOENT stat log", "NOT_OPEN"], None),
+    ("gone", ["recompact", "close"], ["FAULT ENOENT stat log", "BROKEN"], None),
+    ("longer", ["recompact", "close", "open", "recompact", "close"], ["FAULT ESTALE stat log", "BROKEN", "OK", "OK", "OK"], HEADER + A + B + D),
+    ("longer", ["sync", "close"], ["FAULT ESTALE stat log", "BROKEN"], HEADER + A + B + D),
+    ("another", ["close", "open", FIND, "close"], ["FAULT ESTALE stat log", "OK", "NOT_FOUND", "OK"], HEADER + D),
+    ("another", [f"time 9 {hexed(b'a')}", "restat", "sync"], ["OK", "FAULT ESTALE stat log", "BROKEN"], HEADER + D),
+]
+
+
+def kept_away(trials, made, room):
+    """A log that somebody else removes, writes or replaces while it is open: nothing more is acknowledged, and what was written stays."""
+    os.mkdir(f"{room}/away")
+    log, begun = f"{room}/away/log", ["open", f"record 4 5 6 bb {hexed(b'b')}"]
+    for how, lines, answers, left in KEPT_AWAY:
+        for way, driver in drivers(made):
+            write(log, HEADER + A)
+            what = f"{way}, a log that is {how}, {lines}"
+            writer = subprocess.Popen([*driver, "write", log, "0"], stdin=subprocess.PIPE, stdout=subprocess.PIPE)
+            trials.want(f"{what}: before", [answers_of(writer, it) for it in begun], ["OK"] * 2)
+            if how == "longer":
+                with open(log, "ab") as it:
+                    it.write(D)
+            else:
+                os.remove(log)
+                write(log, HEADER + D if how == "another" else None)
+            trials.want(what, [answers_of(writer, it) for it in lines], answers)
+            writer.communicate()
+            trials.want(f"{what}: the log", read(log), left)
+            for it in os.listdir(f"{room}/away"):
+                os.remove(f"{room}/away/{it}")
+
+
+def moved(trials, made, room):
+    """The working folder changes, or the log's folder is moved, while the log is open: the log is the one of the beginning."""
+    for how in ("cd", "mv"):
+        for way, driver in drivers(made):
+            for name in ("one", "two"):
+                shutil.rmtree(f"{room}/{name}", ignore_errors=True)
+                os.mkdir(f"{room}/{name}")
+                write(f"{room}/{name}/log", HEADER + A if name == "one" else HEADER + D)
+            path = "log" if how == "cd" else f"{room}/one/log"
+            writer = subprocess.Popen([*driver, "write", path, "0"], stdin=subprocess.PIPE, stdout=subprocess.PIPE, cwd=f"{room}/one")
+            said = [answers_of(writer, "open")]
+            if how == "cd":
+                said.append(answers_of(writer, f"cd {hexed(f'{room}/two'.encode())}"))
+            else:
+                os.rename(f"{room}/one", f"{room}/three")
+                os.mkdir(f"{room}/one")
+                write(f"{room}/one/log", HEADER + D)
+            said += [answers_of(writer, it) for it in (f"record 4 5 6 bb {hexed(b'b')}", "sync", "recompact", RECORD, "close")]
+            writer.communicate()
+            what = f"{way}, {how} while a log is open"
+            trials.want(what, set(said), {"OK"})
+            ours, others = ("one", "two") if how == "cd" else ("three", "one")
+            trials.want(f"{what}: the log", read(f"{room}/{ours}/log"), HEADER + A + B + A)
+            trials.want(f"{what}: another of its name", read(f"{room}/{others}/log"), HEADER + D)
+            for name in (ours, others):
+                trials.want(f"{what}: the files", os.listdir(f"{room}/{name}"), ["log"])
+                shutil.rmtree(f"{room}/{name}")
+
+
 def close_on_exec(pid, folder):
     """The open files of a process in a folder, and whether each is close-on-exec; None where that can't be told."""
     if not os.path.isdir(f"/proc/{pid}/fdinfo"):
@@ -851,8 +916,8 @@ def syncs_that_fail(trials, made, room):
         wanted = ["OK", "OK", f"FAULT EIO fsync {why}", "BROKEN", "BROKEN", "BROKEN", "OK", "OK 1", "OK 1 2 3 aa", "OK", "OK", "OK 0", "OK"]
         trials.want(f"a sync of the {why} that fails", asked(driver, "write", log, 0, lines)[1], wanted)
         trials.want("the log then", read(log), HEADER + B + A)
-        calls = re.findall(r"(?m)^(fsync|rename)\((?:\d+<([^>]*)>)?", read(f"{room}/TRACE").decode())
-        names = [f"{call} {os.path.basename(path)}".strip() for call, path in calls]
+        calls = re.findall(r"(?m)^(fsync|rename)\w*\(\d+<([^>]*)>", read(f"{room}/TRACE").decode())
+        names = [call if call == "rename" else f"{call} {os.path.basename(path)}" for call, path in calls]
         trials.want("its syncs", names, ["fsync sync", "fsync log", *["fsync sync", "fsync log"][: nth - 2], "fsync log.recompact", "rename", *["fsync sync", "fsync log"] * 2])
     # In an open: the writer is closed, and the next open makes a new file.
     for nth, why in ((1, "folder"), (2, "log")):
@@ -881,12 +946,40 @@ def writes_that_fail(trials, made, room):
         trials.want(f"the calls of {lines}", re.findall(r"(?m)^(fsync|write)\(", read(f"{room}/TRACE").decode()), wanted)
 
 
+# The calls of the system that a call of the writer makes, alone and where the log is shared.
+COSTS = {
+    RECORD: (["write"], ["flock", "stat", "write", "flock"]),
+    "sync": (["stat", "fsync", "fsync"], ["flock", "stat", "fsync", "fsync", "flock"]),
+    FIND: ([], []),
+}
+
+
+def costs(trials, made, room):
+    """How many calls of the system a record, a sync and a look-up make."""
+    log = f"{room}/costs.log"
+    for is_shared in (False, True):
+        write(log, HEADER + B)
+        lines = [*(["shared"] if is_shared else []), "open", RECORD, RECORD, "sync", FIND, "close"]
+        asked(["strace", "-o", f"{room}/TRACE", made["C11"]], "write", log, 0, lines)
+        parts, calls = [], []
+        for call in re.findall(r"(?m)^(\w+)\((\d*)", read(f"{room}/TRACE").decode()):
+            if call == ("write", "1"):
+                parts, calls = [*parts, calls], []
+            else:
+                calls.append(re.sub(r"^newf?stat(at)?$|^fstat(at64)?$", "stat", call[0]))
+        for line, found in zip(lines, parts):
+            if line in COSTS:
+                trials.want(f"the calls of {line[:10]}, {'shared' if is_shared else 'alone'}", found, COSTS[line][is_shared])
+
+
 def signals(trials, made, room):
     """Calls that signals interrupt, each of them every other time: all is done. A wait for a lock takes no less time."""
     log = f"{room}/signals.log"
     for call in ("openat", "flock", "pread64", "ftruncate", "fsync", "write"):
         write(log, HEADER + B + b"4\t5")
-        driver = ["strace", "-o", f"{room}/TRACE", "-P", log, "-P", f"{log}.recompact", "-e", f"inject={call}:error=EINTR:when=1+2", made["C11"]]
+        # The log and its scratch are opened by their folder.
+        paths = [it for path in (room, log, f"{log}.recompact") for it in ("-P", path)]
+        driver = ["strace", "-o", f"{room}/TRACE", *paths, "-e", f"inject={call}:error=EINTR:when=1+2", made["C11"]]
         said = asked(driver, "write", log, 0, ["open", RECORD, "sync", "recompact", "close"])[1]
         trials.want(f"{call} that is interrupted", said, ["OK"] * 5)
         trials.want("the log then", read(log), HEADER + B + A)
@@ -917,10 +1010,38 @@ def replaced(trials, made, room):
     trials.want("it was locked twice", len(re.findall(rb"(?m)^flock\(", read(f"{room}/TRACE"))), 2)
 
 
+def by_path(line, folders):
+    """A call of a trace as if it were by paths: the library names a file by the folder that it holds open."""
+    return re.sub(r'(\d+)(?:<[^>]*>)?, "([^"/]+)"', lambda it: f'AT_FDCWD, "{folders[it[1]]}{it[2]}"' if it[1] in folders else it[0], line)
+
+
+def traced_by_path(program, case, room, inject=()):
+    ended, calls = TRACED(program, case, room, inject)
+    return ended, [by_path(it, dict.fromkeys(re.findall(rf"(\d+)<{re.escape(room)}>", it), f"{room}/")) for it in calls]
+
+
+def follow_by_path(disk, trace, room):
+    """As `follow`, whose traces have each byte of a path in hexadecimal digits."""
+    folders, lines = {}, []
+    for line in trace.split("\n"):
+        lines.append(by_path(line, folders))
+        opened = re.match(r'openat\(AT_FDCWD, "([^"]*)".*\) = (\d+)$', line)
+        if opened and bytes.fromhex(opened[1].replace("\\x", "")).decode(errors="replace") == room:
+            folders[opened[2]] = opened[1] + "\\x2f"
+        closed = re.match(r"close\((\d+)\)", line)
+        if closed:
+            folders.pop(closed[1], None)
+    return FOLLOW(disk, "\n".join(lines), room)
+
+
+TRACED, FOLLOW = system_calls.traced, crash_states.follow
+
+
 def by_the_rules_of_the_program(trials, made, room):
     """The trials of the program's system calls, of writes that are cut, of a full disk, of `apply`, and of what a crash may leave, on the tool."""
     if "tool" not in made:
         return
+    system_calls.traced, crash_states.follow = traced_by_path, follow_by_path
     passed = {}
 
     def part(name, work):
@@ -1017,12 +1138,15 @@ def trial(trials, program, room):
     refusals(trials, made, room)
     locks(trials, made, program, room)
     forks(trials, made, room)
+    kept_away(trials, made, room)
+    moved(trials, made, room)
     at_once(trials, made, program, room)
     shares(trials, made, program, room)
     killed(trials, made, room)
     if may_trace(trials, room):
         syncs_that_fail(trials, made, room)
         writes_that_fail(trials, made, room)
+        costs(trials, made, room)
         signals(trials, made, room)
         replaced(trials, made, room)
     by_the_rules_of_the_program(trials, made, room)

@@ -424,6 +424,7 @@ static const char *error_name(int error) {
     case ENOSPC: return "ENOSPC";
     case ENOTDIR: return "ENOTDIR";
     case EROFS: return "EROFS";
+    case ESTALE: return "ESTALE";
     case EWOULDBLOCK: return "EWOULDBLOCK";
     default: return "E?";
   }
@@ -520,6 +521,10 @@ static void write_log(const char *log, uint32_t version) {
     if (is(&it, "find")) status = nlog_writer_find(writer, it.names[0].bytes, it.names[0].len, &entry);
     if (is(&it, "pause")) status = NLOG_OK;
     if (is(&it, "shared")) status = nlog_writer_set_shared(writer, true);
+    if (is(&it, "cd")) {
+      snprintf(name, sizeof name, "%.*s", (int)it.names[0].len, it.names[0].bytes);
+      status = chdir(name) == 0 ? NLOG_OK : NLOG_FAULT;
+    }
     if (is(&it, "call-in-child")) status = call_in_child(writer);
     if (is(&it, "open-in-child")) status = open_in_child(writer);
     if (is(&it, "free")) {
