@@ -244,8 +244,7 @@ nlog_status nlog_clear_marks(nlog *log);
  * in part, in whole or not at all; what an nlog_writer_sync had answered NLOG_OK for stands. nlog_writer_errno says why it failed.
  *
  * Lock: flock on the log's file, as each `nlog` that changes a log takes it, and no Ninja does. Where the file system has no locks, there is
- *   none. A child that is forked while the log is open has the lock too, until it frees the writer, ends or runs another program, and can do
- *   nothing with it: see "Fork" above.
+ *   none. The log is unlocked by the close, also where a child that was forked while it was open lives on: see "Fork" above.
  * Signals: a call goes on where a signal interrupts it. A process that has a limit on the length of files (RLIMIT_FSIZE) must ignore SIGXFSZ,
  *   or it is ended by it.
  * Threads and processes: each call may block as long as the disk does. Descriptors are close-on-exec, and none is a standard stream's.

@@ -743,6 +743,21 @@ def forks(trials, made, room):
             trials.want(f"{what}what it recorded", ended, b"NLOG_OK\nNLOG_OK 7 8 9 a\nNLOG_OK\n")
 
 
+def lives_on(trials, made, room):
+    """A child that was forked while the log was open lives on behind the close: the log is unlocked all the same."""
+    log = f"{room}/lives.log"
+    for way, driver in drivers(made):
+        for lines in ([RECORD, "close"], ["recompact", "close"], ["free"], ["close"]):
+            write(log, HEADER)
+            first = subprocess.Popen([*driver, "write", log, "0"], stdin=subprocess.PIPE, stdout=subprocess.PIPE)
+            what = f"{way}, a child that outlives {lines}"
+            trials.want(what, [answers_of(first, it) for it in ("open", "keep-child", *lines)], ["OK"] * (2 + len(lines)))
+            begun = time.monotonic()
+            trials.want(f"{what}: the next open", asked([made["C11"]], "write", log, 0, ["open", "close"])[1], ["OK", "OK"])
+            trials.check(f"{what}: it waits for nothing", time.monotonic() - begun < 5, time.monotonic() - begun)
+            first.communicate()
+
+
 # Lines to a writer that is open behind A and has recorded B, on a log to which something else was done, what each is answered, and the log that
 # is left: gone, longer by a line, or another file.
 KEPT_AWAY = [
@@ -1007,11 +1022,13 @@ def replaced(trials, made, room):
     os.rename(f"{log}.new", log)
     trials.want("a log that is rewritten before the lock", waiting.communicate(timeout=60)[0], b"NLOG_OK\n" * 3)
     trials.want("the new log has the record", read(log), HEADER + D + A)
-    trials.want("it was locked twice", len(re.findall(rb"(?m)^flock\(", read(f"{room}/TRACE"))), 2)
+    trials.want("it was locked twice", len(re.findall(rb"(?m)^flock\(.*LOCK_EX", read(f"{room}/TRACE"))), 2)
 
 
 def by_path(line, folders):
-    """A call of a trace as if it were by paths: the library names a file by the folder that it holds open."""
+    """A call of a trace as if it were by paths: the library names a file by the folder that it holds open. An unlock is as the close that follows
+    it, and no effect of a command."""
+    line = re.sub(r"^flock\([^,]*, LOCK_UN\)", "flock(LOCK_UN)", line)
     return re.sub(r'(\d+)(?:<[^>]*>)?, "([^"/]+)"', lambda it: f'AT_FDCWD, "{folders[it[1]]}{it[2]}"' if it[1] in folders else it[0], line)
 
 
@@ -1138,6 +1155,7 @@ def trial(trials, program, room):
     refusals(trials, made, room)
     locks(trials, made, program, room)
     forks(trials, made, room)
+    lives_on(trials, made, room)
     kept_away(trials, made, room)
     moved(trials, made, room)
     at_once(trials, made, program, room)

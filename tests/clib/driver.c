@@ -4,6 +4,7 @@
 
 #include <errno.h>
 #include <inttypes.h>
+#include <signal.h>
 #include <stdio.h>
 #include <stdlib.h>
 #include <string.h>
@@ -490,6 +491,14 @@ static nlog_status open_in_child(nlog_writer *writer) {
   _exit(0);
 }
 
+/* Forks a child that does nothing, until this process ends it. */
+static nlog_status keep_child(pid_t *child) {
+  *child = fork();
+  if (*child != 0) return *child > 0 ? NLOG_OK : NLOG_FAULT;
+  close(1);
+  for (;;) pause();
+}
+
 static void write_log(const char *log, uint32_t version) {
   static request it;
   static char name[NLOG_MAX_NAME];
@@ -498,6 +507,7 @@ static void write_log(const char *log, uint32_t version) {
   size_t i, count, place, name_len;
   uint32_t number;
   bool flag;
+  pid_t child = -1;
   nlog_status status = nlog_writer_new(&writer, log, version);
   if (status != NLOG_OK) printf("%s\n", nlog_status_name(status));
   while (next_request(&it)) {
@@ -525,6 +535,7 @@ static void write_log(const char *log, uint32_t version) {
       snprintf(name, sizeof name, "%.*s", (int)it.names[0].len, it.names[0].bytes);
       status = chdir(name) == 0 ? NLOG_OK : NLOG_FAULT;
     }
+    if (is(&it, "keep-child")) status = keep_child(&child);
     if (is(&it, "call-in-child")) status = call_in_child(writer);
     if (is(&it, "open-in-child")) status = open_in_child(writer);
     if (is(&it, "free")) {
@@ -546,6 +557,10 @@ static void write_log(const char *log, uint32_t version) {
     fflush(stdout);
   }
   nlog_writer_free(&writer);
+  if (child > 0) {
+    kill(child, SIGKILL);
+    waitpid(child, NULL, 0);
+  }
 }
 
 /* Loads a file by its path. */
