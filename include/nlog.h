@@ -336,7 +336,7 @@ const char *nlog_writer_failed_path(const nlog_writer *writer);
 const char *nlog_writer_failed_call(const nlog_writer *writer);
 
 /* Reads the file and loads it, as nlog_load; the file isn't locked, and nothing is changed. NLOG_FAULT: it couldn't be read, and *error is the
- * errno (ENOENT: it is missing); else *error is as it was. */
+ * errno (ENOENT: it is missing; EISDIR, EINVAL: it is a folder, a pipe, a device or the like); else *error is as it was. */
 nlog_status nlog_load_file(nlog *log, const char *path, int *error);
 
 #ifdef __cplusplus

@@ -17,6 +17,7 @@ import multiprocessing
 import os
 import random
 import re
+import resource
 import shutil
 import signal
 import subprocess
@@ -538,6 +539,7 @@ def failing(trials, made, room):
         write(log, text)
         trials.want(f"a load of {text and text[:30]!r}", run([made["C11"], "load", log]), (0, f"NLOG_{said}\n".encode(), b""))
         trials.want("which leaves the file", read(log), text)
+    no_files(trials, made, room)
     # A symbolic link: a record goes to its file, and a rewriting takes its place.
     write(log, HEADER + A)
     os.symlink("log", f"{room}/failing/link")
@@ -553,6 +555,23 @@ def failing(trials, made, room):
     trials.want("the log then", read(log), HEADER + A + B)
     os.rmdir(f"{room}/failing/log.recompact")
     without_rights(trials, made, f"{room}/rights")
+
+
+def no_files(trials, made, room):
+    """What is no regular file: it is refused, without a wait for a pipe's other end, or for memory to run out."""
+
+    def begin():
+        resource.setrlimit(resource.RLIMIT_CPU, (5, 5))
+
+    os.mkfifo(f"{room}/failing/pipe")
+    os.symlink("/dev/zero", f"{room}/failing/zero")
+    for path, error in ((f"{room}/failing/pipe", "EINVAL"), (f"{room}/failing/zero", "EINVAL"), ("/dev/null", "EINVAL"), (f"{room}/failing/folder", "EISDIR")):
+        for way, driver in drivers(made):
+            trials.want(f"{way}: a load of {path[-12:]}", run([*driver, "load", path], preexec_fn=begin, timeout=10), (0, f"NLOG_FAULT {error}\n".encode(), b""))
+    for name in ("pipe", "zero"):
+        said = run([made["C11"], "write", f"{room}/failing/{name}", "0"], input=b"open\nopen\n", stdin=None, preexec_fn=begin, timeout=10)
+        trials.want(f"a writer of a {name}", said, (0, b"NLOG_FAULT EINVAL fstat log\n" * 2, b""))
+        os.remove(f"{room}/failing/{name}")
 
 
 NOBODY = 65534

@@ -418,6 +418,7 @@ static const char *error_name(int error) {
     case EACCES: return "EACCES";
     case EFBIG: return "EFBIG";
     case EIO: return "EIO";
+    case EINVAL: return "EINVAL";
     case EISDIR: return "EISDIR";
     case ELOOP: return "ELOOP";
     case ENAMETOOLONG: return "ENAMETOOLONG";
