@@ -511,9 +511,32 @@ def turns(trials, made, room):
             finally:
                 os.umask(before)
             trials.want(f"the log {path}", read(log), HEADER + A)
+    modes(trials, made, room)
     for way, driver in drivers(made):
         run([*driver, "closed", log, f"{room}/closed.txt"])
         trials.want(f"{way}: closed streams", read(f"{room}/closed.txt"), b"NLOG_OK NLOG_OK NLOG_OK NLOG_OK NLOG_OK 0 0\n")
+
+
+def modes(trials, made, room):
+    """The permissions of a log, which a rewriting keeps: of a due log, of a recompaction, and as they are by then."""
+    log, before = f"{room}/turns/modes", os.umask(0o022)
+    try:
+        for mode in (0o600, 0o640, 0o644, 0o664, 0o666, 0o755):
+            for text, lines in ((HEADER + A * 101 + B, ["open", "rewrote", "close"]), (HEADER + A, ["open", "recompact", "close"])):
+                write(log, text)
+                os.chmod(log, mode)
+                said = asked([made["C11"]], "write", log, 0, lines)[1]
+                trials.want(f"a log of mode {mode:o}, {lines}", said, ["OK", "OK 1" if "rewrote" in lines else "OK", "OK"])
+                trials.want(f"its mode behind {lines}", oct(os.stat(log).st_mode & 0o7777), oct(mode))
+        writer = subprocess.Popen([made["C11"], "write", log, "0"], stdin=subprocess.PIPE, stdout=subprocess.PIPE)
+        trials.want("a log that gets another mode", answers_of(writer, "open"), "OK")
+        os.chmod(log, 0o620)
+        trials.want("and is rewritten", answers_of(writer, "recompact"), "OK")
+        trials.want("it has that mode", oct(os.stat(log).st_mode & 0o7777), oct(0o620))
+        writer.communicate()
+    finally:
+        os.umask(before)
+    os.remove(log)
 
 
 def failing(trials, made, room):
@@ -960,7 +983,14 @@ def syncs_that_fail(trials, made, room):
         wanted = [f"FAULT EIO fsync {why}", "OK 0", "OK", "OK 1", "OK"]
         trials.want(f"a sync of the {why} that fails in an open", asked(driver, "write", log, 0, ["open", "is_open", "open", "rewrote", "close"])[1], wanted)
         trials.want("the log then", read(log), HEADER + B)
-    # Of a scratch: the log is as it was, and its own syncs count.
+    # Permissions that can't be kept, and then of a scratch: the log is as it was, and its own syncs count.
+    write(log, HEADER + B)
+    os.chmod(log, 0o666)
+    driver = ["strace", "-o", f"{room}/TRACE", "-e", "inject=fchmod:error=EPERM", made["C11"]]
+    said = asked(driver, "write", log, 0, ["open", "recompact", "close", "open", "rewrote", "close"])[1]
+    trials.want("an fchmod that fails", said, ["OK", "FAULT EPERM fchmod scratch", "BROKEN", "OK", "OK 0", "OK"])
+    trials.want("the log then", read(log), HEADER + B)
+    os.remove(log)
     write(log, HEADER + B)
     driver = ["strace", "-o", f"{room}/TRACE", "-e", "inject=fsync:error=EIO:when=3", made["C11"]]
     said = asked(driver, "write", log, 0, ["open", "recompact", "close", "open", "rewrote", "close"])[1]

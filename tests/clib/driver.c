@@ -425,6 +425,7 @@ static const char *error_name(int error) {
     case ENOENT: return "ENOENT";
     case ENOSPC: return "ENOSPC";
     case ENOTDIR: return "ENOTDIR";
+    case EPERM: return "EPERM";
     case EROFS: return "EROFS";
     case ESTALE: return "ESTALE";
     case EWOULDBLOCK: return "EWOULDBLOCK";
