@@ -276,7 +276,9 @@ void nlog_writer_free(nlog_writer **writer);
  * done. After any other status the writer is closed, and the log is unlocked; after NLOG_LOCKED, NLOG_NOT_A_LOG, NLOG_OTHER_VERSION and
  * NLOG_OUT_OF_MEMORY the log is as it was (made empty, where it was missing). Marks of dead names are used up as by nlog_open, also where a
  * file then fails.
- * Where a sync had failed, the next open of this writer rewrites the log, since a second sync may answer for bytes that the first one lost. */
+ * Where a sync of the log had failed, the next open of this writer rewrites the log, since a second sync may answer for bytes that the first one
+ * lost. Where a sync of its folder had failed, each later open answers NLOG_FAULT, with EIO and "fsync" of the folder: another writer can open
+ * the log, and knows nothing of what was lost. */
 nlog_status nlog_writer_open(nlog_writer *writer);
 
 /* Whether the log is shared, which it isn't at first: then the lock is held within each call alone, and not from the open to the close. A call

@@ -962,27 +962,39 @@ def may_trace(trials, room):
 
 def syncs_that_fail(trials, made, room):
     """A sync that fails, of the folder, of the log or of a scratch: nothing is acknowledged, the writer is broken, and no later sync of that
-    file counts: the next open writes a new one."""
+    file counts: the next open writes a new one, or is refused where it was the folder's."""
     log, lines = f"{room}/sync/log", ["open", RECORD, "sync", RECORD, FIND, "close", "open", "rewrote", FIND, "close", "open", "rewrote", "close"]
     # The syncs of the first open are the first two.
-    for nth, why in ((3, "folder"), (4, "log")):
+    opened, others, folder = ["fsync sync", "fsync log"], ["OK", "OK 1", "OK 1 2 3 aa", "OK", "OK", "OK 0", "OK"], "FAULT EIO fsync folder"
+    refused = [folder, "NOT_OPEN", "NOT_OPEN", "NOT_OPEN", folder, "NOT_OPEN", "NOT_OPEN"]
+    for nth, why, later, syncs in (
+        (3, "folder", refused, [*opened, "fsync sync"]),
+        (4, "log", others, [*opened, *opened, "fsync log.recompact", "rename", *opened, *opened]),
+    ):
         shutil.rmtree(f"{room}/sync", ignore_errors=True)
         os.mkdir(f"{room}/sync")
         write(log, HEADER + B)
         driver = ["strace", "-y", "-o", f"{room}/TRACE", "-e", f"inject=fsync:error=EIO:when={nth}", made["C11"]]
-        wanted = ["OK", "OK", f"FAULT EIO fsync {why}", "BROKEN", "BROKEN", "BROKEN", "OK", "OK 1", "OK 1 2 3 aa", "OK", "OK", "OK 0", "OK"]
+        wanted = ["OK", "OK", f"FAULT EIO fsync {why}", "BROKEN", "BROKEN", "BROKEN", *later]
         trials.want(f"a sync of the {why} that fails", asked(driver, "write", log, 0, lines)[1], wanted)
         trials.want("the log then", read(log), HEADER + B + A)
         calls = re.findall(r"(?m)^(fsync|rename)\w*\(\d+<([^>]*)>", read(f"{room}/TRACE").decode())
         names = [call if call == "rename" else f"{call} {os.path.basename(path)}" for call, path in calls]
-        trials.want("its syncs", names, ["fsync sync", "fsync log", *["fsync sync", "fsync log"][: nth - 2], "fsync log.recompact", "rename", *["fsync sync", "fsync log"] * 2])
-    # In an open: the writer is closed, and the next open makes a new file.
-    for nth, why in ((1, "folder"), (2, "log")):
+        trials.want("its syncs", names, syncs)
+        trials.want("another writer opens the log", asked([made["C11"]], "write", log, 0, ["open", FIND, "close"])[1], ["OK", "OK 1 2 3 aa", "OK"])
+    # Behind the rename of a rewriting: the log is the new one, and the folder is not asked to keep its name once more.
+    write(log, HEADER + A + B)
+    driver = ["strace", "-y", "-o", f"{room}/TRACE", "-e", "inject=fsync:error=EIO:when=4", made["C11"]]
+    said = asked(driver, "write", log, 0, ["open", "recompact", "recompact", "close", "open", "open"])[1]
+    trials.want("a sync of the folder that fails behind a rename", said, ["OK", folder, "BROKEN", "BROKEN", folder, folder])
+    trials.want("the syncs that are asked for", len(re.findall(rb"(?m)^fsync\(", read(f"{room}/TRACE"))), 4)
+    # In an open: the writer is closed, and the next open makes a new file, or is refused.
+    for nth, why, later in ((1, "folder", [folder, "NOT_OPEN", "NOT_OPEN"]), (2, "log", ["OK", "OK 1", "OK"])):
         write(log, HEADER + B + b"4\t5")
         driver = ["strace", "-o", f"{room}/TRACE", "-e", f"inject=fsync:error=EIO:when={nth}", made["C11"]]
-        wanted = [f"FAULT EIO fsync {why}", "OK 0", "OK", "OK 1", "OK"]
+        wanted = [f"FAULT EIO fsync {why}", "OK 0", *later]
         trials.want(f"a sync of the {why} that fails in an open", asked(driver, "write", log, 0, ["open", "is_open", "open", "rewrote", "close"])[1], wanted)
-        trials.want("the log then", read(log), HEADER + B)
+        trials.want("the log then", read(log), HEADER + B + (b"4\t5" if why == "folder" else b""))
     # Permissions that can't be kept, and then of a scratch: the log is as it was, and its own syncs count.
     write(log, HEADER + B)
     os.chmod(log, 0o666)
