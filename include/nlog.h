@@ -249,7 +249,7 @@ nlog_status nlog_clear_marks(nlog *log);
  *   or it is ended by it.
  * Threads and processes: each call may block as long as the disk does. Descriptors are close-on-exec, and none is a standard stream's.
  * Files: the scratch of a rewriting is the path with `.recompact` behind it, and may be left there by a failure; the next rewriting takes it
- *   away. A rewritten log is a new file, with the permissions of the one before and the owner of a new one, and stands in the place of a
+ *   away. Where that is too long a name, the open is refused, by ENAMETOOLONG. A rewritten log is a new file, with the permissions of the one before and the owner of a new one, and stands in the place of a
  *   symbolic link where the path is one. Other names of a file stay those of the old one. The path is looked up by nlog_writer_open: the folder that it names then is held open until the close, wherever it is moved to.
  * Others: nobody else writes, removes or replaces the log while it is open, but writers that share it. Before each sync, each close that syncs
  *   and each rewriting the log is looked at, and where another file stands there, none, or one of another length, the call answers NLOG_FAULT,

@@ -551,7 +551,7 @@ def failing(trials, made, room):
         (f"{room}/failing/folder", ["FAULT EISDIR open log", "NOT_OPEN"], "FAULT EISDIR"),
         (f"{room}/failing/file/log", ["FAULT ENOTDIR open folder", "NOT_OPEN"], "FAULT ENOTDIR"),
         (f"{room}/failing/loop", ["FAULT ELOOP open log", "NOT_OPEN"], "FAULT ELOOP"),
-        (f"{room}/failing/{'n' * 300}", ["FAULT ENAMETOOLONG open log", "NOT_OPEN"], "FAULT ENAMETOOLONG"),
+        (f"{room}/failing/{'n' * 300}", ["FAULT ENAMETOOLONG stat scratch", "NOT_OPEN"], "FAULT ENAMETOOLONG"),
     ]
     for path, answers, loaded in rows:
         for way, driver in drivers(made):
@@ -563,6 +563,7 @@ def failing(trials, made, room):
         trials.want(f"a load of {text and text[:30]!r}", run([made["C11"], "load", log]), (0, f"NLOG_{said}\n".encode(), b""))
         trials.want("which leaves the file", read(log), text)
     no_files(trials, made, room)
+    long_names(trials, made, f"{room}/long")
     # A symbolic link: a record goes to its file, and a rewriting takes its place.
     write(log, HEADER + A)
     os.symlink("log", f"{room}/failing/link")
@@ -595,6 +596,28 @@ def no_files(trials, made, room):
         said = run([made["C11"], "write", f"{room}/failing/{name}", "0"], input=b"open\nopen\n", stdin=None, preexec_fn=begin, timeout=10)
         trials.want(f"a writer of a {name}", said, (0, b"NLOG_FAULT EINVAL fstat log\n" * 2, b""))
         os.remove(f"{room}/failing/{name}")
+
+
+def long_names(trials, made, folder):
+    """Names of a log up to the longest: one whose scratch would have too long a name is refused before anything is changed."""
+    os.mkdir(folder)
+    longest = os.pathconf(folder, "PC_NAME_MAX") - len(".recompact")
+    for length in (longest - 1, longest, longest + 1, longest + 5, longest + 10, longest + 11):
+        path = f"{folder}/{'n' * length}"
+        for text in (None, HEADER + A):
+            if length <= longest + 10:
+                write(path, text)
+            for way, driver in drivers(made):
+                said = asked(driver, "write", path, 0, ["open", "recompact", "close"])[1]
+                if length <= longest:
+                    trials.want(f"{way}: a log of a name of {length} bytes", said, ["OK"] * 3)
+                else:
+                    trials.want(f"{way}: a log of a name of {length} bytes", said, ["FAULT ENAMETOOLONG stat scratch", "NOT_OPEN", "NOT_OPEN"])
+                    trials.want("the files then", os.listdir(folder), [] if text is None or length > longest + 10 else ["n" * length])
+                if text is not None and length <= longest + 10:
+                    trials.want("the log then", read(path), text)
+        for it in os.listdir(folder):
+            os.remove(f"{folder}/{it}")
 
 
 NOBODY = 65534
