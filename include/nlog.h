@@ -49,7 +49,7 @@ typedef enum nlog_status {
   NLOG_ALREADY_OPEN = 8,
   NLOG_BROKEN = 9,         /* a change failed before: close, and open again, which repairs */
   NLOG_NEGATIVE_TIME = 10,
-  NLOG_FAULT = 11,         /* a file couldn't be read, written or synced, or memory ran out within a change */
+  NLOG_FAULT = 11,         /* a file couldn't be read, written or synced; of part 2: memory ran out within a change */
   NLOG_BAD_NAME = 12,      /* empty, longer than NLOG_MAX_NAME, or with a NUL, a tab or a newline */
   NLOG_LOCKED = 13,        /* another process has had the log locked for 10 seconds */
   NLOG_FORKED = 14,        /* the writer's log was opened by this process's parent */
@@ -254,6 +254,8 @@ nlog_status nlog_clear_marks(nlog *log);
  * Others: nobody else writes, removes or replaces the log while it is open, but writers that share it. Before each sync, each close that syncs
  *   and each rewriting the log is looked at, and where another file stands there, none, or one of another length, the call answers NLOG_FAULT,
  *   with ESTALE or ENOENT and "stat", and changes nothing. What was recorded since the last sync may then be lost.
+ * Memory: where there is none, a call answers NLOG_OUT_OF_MEMORY, and no file was changed, but where the call says more. Whether the log is then
+ *   still open, and the call may be made again, nlog_writer_is_open tells: where memory ran out within the text, the writer is broken.
  *
  * Every call but nlog_writer_new and nlog_writer_free answers NLOG_NO_HANDLE, 0 or NULL where the writer is NULL. */
 typedef struct nlog_writer nlog_writer;
@@ -299,11 +301,11 @@ nlog_status nlog_writer_rewrote(nlog_writer *writer, bool *rewrote);
 nlog_status nlog_writer_version(nlog_writer *writer, uint32_t *version);
 
 /* Adds the entry of an output, by one write. NLOG_OK: a load finds it, unless the power fails before the next nlog_writer_sync.
- * NLOG_NOT_OPEN, NLOG_BROKEN, NLOG_BAD_NAME, NLOG_OUT_OF_MEMORY: nothing was changed. */
+ * NLOG_NOT_OPEN, NLOG_BROKEN, NLOG_BAD_NAME, NLOG_OUT_OF_MEMORY: nothing was added. */
 nlog_status nlog_writer_record(nlog_writer *writer, const char *name, size_t len, const nlog_entry *entry);
 
 /* Adds one entry for each name, in order, by one write. NLOG_NOT_OPEN, NLOG_BROKEN, NLOG_BAD_NAME: none is added. NLOG_OUT_OF_MEMORY: those of
- * the first names may be added, and the log stays open. */
+ * the first names may be added. */
 nlog_status nlog_writer_record_edge(nlog_writer *writer, const nlog_name *names, size_t count, const nlog_entry *entry);
 
 /* As nlog_count, nlog_at and nlog_find, of the open log with all that was recorded. NLOG_NOT_OPEN, NLOG_BROKEN. */
@@ -315,7 +317,7 @@ nlog_status nlog_writer_find(nlog_writer *writer, const char *name, size_t len, 
 nlog_status nlog_writer_sync(nlog_writer *writer);
 
 /* Rewrites the log, with the last entry of each output but of those that are marked dead; such marks are used up, also where a file fails.
- * NLOG_OK: it is on disk. NLOG_NOT_OPEN, NLOG_BROKEN, NLOG_OUT_OF_MEMORY: nothing was changed. */
+ * NLOG_OK: it is on disk. NLOG_NOT_OPEN, NLOG_BROKEN, NLOG_OUT_OF_MEMORY: the log wasn't changed. */
 nlog_status nlog_writer_recompact(nlog_writer *writer);
 
 /* Rewrites the log, and gives each output that is marked with a time this mtime; such marks are used up, also where a file fails. NLOG_OK: it

@@ -691,7 +691,7 @@ def refusals(trials, made, room):
     """Memory that is refused at each place of a call: what was there stands, and what is new is a prefix of what was asked for."""
     if "refused" not in made:
         return
-    log, count = f"{room}/refused.log", 0
+    log, count, broken = f"{room}/refused.log", 0, 0
     for held, lines, new in REFUSED:
         base = [] if held is None else list(Log(as_version(held, 5)).table)
         for at in range(200):
@@ -705,8 +705,9 @@ def refusals(trials, made, room):
                 break
             count += 1
             what = f"{lines[-1][:30]} on {held and held[:40]!r}, with memory refused at place {at}"
-            broken = "NLOG_OK" if lines[-1] == "open" else "NLOG_BROKEN"
-            trials.check(what, (ended, err) == (0, b"") and (first, second) in (("NLOG_OUT_OF_MEMORY", "NLOG_OK"), ("NLOG_FAULT", broken)), (ended, first, second, err))
+            again = ("NLOG_OK",) if lines[-1] == "open" else ("NLOG_OK", "NLOG_BROKEN")
+            trials.check(what, (ended, err, first) == (0, b"", "NLOG_OUT_OF_MEMORY") and second in again, (ended, first, second, err))
+            broken += second == "NLOG_BROKEN"
             left = read(log) or b""
             found = list(Log(left).table)
             dead = [b"a"] if f"dead {hexed(b'a')}" in lines else []
@@ -715,7 +716,7 @@ def refusals(trials, made, room):
             trials.check(f"{what}: the log", [it for it in found if it in kept] == kept and more == new[: len(more)] and (second != "NLOG_OK" or more == new), left[:300])
         else:
             trials.check(f"{lines[-1][:30]} is done at last", False)
-    trials.check("memory was refused", count > 20, count)
+    trials.check("memory was refused", count > 20 and broken > 2, (count, broken))
     print(f"clib.py: memory was refused at {count} places of calls of the writer")
 
 
