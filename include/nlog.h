@@ -51,7 +51,7 @@ typedef enum nlog_status {
   NLOG_NEGATIVE_TIME = 10,
   NLOG_FAULT = 11,         /* a file couldn't be read, written or synced; of part 2: memory ran out within a change */
   NLOG_BAD_NAME = 12,      /* empty, longer than NLOG_MAX_NAME, or with a NUL, a tab or a newline */
-  NLOG_LOCKED = 13,        /* another process has had the log locked for 10 seconds */
+  NLOG_LOCKED = 13,        /* another has had the log locked for 10 seconds, or as long as nlog_writer_set_wait says */
   NLOG_FORKED = 14,        /* the writer's log was opened by this process's parent */
   NLOG_STATUS_MAX = 0x7fffffff
 } nlog_status;
@@ -249,8 +249,9 @@ nlog_status nlog_clear_marks(nlog *log);
  *   or it is ended by it.
  * Threads and processes: each call may block as long as the disk does. Descriptors are close-on-exec, and none is a standard stream's.
  * Files: the scratch of a rewriting is the path with `.recompact` behind it, and may be left there by a failure; the next rewriting takes it
- *   away. Where that is too long a name, the open is refused, by ENAMETOOLONG. A rewritten log is a new file, with the permissions of the one before and the owner of a new one, and stands in the place of a
- *   symbolic link where the path is one. Other names of a file stay those of the old one. The path is looked up by nlog_writer_open: the folder that it names then is held open until the close, wherever it is moved to.
+ *   away. Where that is too long a name, the open is refused, by ENAMETOOLONG. A rewritten log is a new file, with the permissions of the one
+ *   before and the owner of a new one, and stands in the place of a symbolic link where the path is one. Other names of a file stay those of the
+ *   old one. The path is looked up by nlog_writer_open: the folder that it names then is held open until the close, wherever it is moved to.
  * Others: nobody else writes, removes or replaces the log while it is open, but writers that share it. Before each sync, each close that syncs
  *   and each rewriting the log is looked at, and where another file stands there, none, or one of another length, the call answers NLOG_FAULT,
  *   with ESTALE or ENOENT and "stat", and changes nothing. What was recorded since the last sync may then be lost.
@@ -273,11 +274,11 @@ nlog_status nlog_writer_new(nlog_writer **writer, const char *path, uint32_t ver
 /* Frees the writer, and closes what is open without a sync. *writer is then NULL; where it is NULL nothing is done. */
 void nlog_writer_free(nlog_writer **writer);
 
-/* Opens the log: locks it, for which it waits 10 seconds at most, makes it where it is missing, reads it, repairs it where a crash cut it off,
- * and rewrites it where it is due, without what is marked dead. NLOG_OK: all of that is on disk. NLOG_ALREADY_OPEN, NLOG_BROKEN: nothing was
- * done. After any other status the writer is closed, and the log is unlocked; after NLOG_LOCKED, NLOG_NOT_A_LOG, NLOG_OTHER_VERSION and
- * NLOG_OUT_OF_MEMORY the log is as it was (made empty, where it was missing). Marks of dead names are used up as by nlog_open, also where a
- * file then fails.
+/* Opens the log: locks it, for which it waits 10 seconds at most or as nlog_writer_set_wait says, makes it where it is missing, reads it,
+ * repairs it where a crash cut it off, and rewrites it where it is due, without what is marked dead. NLOG_OK: all of that is on disk.
+ * NLOG_ALREADY_OPEN, NLOG_BROKEN: nothing was done. After any other status the writer is closed, and the log is unlocked; after NLOG_LOCKED,
+ * NLOG_NOT_A_LOG, NLOG_OTHER_VERSION and NLOG_OUT_OF_MEMORY the log is as it was (made empty, where it was missing). Marks of dead names are
+ * used up as by nlog_open, also where a file then fails.
  * Where a sync of the log had failed, the next open of this writer rewrites the log, since a second sync may answer for bytes that the first one
  * lost. Where a sync of its folder had failed, each later open answers NLOG_FAULT, with EIO and "fsync" of the folder: another writer can open
  * the log, and knows nothing of what was lost. */
@@ -289,6 +290,10 @@ nlog_status nlog_writer_open(nlog_writer *writer);
  * whose commands may run the tool itself in the same folder, as a build may run Ninja. The writer has to be closed: NLOG_ALREADY_OPEN, also of a
  * broken one. NLOG_LOCKED of a later call: the file is as it was, and where nlog_writer_is_open tells so the call may be made again. */
 nlog_status nlog_writer_set_shared(nlog_writer *writer, bool is_shared);
+
+/* How long a lock is waited for from now on, in milliseconds: 10,000 at first, and with 0 it is asked for once. It is asked for again every 20
+ * milliseconds, and whoever asks first behind an unlock has it: there is no queue, so among many that wait one may wait long. */
+nlog_status nlog_writer_set_wait(nlog_writer *writer, uint32_t milliseconds);
 
 /* Whether an open succeeded that no close followed, and nothing broke the writer since. */
 nlog_status nlog_writer_is_open(nlog_writer *writer, bool *is_open);
@@ -329,8 +334,9 @@ nlog_status nlog_writer_mark_dead(nlog_writer *writer, const char *name, size_t 
 nlog_status nlog_writer_mark_time(nlog_writer *writer, const char *name, size_t len, int64_t mtime);
 nlog_status nlog_writer_clear_marks(nlog_writer *writer);
 
-/* Syncs what was recorded, closes the log and unlocks it; whatever the status, the writer is then closed, and can be opened again. NLOG_OK:
- * all that was recorded is on disk. NLOG_BROKEN: it was broken. NLOG_NOT_OPEN. Marks stay. */
+/* Syncs what was recorded, closes the log and unlocks it; whatever the status but NLOG_LOCKED, the writer is then closed, and can be opened
+ * again. NLOG_OK: all that was recorded is on disk. NLOG_LOCKED, of a log that is shared: nothing was done, the writer is open, and can be
+ * closed again. NLOG_BROKEN: it was broken. NLOG_NOT_OPEN. Marks stay. */
 nlog_status nlog_writer_close(nlog_writer *writer);
 
 /* Of the last call of the system that failed since the last open began: its errno (0: none did), the path that it was about, and its name, as

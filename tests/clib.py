@@ -785,7 +785,7 @@ def answers_of(process, line):
 
 def forks(trials, made, room):
     """A fork while the log is open: the child may free the writer and no more, and the parent's log stays open, whole and locked."""
-    refused = " ".join(["FORKED"] * 17)
+    refused = " ".join(["FORKED"] * 18)
     ways = drivers(made)
     if may_trace(trials, room):
         # A system that clears no page in a child.
@@ -807,6 +807,32 @@ def forks(trials, made, room):
             parent.stdout.readline()
             ended = parent.communicate(f"open\nfind {hexed(b'child')}\nclose\n".encode())[0]
             trials.want(f"{what}what it recorded", ended, b"NLOG_OK\nNLOG_OK 7 8 9 a\nNLOG_OK\n")
+
+
+def waits(trials, made, room):
+    """How long a lock is waited for, which the caller says; and a close of a shared log that another has: nothing is done, and it can be closed
+    again."""
+    log, said = f"{room}/waits.log", "LOCKED EWOULDBLOCK flock log"
+    with open(log, "ab") as held:
+        for way, driver in drivers(made):
+            write(log, HEADER + A)
+            for wait, least, most in ((0, 0, 3), (25, 0.025, 3), (700, 0.7, 5)):
+                fcntl.flock(held, fcntl.LOCK_EX)
+                begun = time.monotonic()
+                trials.want(f"{way}: an open that waits {wait} ms", asked(driver, "write", log, 0, [f"wait {wait}", "open"])[1], ["OK", said])
+                trials.check(f"{way}: it waits {wait} ms", least <= time.monotonic() - begun < most, time.monotonic() - begun)
+                fcntl.flock(held, fcntl.LOCK_UN)
+            writer = subprocess.Popen([*driver, "write", log, "0"], stdin=subprocess.PIPE, stdout=subprocess.PIPE)
+            begun = [answers_of(writer, it) for it in ("shared", "open", f"record 4 5 6 bb {hexed(b'b')}", "wait 60")]
+            trials.want(f"{way}: a shared log", begun, ["OK"] * 4)
+            fcntl.flock(held, fcntl.LOCK_EX)
+            lines = ["close", "is_open", RECORD, "sync", "recompact", "close", "is_open"]
+            trials.want(f"{way}: which another has", [answers_of(writer, it) for it in lines], [said, "OK 1", *[said] * 4, "OK 1"])
+            trials.want(f"{way}: the log then", read(log), HEADER + A + B)
+            fcntl.flock(held, fcntl.LOCK_UN)
+            trials.want(f"{way}: and lets go of", [answers_of(writer, it) for it in (RECORD, "close", "close")], ["OK", "OK", "NOT_OPEN"])
+            writer.communicate()
+            trials.want(f"{way}: the log at last", read(log), HEADER + A + B + A)
 
 
 def lives_on(trials, made, room):
@@ -1240,6 +1266,7 @@ def trial(trials, program, room):
     refusals(trials, made, room)
     locks(trials, made, program, room)
     forks(trials, made, room)
+    waits(trials, made, room)
     lives_on(trials, made, room)
     kept_away(trials, made, room)
     moved(trials, made, room)

@@ -198,7 +198,7 @@ static void without_a_writer(void) {
   WANT(count == 77 && name_len == 88 && entry.hash == 4 && memcmp(bytes, "abcd", 4) == 0);
   WANT(nlog_writer_recompact(none) == NLOG_NO_HANDLE && nlog_writer_restat(none, &count) == NLOG_NO_HANDLE && count == 77);
   WANT(nlog_writer_mark_dead(none, "a", 1) == NLOG_NO_HANDLE && nlog_writer_mark_time(none, "a", 1, 5) == NLOG_NO_HANDLE);
-  WANT(nlog_writer_clear_marks(none) == NLOG_NO_HANDLE);
+  WANT(nlog_writer_clear_marks(none) == NLOG_NO_HANDLE && nlog_writer_set_wait(none, 0) == NLOG_NO_HANDLE);
   WANT(nlog_writer_errno(none) == 0 && nlog_writer_failed_path(none) == NULL && nlog_writer_failed_call(none) == NULL);
   nlog_writer_free(&none);
   WANT(none == NULL);
@@ -458,6 +458,7 @@ static nlog_status call_in_child(nlog_writer *writer) {
   if (child != 0) return child > 0 && waitpid(child, &ended, 0) == child && ended == 0 ? NLOG_OK : NLOG_FAULT;
   SAY(nlog_writer_open(writer));
   SAY(nlog_writer_set_shared(writer, true));
+  SAY(nlog_writer_set_wait(writer, 0));
   SAY(nlog_writer_is_open(writer, &flag));
   SAY(nlog_writer_rewrote(writer, &flag));
   SAY(nlog_writer_version(writer, &number));
@@ -533,6 +534,7 @@ static void write_log(const char *log, uint32_t version) {
     if (is(&it, "find")) status = nlog_writer_find(writer, it.names[0].bytes, it.names[0].len, &entry);
     if (is(&it, "pause")) status = NLOG_OK;
     if (is(&it, "shared")) status = nlog_writer_set_shared(writer, true);
+    if (is(&it, "wait")) status = nlog_writer_set_wait(writer, (uint32_t)it.number);
     if (is(&it, "cd")) {
       snprintf(name, sizeof name, "%.*s", (int)it.names[0].len, it.names[0].bytes);
       status = chdir(name) == 0 ? NLOG_OK : NLOG_FAULT;
