@@ -1,12 +1,12 @@
 #!/bin/sh
-# Proves and builds nlog, and puts the program, its page, its completion for bash, and the library for C below PREFIX.
+# Proves and builds nlog, and puts the program, its page, its completion for bash, and the library for C below PREFIX, or below DESTDIR/PREFIX.
 set -eu
 
 usage="usage: ./install.sh PREFIX
 puts PREFIX/bin/nlog, PREFIX/share/man/man1/nlog.1 and PREFIX/share/bash-completion/completions/nlog, and where cc, ar and objcopy are there
-PREFIX/lib/libnlog.a, PREFIX/lib/libnlog.so.0 with its links, PREFIX/include/nlog.h, PREFIX/lib/pkgconfig/nlog.pc and
-PREFIX/share/man/man3/nlog.3
-PREFIX is a folder, as /usr/local"
+PREFIX/lib/libnlog.a, PREFIX/lib/libnlog.so.0 with its links, PREFIX/include/nlog.h, PREFIX/lib/pkgconfig/nlog.pc,
+PREFIX/share/man/man3/nlog.3 and a link to it of the name of each call
+PREFIX is a folder, as /usr/local; with DESTDIR=FOLDER all is put below FOLDER, from where a package takes it to PREFIX, which begins with /"
 
 if [ $# -ne 1 ]; then
     echo "$usage" >&2
@@ -24,7 +24,15 @@ case $1 in
 esac
 
 top=$(cd "$(dirname "$0")" && pwd)
+root=${DESTDIR-}
 prefix=$1
+case $root$prefix in
+    "$prefix" | "$root"/*) ;;
+    *)
+        echo "install.sh: with DESTDIR, PREFIX begins with /" >&2
+        exit 2
+        ;;
+esac
 
 # Puts a file in the place of another at once, so that a program that runs stays whole.
 put() {
@@ -41,11 +49,12 @@ fi
 echo "install.sh: proving and building nlog, which takes minutes the first time"
 (cd "$top/crates/nlog" && rt run -- --version)
 
-mkdir -p "$prefix/bin" "$prefix/share/man/man1" "$prefix/share/bash-completion/completions"
-put 755 "$top/crates/nlog/out/nlog" "$prefix/bin/nlog"
-put 644 "$top/man/nlog.1" "$prefix/share/man/man1/nlog.1"
-put 644 "$top/completions/nlog.bash" "$prefix/share/bash-completion/completions/nlog"
-echo "install.sh: $prefix/bin/nlog, $prefix/share/man/man1/nlog.1 and $prefix/share/bash-completion/completions/nlog are there"
+to=$root$prefix
+mkdir -p "$to/bin" "$to/share/man/man1" "$to/share/bash-completion/completions"
+put 755 "$top/crates/nlog/out/nlog" "$to/bin/nlog"
+put 644 "$top/man/nlog.1" "$to/share/man/man1/nlog.1"
+put 644 "$top/completions/nlog.bash" "$to/share/bash-completion/completions/nlog"
+echo "install.sh: $to/bin/nlog, $to/share/man/man1/nlog.1 and $to/share/bash-completion/completions/nlog are there"
 
 if ! command -v cc > /dev/null || ! command -v ar > /dev/null || ! command -v objcopy > /dev/null; then
     echo "install.sh: the library for C is left out: cc, ar or objcopy isn't there"
@@ -55,29 +64,38 @@ fi
 room=$(mktemp -d)
 trap 'rm -rf "$room"' EXIT
 "$top/lib/archive.sh" "$room/libnlog.a"
-mkdir -p "$prefix/lib/pkgconfig" "$prefix/include" "$prefix/share/man/man3"
+mkdir -p "$to/lib/pkgconfig" "$to/include" "$to/share/man/man3"
 number=$(sed -n 's/^#define NLOG_VERSION //p' "$top/include/nlog.h")
 version=$((number / 1000000)).$((number / 1000 % 1000)).$((number % 1000))
+[ -n "$root" ] || prefix=$(cd "$prefix" && pwd)
+# The quotes are for a prefix with a space.
 cat > "$room/nlog.pc" << END
-prefix=$(cd "$prefix" && pwd)
+prefix=$prefix
+libdir=\${prefix}/lib
+includedir=\${prefix}/include
 
 Name: nlog
 Description: Ninja's build log, read and written
 Version: $version
-Cflags: -I\${prefix}/include
-Libs: -L\${prefix}/lib -lnlog
+Cflags: -I"\${includedir}"
+Libs: -L"\${libdir}" -lnlog
 END
-put 644 "$room/libnlog.a" "$prefix/lib/libnlog.a"
+put 644 "$room/libnlog.a" "$to/lib/libnlog.a"
 for file in "$room"/libnlog.so*; do
     name=$(basename "$file")
     if [ -L "$file" ]; then
-        ln -sf "$(readlink "$file")" "$prefix/lib/$name.new"
-        mv -f "$prefix/lib/$name.new" "$prefix/lib/$name"
+        ln -sf "$(readlink "$file")" "$to/lib/$name.new"
+        mv -f "$to/lib/$name.new" "$to/lib/$name"
     else
-        put 755 "$file" "$prefix/lib/$name"
+        put 755 "$file" "$to/lib/$name"
     fi
 done
-put 644 "$top/include/nlog.h" "$prefix/include/nlog.h"
-put 644 "$room/nlog.pc" "$prefix/lib/pkgconfig/nlog.pc"
-put 644 "$top/man/nlog.3" "$prefix/share/man/man3/nlog.3"
-echo "install.sh: $prefix/lib/libnlog.a, $prefix/lib/libnlog.so.0, $prefix/include/nlog.h, $prefix/lib/pkgconfig/nlog.pc and nlog(3) are there"
+put 644 "$top/include/nlog.h" "$to/include/nlog.h"
+put 644 "$room/nlog.pc" "$to/lib/pkgconfig/nlog.pc"
+put 644 "$top/man/nlog.3" "$to/share/man/man3/nlog.3"
+# nlog(3) by the name of each call.
+echo ".so man3/nlog.3" > "$room/page"
+for name in $(sed -n 's/^[a-z].*[ *]\(nlog_[a-z0-9_]*\)(.*/\1/p' "$top/include/nlog.h"); do
+    put 644 "$room/page" "$to/share/man/man3/$name.3"
+done
+echo "install.sh: $to/lib/libnlog.a, $to/lib/libnlog.so.0, $to/include/nlog.h, $to/lib/pkgconfig/nlog.pc and nlog(3) are there"

@@ -56,7 +56,8 @@ typedef enum nlog_status {
   NLOG_STATUS_MAX = 0x7fffffff
 } nlog_status;
 
-/* The name of a status, as "NLOG_NOT_FOUND"; "NLOG_?" for a number that is none. It lasts for ever. */
+/* The name of a status, as "NLOG_NOT_FOUND"; "NLOG_?" for a number that is none. It lasts for ever. The library has this function too, for who
+ * can't take it from here. */
 static inline const char *nlog_status_name(nlog_status status) {
   switch (status) {
     case NLOG_OK: return "NLOG_OK";

@@ -23,7 +23,7 @@ room=$(mktemp -d)
 trap 'rm -rf "$room"' EXIT
 cc=${CC:-cc}
 (cd "$room" && ar x "$top/crates/nl_c/out/libnl_c.a" && ar x "$heap")
-for part in nlog_writer nlog_damage; do
+for part in nlog_writer nlog_damage nlog_status; do
     "$cc" -std=c11 -Wall -Wextra -O2 -fPIC -I "$top/include" -c "$top/lib/$part.c" -o "$room/$part.o"
 done
 
@@ -39,7 +39,10 @@ ar rcs "$room/libnlog.a" "$room/nlog.o"
 number=$(sed -n 's/^#define NLOG_VERSION \([0-9]*\)$/\1/p' "$top/include/nlog.h")
 major=$((number / 1000000))
 shared=libnlog.so.$major.$((number / 1000 % 1000)).$((number % 1000))
-"$cc" -shared -Wl,-soname,"libnlog.so.$major" -Wl,--no-undefined -Wl,-z,relro,-z,now -o "$room/$shared" "$room/nlog.o"
+# Each name has the version of the library that it came with, so that a program finds out as it starts where a library is too old for it. What
+# a later version adds has that one's.
+(echo "NLOG_0.2 { global:" && sed 's/$/;/' "$room/names" && echo "local: *; };") > "$room/versions"
+"$cc" -shared -Wl,-soname,"libnlog.so.$major" -Wl,--version-script,"$room/versions" -Wl,--no-undefined -Wl,-z,relro,-z,now -o "$room/$shared" "$room/nlog.o"
 
 # Puts a file in the place of another at once, so that a program that has it open stays whole.
 put() {

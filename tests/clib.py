@@ -39,6 +39,7 @@ from trials import main, read, run, write
 TOP = os.path.dirname(os.path.dirname(os.path.abspath(__file__)))
 DRIVER, TOOL, SHARER, RUST = (f"{TOP}/tests/clib/{it}" for it in ("driver.c", "tool.c", "shared.c", "safe.rs"))
 STRICT = ["-Wall", "-Wextra", "-Wpedantic", "-Werror", "-D_POSIX_C_SOURCE=200809L", "-I", f"{TOP}/include"]
+VERSION_OF_NAMES = "NLOG_0.2"
 SANITIZED = ["-fsanitize=address,undefined", "-fno-sanitize-recover=all"]
 A, B = b"1\t2\t3\ta\taa\n", b"4\t5\t6\tb\tbb\n"
 STATUS = {"log": "NLOG_OK", "not a ninja log": "NLOG_NOT_A_LOG", "log version not supported": "NLOG_OTHER_VERSION"}
@@ -51,7 +52,7 @@ def build(trials, room):
     if not trials.check("lib/archive.sh makes the archive", ran[0] == 0, (ran[1] or b"")[-800:].decode(errors="replace")):
         return made
     kit = os.path.dirname(os.path.dirname(os.path.realpath(shutil.which("rt"))))
-    parts = [f"{TOP}/lib/nlog_writer.c", f"{TOP}/lib/nlog_damage.c", f"{TOP}/crates/nl_c/out/libnl_c.a", f"{kit}/c/liblibc_c.a"]
+    parts = [*(f"{TOP}/lib/{it}.c" for it in ("nlog_writer", "nlog_damage", "nlog_status")), f"{TOP}/crates/nl_c/out/libnl_c.a", f"{kit}/c/liblibc_c.a"]
     ways = [
         ("C11", ["cc", "-std=c11", "-O2", *STRICT, DRIVER, archive]),
         ("C++17", ["c++", "-x", "c++", "-std=c++17", *STRICT, DRIVER, "-x", "none", archive]),
@@ -79,12 +80,15 @@ def names(trials, room):
     """The names of the archive and of the shared object: those of the header, and no other."""
     for path, words in ((f"{room}/libnlog.a", ["-g"]), (f"{room}/libnlog.so", ["-D"])):
         said = run(["nm", *words, "--defined-only", path])[1].decode()
-        trials.want(f"the names of {os.path.basename(path)}", set(re.findall(r"(?m) [A-Za-z] (\S+)$", said)), declared())
+        found = {it.partition("@")[0] for it in re.findall(r"(?m) [A-Za-z] (\S+)$", said)} - {VERSION_OF_NAMES}
+        trials.want(f"the names of {os.path.basename(path)}", found, declared() | {"nlog_status_name"})
     links = {it: os.readlink(f"{room}/{it}") for it in ("libnlog.so", "libnlog.so.0")}
     trials.want("the links of the shared object", links, dict.fromkeys(links, "libnlog.so.0.2.0"))
     if shutil.which("objdump"):
         said = run(["objdump", "-p", f"{room}/libnlog.so"])[1].decode()
         found = re.findall(r"(?m)^ +(SONAME|NEEDED) +(\S+)", said)
+        said = run(["objdump", "-T", f"{room}/libnlog.so"])[1].decode()
+        trials.want("the versions of its names", set(re.findall(r"(?m) (\S+) +nlog_\w+$", said)), {VERSION_OF_NAMES})
         trials.want("what the shared object is called and needs", found, [("NEEDED", "libc.so.6"), ("SONAME", "libnlog.so.0")])
 
 
@@ -280,6 +284,9 @@ def by_ctypes(trials, made, room):
     trials.want("ctypes: an entry", (found, entry.start_ms, entry.end_ms, entry.mtime, entry.hash), (0, 4, 5, 6, 0xBB))
     trials.want("ctypes: no entry", library.nlog_find(ctypes.byref(log), b"c", size(1), ctypes.byref(entry)), 5)
     trials.want("ctypes: a hash", library.nlog_command_hash(b"cc x.c", size(6)), command_hash(b"cc x.c"))
+    if trials.check("ctypes: the library names a status", hasattr(library, "nlog_status_name")):
+        library.nlog_status_name.restype = ctypes.c_char_p
+        trials.want("ctypes: the names of statuses", [library.nlog_status_name(it) for it in (0, 5, 14, 15)], [b"NLOG_OK", b"NLOG_NOT_FOUND", b"NLOG_FORKED", b"NLOG_?"])
     library.nlog_free(ctypes.byref(log))
     trials.want("ctypes: a handle that was freed", library.nlog_count(ctypes.byref(log), ctypes.byref(count)), 1)
     # The writer.
@@ -324,6 +331,9 @@ def pages(trials, room):
         ran = run(["cc", "-std=c11", *STRICT, f"{room}/page{i}.c", f"{room}/libnlog.a", "-o", f"{room}/page{i}"])
         if trials.check(f"example {i} is built", ran[0] == 0 and not ran[2], ran[2][-800:].decode(errors="replace")):
             trials.want(f"example {i}", run([f"{room}/page{i}"], cwd=room), (0, wanted, b""))
+        if shutil.which("c++"):
+            ran = run(["c++", "-x", "c++", "-std=c++17", *STRICT, "-c", f"{room}/page{i}.c", "-o", f"{room}/page{i}.o"])
+            trials.check(f"example {i} is C++ too", ran[0] == 0 and not ran[2], ran[2][-800:].decode(errors="replace"))
     for name in ("built.log", "c.log"):
         trials.want(f"the log {name} of an example", read(f"{room}/{name}"), HEADER + line_of(b"a.o", (0, 12, 1000, command_hash(b"cc a.c"))))
     # Where a file fails, the second says which, and by which call.

@@ -116,15 +116,21 @@ def try_install(trials, program, room):
     for name in ("rt", "lib/archive.sh"):
         os.chmod(f"{top}/{name}", 0o755)
     env = {**os.environ, "PATH": f"{top}:{os.environ.get('PATH', os.defpath)}"}
+    env.pop("DESTDIR", None)
     for turn in ("first", "second"):
         status, _, err = run(["sh", f"{top}/install.sh", f"{room}/prefix"], env=env)
         trials.want(f"the {turn} installation", (status, err), (0, b""))
+    try_destdir(trials, f"{top}/install.sh", room, env)
     made = {os.path.relpath(f"{folder}/{it}", f"{room}/prefix") for folder, _, files in os.walk(f"{room}/prefix") for it in files}
     wanted = {"bin/nlog": program, "share/man/man1/nlog.1": PAGE, "share/bash-completion/completions/nlog": f"{TOP}/completions/nlog.bash"}
     if shutil.which("cc") and shutil.which("ar") and shutil.which("objcopy"):
         for name in ("lib/libnlog.a", "lib/libnlog.so", "lib/libnlog.so.0.2.0", "include/nlog.h"):
             wanted[name] = f"{TOP}/include/nlog.h"
         wanted["share/man/man3/nlog.3"] = LIBRARY_PAGE
+        write(f"{room}/page", b".so man3/nlog.3\n")
+        calls = re.findall(r"(?m)^\w[\w *]*?(nlog_\w+)\(", read(f"{TOP}/include/nlog.h").decode())
+        trials.check("there are calls", len(calls) > 40 and "nlog_status_name" in calls, calls)
+        wanted.update((f"share/man/man3/{it}.3", f"{room}/page") for it in calls)
         trials.want("the link of the shared object", os.readlink(f"{room}/prefix/lib/libnlog.so"), "libnlog.so.0.2.0")
         about = read(f"{room}/prefix/lib/pkgconfig/nlog.pc")
         trials.check("what it says of the library", about and b"\nVersion: 0.2.0\n" in about and f"prefix={room}/prefix\n".encode() in about, about)
@@ -134,6 +140,25 @@ def try_install(trials, program, room):
     trials.want("what it puts", made, set(wanted))
     for name, path in wanted.items():
         trials.check(f"it puts {name}", read(f"{room}/prefix/{name}") == read(path))
+
+
+def try_destdir(trials, script, room, env):
+    """A package: all is put below DESTDIR, and says PREFIX. And a PREFIX with a space, of which pkg-config makes flags that are whole."""
+    prefix = f"{room}/a place"
+    status, _, err = run(["sh", script, prefix], env={**env, "DESTDIR": f"{room}/package"})
+    trials.want("an installation below DESTDIR", (status, err), (0, b""))
+    trials.check("all is below it", os.path.exists(f"{room}/package{prefix}/bin/nlog") and not os.path.exists(prefix))
+    status, _, err = run(["sh", script, "relative"], env={**env, "DESTDIR": f"{room}/package"}, cwd=room)
+    trials.want("DESTDIR and a relative PREFIX", (status, err), (2, b"install.sh: with DESTDIR, PREFIX begins with /\n"))
+    folder = f"{room}/package{prefix}/lib/pkgconfig"
+    if shutil.which("pkg-config") is None or not os.path.isdir(folder):
+        trials.skip("the flags of nlog.pc", "pkg-config, or the library, isn't there")
+        return
+    asked = {**env, "PKG_CONFIG_PATH": folder}
+    for variable, wanted in (("libdir", f"{prefix}/lib"), ("includedir", f"{prefix}/include")):
+        trials.want(f"its {variable}", run(["pkg-config", f"--variable={variable}", "nlog"], env=asked)[1].decode().strip(), wanted)
+    flags = run(["sh", "-c", "eval \"set -- $(pkg-config --cflags --libs nlog)\"; printf '%s\\n' \"$@\""], env=asked)[1].decode().split("\n")[:-1]
+    trials.want("its flags", flags, [f"-I{prefix}/include", f"-L{prefix}/lib", "-lnlog"])
 
 
 def trial(trials, program, room):
