@@ -15,7 +15,7 @@
  * Threads: a handle or a writer takes one call at a time, on any thread that is in order with the one before (a lock, or a join), reads
  *   included. Calls on different ones need no order. No call may be made in a signal handler, or in the forked child of a process with threads.
  * Fork: a child may go on with each handle and with each closed writer, by itself. A writer whose log is open, or broken, stays the parent's: in
- *   the child each call on it answers NLOG_FORKED, and does nothing, but nlog_writer_free, which frees the child's part and lets go of its
+ *   the child each call on it that has a status answers NLOG_FORKED, and does nothing. nlog_writer_free frees the child's part and lets go of its
  *   descriptors; the parent's log stays open, and locked.
  * Units: lengths in bytes; start and end in milliseconds from the start of the build; mtime in the writer's unit (Ninja 1.12: nanoseconds
  *   since 1970; 0 for no file). Names and commands are bytes, of no encoding, and end by their length. */
@@ -289,7 +289,7 @@ nlog_status nlog_writer_open(nlog_writer *writer);
  * that changes the log, and finds that another writer had it since, reads and opens it anew, with what it holds now: the lines of both stand in
  * the order in which they were recorded. What only reads (nlog_writer_find and the like) answers of what the last such call saw. For a tool
  * whose commands may run the tool itself in the same folder, as a build may run Ninja. The writer has to be closed: NLOG_ALREADY_OPEN, also of a
- * broken one. NLOG_LOCKED of a later call: the file is as it was, and where nlog_writer_is_open tells so the call may be made again. */
+ * broken one. NLOG_LOCKED of a later call: nothing was done, the log is open still, and the call may be made again. */
 nlog_status nlog_writer_set_shared(nlog_writer *writer, bool is_shared);
 
 /* How long a lock is waited for from now on, in milliseconds: 10,000 at first, and with 0 it is asked for once. It is asked for again every 20

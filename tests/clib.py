@@ -843,6 +843,24 @@ def waits(trials, made, room):
             trials.want(f"{way}: and lets go of", [answers_of(writer, it) for it in (RECORD, "close", "close")], ["OK", "OK", "NOT_OPEN"])
             writer.communicate()
             trials.want(f"{way}: the log at last", read(log), HEADER + A + B + A)
+            locked_anew(trials, f"{way}: ", driver, f"{room}/anew.log")
+
+
+def locked_anew(trials, about, driver, log):
+    """A shared log in whose place another puts a new file, which it keeps locked: the writer stays open, and goes on once it is let go of."""
+    write(log, HEADER + A)
+    writer = subprocess.Popen([*driver, "write", log, "0"], stdin=subprocess.PIPE, stdout=subprocess.PIPE)
+    trials.want(f"{about}a shared log", [answers_of(writer, it) for it in ("shared", "open", "wait 60")], ["OK"] * 3)
+    write(f"{log}.new", HEADER + D)
+    with open(f"{log}.new", "ab") as held:
+        fcntl.flock(held, fcntl.LOCK_EX)
+        os.rename(f"{log}.new", log)
+        said = [answers_of(writer, it) for it in (RECORD, "is_open", "sync", "is_open", FIND)]
+        locked = "LOCKED EWOULDBLOCK flock log"
+        trials.want(f"{about}another has the new file", said, [locked, "OK 1", locked, "OK 1", "OK 1 2 3 aa"])
+    trials.want(f"{about}it goes on", [answers_of(writer, it) for it in (RECORD, "count", "close")], ["OK", "OK 2", "OK"])
+    writer.communicate()
+    trials.want(f"{about}the new file", read(log), HEADER + D + A)
 
 
 def lives_on(trials, made, room):
@@ -1133,17 +1151,18 @@ def signals(trials, made, room):
 def replaced(trials, made, room):
     """A log that is rewritten between the open of its file and the lock: the lock is one of a file without a name, and the new one is opened."""
     log = f"{room}/replaced.log"
-    write(log, HEADER + B)
-    words = ["strace", "-o", f"{room}/TRACE", "-e", "trace=flock", "-e", "inject=flock:delay_enter=1500000:when=1", made["C11"], "write", log, "0"]
-    waiting = subprocess.Popen(words, stdin=subprocess.PIPE, stdout=subprocess.PIPE)
-    waiting.stdin.write(f"open\n{RECORD}\nclose\n".encode())
-    waiting.stdin.flush()
-    time.sleep(0.75)
-    write(f"{log}.new", HEADER + D)
-    os.rename(f"{log}.new", log)
-    trials.want("a log that is rewritten before the lock", waiting.communicate(timeout=60)[0], b"NLOG_OK\n" * 3)
-    trials.want("the new log has the record", read(log), HEADER + D + A)
-    trials.want("it was locked twice", len(re.findall(rb"(?m)^flock\(.*LOCK_EX", read(f"{room}/TRACE"))), 2)
+    for wait in (10000, 0):
+        write(log, HEADER + B)
+        words = ["strace", "-o", f"{room}/TRACE", "-e", "trace=flock", "-e", "inject=flock:delay_enter=1500000:when=1", made["C11"], "write", log, "0"]
+        waiting = subprocess.Popen(words, stdin=subprocess.PIPE, stdout=subprocess.PIPE)
+        waiting.stdin.write(f"wait {wait}\nopen\n{RECORD}\nclose\n".encode())
+        waiting.stdin.flush()
+        time.sleep(0.75)
+        write(f"{log}.new", HEADER + D)
+        os.rename(f"{log}.new", log)
+        trials.want(f"a log that is rewritten before the lock, with a wait of {wait} ms", waiting.communicate(timeout=60)[0], b"NLOG_OK\n" * 4)
+        trials.want("the new log has the record", read(log), HEADER + D + A)
+        trials.want("it was locked twice", len(re.findall(rb"(?m)^flock\(.*LOCK_EX", read(f"{room}/TRACE"))), 2)
 
 
 def by_path(line, folders):
