@@ -1,5 +1,5 @@
 #!/usr/bin/env bash
-# The test command of README.md: the gate, and then the trials of tests/ on the program that it built.
+# The test command of README.md: the gate, the edits that it must refuse, and then the trials of tests/ on the program that it built.
 # Each part ends in a line 'N passed, M failed'; the last line is their sum. NLOG_NINJA_SOURCES=FOLDER tries Ninja on the library for C too.
 set -uo pipefail
 cd "$(dirname "$0")"
@@ -57,6 +57,7 @@ if ! python3 -c 'import sys; sys.exit(sys.version_info < (3, 8))' 2> /dev/null; 
 fi
 
 part rt ci
+part python3 tests/edits.py --times
 part python3 tests/labels.py
 part python3 tests/examples.py crates/nlog/out/nlog
 # What Rattle's own compiler made of the same program. Where it made nothing, the gate has said so.
@@ -69,7 +70,7 @@ fi
 # The libraries, and the program. Each says what it skips, and why: a formatter, strace, Ninja or a small disk may be missing.
 # Those that take the longest begin first.
 parts < <(
-    printf 'python3 tests/%s.py\n' library growths
+    printf 'python3 tests/%s.py\n' library growths refusals
     for trial in stops crash_states large system_calls short_writes fuzz commands apply apply_calls scripts limits clib manual damaged closed_streams real_disks full_disk two_writers reports with_ninja; do
         echo "python3 tests/$trial.py crates/nlog/out/nlog"
     done

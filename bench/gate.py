@@ -1,6 +1,5 @@
 #!/usr/bin/env python3
-"""Where the time of the gate goes: by crate its proof, the proof of its tests, its must-fail edits, the compilers; the dearest edits by name;
-each trial; and the longest chain.
+"""Where the time of the gate goes: by crate its proof, the checks of its edits, the compilers; each trial; and the longest chain of proofs.
 
     python3 bench/gate.py [--keep FILE] [COMMAND ..]
     python3 bench/gate.py --read FILE
@@ -9,8 +8,8 @@ Runs the command, `./test.sh` where none is given, at the top of the repository,
 (/proc, Linux alone). Processor time is user and system together, of each process and of those it has waited for. FILE keeps what was seen
 of each process, a line of JSON each, so that the tables can be printed again. Clock times mean something only where nothing else runs.
 
-How a process of the kit is told: by its crate, `--test`, `--backend`, and where it runs. The nth check of a crate in a folder of must-fail
-edits is that of its nth edit in order, and the one after the last is of the crate without an edit.
+How a process of the kit is told: by its crate, `--backend`, and where it runs. A check of many edits is one process; what each of them took,
+`python3 tests/edits.py --times` says.
 """
 import json
 import os
@@ -18,11 +17,11 @@ import re
 import subprocess
 import sys
 import time
+from glob import glob
 
 TOP = os.path.dirname(os.path.dirname(os.path.abspath(__file__)))
 TICK = os.sysconf("SC_CLK_TCK")
 STEP = 0.2
-DEAREST = 20
 
 
 def stat(pid):
@@ -90,17 +89,17 @@ def task_of(record):
     """What a process works at: its kind, and its crate or script; or None."""
     words = record["cmd"].split()
     script = next((re.fullmatch(r"(?:.*/)?tests/(\w+)\.py", it) for it in words[:3] if it.endswith(".py")), None)
-    if script and "python" in words[0]:
+    if script and script[1] != "edits" and "python" in words[0]:
         by = " by the second compiler" if words[-1].endswith(".by-rattle") else ""
         return "trial", script[1] + by
     if len(words) < 4 or not words[0].endswith("/rattle") or words[1] not in ("check", "build") or "--crate-name" not in words:
         return None
     crate = words[words.index("--crate-name") + 1]
-    if os.path.basename(record["cwd"]).startswith("rt-edit-"):
-        return "edit", crate
+    if "/nlog-edits-" in record["cwd"]:
+        return "edits", crate
     if "--crate-checked" in words:
         return f"compiled by {words[words.index('--backend') + 1]}", crate
-    return "tests" if "--test" in words else "proof", crate
+    return "proof", crate
 
 
 def tasks_in(records):
@@ -123,8 +122,8 @@ def tasks_in(records):
 
 
 def edits_of(crate):
-    folder = f"{TOP}/crates/{crate}/must-fail"
-    return sorted(it for it in os.listdir(folder) if it.endswith(".edit")) if os.path.isdir(folder) else []
+    """How many edits a crate has."""
+    return len(glob(f"{TOP}/crates/{crate}/edits/*.edit"))
 
 
 def crates():
@@ -150,46 +149,37 @@ def table(titles, rows):
 
 
 def chains(below, lasts):
-    """How long each task ends after the beginning where each begins once those that it waits for have ended, and by which chain."""
+    """How long each proof ends after the beginning where each begins once those that it waits for have ended, and by which chain."""
     ends = {}
 
-    def end(crate, kind):
-        if (crate, kind) not in ends:
-            waits = [(it, "proof") for it in below[crate]] if kind != "edits" else [(crate, "proof"), (crate, "tests")]
-            before = max((end(*it) for it in waits), default=(0, ()))
-            last = lasts.get((crate, kind), 0)
-            ends[crate, kind] = before[0] + last, before[1] + (((crate, kind, last),) if last else ())
-        return ends[crate, kind]
+    def end(crate):
+        if crate not in ends:
+            before = max(map(end, below[crate]), default=(0, ()))
+            ends[crate] = before[0] + lasts.get(crate, 0), (*before[1], (crate, lasts.get(crate, 0)))
+        return ends[crate]
 
-    for crate in below:
-        for kind in ("proof", "tests", "edits"):
-            end(crate, kind)
-    return sorted(ends.values(), reverse=True)
+    return sorted(map(end, below), reverse=True)
 
 
 def report(records):
     tasks, below = tasks_in(records), crates()
-    spent = lambda kind, name: sum(it["cpu"] for it in tasks if it["task"] == (kind, name))
-    kinds = ["proof", "tests", "edit", "compiled by llvm", "compiled by rattle"]
+    of = lambda kind, name: [it for it in tasks if it["task"] == (kind, name)]
+    spent = lambda kind, name: sum(it["cpu"] for it in of(kind, name))
+    kinds = ["proof", "edits", "compiled by llvm", "compiled by rattle"]
     rows = [[name, *(spent(kind, name) for kind in kinds)] for name in below]
-    rows.append(["all", *(sum(row[at] for row in rows) for at in range(1, 6))])
+    rows.append(["all", *(sum(row[at] for row in rows) for at in range(1, 5))])
+    counts = [(edits_of(name), len(of("edits", name))) for name in below]
+    counts.append(tuple(map(sum, zip(*counts))))
     shown = lambda seconds: clock(seconds) if seconds else ""
-    table(["Crate", "Proof", "Proof of tests", "Edits", "LLVM", "Second compiler", "All"], [[row[0], *map(shown, [*row[1:], sum(row[1:])])] for row in rows])
-    edits, lasts = [], {}
-    for name in below:
-        names = edits_of(name)
-        tried = [it for it in tasks if it["task"] == ("edit", name)]
-        edits += [(it["cpu"], f"{name}/{names[at][:-5]}" if at < len(names) else f"{name}, without an edit") for at, it in enumerate(tried[: len(names) + 1])]
-        for kind in ("proof", "tests", "edit"):
-            those = [it for it in tasks if it["task"] == (kind, name)]
-            if those:
-                lasts[name, "edits" if kind == "edit" else kind] = max(it["end"] for it in those) - min(it["start"] for it in those)
-    table(["Edit", "Processor time"], [[name, clock(cpu)] for cpu, name in sorted(edits, reverse=True)[:DEAREST]])
+    titles = ["Crate", "Proof", "Edits", "in checks", "Processors", "LLVM", "Second compiler", "All"]
+    table(titles, [[row[0], shown(row[1]), *(it or "" for it in count), *map(shown, [*row[2:], sum(row[1:])])] for row, count in zip(rows, counts)])
+    lasts = {name: max(it["end"] for it in of("proof", name)) - min(it["start"] for it in of("proof", name)) for name in below if of("proof", name)}
     trials = dict.fromkeys(it["task"][1] for it in tasks if it["task"][0] == "trial")
     table(["Trial", "Processor time"], [[name, clock(spent("trial", name))] for name in trials])
-    print(f"Proofs, edits and compilers {clock(sum(rows[-1][1:]))}, trials {clock(sum(spent('trial', it) for it in trials))} of processors.")
+    others = sum(spent("trial", it) for it in trials)
+    print(f"Proofs, edits and compilers {clock(sum(rows[-1][1:]))}, trials {clock(others)} of processors.")
     for length, chain in chains(below, lasts)[:3]:
-        print(f"Chain of {clock(length)}: {', '.join(f'{crate} {kind} {clock(last)}' for crate, kind, last in chain)}.")
+        print(f"Chain of {clock(length)}: {', '.join(f'{crate} {clock(last)}' for crate, last in chain)}.")
 
 
 def main(words):

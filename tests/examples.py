@@ -13,7 +13,7 @@ it is that file. The examples of a page run in order in one folder, with the pag
 of the repository is there, and they leave nothing in it.
 
 The script fails where an example differs, where a page has none for a command that the program's help lists, and where
-docs/PROMISES.md doesn't name a must-fail edit. Its last line is `N passed, M failed`.
+docs/PROMISES.md doesn't name an edit. Its last line is `N passed, M failed`.
 """
 import glob
 import os
@@ -175,9 +175,9 @@ def lacking(page, examples, commands):
 
 
 def unnamed_edits():
-    """The must-fail edits that docs/PROMISES.md doesn't name."""
+    """The edits that docs/PROMISES.md doesn't name."""
     text = "\n".join(lines_of("docs/PROMISES.md"))
-    names = [os.path.basename(it)[: -len(".edit")] for it in glob.glob(f"{TOP}/crates/*/must-fail/*.edit")]
+    names = [os.path.basename(it)[: -len(".edit")] for it in glob.glob(f"{TOP}/crates/*/edits/*.edit")]
     return sorted(it for it in names if f"`{it}`" not in text)
 
 

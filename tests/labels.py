@@ -2,9 +2,8 @@
 """Holds the table of clause labels in CONTRIBUTING.md to the code: python3 tests/labels.py
 
 Each label of a clause outside of laws.rt stands in the table, once, and so does each part of a call's relation (a field of a
-record of a `specs/Calls` of RELATIONS), whose clause is `call`; each label of the table is one of these. The first line of each must-fail
-edit names a place and a clause of the crate, which stand in its sources or in those of the crate's specs and proofs. It reads the
-repository's texts alone, and needs no toolchain.
+record of a `specs/Calls` of RELATIONS), whose clause is `call`; each label of the table is one of these. Each edit can be applied, and its
+first line names the function that it changes and a clause of it. It reads the repository's texts alone, and needs no toolchain.
 """
 
 import collections
@@ -12,6 +11,8 @@ import os
 import re
 import sys
 from glob import glob
+
+from edits import BadEdit, Edit, crates, text_of
 
 TOP = os.path.dirname(os.path.dirname(os.path.abspath(__file__)))
 CLAUSE = re.compile(r"\b(?:ensures|requires)\*?\s+([a-z]\w*)\s*\{")
@@ -22,14 +23,6 @@ FIELD = re.compile(r"^  pub (\w+) :", re.MULTILINE)
 # The crates with relations of calls in specs/Calls, and the records there that are values and no relations.
 RELATIONS = ("nl_session", "nl_change")
 VALUES = {"FolderView", "Meaning"}
-
-# The clause of std's Display that each text of a fault meets: what is written.
-OF_STD = {"writes"}
-
-
-def text_of(path):
-    with open(path, encoding="utf-8") as it:
-        return it.read()
 
 
 def code_of(path):
@@ -65,17 +58,14 @@ def parts_in_use():
 
 
 def faults_of_edits():
-    """Says of each edit whose first line names no clause, or one that no function of its crate has."""
-    for edit in sorted(glob(f"{TOP}/crates/*/must-fail/*.edit")):
-        crate = edit.split("/must-fail/")[0]
-        of_crate = {label for path in glob(f"{crate}/src/**/*.rt", recursive=True) for label in CLAUSE.findall(code_of(path))}
-        first = text_of(edit).split("\n")[0]
-        named = re.search(r"; refused at .*", first)
-        if not first.startswith("why: ") or not named:
-            yield edit, f"{os.path.relpath(edit, TOP)}: its first line isn't 'why: .., refused at PLACE, clause LABEL'"
-            continue
-        lacking = [it for it in re.findall(r"clauses? `(\w+)`(?: and `(\w+)`)?", named[0]) for it in it if it and it not in of_crate | OF_STD]
-        yield edit, f"{os.path.relpath(edit, TOP)}: no clause of its crate has the label {lacking[0]}" if lacking else None
+    """Says of each edit why it can't be tried, if it can't."""
+    for crate in crates(TOP).values():
+        for name in crate.edits():
+            try:
+                Edit(crate, name)
+                yield None
+            except BadEdit as why:
+                yield f"{crate.name}/{name}: {why}"
 
 
 def main():
@@ -89,7 +79,7 @@ def main():
     for label, times in sorted(collections.Counter(table).items()):
         checks.append(None if label in used else f"{label}: it stands in the table in CONTRIBUTING.md, and no clause has it")
         checks.append(None if times == 1 else f"{label}: the table in CONTRIBUTING.md has it {times} times")
-    checks += [fault for _, fault in faults_of_edits()]
+    checks += faults_of_edits()
     failed = [it for it in checks if it]
     for it in failed:
         print(f"FAILED: {it}")

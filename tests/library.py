@@ -31,7 +31,7 @@ def crates(room, name, uses):
     """Copies the crates that the tests stand on into a folder, with a crate of this name for the tests, and gives the folder of its sources."""
     with open(f"{TOP}/crates.txt", encoding="utf-8") as it:
         write(f"{room}/crates.txt", f"{it.read()}{name}: {uses}\n".encode())
-    ignored = shutil.ignore_patterns("out", "must-fail", "proofs")
+    ignored = shutil.ignore_patterns("out", "edits", "proofs")
     shutil.copytree(f"{TOP}/crates", f"{room}/crates", ignore=ignored)
     src = f"{room}/crates/{name}/src"
     os.makedirs(src)
