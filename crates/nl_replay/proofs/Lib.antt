@@ -1,3 +1,4 @@
+mod WordLemmas
 mod ScriptLemmas
 mod ReadingLemmas
 mod ReplayLemmas

@@ -24,6 +24,7 @@ use nl_table::KeepList;
 use nl_texts::ToolFault;
 use std::alloc::{AllocError, AllocFailed, Global};
 use std::io::Read;
+use std::str;
 
 /// What a script says: the settings of a folder in memory, and the events for a log over it.
 #[derive(Drop)]
@@ -220,18 +221,29 @@ fn read_word(text: &[u8]) -> Option<Word>
     ensures value { IfSome result (λ word. text.now ≡ text_of_word word) }
     ensures accepts { (word : Word) → text.now ≡ text_of_word word → result ≡ Some word }
 {
-    match text {
-        b"writes" => Some(Word::Writes),
-        b"fates" => Some(Word::Fates),
-        b"tails" => Some(Word::Tails),
-        b"fuse" => Some(Word::Fuse),
-        b"open" => Some(Word::Open),
-        b"recompact" => Some(Word::Recompact),
-        b"record" => Some(Word::Record),
-        b"restat" => Some(Word::Restat),
-        b"sync" => Some(Word::Sync),
-        b"stop" => Some(Word::Stop),
-        b"crash" => Some(Word::Crash),
+    match str::from_utf8(text) {
+        Ok(name) => word_named(name),
+        Err(_) => None,
+    }
+}
+
+// The word of this name.
+fn word_named(name: &str) -> Option<Word>
+    ensures value { IfSome result (λ word. name.now ≡ text_of_word word) }
+    ensures accepts { (word : Word) → name.now ≡ text_of_word word → result ≡ Some word }
+{
+    match name {
+        "writes" => Some(Word::Writes),
+        "fates" => Some(Word::Fates),
+        "tails" => Some(Word::Tails),
+        "fuse" => Some(Word::Fuse),
+        "open" => Some(Word::Open),
+        "recompact" => Some(Word::Recompact),
+        "record" => Some(Word::Record),
+        "restat" => Some(Word::Restat),
+        "sync" => Some(Word::Sync),
+        "stop" => Some(Word::Stop),
+        "crash" => Some(Word::Crash),
         _ => None,
     }
 }
@@ -338,16 +350,27 @@ fn read_call(word: &[u8]) -> Option<Call>
     ensures value { IfSome result (λ call. word.now ≡ word_of call) }
     ensures accepts { (call : Call) → word.now ≡ word_of call → result ≡ Some call }
 {
-    match word {
-        b"read_log" => Some(Call::ReadLog),
-        b"append_log" => Some(Call::AppendLog),
-        b"cut_log" => Some(Call::CutLog),
-        b"sync_log" => Some(Call::SyncLog),
-        b"start_scratch" => Some(Call::StartScratch),
-        b"append_scratch" => Some(Call::AppendScratch),
-        b"sync_scratch" => Some(Call::SyncScratch),
-        b"replace" => Some(Call::Replace),
-        b"any" => Some(Call::Any),
+    match str::from_utf8(word) {
+        Ok(name) => call_named(name),
+        Err(_) => None,
+    }
+}
+
+// The call of this name.
+fn call_named(name: &str) -> Option<Call>
+    ensures value { IfSome result (λ call. name.now ≡ word_of call) }
+    ensures accepts { (call : Call) → name.now ≡ word_of call → result ≡ Some call }
+{
+    match name {
+        "read_log" => Some(Call::ReadLog),
+        "append_log" => Some(Call::AppendLog),
+        "cut_log" => Some(Call::CutLog),
+        "sync_log" => Some(Call::SyncLog),
+        "start_scratch" => Some(Call::StartScratch),
+        "append_scratch" => Some(Call::AppendScratch),
+        "sync_scratch" => Some(Call::SyncScratch),
+        "replace" => Some(Call::Replace),
+        "any" => Some(Call::Any),
         _ => None,
     }
 }

@@ -1,13 +1,14 @@
 -- The program as a simple command: that it is one, and what the commands that it enters have.
 use Rattle.std.proofs.Common.{◌≡◌, ◌∙◌, Bool, true, false, List, [], ◌∷◌, Option, Some, None, option_map, refl, inl, inr, cond, codes}
 use Rattle.std.proofs.Common.{is_some, subst, sym, Result, Ok, Err, IsErrAnd, ap₂}
-use Rattle.std.specs.Prelude.{IfSome}
+use Rattle.std.specs.Prelude.{IfOk, IfSome, IsOkAnd}
 use Rattle.std.specs.List.{find, list_all}
 use Rattle.std.specs.Option.{option_map_or}
-use Rattle.clap.specs.Words.{App, Row, Shape, Text, FailsBy, HasKind, Kinds, built, fault_of, first_of, is_simple, is_simple_and_free}
+use Rattle.clap.specs.Words.{App, Row, Shape, Text, app_of, FailsBy, HasKind, Kinds, built, fault_of, first_of, is_simple, is_simple_and_free}
 use Rattle.clap.specs.Words.{subcommand_of}
 use Rattle.clap.specs.Faults.{entered_fault, level_fault, walk_fault}
 use Rattle.clap.specs.Simple.{argument_words, entered, label_of, names_of, rows_at}
+use Rattle.clap.specs.declared.builder.command.Command.{Command}
 use Rattle.clap.specs.declared.error.Error.{Error}
 use Rattle.clap.specs.Walk.{answers_to, nothing_held, stop_after, walk_from}
 use Rattle.clap.proofs.OnLiterals.{clap_on_literals}
@@ -152,7 +153,9 @@ pub fails_on : {T : Type 0} (r : Result T Error) (e : Error) (kinds : Kinds) →
 fails_on (Ok x) e kinds h k = absurd h
 fails_on (Err x) e kinds h k = subst (HasKind kinds) (sym h) k
 
--- a command that was made by adding one to another, each by its name
-pub added_as_named : (new old named sub sub_named : App) → new ≡ with_command old sub → old ≡ named
-    → sub ≡ sub_named → new ≡ with_command named sub_named
-added_as_named new old named sub sub_named e f g = e ∙ ap₂ with_command f g
+-- a program that was made by adding a command to another, each by its name
+pub added_as_named : {E : Type 0} (new old named sub_named : App) (command : Result Command E)
+    → IsOkAnd command (λ sub. new ≡ with_command old (app_of sub)) → old ≡ named → IfOk command (λ sub. app_of sub ≡ sub_named)
+    → new ≡ with_command named sub_named
+added_as_named new old named sub_named (Ok sub) e f g = e ∙ ap₂ with_command f g
+added_as_named new old named sub_named (Err error) e f g = absurd e

@@ -1,4 +1,5 @@
 pub mod ValueLemmas
+pub mod CommandLemmas
 pub mod AskedLemmas
 pub mod FullLemmas
 pub mod RequiredLemmas

@@ -11,7 +11,8 @@ use Rattle.clap.specs.declared.builder.texts.Texts.TheVariants.{One}
 use Rattle.clap.specs.declared.parser.matches.ArgMatches.{ArgMatches}
 use Rattle.clap.specs.declared.parser.matches.ArgMatches.TheViews.{out-ArgMatches, out-SubCommand}
 use Rattle.clap.specs.declared.parser.matches.SubCommand.{SubCommand}
-use Rattle.nl_words.specs.CommandLine.{HasEach, IsWhole, required_of, verbose_id, verbose_rule, version_id, version_rule}
+use Rattle.nl_words.specs.declared.command_line.Words.{Words}
+use Rattle.nl_words.specs.CommandLine.{HasEach, IsSaid, IsWhole, required_of, verbose_id, verbose_rule, version_id, version_rule}
 
 -- a reference to a text that is there
 pub some_of : (o : Option (Bor Text)) (t : Option Text) → option_map (λ (s : Bor Text). s.now) o ≡ t → is_some t ≡ true → IsSome o
@@ -44,6 +45,13 @@ pub entered_has : (m : ArgMatches) (name : Text) (rows : List Row) → Some name
 entered_has m name rows e f whole known is =
     let here = subst IsWhole (entered_is m name rows e f) whole in
     subst (λ n. HasEach (required_of n) rows) is here.1
+
+-- what it says, by its name
+pub entered_says : (m : ArgMatches) (name : Text) (rows : List Row) → Some name ≡ subcommand_name_of m
+    → Some rows ≡ option_map (λ p. p.1) (subcommand_rows (out-ArgMatches m).subcommand)
+    → (words : Words) (known : Text) → name ≡ known → IsSaid words (Some (known, rows)) → IsSaid words (subcommand_rows_of m)
+entered_says m name rows e f words known is says =
+    subst (IsSaid words) (sym (entered_is m name rows e f)) (subst (λ n. IsSaid words (Some (n, rows))) (sym is) says)
 
 -- the option for a version, by how it is put together
 pub version_told : (new long named told : Arg) (name value text : Bor Text)

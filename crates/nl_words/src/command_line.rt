@@ -7,7 +7,7 @@ use crate::definition::nlog_command;
 use crate::version::{AskedVersion, version_of};
 use clap::error::ErrorKind;
 use clap::{ArgMatches, Error};
-use std::alloc::Global;
+use std::alloc::{AllocError, Global};
 
 /// A command of the program with its values, as they were written.
 #[derive(Clone, Copy, Debug, PartialEq, Eq)]
@@ -110,11 +110,14 @@ fn no_version(alloc: Global, text: &str) -> Result<Error, Error>
     ensures value { IfOk result (λ e. kind_of e ≡ ErrorKind.InvalidValue) }
     ensures memory { IfErr result (λ e. kind_of e ≡ ErrorKind.OutOfMemory) }
 {
-    let message = format!(in alloc;
-        "invalid value '{text}' for '--log-version <VERSION>': it is 5, 6, 7 or auto"
-    )?;
+    let message = told_of(alloc, text)?;
     let error = nlog_command(alloc)?.error(ErrorKind::InvalidValue, message.as_str())?;
     Ok(error)
+}
+
+// The text for a version that isn't one.
+fn told_of(alloc: Global, text: &str) -> Result<String, AllocError> {
+    format!(in alloc; "invalid value '{text}' for '--log-version <VERSION>': it is 5, 6, 7 or auto")
 }
 
 // The command that was entered, with its values.

@@ -1,5 +1,5 @@
 //! What the program takes, as a command of `clap`, with the text of its help.
-ghost use Rattle.std.specs.Prelude.{◌≡◌, IfOk, false};
+ghost use Rattle.std.specs.Prelude.{◌≡◌, IfOk, IsOkAnd, false};
 ghost use Rattle.clap.specs.Words.{app_of, with_rule};
 ghost use Rattle.clap.specs.declared.builder.command.Command.TheViews.{out-Command};
 ghost use Rattle.nl_words.specs.CommandLine.{named, nlog, printing, telling, verbose_rule, with_command};
@@ -42,12 +42,12 @@ pub fn nlog_command<'a>(alloc: Global) -> Result<Command<'a>, AllocError>
     ensures { IfOk result (λ c. app_of c ≡ nlog) }
 {
     let nlog = telling_commands(alloc)?;
-    let nlog = with_command(alloc, nlog, record_command(alloc)?)?;
-    let nlog = with_command(alloc, nlog, recompact_command(alloc)?)?;
-    let nlog = with_command(alloc, nlog, restat_command(alloc)?)?;
-    let nlog = with_command(alloc, nlog, repair_command(alloc)?)?;
-    let nlog = with_command(alloc, nlog, replay_command(alloc)?)?;
-    with_command(alloc, nlog, apply_command(alloc)?)
+    let nlog = with_made(alloc, nlog, record_command(alloc))?;
+    let nlog = with_made(alloc, nlog, recompact_command(alloc))?;
+    let nlog = with_made(alloc, nlog, restat_command(alloc))?;
+    let nlog = with_made(alloc, nlog, repair_command(alloc))?;
+    let nlog = with_made(alloc, nlog, replay_command(alloc))?;
+    with_made(alloc, nlog, apply_command(alloc))
 }
 
 // The program with the commands that change no file, but for `replay`.
@@ -55,18 +55,18 @@ fn telling_commands<'a>(alloc: Global) -> Result<Command<'a>, AllocError>
     ensures { IfOk result (λ c. app_of c ≡ telling) }
 {
     let nlog = printing_commands(alloc)?;
-    let nlog = with_command(alloc, nlog, entries_command(alloc)?)?;
-    let nlog = with_command(alloc, nlog, damage_command(alloc)?)?;
-    with_command(alloc, nlog, hash_file_command(alloc)?)
+    let nlog = with_made(alloc, nlog, entries_command(alloc))?;
+    let nlog = with_made(alloc, nlog, damage_command(alloc))?;
+    with_made(alloc, nlog, hash_file_command(alloc))
 }
 
 // The program with the commands that read a log whole, and with `hash`.
 fn printing_commands<'a>(alloc: Global) -> Result<Command<'a>, AllocError>
     ensures { IfOk result (λ c. app_of c ≡ printing) }
 {
-    let nlog = with_command(alloc, named_command(alloc), show_command(alloc)?)?;
-    let nlog = with_command(alloc, nlog, check_command(alloc)?)?;
-    with_command(alloc, nlog, hash_command(alloc)?)
+    let nlog = with_made(alloc, named_command(alloc), show_command(alloc))?;
+    let nlog = with_made(alloc, nlog, check_command(alloc))?;
+    with_made(alloc, nlog, hash_command(alloc))
 }
 
 // The program without its commands.
@@ -78,6 +78,22 @@ fn named_command<'a>(alloc: Global) -> Command<'a>
         .about("Reads, checks and changes build logs of Ninja, versions 4 to 7")
         .after_help(AFTER)
         .disable_help_subcommand(true)
+}
+
+// The program with one more command, where that is made.
+fn with_made<'a>(
+    alloc: Global,
+    nlog: Command<'a>,
+    command: Result<Command<'a>, AllocError>,
+) -> Result<Command<'a>, AllocError>
+    requires { IfOk command (λ c. (out-Command c).has_globals ≡ false) }
+    ensures { IfOk result (λ c. IsOkAnd command.entry
+        (λ added. app_of c ≡ with_command (app_of nlog.entry) (app_of added))) }
+{
+    match command {
+        Ok(command) => with_command(alloc, nlog, command),
+        Err(error) => Err(error),
+    }
 }
 
 // The program with one more command, which has the flag for the reason of a refusal.

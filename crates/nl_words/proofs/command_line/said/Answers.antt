@@ -1,9 +1,9 @@
-use Rattle.std.proofs.Common.{◌≡◌, codes, subst, sym}
+use Rattle.std.proofs.Common.{◌≡◌, codes, refl, subst, sym}
 use Rattle.clap.specs.Words.{found_of, rows_of}
 use Rattle.nl_words.proofs.DefinitionLemmas.{only_show}
-use Rattle.nl_words.proofs.ValueLemmas.{entered_has, entered_is}
+use Rattle.nl_words.proofs.ValueLemmas.{entered_has, entered_is, entered_says}
 use Rattle.nl_words.specs.CommandLine.{IsSaid, IsWhole}
-use Rattle.nl_words.specs.declared.command_line.Words.TheVariants.{Show}
+use Rattle.nl_words.specs.declared.command_line.Words.TheVariants.{Check, Damage, Entries, HashFile, Replay, Show}
 use Rattle.nl_words.proofs.command_line.said.Goals as goal
 
 pub hash_words-requires : goal.hash_words-requires
@@ -41,6 +41,72 @@ apply_words-requires c =
     let met = c.in-Some in
     entered_has c.args.matches.now met.name.now (rows_of (found_of met.inner.now)) met.ensures.name met.ensures.rows c.requires
     (codes "apply") c.in-apply.is
+
+pub returns-in-check : goal.returns-in-check
+returns-in-check c =
+    let met = c.in-Some in
+    let says = entered_says c.args.matches.now met.name.now (rows_of (found_of met.inner.now)) met.ensures.name met.ensures.rows in
+    record { value = says (Check c.optional.result) (codes "check") c.in-check.is (refl, c.optional.ensures) }
+
+pub returns-in-hash : goal.returns-in-hash
+returns-in-hash c =
+    let met = c.in-Some in
+    let says = entered_says c.args.matches.now met.name.now (rows_of (found_of met.inner.now)) met.ensures.name met.ensures.rows in
+    record { value = says c.hash_words.result (codes "hash") c.in-hash.is c.hash_words.ensures.value }
+
+pub returns-in-entries : goal.returns-in-entries
+returns-in-entries c =
+    let met = c.in-Some in
+    let says = entered_says c.args.matches.now met.name.now (rows_of (found_of met.inner.now)) met.ensures.name met.ensures.rows in
+    record { value = says (Entries c.optional-in-entries.result) (codes "entries") c.in-entries.is (refl, c.optional-in-entries.ensures) }
+
+pub returns-in-damage : goal.returns-in-damage
+returns-in-damage c =
+    let met = c.in-Some in
+    let says = entered_says c.args.matches.now met.name.now (rows_of (found_of met.inner.now)) met.ensures.name met.ensures.rows in
+    record { value = says (Damage c.optional-in-damage.result) (codes "damage") c.in-damage.is (refl, c.optional-in-damage.ensures) }
+
+pub returns-in-text : goal.returns-in-text
+returns-in-text c =
+    let met = c.in-Some in
+    let says = entered_says c.args.matches.now met.name.now (rows_of (found_of met.inner.now)) met.ensures.name met.ensures.rows in
+    record { value = says (HashFile c.optional-in-text.result) (codes "hash-file") c.in-text.is (refl, c.optional-in-text.ensures) }
+
+pub returns-in-record : goal.returns-in-record
+returns-in-record c =
+    let met = c.in-Some in
+    let says = entered_says c.args.matches.now met.name.now (rows_of (found_of met.inner.now)) met.ensures.name met.ensures.rows in
+    record { value = says c.record_words.result (codes "record") c.in-record.is c.record_words.ensures.value }
+
+pub returns-in-recompact : goal.returns-in-recompact
+returns-in-recompact c =
+    let met = c.in-Some in
+    let says = entered_says c.args.matches.now met.name.now (rows_of (found_of met.inner.now)) met.ensures.name met.ensures.rows in
+    record { value = says c.recompact_words.result (codes "recompact") c.in-recompact.is c.recompact_words.ensures.value }
+
+pub returns-in-restat : goal.returns-in-restat
+returns-in-restat c =
+    let met = c.in-Some in
+    let says = entered_says c.args.matches.now met.name.now (rows_of (found_of met.inner.now)) met.ensures.name met.ensures.rows in
+    record { value = says c.restat_words.result (codes "restat") c.in-restat.is c.restat_words.ensures.value }
+
+pub returns-in-repair : goal.returns-in-repair
+returns-in-repair c =
+    let met = c.in-Some in
+    let says = entered_says c.args.matches.now met.name.now (rows_of (found_of met.inner.now)) met.ensures.name met.ensures.rows in
+    record { value = says c.repair_words.result (codes "repair") c.in-repair.is c.repair_words.ensures.value }
+
+pub returns-in-replay : goal.returns-in-replay
+returns-in-replay c =
+    let met = c.in-Some in
+    let says = entered_says c.args.matches.now met.name.now (rows_of (found_of met.inner.now)) met.ensures.name met.ensures.rows in
+    record { value = says (Replay c.optional-in-replay.result) (codes "replay") c.in-replay.is (refl, c.optional-in-replay.ensures) }
+
+pub returns-in-apply : goal.returns-in-apply
+returns-in-apply c =
+    let met = c.in-Some in
+    let says = entered_says c.args.matches.now met.name.now (rows_of (found_of met.inner.now)) met.ensures.name met.ensures.rows in
+    record { value = says c.apply_words.result (codes "apply") c.in-apply.is c.apply_words.ensures.value }
 
 pub returns-in_default-name : goal.returns-in_default-name
 returns-in_default-name c =

@@ -4,7 +4,7 @@ use Rattle.nl_words.proofs.definition.telling_commands.Goals as goal
 
 pub returns : goal.returns
 returns c =
-    let two = added_as_named _ _ _ _ _ c.in_ok-nlog-2.ensures c.in_ok-nlog.ensures c.in_ok-entries_command.ensures.shape in
-    let three = added_as_named _ _ _ _ _ c.in_ok-nlog-3.ensures two c.in_ok-damage_command.ensures.shape in
-    IfOk-weaker c.with_command-3.result _ _ (λ r h.
-    added_as_named _ _ _ _ _ h three c.in_ok-hash_file_command.ensures.shape) c.with_command-3.ensures
+    let two = added_as_named _ _ _ _ c.entries_command.result c.in_ok-nlog-2.ensures c.in_ok-nlog.ensures c.entries_command.ensures.shape in
+    let three = added_as_named _ _ _ _ c.damage_command.result c.in_ok-nlog-3.ensures two c.damage_command.ensures.shape in
+    IfOk-weaker c.with_made-3.result _ _ (λ r h.
+    added_as_named _ _ _ _ c.hash_file_command.result h three c.hash_file_command.ensures.shape) c.with_made-3.ensures
