@@ -4,8 +4,8 @@ use Rattle.std.proofs.Common.{is_some, subst, sym, Result, Ok, Err, IsErrAnd, ap
 use Rattle.std.specs.Prelude.{IfOk, IfSome, IsOkAnd}
 use Rattle.std.specs.List.{find, list_all}
 use Rattle.std.specs.Option.{option_map_or}
-use Rattle.clap.specs.Words.{App, Row, Shape, Text, app_of, FailsBy, HasKind, Kinds, built, fault_of, first_of, is_simple, is_simple_and_free}
-use Rattle.clap.specs.Words.{subcommand_of}
+use Rattle.clap.specs.Words.{App, Row, Shape, Text, FailsBy, HasKind, Kinds, built, fault_of, first_of, is_simple, is_simple_and_free}
+use Rattle.clap.specs.Words.{app_of, subcommand_of}
 use Rattle.clap.specs.Faults.{entered_fault, level_fault, walk_fault}
 use Rattle.clap.specs.Simple.{argument_words, entered, label_of, names_of, rows_at}
 use Rattle.clap.specs.declared.builder.command.Command.{Command}

@@ -16,13 +16,16 @@ pub returns-in-sync_log : goal.returns-in-sync_log
 returns-in-sync_log c = record { value = c.in-sync_log.is; accepts = λ met. one_call c.args.name.now SyncLog met c.in-sync_log.is }
 
 pub returns-in-start_scratch : goal.returns-in-start_scratch
-returns-in-start_scratch c = record { value = c.in-start_scratch.is; accepts = λ met. one_call c.args.name.now StartScratch met c.in-start_scratch.is }
+returns-in-start_scratch c =
+    record { value = c.in-start_scratch.is; accepts = λ met. one_call c.args.name.now StartScratch met c.in-start_scratch.is }
 
 pub returns-in-append_scratch : goal.returns-in-append_scratch
-returns-in-append_scratch c = record { value = c.in-append_scratch.is; accepts = λ met. one_call c.args.name.now AppendScratch met c.in-append_scratch.is }
+returns-in-append_scratch c =
+    record { value = c.in-append_scratch.is; accepts = λ met. one_call c.args.name.now AppendScratch met c.in-append_scratch.is }
 
 pub returns-in-sync_scratch : goal.returns-in-sync_scratch
-returns-in-sync_scratch c = record { value = c.in-sync_scratch.is; accepts = λ met. one_call c.args.name.now SyncScratch met c.in-sync_scratch.is }
+returns-in-sync_scratch c =
+    record { value = c.in-sync_scratch.is; accepts = λ met. one_call c.args.name.now SyncScratch met c.in-sync_scratch.is }
 
 pub returns-in-replace : goal.returns-in-replace
 returns-in-replace c = record { value = c.in-replace.is; accepts = λ met. one_call c.args.name.now Replace met c.in-replace.is }

@@ -18,7 +18,8 @@ pub returns-in-open : goal.returns-in-open
 returns-in-open c = record { value = c.in-open.is; accepts = λ met. one_word c.args.name.now word.Open met c.in-open.is }
 
 pub returns-in-recompact : goal.returns-in-recompact
-returns-in-recompact c = record { value = c.in-recompact.is; accepts = λ met. one_word c.args.name.now word.Recompact met c.in-recompact.is }
+returns-in-recompact c =
+    record { value = c.in-recompact.is; accepts = λ met. one_word c.args.name.now word.Recompact met c.in-recompact.is }
 
 pub returns-in-record : goal.returns-in-record
 returns-in-record c = record { value = c.in-record.is; accepts = λ met. one_word c.args.name.now word.Record met c.in-record.is }
