@@ -30,7 +30,9 @@ import time
 from glob import glob
 
 TOP = os.path.dirname(os.path.dirname(os.path.abspath(__file__)))
+# What a check takes at the most, in bytes.
 MEMORY = 3_000_000_000
+QUIET = {"stdin": subprocess.DEVNULL, "stdout": subprocess.PIPE, "stderr": subprocess.STDOUT, "errors": "replace", "text": True}
 
 HEAD = re.compile(r"^(\s*)(?:pub(?:\([^)]*\))?\s+)?(?:(?:const|unsafe|extern \"C\")\s+)*fn\s+(\w+)")
 NAMED = re.compile(r"; refused at `([^`]+)`, (?:clauses? `(\w+)`(?: and `(\w+)`)?|goal `([^`]+)`|its one clause)$")
@@ -115,7 +117,8 @@ class Function:
         if not of[:1].isupper():
             return bool(re.search(rf"(?<![.\w]){name}\b", text))
         own = self.path.split("::")[-2:-1] == [of]
-        return bool(re.search(rf"\.{name}\(|\b{of}(::<[^>]*>)?::{name}\b" + (rf"|\bSelf::{name}\b" if own else ""), text)) or name == "from" and "?" in text
+        named = rf"\.{name}\(|\b{of}(::<[^>]*>)?::{name}\b" + (rf"|\bSelf::{name}\b" if own else "")
+        return bool(re.search(named, text)) or name == "from" and "?" in text
 
 
 def functions(file, text):
@@ -183,7 +186,7 @@ class Crate:
         stamped = {os.path.exists(f"{os.path.dirname(self.library(it))}/stamp") for it in self.below}
         if len(stamped) < 2 and all(map(self.is_built, self.below)):
             return
-        ran = subprocess.run(["rt", "check", "--only", ""], cwd=self.folder, stdin=subprocess.DEVNULL, stdout=subprocess.PIPE, stderr=subprocess.STDOUT, errors="replace")
+        ran = subprocess.run(["rt", "check", "--only", ""], cwd=self.folder, **QUIET)
         if ran.returncode:
             raise SystemExit(f"edits.py: the libraries below {self.name} can't be made: {ran.stdout[-600:]}")
 
@@ -197,8 +200,8 @@ class Crate:
             words += ["--extern", f"{name}={self.library(name)}"]
         for name in self.below:
             words += ["-L", f"dependency={os.path.dirname(self.library(name))}"]
-        words += ["--antt-project", f"{kit}/rattle/logic/antt-project.json", "--logic-built", f"{kit}/logic_built", "--links", f"{self.name}=", "--jobs", "1"]
-        return words + ["--crate-type", "staticlib"] * self.is_static
+        words += ["--antt-project", f"{kit}/rattle/logic/antt-project.json", "--logic-built", f"{kit}/logic_built"]
+        return words + ["--links", f"{self.name}=", "--jobs", "1"] + ["--crate-type", "staticlib"] * self.is_static
 
 
 def crates(top):
@@ -312,7 +315,6 @@ class Room:
 
     def __init__(self, crate, kit, folder, is_unedited):
         self.crate, self.kit, self.folder, self.is_unedited = crate, kit, f"{folder}/nlog-edits-{crate.name}", is_unedited
-        self.more = os.environ.get("NLOG_EDITS_MORE", "").split()
         for part in ("src", "specs", "proofs"):
             if os.path.isdir(f"{crate.folder}/{part}"):
                 shutil.copytree(f"{crate.folder}/{part}", f"{self.folder}/{part}")
@@ -340,11 +342,10 @@ class Room:
                     made[file][row] = it.texts[file].split("\n")[row]
         for file, lines in made.items():
             write(f"{self.folder}/{file}", "\n".join(lines))
-        words = [f"{self.kit}/bin/rattle", "check", *self.crate.words(self.kit), "--incremental", "kept", "--progress", "--allow-holes", *self.more]
+        words = [f"{self.kit}/bin/rattle", "check", *self.crate.words(self.kit), "--incremental", "kept", "--progress", "--allow-holes"]
         words += [it for path in sorted(asked) for it in ("--only", path)]
         said, times, last = [], {}, time.time()
-        how = {"cwd": self.folder, "stdin": subprocess.DEVNULL, "stdout": subprocess.PIPE, "stderr": subprocess.STDOUT, "errors": "replace", "text": True}
-        with subprocess.Popen(words, **how) as ran:
+        with subprocess.Popen(words, cwd=self.folder, **QUIET) as ran:
             for line in ran.stdout:
                 said.append(line)
                 found = re.match(rf"checked {self.crate.name}::(\S+), ", line)
@@ -354,7 +355,8 @@ class Room:
         for file, text in texts.items():
             write(f"{self.folder}/{file}", text)
         if ran.returncode not in (0, 1):
-            raise SystemExit(f"edits.py: a check of {self.crate.name} ended with status {ran.returncode}: {said[-1].strip() if said else 'it said nothing'}")
+            last = said[-1].strip() if said else "it said nothing"
+            raise SystemExit(f"edits.py: a check of {self.crate.name} ended with status {ran.returncode}: {last}")
         return "".join(said), times
 
 
@@ -378,7 +380,8 @@ class Told:
                 self.goals.setdefault(path.replace("/", "::"), []).append(goal[1])
         self.untried = re.findall(rf"has not tried the goals of `{crate.name}::([^`]+)`", said)
         # (an error in the code, and none of a goal: it doesn't compile, or a text can't be read)
-        self.broken = [(file, int(row), text) for file, row, text in re.findall(r"^(?:\./)?(src/\S+?):(\d+):\d+: error(?:\[[^\]]*\])?: (.*)$", said, re.M)]
+        errors = re.findall(r"^(?:\./)?(src/\S+?):(\d+):\d+: error(?:\[[^\]]*\])?: (.*)$", said, re.M)
+        self.broken = [(file, int(row), text) for file, row, text in errors]
 
     def of(self, path):
         """The function's own goals that are refused, and those of its closures."""
@@ -413,8 +416,8 @@ def broken(told, batch):
 
 def tried(crate, edits, kit, given, say):
     """Tries the edits of a crate, and says of each how it ended. Gives how many were refused as they must be, and how many not."""
-    passed = failed = 0
-    todo, tries = edits, 0
+    passed = failed = checks = tries = 0
+    todo = edits
     with tempfile.TemporaryDirectory(prefix="nlog-edits-") as folder:
         room, wanted = Room(crate, kit, folder, given.unedited), "LET THROUGH" if given.unedited else "refused"
         while todo:
@@ -422,8 +425,9 @@ def tried(crate, edits, kit, given, say):
             for batch in batches(todo, given.singly or tries > 3):
                 said, times = room.check(batch)
                 told, ends = Told(crate, batch, said), []
-                if os.environ.get("NLOG_EDITS_SAID"):
-                    write(f"{os.environ['NLOG_EDITS_SAID']}/{crate.name}.{time.time():.0f}.{len(batch)}", said)
+                if given.keep:
+                    write(f"{given.keep}/{crate.name}.{checks}", said)
+                checks += 1
                 if not told.reached:
                     bad = dict((it.name, (it, text)) for it, text in broken(told, batch))
                     if not bad and len(batch) > 1:
@@ -462,6 +466,7 @@ def main():
     words.add_argument("--singly", action="store_true", help="each edit in a check of its own")
     words.add_argument("--lanes", type=int, default=0, help="so many checks side by side, in place of one a processor")
     words.add_argument("--unedited", action="store_true", help="the same checks with no edit in them: each function must be let through")
+    words.add_argument("--keep", metavar="FOLDER", help="a folder for what each check says, in a file CRATE.N")
     words.add_argument("--times", action="store_true", help="each line has the seconds that its function took")
     words.add_argument("--tree", default=TOP, help="another repository than this one")
     words.add_argument("names", nargs="*", metavar="CRATE [EDIT ..]", help="one crate alone, or some of its edits")
