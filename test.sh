@@ -85,5 +85,10 @@ for version in 1.11.1 1.13.2; do
     fi
 done
 
+# What it cost: the clock, and the processor time of all that it started, user and system.
+times > "$room/times"
+read -r user system < <(tail -n 1 "$room/times")
+echo "test.sh: it took $((SECONDS / 60)) min $((SECONDS % 60)) s on $(nproc 2> /dev/null || echo some) processors, which worked for $user (user) and $system (system)"
+
 echo "$passed passed, $failed failed"
 ((failed == 0))
