@@ -81,7 +81,7 @@ static inline const char *nlog_status_name(nlog_status status) {
 }
 
 /* What a status says, in words, as "out of memory": as much as there is room for is written, with no NUL behind it. The length of the whole
- * text comes back. Of NLOG_FORKED it is "unknown status". */
+ * text comes back. */
 size_t nlog_status_text(nlog_status status, char *text, size_t room);
 
 /* The version of the library. */

@@ -262,6 +262,7 @@ static void misuse(void) {
   memset(text, '.', sizeof text);
   WANT(nlog_status_text(NLOG_OUT_OF_MEMORY, text, 3) == 13 && memcmp(text, "out..", 5) == 0);
   WANT(nlog_status_text(NLOG_OK, NULL, 0) == 2);
+  WANT(nlog_status_text(NLOG_FORKED, text, sizeof text) == 33 && memcmp(text, "the parent process opened the log", 33) == 0);
   WANT(nlog_status_text((nlog_status)99, text, sizeof text) == 14 && memcmp(text, "unknown status", 14) == 0);
   printf("done\n");
 }

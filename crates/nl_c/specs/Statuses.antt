@@ -48,6 +48,9 @@ bad_name = 12
 abbrev pub locked : ℕ
 locked = 13
 
+abbrev pub forked : ℕ
+forked = 14
+
 -- the status of a load that failed; a read fails in no load from memory
 abbrev pub status_of : LoadFault → ℕ
 status_of refusal.NotALog = not_a_log
@@ -100,7 +103,8 @@ status_text status = if status == ok then codes "ok"
     else (if status == negative_time then codes "negative time"
     else (if status == fault then codes "a file failed"
     else (if status == bad_name then codes "bad name"
-    else (if status == locked then codes "another process has the log" else codes "unknown status")))))))))))))
+    else (if status == locked then codes "another process has the log"
+    else (if status == forked then codes "the parent process opened the log" else codes "unknown status"))))))))))))))
 
 -- the length of a text, and a buffer with as much of the text as it has room for
 abbrev pub text_in : List ℕ → List ℕ → ℕ × List ℕ

@@ -34,6 +34,8 @@ pub(crate) const BAD_NAME: u32 = 12;
 // The writer's of files, which no function here answers.
 const LOCKED: u32 = 13;
 
+const FORKED: u32 = 14;
+
 /// The status of a load that failed. A load from memory meets no other fault.
 pub(crate) fn of_fault(fault: LoadFault) -> u32
     requires { fault ≢ LoadFault.Read }
@@ -90,6 +92,7 @@ pub(crate) fn text(status: u32) -> &'static [u8]
         FAULT => b"a file failed",
         BAD_NAME => b"bad name",
         LOCKED => b"another process has the log",
+        FORKED => b"the parent process opened the log",
         _ => b"unknown status",
     }
 }
