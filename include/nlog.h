@@ -185,12 +185,13 @@ uint64_t nlog_command_hash_v7(const char *command, size_t len);
 /* A closed log without marks. What the handle held before is freed. NLOG_OUT_OF_MEMORY: the handle is as it was. */
 nlog_status nlog_new(nlog *log);
 
-/* What makes the file the text that nlog_text gives. */
+/* What makes the file the text that nlog_text gives. Before each change the file is synced, and behind each of its steps, as docs/LIBRARY.md has
+ * them in order: then whatever a crash leaves, at any moment, is opened as something that could be found before. */
 typedef enum nlog_change {
   NLOG_KEEP = 0,    /* nothing: the file is the text */
-  NLOG_APPEND = 1,  /* the text begins with the file's bytes, which end within the first line: write the rest behind them */
-  NLOG_CUT = 2,     /* the file begins with the text: cut it to the text's length */
-  NLOG_REPLACE = 3, /* write the text into a new file, sync it, and rename it over the log */
+  NLOG_APPEND = 1,  /* the file holds a part of the first line, or nothing: cut it to nothing, and write the text */
+  NLOG_CUT = 2,     /* the file is the text and the torn tail behind it: cut it to the text's length */
+  NLOG_REPLACE = 3, /* the log is rewritten: write the text into a new file, sync it, and rename it over the log */
   NLOG_CHANGE_MAX = 0x7fffffff
 } nlog_change;
 

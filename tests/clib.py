@@ -392,7 +392,7 @@ def texts(trials, made, room):
                 continue
             got = answers[0].split()
             found = CHANGES[int(got[1])] if got[0] == "OK" and int(got[1]) < 4 else "?"
-            trials.check(f"{about}: the change", found == change or change == "REPLACE" and found == "CUT" and text.startswith(whole), answers[0])
+            trials.want(f"{about}: the change", found, change)
             count = len(Log(as_version(whole, int(whole[13:14]))).table)
             left = [f"OK {len(whole)} {whole.hex()}", f"OK {count}", "ALREADY_OPEN 9", "OK", f"OK {len(whole)} {whole.hex()}", "NOT_OPEN"]
             trials.want(about, (ended, answers[1:], err), (0, left, b""))
@@ -490,6 +490,9 @@ TURNS = [
     *[(text, version, ["open"], ["OTHER_VERSION"], text) for text, version in ((V7 + A, 5), (V7 + A, 6), (HEADER + A, 7), (b"# ninja log v4\n", 6))],
     (b"# ninja log v4\n1\t2\t3\ta\tcc\n", 5, ["open", "version", "rewrote", "close"], ["OK", "OK 5", "OK 1", "OK"], HEADER + line_of(b"a", (1, 2, 3, command_hash(b"cc")))),
     (HEADER + A * 101 + B + b"4\t5", 0, ["open", "rewrote", "close"], ["OK", "OK 1", "OK"], HEADER + A + B),
+    # Due logs that begin with their own rewriting: a cut in place could leave an older entry.
+    (HEADER + B + (A.replace(b"a\taa", b"b\taa") + B) * 60, 0, ["open", "rewrote", f"find {hexed(b'b')}", "close"], ["OK", "OK 1", "OK 4 5 6 bb", "OK"], HEADER + B),
+    (HEADER + A * 101 + b"4\t5", 0, ["open", "rewrote", "close"], ["OK", "OK 1", "OK"], HEADER + A),
     # Many opens and closes of one writer.
     (HEADER, 0, ["open", RECORD, "close"] * 50, ["OK"] * 150, HEADER + A * 50),
 ]

@@ -1,3 +1,4 @@
 mod BoxedLog
+mod ChangeLemmas
 mod KeptValues
 mod LogDrop
