@@ -36,14 +36,14 @@ def lines_of(log):
 def effects_wanted(case):
     """What the command does to the files and the folder, in order, by docs/DISK_MODEL.md and docs/ARCHITECTURE.md."""
     log = Log(case.start or b"")
-    sync = ["sync folder", "sync LOG"]
+    sync = ["sync folder", "sync LOG", "look LOG"]
 
     def rewrite(text):
         write = f"write LOG.recompact {sum(len(it) for it in lines_of(Log(text)))}"
-        return ["make LOG.recompact", "lock LOG.recompact", write, "sync LOG.recompact", "rename", *sync]
+        return ["make LOG.recompact", "lock LOG.recompact", write, "sync LOG.recompact", "look LOG", "rename", *sync]
 
     wanted = ["make LOG"] if case.start is None else []
-    wanted += ["lock LOG", *sync]
+    wanted += ["lock LOG", "look LOG", *sync]
     if log.torn:
         wanted += [f"cut LOG {log.whole}", *sync]
     if log.whole == 0:
@@ -73,6 +73,8 @@ def effect(call, room, is_missing):
         return "rename"
     if name == "flock":
         return f"lock {file}"
+    if name in ("stat", "newfstatat", "statx") and f'"{room}/LOG"' in parts[2]:
+        return "look LOG"
     if name == "openat" and "O_CREAT" in words:
         made = re.search(r'"([^"]*)"', words)[1]
         return f"make {made}" if "O_EXCL" in words or is_missing else None

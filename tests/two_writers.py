@@ -6,6 +6,7 @@
 The first is an `apply` that is kept open by its input, or this trial, which takes the lock as a command does. Where the first
 doesn't end, the second is refused after 10 seconds, and the log stays. A list of names that is missing or bad is refused at once.
 Then four records at once, 100 times on each of four logs, also with a recompact among them, and with kills: what ended with status 0 stands.
+And another program, which takes no lock, renames or removes the log of an `apply`: what is acknowledged from then on is in LOG.
 """
 import fcntl
 import os
@@ -83,6 +84,41 @@ def try_held(trials, program, room):
     trials.want("and the log stays", read(f"{room}/LOG"), START)
 
 
+def put_another(log):
+    write(f"{log}.other", START)
+    os.rename(f"{log}.other", log)
+
+
+# What another program does to the log's name, what is then under it, and what the system says of it.
+MOVED = {
+    "another file has the log's name": (put_another, START, b"Stale file handle (os error 116)"),
+    "the log was removed": (os.remove, None, b"No such file or directory (os error 2)"),
+    "the log was moved away": (lambda log: os.rename(log, f"{log}.away"), None, b"No such file or directory (os error 2)"),
+}
+
+
+def try_moved(trials, program, room, what, line):
+    """An `apply` of whose log the name shows another file, or none, before a sync or a rewriting."""
+    move, left, says = MOVED[what]
+    word = line.decode().split("\t")[0]
+    what = f"{what} before a {word}"
+    fill(room, START)
+    first = begin([program, "apply", "-v", "LOG"], room)
+
+    def ask(*lines):
+        first.stdin.write(b"".join(it + b"\n" for it in lines))
+        first.stdin.flush()
+        return [first.stdout.readline() for _ in lines]
+
+    trials.want(f"{what}: the entry is recorded", ask(b"open", b"record\t1\t2\t3\tfirst\tff"), [b"ok\n"] * 2)
+    move(f"{room}/LOG")
+    trials.want(f"{what}: that isn't acknowledged", ask(line), [b"S8 Fault\n"])
+    trials.want(f"{what}: what is under the name stays", read(f"{room}/LOG"), left)
+    ended = (*first.communicate(timeout=SECONDS), first.returncode)
+    said = FAILED + b"nlog: LOG LOG: " + says + b"\n"
+    trials.want(f"{what}: the reason is told", ended, (b"", said, 1))
+
+
 # Logs on which commands are started side by side, by what stands in them, and how many times.
 STARTS = {"clean": START, "torn": START + b"1\t2", "due": DUE, "missing": None}
 ROUNDS = 100
@@ -135,6 +171,8 @@ def trial(trials, program, room):
     for number, what in enumerate(SECOND):
         try_both(trials, program, f"{room}/{number}", what)
     try_held(trials, program, f"{room}/held")
+    for number, (what, line) in enumerate((what, line) for what in MOVED for line in (b"sync", b"recompact\ta\tb\tfirst", b"restat\t9\ta")):
+        try_moved(trials, program, f"{room}/moved{number}", what, line)
 
 
 if __name__ == "__main__":

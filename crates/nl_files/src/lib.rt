@@ -10,8 +10,10 @@ mod mem_inodes;
 mod mem_system;
 mod scratch_calls;
 mod scratch_file;
+mod sync_fault;
 mod system;
 
 pub use file_folder::FileFolder;
 pub use mem_system::{MemHandle, MemSystem, Plan};
+pub use sync_fault::SyncFault;
 pub use system::{CrashableSystem, System};

@@ -1,3 +1,4 @@
 pub mod FailedCall
+pub mod FileId
 pub mod Paths
 pub mod OsSystem

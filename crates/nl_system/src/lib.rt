@@ -2,6 +2,7 @@
 #![tactic(auto)]
 
 mod failed_call;
+mod file_id;
 mod os_system;
 mod paths;
 mod system_file;
