@@ -7,6 +7,9 @@ Wants strace, and that it may trace. A script of one line of each kind runs on l
 begins, or the call fails with EIO or EINTR, for each call in turn: the answers are those of the script, up to a first refusal, from which on
 no line changes the log; the log has the table behind the lines that were answered, or the one more that was on its way, each entry whole;
 status 0 with all answers comes only of a log that has it all; and an `apply` after it finds the table that is there.
+
+Then each sync in turn fails in a run that opens the log again: where it was the log's own, the next open puts a new file in its place, and all
+goes on; where it was the folder's, no open succeeds.
 """
 import os
 import re
@@ -152,11 +155,75 @@ def sweep(trials, program, kind, room, pool):
     return len(chosen) - begin
 
 
+# A run that goes on after a failure: what is asked, and whether that is answered by `ok`.
+ON = [b"open", b"record\t" + line_of(*X)[:-1], b"sync", b"stop", b"open", b"table", b"record\t" + line_of(*Y)[:-1], b"sync", b"stop"]
+
+
+def asked_on(program, text, room, inject=()):
+    """Runs these lines on a log: how it ended, its calls, and whether the log is a new file."""
+    os.makedirs(room)
+    write(f"{room}/LOG", text)
+    before = os.stat(f"{room}/LOG").st_ino
+    words = ["strace", "-y", "-o", f"{room}/TRACE", "-e", "signal=none", "-e", "trace=write,fsync", *inject, program, "apply", f"{room}/LOG"]
+    ended = run(words, stdin=None, input=b"".join(line + b"\n" for line in ON))
+    calls = (read(f"{room}/TRACE") or b"").decode(errors="replace").split("\n")
+    return ended, calls, os.stat(f"{room}/LOG").st_ino != before
+
+
+def answers_on(failed, is_of_log):
+    """What the lines are answered where a sync fails in this one, and the table that the log has at the end."""
+    mode, is_lost, said, table = "closed", False, [], {}
+    for number, line in enumerate(ON):
+        word = line.split(b"\t")[0]
+        refused = {"closed": b"S1 NotOpen", "broken": b"S3 Broken"}.get(mode)
+        fails = number == failed or is_lost and word == b"open"
+        is_lost |= number == failed and not is_of_log
+        if word == b"open":
+            mode, answer = ("closed", b"S8 Fault") if fails else ("open", b"ok")
+        elif word == b"stop" and mode != "closed":
+            mode, answer = "closed", b"S8 Fault" if fails else b"ok"
+        elif refused:
+            answer = refused
+        elif word == b"table":
+            answer = lines_of(table) + b"end"
+        elif fails:
+            mode, answer = "broken", b"S8 Fault"
+        else:
+            answer = b"ok"
+        if word == b"record" and answer == b"ok":
+            table.update([X if line.startswith(b"record\t1") else Y])
+        said.append(answer)
+    return b"".join(it + b"\n" for it in said), table
+
+
+def goes_on(trials, program, room):
+    """Each sync in turn fails: what is answered then, and what the log has."""
+    for version in (5, 7):
+        text = as_version(HEADER, version)
+        ended, calls, _ = asked_on(program, text, f"{room}/whole{version}")
+        trials.want(f"version {version}: the answers where nothing fails", ended, (0, answers_on(None, True)[0], b""))
+        line, syncs = 0, []
+        for call in calls:
+            line += call.startswith("write(1")
+            if call.startswith("fsync("):
+                syncs.append((line, "/LOG>" in call))
+        trials.check(f"version {version}: there are syncs of both", {True, False} <= {it for _, it in syncs}, str(syncs))
+        for nth, (line, is_of_log) in enumerate(syncs, 1):
+            what = f"version {version}, the sync {nth}, of the {'log' if is_of_log else 'folder'} in line {line}, {ON[line].decode()}, fails"
+            ended, _, is_new = asked_on(program, text, f"{room}/{version}-{nth}", ["-e", f"inject=fsync:error=EIO:when={nth}"])
+            answers, table = answers_on(line, is_of_log)
+            trials.want(f"{what}: the answers", ended[1], answers)
+            trials.want(f"{what}: the table", Log(as_version(read(f"{room}/{version}-{nth}/LOG"), version)).table, table)
+            opens_again = is_of_log and line < 4
+            trials.want(f"{what}: whether the log is a new file", is_new, opens_again)
+
+
 def trial(trials, program, room):
     if shutil.which("strace") is None:
         return trials.skip("all of it", "strace isn't there")
     if run(["strace", "-o", f"{room}/TRACE", "-e", "inject=write:error=EIO", "true"])[0] != 0:
         return trials.skip("all of it", "strace may not trace here")
+    goes_on(trials, program, f"{room}/on")
     count = 0
     with ThreadPoolExecutor(os.cpu_count()) as pool:
         for number, (name, (text, version)) in enumerate(KINDS.items()):

@@ -3,6 +3,7 @@
 
 mod disk_folder;
 mod failure;
+mod renewal;
 
 pub use disk_folder::DiskFolder;
 pub use failure::{Failure, LogFile};
