@@ -205,7 +205,7 @@ nlog_status nlog_open(nlog *log, const void *bytes, size_t len, uint32_t version
 nlog_status nlog_is_open(nlog *log, bool *is_open);
 
 /* Writes the log's text from byte `from` on into the buffer, as much as there is room for, and the length of the whole text into len. Of a
- * closed log it is the last text, at first none; of a broken one it is of no use. */
+ * closed log it is none; of a broken one it is of no use. */
 nlog_status nlog_text(nlog *log, uint64_t from, void *bytes, size_t room, uint64_t *len);
 
 /* Adds the entry of an output: the text grows by one line, which the caller appends to the file. NLOG_NOT_OPEN, NLOG_BROKEN, NLOG_BAD_NAME,
@@ -226,7 +226,7 @@ nlog_status nlog_recompact(nlog *log);
  * NLOG_NEGATIVE_TIME: nothing was changed, and place is that of the first negative one in the order of the marks; else place is as it was. */
 nlog_status nlog_restat(nlog *log, size_t *place);
 
-/* Closes the log. Marks stay. NLOG_NOT_OPEN where it wasn't open. */
+/* Closes the log, and frees its text and its table. Marks stay. NLOG_NOT_OPEN where it was neither open nor broken. */
 nlog_status nlog_close(nlog *log);
 
 /* Marks an output as one that the next rewriting leaves out. NLOG_BAD_NAME, NLOG_OUT_OF_MEMORY: nothing was changed. */
@@ -257,7 +257,8 @@ nlog_status nlog_clear_marks(nlog *log);
  * Others: nobody else writes, removes or replaces the log while it is open, but writers that share it. Before each sync, each close that syncs
  *   and each rewriting the log is looked at, and where another file stands there, none, or one of another length, the call answers NLOG_FAULT,
  *   with ESTALE or ENOENT and "stat", and changes nothing. What was recorded since the last sync may then be lost.
- * Memory: where there is none, a call answers NLOG_OUT_OF_MEMORY, and no file was changed, but where the call says more. Whether the log is then
+ * Memory: an open log takes its text and its table, and while it is opened its text once more; the close frees them.
+ *   Where there is none, a call answers NLOG_OUT_OF_MEMORY, and no file was changed, but where the call says more. Whether the log is then
  *   still open, and the call may be made again, nlog_writer_is_open tells: where memory ran out within the text, the writer is broken.
  *
  * Every call but nlog_writer_new and nlog_writer_free answers NLOG_NO_HANDLE, 0 or NULL where the writer is NULL. */

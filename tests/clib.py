@@ -394,7 +394,7 @@ def texts(trials, made, room):
             found = CHANGES[int(got[1])] if got[0] == "OK" and int(got[1]) < 4 else "?"
             trials.want(f"{about}: the change", found, change)
             count = len(Log(as_version(whole, int(whole[13:14]))).table)
-            left = [f"OK {len(whole)} {whole.hex()}", f"OK {count}", "ALREADY_OPEN 9", "OK", f"OK {len(whole)} {whole.hex()}", "NOT_OPEN"]
+            left = [f"OK {len(whole)} {whole.hex()}", f"OK {count}", "ALREADY_OPEN 9", "OK", "OK 0 ", "NOT_OPEN"]
             trials.want(about, (ended, answers[1:], err), (0, left, b""))
         for version in (1, 4, 8, 2**32 - 1):
             trials.want(f"{what}, asked for as {version}", asked([made["C11"]], "text", path, version, ["open"])[1], ["OTHER_VERSION 9"])
@@ -731,6 +731,32 @@ def refusals(trials, made, room):
             trials.check(f"{lines[-1][:30]} is done at last", False)
     trials.check("memory was refused", count > 20 and broken > 2, (count, broken))
     print(f"clib.py: memory was refused at {count} places of calls of the writer")
+
+
+def kept_memory(trials, made, room):
+    """How much memory a writer takes: at its open the text twice and the table, and behind its close neither."""
+    log, names = f"{room}/kept.log", [b"%d" % i + LONG[: MAX_NAME - 3] for i in range(100)]
+    write(log, HEADER + b"".join(line_of(name, (i, i, i, i)) for i in range(3) for name in names))
+    size, table = os.stat(log).st_size, 100 * MAX_NAME
+    writer = subprocess.Popen([made["C11"], "write", log, "0"], stdin=subprocess.PIPE, stdout=subprocess.PIPE)
+    try:
+        answers_of(writer, "is_open")
+        begun = resident(writer.pid, "VmRSS")
+        trials.want("a log of long names", answers_of(writer, "open"), "OK")
+        taken = resident(writer.pid, "VmHWM") - begun
+        trials.check("an open takes the text twice and the table", taken < 2 * size + table + 4_000_000, f"{taken} bytes for a text of {size}")
+        trials.want("its close", [answers_of(writer, it) for it in ("count", "close", "is_open")], ["OK 100", "OK", "OK 0"])
+        left = resident(writer.pid, "VmRSS") - begun
+        # What malloc doesn't give back is no more than the table.
+        trials.check("a close frees the text", left < table + 4_000_000, f"{left} bytes are left of {taken}")
+    except FileNotFoundError:
+        trials.skip("the memory of a writer", "/proc isn't there")
+    writer.communicate()
+
+
+def resident(pid, what):
+    """So many bytes a process has in memory, or had at the most."""
+    return 1024 * int(re.search(rf"(?m)^{what}:\s+(\d+) kB", read(f"/proc/{pid}/status").decode())[1])
 
 
 # ---- Locks, and processes at once ----
@@ -1296,6 +1322,7 @@ def trial(trials, program, room):
     turns(trials, made, room)
     failing(trials, made, room)
     refusals(trials, made, room)
+    kept_memory(trials, made, room)
     locks(trials, made, program, room)
     forks(trials, made, room)
     waits(trials, made, room)

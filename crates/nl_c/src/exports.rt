@@ -249,7 +249,7 @@ pub extern "C" fn nlog_restat(handle: &mut Handle, alloc: Global, place: &mut us
     answer
 }
 
-/// Closes the log.
+/// Closes the log, and frees its text and its table.
 #[unsafe(no_mangle)]
 pub extern "C" fn nlog_close(handle: &mut Handle, alloc: Global) -> u32
     ensures call { InHandle (Stopped) result handle.old.kept.log handle.new.kept.log }
@@ -257,7 +257,7 @@ pub extern "C" fn nlog_close(handle: &mut Handle, alloc: Global) -> u32
     let Some(mut held) = handle.take(alloc) else {
         return status::NO_HANDLE;
     };
-    let answer = held.stop();
+    let answer = held.stop(alloc);
     *handle = Handle::of(held);
     answer
 }
