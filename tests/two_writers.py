@@ -6,7 +6,7 @@
 The first is an `apply` that is kept open by its input, or this trial, which takes the lock as a command does. Where the first
 doesn't end, the second is refused after 10 seconds, and the log stays. A list of names that is missing or bad is refused at once.
 Then four records at once, 100 times on each of four logs, also with a recompact among them, and with kills: what ended with status 0 stands.
-And another program, which takes no lock, renames or removes the log of an `apply`: what is acknowledged from then on is in LOG.
+And another program, which takes no lock, renames or removes the log of an `apply`, or writes to it: what is acknowledged from then on is in LOG.
 """
 import fcntl
 import os
@@ -114,9 +114,62 @@ def try_moved(trials, program, room, what, line):
     move(f"{room}/LOG")
     trials.want(f"{what}: that isn't acknowledged", ask(line), [b"S8 Fault\n"])
     trials.want(f"{what}: what is under the name stays", read(f"{room}/LOG"), left)
+    trials.want(f"{what}: it is opened anew", ask(b"stop", b"open", b"record\t1\t2\t3\tsecond\tff", line), [b"ok\n"] * 4)
+    trials.want(f"{what}: what was acknowledged is in the file", set(Log(read(f"{room}/LOG")).table) >= {b"second", *(Log(left).table if left else [])}, True)
+    trials.want(f"{what}: that file is locked", is_locked(f"{room}/LOG"), True)
+    move(f"{room}/LOG")
+    trials.want(f"{what}: nor is the next acknowledged", ask(line), [b"S8 Fault\n"])
     ended = (*first.communicate(timeout=SECONDS), first.returncode)
     said = FAILED + b"nlog: LOG LOG: " + says + b"\n"
     trials.want(f"{what}: the reason is told", ended, (b"", said, 1))
+
+
+def is_locked(log):
+    with open(log, "rb") as it:
+        try:
+            fcntl.flock(it, fcntl.LOCK_EX | fcntl.LOCK_NB)
+        except OSError:
+            return True
+    return False
+
+
+def append(text):
+    def change(log):
+        with open(log, "ab") as it:
+            it.write(text)
+
+    return change
+
+
+# What another program does to a log between a `stop` and an `open`, and which names the log has then.
+BETWEEN = {
+    "a torn line": (append(b"1\t2\t3"), {b"a", b"b", b"first"}),
+    "zero bytes": (append(bytes(9)), {b"a", b"b", b"first"}),
+    "an entry": (append(line_of(b"other", ENTRY)), {b"a", b"b", b"first", b"other"}),
+    "another file": (put_another, {b"a", b"b"}),
+    "nothing under the name": (os.remove, set()),
+    "an empty file": (lambda log: write(log, b""), set()),
+}
+
+
+def try_between(trials, program, room, what):
+    """An `apply` whose log another program changes between a `stop` and an `open`: what stands then is read, and what is torn is cut."""
+    change, names = BETWEEN[what]
+    fill(room, START)
+    first = begin([program, "apply", "LOG"], room)
+
+    def ask(*lines):
+        first.stdin.write(b"".join(it + b"\n" for it in lines))
+        first.stdin.flush()
+        return [first.stdout.readline() for _ in lines]
+
+    trials.want(f"{what}: the first entry", ask(b"open", b"record\t1\t2\t3\tfirst\tff", b"sync", b"stop"), [b"ok\n"] * 4)
+    change(f"{room}/LOG")
+    trials.want(f"{what}: the second entry", ask(b"open", b"record\t1\t2\t3\tsecond\tff", b"sync"), [b"ok\n"] * 3)
+    text = read(f"{room}/LOG")
+    trials.want(f"{what}: what stands", (set(Log(text).table), Log(text).skipped, text[-1:]), (names | {b"second"}, 0, b"\n"))
+    trials.want(f"{what}: the file is locked", is_locked(f"{room}/LOG"), True)
+    trials.want(f"{what}: it ends", (*first.communicate(timeout=SECONDS), first.returncode), (b"", b"", 0))
 
 
 # Logs on which commands are started side by side, by what stands in them, and how many times.
@@ -171,8 +224,10 @@ def trial(trials, program, room):
     for number, what in enumerate(SECOND):
         try_both(trials, program, f"{room}/{number}", what)
     try_held(trials, program, f"{room}/held")
-    for number, (what, line) in enumerate((what, line) for what in MOVED for line in (b"sync", b"recompact\ta\tb\tfirst", b"restat\t9\ta")):
+    for number, (what, line) in enumerate((what, line) for what in MOVED for line in (b"sync", b"recompact\ta\tb\tfirst\tsecond", b"restat\t9\ta")):
         try_moved(trials, program, f"{room}/moved{number}", what, line)
+    for number, what in enumerate(BETWEEN):
+        try_between(trials, program, f"{room}/between{number}", what)
 
 
 if __name__ == "__main__":
