@@ -288,14 +288,16 @@ void nlog_writer_free(nlog_writer **writer);
 nlog_status nlog_writer_open(nlog_writer *writer);
 
 /* Whether the log is shared, which it isn't at first: then the lock is held within each call alone, and not from the open to the close. A call
- * that changes the log, and finds that another writer had it since, reads and opens it anew, with what it holds now: the lines of both stand in
- * the order in which they were recorded. What only reads (nlog_writer_find and the like) answers of what the last such call saw. For a tool
+ * that changes the log, and finds that another writer had it since, takes in what it holds now: the lines of both stand in the order in which
+ * they were recorded. Where the log only grew by lines of entries, these alone are read, and nothing is synced or rewritten for them; else it is
+ * read and opened anew, as by nlog_writer_open. What only reads (nlog_writer_find and the like) answers of what the last such call saw. For a tool
  * whose commands may run the tool itself in the same folder, as a build may run Ninja. The writer has to be closed: NLOG_ALREADY_OPEN, also of a
  * broken one. NLOG_LOCKED of a later call: nothing was done, the log is open still, and the call may be made again. */
 nlog_status nlog_writer_set_shared(nlog_writer *writer, bool is_shared);
 
-/* How long a lock is waited for from now on, in milliseconds: 10,000 at first, and with 0 it is asked for once. It is asked for again every 20
- * milliseconds, and whoever asks first behind an unlock has it: there is no queue, so among many that wait one may wait long. */
+/* How long a lock is waited for from now on, in milliseconds: 10,000 at first, and with 0 it is asked for once. It is asked for again each
+ * millisecond at first, and each 20 by and by, and whoever asks first behind an unlock has it: there is no queue, so among many that wait one may
+ * wait long. */
 nlog_status nlog_writer_set_wait(nlog_writer *writer, uint32_t milliseconds);
 
 /* Whether an open succeeded that no close followed, and nothing broke the writer since. */

@@ -1155,6 +1155,73 @@ def costs(trials, made, room):
                 trials.want(f"the calls of {line[:10]}, {'shared' if is_shared else 'alone'}", found, COSTS[line][is_shared])
 
 
+def joins(trials, made, room):
+    """What others append to a log that is shared: it alone is read, and nothing is synced for it. Where it isn't all whole lines of entries, or
+    the log was cut or replaced, the log is read and opened anew, repaired. And how often a lock is asked for."""
+    log, many = f"{room}/joins.log", b"".join(line_of(b"out%d" % i, (i, i, i, i)) for i in range(20000))
+    long_lines = b"".join(line_of(b"%d" % i + LONG[1:], (i, i, i, i)) for i in range(9))
+    rows = [
+        ("nothing", b"", b"", False),
+        ("a line", A, A, False),
+        ("more lines than a block holds", A + long_lines + A, A + long_lines + A, False),
+        ("a line that is no entry", A + b"x\n", A + b"x\n", True),
+        ("a number of another spelling", A + b"01\t2\t3\tc\taa\n", A + b"01\t2\t3\tc\taa\n", True),
+        ("a torn line", A + b"4\t5", A, True),
+        ("a part of a line", b"4\t5", b"", True),
+        ("a longer line than an entry's", b"x" * 300000 + b"\n" + A, b"x" * 300000 + b"\n" + A, True),
+        ("a longer part of a line than an entry's", A + b"x" * 300000, A, True),
+    ]
+    for first in (HEADER, V7):
+        for what, more, stands, is_anew in rows:
+            about = f"version {chr(first[13])}, another appends {what}: "
+            write(log, first + many)
+            words = ["strace", "-o", f"{room}/TRACE", made["C11"], "write", log, "0"]
+            writer = subprocess.Popen(words, stdin=subprocess.PIPE, stdout=subprocess.PIPE)
+            lines = ["shared", "open", f"record -1 0 -5 ffffffffffffffff {hexed(b'd')}"]
+            trials.want(f"{about}a shared log", [answers_of(writer, it) for it in lines], ["OK"] * 3)
+            with open(log, "ab") as it:
+                it.write(more)
+            lines, new = [f"record 4 5 6 bb {hexed(b'b')}", "count", "version"], Log(first.replace(b"v7", b"v5") + stands)
+            wanted = ["OK", f"OK {20002 + len(new.table)}", f"OK {chr(first[13])}"]
+            trials.want(f"{about}a record", [answers_of(writer, it) for it in lines], wanted)
+            trials.want(f"{about}it is found", answers_of(writer, FIND), "OK 1 2 3 aa" if A in stands else "NOT_FOUND")
+            trials.want(f"{about}a close", answers_of(writer, "close"), "OK")
+            writer.communicate()
+            trials.want(f"{about}the log", read(log), first + many + D + stands + B)
+            calls = re.split(r"(?m)^write\(1.*$", read(f"{room}/TRACE").decode())[3]
+            trials.want(f"{about}whether it is synced", "fsync(" in calls, is_anew)
+            got = sum(int(it) for it in re.findall(r"(?m)^pread64\(.* = (\d+)$", calls))
+            trials.check(f"{about}how much is read", got == len(more) if not is_anew else got >= len(many), f"{got} bytes")
+    # What another cuts off, or puts in the log's place, is read anew.
+    for about, change in (("cut", lambda: os.truncate(log, len(HEADER + A))), ("replaced", lambda: os.rename(f"{log}.new", log))):
+        write(log, HEADER + A + B)
+        write(f"{log}.new", HEADER + A)
+        writer = subprocess.Popen([made["C11"], "write", log, "0"], stdin=subprocess.PIPE, stdout=subprocess.PIPE)
+        trials.want(f"a shared log that is {about}", [answers_of(writer, it) for it in ("shared", "open")], ["OK"] * 2)
+        change()
+        lines = [f"record -1 0 -5 ffffffffffffffff {hexed(b'd')}", "count", f"find {hexed(b'b')}", "close"]
+        trials.want(f"{about}: a record", [answers_of(writer, it) for it in lines], ["OK", "OK 2", "NOT_FOUND", "OK"])
+        writer.communicate()
+        trials.want(f"{about}: the log", read(log), HEADER + A + D)
+    # A log that is due by what others append is rewritten by the next open.
+    write(log, HEADER + A)
+    writer = subprocess.Popen([made["C11"], "write", log, "0"], stdin=subprocess.PIPE, stdout=subprocess.PIPE)
+    trials.want("a shared log that gets due", [answers_of(writer, it) for it in ("shared", "open")], ["OK"] * 2)
+    with open(log, "ab") as it:
+        it.write(A * 200)
+    trials.want("it isn't rewritten by a record", [answers_of(writer, it) for it in (f"record 4 5 6 bb {hexed(b'b')}", "close")], ["OK"] * 2)
+    trials.want("the log then", read(log), HEADER + A * 201 + B)
+    trials.want("but by an open", [answers_of(writer, it) for it in ("open", "rewrote", "close")], ["OK", "OK 1", "OK"])
+    writer.communicate()
+    trials.want("the log at last", read(log), HEADER + A + B)
+    # A lock is asked for often at first, for those that take turns.
+    with open(log, "rb") as held:
+        fcntl.flock(held, fcntl.LOCK_EX)
+        asked(["strace", "-o", f"{room}/TRACE", "-e", "trace=flock", made["C11"]], "write", log, 0, ["wait 100", "open"])
+    times = len(re.findall(rb"(?m)^flock\(.*LOCK_EX", read(f"{room}/TRACE")))
+    trials.check("how often a lock is asked for in 100 ms", 25 < times < 80, str(times))
+
+
 def signals(trials, made, room):
     """Calls that signals interrupt, each of them every other time: all is done. A wait for a lock takes no less time."""
     log = f"{room}/signals.log"
@@ -1336,6 +1403,7 @@ def trial(trials, program, room):
         syncs_that_fail(trials, made, room)
         writes_that_fail(trials, made, room)
         costs(trials, made, room)
+        joins(trials, made, room)
         signals(trials, made, room)
         replaced(trials, made, room)
     by_the_rules_of_the_program(trials, made, room)
