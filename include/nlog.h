@@ -12,8 +12,9 @@
  *   texts of nlog_writer_failed_path and nlog_writer_failed_call.
  * Memory: from malloc, freed by nlog_free and nlog_writer_free. malloc must align as ISO C says; where it gives none, the call answers
  *   NLOG_OUT_OF_MEMORY.
- * Threads: a handle or a writer takes one call at a time, on any thread that is in order with the one before (a lock, or a join), reads
- *   included. Calls on different ones need no order. No call may be made in a signal handler, or in the forked child of a process with threads.
+ * Threads: a call whose handle or writer is const only reads, and any number of these may run on one at once. Each other call has it alone, in
+ *   order with those before it and behind it (by a lock, or a join). Calls on different ones need no order. No call may be made in a signal
+ *   handler, or in the forked child of a process with threads.
  * Fork: a child may go on with each handle and with each closed writer, by itself. A writer whose log is open, or broken, stays the parent's: in
  *   the child each call on it that has a status answers NLOG_FORKED, and does nothing. nlog_writer_free frees the child's part and lets go of its
  *   descriptors; the parent's log stays open, and locked.
@@ -126,18 +127,18 @@ nlog_status nlog_load(nlog *log, const void *bytes, size_t len);
 void nlog_free(nlog *log);
 
 /* Of a log that was loaded. NLOG_NO_HANDLE where the handle has none. */
-nlog_status nlog_get_facts(nlog *log, nlog_facts *facts);
+nlog_status nlog_get_facts(const nlog *log, nlog_facts *facts);
 
 /* How many outputs there are, of a log that was loaded or is open (part 2); so in the two calls below. NLOG_NO_HANDLE where it is neither. */
-nlog_status nlog_count(nlog *log, size_t *count);
+nlog_status nlog_count(const nlog *log, size_t *count);
 
 /* The last entry of the output at a place, from 0, in the order in which the outputs first appear. Its name is written into the buffer, with
  * no NUL behind it, and the name's length into name_len. A buffer of NLOG_MAX_NAME bytes is always enough.
  * NLOG_NO_ROOM: the entry and name_len are filled, the buffer is as it was. NLOG_NOT_FOUND: there are no more than `place` outputs. */
-nlog_status nlog_at(nlog *log, size_t place, nlog_entry *entry, char *name, size_t room, size_t *name_len);
+nlog_status nlog_at(const nlog *log, size_t place, nlog_entry *entry, char *name, size_t room, size_t *name_len);
 
 /* The last entry of an output. */
-nlog_status nlog_find(nlog *log, const char *name, size_t len, nlog_entry *entry);
+nlog_status nlog_find(const nlog *log, const char *name, size_t len, nlog_entry *entry);
 
 /* Reads one line of a log of this version, without its newline: the entry and its name, as nlog_at fills them.
  * NLOG_NOT_FOUND: the line is no entry. NLOG_NO_ROOM: as of nlog_at. */
@@ -202,11 +203,11 @@ typedef enum nlog_change {
  * ran out in the text): nothing was changed. */
 nlog_status nlog_open(nlog *log, const void *bytes, size_t len, uint32_t version, uint32_t *change);
 
-nlog_status nlog_is_open(nlog *log, bool *is_open);
+nlog_status nlog_is_open(const nlog *log, bool *is_open);
 
 /* Writes the log's text from byte `from` on into the buffer, as much as there is room for, and the length of the whole text into len. Of a
  * closed log it is none; of a broken one it is of no use. */
-nlog_status nlog_text(nlog *log, uint64_t from, void *bytes, size_t room, uint64_t *len);
+nlog_status nlog_text(const nlog *log, uint64_t from, void *bytes, size_t room, uint64_t *len);
 
 /* Adds the entry of an output: the text grows by one line, which the caller appends to the file. NLOG_NOT_OPEN, NLOG_BROKEN, NLOG_BAD_NAME,
  * NLOG_OUT_OF_MEMORY: nothing was changed. NLOG_FAULT: the log is broken. */
@@ -301,14 +302,14 @@ nlog_status nlog_writer_set_shared(nlog_writer *writer, bool is_shared);
 nlog_status nlog_writer_set_wait(nlog_writer *writer, uint32_t milliseconds);
 
 /* Whether an open succeeded that no close followed, and nothing broke the writer since. */
-nlog_status nlog_writer_is_open(nlog_writer *writer, bool *is_open);
+nlog_status nlog_writer_is_open(const nlog_writer *writer, bool *is_open);
 
 /* Whether the last open rewrote the log. NLOG_NOT_OPEN, NLOG_BROKEN. */
-nlog_status nlog_writer_rewrote(nlog_writer *writer, bool *rewrote);
+nlog_status nlog_writer_rewrote(const nlog_writer *writer, bool *rewrote);
 
 /* The version of the open log: 5, 6 or 7. The hash of each entry must be that of the version: nlog_command_hash_v7 of 7, else
  * nlog_command_hash. NLOG_NOT_OPEN, NLOG_BROKEN. */
-nlog_status nlog_writer_version(nlog_writer *writer, uint32_t *version);
+nlog_status nlog_writer_version(const nlog_writer *writer, uint32_t *version);
 
 /* Adds the entry of an output, by one write. NLOG_OK: a load finds it, unless the power fails before the next nlog_writer_sync.
  * NLOG_NOT_OPEN, NLOG_BROKEN, NLOG_BAD_NAME, NLOG_OUT_OF_MEMORY: nothing was added. */
@@ -319,9 +320,9 @@ nlog_status nlog_writer_record(nlog_writer *writer, const char *name, size_t len
 nlog_status nlog_writer_record_edge(nlog_writer *writer, const nlog_name *names, size_t count, const nlog_entry *entry);
 
 /* As nlog_count, nlog_at and nlog_find, of the open log with all that was recorded. NLOG_NOT_OPEN, NLOG_BROKEN. */
-nlog_status nlog_writer_count(nlog_writer *writer, size_t *count);
-nlog_status nlog_writer_at(nlog_writer *writer, size_t place, nlog_entry *entry, char *name, size_t room, size_t *name_len);
-nlog_status nlog_writer_find(nlog_writer *writer, const char *name, size_t len, nlog_entry *entry);
+nlog_status nlog_writer_count(const nlog_writer *writer, size_t *count);
+nlog_status nlog_writer_at(const nlog_writer *writer, size_t place, nlog_entry *entry, char *name, size_t room, size_t *name_len);
+nlog_status nlog_writer_find(const nlog_writer *writer, const char *name, size_t len, nlog_entry *entry);
 
 /* NLOG_OK: all that was recorded before is on disk, and stands whatever comes. NLOG_NOT_OPEN, NLOG_BROKEN. */
 nlog_status nlog_writer_sync(nlog_writer *writer);

@@ -8,7 +8,8 @@ the format says of each log from log_format.py. tests/clib/tool.c has the comman
 program's system calls, of writes that are cut, of a full disk, of what a crash leaves, and of `apply` are made of the library too, by the
 same rules. Writers run at once, one beside PROGRAM too, and are killed.
 
-Wants `rt` and `cc`; a C++ compiler, AddressSanitizer, valgrind, ctypes, strace, rustc, and the right to mount a tmpfs, where they are there.
+Wants `rt` and `cc`; a C++ compiler, AddressSanitizer, ThreadSanitizer, valgrind, ctypes, strace, rustc, and the right to mount a tmpfs, where
+they are there.
 Each that is missing is said.
 """
 import ctypes
@@ -37,7 +38,7 @@ from log_lines import damage_of
 from trials import main, read, run, write
 
 TOP = os.path.dirname(os.path.dirname(os.path.abspath(__file__)))
-DRIVER, TOOL, SHARER, RUST = (f"{TOP}/tests/clib/{it}" for it in ("driver.c", "tool.c", "shared.c", "safe.rs"))
+DRIVER, TOOL, SHARER, READERS, RUST = (f"{TOP}/tests/clib/{it}" for it in ("driver.c", "tool.c", "shared.c", "readers.c", "safe.rs"))
 STRICT = ["-Wall", "-Wextra", "-Wpedantic", "-Werror", "-D_POSIX_C_SOURCE=200809L", "-I", f"{TOP}/include"]
 VERSION_OF_NAMES = "NLOG_0.2"
 SANITIZED = ["-fsanitize=address,undefined", "-fno-sanitize-recover=all"]
@@ -52,7 +53,8 @@ def build(trials, room):
     if not trials.check("lib/archive.sh makes the archive", ran[0] == 0, (ran[1] or b"")[-800:].decode(errors="replace")):
         return made
     kit = os.path.dirname(os.path.dirname(os.path.realpath(shutil.which("rt"))))
-    parts = [*(f"{TOP}/lib/{it}.c" for it in ("nlog_writer", "nlog_damage", "nlog_status")), f"{TOP}/crates/nl_c/out/libnl_c.a", f"{kit}/c/liblibc_c.a"]
+    run(["objcopy", f"--redefine-syms={TOP}/lib/nlog_reads.names", f"{TOP}/crates/nl_c/out/libnl_c.a", f"{room}/proved.a"])
+    parts = [*(f"{TOP}/lib/{it}.c" for it in ("nlog_writer", "nlog_reads", "nlog_damage", "nlog_status")), f"{room}/proved.a", f"{kit}/c/liblibc_c.a"]
     ways = [
         ("C11", ["cc", "-std=c11", "-O2", *STRICT, DRIVER, archive]),
         ("C++17", ["c++", "-x", "c++", "-std=c++17", *STRICT, DRIVER, "-x", "none", archive]),
@@ -60,6 +62,8 @@ def build(trials, room):
         ("refused", ["cc", "-std=c11", "-DREFUSES", "-Wl,--wrap=malloc,--wrap=realloc,--wrap=calloc", *STRICT, DRIVER, archive]),
         ("tool", ["cc", "-std=c11", "-O2", *STRICT, TOOL, archive]),
         ("sharer", ["cc", "-std=c11", "-g", *SANITIZED, *STRICT, SHARER, *parts] if sanitizes(room) else ["cc", "-std=c11", *STRICT, SHARER, archive]),
+        ("readers", ["cc", "-std=c11", "-g", *STRICT, READERS, "-pthread", archive]),
+        ("readers by threads", ["cc", "-std=c11", "-g", "-fsanitize=thread", *STRICT, READERS, *parts, "-pthread"]),
         ("rust", ["rustc", "--edition", "2021", "-D", "warnings", "-L", room, "-l", "static=nlog", RUST]),
     ]
     for name, words in ways:
@@ -68,6 +72,9 @@ def build(trials, room):
             continue
         if name == "sanitized" and not sanitizes(room):
             trials.skip("the driver under AddressSanitizer", "it isn't there")
+            continue
+        if name == "readers by threads" and not sanitizes(room, ["-fsanitize=thread"]):
+            trials.skip("readers under ThreadSanitizer", "it isn't there")
             continue
         ran = run([*words, "-o", f"{room}/{name}"])
         if trials.check(f"the driver is built as {name} without a warning", ran[0] == 0 and not ran[2], ran[2][-800:].decode(errors="replace")):
@@ -97,9 +104,9 @@ def declared():
     return set(re.findall(r"(?m)^\w[\w *]*?(nlog_\w+)\([^;{]*\);", read(f"{TOP}/include/nlog.h").decode()))
 
 
-def sanitizes(room):
+def sanitizes(room, how=SANITIZED):
     write(f"{room}/empty.c", b"int main(void) { return 0; }\n")
-    return run(["cc", *SANITIZED, f"{room}/empty.c", "-o", f"{room}/empty"])[0] == 0 and run([f"{room}/empty"])[0] == 0
+    return run(["cc", *how, f"{room}/empty.c", "-o", f"{room}/empty"])[0] == 0 and run([f"{room}/empty"])[0] == 0
 
 
 def drivers(made):
@@ -759,6 +766,20 @@ def resident(pid, what):
     return 1024 * int(re.search(rf"(?m)^{what}:\s+(\d+) kB", read(f"/proc/{pid}/status").decode())[1])
 
 
+def readers(trials, made, room):
+    """Threads that read one handle, and one writer, at once: each answer is right, and no word of memory is written that another reads."""
+    log, text = f"{room}/readers.log", HEADER + b"".join(line_of(b"out%d" % i, (i, i + 1, i * 7, i)) for i in range(1000))
+    ways = [(name, [made[name]], "300000") for name in ("readers", "readers by threads") if name in made]
+    if shutil.which("valgrind") is None:
+        trials.skip("readers under helgrind", "valgrind isn't there")
+    elif "readers" in made:
+        ways.append(("readers under helgrind", ["valgrind", "-q", "--tool=helgrind", "--error-exitcode=9", made["readers"]], "3000"))
+    for name, words, times in ways:
+        write(log, text)
+        trials.want(f"{name}: four threads", run([*words, log, times], timeout=600), (0, b"0 wrong answers\n", b""))
+        trials.want(f"{name}: the log", read(log), text)
+
+
 # ---- Locks, and processes at once ----
 
 
@@ -1390,6 +1411,7 @@ def trial(trials, program, room):
     failing(trials, made, room)
     refusals(trials, made, room)
     kept_memory(trials, made, room)
+    readers(trials, made, room)
     locks(trials, made, program, room)
     forks(trials, made, room)
     waits(trials, made, room)
