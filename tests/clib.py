@@ -1376,15 +1376,17 @@ def by_rust(trials, made, room):
 
 
 def records(trials, made, room):
-    """The time of a record beside that of fprintf and fflush of the same line."""
+    """The time of a record beside that of fprintf and fflush of the same line, of outputs that come again, and of new ones."""
     count = 100_000
-    write(f"{room}/plain.log", HEADER)
-    status, out, _ = run([made["C11"], "time", f"{room}/ours.log", f"{room}/plain.log", str(count)])
-    ours, theirs = (int(it) for it in out.split()) if status == 0 else (0, 1)
-    text = read(f"{room}/ours.log") if status == 0 else b""
-    trials.want("as many lines", text.count(b"\n"), count + 1)
-    trials.want("the lines that fprintf wrote", text == read(f"{room}/plain.log"), True)
-    print(f"clib.py: a record takes {ours} ns, fprintf and fflush of the line {theirs} ns: {ours / theirs:.2f} times as long")
+    for kind, outputs in (("an output that comes again", count // 10), ("a new output", count)):
+        write(f"{room}/plain.log", HEADER)
+        write(f"{room}/ours.log", HEADER)
+        status, out, _ = run([made["C11"], "time", f"{room}/ours.log", f"{room}/plain.log", str(count), str(outputs)])
+        ours, theirs = (int(it) for it in out.split()) if status == 0 else (0, 1)
+        text = read(f"{room}/ours.log") if status == 0 else b""
+        trials.want(f"as many lines, each of {kind}", text.count(b"\n"), count + 1)
+        trials.want(f"the lines that fprintf wrote, each of {kind}", text == read(f"{room}/plain.log"), True)
+        print(f"clib.py: a record of {kind} takes {ours} ns, fprintf and fflush of the line {theirs} ns: {ours / theirs:.2f} times as long")
 
 
 def trial(trials, program, room):

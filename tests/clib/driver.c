@@ -610,7 +610,7 @@ static int write_many(const char *log, int count, int syncs) {
 }
 
 /* The time of a record, beside fprintf and fflush of the same line into a file that is open for appending. Both go on in turn, a block of each, so
- * that what else the machine does falls on both. */
+ * that what else the machine does falls on both. As many outputs as there are records: each is new. */
 static double seconds(void) {
   struct timespec now;
   clock_gettime(CLOCK_MONOTONIC, &now);
@@ -624,9 +624,9 @@ static void fill_entry(int i, nlog_entry *entry) {
   entry->hash = 0x9e3779b97f4a7c15u * (uint64_t)(i + 1);
 }
 
-static int time_records(const char *log, const char *plain, int count) {
-  enum { NAMES = 10000, TIMED = 500 };
-  static char names[NAMES][48];
+static int time_records(const char *log, const char *plain, int count, int outputs) {
+  enum { TIMED = 500, ROOM = 48 };
+  char(*names)[ROOM] = (char(*)[ROOM])malloc((size_t)outputs * ROOM);
   nlog_writer *writer;
   nlog_entry entry;
   nlog_status status = nlog_writer_new(&writer, log, 0);
@@ -634,24 +634,25 @@ static int time_records(const char *log, const char *plain, int count) {
   int i, from;
   FILE *file = fopen(plain, "ab");
   if (status == NLOG_OK) status = nlog_writer_open(writer);
-  if (file == NULL || setvbuf(file, NULL, _IOLBF, BUFSIZ) != 0 || status != NLOG_OK) return 1;
-  for (i = 0; i < NAMES; i++) snprintf(names[i], sizeof names[i], "obj/src/module%03d/source_file_%d.o", i % 200, i);
+  if (names == NULL || file == NULL || setvbuf(file, NULL, _IOLBF, BUFSIZ) != 0 || status != NLOG_OK) return 1;
+  for (i = 0; i < outputs; i++) snprintf(names[i], ROOM, "obj/src/module%03d/source_file_%d.o", i % 200, i);
   for (from = 0; from < count; from += TIMED) {
     begun = seconds();
     for (i = from; status == NLOG_OK && i < count && i < from + TIMED; i++) {
       fill_entry(i, &entry);
-      status = nlog_writer_record(writer, names[i % NAMES], strlen(names[i % NAMES]), &entry);
+      status = nlog_writer_record(writer, names[i % outputs], strlen(names[i % outputs]), &entry);
     }
     ours += seconds() - begun;
     begun = seconds();
     for (i = from; i < count && i < from + TIMED; i++) {
       fill_entry(i, &entry);
-      if (fprintf(file, "%" PRId32 "\t%" PRId32 "\t%" PRId64 "\t%s\t%" PRIx64 "\n", entry.start_ms, entry.end_ms, entry.mtime, names[i % NAMES], entry.hash) < 0) return 1;
+      if (fprintf(file, "%" PRId32 "\t%" PRId32 "\t%" PRId64 "\t%s\t%" PRIx64 "\n", entry.start_ms, entry.end_ms, entry.mtime, names[i % outputs], entry.hash) < 0) return 1;
       if (fflush(file) != 0) return 1;
     }
     theirs += seconds() - begun;
   }
   fclose(file);
+  free(names);
   nlog_writer_free(&writer);
   printf("%.0f %.0f\n", ours / count * 1e9, theirs / count * 1e9);
   return status != NLOG_OK;
@@ -752,8 +753,8 @@ int main(int count, char **words) {
     load_file(words[2]);
   } else if (count == 5 && strcmp(words[1], "many") == 0) {
     return write_many(words[2], atoi(words[3]), atoi(words[4]));
-  } else if (count == 5 && strcmp(words[1], "time") == 0) {
-    return time_records(words[2], words[3], atoi(words[4]));
+  } else if (count == 6 && strcmp(words[1], "time") == 0) {
+    return time_records(words[2], words[3], atoi(words[4]), atoi(words[5]));
   } else if (count == 4 && strcmp(words[1], "closed") == 0) {
     closed_streams(words[2], words[3]);
   } else {
