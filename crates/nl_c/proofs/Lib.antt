@@ -1,4 +1,5 @@
 mod BoxedLog
 mod ChangeLemmas
+mod JoinLemmas
 mod KeptValues
 mod LogDrop

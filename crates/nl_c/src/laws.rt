@@ -1,7 +1,16 @@
 //! Laws of what is loaded, each the contract of a function that does nothing.
-ghost use Rattle.std.specs.Prelude.{◌≡◌, ℕ, List};
+ghost use Rattle.std.specs.Prelude.{◌≡◌, ◌≤◌, ◌++◌, ℕ, Bool, false, List, All, IsSomeAnd, length};
+ghost use Rattle.nl_fields.specs.EntryLine.{IsEntry};
+ghost use Rattle.nl_fields.specs.declared.entry.Entry.{Entry};
+ghost use Rattle.nl_lines.specs.Lines.{max_log};
 ghost use Rattle.nl_lines.specs.Version.{as_version};
 ghost use Rattle.nl_lines.specs.declared.version.LogVersion.{LogVersion};
+ghost use Rattle.nl_table.specs.Due.{is_history_due};
+ghost use Rattle.nl_table.specs.Log.{history_of};
+ghost use Rattle.nl_table.specs.LogText.{lines_of_entries};
+ghost use Rattle.nl_table.specs.Table.{all_entered_table};
+ghost use Rattle.nl_session.specs.Opened.{opened_bytes, IsTableOf};
+ghost use Rattle.nl_c.specs.Changes.{IsOpenText};
 ghost use Rattle.nl_c.specs.LoadedLogs.{seen, version_at};
 
 /// Bytes whose digit names neither 6 nor 7 are seen as they are, and others as those of the version that it names.
@@ -11,4 +20,20 @@ pub fn seen_bytes()
         → seen bytes ≡ as_version LogVersion.Six bytes }
     ensures seven { (bytes : List ℕ) → version_at bytes ≡ LogVersion.Seven
         → seen bytes ≡ as_version LogVersion.Seven bytes }
+{}
+
+/// Lines of entries behind the text of an open log: the table in which each was entered is that of the whole, which an open leaves as it
+/// is where it isn't due.
+pub fn appended_lines_are_recorded()
+    ensures contents { (text : List ℕ) (entries table : List Entry) → IsOpenText text
+        → IsTableOf table text → All IsEntry entries
+        → length (text ++ lines_of_entries entries) ≤ max_log
+        → IsOpenText (text ++ lines_of_entries entries) }
+    ensures table { (text : List ℕ) (entries table : List Entry) → IsOpenText text
+        → IsTableOf table text → All IsEntry entries
+        → length (text ++ lines_of_entries entries) ≤ max_log
+        → IsTableOf (all_entered_table entries table) (text ++ lines_of_entries entries) }
+    ensures opened { (dead : List ℕ → Bool) (text : List ℕ) → IsOpenText text
+        → IsSomeAnd (history_of text) (λ h. is_history_due h ≡ false)
+        → opened_bytes dead text ≡ text }
 {}
