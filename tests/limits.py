@@ -207,27 +207,27 @@ def mode_of(path):
 
 
 def try_modes(trials, program, room):
-    """The mode of a LOG that is made or rewritten is that of a new file; one that is there keeps its own."""
+    """The mode of a LOG that is made is that of a new file; one that is there keeps its own, also where it is rewritten."""
     record = ["record", "LOG", "1", "2", "3", "a", COMMAND]
     repair = ["repair", "LOG"]
     rows = [(record, None), (["recompact", "LOG", "KEEP"], SMALL), (["restat", "LOG", "TIMES"], SMALL), (record, SMALL)]
     rows += [(repair, None), (repair, SMALL)]
     write(f"{room}/KEEP", b"b\n")
     write(f"{room}/TIMES", b"7\tb\n")
-    for mask in (0, 0o002, 0o022, 0o027, 0o077):
+    for mask, mode in [(it, 0o640) for it in (0, 0o002, 0o022, 0o027, 0o077)] + [(0o022, it) for it in (0o600, 0o644, 0o664, 0o666, 0o755)]:
         for words, start in rows:
             log = f"{room}/LOG"
             write(log, start)
             if start is not None:
-                os.chmod(log, 0o640)
+                os.chmod(log, mode)
             before = os.umask(mask)
             try:
                 trials.want(f"{words[0]} under the mask {mask:03o}", run([program, *words], cwd=room), DONE)
             finally:
                 os.umask(before)
-            # A new file replaces a LOG that is rewritten. One that is missing is made by the open, and rewritten by a repair.
-            wanted = 0o640 if words == record and start is not None else 0o666 & ~mask
-            what = f"{words[0]} {'of a missing LOG' if start is None else ''} under the mask {mask:03o}: mode"
+            # One that is missing is made by the open, and rewritten by a repair.
+            wanted = mode if start is not None else 0o666 & ~mask
+            what = f"{words[0]} of a {'missing LOG' if start is None else f'LOG of mode {mode:03o}'} under the mask {mask:03o}: mode"
             trials.want(what, oct(mode_of(log)), oct(wanted))
             os.remove(log)
     # A scratch that a crash left is emptied.

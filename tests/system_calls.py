@@ -40,7 +40,7 @@ def effects_wanted(case):
 
     def rewrite(text):
         write = f"write LOG.recompact {sum(len(it) for it in lines_of(Log(text)))}"
-        return ["make LOG.recompact", "lock LOG.recompact", write, "sync LOG.recompact", "look LOG", "rename", *sync]
+        return ["look LOG", "make LOG.recompact", "lock LOG.recompact", write, "sync LOG.recompact", "look LOG", "rename", *sync]
 
     wanted = ["make LOG"] if case.start is None else []
     wanted += ["lock LOG", "look LOG", *sync]

@@ -16,6 +16,7 @@ pub enum SystemCall {
     Sync,
     Remove,
     Rename,
+    SetMode,
 }
 
 /// Which file of a log a call was about, by the name that the file had when it was opened.
