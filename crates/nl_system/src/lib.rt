@@ -6,6 +6,7 @@ mod file_id;
 mod os_system;
 mod paths;
 mod system_file;
+mod wait;
 
 pub use failed_call::{FailedCall, FileRole, SystemCall};
 pub use os_system::OsSystem;
