@@ -10,7 +10,7 @@ import os
 import shutil
 import sys
 
-from log_format import as_version, command_hash
+from log_format import as_version, command_hash, command_hash_v7
 from trials import main, read, run, write
 
 HEADER = b"# ninja log v5\n"
@@ -246,6 +246,12 @@ WORDS = [
     (["hash", "cc\tx"], 0, HASH, b""),
     (["hash-file", "file"], 0, FILE_HASH, b""),
     (["hash-file"], 0, INPUT_HASH, b""),
+    (["hash-file", "--log-version", "5", "file"], 0, FILE_HASH, b""),
+    (["hash-file", "--log-version", "6", "file"], 0, FILE_HASH, b""),
+    (["hash-file", "file", "--log-version=7"], 0, b"%x\n" % command_hash_v7(FILE), b""),
+    (["hash-file", "--log-version", "auto", "file"], 0, FILE_HASH, b""),
+    (["hash-file", "--log-version", "7"], 0, b"%x\n" % command_hash_v7(INPUT), b""),
+    (["hash-file", "--log-version", "7", "missing"], 1, b"", CANNOT_READ),
     (["hash-file", "missing"], 1, b"", CANNOT_READ),
     (["hash-file", "folder"], 1, b"", CANNOT_READ),
     (["entries"], 0, INPUT_SHOWN, b""),
@@ -344,7 +350,10 @@ WORDS = [
     (["hash", "--log-version", "seven", "c"], 2, b"", BAD_VERSION % b"seven"),
     (["show", "--log-version", "7", "seven", "--log-version", "7"], 2, b"", TWO_VERSIONS),
     (["entries", "--log-version", "7"], 2, b"", NO_OPTION % b"entries [OPTIONS] [LOG]"),
-    (["repair", "--log-version", "7", "seven"], 2, b"", NO_OPTION % b"repair [OPTIONS] <LOG>"),
+    (["repair", "--log-version", "7"], 2, b"", NO_LOG_NAME.replace(b"repair <LOG>", b"repair --log-version <VERSION> <LOG>")),
+    (["repair", "seven", "--log-version"], 2, b"", NO_VERSION),
+    (["repair", "seven", "--log-version", "4"], 2, b"", BAD_VERSION % b"4"),
+    (["hash-file", "file", "--log-version=07"], 2, b"", BAD_VERSION % b"07"),
     # Of the commands that change a log: one of another version than the one that is asked for is refused, and stays.
     (["record", "--log-version", "6", "seven", "1", "2", "3", "n", "c"], 1, b"", OTHER_VERSION),
     (["record", "--log-version", "7", "file", "1", "2", "3", "n", "c"], 1, b"", OTHER_VERSION),

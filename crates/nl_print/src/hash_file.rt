@@ -5,8 +5,11 @@ ghost use Rattle.nl_texts.specs.Output.{Prints};
 ghost use Rattle.nl_texts.specs.declared.fault.ToolFault.{ToolFault};
 ghost use Rattle.nl_print.specs.Faults.{IsHashFileFault};
 ghost use Rattle.nl_print.specs.Output.{IsFileHash};
+ghost use Rattle.nl_print.specs.Versions.{IsFileHashAs};
 
 use crate::hash::hash_to;
+use crate::versions::hash_as;
+use nl_lines::LogVersion;
 use nl_texts::ToolFault;
 use std::alloc::Global;
 use std::io::{Read, Write};
@@ -27,6 +30,21 @@ pub fn hash_file_to<R: Read + Drop, W: Write>(
 {
     let command = read_all(alloc, reader)?;
     hash_to(alloc, command.as_slice(), writer)
+}
+
+/// The same, as a log of the version spells it.
+pub fn hash_file_as<R: Read + Drop, W: Write>(
+    alloc: Global,
+    version: LogVersion,
+    reader: R,
+    writer: &mut W,
+) -> Result<(), ToolFault>
+    ensures prints { Prints (IsFileHashAs version (R.remaining reader)) (W.contents writer.old)
+        (W.contents writer.new) result }
+    ensures faults { IfErr result IsHashFileFault }
+{
+    let command = read_all(alloc, reader)?;
+    hash_as(alloc, version, command.as_slice(), writer)
 }
 
 // All bytes that a reader gives. A read that was interrupted has failed.

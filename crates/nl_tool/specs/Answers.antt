@@ -4,7 +4,7 @@ use Rattle.nl_lines.specs.declared.version.LogVersion.{LogVersion}
 use Rattle.nl_lines.specs.declared.version.LogVersion.TheVariants.{Five, Six, Seven}
 use Rattle.nl_print.specs.Output.{IsFileHash, IsHashText, IsTextAsRead, check_text_of, show_text_of}
 use Rattle.nl_print.specs.VersionOf.{IsReportOfAny, as_five, show_text_of_any}
-use Rattle.nl_print.specs.Versions.{check_text_as, hash_text_as, log_as, show_text_as}
+use Rattle.nl_print.specs.Versions.{IsFileHashAs, check_text_as, hash_text_as, log_as, show_text_as}
 use Rattle.nl_replay.specs.Replay.{IsReplayText}
 use Rattle.nl_table.specs.Log.{LogReading, log_of}
 use Rattle.nl_table.specs.Log as log_reading
@@ -28,9 +28,11 @@ abbrev pub IsAnswerOf : LogVersion → Printing → Option (List ℕ) → List �
 IsAnswerOf version Show known text = IsTextAsRead (show_text_as version) known text
 IsAnswerOf version Check known text = IsTextAsRead (check_text_as version) known text
 IsAnswerOf version (Hash command) known text = text ≡ hash_text_as version command.now
+IsAnswerOf version HashFile known text = IsFileHashAs version known text
 IsAnswerOf version printing known text = IsAnswer printing known text
 
--- the text of each such command, where a log is of the version that its first line names; `hash` has no log, so its version is 5
+-- the text of each such command, where a log is of the version that its first line names; `hash` and `hash-file` have no log, so
+-- their version is 5
 abbrev pub IsAnswerOfAny : Printing → Option (List ℕ) → List ℕ → Type 0
 IsAnswerOfAny Show known text = IsTextAsRead show_text_of_any known text
 IsAnswerOfAny Check known text = IsReportOfAny known text

@@ -20,8 +20,8 @@ pub use nl_change::{
 pub use nl_disk::DiskFolder;
 pub use nl_lines::LogVersion;
 pub use nl_print::{
-    check_any, check_as, check_to, command_hash_as, damage_to, entries_to, hash_as, hash_file_to,
-    hash_to, load_any, load_as, show_any, show_as, show_to, version_in, version_of,
+    check_any, check_as, check_to, command_hash_as, damage_to, entries_to, hash_as, hash_file_as,
+    hash_file_to, hash_to, load_any, load_as, show_any, show_as, show_to, version_in, version_of,
 };
 pub use nl_replay::replay_to;
 pub use nl_texts::{ToolFault, status_of};

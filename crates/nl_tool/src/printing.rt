@@ -17,8 +17,8 @@ use crate::notes::{NotedReader, NotedWriter, Notes};
 use crate::program::Outcome;
 use nl_lines::LogVersion;
 use nl_print::{
-    check_any, check_as, check_to, damage_to, entries_to, hash_as, hash_file_to, hash_to, show_any,
-    show_as, show_to,
+    check_any, check_as, check_to, damage_to, entries_to, hash_as, hash_file_as, hash_file_to,
+    hash_to, show_any, show_as, show_to,
 };
 use nl_replay::replay_to;
 use nl_texts::ToolFault;
@@ -232,7 +232,8 @@ fn print_as<R: Read + Drop, W: Write>(
         Printing::Show => show_as(alloc, version, reader, writer),
         Printing::Check => check_as(alloc, version, reader, writer),
         Printing::Hash(command) => hash_as(alloc, version, command.as_bytes(), writer),
-        Printing::HashFile | Printing::Replay => print_plain(alloc, printing, reader, writer),
+        Printing::HashFile => hash_file_as(alloc, version, reader, writer),
+        Printing::Replay => print_plain(alloc, printing, reader, writer),
     }
 }
 

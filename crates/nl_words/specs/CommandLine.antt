@@ -55,7 +55,7 @@ abbrev pub damage : App
 damage = with_rule (new_app (codes "damage")) (positional (codes "LOG") false)
 
 abbrev pub hash_file : App
-hash_file = with_rule (new_app (codes "hash-file")) (positional (codes "FILE") false)
+hash_file = with_rule (with_rule (new_app (codes "hash-file")) (positional (codes "FILE") false)) version_rule
 
 -- `record` with its values
 abbrev pub record_values : App

@@ -20,6 +20,9 @@ const OPTIONAL_ANY_LOG: &str =
 const LOG_VERSION: &str =
     "5, 6 or 7: the version of LOG; auto: the one that its first line names; 4 or 5 where it is left out";
 
+const HASH_VERSION: &str =
+    "5, 6 or 7: the version of the logs that hold the hash; auto: 5, as where it is left out";
+
 // The command with one more value, which stands by its place.
 fn with_value<'a>(
     alloc: Global,
@@ -108,11 +111,7 @@ pub fn hash_command<'a>(alloc: Global) -> Result<Command<'a>, AllocError>
         true,
         "The command's text, as one word",
     )?;
-    with_version(
-        alloc,
-        command,
-        "5, 6 or 7: the version of the logs that hold the hash; auto: 5, as where it is left out",
-    )
+    with_version(alloc, command, HASH_VERSION)
 }
 
 pub fn entries_command<'a>(alloc: Global) -> Result<Command<'a>, AllocError>
@@ -174,7 +173,8 @@ A newline at the end of FILE is a byte of it, so a command that has none is hash
         "FILE",
         false,
         "The file; standard input where it is left out",
-    )
+    )?;
+    with_version(alloc, command, HASH_VERSION)
 }
 
 // `record` with its values.
