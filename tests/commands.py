@@ -5,6 +5,7 @@
 
 What is wanted stands here as whole bytes, worked out by hand from docs/FORMAT.md and docs/CLI.md.
 """
+import fcntl
 import itertools
 import os
 import shutil
@@ -422,6 +423,15 @@ OWN_AS = [
     ("7", ["recompact", "keep"], b"# ninja log v7\n1\t2\t3\tb\t4\n1\t2\t3\tc\t4\n", b"# ninja log v7\n1\t2\t3\tb\t4\n"),
     ("5", ["recompact", "keep"], b"# ninja log v4\n1\t2\t3\tb\tcc\tx\n", b"# ninja log v5\n1\t2\t3\tb\t72274e7a30810c7b\n"),
     ("7", ["recompact", "keep"], b"# ninja log v4\n1\t2\t3\tb\tcc\tx\n", OTHER_VERSION),
+    # A repair of a log of 0 to 14 bytes, and of others.
+    *[(str(version), ["repair"], log, b"# ninja log v%d\n" % version) for version in (5, 6, 7) for log in (None, *(b"# ninja log v"[:size] for size in range(14)), b"# ninja log v%d" % version)],
+    *[("auto", ["repair"], log, HEADER) for log in (None, b"", b"# ninja log v", b"# ninja log v5")],
+    ("auto", ["repair"], b"# ninja log v7", b"# ninja log v7\n"),
+    ("7", ["repair"], b"# ninja log v7\n1\t2\t3\tb\t4\n5\t6", b"# ninja log v7\n1\t2\t3\tb\t4\n"),
+    ("5", ["repair"], b"# ninja log v4\n1\t2\t3\tb\tcc\tx\n", b"# ninja log v5\n1\t2\t3\tb\t72274e7a30810c7b\n"),
+    ("6", ["repair"], b"# ninja log v4\n1\t2\t3\tb\tcc\tx\n", OTHER_VERSION),
+    ("7", ["repair"], b"# ninja log v5\n1\t2\t3\tb\t4\n", OTHER_VERSION),
+    ("5", ["repair"], b"# ninja log v7\n1\t2\t3\tb\t4\n", OTHER_VERSION),
     ("6", ["restat", "times"], b"# ninja log v4\n1\t2\t3\tb\tcc\tx\n", OTHER_VERSION),
     ("7", ["record", "--", "1", "2", "3", "a", "cc\tx"], b"# ninja log v4\n", OTHER_VERSION),
     ("auto", ["record", "--", "1", "2", "3", "a", "cc\tx"], None, b"# ninja log v5\n1\t2\t3\ta\t72274e7a30810c7b\n"),
@@ -483,14 +493,17 @@ def try_changes(trials, program, room):
             trials.want(what, asked(program, room, [command, "log", "file"]), refused(why))
             trials.want(f"{what}: the log", read(f"{room}/log"), left)
             trials.want(f"{what}: the file", read(f"{room}/file"), text)
-        # The file of names or times is refused before the log, one that is missing too.
+        # The file of names or times is refused before the log, one that is missing or locked too.
         write(f"{room}/log", b"hello")
         write(f"{room}/file", b"\n\t\n")
-        for log in ("log", "none"):
-            for file, why in (("missing", b"cannot read"), ("file", b"bad line 2")):
-                trials.want(f"{command} {log} {file}", asked(program, room, [command, log, file]), refused(why))
+        with open(f"{room}/log", "rb") as held:
+            fcntl.flock(held, fcntl.LOCK_EX)
+            for log, version in itertools.product(("log", "none"), ([], ["--log-version=7"], ["--log-version=auto"])):
+                for file, why in (("missing", b"cannot read"), ("file", b"bad line 2")):
+                    what = f"{command} {version} {log} {file}"
+                    trials.want(what, asked(program, room, [command, *version, log, file]), refused(why))
+                    trials.want(f"{what}: the log that was missing", os.path.exists(f"{room}/none"), False)
         trials.want(f"{command}: the file that is no log", read(f"{room}/log"), b"hello")
-        trials.want(f"{command}: the log that was missing", read(f"{room}/none"), None)
 
 
 def try_through(trials, program, room):

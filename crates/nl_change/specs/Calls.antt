@@ -1,5 +1,5 @@
 -- What each call that changes a log makes of what contracts see of its folder, by the answer: docs/PROMISES.md.
-use Rattle.std.specs.Prelude.{◌≡◌, ◌⊎◌, ◌++◌, ℕ, ℤ, Bool, false, List, [], Option, Some, IsSomeAnd, IsTrue, Result, IsErr, IsErrOf, IfErr}
+use Rattle.std.specs.Prelude.{◌≡◌, ◌⊎◌, ◌++◌, ℕ, ℤ, Bool, false, List, [], Option, None, Some, IsSomeAnd, IsTrue, Result, IsErr, IsErrOf, IfErr}
 use Rattle.std.specs.Prelude.{OnErr, OnOk, if◌then◌else◌}
 use Rattle.std.specs.Result.{IsErrAnd}
 use Rattle.nl_fields.specs.declared.entry.Entry.{Entry}
@@ -26,6 +26,7 @@ use Rattle.nl_session.specs.Machine.{IsFirstNegative, State, all_of}
 use Rattle.nl_session.specs.Opened.{IsLog, survivors}
 use Rattle.nl_session.specs.Runs.{BeginsAt}
 use Rattle.nl_session.specs.View.{StandsAt, View}
+use Rattle.nl_print.specs.VersionOf.{version_of}
 use Rattle.nl_print.specs.Versions.{is_barred}
 use Rattle.nl_texts.specs.Files.{OfBytes}
 use Rattle.nl_texts.specs.declared.fault.ToolFault.{ToolFault}
@@ -149,6 +150,17 @@ pub record ChangesLogAs (version : LogVersion) (m : Meaning) (result : Result (U
   pub seen : ChangesSeen version (is_barred version) m result old new
   pub five : version ≡ Five → ChangesLog m result old new
 
+-- the version is the one that is asked for; where none is, it's the one that the bytes of an honest folder name
+abbrev pub IsVersionFor : Option LogVersion → Option Disk → LogVersion → Type 0
+IsVersionFor (Some asked) disk version = version ≡ asked
+IsVersionFor None disk version = (d : Disk) → disk ≡ Some d → version ≡ version_of d.visible
+
+-- the same of a log of the version that is asked for, or else of the one that it has
+pub record ChangesLogFor (asked : Option LogVersion) (m : Meaning) (result : Result (Unit {0}) ToolFault) (old new : FolderView) : Type 0 where
+  pub version : LogVersion
+  pub chosen : IsVersionFor asked old.disk version
+  pub call : ChangesLogAs version m result old new
+
 -- ---- what stands about it
 
 -- a file couldn't be read, or has this bad line, and the folder is as it came
@@ -197,3 +209,9 @@ pub record Repairs (result : Result (Unit {0}) ToolFault) (old new : Option Disk
   pub keeps : (start : History) → BeginsAt start old → OfAllFound (HasTable start) new
   pub contents : (d : Disk) → old ≡ Some d → OnOk result (IsRepaired d.visible new)
   pub again : (d : Disk) → old ≡ Some d → OnOk result (StaysRepaired new)
+
+-- the same of a log of the version that is asked for, or else of the one that it has
+pub record RepairsFor (asked : Option LogVersion) (result : Result (Unit {0}) ToolFault) (old new : Option Disk) : Type 0 where
+  pub version : LogVersion
+  pub chosen : IsVersionFor asked old version
+  pub repairs : Repairs result (seen_as_version version old) (seen_as_version version new)

@@ -6,11 +6,10 @@ ghost use Rattle.nl_words.specs.declared.version.AskedVersion.{AskedVersion};
 
 use crate::files::open;
 use crate::notes::{NotedReader, NotedWriter, Notes};
-use crate::version_choice::chosen_in;
+use crate::version_choice::{chosen_in, number_of};
 use nl_change::{apply_any, entry_as, recompact_as, record_as, repair_as, restat_as};
 use nl_disk::{DiskFolder, SystemFile};
 use nl_lines::LogVersion;
-use nl_print::version_in;
 use nl_texts::ToolFault;
 use nl_words::AskedVersion;
 use std::alloc::Global;
@@ -25,6 +24,17 @@ pub fn or_five(asked: Option<AskedVersion>) -> AskedVersion
     match asked {
         Some(asked) => asked,
         None => AskedVersion::Five,
+    }
+}
+
+// A log is of the version that its first line names, where none is asked for.
+pub fn or_auto(asked: Option<AskedVersion>) -> AskedVersion
+    ensures none { asked ≡ None → result ≡ AskedVersion.Auto }
+    ensures some { (version : AskedVersion) → asked ≡ Some version → result ≡ version }
+{
+    match asked {
+        Some(version) => version,
+        None => AskedVersion::Auto,
     }
 }
 
@@ -107,15 +117,9 @@ where
     F::File: SystemFile,
     ensures faults { IfErr result IsRecompactFault }
 {
-    let (folder, version) = chosen_in(asked, folder);
-    match version {
-        Ok(version) => {
-            let names = NotedReader::new(names, &mut notes.heard);
-            let done = recompact_as(alloc, version, folder, names);
-            noted(done, notes)
-        }
-        Err(fault) => noted((folder, Err(fault)), notes),
-    }
+    let names = NotedReader::new(names, &mut notes.heard);
+    let done = recompact_as(alloc, number_of(asked), folder, names);
+    noted(done, notes)
 }
 
 pub fn restat_in<R: Files + Clock>(
@@ -145,15 +149,9 @@ where
     F::File: SystemFile,
     ensures faults { IfErr result IsRestatFault }
 {
-    let (folder, version) = chosen_in(asked, folder);
-    match version {
-        Ok(version) => {
-            let pairs = NotedReader::new(pairs, &mut notes.heard);
-            let done = restat_as(alloc, version, folder, pairs);
-            noted(done, notes)
-        }
-        Err(fault) => noted((folder, Err(fault)), notes),
-    }
+    let pairs = NotedReader::new(pairs, &mut notes.heard);
+    let done = restat_as(alloc, number_of(asked), folder, pairs);
+    noted(done, notes)
 }
 
 pub fn apply_in<R: Runtime>(
@@ -197,6 +195,7 @@ where
 pub fn repair_in<R: Files + Clock>(
     rt: &R,
     alloc: Global,
+    asked: AskedVersion,
     log: &str,
     notes: &mut Notes,
 ) -> Result<(), ToolFault>
@@ -204,11 +203,12 @@ where
     R::File: SystemFile,
     ensures faults { IfErr result IsRecordFault }
 {
-    repair_noted(alloc, DiskFolder::new(rt, alloc, log)?, notes)
+    repair_noted(alloc, asked, DiskFolder::new(rt, alloc, log)?, notes)
 }
 
 fn repair_noted<F: Files + Clock + Drop>(
     alloc: Global,
+    asked: AskedVersion,
     folder: DiskFolder<F>,
     notes: &mut Notes,
 ) -> Result<(), ToolFault>
@@ -216,11 +216,7 @@ where
     F::File: SystemFile,
     ensures faults { IfErr result IsRecordFault }
 {
-    let (folder, version) = version_in(folder);
-    match version {
-        Ok(version) => noted(repair_as(alloc, version, folder), notes),
-        Err(fault) => noted((folder, Err(fault)), notes),
-    }
+    noted(repair_as(alloc, number_of(asked), folder), notes)
 }
 
 // What was answered over a folder, of which it is noted why it last failed, and how a log of another version begins.

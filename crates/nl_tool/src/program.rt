@@ -2,7 +2,7 @@
 ghost use Rattle.std.specs.Prelude.{◌≡◌, IfErr, IfOk, OnOk};
 ghost use Rattle.nl_tool.specs.Faults.{AsksForDamage, CanBeDone, IsFaultOf};
 
-use crate::changing::{apply_in, or_five, recompact_in, record_in, repair_in, restat_in};
+use crate::changing::{apply_in, or_auto, or_five, recompact_in, record_in, repair_in, restat_in};
 use crate::notes::Notes;
 use crate::printing::{Printing, damage_in, entries_in, print_file, print_log, print_noted};
 use nl_disk::SystemFile;
@@ -84,7 +84,7 @@ where
         Words::Restat { log, times } => {
             restat_in(rt, alloc, or_five(version), log, times, notes)
         }
-        Words::Repair(log) => repair_in(rt, alloc, log, notes),
+        Words::Repair(log) => repair_in(rt, alloc, or_auto(version), log, notes),
         Words::Apply { log, script } => apply_in(rt, alloc, log, script, notes),
     };
     done?;

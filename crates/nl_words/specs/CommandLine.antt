@@ -84,7 +84,7 @@ restat = with_rule (with_rule (with_rule (new_app (codes "restat"))
     version_rule
 
 abbrev pub repair : App
-repair = with_rule (new_app (codes "repair")) (positional (codes "LOG") true)
+repair = with_rule (with_rule (new_app (codes "repair")) (positional (codes "LOG") true)) version_rule
 
 abbrev pub replay : App
 replay = with_rule (new_app (codes "replay")) (positional (codes "SCRIPT") false)

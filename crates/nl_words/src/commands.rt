@@ -23,6 +23,9 @@ const LOG_VERSION: &str =
 const HASH_VERSION: &str =
     "5, 6 or 7: the version of the logs that hold the hash; auto: 5, as where it is left out";
 
+const OWN_VERSION: &str =
+    "5, 6 or 7: the version of LOG; auto: the one that its first line names, as where it is left out";
+
 // The command with one more value, which stands by its place.
 fn with_value<'a>(
     alloc: Global,
@@ -167,7 +170,7 @@ A newline at the end of FILE is a byte of it, so a command that has none is hash
 
   printf %s \"$command\" | nlog hash-file",
         );
-    with_value(
+    let command = with_value(
         alloc,
         command,
         "FILE",
@@ -290,14 +293,16 @@ pub fn repair_command<'a>(alloc: Global) -> Result<Command<'a>, AllocError>
         .after_help(
             "\
 What is torn, skipped or stale is gone after it, version 4 is 5, and what a device forgot is written
-anew. The new log is written to LOG.recompact, and renamed over LOG. A LOG that is missing is made.
-What `damage` prints of LOG can't be seen after it, so it is kept first, as by
+anew. The new log is written to LOG.recompact, and renamed over LOG. A LOG that is missing is made: one
+of version 5, or of 6 for Ninja 1.12 or 7 for 1.13 where `--log-version` has that number. What `damage`
+prints of LOG can't be seen after it, so it is kept first, as by
 
   nlog damage .ninja_log >> damaged || { test $? = 3 && nlog repair .ninja_log; }
 
 No build by Ninja may change LOG meanwhile; another nlog waits.",
         );
-    with_value(alloc, command, "LOG", true, ANY_LOG)
+    let command = with_value(alloc, command, "LOG", true, ANY_LOG)?;
+    with_version(alloc, command, OWN_VERSION)
 }
 
 pub fn replay_command<'a>(alloc: Global) -> Result<Command<'a>, AllocError>
