@@ -227,6 +227,9 @@ BEFORE_THE_COMMAND = b"""error: unexpected argument '--log-version' found
 Usage: nlog --version
 """ + MORE
 
+# Logs of versions that are long, by their names.
+LONG_VERSIONS = {"digits18": b"8" * 18, "digits19": b"9" * 19, "digits500": b"1" * 500, "digits": b"7" * 262_130}
+
 # Words, where INPUT is standard input and `file` is FILE, `four`, `six` and `seven` FOUR, SIX and SEVEN, `eight` a log of version 8; the status and both outputs.
 WORDS = [
     ([], 0, INPUT_SHOWN, b""),
@@ -398,6 +401,8 @@ WORDS = [
     (["restat", "-v", "six", "pairs"], 1, b"", OTHER_VERSION + b"nlog: LOG six: version 6\n"),
     (["show", "-v", "seven"], 1, b"", OTHER_VERSION + b"nlog: LOG seven: version 7\n"),
     (["show", "-v", "--log-version", "7", "four"], 1, b"", OTHER_VERSION + b"nlog: LOG four: version 4\n"),
+    # A version of any length, from a file, from standard input and from the log that is to be changed.
+    *[([word, "-v", log, *rest], 1, b"", OTHER_VERSION + b"nlog: LOG %s: version %s\n" % (log.encode(), digits)) for log, digits in LONG_VERSIONS.items() for word, *rest in (["show"], ["damage"], ["record", "1", "2", "3", "n", "c"], ["recompact", "names"])],
     (["record", "-v", "folder", "1", "2", "3", "n", "c"], 1, b"", b"nlog: the folder failed\nnlog: LOG folder: " + A_FOLDER),
     (["record", "-v", "missing/log", "1", "2", "3", "n", "c"], 1, b"", b"nlog: the folder failed\nnlog: LOG missing/log: " + NO_FILE),
     (["record", "-v", "n" * 256, "1", "2", "3", "n", "c"], 1, b"", b"nlog: the folder failed\nnlog: LOG " + b"n" * 256 + b": " + LONG_NAME),
@@ -543,6 +548,8 @@ def try_words(trials, program, room):
     write(f"{room}/four", FOUR)
     write(f"{room}/eight", b"# ninja log v8\n")
     write(f"{room}/header", b"# ninja log v9\n")
+    for name, digits in LONG_VERSIONS.items():
+        write(f"{room}/{name}", b"# ninja log v" + digits + b"\n1\t2\t3\ta\ta\n")
     write(f"{room}/names", b"b\nc\n")
     write(f"{room}/pairs", b"9\tb\n")
     write(f"{room}/script", b"open\nopen")

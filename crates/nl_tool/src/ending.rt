@@ -48,7 +48,7 @@ where
 {
     match read_words(alloc, line) {
         Ok(said) => {
-            let mut notes = Notes::new(said.verbose);
+            let mut notes = Notes::new(alloc, said.verbose);
             let answer = run_noted(rt, alloc, &said, &mut notes);
             end(rt, alloc, &said, answer, &notes)
         }

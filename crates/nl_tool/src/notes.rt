@@ -1,4 +1,4 @@
-//! What the system said of the calls that failed, and how the log that is read begins: kept while a command is done, for
+//! What the system said of the calls that failed, and the first line of the log that is read: kept while a command is done, for
 //! whoever asks why it was refused.
 ghost use Rattle.std.specs.Prelude.{◌≡◌, None, Some, IfErr};
 ghost use Rattle.std.specs.Io.{ReadsAtMost, WritesAtMost};
@@ -6,10 +6,12 @@ ghost use Rattle.std.specs.Io.KnownBytes.{Keeps, ReadConsumes, WriteAppends};
 
 use nl_disk::Failure;
 use nl_folder::Folder;
+use nl_lines::MAX_LINE;
+use std::alloc::Global;
 use std::io::{self, Read, Write};
 
-// How many bytes of a log are kept: its first line, with a version of up to 18 digits.
-const BEGINNING: usize = 32;
+// How many bytes of a log's folder are read at a time.
+const PIECE: usize = 512;
 
 /// What is kept of a command.
 #[derive(Drop)]
@@ -26,7 +28,7 @@ pub struct Notes {
 
 impl Notes {
     /// Nothing is known yet.
-    pub fn new(looks: bool) -> Notes
+    pub fn new(alloc: Global, looks: bool) -> Notes
         ensures none { (result.heard.failure ≡ None) × (result.written ≡ None)
             × (result.folder ≡ None) }
         ensures looks { result.looks ≡ looks }
@@ -35,8 +37,8 @@ impl Notes {
             heard: Heard {
                 failure: None,
                 beginning: Beginning {
-                    bytes: [0; BEGINNING],
-                    len: 0,
+                    bytes: Vec::new(alloc),
+                    goes_on: looks,
                 },
             },
             written: None,
@@ -45,16 +47,11 @@ impl Notes {
         }
     }
 
-    /// Keeps how the log of a folder begins, in the place of what was read before.
+    /// Keeps the first line of the log of a folder, in the place of what was read before.
     pub fn look_at<F: Folder>(&mut self, folder: &mut F)
         ensures kept { self.new.folder ≡ self.old.folder }
     {
-        let mut bytes = [0; BEGINNING];
-        let len = match folder.read_log(0, &mut bytes) {
-            Ok(count) => count,
-            Err(_) => 0,
-        };
-        self.heard.beginning = Beginning { bytes, len };
+        self.heard.look_at(folder);
     }
 }
 
@@ -66,26 +63,45 @@ pub struct Heard {
     pub beginning: Beginning,
 }
 
-/// The first bytes of a file, as far as they were read.
+impl Heard {
+    // Keeps the first line of the log of a folder, in the place of what was read before.
+    fn look_at<F: Folder>(&mut self, folder: &mut F) {
+        self.beginning.bytes.clear();
+        self.beginning.goes_on = true;
+        let mut piece = [0; PIECE];
+        for _ in 0..=MAX_LINE {
+            if !self.beginning.goes_on {
+                return;
+            }
+            match folder.read_log(self.beginning.bytes.len() as u64, &mut piece) {
+                Ok(0) | Err(_) => return,
+                Ok(count) => self.beginning.note(&piece[..count]),
+            }
+        }
+    }
+}
+
+/// The first line of a file, as far as it was read, and there was memory for it.
 #[derive(Drop)]
 pub struct Beginning {
-    bytes: [u8; BEGINNING],
-    len: usize,
+    bytes: Vec<u8>,
+    // Whether what is read next belongs to it.
+    goes_on: bool,
 }
 
 impl Beginning {
     pub fn bytes(&self) -> &[u8] {
-        &self.bytes[..self.len.min(BEGINNING)]
+        self.bytes.as_slice()
     }
 
-    /// Keeps the bytes that were read next, as far as there is room.
+    /// Keeps the bytes that were read next, up to the end of the first line. One that is too long is of no log.
     pub fn note(&mut self, bytes: &[u8]) {
         for byte in bytes {
-            if self.len >= BEGINNING {
+            if !self.goes_on {
                 return;
             }
-            self.bytes[self.len] = *byte;
-            self.len += 1;
+            let is_kept = self.bytes.push(*byte).is_ok();
+            self.goes_on = is_kept && *byte != b'\n' && self.bytes.len() <= MAX_LINE;
         }
     }
 }

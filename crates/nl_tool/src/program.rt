@@ -30,7 +30,7 @@ where
         (λ outcome. outcome ≡ Outcome.Damaged → AsksForDamage line.now.words) }
     ensures faults { IfErr result (IsFaultOf line.now.words) }
 {
-    run_noted(rt, alloc, line, &mut Notes::new(false))
+    run_noted(rt, alloc, line, &mut Notes::new(alloc, false))
 }
 
 /// The same, and notes why what failed has failed.
