@@ -39,7 +39,10 @@ TURNS = [
     (b"# ninja log v8\n", b"open\n", b"S6 OtherVersion\n", 0, b"", b"# ninja log v8\n"),
     (HEADER + A, b"stop\nopen\nstop\nopen\nget\ta\n", b"S1 NotOpen\nok\nok\nok\n" + A, 0, b"", HEADER + A),
     # A line that is too long, and the longest one.
-    (HEADER, b"open\n" + LONG + b"\nget\t" + b"x" * 262139 + b"\nget\ta\n", b"ok\nbad line\nnone\nnone\n", 0, b"", HEADER),
+    (HEADER, b"open\n" + LONG + b"\nrecompact\t" + b"x" * 262133 + b"\nget\ta\n", b"ok\nbad line\nbad line\nnone\n", 0, b"", HEADER),
+    # The longest name, and what can be none.
+    (HEADER, b"open\nget\t" + b"x" * 65536 + b"\nget\t" + b"x" * 65537 + b"\nget\t\nget\ta\tb\nget\ta\0\n", b"ok\nnone\n" + b"bad line\n" * 4, 0, b"", HEADER),
+    (None, b"get\t\nget\ta\tb\nget\ta\n", b"bad line\nbad line\nS1 NotOpen\n", 0, b"", b""),
     # More names than a line may hold keep nothing and drop nothing; a carriage return is a part of the last name.
     (HEADER + A, b"open\nrecompact" + b"\tname" * 52427 + b"\nget\ta\n", b"ok\nbad line\n" + A, 0, b"", HEADER + A),
     (HEADER + A, b"open\r\nget\ta\n", b"bad line\nS1 NotOpen\n", 0, b"", HEADER + A),

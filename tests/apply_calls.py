@@ -6,7 +6,8 @@
 Wants strace, and that it may trace. A script of one line of each kind runs on logs of several kinds. Where the program is killed as a call
 begins, or the call fails with EIO or EINTR, for each call in turn: the answers are those of the script, up to a first refusal, from which on
 no line changes the log; the log has the table behind the lines that were answered, or the one more that was on its way, each entry whole;
-status 0 with all answers comes only of a log that has it all; and an `apply` after it finds the table that is there.
+status 0 with all answers comes only of a log that has it all; what was recorded is synced before a `stop` is answered; and an `apply` after
+it finds the table that is there.
 
 Then each sync in turn fails in a run that opens the log again: where it was the log's own, the next open puts a new file in its place, and all
 goes on; where it was the folder's, no open succeeds.
@@ -137,11 +138,20 @@ def disturbed(program, kind, room, how, call):
     return wrong
 
 
+def stop_syncs(trials, kind, calls):
+    """What was recorded last is synced before the `stop` behind it is answered."""
+    recorded = max((at for at, call in enumerate(calls) if re.match(r"write\(\d+<[^>]*/LOG>", call)), default=0)
+    answered = max((at for at, call in enumerate(calls) if call.startswith("write(1<")), default=0)
+    synced = [at for at, call in enumerate(calls) if re.match(r"f(data)?sync\(\d+<[^>]*/LOG>", call)]
+    trials.check(f"{kind.name}: a stop syncs before it is answered", any(recorded < at < answered for at in synced), f"{recorded}, {synced}, {answered}")
+
+
 def sweep(trials, program, kind, room, pool):
     ended, calls = traced(program, kind, f"{room}/whole")
     trials.want(f"{kind.name}: the answers", ended, (0, b"".join(kind.answers), b""))
     left = read(f"{room}/whole/LOG") or b""
     trials.want(f"{kind.name}: the log", as_version(left, kind.version), HEADER + lines_of(kind.tables[-1]))
+    stop_syncs(trials, kind, calls)
     counts, chosen = {}, []
     for call in calls:
         word = call.split("(")[0]

@@ -337,7 +337,7 @@ record START END MTIME NAME HASH  adds an entry
 sync                              makes what was recorded durable
 recompact [NAME ..]               rewrites LOG with the last entry of each output, as `open` keeps it
 restat [MTIME NAME ..]            rewrites LOG with these time stamps
-stop                              closes LOG
+stop                              makes what was recorded durable, and closes LOG
 get NAME                          answers the last entry of NAME, or `none`
 table                             answers the last entry of each output, a line each, and then `end`
 
