@@ -6,10 +6,12 @@
 Wants to be root with the right to mount, /dev/fuse, loop devices, and the file systems with their mkfs; it says what it skips.
 
 On each file system the commands that change a log run over logs of each kind. Between them logs are written line by line without a sync,
-as Ninja does, and another program syncs another file. Then so many images of the disk are made: its writes up to some moment, where of
-those since the last flush each may be lost or torn. Each is mounted, so that the file system repairs itself, and read.
+as Ninja does; logs are kept by `apply` and by the library's writer, which sync now and then; and another program syncs another file. Then so
+many images of the disk are made: its writes up to some moment, where of those since the last flush each may be lost or torn. Each is
+mounted, so that the file system repairs itself, and read.
 
 - A log that a command changed has to be one that the rules allow, and the changed one where the command had ended.
+- Of a log that `apply` or the writer keeps, what a sync, a stop or a close acknowledged has to be there, each entry whole.
 - Of a log that was written line by line, what was synced has to be there. The rest is compared with docs/DISK_MODEL.md.
 - What is in the model, `check` and `show` have to read, and a `record` to mend.
 
@@ -23,6 +25,7 @@ import os
 import random
 import shutil
 import signal
+import subprocess
 import sys
 import time
 from collections import Counter, namedtuple
@@ -62,6 +65,9 @@ COMMON = ["ext4", "xfs", "btrfs"]
 CASES = [*itertools.product(CHANGES, KINDS), *[("record", "a missing log")] * 12]
 # How many sets of logs are written line by line, and how many lines each.
 SETS, LINES = 8, 20
+TOP = os.path.dirname(os.path.dirname(os.path.abspath(__file__)))
+# The driver of the library's writer, where it can be built.
+DRIVER = {"path": None}
 # What a log of an image is. `prefix`, and with a tail `zeros` or `tail` (other bytes): as the model allows. `new tail`: it has a tail, and
 # nobody ever synced it; `new zeros`: and by that it is no log. `no log`: it is zeros alone, and a command was about to make it. `outside`:
 # lost bytes have others of the log behind them. `lost`: none of these.
@@ -168,6 +174,9 @@ class Recording:
             os.makedirs(self.path(f"set{number}"))
             write(self.path(f"set{number}/old"), HEADER + self.lines(3))
             write(self.path(f"set{number}/cut"), HEADER + self.lines(2) + b"7\t8\t9\t" + b"torn" * (number + 1) ** 3)
+            for who in self.keepers():
+                os.makedirs(self.path(f"{who}{number}"))
+                write(self.path(f"{who}{number}/LOG"), HEADER + self.lines(2))
         write(self.path("other"), b"")
         self.sync(self.path("."), LIBC.syncfs)
         self.disk.ask("begin")
@@ -195,6 +204,8 @@ class Recording:
                     self.change(number, *case)
                     if number < SETS:
                         self.write_set(f"set{number}")
+                        for who in self.keepers():
+                            self.keep(who, f"{who}{number}/LOG")
             finally:
                 self.is_done = True
             other.result()
@@ -235,6 +246,44 @@ class Recording:
                 self.mark(f"{folder}/cut", files["cut"])
                 os.truncate(self.path(f"{folder}/cut"), whole)
             time.sleep(self.chance.choice([0, 0, 0.001, 0.01]))
+
+    @staticmethod
+    def keepers():
+        """Who keeps a log open: the words of its lines, and what it answers where all went well."""
+        return {"apply": b"ok"} if DRIVER["path"] is None else {"apply": b"ok", "writer": b"NLOG_OK"}
+
+    def keep(self, who, name):
+        """A log that is kept open by one who is asked, line by line: what is acknowledged by a sync, or at the end, is durable."""
+        words = [Worker.program, "apply", self.path(name)] if who == "apply" else [DRIVER["path"], "write", self.path(name), "0"]
+        file, done = Growing(read(self.path(name))), self.keepers()[who]
+        with subprocess.Popen(words, stdin=subprocess.PIPE, stdout=subprocess.PIPE, cwd="/") as it:
+            def ask(line):
+                it.stdin.write(line + b"\n")
+                it.stdin.flush()
+                answer = it.stdout.readline().strip()
+                if answer != done:
+                    self.wrong.append(f"{who} answers {answer!r} to {line!r}")
+
+            ask(b"open")
+            for _ in range(LINES):
+                line = self.lines(1)
+                file.append(line)
+                self.mark(name, file)
+                numbers, output, digits = line[:-1].split(b"\t")[:3], *line[:-1].split(b"\t")[3:]
+                if who == "apply":
+                    ask(b"record\t" + line[:-1])
+                else:
+                    ask(b"record " + b" ".join([*numbers, digits, output.hex().encode()]))
+                self.after(name, file)
+                if self.chance.random() < 0.3:
+                    ask(b"sync")
+                    file.sync()
+                    self.mark(name, file)
+            ask(b"stop" if who == "apply" else b"close")
+            file.sync()
+            self.mark(name, file)
+        if read(self.path(name)) != file.visible:
+            self.wrong.append(f"{who} left another log than it was asked for")
 
     def after(self, name, file):
         """What comes behind a line: mostly nothing; or the system writes the file, as it does when its bytes have waited for long, and
@@ -426,6 +475,20 @@ def why_not_here(room):
     return None
 
 
+def build_driver(trials, room):
+    """Builds the driver of the library's writer, where there is what that takes."""
+    if shutil.which("rt") is None or shutil.which("cc") is None:
+        return trials.skip("logs that the library's writer keeps", "rt or cc isn't there")
+    archive, driver = f"{room}/libnlog.a", f"{room}/driver"
+    made = run([f"{TOP}/lib/archive.sh", archive], timeout=1800)
+    if made[0] == 0:
+        words = ["cc", "-std=c11", "-O2", "-D_POSIX_C_SOURCE=200809L", "-I", f"{TOP}/include", f"{TOP}/tests/clib/driver.c", archive, "-o", driver]
+        made = run(words)
+    if trials.check("the driver of the writer is built", made[0] == 0, (made[1] + made[2])[-400:].decode(errors="replace")):
+        DRIVER["path"] = driver
+    return None
+
+
 def too_long(*_):
     raise TimeoutError("it takes too long")
 
@@ -434,6 +497,7 @@ def trial(trials, program, room, images, seconds, names):
     why = why_not_here(room)
     if why:
         return trials.skip("all of it", why)
+    build_driver(trials, room)
     signal.signal(signal.SIGTERM, lambda *_: sys.exit(1))
     signal.signal(signal.SIGALRM, too_long)
     print(f"{trials.script}: " + ROW.format("images in which a log is", "writes", "images", *VERDICTS))
