@@ -179,8 +179,8 @@ class Others:
 ACTIONS = ["removes", "renames", "renames_and_renames_back", "replaces", "replaces_by_a_copy", "replaces_and_another_nlog_records", "links_another_name_to_it",
            "appends", "appends_a_part_of_a_line", "appends_zeros", "empties", "cuts_the_last_line"]
 BY_NINJA = ["has_ninja_recompact", "builds_by_ninja"]
-# Those that write entries of their own.
-WRITERS = {"appends", "replaces_and_another_nlog_records", "builds_by_ninja"}
+# Those that write entries of their own: Ninja reads some damaged lines as entries, and writes these anew.
+WRITERS = {"appends", "replaces_and_another_nlog_records", "builds_by_ninja", "has_ninja_recompact"}
 # Those that take bytes away from the file: a line that is written behind such a cut may stand where the first line was.
 CUTTERS = {"empties", "cuts_the_last_line"}
 
@@ -190,8 +190,9 @@ class Play:
 
     def __init__(self, speaker, others):
         self.speaker, self.others, self.log = speaker, others, others.log
-        # The table that a load has to find once it is acknowledged, but for the names that others wrote since the open.
-        self.wanted, self.theirs = {}, set()
+        # The table that a load has to find once it is acknowledged, but for the names that others wrote since the open; and whether
+        # anything of it is yet to be acknowledged.
+        self.wanted, self.theirs, self.is_pending = {}, set(), False
         # Whether the log is open; whether it may be another file by now; whether it was cut while it was open.
         self.is_open, self.is_touched, self.is_cut = False, False, False
         # All entries that were ever written, by whomever.
@@ -218,10 +219,15 @@ class Play:
         if what == "open":
             return self.opened(text)
         if what == "record":
-            self.wanted[name] = entry
+            self.wanted[name], self.is_pending = entry, True
             return None
         if what == "restat" and name in self.wanted:
             self.wanted[name] = entry
+        if what == "close" and not self.is_pending:
+            # (what was acknowledged before may be gone since: a close says nothing of it)
+            self.is_open = False
+            return None
+        self.is_pending = False
         if what in KEEPERS and (text is None or not self.has_all(table_of(text))):
             return f"it is acknowledged, and the log is {text!r}; wanted: {self.wanted}"
         if what == "close":
@@ -234,7 +240,7 @@ class Play:
 
     def opened(self, text):
         """What is wrong with a log that was just opened."""
-        self.is_open, self.is_touched, self.theirs = True, False, set()
+        self.is_open, self.is_touched, self.is_pending, self.theirs = True, False, False, set()
         if text is None or not text.endswith(b"\n"):
             return f"an open is acknowledged, and the log is {text!r}"
         if not is_locked(self.log):

@@ -28,6 +28,7 @@ import time
 from concurrent.futures import ThreadPoolExecutor
 
 import apply_calls
+import between
 import crash_states
 import full_disk
 import short_writes
@@ -993,6 +994,23 @@ def moved(trials, made, room):
                 shutil.rmtree(f"{room}/{name}")
 
 
+class Writer(between.Apply):
+    """The library's writer on a log, as between.py asks it."""
+
+    def ask(self, what, name=None, entry=None):
+        line = what
+        if what == "record":
+            line = "record %d %d %d %x %s" % (*entry, name.hex())
+        if what == "restat":
+            self.say(f"time {entry[2]} {name.hex()}")
+        return self.say(line) == "NLOG_OK"
+
+
+def changed_between(trials, made, program, room):
+    """Somebody else changes the log between any two calls: the rules are those of between.py."""
+    between.tries(trials, program, lambda folder: Writer([made["C11"], "write", between.LOG, "0"], folder), f"{room}/between", "the writer")
+
+
 def close_on_exec(pid, folder):
     """The open files of a process in a folder, and whether each is close-on-exec; None where that can't be told."""
     if not os.path.isdir(f"/proc/{pid}/fdinfo"):
@@ -1420,6 +1438,7 @@ def trial(trials, program, room):
     lives_on(trials, made, room)
     kept_away(trials, made, room)
     moved(trials, made, room)
+    changed_between(trials, made, program, room)
     at_once(trials, made, program, room)
     shares(trials, made, program, room)
     killed(trials, made, room)
