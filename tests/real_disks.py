@@ -36,7 +36,7 @@ from crash_rules import KINDS, Rules, State, Sweep, Worker, in_parts, lines_of
 from disk_model import File
 from log_format import HEADER, line_of, reading_of
 from recording_disk import LIBC, MS_RDONLY, Blocks, Recorded, RecordingDisk, Served, leave_mounts, loop_device, mount, unmount, unmount_below
-from trials import main, read, run, short, usage, write
+from trials import main, read, run, short, usage, write, writer_driver
 
 SEED = 20240229
 # How many images are made of a mode where the words don't say, and for how many seconds at most; else each may take a second.
@@ -65,7 +65,6 @@ COMMON = ["ext4", "xfs", "btrfs"]
 CASES = [*itertools.product(CHANGES, KINDS), *[("record", "a missing log")] * 12]
 # How many sets of logs are written line by line, and how many lines each.
 SETS, LINES = 8, 20
-TOP = os.path.dirname(os.path.dirname(os.path.abspath(__file__)))
 # The driver of the library's writer, where it can be built.
 DRIVER = {"path": None}
 # What a log of an image is. `prefix`, and with a tail `zeros` or `tail` (other bytes): as the model allows. `new tail`: it has a tail, and
@@ -475,20 +474,6 @@ def why_not_here(room):
     return None
 
 
-def build_driver(trials, room):
-    """Builds the driver of the library's writer, where there is what that takes."""
-    if shutil.which("rt") is None or shutil.which("cc") is None:
-        return trials.skip("logs that the library's writer keeps", "rt or cc isn't there")
-    archive, driver = f"{room}/libnlog.a", f"{room}/driver"
-    made = run([f"{TOP}/lib/archive.sh", archive], timeout=1800)
-    if made[0] == 0:
-        words = ["cc", "-std=c11", "-O2", "-D_POSIX_C_SOURCE=200809L", "-I", f"{TOP}/include", f"{TOP}/tests/clib/driver.c", archive, "-o", driver]
-        made = run(words)
-    if trials.check("the driver of the writer is built", made[0] == 0, (made[1] + made[2])[-400:].decode(errors="replace")):
-        DRIVER["path"] = driver
-    return None
-
-
 def too_long(*_):
     raise TimeoutError("it takes too long")
 
@@ -497,7 +482,7 @@ def trial(trials, program, room, images, seconds, names):
     why = why_not_here(room)
     if why:
         return trials.skip("all of it", why)
-    build_driver(trials, room)
+    DRIVER["path"] = writer_driver(trials, room)
     signal.signal(signal.SIGTERM, lambda *_: sys.exit(1))
     signal.signal(signal.SIGALRM, too_long)
     print(f"{trials.script}: " + ROW.format("images in which a log is", "writes", "images", *VERDICTS))

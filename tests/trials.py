@@ -81,6 +81,20 @@ def run(words, **how):
     return ran.returncode, ran.stdout, ran.stderr
 
 
+def writer_driver(trials, room):
+    """Builds the driver of the library's writer (tests/clib/driver.c), and gives its path; or None where there isn't what that takes."""
+    top = os.path.dirname(os.path.dirname(os.path.abspath(__file__)))
+    if shutil.which("rt") is None or shutil.which("cc") is None:
+        return trials.skip("what the library's writer does", "rt or cc isn't there")
+    archive, driver = f"{room}/libnlog.a", f"{room}/driver"
+    made = run([f"{top}/lib/archive.sh", archive], timeout=1800)
+    if made[0] == 0:
+        words = ["cc", "-std=c11", "-O2", "-D_POSIX_C_SOURCE=200809L", "-I", f"{top}/include", f"{top}/tests/clib/driver.c"]
+        made = run([*words, archive, "-o", driver])
+    is_made = trials.check("the driver of the library's writer is built", made[0] == 0, (made[1] + made[2])[-400:].decode(errors="replace"))
+    return driver if is_made else None
+
+
 def read(path):
     """The bytes of a file, or None where it is missing."""
     try:

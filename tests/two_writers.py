@@ -6,7 +6,7 @@
 The first is an `apply` that is kept open by its input, or this trial, which takes the lock as a command does. Where the first
 doesn't end and changes nothing, the second is refused after 10 seconds, and the log stays. A list of names that is missing or bad is refused at once.
 Then four records at once, 100 times on each of four logs, also with a recompact among them, and with kills: what ended with status 0 stands.
-And another program, which takes no lock, renames or removes the log of an `apply`, or writes to it: what is acknowledged from then on is in LOG.
+Writers of the library for C among them too. And another program, which takes no lock, renames or removes the log of an `apply`, or writes to it: what is acknowledged from then on is in LOG.
 """
 import fcntl
 import os
@@ -18,7 +18,7 @@ import time
 from concurrent.futures import ThreadPoolExecutor
 
 from log_format import HEADER, Log, line_of
-from trials import SECONDS, main, read, write
+from trials import SECONDS, main, read, write, writer_driver
 
 ENTRY = (1, 2, 3, 4)
 START = HEADER + line_of(b"a", ENTRY) + line_of(b"b", ENTRY)
@@ -238,7 +238,39 @@ def try_rounds(trials, program, room):
             trials.check(f"four records at once{kind}, on a {start} log, round {number}", wrong is None, wrong or "")
 
 
+def play_library(program, driver, room, number):
+    """Two writers of the library, two records and a recompact at once, on one of the logs: what is wrong with how it ended, or None."""
+    os.makedirs(room)
+    write(f"{room}/LOG", [*STARTS.values()][number % len(STARTS)])
+    write(f"{room}/KEEP", b"\n".join([b"a", b"b", *NAMES]) + b"\n")
+    running = {name: begin([program, "record", "LOG", "1", "2", "3", name.decode(), "c"], room) for name in NAMES[:2]}
+    running[b"recompact"] = begin([program, "recompact", "LOG", "KEEP"], room)
+    for name in NAMES[2:]:
+        running[name] = begin([driver, "write", "LOG", "0"], room)
+        running[name].stdin.write(b"open\nrecord 1 2 3 4 %s\nclose\n" % name.hex().encode())
+        running[name].stdin.flush()
+    ended = {name: (*it.communicate(timeout=SECONDS), it.returncode) for name, it in running.items()}
+    wanted = {name: (b"NLOG_OK\n" * 3 if name in NAMES[2:] else b"", b"", 0) for name in running}
+    table = set(Log(read(f"{room}/LOG")).table)
+    if ended == wanted and table >= {*NAMES}:
+        shutil.rmtree(room)
+        return None
+    return f"ended so: {ended}, and the log has {table}"
+
+
+def try_library(trials, program, room):
+    """Writers of the library beside the commands: none is refused, and what each acknowledged stands."""
+    os.makedirs(room)
+    driver = writer_driver(trials, room)
+    if driver is None:
+        return
+    with ThreadPoolExecutor(os.cpu_count()) as pool:
+        for number, wrong in enumerate(pool.map(lambda it: play_library(program, driver, f"{room}/{it}", it), range(ROUNDS))):
+            trials.check(f"two writers of the library, two records and a recompact, round {number}", wrong is None, wrong or "")
+
+
 def trial(trials, program, room):
+    try_library(trials, program, f"{room}/library")
     try_rounds(trials, program, f"{room}/rounds")
     for number, what in enumerate(SECOND):
         try_both(trials, program, f"{room}/{number}", what)
