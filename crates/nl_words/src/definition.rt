@@ -23,7 +23,7 @@ the command. A LOG that is missing is made one of version 5, but where that opti
 `record`, `recompact`, `restat` and `repair` first repair a LOG that a crash cut off, and make what
 they change durable before they end. `record` takes one entry, and `apply` many, one by one.
 
-What changes LOG locks it first, and waits 10 seconds at most for another `nlog` that has it locked.
+What changes LOG locks it first, and waits a minute at most for another `nlog` that has it locked.
 Ninja locks nothing, and a build by it changes LOG until the build ends. So run `record`,
 `recompact`, `restat`, `repair` and `apply` while no build by Ninja runs.
 
