@@ -1,7 +1,8 @@
 /* nlog.h: Ninja's build log (.ninja_log, versions 4 to 7) for C and C++. docs/LIBRARY.md has an example of each part.
  *
- * Part 1 reads a log that stands in memory, and part 2 writes one in memory, whose changes the caller carries to a file. Both are proved, but
- *   for nlog_next_damage: what each status means is a clause of crates/nl_c/src/exports.rt.
+ * Part 1 reads a log that stands in memory, and part 2 writes one in memory, whose changes the caller carries to a file. Both are proved:
+ *   what each status means is a clause of crates/nl_c/src/exports.rt. Tested and not proved are nlog_next_damage, and that a call which only
+ *   reads leaves its handle as it is (lib/nlog_reads.c).
  * Part 3 writes a log on disk, in the caller's process: it carries part 2's changes to the file. It is C code, lib/nlog_writer.c, which is
  *   tested and not proved.
  *
@@ -257,7 +258,8 @@ nlog_status nlog_clear_marks(nlog *log);
  *   old one. The path is looked up by nlog_writer_open: the folder that it names then is held open until the close, wherever it is moved to.
  * Others: nobody else writes, removes or replaces the log while it is open, but writers that share it. Before each sync, each close that syncs
  *   and each rewriting the log is looked at, and where another file stands there, none, or one of another length, the call answers NLOG_FAULT,
- *   with ESTALE or ENOENT and "stat", and changes nothing. What was recorded since the last sync may then be lost.
+ *   with ESTALE or ENOENT and "stat", and changes nothing. What was recorded since the last sync may then be lost. What another program puts
+ *   there between the look and the end of the call isn't seen.
  * Memory: an open log takes its text and its table, and while it is opened its text once more; the close frees them.
  *   Where there is none, a call answers NLOG_OUT_OF_MEMORY, and no file was changed, but where the call says more. Whether the log is then
  *   still open, and the call may be made again, nlog_writer_is_open tells: where memory ran out within the text, the writer is broken.
