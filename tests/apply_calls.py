@@ -9,8 +9,8 @@ no line changes the log; the log has the table behind the lines that were answer
 status 0 with all answers comes only of a log that has it all; what was recorded is synced before a `stop` is answered; and an `apply` after
 it finds the table that is there.
 
-Then each sync in turn fails in a run that opens the log again: where it was the log's own, the next open puts a new file in its place, and all
-goes on; where it was the folder's, no open succeeds.
+Then each sync in turn fails in a run that opens the log again. If it was the log's own, the next open puts a new file in its place, and all
+goes on. If it was the first of all, or the folder's, no open succeeds.
 """
 import os
 import re
@@ -187,7 +187,8 @@ def answers_on(failed, is_of_log):
         word = line.split(b"\t")[0]
         refused = {"closed": b"S1 NotOpen", "broken": b"S3 Broken"}.get(mode)
         fails = number == failed or is_lost and word == b"open"
-        is_lost |= number == failed and not is_of_log
+        # (a folder that was never synced takes no replacement)
+        is_lost |= number == failed and (number == 0 or not is_of_log)
         if word == b"open":
             mode, answer = ("closed", b"S8 Fault") if fails else ("open", b"ok")
         elif word == b"stop" and mode != "closed":
@@ -224,7 +225,7 @@ def goes_on(trials, program, room):
             answers, table = answers_on(line, is_of_log)
             trials.want(f"{what}: the answers", ended[1], answers)
             trials.want(f"{what}: the table", Log(as_version(read(f"{room}/{version}-{nth}/LOG"), version)).table, table)
-            opens_again = is_of_log and line < 4
+            opens_again = is_of_log and 0 < line < 4
             trials.want(f"{what}: whether the log is a new file", is_new, opens_again)
 
 
