@@ -1,5 +1,5 @@
 //! How long a lock is waited for, and how often it is asked for.
-ghost use Rattle.std.specs.Prelude.{◌≡◌, ◌≤◌, ◌<◌, ◌⊎◌, IfSome, None, Some};
+ghost use Rattle.std.specs.Prelude.{◌≡◌, ◌≢◌, ◌≤◌, ◌<◌, ◌+◌, ◌⊎◌, IfSome, None, Some};
 
 use crate::file_id::FileId;
 use std::fs::Metadata;
@@ -53,7 +53,9 @@ pub struct Wait {
 }
 
 impl Wait {
-    pub fn new() -> Wait {
+    pub fn new() -> Wait
+        ensures start { (result.sign ≡ None) × (result.still ≡ 0) × (result.all ≡ 0) }
+    {
         Wait {
             sign: None,
             still: 0,
@@ -66,6 +68,10 @@ impl Wait {
     /// after a minute.
     pub fn pause(&mut self, sign: Sign) -> Option<u64>
         ensures some { IfSome result (λ n. (0 < n) × (n ≤ 20)) }
+        ensures counted { IfSome result (λ n. (self.new.all ≡ self.old.all + n)
+            × (self.new.sign ≡ Some sign)
+            × (self.old.sign ≡ Some sign → self.new.still ≡ self.old.still + n)
+            × (self.old.sign ≢ Some sign → self.new.still ≡ n)) }
         ensures none { result ≡ None
             → ((self.old.sign ≡ Some sign) × (self.old.still ≡ 10000)) ⊎ (self.old.all ≡ 60000) }
     {
