@@ -166,7 +166,7 @@ def sweep(trials, program, kind, room, pool):
 
 
 # A run that goes on after a failure: what is asked, and whether that is answered by `ok`.
-ON = [b"open", b"record\t" + line_of(*X)[:-1], b"sync", b"stop", b"open", b"table", b"record\t" + line_of(*Y)[:-1], b"sync", b"stop"]
+ON = [b"open", b"record\t" + line_of(*X)[:-1], b"sync", b"stop", b"open", b"get\tx", b"record\t" + line_of(*Y)[:-1], b"sync", b"stop"]
 
 
 def asked_on(program, text, room, inject=()):
@@ -195,8 +195,8 @@ def answers_on(failed, is_of_log):
             mode, answer = "closed", b"S8 Fault" if fails else b"ok"
         elif refused:
             answer = refused
-        elif word == b"table":
-            answer = lines_of(table) + b"end"
+        elif word == b"get":
+            answer = line_of(b"x", table[b"x"])[:-1] if b"x" in table else b"none"
         elif fails:
             mode, answer = "broken", b"S8 Fault"
         else:
