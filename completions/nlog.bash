@@ -25,7 +25,7 @@ _nlog() {
     done
     if [[ ! $dashes && $word == -* ]]; then
         case ${COMP_WORDS[1]} in
-            show | check | hash | hash-file | record | recompact | restat | repair) mapfile -t COMPREPLY < <(compgen -W '--log-version --verbose -v --help -h' -- "$word") ;;
+            show | check | hash | hash-file | record | recompact | restat | repair | apply) mapfile -t COMPREPLY < <(compgen -W '--log-version --verbose -v --help -h' -- "$word") ;;
             *) mapfile -t COMPREPLY < <(compgen -W '--verbose -v --help -h' -- "$word") ;;
         esac
         return

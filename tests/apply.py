@@ -13,7 +13,7 @@ import sys
 import threading
 import time
 
-from log_format import as_version
+from log_format import as_version, command_hash, command_hash_v7
 from trials import main, read, run, write
 
 BUILD = f"{os.path.dirname(os.path.dirname(os.path.abspath(__file__)))}/examples/build.py"
@@ -63,8 +63,12 @@ BAD = [b"", b"opens", b"open\t", b"open\t\t", b"get", b"gets\ta", b"table\t", b"
        b"fuse\tany\t1", b"record", b"record\t1\t2\t3\ta", b"record\t01\t2\t3\ta\taa", b"record\t1\t2\t3\t\taa", b"restat\t1", b"restat\tx\ta", b"recompact\t", b" sync"]
 
 
-def apply(program, log, lines, **how):
-    return run([program, "apply", log], input=lines, stdin=None, **how)
+def apply(program, log, lines, *words, **how):
+    return run([program, "apply", *words, log], input=lines, stdin=None, **how)
+
+
+def hash_line(command, version):
+    return b"%x\n" % (command_hash_v7(command) if version == 7 else command_hash(command))
 
 
 def turns(trials, program, room):
@@ -118,6 +122,102 @@ def versions(trials, program, room):
         write(log, as_version(held, version))
         trials.want(f"the answers to {what}", apply(program, log, lines), (status, answers, said))
         trials.want(f"the log behind {what}", read(log), as_version(left, version))
+
+
+def hashes(trials, program, room):
+    """The hash of a command is that of the log's version; the longest command, and none of a log that isn't open."""
+    log = f"{room}/hashes.log"
+    commands = [b"", b"cc\tx", b" c\0\r", b"x" * 262138]
+    lines = b"hash\tx\nopen\n" + b"".join(b"hash\t" + it + b"\n" for it in commands) + b"hash\nhash\t" + b"x" * 262139 + b"\nhashes\tx\nstop\nhash\t\n"
+    for version in (4, 5, 6, 7):
+        write(log, b"# ninja log v%d\n" % version)
+        said = b"S1 NotOpen\nok\n" + b"".join(hash_line(it, version) for it in commands) + b"bad line\n" * 3 + b"ok\nS1 NotOpen\n"
+        trials.want(f"the hashes of a log of version {version}", apply(program, log, lines), (0, said, b""))
+
+
+def asked(trials, program, room):
+    """A log that is new, or has no whole first line, is made one of the version that is asked for; one of another is refused, and stays."""
+    log = f"{room}/asked.log"
+    lines = b"open\nhash\tcc\nrecord\t" + A + b"stop\nopen\nget\ta\n"
+    for version in (5, 6, 7):
+        header = as_version(HEADER, version)
+        for held in (None, *(header[:size] for size in range(16))):
+            if os.path.exists(log):
+                os.remove(log)
+            write(log, held)
+            what = f"{held!r} where {version} is asked for"
+            said = b"ok\n" + hash_line(b"cc", version) + b"ok\nok\nok\n" + A
+            trials.want(f"the answers over {what}", apply(program, log, lines, "--log-version", str(version)), (0, said, b""))
+            trials.want(f"the log, {what}", read(log), header + A)
+        for other in (4, 5, 6, 7, 8):
+            if other != version and (version, other) != (5, 4):
+                held = b"# ninja log v%d\n" % other + A
+                said = b"S6 OtherVersion\n" + b"S1 NotOpen\n" * 3 + b"S6 OtherVersion\nS1 NotOpen\n"
+                write(log, held)
+                trials.want(f"the answers over version {other} where {version} is asked for", apply(program, log, lines, f"--log-version={version}"), (0, said, b""))
+                trials.want(f"the log of version {other} where {version} is asked for", read(log), held)
+    four = b"# ninja log v4\n" + A
+    for words in ([], ["--log-version=5"], ["--log-version=auto"]):
+        write(log, four)
+        a = b"1\t2\t3\ta\t" + hash_line(b"aa", 4)
+        trials.want(f"the answers over version 4 by {words}", apply(program, log, b"open\ntable\n", *words), (0, b"ok\n" + a + b"end\n", b""))
+        trials.want(f"the log of version 4 by {words}", read(log), HEADER + a)
+    for held, left in [(None, HEADER), (b"", HEADER), (b"# ninja lo", HEADER), (b"# ninja log v7", b"# ninja log v7\n")]:
+        if os.path.exists(log):
+            os.remove(log)
+        write(log, held)
+        trials.want(f"the answer over {held!r} by auto", apply(program, log, b"open\n", "--log-version", "auto"), (0, b"ok\n", b""))
+        trials.want(f"the log {held!r} by auto", read(log), left)
+
+
+def reopened(trials, program, room):
+    """The version is found anew at each open: another changes the digit of the first line between a `stop` and an `open`, empties the log,
+    removes it or puts another in its place."""
+    for found, then in [(7, 4), (7, 5), (7, 6), (6, 7), (5, 7), (5, 6), (6, 4), (7, 8)]:
+        first = b"1\t2\t3\ta\t" + hash_line(b"aa", 4) if then == 4 else A
+        again(trials, program, room, found, b"# ninja log v%d\n" % then + A, then, first, False)
+    for held, then in [(b"", 5), (b"# ninja lo", 5), (b"# ninja log v6", 6), (None, 5)]:
+        again(trials, program, room, 7, held, then, b"", False)
+    for held, then in [(b"", 5), (b"# ninja log v6\n", 6), (b"# ninja log v7\n" + A, 7)]:
+        again(trials, program, room, 5, held, then, A if A in held else b"", True)
+
+
+def again(trials, program, room, found, held, then, table, is_new):
+    """A log of the version `found` has these bytes, in another file where that is new, before it's opened again; as of the version `then`."""
+    log, new = f"{room}/again.log", f"{room}/again.new"
+    what = f"version {found}, and then {held!r}" + (" of another file" if is_new else "")
+    write(log, b"# ninja log v%d\n" % found + A)
+    child = start(program, log)
+    child.stdin.write(b"open\nhash\tcc\nstop\n")
+    wanted = b"ok\n" + hash_line(b"cc", found) + b"ok\n"
+    trials.want(f"the first answers over {what}", all_heard(child, len(wanted)), wanted)
+    if held is None:
+        os.remove(log)
+    else:
+        write(new if is_new else log, held)
+        if is_new:
+            os.rename(new, log)
+    child.stdin.write(b"open\ntable\nhash\tcc\nrecord\t" + B + b"stop\n")
+    child.stdin.close()
+    wanted, left = b"ok\n" + table + b"end\n" + hash_line(b"cc", then) + b"ok\nok\n", b"# ninja log v%d\n" % max(then, 5) + table + B
+    if then == 8:
+        wanted, left = b"S6 OtherVersion\n" + b"S1 NotOpen\n" * 4, held
+    trials.want(f"the answers over {what}", child.stdout.read(), wanted)
+    trials.want(f"the end over {what}", (child.wait(20), child.stderr.read()), (0, b""))
+    trials.want(f"the log of {what}", read(log), left)
+    child.stdout.close()
+    child.stderr.close()
+
+
+def all_heard(child, count):
+    """What the program says, up to so many bytes."""
+    said = b""
+    while len(said) < count:
+        more = heard(child, 20)
+        if not more:
+            break
+        said += more
+    return said
 
 
 def start(program, log):
@@ -255,6 +355,9 @@ def trial(trials, program, room):
     turns(trials, program, room)
     odd_names(trials, program, room)
     versions(trials, program, room)
+    hashes(trials, program, room)
+    asked(trials, program, room)
+    reopened(trials, program, room)
     prompt(trials, program, room)
     unread(trials, program, room)
     closed(trials, program, room)

@@ -215,7 +215,7 @@ def goes_on(trials, program, room):
         trials.want(f"version {version}: the answers where nothing fails", ended, (0, answers_on(None, True)[0], b""))
         line, syncs = 0, []
         for call in calls:
-            line += call.startswith("write(1")
+            line += call.startswith("write(1<")
             if call.startswith("fsync("):
                 syncs.append((line, "/LOG>" in call))
         trials.check(f"version {version}: there are syncs of both", {True, False} <= {it for _, it in syncs}, str(syncs))

@@ -153,6 +153,18 @@ class Others:
         self.recorded.clear()
         return True
 
+    def makes_it_version_4(self):
+        return self.names(b"4")
+
+    def makes_it_version_6(self):
+        return self.names(b"6")
+
+    def names(self, digit):
+        with open(self.log, "r+b") as it:
+            it.seek(13)
+            it.write(digit)
+        return True
+
     def cuts_the_last_line(self):
         text = read(self.log) or b""
         if text.count(b"\n") < 2:
@@ -179,12 +191,15 @@ class Others:
 ACTIONS = ["removes", "renames", "renames_and_renames_back", "replaces", "replaces_by_a_copy", "replaces_and_another_nlog_records", "links_another_name_to_it",
            "appends", "appends_a_part_of_a_line", "appends_zeros", "empties", "cuts_the_last_line"]
 BY_NINJA = ["has_ninja_recompact", "builds_by_ninja"]
-# Those that write entries of their own: Ninja reads some damaged lines as entries, and writes these anew.
-WRITERS = {"appends", "replaces_and_another_nlog_records", "builds_by_ninja", "has_ninja_recompact"}
+# What makes a log of version 7 another between a `stop` and the next `open`, and the version that it has then.
+ANEW = [("makes_it_version_4", 5), ("makes_it_version_6", 6), ("empties", 5), ("removes", 5)]
+# Those that write entries of their own: Ninja reads some damaged lines as entries, and writes these anew; the last field of a line of version 4
+# is a command, and no hash.
+WRITERS = {"appends", "replaces_and_another_nlog_records", "builds_by_ninja", "has_ninja_recompact", "makes_it_version_4"}
 # Those that take bytes away from the file: a line that is written behind such a cut may stand where the first line was.
 CUTTERS = {"empties", "cuts_the_last_line"}
-# A log of version 6 or 7 that is gone or empty at an open is begun as one of version 5, since the version is found before the first line.
-ONLY_FIVE = {"removes", "renames", "empties"}
+# That a log of version 6 or 7 is emptied isn't seen right behind an open or a rewriting: docs/CLI.md, "Two writers".
+ONLY_FIVE = {"empties"}
 
 
 class Play:
@@ -297,14 +312,16 @@ def plans(actions, version):
         yield f"random run {seed}, {plan}", plan
 
 
-def play(program, speaker, room, version, plan, events=EVENTS):
-    """Makes a log, and plays a run on it. `speaker` is made of the folder."""
+def play(program, speaker, room, version, plan, events=EVENTS, left=None):
+    """Makes a log, and plays a run on it, which leaves one of the version `left`. `speaker` is made of the folder."""
     os.makedirs(room)
     write(f"{room}/{LOG}", text_of(BEFORE, version))
     write(f"{room}/build.ninja", MANIFEST)
     others, made = Others(program, room, version), speaker(room)
     try:
-        return Play(made, others).run(plan, events)
+        wrong = Play(made, others).run(plan, events)
+        first = (read(others.log) or b"")[: len(HEADER)]
+        return f"the log begins with {first!r}" if wrong is None and left and first != as_version(HEADER, left) else wrong
     except (AssertionError, OSError, ValueError) as it:
         return f"{type(it).__name__}: {it}"
     finally:
@@ -337,8 +354,19 @@ def tries(trials, program, speaker, room, what):
             trials.check(f"{what}, a log of version {version}, {about}", wrong is None, short(wrong))
 
 
+def anew(trials, program, speaker, room):
+    """An open finds the version anew."""
+    for action, left in ANEW:
+        wrong = play(program, speaker, f"{room}/{action}", 7, {EVENTS.index("close"): [action]}, left=left)
+        trials.check(f"apply, a log of version 7, somebody {action.replace('_', ' ')} behind a close", wrong is None, short(wrong))
+
+
 def trial(trials, program, room):
-    tries(trials, program, lambda folder: Apply([program, "apply", LOG], folder), f"{room}/apply", "apply")
+    def speaker(folder):
+        return Apply([program, "apply", LOG], folder)
+
+    tries(trials, program, speaker, f"{room}/apply", "apply")
+    anew(trials, program, speaker, f"{room}/anew")
 
 
 if __name__ == "__main__":

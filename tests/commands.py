@@ -368,7 +368,9 @@ WORDS = [
     (["restat", "six", "/dev/null", "--log-version", "7"], 1, b"", OTHER_VERSION),
     (["restat", "six", "file", "--log-version", "8"], 2, b"", BAD_VERSION % b"8"),
     (["record", "seven", "--log-version"], 2, b"", NO_VERSION),
-    (["apply", "--log-version", "7", "file", "asks"], 2, b"", NO_OPTION % b"apply [OPTIONS] <LOG> [SCRIPT]"),
+    (["apply", "--log-version", "7", "file", "asks"], 0, b"S6 OtherVersion\n" + b"S1 NotOpen\n" * 3, b""),
+    (["apply", "file", "asks", "--log-version", "5"], 0, b"ok\n" + FILE_SHOWN + b"none\n" + FILE_SHOWN + b"end\n", b""),
+    (["apply", "file", "asks", "--log-version", "8"], 2, b"", BAD_VERSION % b"8"),
     # What is wrong with the words comes before LOG is looked at.
     (["record", "--log-version", "auto", "folder", "x", "2", "3", "n", "c"], 1, b"", b"nlog: bad number\n"),
     (["record", "--log-version", "auto", "folder", "1", "2", "3", "n", "c"], 1, b"", b"nlog: the folder failed\n"),

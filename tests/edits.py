@@ -82,14 +82,17 @@ def type_name(text, parameters):
     return "" if name in parameters else name[:1].upper() + name[1:] + of
 
 
-def of_impl(head):
-    """What a check calls an impl block: its type, or its type and its trait."""
+def of_impl(head, others):
+    """What a check calls an impl block: its type, or its type and its trait; by another name of a type (`others`) that and what it is of."""
     head = re.sub(r"\s+where\b.*|\s*\{.*", "", head).strip()
     parameters = set()
     if head.startswith("<"):
         parameters = {re.sub(r"^const ", "", it).partition(":")[0].strip() for it in parts_of(head[1 : end_of(head)])}
         head = head[end_of(head) + 1 :]
     trait, is_of, whom = head.partition(" for ")
+    name, _, rest = head.partition("<")
+    if not is_of and name.strip() in others:
+        return "+".join([name.strip(), *parts_of(rest.rpartition(">")[0])])
     return type_name(whom, parameters) + type_name(trait, parameters) if is_of else type_name(head, parameters)
 
 
@@ -116,7 +119,7 @@ class Function:
         *_, of, name = ["", *other.path.split("::")]
         if not of[:1].isupper():
             return bool(re.search(rf"(?<![.\w]){name}\b", text))
-        own = self.path.split("::")[-2:-1] == [of]
+        own, of = self.path.split("::")[-2:-1] == [of], of.partition("+")[0]
         named = rf"\.{name}\(|\b{of}(::<[^>]*>)?::{name}\b" + (rf"|\bSelf::{name}\b" if own else "")
         return bool(re.search(named, text)) or name == "from" and "?" in text
 
@@ -124,10 +127,11 @@ class Function:
 def functions(file, text):
     """The functions of a file that have a body of their own, less those of a trait."""
     lines, found, block = text.split("\n"), [], ""
+    others = set(re.findall(r"(?m)^(?:pub(?:\([^)]*\))? )?type (\w+)<", text))
     module = [it for it in file[len("src/") : -len(".rt")].split("/") if it not in ("lib", "main", "mod")]
     for first, line in enumerate(lines):
         if line.startswith("impl"):
-            block = of_impl(line[len("impl") :])
+            block = of_impl(line[len("impl") :], others)
         elif re.match(r"(pub(\([^)]*\))? )?(unsafe )?trait\b", line):
             block = None
         elif line == "}":

@@ -6,4 +6,6 @@ mod DamageLawLemmas
 mod ReadLemmas
 mod RepairLemmas
 mod SeenLemmas
+mod SeenLogLemmas
 mod ApplyLemmas
+mod BegunLemmas

@@ -3,4 +3,5 @@ pub mod RecordWords
 pub mod Faults
 pub mod Updates
 pub mod Calls
+pub mod Seen
 pub mod Applying

@@ -12,6 +12,8 @@ use std::alloc::Global;
 pub enum Asked<'a> {
     Does(Event),
     Gets(&'a [u8]),
+    /// The hash of a command in the log.
+    Hashes(&'a [u8]),
     Lists,
     /// Nothing that there is.
     Bad,
@@ -26,6 +28,7 @@ pub fn read_asked(alloc: Global, line: &[u8]) -> Asked<'_>
     match line {
         b"table" => Asked::Lists,
         [b'g', b'e', b't', b'\t', name @ ..] => gets(name),
+        [b'h', b'a', b's', b'h', b'\t', command @ ..] => Asked::Hashes(command),
         _ => match read_event_line(alloc, line) {
             Ok(Event::Crash) => Asked::Bad,
             Ok(event) => Asked::Does(event),

@@ -7,7 +7,7 @@ ghost use Rattle.nl_words.specs.declared.version.AskedVersion.{AskedVersion};
 use crate::files::open;
 use crate::notes::{NotedReader, NotedWriter, Notes};
 use crate::version_choice::{chosen_in, number_of};
-use nl_change::{apply_any, entry_as, recompact_as, record_as, repair_as, restat_as};
+use nl_change::{apply_on, entry_as, recompact_as, record_as, repair_as, restat_as};
 use nl_disk::{DiskFolder, SystemFile};
 use nl_lines::LogVersion;
 use nl_texts::ToolFault;
@@ -157,6 +157,7 @@ where
 pub fn apply_in<R: Runtime>(
     rt: &R,
     alloc: Global,
+    asked: AskedVersion,
     log: &str,
     script: Option<&str>,
     notes: &mut Notes,
@@ -167,16 +168,17 @@ where
 {
     let Some(path) = script else {
         let folder = DiskFolder::new(rt, alloc, log)?;
-        return apply_noted(rt, alloc, folder, rt.reader(), notes);
+        return apply_noted(rt, alloc, asked, folder, rt.reader(), notes);
     };
     let lines = open(rt, path, notes)?;
     let folder = DiskFolder::new(rt, alloc, log)?;
-    apply_noted(rt, alloc, folder, lines, notes)
+    apply_noted(rt, alloc, asked, folder, lines, notes)
 }
 
 fn apply_noted<P: Print, F: Files + Clock + Drop, R: Read + Drop>(
     rt: &P,
     alloc: Global,
+    asked: AskedVersion,
     folder: DiskFolder<F>,
     reader: R,
     notes: &mut Notes,
@@ -187,7 +189,7 @@ where
 {
     let mut out = NotedWriter::new(io::writer(rt));
     let reader = NotedReader::new(reader, &mut notes.heard);
-    let done = apply_any(alloc, folder, reader, &mut out);
+    let done = apply_on(alloc, number_of(asked), folder, reader, &mut out);
     notes.written = out.failure;
     noted(done, notes)
 }

@@ -14,8 +14,8 @@ mod version_choice;
 
 pub use ending::{run_line, run_program};
 pub use nl_change::{
-    apply_any, apply_on, apply_through, entry_as, recompact_as, recompact_on, record_as, record_on,
-    repair_as, repair_on, restat_as, restat_on,
+    apply_on, entry_as, recompact_as, recompact_on, record_as, record_on, repair_as, repair_on,
+    restat_as, restat_on,
 };
 pub use nl_disk::DiskFolder;
 pub use nl_lines::LogVersion;

@@ -85,7 +85,7 @@ where
             restat_in(rt, alloc, or_five(version), log, times, notes)
         }
         Words::Repair(log) => repair_in(rt, alloc, or_auto(version), log, notes),
-        Words::Apply { log, script } => apply_in(rt, alloc, log, script, notes),
+        Words::Apply { log, script } => apply_in(rt, alloc, or_auto(version), log, script, notes),
     };
     done?;
     Ok(Outcome::Done)

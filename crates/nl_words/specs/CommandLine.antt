@@ -90,9 +90,10 @@ abbrev pub replay : App
 replay = with_rule (new_app (codes "replay")) (positional (codes "SCRIPT") false)
 
 abbrev pub apply : App
-apply = with_rule (with_rule (new_app (codes "apply"))
+apply = with_rule (with_rule (with_rule (new_app (codes "apply"))
     (positional (codes "LOG") true))
-    (positional (codes "SCRIPT") false)
+    (positional (codes "SCRIPT") false))
+    version_rule
 
 -- the program by its name: it has a version and no subcommand `help`
 abbrev pub named : App

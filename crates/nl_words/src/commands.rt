@@ -339,21 +339,24 @@ recompact [NAME ..]               rewrites LOG with the last entry of each outpu
 restat [MTIME NAME ..]            rewrites LOG with these time stamps
 stop                              makes what was recorded durable, and closes LOG
 get NAME                          answers the last entry of NAME, or `none`
+hash COMMAND                      answers the hash that LOG has of a command
 table                             answers the last entry of each output, a line each, and then `end`
 
 The others are answered `ok`, or why they were not done, as `S8 Fault`; any other line `bad line`.
-A LOG that is missing is made one of version 5. The last entry of an output is asked for by
+A LOG that is missing is made one of version 5, or of 6 for Ninja 1.12 or 7 for 1.13 where
+`--log-version` has that number. The last entry of an output is asked for by
 
   printf 'open\\nget\\tapp.o\\n' | nlog apply .ninja_log
 
 No build by Ninja may change LOG meanwhile; another nlog waits.",
         );
     let command = with_value(alloc, command, "LOG", true, ANY_LOG)?;
-    with_value(
+    let command = with_value(
         alloc,
         command,
         "SCRIPT",
         false,
         "A file with the lines; standard input where it is left out",
-    )
+    )?;
+    with_version(alloc, command, OWN_VERSION)
 }

@@ -1,0 +1,124 @@
+-- A log that is seen as of a version, and the folder below it.
+use Rattle.std.proofs.Common.{◌≡◌, ◌≢◌, ◌≤◌, ◌∙◌, ℕ, Bool, true, false, List, Option, None, Some, Result, Ok, Err, refl, sym, ap, arith, subst}
+use Rattle.std.specs.Prelude.{IfOk, IsErrOf, IsTrue}
+use Rattle.nl_lines.specs.declared.version.LogVersion.{LogVersion}
+use Rattle.nl_lines.specs.declared.version.LogVersion.TheVariants.{Five, Six, Seven}
+use Rattle.nl_table.specs.Log.{log_of}
+use Rattle.nl_folder.specs.DiskState.{Disk, SameState}
+use Rattle.nl_folder.specs.declared.folder.Folder.{Ghosts}
+use Rattle.nl_print.specs.VersionOf.{version_of}
+use Rattle.nl_print.specs.Versions.{is_barred, is_four}
+use Rattle.nl_print.proofs.VersionLemmas.{looked, seen_five}
+use Rattle.nl_session.specs.declared.fault.LogFault.{LogFault}
+use Rattle.nl_session.specs.declared.fault.LogFault.TheVariants as refusal
+use Rattle.nl_session.specs.declared.log.Log.{Log}
+use Rattle.nl_session.specs.declared.state.LogState.TheVariants.{Closed}
+use Rattle.nl_session.specs.View.{folder_of, view_of}
+use Rattle.nl_texts.specs.declared.fault.ToolFault.{ToolFault}
+use Rattle.nl_texts.specs.declared.fault.ToolFault.TheVariants.{Folder}
+use Rattle.nl_change.specs.Calls.{FolderView, IsVersionFor, folder_state, folder_view}
+use Rattle.nl_change.specs.Seen.{Begins, HandsBack, Seen}
+use Rattle.nl_change.specs.Applying.{IsSeenAnew, IsTurnedAway, Looks}
+use Rattle.nl_change.proofs.SeenLemmas.{named_all}
+
+module _ {F : Type 0} {g : Ghosts F} (log : Log F g) (folder : F) where
+  pub begins_five : (view_of log).mode ≡ Closed → folder_of log ≡ folder
+      → Begins (folder_view g folder) (record { version = Five; view = view_of log })
+  begins_five closed same = record {
+    closed = closed;
+    disk = ap g.disk same ∙ sym (seen_five Five refl (g.disk folder));
+    failures = ap g.failures same;
+    five = λ here. ap (folder_view g) same;
+    other = λ no. absurd (no refl);
+  }
+
+  pub hands_five : folder ≡ folder_of log → HandsBack (record { version = Five; view = view_of log }) (folder_view g folder)
+  hands_five same = record {
+    disk = ap g.disk same ∙ sym (seen_five Five refl (g.disk (folder_of log)));
+    settled = λ was. subst (λ f. IsTrue (g.is_settled f)) (sym same) was;
+    scratch = λ was. subst (λ f. IsTrue (g.has_scratch f)) (sym same) was;
+    failed = let e = ap g.failures same in omega (arith, e);
+    cause = λ some. let e = ap g.failures same in omega (arith, e, some);
+    five = λ here. ap (folder_view g) same;
+  }
+
+-- ---- a look at a folder
+
+-- by the version that its first line names
+module _ (old new : FolderView) (r : Result LogVersion ToolFault) (same : SameState (folder_state old) (folder_state new))
+    (rises : old.failures ≤ new.failures) where
+  pub looks_named : (version : LogVersion) → r ≡ Ok version
+      → ((d : Disk) → old.disk ≡ Some d → IfOk r (λ named. named ≡ version_of d.visible))
+      → (¬ IsErrOf r Folder → new.failures ≡ old.failures) → Looks None old new (Ok version)
+  looks_named version is names steady = record {
+    same = same;
+    rises = rises;
+    steady = steady (λ failed. absurd (cc (is, failed)));
+    chosen = subst (λ (found : Result LogVersion ToolFault). IfOk found (IsVersionFor None old.disk)) is (named_all r old.disk names);
+    free = λ d asked at none. absurd (cc none);
+    refusals = tt;
+  }
+
+-- where 6 or 7 is asked for, only a log of version 4 is barred
+barred_four : (version : LogVersion) (bytes : List ℕ) → version ≢ Five → is_barred version bytes ≡ is_four (log_of bytes)
+barred_four Five bytes other = absurd (other refl)
+barred_four Six bytes other = refl
+barred_four Seven bytes other = refl
+
+-- by whether it is of version 4
+module _ (version : LogVersion) (other : version ≢ Five) (old new : FolderView) (r : Result Bool ToolFault)
+    (same : SameState (folder_state old) (folder_state new)) (rises : old.failures ≤ new.failures)
+    (steady : ¬ IsErrOf r Folder → new.failures ≡ old.failures)
+    (four : (d : Disk) → old.disk ≡ Some d → IfOk r (λ is. is ≡ is_four (log_of d.visible))) where
+  barred_by : (is : Bool) → r ≡ Ok is → (d : Disk) → old.disk ≡ Some d → is_barred version d.visible ≡ is
+  barred_by is found d at =
+      barred_four version d.visible other ∙ sym (looked r is (log_of d.visible) found (four d at))
+
+  pub looks_past : r ≡ Ok false → Looks (Some version) old new (Ok version)
+  looks_past is = record {
+    same = same;
+    rises = rises;
+    steady = steady (λ failed. absurd (cc (is, failed)));
+    chosen = refl;
+    free = λ d asked at this.
+        let named : version ≡ asked = cc this in
+        ap (λ (v : LogVersion). is_barred v d.visible) (sym named) ∙ barred_by false is d at;
+    refusals = tt;
+  }
+
+  pub looks_four : r ≡ Ok true → Looks (Some version) old new (Err refusal.OtherVersion)
+  looks_four is = record {
+    same = same;
+    rises = rises;
+    steady = tt;
+    chosen = tt;
+    free = tt;
+    refusals = (steady (λ failed. absurd (cc (is, failed))), barred_by true is);
+  }
+
+-- ---- a closed log that was looked at
+
+module _ (asked : Option LogVersion) (old new : Seen) (between found : FolderView) (r : Result LogVersion LogFault)
+    (closed : old.view.mode ≡ Closed) (hands : HandsBack old between) (looks : Looks asked between found r) (begins : Begins found new) where
+  pub seen_anew : (version : LogVersion) → r ≡ Ok version → new.version ≡ version → IsSeenAnew asked old new
+  seen_anew version is named =
+      let looks = subst (Looks asked between found) is looks in
+      record {
+        found = found;
+        looked = record { closed = closed; between = between; hands = hands; same = looks.same; rises = looks.rises };
+        steady = looks.steady;
+        chosen = subst (IsVersionFor asked between.disk) (sym named) looks.chosen;
+        free = looks.free;
+        begins = begins;
+      }
+
+  pub turned_away : (why : LogFault) → r ≡ Err why → new.version ≡ old.version → IsTurnedAway asked old new why
+  turned_away why is named =
+      let looks = subst (Looks asked between found) is looks in
+      record {
+        found = found;
+        looked = record { closed = closed; between = between; hands = hands; same = looks.same; rises = looks.rises };
+        begins = begins;
+        version = named;
+        reason = looks.refusals;
+      }
