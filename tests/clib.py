@@ -1334,6 +1334,10 @@ def by_the_rules_of_the_program(trials, made, room):
     if "tool" not in made:
         return
     system_calls.traced, crash_states.follow = traced_by_path, follow_by_path
+    # (the library looks at the log's name in places of its own: `moved`, `kept_away` and `changed_between` try what that is for)
+    wanted, done = system_calls.effects_wanted, system_calls.effect
+    system_calls.effects_wanted = lambda case: [it for it in wanted(case) if it != "look LOG"]
+    system_calls.effect = lambda *call: None if done(*call) == "look LOG" else done(*call)
     passed = {}
 
     def part(name, work):
