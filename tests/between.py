@@ -8,7 +8,6 @@ Whatever is acknowledged is in the file that the name shows, or the answer is a 
 takes the file that the name shows then, and locks it; where nobody changed anything, nothing fails; and whoever reads finds entries that were
 written so, and no others. tests/clib.py tries the library's writer by the same rules.
 """
-import fcntl
 import os
 import random
 import shutil
@@ -17,7 +16,7 @@ import sys
 from concurrent.futures import ThreadPoolExecutor
 
 from log_format import HEADER, Log, as_version, line_of
-from trials import SECONDS, main, read, run, short, write
+from trials import SECONDS, is_locked, main, read, run, short, write
 
 LOG = ".ninja_log"
 MANIFEST = b"rule r\n  command = touch $out\nbuild a b c d e f g h other: r\n"
@@ -68,15 +67,6 @@ class Apply:
 
     def end(self):
         self.ran.communicate(timeout=SECONDS)
-
-
-def is_locked(path):
-    with open(path, "rb") as it:
-        try:
-            fcntl.flock(it, fcntl.LOCK_EX | fcntl.LOCK_NB)
-        except BlockingIOError:
-            return True
-    return False
 
 
 class Others:

@@ -36,7 +36,7 @@ import system_calls
 from crash_rules import Sweep, Worker
 from log_format import HEADER, MAX_LINE, MAX_NAME, Log, as_version, command_hash, command_hash_v7, entry_of, line_of, reading_of, text_of
 from log_lines import damage_of
-from trials import main, read, run, write
+from trials import is_locked, main, read, run, write
 
 TOP = os.path.dirname(os.path.dirname(os.path.abspath(__file__)))
 DRIVER, TOOL, SHARER, READERS, RUST = (f"{TOP}/tests/clib/{it}" for it in ("driver.c", "tool.c", "shared.c", "readers.c", "safe.rs"))
@@ -826,15 +826,6 @@ def locks(trials, made, program, room):
     first.communicate(b"record 4 5 6 bb " + hexed(b"b").encode() + b"\nclose\n", timeout=60)
     trials.want("and ends", second.wait(60), 0)
     trials.want("both stand", set(Log(read(log)).table), {b"d", b"a", b"b", b"beside"})
-
-
-def is_locked(path):
-    with open(path, "rb") as it:
-        try:
-            fcntl.flock(it, fcntl.LOCK_EX | fcntl.LOCK_NB)
-        except BlockingIOError:
-            return True
-    return False
 
 
 def answers_of(process, line):

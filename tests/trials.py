@@ -1,4 +1,5 @@
 """What the trials of this folder share: their words, what passed and what failed, and the last line."""
+import fcntl
 import os
 import shutil
 import subprocess
@@ -93,6 +94,18 @@ def writer_driver(trials, room):
         made = run([*words, archive, "-o", driver])
     is_made = trials.check("the driver of the library's writer is built", made[0] == 0, (made[1] + made[2])[-400:].decode(errors="replace"))
     return driver if is_made else None
+
+
+def is_locked(path):
+    """Whether another has the lock of a file (flock). None has that of one that is missing."""
+    if not os.path.exists(path):
+        return False
+    with open(path, "rb") as it:
+        try:
+            fcntl.flock(it, fcntl.LOCK_EX | fcntl.LOCK_NB)
+        except BlockingIOError:
+            return True
+    return False
 
 
 def read(path):

@@ -18,7 +18,7 @@ import time
 from concurrent.futures import ThreadPoolExecutor
 
 from log_format import HEADER, Log, line_of
-from trials import SECONDS, main, read, write, writer_driver
+from trials import SECONDS, is_locked, main, read, write, writer_driver
 
 ENTRY = (1, 2, 3, 4)
 START = HEADER + line_of(b"a", ENTRY) + line_of(b"b", ENTRY)
@@ -139,17 +139,6 @@ def try_moved(trials, program, room, what, line):
     ended = (*first.communicate(timeout=SECONDS), first.returncode)
     said = FAILED + b"nlog: LOG LOG: " + says + b"\n"
     trials.want(f"{what}: the reason is told", ended, (b"", said, 1))
-
-
-def is_locked(log):
-    if not os.path.exists(log):
-        return False
-    with open(log, "rb") as it:
-        try:
-            fcntl.flock(it, fcntl.LOCK_EX | fcntl.LOCK_NB)
-        except OSError:
-            return True
-    return False
 
 
 def append(text):
