@@ -188,8 +188,6 @@ ANEW = [("makes_it_version_4", 5), ("makes_it_version_6", 6), ("empties", 5), ("
 WRITERS = {"appends", "replaces_and_another_nlog_records", "builds_by_ninja", "has_ninja_recompact", "makes_it_version_4"}
 # Those that take bytes away from the file: a line that is written behind such a cut may stand where the first line was.
 CUTTERS = {"empties", "cuts_the_last_line"}
-# That a log of version 6 or 7 is emptied isn't seen right behind an open or a rewriting: docs/CLI.md, "Two writers".
-ONLY_FIVE = {"empties"}
 
 
 class Play:
@@ -290,9 +288,8 @@ class Play:
         return f"what another nlog recorded is lost: {lost}" if lost else None
 
 
-def plans(actions, version):
+def plans(actions):
     """Each action behind each event, and some at random, up to three a run."""
-    actions = [it for it in actions if version == 5 or it not in ONLY_FIVE]
     for action in actions:
         for number in range(len(EVENTS) - 1):
             yield f"somebody {action} behind {number}, {EVENTS[number]}".replace("_", " "), {number: [action]}
@@ -333,7 +330,7 @@ def tries(trials, program, speaker, room, what):
     written_by = ninja_version()
     if written_by is None:
         trials.skip(f"{what}: what Ninja's own tools do", "ninja isn't there")
-    rows = [(version, *row) for version in (5, 7) for row in plans(ACTIONS + BY_NINJA * (version == written_by), version)]
+    rows = [(version, *row) for version in (5, 7) for row in plans(ACTIONS + BY_NINJA * (version == written_by))]
 
     def one(numbered):
         number, (version, _, plan) = numbered
