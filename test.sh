@@ -59,6 +59,7 @@ fi
 part rt ci
 part python3 tests/edits.py --times
 part python3 tests/labels.py
+part python3 tests/prose.py
 part python3 tests/examples.py crates/nlog/out/nlog
 # What Rattle's own compiler made of the same program. Where it made nothing, the gate has said so.
 if [[ -e crates/nlog/out/nlog.by-rattle ]]; then

@@ -329,10 +329,9 @@ def header(trials):
 
 
 def pages(trials, room):
-    """The examples in C of README.md and docs/LIBRARY.md, as they stand there."""
-    library = read(f"{TOP}/docs/LIBRARY.md").decode()
-    blocks = [*re.findall(r"(?s)```c\n(.*?)```", library), *re.findall(r"(?s)```c\n(.*?)```", read(f"{TOP}/README.md").decode())]
-    printed = [b"a.o: another command\na.o\nb.o\n", b"", b"cut to 29 bytes\nappend: 3\t4\t20\tb.o\tbb\n", b"line 2 is no entry, distrust b.o\nline 3 is torn\n", b""]
+    """The examples in C of docs/LIBRARY.md, as they stand there."""
+    blocks = re.findall(r"(?s)```c\n(.*?)```", read(f"{TOP}/docs/LIBRARY.md").decode())
+    printed = [b"", b"a.o: another command\na.o\nb.o\n", b"", b"cut to 29 bytes\nappend: 3\t4\t20\tb.o\tbb\n", b"line 2 is no entry, distrust b.o\nline 3 is torn\n"]
     trials.want("the number of examples", len(blocks), len(printed))
     for i, (block, wanted) in enumerate(zip(blocks, printed)):
         write(f"{room}/page{i}.c", block.encode())
@@ -344,10 +343,10 @@ def pages(trials, room):
             trials.check(f"example {i} is C++ too", ran[0] == 0 and not ran[2], ran[2][-800:].decode(errors="replace"))
     for name in ("built.log", "c.log"):
         trials.want(f"the log {name} of an example", read(f"{room}/{name}"), HEADER + line_of(b"a.o", (0, 12, 1000, command_hash(b"cc a.c"))))
-    # Where a file fails, the second says which, and by which call.
+    # Where a file fails, the third says which, and by which call.
     os.remove(f"{room}/built.log")
     os.mkdir(f"{room}/built.log")
-    trials.want("the second where it fails", run([f"{room}/page1"], cwd=room), (1, b"", b"NLOG_FAULT: built.log: open: Is a directory\n"))
+    trials.want("the third where it fails", run([f"{room}/page2"], cwd=room), (1, b"", b"NLOG_FAULT: built.log: open: Is a directory\n"))
     os.rmdir(f"{room}/built.log")
 
 

@@ -1,5 +1,6 @@
 #!/usr/bin/env python3
-"""Runs the examples of README.md and docs/CLI.md with a built program, and compares what they print and how they end.
+"""Runs the examples of README.md, docs/CLI.md, docs/DAMAGE.md and docs/RECIPES.md with a built program, and compares what they print and how
+they end.
 
     python3 tests/examples.py PROGRAM
 
@@ -12,7 +13,7 @@ A paragraph that ends in "file `NAME` holds" (or "file `NAME`, without a newline
 it is that file. The examples of a page run in order in one folder, with the page's files and the program on the path: nothing
 of the repository is there, and they leave nothing in it.
 
-The script fails where an example differs, where a page has none for a command that the program's help lists, and where
+The script fails where an example differs, where docs/CLI.md has none for a command that the program's help lists, and where
 docs/PROMISES.md doesn't name an edit. Its last line is `N passed, M failed`.
 """
 import glob
@@ -26,7 +27,7 @@ import tempfile
 from trials import usage
 
 TOP = os.path.dirname(os.path.dirname(os.path.abspath(__file__)))
-PAGES = ("README.md", "docs/CLI.md")
+PAGES = ("README.md", "docs/CLI.md", "docs/DAMAGE.md", "docs/RECIPES.md")
 SECONDS = 60
 
 # The head of a table of messages.
@@ -165,12 +166,12 @@ def commands_of(program):
 
 
 def lacking(page, examples, commands):
-    """The words of which a page shows no example: each command, and on the page of the command line the options too."""
-    options = ["--help", "--version"] if page == "docs/CLI.md" else []
-    for word in [*commands, *options]:
+    """The words of which a page shows no example that it owes."""
+    # The first page shows a few, that of the command line all.
+    for word in [*commands, "--help", "--version"] if page == "docs/CLI.md" else []:
         if not any(re.search(rf"(^|[/ (])nlog {word}(?![\w-])", it.command) for it in examples):
             yield f"`nlog {word}`"
-    if not any(re.search(r"(^|[/ (])nlog( <.*)?$", it.command) for it in examples):
+    if page == "docs/CLI.md" and not any(re.search(r"(^|[/ (])nlog( <.*)?$", it.command) for it in examples):
         yield "`nlog` without a word"
 
 

@@ -5,7 +5,7 @@
 
 Wants the right to mount a tmpfs, at least in a name space of its own (unshare). Each command has to end with `nlog: the folder
 failed` and status 1, `check` still reads all that the log held, and once there is room the same command does its work. So
-does the repair that README.md names. And the scripts of docs/CLI.md, as they stand there: where the disk of their own files is
+does the repair that README.md names. And the scripts of docs/RECIPES.md and docs/DAMAGE.md, as they stand there: where the disk of their own files is
 full at first, or after some of them, the log stays as it was.
 """
 import os
@@ -98,7 +98,7 @@ REPAIRS = {
     "a log of version 4": b"# ninja log v4\n1\t2\t3\ta\tcc\tx\n4\t5\t6\tb\t\n",
 }
 
-# By docs/CLI.md, in a folder with the files `a` and `b`, where Ninja has an edge for `edge`: what each script leaves of a log.
+# By docs/RECIPES.md and docs/DAMAGE.md, in a folder with the files `a` and `b`, where Ninja has an edge for `edge`: what each script leaves of a log.
 LONG = (b"n" * 3000, (1, 2, 3, 4))
 PART = b"3\t4\t2"
 JOINED = HEADER + line_of(*LONG) + line_of(b"a", (1, 2, 10, 0xAA)) + PART + line_of(b"a", (5, 6, 30, 0xBB)) + line_of(b"edge", (1, 2, 3, 4))
@@ -113,7 +113,7 @@ SCRIPTS = {
 def try_script(trials, program, disk, room, name):
     """A script whose own files find no room, room for some of them, or for all: the log stays, or all is done."""
     start, left = SCRIPTS[name]
-    write(f"{room}/{name}", read_page("docs/CLI.md")[0][name])
+    write(f"{room}/{name}", {**read_page("docs/RECIPES.md")[0], **read_page("docs/DAMAGE.md")[0]}[name])
     path = f"{room}/bin:{os.path.dirname(program)}:{os.environ.get('PATH', os.defpath)}"
     stopped = done = 0
     for pages in range(PAGES + 1):

@@ -5,7 +5,7 @@ by which the names of a build are kept. And the completion for bash, and what in
     python3 tests/manual.py PROGRAM
 
 Wants groff, and mandoc, to format the page; each is skipped where it is missing. The commands are those that the help of the
-program lists, the messages those of the table of docs/CLI.md, and the script is that of this page. What is completed is what the
+program lists, the messages those of the table of docs/CLI.md, and the script is that of docs/RECIPES.md. What is completed is what the
 help has: the commands and options, and the name of a file where the usage of a command has one.
 """
 import os
@@ -87,7 +87,7 @@ def try_completion(trials, program, room, help_text, commands):
 
 
 def try_library_page(trials):
-    """The page on the library: it has each function and status of the header, and the example of README.md."""
+    """The page on the library: it has each function and status of the header, and the first example of docs/LIBRARY.md."""
     page, header = read(LIBRARY_PAGE).decode(), read(f"{TOP}/include/nlog.h").decode()
     trials.want("its sections", re.findall(r"(?m)^\.SH (.*)$", page), LIBRARY_SECTIONS)
     synopsis, text = plain(page[: page.index(".SH DESCRIPTION")]), plain(page[page.index(".SH DESCRIPTION") :])
@@ -99,7 +99,7 @@ def try_library_page(trials):
         trials.check(f"the description has {name}", f"{name} ()" in text)
     for it in re.findall(r"(?m)^  (NLOG_\w+) = \d+,", header):
         trials.check(f"it has {it}", it in text)
-    trials.check("its example is that of README.md", re.search(r"(?s)```c\n(.*?)```", read(f"{TOP}/README.md").decode())[1] in literal(page))
+    trials.check("its example is the first of docs/LIBRARY.md", re.search(r"(?s)```c\n(.*?)```", read(f"{TOP}/docs/LIBRARY.md").decode())[1] in literal(page))
 
 
 def try_install(trials, program, room):
@@ -185,8 +185,8 @@ def trial(trials, program, room):
     trials.want("the number of messages", len(messages()), 12)
     for it in messages():
         trials.check(f"the message {it!r}", it in text[text.index("Each comes as") :])
-    script = read_page("docs/CLI.md")[0]["recompact.sh"].decode()
-    trials.check("the script of docs/CLI.md", f".EX\n{script}.EE\n" in literal(page))
+    script = read_page("docs/RECIPES.md")[0]["recompact.sh"].decode()
+    trials.check("the script of docs/RECIPES.md", f".EX\n{script}.EE\n" in literal(page))
     try_completion(trials, program, room, help_text, commands)
     try_install(trials, program, room)
 

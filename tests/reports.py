@@ -1,5 +1,5 @@
 #!/usr/bin/env python3
-"""Tries the reports of docs/CLI.md, as they stand there, on logs of odd names and numbers, and where a part of one fails.
+"""Tries the reports of docs/RECIPES.md, as they stand there, on logs of odd names and numbers, and where a part of one fails.
 
     python3 tests/reports.py PROGRAM
 
@@ -24,7 +24,7 @@ from log_lines import entries_of
 from trials import main, read, run, write
 
 AWKS = {"mawk": ["mawk"], "gawk": ["gawk"], "busybox": ["busybox", "awk"], "original-awk": ["original-awk"]}
-PAGE = "docs/CLI.md"
+PAGE = "docs/RECIPES.md"
 SCRIPTS = ("last.sh", "dates.sh", "compare.sh")
 NANO = 1_700_000_000_000_000_000
 

@@ -7,7 +7,7 @@ Takes the machine's own Ninja and each FOLDER/*/ninja, with the version of the l
 What Ninja makes of a log is told by what it says of a build: `no work to do`, or why an output is to be made again; and by what
 `ninja -t recompact` keeps of the log.
 
-The scripts of docs/CLI.md are read from that page and run as they stand there, beside a copy of the build that Ninja itself
+The scripts of docs/RECIPES.md and docs/DAMAGE.md are read from these pages and run as they stand there, beside a copy of the build that Ninja itself
 recompacts or restats. And what the pages say of Ninja is tried: what a build loses whose log is rewritten, and which time
 stamps it records.
 """
@@ -20,7 +20,7 @@ from log_format import HEADER, Log, as_version, line_of
 from log_lines import damage_of
 from trials import main, read, run, write
 
-RECIPES = read_page("docs/CLI.md")[0]
+RECIPES = {**read_page("docs/RECIPES.md")[0], **read_page("docs/DAMAGE.md")[0]}
 
 MANIFEST = """rule copy
   command = cat $in > $out
@@ -78,7 +78,7 @@ class Build:
         return run([self.program, word, *option, *words], cwd=self.room)
 
     def recipe(self, name, *words, folder=None):
-        """Runs a script of docs/CLI.md, with the programs of this folder in place of others."""
+        """Runs a script of docs/RECIPES.md or docs/DAMAGE.md, with the programs of this folder in place of others."""
         write(f"{self.room}/../{name}", RECIPES[name])
         path = ":".join(it for it in (folder, os.path.dirname(self.program), os.environ.get("PATH", os.defpath)) if it)
         return run(["sh", f"../{name}", *words], cwd=self.room, env={**os.environ, "PATH": path})
@@ -148,7 +148,7 @@ def try_recompact(trials, build):
 
 
 def recompact_beside(trials, build, what, kept, dropped=()):
-    """Recompacts by the script of docs/CLI.md, and a copy by Ninja: both keep the same entries, `kept` among them."""
+    """Recompacts by the script of docs/RECIPES.md, and a copy by Ninja: both keep the same entries, `kept` among them."""
     mirror = build.mirror()
     trials.want(f"{what}: Ninja recompacts", mirror.ninja("-t", "recompact")[0], 0)
     trials.want(f"{what}: recompact.sh ends", build.recipe("recompact.sh"), (0, b"", b""))
@@ -201,7 +201,7 @@ def try_keep_what_left(trials, build):
 
 
 def restat_beside(trials, build, what, names):
-    """Restats by the script of docs/CLI.md, and a copy by Ninja: both give these names the same time stamps."""
+    """Restats by the script of docs/RECIPES.md, and a copy by Ninja: both give these names the same time stamps."""
     mirror = build.mirror()
     trials.want(f"{what}: Ninja restats", mirror.ninja("-t", "restat")[0], 0)
     trials.want(f"{what}: restat.sh ends", build.recipe("restat.sh"), (0, b"", b""))

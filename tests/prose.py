@@ -1,0 +1,97 @@
+#!/usr/bin/env python3
+"""Holds the pages to plain English: how long their sentences and lines are, how long the first page is, and that none says a thing twice.
+
+    python3 tests/prose.py [PAGE..]
+    python3 tests/prose.py --show PAGE
+
+A sentence ends at a full stop, a colon at the end of a line, a question mark, or where a paragraph, an item of a list, a heading or a cell of
+a table ends. What stands in backquotes counts as one word, and what stands in an indented or a fenced block isn't prose. A page is held to
+the limits of `LIMITS`: words in all, columns, words of a sentence on average, and words of the longest one. Each of these was the page's own
+figure when it was set, or less: a page may get plainer, and not the other way. `--show` prints the sentences of a page, the longest first.
+
+The last line is `N passed, M failed`.
+"""
+import os
+import re
+import sys
+
+from trials import Trials, usage
+
+TOP = os.path.dirname(os.path.dirname(os.path.abspath(__file__)))
+
+# Of each page: its words, or None for any number of them; its columns; the words of a sentence on average; those of the longest.
+LIMITS = {
+    "README.md": (600, 100, 18, 25),
+}
+# A paragraph of as many words stands on one page, once.
+REPEATED = 12
+ENDS = re.compile(r"(?<=[.?!])[)\"*]*\s+(?=[^a-z\s])|(?<=:)\s*$")
+
+
+def parts(text):
+    """The paragraphs, items, headings and cells of a page, each as one line, without its code."""
+    # A fenced block, and then an indented one: one that stands behind an empty line.
+    text = re.sub(r"(?ms)^```.*?^```$", "", text)
+    text = re.sub(r"(?m)(?:(?<=\n\n)|\A)(?: {4}.*\n|\n(?= {4}))+", "", text)
+    # What begins a part of its own, and ends the one before it.
+    text = re.sub(r"(?m)^(#+|>|[-*]|\d+\.) (.*)$", r"\n\2", text)
+    for block in re.split(r"\n\s*\n", text):
+        rows = [it for it in block.split("\n") if it.startswith("|")]
+        for row in rows:
+            yield from (it.strip() for it in re.split(r"(?<!\\)\|", row) if it.strip(" -"))
+        rest = " ".join(it.strip() for it in block.split("\n") if not it.startswith("|"))
+        if rest.strip():
+            yield rest.strip()
+
+
+def sentences(text):
+    for part in parts(text):
+        yield from (it.strip() for it in ENDS.split(re.sub(r"`[^`]*`", "CODE", part)) if it.strip())
+
+
+def words(sentence):
+    return len(re.findall(r"[^\W_][\w'./^-]*", sentence))
+
+
+def figures(text):
+    """The words of a page, its columns, the words of its average sentence, and of its longest."""
+    counts = [words(it) for it in sentences(text)]
+    # A heading or a cell of a word or two is no sentence.
+    whole = [it for it in counts if it > 3]
+    return sum(counts), max(map(len, text.split("\n"))), sum(whole) / max(1, len(whole)), max(counts, default=0)
+
+
+def read(page):
+    with open(f"{TOP}/{page}", encoding="utf-8") as it:
+        return it.read()
+
+
+def repeated(pages):
+    """The long paragraphs that stand twice, each with where."""
+    seen = {}
+    for page in pages:
+        for part in parts(read(page)):
+            if words(part) >= REPEATED:
+                seen.setdefault(part, []).append(page)
+    return {it: where for it, where in seen.items() if len(where) > 1}
+
+
+def main(given):
+    if given[:1] == ["--show"] and len(given) == 2:
+        for it in sorted(sentences(read(given[1])), key=words, reverse=True):
+            print(f"{words(it):4} {it}")
+        return 0
+    if any(it not in LIMITS for it in given):
+        return usage(__file__)
+    trials = Trials("prose.py")
+    for page in given or LIMITS:
+        found = figures(read(page))
+        for what, is_now, limit in zip(("words", "columns", "words of a sentence on average", "words of the longest sentence"), found, LIMITS[page]):
+            trials.check(f"{page}: {what}", limit is None or is_now <= limit, f"{is_now:.1f} in place of {limit} at most")
+    for part, where in repeated(LIMITS).items():
+        trials.check("a paragraph stands once", False, f"{', '.join(where)}: {part}")
+    return trials.end()
+
+
+if __name__ == "__main__":
+    sys.exit(main(sys.argv[1:]))
