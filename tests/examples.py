@@ -1,6 +1,6 @@
 #!/usr/bin/env python3
-"""Runs the examples of README.md, docs/CLI.md, docs/DAMAGE.md and docs/RECIPES.md with a built program, and compares what they print and how
-they end.
+"""Runs the examples of README.md and of the pages of docs/ for users of the program with a built program, and compares what they print and
+how they end.
 
     python3 tests/examples.py PROGRAM
 
@@ -27,7 +27,7 @@ import tempfile
 from trials import usage
 
 TOP = os.path.dirname(os.path.dirname(os.path.abspath(__file__)))
-PAGES = ("README.md", "docs/CLI.md", "docs/DAMAGE.md", "docs/RECIPES.md")
+PAGES = ("README.md", "docs/CLI.md", "docs/HELP.md", "docs/DAMAGE.md", "docs/RECIPES.md")
 SECONDS = 60
 
 # The head of a table of messages.
@@ -167,8 +167,9 @@ def commands_of(program):
 
 def lacking(page, examples, commands):
     """The words of which a page shows no example that it owes."""
-    # The first page shows a few, that of the command line all.
-    for word in [*commands, "--help", "--version"] if page == "docs/CLI.md" else []:
+    # The page of the command line shows each, that of the help screens each one's; the first page shows a few.
+    owed = {"docs/CLI.md": [*commands, "--version"], "docs/HELP.md": ["--help", *(f"{it} --help" for it in commands)]}
+    for word in owed.get(page, []):
         if not any(re.search(rf"(^|[/ (])nlog {word}(?![\w-])", it.command) for it in examples):
             yield f"`nlog {word}`"
     if page == "docs/CLI.md" and not any(re.search(r"(^|[/ (])nlog( <.*)?$", it.command) for it in examples):
