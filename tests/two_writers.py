@@ -4,7 +4,8 @@
     python3 tests/two_writers.py PROGRAM
 
 The first is an `apply` that is kept open by its input, or this trial, which takes the lock as a command does. Where the first
-doesn't end and changes nothing, the second is refused after 10 seconds, and the log stays. A list of names that is missing or bad is refused at once.
+doesn't end and changes nothing, the second is refused after 10 seconds, and the log stays; where it changes the log all the while, after a
+minute. A list of names that is missing or bad is refused at once.
 Then four records at once, 100 times on each of four logs, also with a recompact among them, and with kills: what ended with status 0 stands.
 Writers of the library for C among them too. And another program, which takes no lock, renames or removes the log of an `apply`, or writes to it: what is acknowledged from then on is in LOG.
 """
@@ -97,6 +98,27 @@ def try_busy(trials, program, room):
     ended = (*second.communicate(timeout=SECONDS), second.returncode)
     trials.want("a log that is changed meanwhile is waited for", ended, (b"", b"", 0))
     trials.want("and all stand", set(Log(read(f"{room}/LOG")).table), {b"a", b"b", b"second", b"third", b"fourth"})
+
+
+def always_busy(program, room):
+    """A lock that others have for more than a minute, who change the log all the while: how the second one ends, after how many seconds, and
+    what the others had written by then."""
+    fill(room, START)
+    with open(f"{room}/LOG", "ab") as held:
+        fcntl.flock(held, fcntl.LOCK_EX)
+        second, at, count = begin([program, *SECOND["record"][0]], room), time.monotonic(), 0
+        while second.poll() is None and time.monotonic() - at < SECONDS:
+            held.write(line_of(b"by another %d" % count, ENTRY))
+            held.flush()
+            count += 1
+            time.sleep(0.5)
+        return (*second.communicate(timeout=SECONDS), second.returncode), time.monotonic() - at, count
+
+
+def try_always_busy(trials, room, ended, seconds, count):
+    trials.want("a log that is changed for more than a minute: the second one is refused", ended, (b"", FAILED, 1))
+    trials.check("after a minute", 60 <= seconds < 75, f"{seconds:.1f} s")
+    trials.want("and what the others wrote stands", read(f"{room}/LOG"), START + b"".join(line_of(b"by another %d" % it, ENTRY) for it in range(count)))
 
 
 def put_another(log):
@@ -259,6 +281,14 @@ def try_library(trials, program, room):
 
 
 def trial(trials, program, room):
+    # A minute of waiting goes on beside the others.
+    with ThreadPoolExecutor(1) as pool:
+        busy = pool.submit(always_busy, program, f"{room}/always")
+        try_all(trials, program, room)
+        try_always_busy(trials, f"{room}/always", *busy.result())
+
+
+def try_all(trials, program, room):
     try_library(trials, program, f"{room}/library")
     try_rounds(trials, program, f"{room}/rounds")
     for number, what in enumerate(SECOND):
