@@ -17,7 +17,7 @@ import sys
 from changes import CHANGES, FAILED, left_by
 from examples import TOP, read_page
 from log_format import HEADER, Log, line_of, text_of
-from trials import main, read, run, write
+from trials import fill_up, main, read, run, write
 
 PAGE = 4096
 PAGES = 16
@@ -33,16 +33,6 @@ def log_of_length(length):
     return lines + line % (b"n" * (length - len(lines) - len(line % b"")))
 
 
-def fill_up(disk):
-    """Takes all the room that the disk has left."""
-    with open(f"{disk}/fill", "wb", buffering=0) as it:
-        try:
-            while it.write(b"x" * PAGE):
-                pass
-        except OSError:
-            pass
-
-
 def try_full(trials, program, disk, command, end):
     change = CHANGES[command]
     start = log_of_length(PAGE + ENDS[end])
@@ -52,7 +42,7 @@ def try_full(trials, program, disk, command, end):
     write(f"{disk}/LOG", start)
     for name, text in change.files.items():
         write(f"{disk}/{name}", text)
-    fill_up(disk)
+    fill_up(f"{disk}/fill")
     trials.want(f"{what}: ends", run(words, cwd="/"), (1, b"", FAILED))
     text = read(f"{disk}/LOG")
     trials.check(f"{what}: the log", text in left and text.startswith(start), repr(text))
@@ -78,7 +68,7 @@ def try_repair(trials, program, disk, kind, start):
     words = [program, *(f"{disk}/LOG" if it == "LOG" else it for it in repair())]
     write(f"{disk}/LOG", start)
     before = os.stat(f"{disk}/LOG").st_ino
-    fill_up(disk)
+    fill_up(f"{disk}/fill")
     trials.want(f"{what}: ends on a full disk", run(words, cwd="/"), (1, b"", FAILED))
     text = read(f"{disk}/LOG")
     trials.check(f"{what}: the log on a full disk", text in (start, start[: Log(start).whole]), repr(text))
@@ -118,7 +108,7 @@ def try_script(trials, program, disk, room, name):
     stopped = done = 0
     for pages in range(PAGES + 1):
         write(f"{room}/LOG", start)
-        fill_up(disk)
+        fill_up(f"{disk}/fill")
         os.truncate(f"{disk}/fill", (PAGES - pages) * PAGE)
         status = run(["sh", name, "LOG"], cwd=room, env={**os.environ, "PATH": path, "TMPDIR": disk})[0]
         wanted = left if status == 0 else start

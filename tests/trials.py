@@ -118,7 +118,17 @@ def read(path):
 
 
 def write(path, text):
-    """Makes a file of these bytes. None: makes none."""
+    """Makes a file of these bytes, or of a text's. None: makes none."""
     if text is not None:
         with open(path, "wb") as it:
-            it.write(text)
+            it.write(text if isinstance(text, bytes) else text.encode())
+
+
+def fill_up(path):
+    """Fills the file system with this file."""
+    with open(path, "wb", buffering=0) as it:
+        try:
+            while it.write(bytes(512)):
+                pass
+        except OSError:
+            return

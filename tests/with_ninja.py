@@ -18,7 +18,7 @@ import sys
 from examples import read_page
 from log_format import HEADER, Log, as_version, line_of
 from log_lines import damage_of
-from trials import main, read, run, write
+from trials import fill_up, main, read, run, write
 
 RECIPES = {**read_page("docs/RECIPES.md")[0], **read_page("docs/DAMAGE.md")[0]}
 
@@ -541,7 +541,7 @@ def both_recompact(trials, build, what, text, before=(), room=None):
     for words in ([build.path, "-t", "recompact"], [build.program, "recompact", *build.option(), LOG, "KEEP"]):
         write(f"{room}/{LOG}", as_version(text, build.version))
         if what == "a full disk":
-            fill(f"{room}/fill")
+            fill_up(f"{room}/fill")
         status = run([*before, *words], cwd=room)[0]
         found = read(f"{room}/{LOG}")
         left.append((status, found if found is None else as_version(found, build.version)))
@@ -549,16 +549,6 @@ def both_recompact(trials, build, what, text, before=(), room=None):
             if os.path.exists(f"{room}/{name}"):
                 os.remove(f"{room}/{name}")
     return left
-
-
-def fill(path):
-    """Fills the file system with this file."""
-    with open(path, "wb", buffering=0) as it:
-        try:
-            while it.write(bytes(512)):
-                pass
-        except OSError:
-            return
 
 
 # Many lines of outputs that are gone, between two that are kept.

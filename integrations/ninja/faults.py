@@ -16,36 +16,12 @@ import sys
 import tempfile
 import time
 
+TOP = os.path.dirname(os.path.dirname(os.path.dirname(os.path.abspath(__file__))))
+sys.path.insert(0, f"{TOP}/tests")
+from trials import Trials, fill_up, read, write
+
 LOG = ".ninja_log"
 IDLE = "ninja: no work to do.\n"
-
-
-class Trial:
-    def __init__(self):
-        self.passed = self.failed = 0
-
-    def want(self, what, got, wanted):
-        self.check(what, got == wanted, f"{got!r:.300}, and not {wanted!r:.300}")
-
-    def check(self, what, holds, why=""):
-        if holds:
-            self.passed += 1
-        else:
-            self.failed += 1
-            print(f"FAILED: {what}: {why}")
-
-
-def read(path):
-    try:
-        with open(path, "rb") as it:
-            return it.read()
-    except FileNotFoundError:
-        return None
-
-
-def write(path, text):
-    with open(path, "wb") as it:
-        it.write(text if isinstance(text, bytes) else text.encode())
 
 
 class Ninja:
@@ -88,15 +64,6 @@ def try_torn(trial, ninja, header, is_plain):
     trial.want("torn: A after that", (said == IDLE, read("out")), (True, b"B\n") if is_plain else (False, b"A\n"))
 
 
-def fill(path):
-    with open(path, "wb", buffering=0) as it:
-        try:
-            while it.write(bytes(512)):
-                pass
-        except OSError:
-            return
-
-
 def try_full_disk(trial, ninja, header, is_plain):
     os.makedirs("full")
     if subprocess.run(["mount", "-t", "tmpfs", "-o", "size=64k", "tmpfs", "full"], stderr=subprocess.DEVNULL, check=False).returncode != 0:
@@ -106,7 +73,7 @@ def try_full_disk(trial, ninja, header, is_plain):
         touching("a", "b")
         text = header + b"1\t2\t3\ta\taa\n1\t2\t3\tb\tbb\n"
         write(LOG, text)
-        fill("fill")
+        fill_up("fill")
         status = ninja.run("-t", "recompact")[0]
         trial.want("a full disk: -t recompact: did it fail, and the log", (status != 0, read(LOG)), (False, b"") if is_plain else (True, text))
         if not is_plain:
@@ -325,7 +292,7 @@ OTHERWISE = [try_other_versions, try_no_log, try_names, try_early_time, try_idle
 
 
 def main(plain, patched):
-    trial = Trial()
+    trial = Trials(__file__)
     room = os.path.realpath(tempfile.mkdtemp())
     try:
         look = Ninja(plain, f"{room}/look")
@@ -350,8 +317,7 @@ def main(plain, patched):
     finally:
         os.chdir("/")
         shutil.rmtree(room, ignore_errors=True)
-    print(f"{trial.passed} passed, {trial.failed} failed")
-    return trial.failed > 0
+    return trial.end()
 
 
 if __name__ == "__main__":
