@@ -24,6 +24,7 @@ LIMITS = {
     "README.md": (600, 100, 18, 25),
     "docs/DAMAGE.md": (None, 100, 18, 25),
     "docs/RECIPES.md": (None, 100, 18, 25),
+    "docs/DECISIONS.md": (None, 100, 18, 25),
 }
 # A paragraph of as many words stands on one page, once.
 REPEATED = 12
