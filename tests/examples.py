@@ -13,10 +13,9 @@ A paragraph that ends in "file `NAME` holds" (or "file `NAME`, without a newline
 it is that file. The examples of a page run in order in one folder, with the page's files and the program on the path: nothing
 of the repository is there, and they leave nothing in it.
 
-The script fails where an example differs, where docs/CLI.md has none for a command that the program's help lists, and where
-docs/PROMISES.md doesn't name an edit. Its last line is `N passed, M failed`.
+The script fails where an example differs, and where docs/CLI.md has none for a command that the program's help lists. Its last line is
+`N passed, M failed`.
 """
-import glob
 import os
 import re
 import shutil
@@ -176,13 +175,6 @@ def lacking(page, examples, commands):
         yield "`nlog` without a word"
 
 
-def unnamed_edits():
-    """The edits that docs/PROMISES.md doesn't name."""
-    text = "\n".join(lines_of("docs/PROMISES.md"))
-    names = [os.path.basename(it)[: -len(".edit")] for it in glob.glob(f"{TOP}/crates/*/edits/*.edit")]
-    return sorted(it for it in names if f"`{it}`" not in text)
-
-
 def try_page(page, program, commands):
     """Tries a page, and returns how many of its examples passed, and what failed."""
     files, examples = read_page(page)
@@ -205,7 +197,7 @@ def main(words):
         print("examples.py: FAILED: the program to run is not there")
         print("0 passed, 1 failed")
         return 1
-    passed, failures = 0, [f"docs/PROMISES.md doesn't name the edit {it}" for it in unnamed_edits()]
+    passed, failures = 0, []
     with tempfile.TemporaryDirectory(prefix="nlog-program-") as folder:
         program = shutil.copy(words[0], f"{folder}/nlog")
         os.chmod(program, 0o755)

@@ -25,6 +25,7 @@ LIMITS = {
     "docs/DAMAGE.md": (None, 100, 18, 25),
     "docs/RECIPES.md": (None, 100, 18, 25),
     "docs/DECISIONS.md": (None, 100, 18, 25),
+    "docs/PROMISES.md": (None, 100, 18, 25),
 }
 # A paragraph of as many words stands on one page, once.
 REPEATED = 12
