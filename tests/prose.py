@@ -28,6 +28,7 @@ LIMITS = {
     "docs/PROMISES.md": (None, 100, 18, 25),
     "docs/DISK_MODEL.md": (None, 100, 18, 25),
     "docs/FORMAT.md": (None, 100, 18, 25),
+    "docs/ARCHITECTURE.md": (None, 100, 18, 25),
 }
 # A paragraph of as many words stands on one page, once.
 REPEATED = 12
