@@ -29,6 +29,7 @@ LIMITS = {
     "docs/DISK_MODEL.md": (None, 100, 18, 25),
     "docs/FORMAT.md": (None, 100, 18, 25),
     "docs/ARCHITECTURE.md": (None, 100, 18, 25),
+    "CONTRIBUTING.md": (None, 439, 18, 71),
 }
 # A paragraph of as many words stands on one page, once.
 REPEATED = 12
