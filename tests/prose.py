@@ -32,6 +32,7 @@ LIMITS = {
     "CONTRIBUTING.md": (None, 439, 18, 71),
     "docs/PERFORMANCE.md": (None, 100, 18, 25),
     "docs/GATE.md": (None, 100, 18, 25),
+    "CHANGELOG.md": (None, 100, 18, 25),
 }
 # A paragraph of as many words stands on one page, once.
 REPEATED = 12
