@@ -6,7 +6,8 @@ usage="usage: ./install.sh PREFIX
 puts PREFIX/bin/nlog, PREFIX/share/man/man1/nlog.1 and PREFIX/share/bash-completion/completions/nlog, and where cc, ar and objcopy are there
 PREFIX/lib/libnlog.a, PREFIX/lib/libnlog.so.0 with its links, PREFIX/include/nlog.h, PREFIX/lib/pkgconfig/nlog.pc,
 PREFIX/share/man/man3/nlog.3 and a link to it of the name of each call
-PREFIX is a folder, as /usr/local; with DESTDIR=FOLDER all is put below FOLDER, from where a package takes it to PREFIX, which begins with /"
+PREFIX is a folder, as /usr/local; with DESTDIR=FOLDER all is put below FOLDER, from where a package takes it to PREFIX, which begins with /
+NLOG_PROGRAM=FILE puts that program, and proves and builds none"
 
 if [ $# -ne 1 ]; then
     echo "$usage" >&2
@@ -42,16 +43,20 @@ put() {
 }
 
 if ! command -v rt > /dev/null; then
-    echo "install.sh: the command rt of the Rattle toolchain isn't there; README.md names it" >&2
+    echo "install.sh: rt isn't there: the command of the Rattle toolchain, which proves and compiles nlog; README.md says what to do without it" >&2
     exit 1
 fi
 
-echo "install.sh: proving and building nlog, which takes minutes the first time"
-(cd "$top/crates/nlog" && rt run -- --version)
+program=${NLOG_PROGRAM-}
+if [ -z "$program" ]; then
+    echo "install.sh: proving and building nlog, which takes minutes the first time"
+    (cd "$top/crates/nlog" && rt run -- --version)
+    program=$top/crates/nlog/out/nlog
+fi
 
 to=$root$prefix
 mkdir -p "$to/bin" "$to/share/man/man1" "$to/share/bash-completion/completions"
-put 755 "$top/crates/nlog/out/nlog" "$to/bin/nlog"
+put 755 "$program" "$to/bin/nlog"
 put 644 "$top/man/nlog.1" "$to/share/man/man1/nlog.1"
 put 644 "$top/completions/nlog.bash" "$to/share/bash-completion/completions/nlog"
 echo "install.sh: $to/bin/nlog, $to/share/man/man1/nlog.1 and $to/share/bash-completion/completions/nlog are there"

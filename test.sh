@@ -56,6 +56,12 @@ if ! python3 -c 'import sys; sys.exit(sys.version_info < (3, 8))' 2> /dev/null; 
     exit 1
 fi
 
+if ! command -v rt > /dev/null; then
+    echo "test.sh: FAILED: rt isn't there: the command of the Rattle toolchain, which proves and compiles nlog; README.md says what to do without it"
+    echo "0 passed, 1 failed"
+    exit 1
+fi
+
 part rt ci
 part python3 tests/edits.py --times
 part python3 tests/labels.py
@@ -72,7 +78,7 @@ fi
 # Those that take the longest begin first.
 parts < <(
     printf 'python3 tests/%s.py\n' library growths refusals
-    for trial in stops crash_states large system_calls short_writes fuzz commands apply apply_calls scripts limits clib manual damaged closed_streams real_disks full_disk two_writers between reports with_ninja; do
+    for trial in stops crash_states large system_calls short_writes fuzz commands apply apply_calls scripts limits clib manual damaged closed_streams real_disks full_disk two_writers between reports release with_ninja; do
         echo "python3 tests/$trial.py crates/nlog/out/nlog"
     done
 )

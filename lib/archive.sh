@@ -8,6 +8,11 @@ makes TO, as libnlog.a, from crates/nl_c and the C below lib/, and libnlog.so.VE
     exit 2
 fi
 
+if ! command -v rt > /dev/null; then
+    echo "lib/archive.sh: rt isn't there: the command of the Rattle toolchain, which proves and compiles nlog; README.md says what to do without it" >&2
+    exit 1
+fi
+
 top=$(cd "$(dirname "$0")/.." && pwd)
 # The toolchain's folder, which has the allocator of Rattle's that calls malloc.
 kit=$(dirname "$(dirname "$(readlink -f "$(command -v rt)")")")
