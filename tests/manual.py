@@ -180,7 +180,7 @@ def trial(trials, program, room):
         trials.check(f"the synopsis of {name}", re.sub("[<>]", "", usage.replace("[OPTIONS] ", "")).split(" ", 1)[1] in text, usage)
         for option in options_of(run([program, name, "--help"])[1].decode()):
             trials.check(f"the option {option} of {name}", option == "-h" or option in text)
-    for option in re.findall(r"--[a-z]+", help_text[help_text.index("Options:") : help_text.index("Without a command")]):
+    for option in re.findall(r"--[a-z]+", help_text[help_text.index("Options:") : help_text.index("\n\n", help_text.index("Options:"))]):
         trials.check(f"the option {option}", option in text)
     trials.want("the number of messages", len(messages()), 12)
     for it in messages():

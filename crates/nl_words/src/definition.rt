@@ -15,27 +15,20 @@ use std::alloc::{AllocError, Global};
 const VERSION: &str = "0.1.0";
 
 const AFTER: &str = "\
-Without a command, and where LOG is left out, a log is read from standard input.
-A LOG that is missing is read as one without entries, also where its name is mistyped.
-Of version 6 or 7, which Ninja 1.12 and 1.13 write, `entries`, `damage`, `repair` and `apply` take a
-LOG as it is; `show`, `check`, `record`, `recompact` and `restat` with `--log-version auto`, behind
-the command. A LOG that is missing is made one of version 5, but where that option has a number.
-`record`, `recompact`, `restat` and `repair` first repair a LOG that a crash cut off, and make what
-they change durable before they end. `record` takes one entry, and `apply` many, one by one.
+`show` to `hash-file` look and change nothing, `record` to `repair` change LOG, and `apply` keeps a
+log for a build tool. Without a command, or without LOG, a log is read from standard input.
 
-What changes LOG locks it first, and waits a minute at most for another `nlog` that has it locked.
-Ninja locks nothing, and a build by it changes LOG until the build ends. So run `record`,
-`recompact`, `restat`, `repair` and `apply` while no build by Ninja runs.
+Ninja 1.12 and 1.13 write logs of version 6 and 7: put `--log-version auto` behind `show`, `check`,
+`record`, `recompact` or `restat`. The other commands take such a LOG as it is.
+Change no log while Ninja builds, because it locks nothing. If LOG is missing, it is read as empty.
 
 Examples:
-  nlog show build/.ninja_log
-  nlog check --log-version auto < .ninja_log
-  nlog record .ninja_log 0 1200 1700000001200000000 app.o 'cc -c app.c -o app.o'
+  nlog show .ninja_log
+  nlog check --log-version auto .ninja_log
   nlog damage .ninja_log >> damaged || { test $? = 3 && nlog repair .ninja_log; }
-  nlog entries .ninja_log | tail -n 1
 
-Status: 0 done; 1 refused, and a line `nlog: ...` on standard error says why (with `--verbose`,
-behind the command, a second one says more); 2 wrong words; 3 `damage` found some.";
+Status: 0 done; 1 refused, and a line `nlog: ...` on standard error says why (a second one says more
+with `--verbose`, behind the command); 2 wrong words; 3 `damage` found some.";
 
 /// The whole command line.
 pub fn nlog_command<'a>(alloc: Global) -> Result<Command<'a>, AllocError>
