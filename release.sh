@@ -43,7 +43,7 @@ if [[ -z $program_needs || -z $library_needs ]]; then
     exit 1
 fi
 
-commit=$(git -C "$top" rev-parse HEAD 2> /dev/null || echo "that is not known")
+commit=$(git -C "$top" rev-parse HEAD 2> /dev/null || echo "not known")
 [[ -z $(git -C "$top" status --porcelain -uno 2> /dev/null || true) ]] || commit="$commit, changed"
 # Files of the same sources have the same dates.
 SOURCE_DATE_EPOCH=$(git -C "$top" log -1 --format=%ct 2> /dev/null || date +%s)

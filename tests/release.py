@@ -37,6 +37,11 @@ def libraries_of(path):
     return re.findall(r"(?m)(/\S+) \(0x", run(["ldd", path])[1].decode())
 
 
+def others_of(path):
+    """Those of them that are not the C library."""
+    return [it for it in libraries_of(path) if os.path.basename(it) not in ("libc.so.6", "ld-linux-x86-64.so.2")]
+
+
 def needs(path):
     """The newest GLIBC that a file names, from its table of names."""
     found = [tuple(map(int, it.split(b"."))) for it in re.findall(rb"\0GLIBC_([0-9.]+)(?=\0)", read(path))]
@@ -53,10 +58,7 @@ class Root:
         os.makedirs(f"{folder}/tmp")
 
     def put(self, path, name):
-        """Puts a program there, and the C library, which has to be all that it wants."""
-        others = [it for it in libraries_of(path) if os.path.basename(it) not in ("libc.so.6", "ld-linux-x86-64.so.2")]
-        if others:
-            raise SystemExit(f"release.py: {path} wants {others}")
+        """Puts a program there, and the C library, which is all that it wants."""
         for it, to in [(path, name), *((it, it) for it in libraries_of(path))]:
             os.makedirs(os.path.dirname(f"{self.folder}{to}"), exist_ok=True)
             shutil.copy(it, f"{self.folder}{to}")
@@ -131,7 +133,7 @@ def try_text(trials, prefix, program, version):
     trials.check("what it says of a static program", "There is no static program" in text)
     trials.want("the kit", re.findall(r"(?m)^  kit +(.*)$", text), [run(["rt", "version"])[1].decode().strip()])
     commit = run(["git", "-C", TOP, "rev-parse", "HEAD"])[1].decode().strip()
-    trials.check("the commit", re.search(rf"(?m)^  commit +{commit or 'that is not known'}(, changed)?$", text), text)
+    trials.check("the commit", re.search(rf"(?m)^  commit +{commit or 'not known'}(, changed)?$", text), text)
     trials.check("that the program was handed over", "bin/nlog was handed to release.sh as a built program" in text)
     headline = " ".join(re.findall(r"(?m)^> (.*)$", read(f"{TOP}/docs/PROMISES.md").decode()))
     trials.check("the headline", headline and headline in " ".join(text.split()))
@@ -234,7 +236,11 @@ def try_without_toolchain(trials, room):
 
 
 def can_enter(trials, room):
-    """Whether a root can be entered at all."""
+    """Whether a root can be made and entered at all."""
+    for it in TOOLS:
+        if others_of(shutil.which(it)):
+            trials.skip("all that runs in a root", f"{it} wants more than the C library: {others_of(shutil.which(it))}")
+            return False
     os.makedirs(f"{room}/try")
     status, out, err = Root(f"{room}/try/root").run("echo in")
     if (status, out) != (0, "in\n"):
