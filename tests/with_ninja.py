@@ -446,10 +446,14 @@ rule none
 rule later
   command = touch -d @2000000003 $out
   restat = 1
+rule generates
+  command = touch -d @2000000005 $out
+  generator = 1
 build p q: two
 build kept: same a.c b.c
 build none: none
 build late: later
+build generated: generates
 """
     for number in ("a", "b"):
         os.utime(f"{build.room}/{number}.c", ns=(0, 1_600_000_000_000_000_000))
@@ -457,6 +461,7 @@ build late: later
     table = build.log().table
     trials.want("one command: the same numbers for each output", table[b"p"], table[b"q"])
     trials.want("mtime: a later output of a restat rule", table[b"late"][2], 2_000_000_003_000_000_000)
+    trials.want("mtime: a later output of a generator", table[b"generated"][2], 2_000_000_005_000_000_000)
     if build.version > 5:
         return try_mtime_of_a_start(trials, build, table)
     trials.want("mtime: the newest output", table[b"p"][2], 1_700_000_003_000_000_000)
