@@ -1,0 +1,3 @@
+mod RunLemmas
+mod BuildLemmas
+mod TextLemmas

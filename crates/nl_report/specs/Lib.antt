@@ -1,0 +1,4 @@
+pub mod Runs
+pub mod Commands
+pub mod Builds
+pub mod BuildSteps
