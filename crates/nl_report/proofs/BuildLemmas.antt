@@ -55,10 +55,14 @@ module _ (r : Run Entry) (e : Entry) where
       × (commands (items (longer r e)) ≡ before ++ longer c e ∷ [])
   commands_same same =
       let ends = runs_end is_other_command r in
-      let along : is_other_command ends.1.last e ≡ false = ap (λ (l : Entry). is_other_command l e) ends.3 ∙ same in
-      (ends.0, ends.1, ends.2, ends.3,
-      runs-push is_other_command (items r) e ∙ ap (λ (cs : List (Run Entry)). placed is_other_command cs e) ends.2
-      ∙ placed-along is_other_command ends.0 ends.1 e along)
+      let along : is_other_command ends.1.last e ≡ false = ap (λ (l : Entry). is_other_command l e) ends.3 ∙ same in (
+        ends.0,
+        ends.1,
+        ends.2,
+        ends.3,
+        runs-push is_other_command (items r) e ∙ ap (λ (cs : List (Run Entry)). placed is_other_command cs e) ends.2
+            ∙ placed-along is_other_command ends.0 ends.1 e along,
+      )
 
 -- the same times
 same_time : (a b : Span) → not (is_same_command a b) ≡ false → time_of b ≡ time_of a

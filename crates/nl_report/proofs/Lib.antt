@@ -1,3 +1,7 @@
 mod RunLemmas
 mod BuildLemmas
 mod TextLemmas
+mod SweepLemmas
+mod SweepStepLemmas
+mod SharesLemmas
+mod LeftOverLemmas

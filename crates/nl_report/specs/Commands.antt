@@ -1,5 +1,5 @@
 -- The commands of a log, as its entries tell them (docs/FORMAT.md, "Entry line").
-use Rattle.std.specs.Prelude.{ℕ, ℤ, negsuc, ◌-ℤ◌, ◌-◌, ◌==◌, ◌&&◌, Bool, not, nat_lt, List}
+use Rattle.std.specs.Prelude.{ℕ, ℤ, negsuc, ◌-ℤ◌, ◌-◌, ◌<◌, ◌^◌, ◌==◌, ◌&&◌, Bool, not, nat_lt, List}
 use Rattle.std.specs.Int.RustNames.{unsigned_abs}
 use Rattle.nl_fields.specs.declared.entry.Entry.{Entry}
 use Rattle.nl_report.specs.Runs.{Run, runs}
@@ -12,6 +12,11 @@ moment ms = unsigned_abs (ms -ℤ negsuc 2147483647)
 -- when the command of an entry ran, and its hash
 abbrev pub span_of : Entry → Span
 span_of e = record { began = moment e.start_ms; ended = moment e.end_ms; hash = e.hash }
+
+-- its moments are those of an entry
+pub record IsEarly (s : Span) : Type 0 where
+  pub began : s.began < 2 ^ 32
+  pub ended : s.ended < 2 ^ 32
 
 -- how long it ran: not at all, where it ended before it began
 abbrev pub time_of : Span → ℕ

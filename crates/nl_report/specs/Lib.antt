@@ -2,3 +2,6 @@ pub mod Runs
 pub mod Commands
 pub mod Builds
 pub mod BuildSteps
+pub mod Sweep
+pub mod SweepSteps
+pub mod Shares

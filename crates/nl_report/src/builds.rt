@@ -11,7 +11,7 @@ ghost use Rattle.nl_print.specs.Faults.{IsLogFault};
 ghost use Rattle.nl_print.specs.Output.{IsTextAsRead};
 ghost use Rattle.nl_print.specs.VersionOf.{as_five};
 ghost use Rattle.nl_report.specs.Runs.{Run, longer, one, placed};
-ghost use Rattle.nl_report.specs.Commands.{span_of};
+ghost use Rattle.nl_report.specs.Commands.{IsEarly, span_of};
 ghost use Rattle.nl_report.specs.Builds.{build_line, build_of, builds, builds_text_of, is_border, lines_from};
 ghost use Rattle.nl_report.specs.BuildSteps.{AreHeld, IsBounded, IsCurrent, IsBoundedIf, outputs_in};
 
@@ -45,8 +45,7 @@ struct Current {
 impl Current {
     // A build of one entry.
     fn one(span: Span) -> Current
-        requires began { span.began < 2 ^ 32 }
-        requires ended { span.ended < 2 ^ 32 }
+        requires early { IsEarly span }
         ensures value { (e : Entry) → span ≡ span_of e → IsCurrent (one e) result }
         ensures bound { IsBounded result.build }
         ensures count { result.build.outputs ≡ 1 }
@@ -67,7 +66,7 @@ impl Current {
     fn longer(&self, span: Span) -> Current
         requires room { self.now.build.outputs < 2 ^ 63 }
         requires bound { IsBounded self.now.build }
-        requires ended { span.ended < 2 ^ 32 }
+        requires early { IsEarly span }
         ensures value { (r : Run Entry) (e : Entry) → IsCurrent r self.now → span ≡ span_of e
             → IsCurrent (longer r e) result }
         ensures bound { IsBounded result.build }
@@ -138,15 +137,10 @@ fn take_line(
 }
 
 // The last build with an entry more, or one that the entry begins, where the one before it is done.
-fn place(
-    span: Span,
-    done: &mut Vec<Build>,
-    current: Option<Current>,
-) -> Result<Current, AllocError>
+fn place(span: Span, done: &mut Vec<Build>, current: Option<Current>) -> Result<Current, AllocError>
     requires room { outputs_in current < 2 ^ 63 }
     requires bound { IsBoundedIf current }
-    requires began { span.began < 2 ^ 32 }
-    requires ended { span.ended < 2 ^ 32 }
+    requires early { IsEarly span }
     ensures ok { (rs : List (Run Entry)) (e : Entry) → span ≡ span_of e
         → AreHeld rs done.old.items current
         → IfOk result (λ now. AreHeld (placed is_border rs e) done.new.items (Some now)) }

@@ -17,7 +17,7 @@ use std::io::Read;
 /// The line of each entry of the log that the reader gives, of whichever version its first line names, older ones
 /// included, in the order of the file.
 pub fn read_entries<R: Read + Drop>(alloc: Global, reader: R) -> Result<Vec<u8>, ToolFault>
-    ensures text { IfOk result (λ text. IsTextAsRead (λ bs. entries_text_of (as_five bs))
+    ensures value { IfOk result (λ text. IsTextAsRead (λ bs. entries_text_of (as_five bs))
         (R.remaining reader) text.items) }
     ensures not_a_log { IsErrOf result ToolFault.NotALog
         → IfSome (R.remaining reader) (λ bs. log_of (as_five bs) ≡ NotALog) }

@@ -4,8 +4,11 @@
 mod builds;
 mod entry_text;
 pub mod laws;
+mod shares;
 mod span;
+mod sweep;
 
 pub use builds::{Build, builds_in, builds_to};
 pub use entry_text::read_entries;
+pub use shares::Shares;
 pub use span::Span;

@@ -1,6 +1,6 @@
 //! When the command of an entry ran.
-ghost use Rattle.std.specs.Prelude.{◌≡◌, ◌<◌, ◌≤◌, ◌^◌};
-ghost use Rattle.nl_report.specs.Commands.{falls_after, is_same_command, span_of, time_of};
+ghost use Rattle.std.specs.Prelude.{◌≡◌, ◌≤◌};
+ghost use Rattle.nl_report.specs.Commands.{IsEarly, falls_after, is_same_command, span_of, time_of};
 
 use nl_fields::EntryRef;
 
@@ -16,8 +16,7 @@ pub struct Span {
 impl Span {
     pub fn of(entry: &EntryRef) -> Span
         ensures value { result ≡ span_of entry.now }
-        ensures began { result.began < 2 ^ 32 }
-        ensures ended { result.ended < 2 ^ 32 }
+        ensures early { IsEarly result }
     {
         let stamp = entry.stamp();
         Span {

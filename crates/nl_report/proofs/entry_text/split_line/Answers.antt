@@ -15,7 +15,8 @@ pub returns-clause-line : goal.returns-clause-line
 returns-clause-line c line later plain is =
     let text = c.args.text.now in
     let found = IsFirstByte-position (λ b. b == 10) text c.memchr.result c.memchr.ensures ∙ newline_found text line later plain is in
-    let there : c.in_ok-at.at ≡ length line = cc (found, c.in_ok-at.was) in
-    (before_newline text line later c.in_ok-at.at is there,
-    take_all (length text - (c.in_ok-at.at + 1)) (drop (c.in_ok-at.at + 1) text) (omega (arith, length-drop (c.in_ok-at.at + 1) text))
-    ∙ after_newline text line later c.in_ok-at.at is there)
+    let there : c.in_ok-at.at ≡ length line = cc (found, c.in_ok-at.was) in (
+      before_newline text line later c.in_ok-at.at is there,
+      take_all (length text - (c.in_ok-at.at + 1)) (drop (c.in_ok-at.at + 1) text) (omega (arith, length-drop (c.in_ok-at.at + 1) text))
+          ∙ after_newline text line later c.in_ok-at.at is there,
+    )
