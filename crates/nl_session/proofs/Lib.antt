@@ -4,4 +4,7 @@ pub mod StepLemmas
 pub mod AppendLemmas
 pub mod OpenLemmas
 pub mod Stories
+pub mod IntentLemmas
+pub mod StaleLemmas
+pub mod FoundLemmas
 pub mod RunLemmas

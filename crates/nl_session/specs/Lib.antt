@@ -3,9 +3,11 @@ pub mod Represents
 pub mod States
 pub mod Opened
 pub mod View
+pub mod Intents
 pub mod Calls
 pub mod Parts
 pub mod Headline
+pub mod NeverStale
 pub mod Effects
 pub mod Reopening
 pub mod Runs
