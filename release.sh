@@ -49,9 +49,10 @@ commit=$(git -C "$top" rev-parse HEAD 2> /dev/null || echo "not known")
 SOURCE_DATE_EPOCH=$(git -C "$top" log -1 --format=%ct 2> /dev/null || date +%s)
 export SOURCE_DATE_EPOCH
 if [[ -n ${NLOG_PROGRAM-} ]]; then
-    how="bin/nlog was handed to release.sh as a built program; what proved it, its maker says. The kit is that of the libraries"
+    how="bin/nlog was handed to release.sh as a built program, and not proved in this run. Of the one that is built from this commit:
+  each"
 else
-    how="bin/nlog was proved and built from the sources of this commit, by this kit"
+    how="bin/nlog was proved and built from the sources of this commit, by this kit: each"
 fi
 
 doc=$tree/share/doc/nlog
@@ -69,8 +70,7 @@ What it needs
 What was proved
   commit   $commit
   kit      $(rt version)
-  $how.
-  Each function of it meets its contract, is safe and ends. The main one:
+  $how function of it meets its contract, is safe and ends. The main one:
 
 $(sed -n 's/^> /    /p' "$top/docs/PROMISES.md")
 
@@ -111,8 +111,8 @@ Section: devel
 Priority: optional
 Description: Ninja's build log, read and written
  The program nlog prints, checks and repairs Ninja's build log, and records to
- it so that no crash can spoil it; the library is for C. Their contracts were
- proved by $(rt version).
+ it so that no crash can spoil it; the library is for C.
+ Made with $(rt version);
  /usr/share/doc/nlog/RELEASE says what was proved.
 END
 echo "activate-noawait ldconfig" > "$room/package/DEBIAN/triggers"
