@@ -43,14 +43,14 @@ ended_more r e = fold_push (λ (at : ℕ) (f : Entry). max at (span_of f).ended)
 
 -- the commands of a build of which the last begins another one, or is of the last
 module _ (r : Run Entry) (e : Entry) where
-  commands_other : is_other_command r.last e ≡ true → commands (items (longer r e)) ≡ commands (items r) ++ one e ∷ []
+  pub commands_other : is_other_command r.last e ≡ true → commands (items (longer r e)) ≡ commands (items r) ++ one e ∷ []
   commands_other other =
       let ends = runs_end is_other_command r in
       let apart : is_other_command ends.1.last e ≡ true = ap (λ (l : Entry). is_other_command l e) ends.3 ∙ other in
       runs-push is_other_command (items r) e ∙ ap (λ (cs : List (Run Entry)). placed is_other_command cs e) ends.2
       ∙ placed-apart is_other_command ends.0 ends.1 e apart ∙ ap (λ (cs : List (Run Entry)). cs ++ one e ∷ []) (sym ends.2)
 
-  commands_same : is_other_command r.last e ≡ false
+  pub commands_same : is_other_command r.last e ≡ false
       → (before : List (Run Entry)) × (c : Run Entry) × (commands (items r) ≡ before ++ c ∷ []) × (c.last ≡ r.last)
       × (commands (items (longer r e)) ≡ before ++ longer c e ∷ [])
   commands_same same =

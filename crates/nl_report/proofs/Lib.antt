@@ -5,3 +5,4 @@ mod SweepLemmas
 mod SweepStepLemmas
 mod SharesLemmas
 mod LeftOverLemmas
+mod LastBuildLemmas

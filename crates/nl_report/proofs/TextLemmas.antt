@@ -59,60 +59,52 @@ after_newline text line later at is there =
 lines-cons : (e : Entry) (es : List Entry) → lines_of_entries (e ∷ es) ≡ line_of e ++ 10 ∷ lines_of_entries es
 lines-cons e es = with_newline-append (line_of e) (lines_of_entries es)
 
--- the builds of the entries before the rest of a text are held
-pub record HoldsBefore (es : List Entry) (rest : List ℕ) (done : List Build) (current : Option Current) : Type 0 where
+-- this holds of the builds of the entries before the rest of a text
+pub record HoldsBefore (es : List Entry) (rest : List ℕ) (Held : List (Run Entry) → Type 0) : Type 0 where
   pub front : List Entry
   pub later : List Entry
   pub is : es ≡ front ++ later
   pub rest_is : rest ≡ lines_of_entries later
-  pub held : AreHeld (builds front) done current
+  pub held : Held (builds front)
 
 -- what was split off is a line, if the text begins with one
 abbrev pub SplitsOff : List ℕ → List ℕ → List ℕ → Type 0
 SplitsOff text first rest = (line later : List ℕ) → NoNewline line → text ≡ line ++ 10 ∷ later → (first ≡ line) × (rest ≡ later)
 
-abbrev pub Takes : List ℕ → List Build → Option Current → List Build → Option Current → Type 0
-Takes line done current new_done new_current = (rs : List (Run Entry)) (e : Entry) → entry_of line ≡ Some e → AreHeld rs done current
-    → AreHeld (placed is_border rs e) new_done new_current
-
 entries_behind : (front later : List Entry) → All IsEntry (front ++ later) → All IsEntry later
 entries_behind [] later all = all
 entries_behind (e ∷ front) later all = entries_behind front later (All-tail IsEntry e (front ++ later) all)
 
-pub held_line : (es : List Entry) (old line rest : List ℕ) (done : List Build) (current : Option Current) (new_done : List Build)
-    (new_current : Option Current) → All IsEntry es → HoldsBefore es old done current → SplitsOff old line rest → length rest < length old
-    → Takes line done current new_done new_current → HoldsBefore es rest new_done new_current
-held_line es old line rest done current new_done new_current valid before splits shorter takes =
-    go before.front before.later before.is before.rest_is before.held
-  where
-    go : (front later : List Entry) → es ≡ front ++ later → old ≡ lines_of_entries later → AreHeld (builds front) done current
-        → HoldsBefore es rest new_done new_current
-    go front [] is none held = absurd (omega (arith, shorter, ap length none))
-    go front (e ∷ later) is some held =
-        let behind : All IsEntry (e ∷ later) = entries_behind front (e ∷ later) (subst (All IsEntry) is valid) in
-        let entry : IsEntry e = All-head IsEntry e later behind in
-        let split = splits (line_of e) (lines_of_entries later) (plain_line e entry) (some ∙ lines-cons e later) in
-        record {
-          front = front ++ e ∷ [];
-          later = later;
-          is = is ∙ sym (append_assoc front (e ∷ []) later);
-          rest_is = split.1;
-          held = subst (λ (rs : List (Run Entry)). AreHeld rs new_done new_current) (sym (runs-push is_border front e))
-              (takes (builds front) e (ap entry_of split.0 ∙ entry_of-line_of e entry) held);
-        }
+module _ (es : List Entry) (old line rest : List ℕ) (Held Holds : List (Run Entry) → Type 0) (valid : All IsEntry es)
+    (splits : SplitsOff old line rest) (shorter : length rest < length old)
+    (takes : (rs : List (Run Entry)) (e : Entry) → entry_of line ≡ Some e → Held rs → Holds (placed is_border rs e)) where
+  line_more : (front later : List Entry) → es ≡ front ++ later → old ≡ lines_of_entries later → Held (builds front) → HoldsBefore es rest Holds
+  line_more front [] is none held = absurd (omega (arith, shorter, ap length none))
+  line_more front (e ∷ later) is some held =
+      let behind : All IsEntry (e ∷ later) = entries_behind front (e ∷ later) (subst (All IsEntry) is valid) in
+      let entry : IsEntry e = All-head IsEntry e later behind in
+      let split = splits (line_of e) (lines_of_entries later) (plain_line e entry) (some ∙ lines-cons e later) in
+      record {
+        front = front ++ e ∷ [];
+        later = later;
+        is = is ∙ sym (append_assoc front (e ∷ []) later);
+        rest_is = split.1;
+        held = subst Holds (sym (runs-push is_border front e)) (takes (builds front) e (ap entry_of split.0 ∙ entry_of-line_of e entry) held);
+      }
 
-pub held_all : (es : List Entry) (rest : List ℕ) (done : List Build) (current : Option Current) → All IsEntry es
-    → HoldsBefore es rest done current → ((line later : List ℕ) → NoNewline line → rest ≡ line ++ 10 ∷ later → ⊥)
-    → AreHeld (builds es) done current
-held_all es rest done current valid before none = go before.front before.later before.is before.rest_is before.held
-  where
-    go : (front later : List Entry) → es ≡ front ++ later → rest ≡ lines_of_entries later → AreHeld (builds front) done current
-        → AreHeld (builds es) done current
-    go front [] is nothing held =
-        subst (λ (l : List Entry). AreHeld (builds l) done current) (sym (is ∙ append-nil front)) held
-    go front (e ∷ later) is some held =
-        let behind : All IsEntry (e ∷ later) = entries_behind front (e ∷ later) (subst (All IsEntry) is valid) in
-        absurd (none (line_of e) (lines_of_entries later) (plain_line e (All-head IsEntry e later behind)) (some ∙ lines-cons e later))
+  pub held_line : HoldsBefore es old Held → HoldsBefore es rest Holds
+  held_line before = line_more before.front before.later before.is before.rest_is before.held
+
+module _ (es : List Entry) (rest : List ℕ) (Held : List (Run Entry) → Type 0) (valid : All IsEntry es)
+    (none : (line later : List ℕ) → NoNewline line → rest ≡ line ++ 10 ∷ later → ⊥) where
+  all_taken : (front later : List Entry) → es ≡ front ++ later → rest ≡ lines_of_entries later → Held (builds front) → Held (builds es)
+  all_taken front [] is nothing held = subst (λ (l : List Entry). Held (builds l)) (sym (is ∙ append-nil front)) held
+  all_taken front (e ∷ later) is some held =
+      let behind : All IsEntry (e ∷ later) = entries_behind front (e ∷ later) (subst (All IsEntry) is valid) in
+      absurd (none (line_of e) (lines_of_entries later) (plain_line e (All-head IsEntry e later behind)) (some ∙ lines-cons e later))
+
+  pub held_all : HoldsBefore es rest Held → Held (builds es)
+  held_all before = all_taken before.front before.later before.is before.rest_is before.held
 
 -- ---- the text of `builds`
 
@@ -124,9 +116,9 @@ lines-more n (c ∷ bs) b =
     ∙ sym (append_assoc (build_line n c) (lines_from (n + 1) bs) (build_line (n + length (c ∷ bs)) b))
 
 -- the line of one build more
-pub line_more : (bs : List Build) (i : ℕ) (d : Build) (text new : List ℕ) (number : ℕ) → i < length bs → number ≡ i
+pub build_more : (bs : List Build) (i : ℕ) (d : Build) (text new : List ℕ) (number : ℕ) → i < length bs → number ≡ i
     → text ≡ lines_from 1 (take i bs) → new ≡ text ++ build_line (number + 1) (get_or bs i d) → new ≡ lines_from 1 (take (i + 1) bs)
-line_more bs i d text new number within count before after =
+build_more bs i d text new number within count before after =
     let place : 1 + length (take i bs) ≡ number + 1 = omega (arith, length-take i bs, count, within) in
     after ∙ ap (λ (l : List ℕ). l ++ build_line (number + 1) (get_or bs i d)) before
     ∙ ap (λ (m : ℕ). lines_from 1 (take i bs) ++ build_line m (get_or bs i d)) (sym place)

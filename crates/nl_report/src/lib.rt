@@ -3,6 +3,7 @@
 
 mod builds;
 mod entry_text;
+mod last_commands;
 pub mod laws;
 mod shares;
 mod span;
@@ -10,5 +11,6 @@ mod sweep;
 
 pub use builds::{Build, builds_in, builds_to};
 pub use entry_text::read_entries;
+pub use last_commands::{LastBuild, last_build};
 pub use shares::Shares;
 pub use span::Span;
