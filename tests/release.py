@@ -115,6 +115,8 @@ def try_library(trials, prefix, root, inside, room, variables=()):
         trials.want(f"the example by the {what} library", (ran, read(f"{room}/c.log")), ((0, b"", b""), WRITTEN))
         os.remove(f"{room}/c.log") if os.path.exists(f"{room}/c.log") else None
         shutil.copy(f"{room}/by-{what}", f"{root.folder}/tmp/example")
+        if os.path.exists(f"{root.folder}/tmp/c.log"):
+            os.remove(f"{root.folder}/tmp/c.log")
         ran = root.run(f"LD_LIBRARY_PATH={inside}/lib ./example")
         trials.want(f"the example by the {what} library, in the root", (ran, read(f"{root.folder}/tmp/c.log")), ((0, "", ""), WRITTEN))
     shutil.rmtree(f"{root.folder}/tmp")
