@@ -91,7 +91,9 @@ def of_impl(head, others):
         head = head[end_of(head) + 1 :]
     trait, is_of, whom = head.partition(" for ")
     name, _, rest = head.partition("<")
-    if not is_of and name.strip() in others:
+    # The block of one instance of a type has what that is of in its name.
+    own = [it for it in parts_of(rest.rpartition(">")[0]) if not it.startswith("'") and it not in parameters]
+    if not is_of and (name.strip() in others or own):
         return "+".join([name.strip(), *parts_of(rest.rpartition(">")[0])])
     return type_name(whom, parameters) + type_name(trait, parameters) if is_of else type_name(head, parameters)
 
