@@ -260,9 +260,10 @@ nlog_status nlog_clear_marks(nlog *log);
  *   and each rewriting the log is looked at, and where another file stands there, none, or one of another length, the call answers NLOG_FAULT,
  *   with ESTALE or ENOENT and "stat", and changes nothing. What was recorded since the last sync may then be lost. What another program puts
  *   there between the look and the end of the call isn't seen.
- * Memory: an open log takes its text and its table, and while it is opened its text once more; the close frees them.
- *   Where there is none, a call answers NLOG_OUT_OF_MEMORY, and no file was changed, but where the call says more. Whether the log is then
- *   still open, and the call may be made again, nlog_writer_is_open tells: where memory ran out within the text, the writer is broken.
+ * Memory: an open log takes its table, as nlog_load does, and a buffer of 327,743 bytes; while it is opened it takes the log's bytes too. The
+ *   close frees them. Where there is none, a call answers NLOG_OUT_OF_MEMORY, and no file was changed, but where the call says more. Whether
+ *   the log is then still open, and the call may be made again, nlog_writer_is_open tells: where memory ran out within a change, the writer is
+ *   broken.
  *
  * Every call but nlog_writer_new and nlog_writer_free answers NLOG_NO_HANDLE, 0 or NULL where the writer is NULL. */
 typedef struct nlog_writer nlog_writer;

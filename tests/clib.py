@@ -85,7 +85,10 @@ def build(trials, room):
 
 
 def names(trials, room):
-    """The names of the archive and of the shared object: those of the header, and no other."""
+    """The names of the archive and of the shared object: those of the header, and no other. The writer's own calls are local."""
+    own = {it for it in exported() if it.startswith("carried_")}
+    inner = set(re.findall(r"(?m) t (carried_\w+)$", run(["nm", f"{room}/libnlog.a"])[1].decode()))
+    trials.want("the writer's own calls, in the archive", inner, own)
     for path, words in ((f"{room}/libnlog.a", ["-g"]), (f"{room}/libnlog.so", ["-D"])):
         said = run(["nm", *words, "--defined-only", path])[1].decode()
         found = {it.partition("@")[0] for it in re.findall(r"(?m) [A-Za-z] (\S+)$", said)} - {VERSION_OF_NAMES}
@@ -98,6 +101,12 @@ def names(trials, room):
         said = run(["objdump", "-T", f"{room}/libnlog.so"])[1].decode()
         trials.want("the versions of its names", set(re.findall(r"(?m) (\S+) +nlog_\w+$", said)), {VERSION_OF_NAMES})
         trials.want("what the shared object is called and needs", found, [("NEEDED", "libc.so.6"), ("SONAME", "libnlog.so.0")])
+
+
+def exported():
+    """The functions that the proved part exports."""
+    sources = [read(f"{TOP}/crates/nl_c/src/{it}").decode() for it in sorted(os.listdir(f"{TOP}/crates/nl_c/src"))]
+    return {it for source in sources for it in re.findall(r'pub extern "C" fn (\w+)', source)}
 
 
 def declared():
@@ -313,12 +322,13 @@ def by_ctypes(trials, made, room):
 
 
 def header(trials):
-    """That the header has each export and no more, and the numbers of the statuses those of the code."""
+    """That the header has each export but the writer's own, and no more, and the numbers of the statuses those of the code."""
     text = read(f"{TOP}/include/nlog.h").decode()
-    sources = [read(f"{TOP}/crates/nl_c/src/{it}").decode() for it in sorted(os.listdir(f"{TOP}/crates/nl_c/src"))]
-    proved = {it for source in sources for it in re.findall(r'pub extern "C" fn (\w+)', source)}
+    proved = {it for it in exported() if not it.startswith("carried_")}
     c_parts = "".join(read(f"{TOP}/lib/{it}").decode() for it in ("nlog_writer.c", "nlog_damage.c"))
     written = set(re.findall(r"(?m)^\w[\w *]*?(nlog_(?:writer_\w+|load_file|next_damage))\(", c_parts))
+    own = set(re.findall(r"(?m)^nlog_status (carried_\w+)\(", c_parts))
+    trials.want("the functions that the writer alone has", own, exported() - proved)
     trials.want("the functions that the header declares", declared(), proved | written)
     numbers = {name: int(number) for name, number in re.findall(r"NLOG_(\w+) = (\d+),", text)}
     statuses = {name: int(number) for name, number in re.findall(r"const (\w+): u32 = (\d+);", read(f"{TOP}/crates/nl_c/src/status.rt").decode())}
@@ -741,23 +751,30 @@ def refusals(trials, made, room):
 
 
 def kept_memory(trials, made, room):
-    """How much memory a writer takes: at its open the text twice and the table, and behind its close neither."""
+    """How much memory a writer takes: at its open the log's bytes and the table, while it is open what a load takes, and behind its close less."""
     log, names = f"{room}/kept.log", [b"%d" % i + LONG[: MAX_NAME - 3] for i in range(100)]
     write(log, HEADER + b"".join(line_of(name, (i, i, i, i)) for i in range(3) for name in names))
-    size, table = os.stat(log).st_size, 100 * MAX_NAME
-    writer = subprocess.Popen([made["C11"], "write", log, "0"], stdin=subprocess.PIPE, stdout=subprocess.PIPE)
+    size, table, buffers = os.stat(log).st_size, 100 * MAX_NAME, 1_000_000
+    loader, writer = (subprocess.Popen([made["C11"], "write", log, "0"], stdin=subprocess.PIPE, stdout=subprocess.PIPE) for _ in range(2))
     try:
-        answers_of(writer, "is_open")
-        begun = resident(writer.pid, "VmRSS")
-        trials.want("a log of long names", answers_of(writer, "open"), "OK")
-        taken = resident(writer.pid, "VmHWM") - begun
-        trials.check("an open takes the text twice and the table", taken < 2 * size + table + 4_000_000, f"{taken} bytes for a text of {size}")
-        trials.want("its close", [answers_of(writer, it) for it in ("count", "close", "is_open")], ["OK 100", "OK", "OK 0"])
-        left = resident(writer.pid, "VmRSS") - begun
+        begun = [resident(it.pid, "VmRSS") for it in (loader, writer) if answers_of(it, "is_open")]
+        trials.want("a log of long names", [answers_of(loader, "load"), answers_of(writer, "open")], ["OK", "OK"])
+        loaded, most = resident(loader.pid, "VmRSS") - begun[0], resident(writer.pid, "VmHWM") - begun[1]
+        trials.check("an open takes the bytes and the table", most < size + table + 4_000_000, f"{most} bytes for a log of {size}")
+        held = [resident(writer.pid, "VmRSS") - begun[1]]
+        again = {answers_of(writer, f"record {i} 2 3 aa {hexed(names[i % 20])}") for i in range(60)}
+        trials.want("records without a sync", again, {"OK"})
+        held.append(resident(writer.pid, "VmRSS") - begun[1])
+        trials.want("its rewriting", [answers_of(writer, it) for it in ("recompact", "count")], ["OK", "OK 100"])
+        held.append(resident(writer.pid, "VmRSS") - begun[1])
+        trials.check("an open log takes what a load does", max(held) < 1.1 * loaded + buffers, f"{held} bytes, and {loaded} of a load")
+        trials.want("its close", [answers_of(writer, it) for it in ("close", "is_open")], ["OK", "OK 0"])
+        left = resident(writer.pid, "VmRSS") - begun[1]
         # What malloc doesn't give back is no more than the table.
-        trials.check("a close frees the text", left < table + 4_000_000, f"{left} bytes are left of {taken}")
+        trials.check("a close frees the table", left < table + 1_000_000, f"{left} bytes are left of {most}")
     except FileNotFoundError:
         trials.skip("the memory of a writer", "/proc isn't there")
+    loader.communicate()
     writer.communicate()
 
 

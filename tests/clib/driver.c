@@ -511,6 +511,8 @@ static void write_log(const char *log, uint32_t version) {
   size_t i, count, place, name_len;
   uint32_t number;
   bool flag;
+  int error;
+  nlog loaded = NLOG_INIT;
   pid_t child = -1;
   nlog_status status = nlog_writer_new(&writer, log, version);
   if (status != NLOG_OK) printf("%s\n", nlog_status_name(status));
@@ -534,6 +536,7 @@ static void write_log(const char *log, uint32_t version) {
     if (is(&it, "at")) status = nlog_writer_at(writer, (size_t)it.number, &entry, name, sizeof name, &name_len);
     if (is(&it, "find")) status = nlog_writer_find(writer, it.names[0].bytes, it.names[0].len, &entry);
     if (is(&it, "pause")) status = NLOG_OK;
+    if (is(&it, "load")) status = nlog_load_file(&loaded, log, &error);
     if (is(&it, "shared")) status = nlog_writer_set_shared(writer, true);
     if (is(&it, "wait")) status = nlog_writer_set_wait(writer, (uint32_t)it.number);
     if (is(&it, "cd")) {
@@ -562,6 +565,7 @@ static void write_log(const char *log, uint32_t version) {
     fflush(stdout);
   }
   nlog_writer_free(&writer);
+  nlog_free(&loaded);
   if (child > 0) {
     kill(child, SIGKILL);
     waitpid(child, NULL, 0);

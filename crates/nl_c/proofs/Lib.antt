@@ -1,5 +1,8 @@
 mod BoxedLog
 mod ChangeLemmas
+mod EndsLemmas
 mod JoinLemmas
 mod KeptValues
 mod LogDrop
+mod RecordLemmas
+mod ToldLemmas

@@ -2,7 +2,11 @@ pub mod Statuses
 pub mod MarkedNames
 pub mod LoadedLogs
 pub mod Changes
+pub mod Ends
+pub mod Honest
 pub mod Written
+pub mod Carried
+pub mod CarriedLogs
 pub mod Held
 pub mod Answers
 pub mod Kept

@@ -5,11 +5,13 @@ ghost use Rattle.nl_fields.specs.RapidHash.{rapid_hash_of};
 ghost use Rattle.nl_table.specs.Log.{NotALog, OtherVersion, log_of};
 ghost use Rattle.nl_c.specs.LoadedLogs.{IsLoadedFrom, seen};
 ghost use Rattle.nl_c.specs.Answers.{answered_at, answered_count, answered_facts, answered_find, answer_line};
-ghost use Rattle.nl_c.specs.Held.{InHandle, IsWrittenAnd, loaded_in, loaded_of, table_in};
+ghost use Rattle.nl_c.specs.CarriedLogs.{IsNewCarried, MadeRoom, Given, CarriedOpened, CarriedText, CarriedHeader, CarriedLine};
+ghost use Rattle.nl_c.specs.Held.{InCarried, InHandle, IsCarriedAnd, IsWrittenAnd, NoCall, loaded_in, loaded_of, table_in};
 ghost use Rattle.nl_c.specs.Written.{IsNew, Opened, Recorded, Synced, Stopped, Recompacted, Restatted, DeadMarked, TimeMarked, Cleared, IsOpenTold, Texted};
 ghost use Rattle.nl_fields.specs.Name.{IsName};
 ghost use Rattle.nl_c.specs.Statuses.{ok, bad_name, not_a_log, other_version, out_of_memory, text_in, status_text};
 
+use crate::carried_log::CarriedLog;
 use crate::handle::Handle;
 use crate::held::Held;
 use crate::loaded_log::{Facts, LoadedLog, Stamp};
@@ -184,7 +186,7 @@ pub extern "C" fn nlog_open(
     version: u32,
     change: &mut u32,
 ) -> u32
-    ensures call { InHandle (Opened bytes.now version (change.old, change.new)) result
+    ensures call { InHandle (Opened bytes.now version (change.old, change.new)) NoCall result
         handle.old.kept.log handle.new.kept.log }
 {
     let Some(mut held) = handle.take(alloc) else {
@@ -198,7 +200,7 @@ pub extern "C" fn nlog_open(
 /// Adds the line of an entry to the text of an open log.
 #[unsafe(no_mangle)]
 pub extern "C" fn nlog_record(handle: &mut Handle, alloc: Global, name: &[u8], stamp: &Stamp) -> u32
-    ensures call { InHandle (Recorded name.now stamp.now) result handle.old.kept.log
+    ensures call { InHandle (Recorded name.now stamp.now) (Recorded name.now stamp.now) result handle.old.kept.log
         handle.new.kept.log }
 {
     let Some(mut held) = handle.take(alloc) else {
@@ -212,7 +214,7 @@ pub extern "C" fn nlog_record(handle: &mut Handle, alloc: Global, name: &[u8], s
 /// What was recorded is to be made durable.
 #[unsafe(no_mangle)]
 pub extern "C" fn nlog_sync(handle: &mut Handle, alloc: Global) -> u32
-    ensures call { InHandle (Synced) result handle.old.kept.log handle.new.kept.log }
+    ensures call { InHandle (Synced) (Synced) result handle.old.kept.log handle.new.kept.log }
 {
     let Some(mut held) = handle.take(alloc) else {
         return status::NO_HANDLE;
@@ -225,7 +227,7 @@ pub extern "C" fn nlog_sync(handle: &mut Handle, alloc: Global) -> u32
 /// Writes the text anew without what is marked dead.
 #[unsafe(no_mangle)]
 pub extern "C" fn nlog_recompact(handle: &mut Handle, alloc: Global) -> u32
-    ensures call { InHandle (Recompacted) result handle.old.kept.log handle.new.kept.log }
+    ensures call { InHandle (Recompacted) (Recompacted) result handle.old.kept.log handle.new.kept.log }
 {
     let Some(mut held) = handle.take(alloc) else {
         return status::NO_HANDLE;
@@ -238,7 +240,7 @@ pub extern "C" fn nlog_recompact(handle: &mut Handle, alloc: Global) -> u32
 /// Writes the text anew with the mtimes that are marked.
 #[unsafe(no_mangle)]
 pub extern "C" fn nlog_restat(handle: &mut Handle, alloc: Global, place: &mut usize) -> u32
-    ensures call { InHandle (Restatted (place.old, place.new)) result handle.old.kept.log
+    ensures call { InHandle (Restatted (place.old, place.new)) (Restatted (place.old, place.new)) result handle.old.kept.log
         handle.new.kept.log }
 {
     let Some(mut held) = handle.take(alloc) else {
@@ -252,7 +254,7 @@ pub extern "C" fn nlog_restat(handle: &mut Handle, alloc: Global, place: &mut us
 /// Closes the log, and frees its text and its table.
 #[unsafe(no_mangle)]
 pub extern "C" fn nlog_close(handle: &mut Handle, alloc: Global) -> u32
-    ensures call { InHandle (Stopped) result handle.old.kept.log handle.new.kept.log }
+    ensures call { InHandle (Stopped) (Stopped) result handle.old.kept.log handle.new.kept.log }
 {
     let Some(mut held) = handle.take(alloc) else {
         return status::NO_HANDLE;
@@ -265,7 +267,7 @@ pub extern "C" fn nlog_close(handle: &mut Handle, alloc: Global) -> u32
 /// Marks an output as dead.
 #[unsafe(no_mangle)]
 pub extern "C" fn nlog_mark_dead(handle: &mut Handle, alloc: Global, name: &[u8]) -> u32
-    ensures call { InHandle (DeadMarked name.now) result handle.old.kept.log handle.new.kept.log }
+    ensures call { InHandle (DeadMarked name.now) (DeadMarked name.now) result handle.old.kept.log handle.new.kept.log }
 {
     let Some(mut held) = handle.take(alloc) else {
         return status::NO_HANDLE;
@@ -278,7 +280,7 @@ pub extern "C" fn nlog_mark_dead(handle: &mut Handle, alloc: Global, name: &[u8]
 /// Marks an output with a new mtime.
 #[unsafe(no_mangle)]
 pub extern "C" fn nlog_mark_time(handle: &mut Handle, alloc: Global, name: &[u8], mtime: i64) -> u32
-    ensures call { InHandle (TimeMarked name.now mtime) result handle.old.kept.log
+    ensures call { InHandle (TimeMarked name.now mtime) (TimeMarked name.now mtime) result handle.old.kept.log
         handle.new.kept.log }
 {
     let Some(mut held) = handle.take(alloc) else {
@@ -292,7 +294,7 @@ pub extern "C" fn nlog_mark_time(handle: &mut Handle, alloc: Global, name: &[u8]
 /// Forgets the marks.
 #[unsafe(no_mangle)]
 pub extern "C" fn nlog_clear_marks(handle: &mut Handle, alloc: Global) -> u32
-    ensures call { InHandle (Cleared) result handle.old.kept.log handle.new.kept.log }
+    ensures call { InHandle (Cleared) (Cleared) result handle.old.kept.log handle.new.kept.log }
 {
     let Some(mut held) = handle.take(alloc) else {
         return status::NO_HANDLE;
@@ -305,7 +307,7 @@ pub extern "C" fn nlog_clear_marks(handle: &mut Handle, alloc: Global) -> u32
 /// Whether the log is open.
 #[unsafe(no_mangle)]
 pub extern "C" fn nlog_is_open(handle: &mut Handle, alloc: Global, is_open: &mut bool) -> u32
-    ensures call { InHandle (IsOpenTold is_open.new) result handle.old.kept.log
+    ensures call { InHandle (IsOpenTold is_open.new) (IsOpenTold is_open.new) result handle.old.kept.log
         handle.new.kept.log }
 {
     let Some(mut held) = handle.take(alloc) else {
@@ -325,13 +327,125 @@ pub extern "C" fn nlog_text(
     bytes: &mut [u8],
     len: &mut u64,
 ) -> u32
-    ensures call { InHandle (Texted from (bytes.old, bytes.new) (len.old, len.new)) result
+    ensures call { InHandle (Texted from (bytes.old, bytes.new) (len.old, len.new)) NoCall result
         handle.old.kept.log handle.new.kept.log }
 {
     let Some(mut held) = handle.take(alloc) else {
         return status::NO_HANDLE;
     };
     let answer = held.text(from, bytes, len);
+    *handle = Handle::of(held);
+    answer
+}
+
+/// A closed log without marks, whose text the caller carries. What the handle held is let go.
+#[unsafe(no_mangle)]
+pub extern "C" fn carried_new(handle: &mut Handle, alloc: Global) -> u32
+    ensures ok { result ≡ ok → IsSomeAnd handle.new.kept.log (IsCarriedAnd IsNewCarried) }
+    ensures refusals { (result ≡ ok) ⊎ (result ≡ out_of_memory) }
+    ensures unchanged { result ≢ ok → handle.new.kept.log ≡ handle.old.kept.log }
+{
+    match Box::new(alloc, Held::Carried(CarriedLog::new(alloc))) {
+        Ok(held) => {
+            drop(handle.take(alloc));
+            *handle = Handle::of(held);
+            status::OK
+        }
+        Err(_) => status::OUT_OF_MEMORY,
+    }
+}
+
+/// Makes room for so many bytes of the file, of which none are given yet.
+#[unsafe(no_mangle)]
+pub extern "C" fn carried_room(handle: &mut Handle, alloc: Global, len: usize) -> u32
+    ensures call { InCarried MadeRoom result handle.old.kept.log handle.new.kept.log }
+{
+    let Some(mut held) = handle.take(alloc) else {
+        return status::NO_HANDLE;
+    };
+    let answer = held.make_room(alloc, len);
+    *handle = Handle::of(held);
+    answer
+}
+
+/// Gives the next bytes of the file.
+#[unsafe(no_mangle)]
+pub extern "C" fn carried_give(handle: &mut Handle, alloc: Global, bytes: &[u8]) -> u32
+    ensures call { InCarried (Given bytes.now) result handle.old.kept.log handle.new.kept.log }
+{
+    let Some(mut held) = handle.take(alloc) else {
+        return status::NO_HANDLE;
+    };
+    let answer = held.give(bytes);
+    *handle = Handle::of(held);
+    answer
+}
+
+/// Opens the log that the bytes are which were given.
+#[unsafe(no_mangle)]
+pub extern "C" fn carried_open(
+    handle: &mut Handle,
+    alloc: Global,
+    version: u32,
+    change: &mut u32,
+) -> u32
+    ensures call { InCarried (CarriedOpened version (change.old, change.new)) result handle.old.kept.log handle.new.kept.log }
+{
+    let Some(mut held) = handle.take(alloc) else {
+        return status::NO_HANDLE;
+    };
+    let answer = held.open_given(alloc, version, change);
+    *handle = Handle::of(held);
+    answer
+}
+
+/// How long the text is, and as much of it from a place on as there is room for, where that wasn't carried.
+#[unsafe(no_mangle)]
+pub extern "C" fn carried_text(
+    handle: &mut Handle,
+    alloc: Global,
+    from: u64,
+    bytes: &mut [u8],
+    len: &mut u64,
+) -> u32
+    ensures call { InCarried (CarriedText from (bytes.old, bytes.new) (len.old, len.new)) result handle.old.kept.log handle.new.kept.log }
+{
+    let Some(mut held) = handle.take(alloc) else {
+        return status::NO_HANDLE;
+    };
+    let answer = held.waiting(from, bytes, len);
+    *handle = Handle::of(held);
+    answer
+}
+
+/// The first line, as much of it as there is room for.
+#[unsafe(no_mangle)]
+pub extern "C" fn carried_header(handle: &mut Handle, alloc: Global, bytes: &mut [u8]) -> u32
+    ensures call { InCarried (CarriedHeader (bytes.old, bytes.new)) result handle.old.kept.log handle.new.kept.log }
+{
+    let Some(mut held) = handle.take(alloc) else {
+        return status::NO_HANDLE;
+    };
+    let answer = held.header(bytes);
+    *handle = Handle::of(held);
+    answer
+}
+
+/// The line of the entry at a place.
+#[unsafe(no_mangle)]
+pub extern "C" fn carried_line(
+    handle: &mut Handle,
+    alloc: Global,
+    place: usize,
+    bytes: &mut [u8],
+    len: &mut usize,
+) -> u32
+    ensures call { InCarried (CarriedLine place (bytes.old, bytes.new) (len.old, len.new)) result handle.old.kept.log handle.new.kept.log }
+{
+    let Some(mut held) = handle.take(alloc) else {
+        return status::NO_HANDLE;
+    };
+    let answer = held.entry_line(place, bytes, len);
     *handle = Handle::of(held);
     answer
 }

@@ -1,6 +1,10 @@
 //! The library for callers in C. `include/nlog.h` declares what is exported here.
 #![tactic(auto)]
 
+mod carried_folder;
+mod carried_log;
+mod disk_record;
+mod ends;
 mod exports;
 mod handle;
 mod held;
