@@ -672,6 +672,8 @@ def without_rights(trials, made, room):
     except subprocess.SubprocessError as error:
         trials.skip("files that may not be read or written", f"no process without rights can be started ({error})")
         return
+    # A system where a lock wants the right to write: what may only be read isn't locked.
+    refusing = ["strace", "-o", "/dev/null", "-e", "inject=flock:error=EBADF"] if may_trace(trials, os.path.dirname(room)) else []
     rows = [
         (0o700, 0o400, HEADER + A, ["FAULT EACCES open log", "NOT_OPEN", "NOT_OPEN"]),
         (0o700, 0o400, b"hello\n", ["NOT_A_LOG", "NOT_OPEN", "NOT_OPEN"]),
@@ -691,8 +693,9 @@ def without_rights(trials, made, room):
                 os.chmod(path, its)
                 if os.geteuid() == 0:
                     os.chown(path, NOBODY, NOBODY)
-        said = asked([driver], "write", log, 0, ["open", "recompact", "close"], cwd="/", preexec_fn=end_rights)
-        trials.want(f"a folder of mode {mode:o}, a log of {log_mode} with {text and text[:30]!r}", said, (0, answers, b""))
+        for way in [[], *([refusing] if refusing and log_mode == 0o400 else [])]:
+            said = asked([*way, driver], "write", log, 0, ["open", "recompact", "close"], cwd="/", preexec_fn=end_rights)
+            trials.want(f"{way} a folder of mode {mode:o}, a log of {log_mode} with {text and text[:30]!r}", said, (0, answers, b""))
         os.chmod(f"{room}/folder", 0o700)
         trials.want("the log then", read(log), text)
         shutil.rmtree(f"{room}/folder")
