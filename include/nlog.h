@@ -1,26 +1,40 @@
-/* nlog.h: Ninja's build log (.ninja_log, versions 4 to 7) for C and C++. docs/LIBRARY.md has an example of each part.
+/* nlog.h: Ninja's build log (.ninja_log, versions 4 to 7) for C and C++.
+ * docs/LIBRARY.md has an example of each part.
  *
- * Part 1 reads a log that stands in memory, and part 2 writes one in memory, whose changes the caller carries to a file. Both are proved:
- *   what each status means is a clause of crates/nl_c/src/exports.rt. Tested and not proved are nlog_next_damage, and that a call which only
- *   reads leaves its handle as it is (lib/nlog_reads.c).
- * Part 3 writes a log on disk, in the caller's process: it carries part 2's changes to the file. It is C code, lib/nlog_writer.c, which is
- *   tested and not proved.
+ * Part 1 reads a log that stands in memory. Part 2 writes one in memory, and
+ *   you carry its changes to a file. Both are proved: what each status means
+ *   is a clause of crates/nl_c/src/exports.rt. Two things are tested and not
+ *   proved: nlog_next_damage, and that a call which only reads leaves its
+ *   handle as it is (lib/nlog_reads.c).
+ * Part 3 writes a log on disk, in your process: it carries part 2's changes to
+ *   the file. It is C code, lib/nlog_writer.c, which is tested and not proved.
  *
- * Status: each call answers one, and no call prints, aborts, sets a signal's handler or has global state.
- *   After any status but NLOG_OK the handle, and each thing that the call would have filled, is as it was, but where a call says more.
- * Pointers: none may be NULL, but one to 0 bytes, an nlog_writer, and what a call says. What a call fills must not overlap anything else
- *   that is passed to it. Nothing that is passed is kept when the call returns, and no pointer into the library is handed out, but the
- *   texts of nlog_writer_failed_path and nlog_writer_failed_call.
- * Memory: from malloc, freed by nlog_free and nlog_writer_free. malloc must align as ISO C says; where it gives none, the call answers
+ * Status: each call answers one, and no call prints, aborts, sets a signal's
+ *   handler or has global state. Unless a call says more, any status but
+ *   NLOG_OK leaves the handle as it was. It leaves each thing that the call
+ *   would have filled as it was, too.
+ * Pointers: none may be NULL, but one to 0 bytes, an nlog_writer, and what a
+ *   call says. What a call fills must not overlap anything else that is passed
+ *   to it. Nothing that is passed is kept when the call returns. No pointer
+ *   into the library is handed out, but the texts of nlog_writer_failed_path
+ *   and nlog_writer_failed_call.
+ * Memory: from malloc, freed by nlog_free and nlog_writer_free. malloc must
+ *   align as ISO C says. If it gives none, the call answers
  *   NLOG_OUT_OF_MEMORY.
- * Threads: a call whose handle or writer is const only reads, and any number of these may run on one at once. Each other call has it alone, in
- *   order with those before it and behind it (by a lock, or a join). Calls on different ones need no order. No call may be made in a signal
- *   handler, or in the forked child of a process with threads.
- * Fork: a child may go on with each handle and with each closed writer, by itself. A writer whose log is open, or broken, stays the parent's: in
- *   the child each call on it that has a status answers NLOG_FORKED, and does nothing. nlog_writer_free frees the child's part and lets go of its
- *   descriptors; the parent's log stays open, and locked.
- * Units: lengths in bytes; start and end in milliseconds from the start of the build; mtime in the writer's unit (Ninja 1.12: nanoseconds
- *   since 1970; 0 for no file). Names and commands are bytes, of no encoding, and end by their length. */
+ * Threads: a call whose handle or writer is const only reads. Any number of
+ *   these may run on one handle or writer at once. Each other call has it
+ *   alone, in order with those before it and behind it (by a lock, or a join).
+ *   Calls on different ones need no order. Make no call in a signal handler,
+ *   or in the forked child of a process with threads.
+ * Fork: a child may go on with each handle and with each closed writer, by
+ *   itself. A writer whose log is open, or broken, stays the parent's. In the
+ *   child each call on it that has a status answers NLOG_FORKED, and does
+ *   nothing. nlog_writer_free frees the child's part and lets go of its
+ *   descriptors. The parent's log stays open, and locked.
+ * Units: lengths are in bytes, and start and end in milliseconds from the
+ *   start of the build. Each mtime is in the writer's unit (Ninja 1.12:
+ *   nanoseconds since 1970; 0 for no file). Names and commands are bytes, of no
+ *   encoding, and end by their length. */
 #ifndef NLOG_H
 #define NLOG_H
 
@@ -28,7 +42,8 @@
 #include <stddef.h>
 #include <stdint.h>
 
-/* The version of this header; nlog_version() is that of the library. 1000000 times the first number, 1000 times the second, the third. */
+/* The version of this header: 1000000 times the first number, 1000 times the
+ * second, and the third. nlog_version() is that of the library. */
 #define NLOG_VERSION 2000
 
 /* The longest name of an output. */
@@ -42,24 +57,30 @@ typedef enum nlog_status {
   NLOG_OK = 0,
   NLOG_NO_HANDLE = 1,      /* the handle has no log, or the writer is NULL */
   NLOG_NOT_A_LOG = 2,      /* the bytes are no log */
-  NLOG_OTHER_VERSION = 3,  /* a log of a version that isn't read, or that wasn't asked for */
+  NLOG_OTHER_VERSION = 3,  /* a log of a version that isn't read, or that
+                            * wasn't asked for */
   NLOG_OUT_OF_MEMORY = 4,
   NLOG_NOT_FOUND = 5,      /* no entry of this name, or at this place */
   NLOG_NO_ROOM = 6,        /* the buffer for the name is too short */
   /* of parts 2 and 3 */
   NLOG_NOT_OPEN = 7,
   NLOG_ALREADY_OPEN = 8,
-  NLOG_BROKEN = 9,         /* a change failed before: close, and open again, which repairs */
+  NLOG_BROKEN = 9,         /* a change failed before: close, and open again,
+                            * which repairs */
   NLOG_NEGATIVE_TIME = 10,
-  NLOG_FAULT = 11,         /* a file couldn't be read, written or synced; of part 2: memory ran out within a change */
-  NLOG_BAD_NAME = 12,      /* empty, longer than NLOG_MAX_NAME, or with a NUL, a tab or a newline */
-  NLOG_LOCKED = 13,        /* another has had the log locked for 10 seconds, or as long as nlog_writer_set_wait says */
-  NLOG_FORKED = 14,        /* the writer's log was opened by this process's parent */
+  NLOG_FAULT = 11,         /* a file couldn't be read, written or synced; of
+                            * part 2: memory ran out within a change */
+  NLOG_BAD_NAME = 12,      /* empty, longer than NLOG_MAX_NAME, or with a NUL,
+                            * a tab or a newline */
+  NLOG_LOCKED = 13,        /* another has had the log locked for 10 seconds, or
+                            * as long as nlog_writer_set_wait says */
+  NLOG_FORKED = 14,        /* this process's parent opened the writer's log */
   NLOG_STATUS_MAX = 0x7fffffff
 } nlog_status;
 
-/* The name of a status, as "NLOG_NOT_FOUND"; "NLOG_?" for a number that is none. It lasts for ever. The library has this function too, for who
- * can't take it from here. */
+/* The name of a status, as "NLOG_NOT_FOUND"; "NLOG_?" for a number that is
+ * none. It lasts for ever. The library has this function too, if you can't take
+ * it from here. */
 static inline const char *nlog_status_name(nlog_status status) {
   switch (status) {
     case NLOG_OK: return "NLOG_OK";
@@ -82,8 +103,9 @@ static inline const char *nlog_status_name(nlog_status status) {
   return "NLOG_?";
 }
 
-/* What a status says, in words, as "out of memory": as much as there is room for is written, with no NUL behind it. The length of the whole
- * text comes back. */
+/* What a status says, in words, as "out of memory". As much as there is room
+ * for is written, with no NUL behind it. The length of the whole text comes
+ * back. */
 size_t nlog_status_text(nlog_status status, char *text, size_t room);
 
 /* The version of the library. */
@@ -91,8 +113,9 @@ uint32_t nlog_version(void);
 
 /* ---- Part 1: a log in memory ---- */
 
-/* A log that was loaded, or one that is written (part 2), or none. The fields are the library's. A copy is not a second handle: after either
- * was passed to a call, the other is of no use. */
+/* A log that was loaded, or one that is written (part 2), or none. The fields
+ * are the library's. A copy is not a second handle: after either was passed to
+ * a call, the other is of no use. */
 typedef struct nlog {
   uint64_t made;
   void *at;
@@ -111,8 +134,9 @@ typedef struct nlog_entry {
 
 /* What a load found, as `nlog check` has it. */
 typedef struct nlog_facts {
-  uint32_t version;  /* 4 to 7; 5 where the log is empty */
-  bool is_due;       /* whether a writer should rewrite it: version 4, or over 100 entry lines and over three an output */
+  uint32_t version;  /* 4 to 7; 5 if the log is empty */
+  bool is_due;       /* whether a writer should rewrite it: if it has version 4,
+                      * or over 100 entry lines and over three an output */
   uint64_t total;    /* entry lines */
   uint64_t unique;   /* outputs */
   uint64_t skipped;  /* whole lines after the first that are no entries */
@@ -120,152 +144,216 @@ typedef struct nlog_facts {
   uint64_t torn;     /* the bytes behind it, of a line that a crash cut off */
 } nlog_facts;
 
-/* Loads the log that the bytes are, in time and memory by their length. The handle then holds this log, and one that it held before is freed.
- * NLOG_NOT_A_LOG, NLOG_OTHER_VERSION, NLOG_OUT_OF_MEMORY: the handle holds what it held. No bytes are an empty log. */
+/* Loads the log that the bytes are, in time and memory by their length. The
+ * handle then holds this log, and one that it held before is freed. No bytes
+ * are an empty log.
+ * NLOG_NOT_A_LOG, NLOG_OTHER_VERSION, NLOG_OUT_OF_MEMORY: the handle holds what
+ * it held. */
 nlog_status nlog_load(nlog *log, const void *bytes, size_t len);
 
-/* Frees the log. The handle is then without one, as NLOG_INIT; of such a handle it does nothing. */
+/* Frees the log. The handle is then without one, as NLOG_INIT. If it was
+ * without one, nothing is done. */
 void nlog_free(nlog *log);
 
-/* Of a log that was loaded. NLOG_NO_HANDLE where the handle has none. */
+/* Of a log that was loaded. NLOG_NO_HANDLE: the handle has none. */
 nlog_status nlog_get_facts(const nlog *log, nlog_facts *facts);
 
-/* How many outputs there are, of a log that was loaded or is open (part 2); so in the two calls below. NLOG_NO_HANDLE where it is neither. */
+/* How many outputs there are, of a log that was loaded or is open (part 2). So
+ * it is in the two calls below. NLOG_NO_HANDLE: it is neither. */
 nlog_status nlog_count(const nlog *log, size_t *count);
 
-/* The last entry of the output at a place, from 0, in the order in which the outputs first appear. Its name is written into the buffer, with
- * no NUL behind it, and the name's length into name_len. A buffer of NLOG_MAX_NAME bytes is always enough.
- * NLOG_NO_ROOM: the entry and name_len are filled, the buffer is as it was. NLOG_NOT_FOUND: there are no more than `place` outputs. */
+/* The last entry of the output at a place, from 0, in the order in which the
+ * outputs first appear. Its name is written into the buffer, with no NUL behind
+ * it, and the name's length into name_len. A buffer of NLOG_MAX_NAME bytes is
+ * always enough.
+ * NLOG_NO_ROOM: the entry and name_len are filled, the buffer is as it was.
+ * NLOG_NOT_FOUND: there are no more than `place` outputs. */
 nlog_status nlog_at(const nlog *log, size_t place, nlog_entry *entry, char *name, size_t room, size_t *name_len);
 
 /* The last entry of an output. */
 nlog_status nlog_find(const nlog *log, const char *name, size_t len, nlog_entry *entry);
 
-/* Reads one line of a log of this version, without its newline: the entry and its name, as nlog_at fills them.
+/* Reads one line of a log of this version, without its newline: the entry and
+ * its name, as nlog_at fills them.
  * NLOG_NOT_FOUND: the line is no entry. NLOG_NO_ROOM: as of nlog_at. */
 nlog_status nlog_read_line(uint32_t version, const char *line, size_t len, nlog_entry *entry, char *name, size_t room, size_t *name_len);
 
 /* What a line is that is no entry. */
 typedef enum nlog_damage_kind {
   NLOG_SKIPPED = 0, /* a whole line that is no entry */
-  NLOG_LONG = 1,    /* a whole line of more than 262143 bytes, of which nothing is looked at */
-  NLOG_TORN = 2,    /* the bytes behind the last newline, of a line that a crash cut off */
+  NLOG_LONG = 1,    /* a whole line of more than 262143 bytes, of which nothing
+                     * is looked at */
+  NLOG_TORN = 2,    /* the bytes behind the last newline, of a line that a crash
+                     * cut off */
   NLOG_DAMAGE_KIND_MAX = 0x7fffffff
 } nlog_damage_kind;
 
 /* A line that is no entry, as `nlog damage` has it. */
 typedef struct nlog_damage {
-  uint64_t number;       /* of the line; the first line is 1, and is told where it is torn alone. 0 before the first call */
+  uint64_t number;       /* of the line. The first line is 1, and is told only
+                          * if it is torn. 0 before the first call */
   size_t from;           /* where it begins in the log's bytes */
   size_t len;            /* without the newline */
   nlog_damage_kind kind;
-  size_t output_from;    /* where in the log's bytes the output stands that its last five fields name, where these are an entry, as one that */
-  size_t output_len;     /*   was written behind a torn line. No bytes where they are none, and of more than 262143 bytes */
+  size_t output_from;    /* where in the log's bytes the output stands that its
+                          * last five fields name. They name one if they are an
+                          * entry, as one that was written behind a torn line */
+  size_t output_len;     /* 0 if they are none, or if the line has more than
+                          * 262143 bytes */
 } nlog_damage;
 
 #define NLOG_DAMAGE_INIT {0, 0, 0, NLOG_SKIPPED, 0, 0}
 
-/* The first line that is no entry, of a log that nlog_load takes, by its bytes and the version of nlog_get_facts; and the next one where `damage`
- * is what the call before filled. As many are told as nlog_facts.skipped counts, and one more where there are torn bytes. It takes time by the
- * bytes that it goes over, and no memory. Tested and not proved (lib/nlog_damage.c). NLOG_NOT_FOUND: there is no further one. */
+/* The first line that is no entry, of a log that nlog_load takes, by its bytes
+ * and the version of nlog_get_facts. If `damage` is what the call before
+ * filled, the next one. As many are told as nlog_facts.skipped counts, and one
+ * more if there are torn bytes. It takes time by the bytes that it goes over,
+ * and no memory. Tested and not proved (lib/nlog_damage.c).
+ * NLOG_NOT_FOUND: there is no further one. */
 nlog_status nlog_next_damage(uint32_t version, const void *bytes, size_t len, nlog_damage *damage);
 
-/* The hash of a command, as it stands in logs of version 5 and 6, and of version 7. */
+/* The hash of a command, as it stands in logs of version 5 and 6, and of
+ * version 7. */
 uint64_t nlog_command_hash(const char *command, size_t len);
 uint64_t nlog_command_hash_v7(const char *command, size_t len);
 
 /* ---- Part 2: a log in memory that is written ---- */
 
-/* The library keeps the whole text that the file is to have, and makes no call of the system: the caller carries each change to the file, as
- * part 3 does, or as it likes. A handle from nlog_new is closed, open, or broken:
+/* The library keeps the whole text that the file is to have, and makes no call
+ * of the system. You carry each change to the file, as part 3 does, or as you
+ * like. A handle from nlog_new is closed, open, or broken:
  *
- *   closed --nlog_open--> open --nlog_record, nlog_recompact, nlog_restat, where memory ran out within the text--> broken
- *   open or broken --nlog_close--> closed
+ *     closed --nlog_open--> open
+ *     open --nlog_record, nlog_recompact, nlog_restat, if memory runs out
+ *       within the text--> broken
+ *     open or broken --nlog_close--> closed
  *
- * Each call of part 2 answers NLOG_NO_HANDLE of a handle that nlog_new didn't make. */
+ * Each call of part 2 answers NLOG_NO_HANDLE of a handle that nlog_new didn't
+ * make. */
 
-/* A closed log without marks. What the handle held before is freed. NLOG_OUT_OF_MEMORY: the handle is as it was. */
+/* A closed log without marks. What the handle held before is freed.
+ * NLOG_OUT_OF_MEMORY: the handle is as it was. */
 nlog_status nlog_new(nlog *log);
 
-/* What makes the file the text that nlog_text gives. Before each change the file is synced, and behind each of its steps, as docs/LIBRARY.md has
- * them in order: then whatever a crash leaves, at any moment, is opened as something that could be found before. */
+/* What makes the file the text that nlog_text gives. Before each change the
+ * file is synced, and behind each of its steps, as docs/LIBRARY.md has them in
+ * order. Then whatever a crash leaves, at any moment, is opened as something
+ * that could be found before. */
 typedef enum nlog_change {
   NLOG_KEEP = 0,    /* nothing: the file is the text */
-  NLOG_APPEND = 1,  /* the file holds a part of the first line, or nothing: cut it to nothing, and write the text */
-  NLOG_CUT = 2,     /* the file is the text and the torn tail behind it: cut it to the text's length */
-  NLOG_REPLACE = 3, /* the log is rewritten: write the text into a new file, sync it, and rename it over the log */
+  NLOG_APPEND = 1,  /* the file holds a part of the first line, or nothing: cut
+                     * it to nothing, and write the text */
+  NLOG_CUT = 2,     /* the file is the text and the torn tail behind it: cut it
+                     * to the text's length */
+  NLOG_REPLACE = 3, /* the log is rewritten: write the text into a new file,
+                     * sync it, and rename it over the log */
   NLOG_CHANGE_MAX = 0x7fffffff
 } nlog_change;
 
-/* Opens the log that the bytes are: what a crash cut off is taken away, a missing first line is made, and a log that is due is rewritten,
- * without what is marked dead. `version`: 5 (which takes 4 too), 6 or 7 is the version that the log must have, and that one is made of which
- * nothing stands; 0 is that of the bytes, and 5 where there are none. `change`: an nlog_change. NLOG_OK uses up each mark of a dead name of
- * which the log then has no entry. NLOG_ALREADY_OPEN, NLOG_BROKEN, NLOG_NOT_A_LOG, NLOG_OTHER_VERSION, NLOG_OUT_OF_MEMORY, NLOG_FAULT (memory
- * ran out in the text): nothing was changed. */
+/* Opens the log that the bytes are: what a crash cut off is taken away, and a
+ * missing first line is made. A log that is due is rewritten, without what is
+ * marked dead.
+ * `version`: 5 (which takes 4 too), 6 or 7 is the version that the log must
+ * have. A log of which nothing stands is made one of that version. 0 is that of
+ * the bytes, and 5 if there are none.
+ * `change`: an nlog_change.
+ * NLOG_OK uses up each mark of a dead name of which the log then has no entry.
+ * NLOG_ALREADY_OPEN, NLOG_BROKEN, NLOG_NOT_A_LOG, NLOG_OTHER_VERSION,
+ * NLOG_OUT_OF_MEMORY, NLOG_FAULT (memory ran out in the text): nothing was
+ * changed. */
 nlog_status nlog_open(nlog *log, const void *bytes, size_t len, uint32_t version, uint32_t *change);
 
 nlog_status nlog_is_open(const nlog *log, bool *is_open);
 
-/* Writes the log's text from byte `from` on into the buffer, as much as there is room for, and the length of the whole text into len. Of a
- * closed log it is none; of a broken one it is of no use. */
+/* Writes the log's text from byte `from` on into the buffer, as much as there
+ * is room for. The length of the whole text is written into len. Of a closed
+ * log it is none. Of a broken one it is of no use. */
 nlog_status nlog_text(const nlog *log, uint64_t from, void *bytes, size_t room, uint64_t *len);
 
-/* Adds the entry of an output: the text grows by one line, which the caller appends to the file. NLOG_NOT_OPEN, NLOG_BROKEN, NLOG_BAD_NAME,
- * NLOG_OUT_OF_MEMORY: nothing was changed. NLOG_FAULT: the log is broken. */
+/* Adds the entry of an output: the text grows by one line, which you append to
+ * the file.
+ * NLOG_NOT_OPEN, NLOG_BROKEN, NLOG_BAD_NAME, NLOG_OUT_OF_MEMORY: nothing was
+ * changed. NLOG_FAULT: the log is broken. */
 nlog_status nlog_record(nlog *log, const char *name, size_t len, const nlog_entry *entry);
 
-/* NLOG_OK where the bytes are a name that a log can hold, else NLOG_BAD_NAME. */
+/* NLOG_OK if the bytes are a name that a log can hold, else NLOG_BAD_NAME. */
 nlog_status nlog_check_name(const char *name, size_t len);
 
-/* NLOG_OK where the log is open: the caller syncs the file. NLOG_NOT_OPEN, NLOG_BROKEN. */
+/* NLOG_OK if the log is open: sync the file then. NLOG_NOT_OPEN,
+ * NLOG_BROKEN. */
 nlog_status nlog_sync(nlog *log);
 
-/* Writes the text anew, with the last entry of each output but of those that are marked dead; such marks are used up. The caller replaces the
- * file. NLOG_NOT_OPEN, NLOG_BROKEN, NLOG_OUT_OF_MEMORY: nothing was changed. NLOG_FAULT: the log is broken. */
+/* Writes the text anew, with the last entry of each output but of those that
+ * are marked dead. Such marks are used up. You replace the file.
+ * NLOG_NOT_OPEN, NLOG_BROKEN, NLOG_OUT_OF_MEMORY: nothing was changed.
+ * NLOG_FAULT: the log is broken. */
 nlog_status nlog_recompact(nlog *log);
 
-/* Writes the text anew, and gives each output that is marked with a time this mtime; such marks are used up. The caller replaces the file.
- * NLOG_NEGATIVE_TIME: nothing was changed, and place is that of the first negative one in the order of the marks; else place is as it was. */
+/* Writes the text anew, and gives each output that is marked with a time this
+ * mtime. Such marks are used up. You replace the file.
+ * NLOG_NEGATIVE_TIME: nothing was changed, and place is that of the first
+ * negative one in the order of the marks. Else place is as it was. */
 nlog_status nlog_restat(nlog *log, size_t *place);
 
-/* Closes the log, and frees its text and its table. Marks stay. NLOG_NOT_OPEN where it was neither open nor broken. */
+/* Closes the log, and frees its text and its table. Marks stay.
+ * NLOG_NOT_OPEN: it was neither open nor broken. */
 nlog_status nlog_close(nlog *log);
 
-/* Marks an output as one that the next rewriting leaves out. NLOG_BAD_NAME, NLOG_OUT_OF_MEMORY: nothing was changed. */
+/* Marks an output as one that the next rewriting leaves out.
+ * NLOG_BAD_NAME, NLOG_OUT_OF_MEMORY: nothing was changed. */
 nlog_status nlog_mark_dead(nlog *log, const char *name, size_t len);
 
-/* Marks an output with the mtime that the next nlog_restat gives it; the last mark of a name counts. So refused as nlog_mark_dead. */
+/* Marks an output with the mtime that the next nlog_restat gives it. The last
+ * mark of a name counts. It is refused as nlog_mark_dead is. */
 nlog_status nlog_mark_time(nlog *log, const char *name, size_t len, int64_t mtime);
 
 nlog_status nlog_clear_marks(nlog *log);
 
 /* ---- Part 3: a log on disk, for POSIX with flock ---- */
 
-/* A log at a path, which the writer opens, and then keeps open and locked until the close. docs/LIBRARY.md has its states.
+/* A log at a path, which the writer opens, and then keeps open and locked until
+ * the close. docs/LIBRARY.md has its states.
  *
- * Where a call of the system fails, the call here answers NLOG_FAULT, and the writer is broken: each call that reads or changes the log then
- * answers NLOG_BROKEN until nlog_writer_close, and the next nlog_writer_open repairs the log. What a failed call was to change may be on disk
- * in part, in whole or not at all; what an nlog_writer_sync had answered NLOG_OK for stands. nlog_writer_errno says why it failed.
+ * If a call of the system fails, the call here answers NLOG_FAULT, and the
+ * writer is broken. Each call that reads or changes the log then answers
+ * NLOG_BROKEN until nlog_writer_close, and the next nlog_writer_open repairs
+ * the log. What a failed call was to change may be on disk in part, in whole or
+ * not at all. What an nlog_writer_sync had answered NLOG_OK for stands.
+ * nlog_writer_errno says why it failed.
  *
- * Lock: flock on the log's file, as each `nlog` that changes a log takes it, and no Ninja does. Where the file system has no locks, there is
- *   none. The log is unlocked by the close, also where a child that was forked while it was open lives on: see "Fork" above.
- * Signals: a call goes on where a signal interrupts it. A process that has a limit on the length of files (RLIMIT_FSIZE) must ignore SIGXFSZ,
- *   or it is ended by it.
- * Threads and processes: each call may block as long as the disk does. Descriptors are close-on-exec, and none is a standard stream's.
- * Files: the scratch of a rewriting is the path with `.recompact` behind it, and may be left there by a failure; the next rewriting takes it
- *   away. Where that is too long a name, the open is refused, by ENAMETOOLONG. A rewritten log is a new file, with the permissions of the one
- *   before and the owner of a new one, and stands in the place of a symbolic link where the path is one. Other names of a file stay those of the
- *   old one. The path is looked up by nlog_writer_open: the folder that it names then is held open until the close, wherever it is moved to.
- * Others: nobody else writes, removes or replaces the log while it is open, but writers that share it. Before each sync, each close that syncs
- *   and each rewriting the log is looked at, and where another file stands there, none, or one of another length, the call answers NLOG_FAULT,
- *   with ESTALE or ENOENT and "stat", and changes nothing. What was recorded since the last sync may then be lost. What another program puts
- *   there between the look and the end of the call isn't seen.
- * Memory: an open log takes its table, as nlog_load does, and a buffer of 327,743 bytes; while it is opened it takes the log's bytes too. The
- *   close frees them. Where there is none, a call answers NLOG_OUT_OF_MEMORY, and no file was changed, but where the call says more. Whether
- *   the log is then still open, and the call may be made again, nlog_writer_is_open tells: where memory ran out within a change, the writer is
- *   broken.
+ * Lock: flock on the log's file, as each `nlog` that changes a log takes it,
+ *   and no Ninja does. If the file system has no locks, there is none. The
+ *   close unlocks the log, also if a child that was forked while it was open
+ *   lives on: see "Fork" above.
+ * Signals: a call goes on if a signal interrupts it. A process that has a limit
+ *   on the length of files (RLIMIT_FSIZE) must ignore SIGXFSZ, or it is ended
+ *   by it.
+ * Threads and processes: each call may block as long as the disk does.
+ *   Descriptors are close-on-exec, and none is a standard stream's.
+ * Files: the scratch of a rewriting is the path with `.recompact` behind it. A
+ *   failure may leave it there, and the next rewriting takes it away. If that
+ *   is too long a name, the open is refused, by ENAMETOOLONG. A rewritten log
+ *   is a new file, with the permissions of the one before and the owner of a
+ *   new one. If the path is a symbolic link, it stands in the place of that.
+ *   Other names of a file stay those of the old one. nlog_writer_open looks the
+ *   path up. The folder that it names then is held open until the close,
+ *   wherever it is moved to.
+ * Others: nobody else writes, removes or replaces the log while it is open, but
+ *   writers that share it. The log is looked at before each sync, each close
+ *   that syncs and each rewriting. If another file stands there, none, or one
+ *   of another length, the call answers NLOG_FAULT, with ESTALE or ENOENT and
+ *   "stat", and changes nothing. What was recorded since the last sync may then
+ *   be lost. What another program puts there between the look and the end of
+ *   the call isn't seen.
+ * Memory: an open log takes its table, as nlog_load does, and a buffer of
+ *   327,743 bytes. While it is opened it takes the log's bytes too. The close
+ *   frees them. If there is none, a call answers NLOG_OUT_OF_MEMORY, and no
+ *   file was changed, unless the call says more. nlog_writer_is_open tells
+ *   whether the log is then still open, and the call may be made again. If
+ *   memory ran out within a change, the writer is broken.
  *
- * Every call but nlog_writer_new and nlog_writer_free answers NLOG_NO_HANDLE, 0 or NULL where the writer is NULL. */
+ * If the writer is NULL, every call but nlog_writer_new and nlog_writer_free
+ * answers NLOG_NO_HANDLE, 0 or NULL. */
 typedef struct nlog_writer nlog_writer;
 
 /* A name by its bytes. */
@@ -274,88 +362,129 @@ typedef struct nlog_name {
   size_t len;
 } nlog_name;
 
-/* Makes a closed writer of the log at a path, which is copied. No file is touched. `version`: as in nlog_open.
- * NLOG_OUT_OF_MEMORY, and NLOG_OTHER_VERSION where the number is none of these: *writer is NULL. */
+/* Makes a closed writer of the log at a path, which is copied. No file is
+ * touched. `version`: as in nlog_open.
+ * NLOG_OUT_OF_MEMORY, and NLOG_OTHER_VERSION if the number is none of these:
+ * *writer is NULL. */
 nlog_status nlog_writer_new(nlog_writer **writer, const char *path, uint32_t version);
 
-/* Frees the writer, and closes what is open without a sync. *writer is then NULL; where it is NULL nothing is done. */
+/* Frees the writer, and closes what is open without a sync. *writer is then
+ * NULL. If it is NULL already, nothing is done. */
 void nlog_writer_free(nlog_writer **writer);
 
-/* Opens the log: locks it, for which it waits 10 seconds at most or as nlog_writer_set_wait says, makes it where it is missing, reads it,
- * repairs it where a crash cut it off, and rewrites it where it is due, without what is marked dead. NLOG_OK: all of that is on disk.
- * NLOG_ALREADY_OPEN, NLOG_BROKEN: nothing was done. After any other status the writer is closed, and the log is unlocked; after NLOG_LOCKED,
- * NLOG_NOT_A_LOG, NLOG_OTHER_VERSION and NLOG_OUT_OF_MEMORY the log is as it was (made empty, where it was missing). Marks of dead names are
- * used up as by nlog_open, also where a file then fails.
- * Where a sync of the log had failed, the next open of this writer rewrites the log, since a second sync may answer for bytes that the first one
- * lost. Where a sync of its folder had failed, each later open answers NLOG_FAULT, with EIO and "fsync" of the folder: another writer can open
- * the log, and knows nothing of what was lost. */
+/* Opens the log: locks it, makes it if it is missing, and reads it. The open
+ * repairs it if a crash cut it off, and rewrites it if it is due, without what
+ * is marked dead. It waits for the lock 10 seconds at most, or as
+ * nlog_writer_set_wait says.
+ * NLOG_OK: all of that is on disk.
+ * NLOG_ALREADY_OPEN, NLOG_BROKEN: nothing was done.
+ * After any other status the writer is closed, and the log is unlocked. After
+ * NLOG_LOCKED, NLOG_NOT_A_LOG, NLOG_OTHER_VERSION and NLOG_OUT_OF_MEMORY the
+ * log is as it was (made empty, if it was missing). Marks of dead names are
+ * used up as by nlog_open, also if a file then fails.
+ * If a sync of the log had failed, this writer's next open rewrites the log.
+ * That is because a second sync may answer for bytes that the first one lost.
+ * If a sync of its folder had failed, each later open answers NLOG_FAULT, with
+ * EIO and "fsync" of the folder. Another writer can open the log, and knows
+ * nothing of what was lost. */
 nlog_status nlog_writer_open(nlog_writer *writer);
 
-/* Whether the log is shared, which it isn't at first: then the lock is held within each call alone, and not from the open to the close. A call
- * that changes the log, and finds that another writer had it since, takes in what it holds now: the lines of both stand in the order in which
- * they were recorded. Where the log only grew by lines of entries, these alone are read, and nothing is synced or rewritten for them; else it is
- * read and opened anew, as by nlog_writer_open. What only reads (nlog_writer_find and the like) answers of what the last such call saw. For a tool
- * whose commands may run the tool itself in the same folder, as a build may run Ninja. The writer has to be closed: NLOG_ALREADY_OPEN, also of a
- * broken one. NLOG_LOCKED of a later call: nothing was done, the log is open still, and the call may be made again. */
+/* Whether the log is shared, which it isn't at first. Then the lock is held
+ * within each call alone, and not from the open to the close. This is for a
+ * tool whose commands may run the tool itself in the same folder, as a build
+ * may run Ninja.
+ * A call that changes the log, and finds that another writer had it since,
+ * takes in what it holds now. The lines of both stand in the order in which
+ * they were recorded. If the log only grew by lines of entries, these alone are
+ * read, and nothing is synced or rewritten for them. Else it is read and opened
+ * anew, as by nlog_writer_open. What only reads (nlog_writer_find and the like)
+ * answers of what the last such call saw.
+ * NLOG_ALREADY_OPEN: the writer has to be closed; also of a broken one.
+ * NLOG_LOCKED of a later call: nothing was done, the log is open still, and the
+ * call may be made again. */
 nlog_status nlog_writer_set_shared(nlog_writer *writer, bool is_shared);
 
-/* How long a lock is waited for from now on, in milliseconds: 10,000 at first, and with 0 it is asked for once. It is asked for again each
- * millisecond at first, and each 20 by and by, and whoever asks first behind an unlock has it: there is no queue, so among many that wait one may
- * wait long. */
+/* How long a lock is waited for from now on, in milliseconds: 10,000 at first,
+ * and with 0 it is asked for once. It is asked for again each millisecond at
+ * first, and each 20 by and by. Whoever asks first behind an unlock has it.
+ * There is no queue, so among many that wait one may wait long. */
 nlog_status nlog_writer_set_wait(nlog_writer *writer, uint32_t milliseconds);
 
-/* Whether an open succeeded that no close followed, and nothing broke the writer since. */
+/* Whether an open succeeded that no close followed, and nothing broke the
+ * writer since. */
 nlog_status nlog_writer_is_open(const nlog_writer *writer, bool *is_open);
 
 /* Whether the last open rewrote the log. NLOG_NOT_OPEN, NLOG_BROKEN. */
 nlog_status nlog_writer_rewrote(const nlog_writer *writer, bool *rewrote);
 
-/* The version of the open log: 5, 6 or 7. The hash of each entry must be that of the version: nlog_command_hash_v7 of 7, else
- * nlog_command_hash. NLOG_NOT_OPEN, NLOG_BROKEN. */
+/* The version of the open log: 5, 6 or 7. The hash of each entry must be that
+ * of the version: nlog_command_hash_v7 of 7, else nlog_command_hash.
+ * NLOG_NOT_OPEN, NLOG_BROKEN. */
 nlog_status nlog_writer_version(const nlog_writer *writer, uint32_t *version);
 
-/* Adds the entry of an output, by one write. NLOG_OK: a load finds it, unless the power fails before the next nlog_writer_sync.
- * NLOG_NOT_OPEN, NLOG_BROKEN, NLOG_BAD_NAME, NLOG_OUT_OF_MEMORY: nothing was added. */
+/* Adds the entry of an output, by one write.
+ * NLOG_OK: a load finds it, unless the power fails before the next
+ * nlog_writer_sync.
+ * NLOG_NOT_OPEN, NLOG_BROKEN, NLOG_BAD_NAME, NLOG_OUT_OF_MEMORY: nothing was
+ * added. */
 nlog_status nlog_writer_record(nlog_writer *writer, const char *name, size_t len, const nlog_entry *entry);
 
-/* Adds one entry for each name, in order, by one write. NLOG_NOT_OPEN, NLOG_BROKEN, NLOG_BAD_NAME: none is added. NLOG_OUT_OF_MEMORY: those of
- * the first names may be added. */
+/* Adds one entry for each name, in order, by one write.
+ * NLOG_NOT_OPEN, NLOG_BROKEN, NLOG_BAD_NAME: none is added.
+ * NLOG_OUT_OF_MEMORY: those of the first names may be added. */
 nlog_status nlog_writer_record_edge(nlog_writer *writer, const nlog_name *names, size_t count, const nlog_entry *entry);
 
-/* As nlog_count, nlog_at and nlog_find, of the open log with all that was recorded. NLOG_NOT_OPEN, NLOG_BROKEN. */
+/* As nlog_count, nlog_at and nlog_find, of the open log with all that was
+ * recorded. NLOG_NOT_OPEN, NLOG_BROKEN. */
 nlog_status nlog_writer_count(const nlog_writer *writer, size_t *count);
 nlog_status nlog_writer_at(const nlog_writer *writer, size_t place, nlog_entry *entry, char *name, size_t room, size_t *name_len);
 nlog_status nlog_writer_find(const nlog_writer *writer, const char *name, size_t len, nlog_entry *entry);
 
-/* NLOG_OK: all that was recorded before is on disk, and stands whatever comes. NLOG_NOT_OPEN, NLOG_BROKEN. */
+/* NLOG_OK: all that was recorded before is on disk, and stands whatever comes.
+ * NLOG_NOT_OPEN, NLOG_BROKEN. */
 nlog_status nlog_writer_sync(nlog_writer *writer);
 
-/* Rewrites the log, with the last entry of each output but of those that are marked dead; such marks are used up, also where a file fails.
- * NLOG_OK: it is on disk. NLOG_NOT_OPEN, NLOG_BROKEN, NLOG_OUT_OF_MEMORY: the log wasn't changed. */
+/* Rewrites the log, with the last entry of each output but of those that are
+ * marked dead. Such marks are used up, also if a file fails.
+ * NLOG_OK: it is on disk.
+ * NLOG_NOT_OPEN, NLOG_BROKEN, NLOG_OUT_OF_MEMORY: the log wasn't changed. */
 nlog_status nlog_writer_recompact(nlog_writer *writer);
 
-/* Rewrites the log, and gives each output that is marked with a time this mtime; such marks are used up, also where a file fails. NLOG_OK: it
- * is on disk. NLOG_NEGATIVE_TIME: nothing was changed, and place is filled as by nlog_restat. */
+/* Rewrites the log, and gives each output that is marked with a time this
+ * mtime. Such marks are used up, also if a file fails.
+ * NLOG_OK: it is on disk.
+ * NLOG_NEGATIVE_TIME: nothing was changed, and place is filled as by
+ * nlog_restat. */
 nlog_status nlog_writer_restat(nlog_writer *writer, size_t *place);
 
-/* As nlog_mark_dead, nlog_mark_time and nlog_clear_marks, of an open, a closed or a broken writer. */
+/* As nlog_mark_dead, nlog_mark_time and nlog_clear_marks, of an open, a closed
+ * or a broken writer. */
 nlog_status nlog_writer_mark_dead(nlog_writer *writer, const char *name, size_t len);
 nlog_status nlog_writer_mark_time(nlog_writer *writer, const char *name, size_t len, int64_t mtime);
 nlog_status nlog_writer_clear_marks(nlog_writer *writer);
 
-/* Syncs what was recorded, closes the log and unlocks it; whatever the status but NLOG_LOCKED, the writer is then closed, and can be opened
- * again. NLOG_OK: all that was recorded is on disk. NLOG_LOCKED, of a log that is shared: nothing was done, the writer is open, and can be
- * closed again. NLOG_BROKEN: it was broken. NLOG_NOT_OPEN. Marks stay. */
+/* Syncs what was recorded, closes the log and unlocks it. Whatever the status
+ * but NLOG_LOCKED, the writer is then closed, and can be opened again. Marks
+ * stay.
+ * NLOG_OK: all that was recorded is on disk.
+ * NLOG_LOCKED, of a log that is shared: nothing was done, the writer is open,
+ * and can be closed again.
+ * NLOG_BROKEN: it was broken. NLOG_NOT_OPEN. */
 nlog_status nlog_writer_close(nlog_writer *writer);
 
-/* Of the last call of the system that failed since the last open began: its errno (0: none did), the path that it was about, and its name, as
- * "fsync" (NULL: none did). After NLOG_LOCKED these are EWOULDBLOCK and "flock". The texts last until the next call on the writer. */
+/* These three tell of the last call of the system that failed since the last
+ * open began. They are its errno (0: none did), the path that it was about, and
+ * its name, as "fsync" (NULL: none did). After NLOG_LOCKED these are
+ * EWOULDBLOCK and "flock". The texts last until the next call on the writer. */
 int nlog_writer_errno(const nlog_writer *writer);
 const char *nlog_writer_failed_path(const nlog_writer *writer);
 const char *nlog_writer_failed_call(const nlog_writer *writer);
 
-/* Reads the file and loads it, as nlog_load; the file isn't locked, and nothing is changed. NLOG_FAULT: it couldn't be read, and *error is the
- * errno (ENOENT: it is missing; EISDIR, EINVAL: it is a folder, a pipe, a device or the like); else *error is as it was. */
+/* Reads the file and loads it, as nlog_load. The file isn't locked, and nothing
+ * is changed.
+ * NLOG_FAULT: it couldn't be read, and *error is the errno. ENOENT: it is
+ * missing. EISDIR, EINVAL: it is a folder, a pipe, a device or the like. After
+ * any other status *error is as it was. */
 nlog_status nlog_load_file(nlog *log, const char *path, int *error);
 
 #ifdef __cplusplus
