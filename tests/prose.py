@@ -5,9 +5,10 @@
     python3 tests/prose.py --show PAGE
 
 A sentence ends at a full stop, a colon at the end of a line, a question mark, or where a paragraph, an item of a list, a heading or a cell of
-a table ends. What stands in backquotes counts as one word, and what stands in an indented or a fenced block isn't prose. A page is held to
-the limits of `LIMITS`: words in all, columns outside of blocks, words of a sentence on average, and words of the longest one. Each of these was the page's own
-figure when it was set, or less: a page may get plainer, and not the other way. `--show` prints the sentences of a page, the longest first.
+a table ends. What stands in backquotes counts as one word, and what stands in an indented or a fenced block isn't prose. Of a header the
+comments are read, and of a manual page the source, whose synopsis and examples are blocks. A page is held to the limits of `LIMITS`: words in
+all, columns outside of indented blocks, words of a sentence on average, and words of the longest one. Each of these was the page's own figure
+when it was set, or less: a page may get plainer, and not the other way. `--show` prints the sentences of a page, the longest first.
 
 The last line is `N passed, M failed`.
 """
@@ -35,10 +36,90 @@ LIMITS = {
     "docs/PERFORMANCE.md": (None, 100, 18, 25),
     "docs/GATE.md": (None, 100, 18, 25),
     "CHANGELOG.md": (None, 100, 18, 25),
+    "docs/LIBRARY.md": (None, 100, 18, 25),
+    "docs/NINJA_TIMES.md": (None, 100, 18, 25),
+    "include/nlog.h": (None, 80, 18, 25),
+    "man/nlog.3": (None, 80, 18, 25),
 }
 # A paragraph of as many words stands on one page, once.
 REPEATED = 12
 ENDS = re.compile(r"(?<=[.?!])[)\"*]*\s+(?=[^a-z\s])|(?<=:)\s*$")
+# A function of the library, which may begin a sentence as it is.
+CALL = re.compile(r"\bnlog_\w+(?:\(\))?")
+# What a manual page writes by an escape, and the macros whose words are text, with a space between two of them or none. Any other is refused,
+# so that no text is passed over.
+ESCAPES = {r"\-": "-", r"\e": "\\", r"\&": "", r"\(aq": "'", r"\(dq": '"', r"\fB": "", r"\fI": "", r"\fR": "", r"\fP": ""}
+APART, JOINED, BREAKS = ("B", "I"), ("BR", "RB", "BI", "IB", "IR", "RI"), ("PP", "RS", "RE", "TP")
+
+
+def columns_of_page(text):
+    return max(len(it) for it in text.split("\n") if not it.startswith("    "))
+
+
+def comments(text):
+    """Where each comment of a header begins and ends."""
+    return [it.span() for it in re.finditer(r"(?s)/\*.*?\*/", text)]
+
+
+def page_of_header(text):
+    """The comments of a header as a page, each a paragraph or more of it."""
+    bare = (re.sub(r"(?m)^ *\* ?", "", text[start + 2 : end - 2].strip(" -")) for start, end in comments(text))
+    return CALL.sub("CODE", "\n\n".join(bare))
+
+
+def columns_of_header(text):
+    """The columns of the longest line in which a comment stands, or a part of one."""
+    whole = (text[text.rfind("\n", 0, start) + 1 : text.index("\n", end)] for start, end in comments(text))
+    return max(len(it) for lines in whole for it in lines.split("\n"))
+
+
+def lines_of_manual(source):
+    """The lines of a manual page's source outside of its blocks: each with its macro, or None, and the words that are its text."""
+    is_block = False
+    for line in source.split("\n"):
+        macro, rest = re.fullmatch(r"(?:\.(\S*) *)?(.*)", line).groups()
+        if macro in ("nf", "EX", "fi", "EE"):
+            is_block = macro in ("nf", "EX")
+        elif not is_block and macro not in ("TH", '\\"'):
+            yield line, macro, [it.strip('"') for it in re.findall(r'"[^"]*"|\S+', rest)] if macro else [rest]
+
+
+def page_of_manual(source):
+    """A manual page's source as a page. A heading is a paragraph of its own, and so is what an item begins with."""
+    page, is_tag = [], False
+    for line, macro, given in lines_of_manual(source):
+        said = ("" if macro in JOINED else " ").join(given)
+        said = re.sub(r"\\(?:\(..|f.|.)", lambda it: ESCAPES[it[0]], said)
+        if macro in ("SH", "SS"):
+            page += ["", said, ""]
+        elif macro in BREAKS:
+            page.append("")
+        elif macro is None or macro in APART + JOINED:
+            page += [said, ""] if is_tag else [said]
+        else:
+            raise ValueError(f"a macro that isn't read: {line}")
+        is_tag = macro == "TP"
+    return CALL.sub("CODE", "\n".join(page))
+
+
+def columns_of_manual(source):
+    return max(len(line) for line, _, _ in lines_of_manual(source))
+
+
+def kind_of(page):
+    """How a page's text becomes one of paragraphs, and how its columns are counted."""
+    if page.endswith(".h"):
+        return page_of_header, columns_of_header
+    return (page_of_manual, columns_of_manual) if page.startswith("man/") else (str, columns_of_page)
+
+
+def text_of(page):
+    with open(f"{TOP}/{page}", encoding="utf-8") as it:
+        return it.read()
+
+
+def read(page):
+    return kind_of(page)[0](text_of(page))
 
 
 def parts(text):
@@ -66,18 +147,12 @@ def words(sentence):
     return len(re.findall(r"[^\W_][\w'./^-]*", sentence))
 
 
-def figures(text):
+def figures(page):
     """The words of a page, its columns, the words of its average sentence, and of its longest."""
-    counts = [words(it) for it in sentences(text)]
+    counts = [words(it) for it in sentences(read(page))]
     # A heading or a cell of a word or two is no sentence.
     whole = [it for it in counts if it > 3]
-    columns = max(len(it) for it in text.split("\n") if not it.startswith("    "))
-    return sum(counts), columns, sum(whole) / max(1, len(whole)), max(counts, default=0)
-
-
-def read(page):
-    with open(f"{TOP}/{page}", encoding="utf-8") as it:
-        return it.read()
+    return sum(counts), kind_of(page)[1](text_of(page)), sum(whole) / max(1, len(whole)), max(counts, default=0)
 
 
 def repeated(pages):
@@ -99,7 +174,7 @@ def main(given):
         return usage(__file__)
     trials = Trials("prose.py")
     for page in given or LIMITS:
-        found = figures(read(page))
+        found = figures(page)
         for what, is_now, limit in zip(("words", "columns", "words of a sentence on average", "words of the longest sentence"), found, LIMITS[page]):
             trials.check(f"{page}: {what}", limit is None or is_now <= limit, f"{is_now:.1f} in place of {limit} at most")
     for part, where in repeated(LIMITS).items():
