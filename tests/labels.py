@@ -1,9 +1,11 @@
 #!/usr/bin/env python3
 """Holds the table of clause labels in CONTRIBUTING.md to the code: python3 tests/labels.py
 
-Each label of a clause outside of laws.rt stands in the table, once, and so does each part of a call's relation (a field of a
-record of a `specs/Calls` of RELATIONS), whose clause is `call`; each label of the table is one of these. Each edit can be applied, and its
-first line names the function that it changes and a clause of it. It reads the repository's texts alone, and needs no toolchain.
+A label that crosses crates stands in the table, in a row of its own, and each row is of such a label: one that callers meet in two crates
+or more. They meet a clause of a public function, of a method of a trait or of a type's trait, and a part of a call's relation (a field of a
+record of a `specs/Calls` of RELATIONS, whose clause is `call`); laws.rt is left out. A row has one sense: none has a label that another has,
+a semicolon, or a cell of more than CELL words. Each edit can be applied, and its first line names the function that it changes and a clause
+of it. It reads the repository's texts alone, and needs no toolchain.
 """
 
 import collections
@@ -17,6 +19,11 @@ from edits import BadEdit, Edit, crates, text_of
 TOP = os.path.dirname(os.path.dirname(os.path.abspath(__file__)))
 CLAUSE = re.compile(r"\b(?:ensures|requires)\*?\s+([a-z]\w*)\s*\{")
 LAWS = ("laws.rt",)
+# What begins a function, and what begins that in which an indented one stands, which is at the left margin by `rt fmt`.
+FUNCTION = re.compile(r"(?m)^( *)(pub )?(?:\w+ |\w+ \"C\" |pub\(\w+\) )*fn \w+")
+OWNER = re.compile(r"(?m)^(?:pub(?:\(\w+\))? )?(?:unsafe )?(trait|impl)\b([^{]*)")
+# The words of a cell, at most.
+CELL = 30
 RECORD = re.compile(r"^pub record (\w+).*\n(?:    .*\n)*((?:  (?:pub|  |--).*\n)*)", re.MULTILINE)
 FIELD = re.compile(r"^  pub (\w+) :", re.MULTILINE)
 
@@ -30,31 +37,57 @@ def code_of(path):
     return re.sub(r"//.*", "", text_of(path))
 
 
-def labels_of_table(page):
-    """The labels of the first column of the table, in their order. Rows that name a theme have none."""
+def rows_of_table(page):
+    """The rows of the table, each as its labels and the cell of what they say. Rows that name a theme have no label."""
     rows = page[page.index("| Label | Says |") :].split("\n\n")[0].split("\n")[2:]
-    return [label for row in rows for label in re.findall(r"`([a-z]\w*)`", row.split("|")[1])]
+    cells = [it.strip("|").split("|") for it in rows]
+    return [(re.findall(r"`([a-z]\w*)`", it[0]), it[1]) for it in cells if "`" in it[0]]
+
+
+def is_met(text, head):
+    """Whether callers meet a function: it is public, or stands in a trait, or in what a type has of one."""
+    owners = list(OWNER.finditer(text, 0, head.start()))
+    is_of_trait = head[1] and owners and (owners[-1][1] == "trait" or re.search(r"\bfor\b", owners[-1][2]))
+    return bool(head[2] or is_of_trait)
+
+
+def met_labels(text):
+    """The labels that callers of a file meet, of its text without comments."""
+    heads = list(FUNCTION.finditer(text))
+    for head, end in zip(heads, [it.start() for it in heads[1:]] + [len(text)]):
+        if is_met(text, head):
+            yield from CLAUSE.findall(text[head.end() : end])
 
 
 def labels_in_use():
-    """Each label outside of laws, with the files that use it."""
-    found = collections.defaultdict(list)
+    """Each label that callers meet outside of laws, with the crates where they do."""
+    found = collections.defaultdict(set)
     for path in sorted(glob(f"{TOP}/crates/*/src/**/*.rt", recursive=True)):
         if os.path.basename(path) not in LAWS:
-            for label in CLAUSE.findall(code_of(path)):
-                found[label].append(os.path.relpath(path, TOP))
-    return found
-
-
-def parts_in_use():
-    """Each part of a call's relation, with the pages that have it."""
-    found = collections.defaultdict(list)
+            for label in met_labels(code_of(path)):
+                found[label].add(os.path.relpath(path, f"{TOP}/crates").split(os.sep)[0])
     for crate in RELATIONS:
-        page = f"{TOP}/crates/{crate}/specs/Calls.antt"
-        for name, fields in RECORD.findall(text_of(page)):
+        for name, fields in RECORD.findall(text_of(f"{TOP}/crates/{crate}/specs/Calls.antt")):
             for field in FIELD.findall(fields) if name not in VALUES else []:
-                found[field].append(os.path.relpath(page, TOP))
+                found[field].add(crate)
     return found
+
+
+def faults_of_table(rows, used):
+    """Says of each row and of each label that crosses crates what is wrong with it, if something is."""
+    times = collections.Counter(label for labels, _ in rows for label in labels)
+    for labels, says in rows:
+        name = ", ".join(labels)
+        yield None if len(labels) == 1 else f"{name}: a row of the table in CONTRIBUTING.md has {len(labels)} labels"
+        yield None if ";" not in says else f"{name}: the table in CONTRIBUTING.md has two senses of it"
+        yield None if len(says.split()) <= CELL else f"{name}: its cell in CONTRIBUTING.md has {len(says.split())} words"
+    for label, crates in sorted(used.items()):
+        if len(crates) > 1:
+            where = ", ".join(sorted(crates))
+            yield None if label in times else f"{label}: callers meet it in {where}, and the table in CONTRIBUTING.md doesn't have it"
+    for label, count in sorted(times.items()):
+        yield None if len(used.get(label, ())) > 1 else f"{label}: it stands in the table in CONTRIBUTING.md, and crosses no crates"
+        yield None if count == 1 else f"{label}: the table in CONTRIBUTING.md has it {count} times"
 
 
 def faults_of_edits():
@@ -69,16 +102,7 @@ def faults_of_edits():
 
 
 def main():
-    checks = []
-    table = labels_of_table(text_of(f"{TOP}/CONTRIBUTING.md"))
-    used = labels_in_use()
-    for label, pages in parts_in_use().items():
-        used[label] += pages
-    for label, files in sorted(used.items()):
-        checks.append(None if label in table else f"{label}: {files[0]} has it, and the table in CONTRIBUTING.md doesn't")
-    for label, times in sorted(collections.Counter(table).items()):
-        checks.append(None if label in used else f"{label}: it stands in the table in CONTRIBUTING.md, and no clause has it")
-        checks.append(None if times == 1 else f"{label}: the table in CONTRIBUTING.md has it {times} times")
+    checks = list(faults_of_table(rows_of_table(text_of(f"{TOP}/CONTRIBUTING.md")), labels_in_use()))
     checks += faults_of_edits()
     failed = [it for it in checks if it]
     for it in failed:

@@ -32,7 +32,7 @@ LIMITS = {
     "docs/DISK_MODEL.md": (None, 100, 18, 25),
     "docs/FORMAT.md": (None, 100, 18, 25),
     "docs/ARCHITECTURE.md": (None, 100, 18, 25),
-    "CONTRIBUTING.md": (None, 439, 18, 71),
+    "CONTRIBUTING.md": (None, 100, 18, 25),
     "docs/PERFORMANCE.md": (None, 100, 18, 25),
     "docs/GATE.md": (None, 100, 18, 25),
     "CHANGELOG.md": (None, 100, 18, 25),
