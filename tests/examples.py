@@ -26,7 +26,7 @@ import tempfile
 from trials import usage
 
 TOP = os.path.dirname(os.path.dirname(os.path.abspath(__file__)))
-PAGES = ("README.md", "docs/CLI.md", "docs/HELP.md", "docs/DAMAGE.md", "docs/RECIPES.md")
+PAGES = ("README.md", "docs/CLI.md", "docs/HELP.md", "docs/REPLAY.md", "docs/DAMAGE.md", "docs/RECIPES.md")
 SECONDS = 60
 
 # The head of a table of messages.

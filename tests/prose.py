@@ -26,6 +26,7 @@ LIMITS = {
     "docs/CLI.md": (None, 100, 18, 25),
     "docs/DAMAGE.md": (None, 100, 18, 25),
     "docs/HELP.md": (None, 100, 18, 25),
+    "docs/REPLAY.md": (None, 100, 18, 25),
     "docs/RECIPES.md": (None, 100, 18, 25),
     "docs/DECISIONS.md": (None, 100, 18, 25),
     "docs/PROMISES.md": (None, 100, 18, 25),
