@@ -5,10 +5,11 @@
     python3 tests/prose.py --show PAGE
 
 A sentence ends at a full stop, a colon at the end of a line, a question mark, or where a paragraph, an item of a list, a heading or a cell of
-a table ends. What stands in backquotes counts as one word, and what stands in an indented or a fenced block isn't prose. Of a header the
-comments are read, and of a manual page the source, whose synopsis and examples are blocks. A page is held to the limits of `LIMITS`: words in
-all, columns outside of indented blocks, words of a sentence on average, and words of the longest one. Each of these was the page's own figure
-when it was set, or less: a page may get plainer, and not the other way. `--show` prints the sentences of a page, the longest first.
+a table ends. What stands in backquotes counts as one word, of a link its text alone, and what stands in an indented or a fenced block isn't
+prose. Of a header the comments are read, and of a manual page the source, whose synopsis and examples are blocks. A page is held to the
+limits of `LIMITS`: words in all, columns outside of indented blocks, words of a sentence on average, and words of the longest one. Each of
+these was the page's own figure when it was set, or less: a page may get plainer, and not the other way. `--show` prints the sentences of a
+page, the longest first.
 
 The last line is `N passed, M failed`.
 """
@@ -141,7 +142,8 @@ def parts(text):
 
 def sentences(text):
     for part in parts(text):
-        yield from (it.strip() for it in ENDS.split(re.sub(r"`[^`]*`", "CODE", part)) if it.strip())
+        said = re.sub(r"\]\([^)\s]*\)", "]", re.sub(r"`[^`]*`", "CODE", part))
+        yield from (it.strip() for it in ENDS.split(said) if it.strip())
 
 
 def words(sentence):
