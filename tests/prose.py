@@ -41,6 +41,7 @@ LIMITS = {
     "docs/LIBRARY.md": (None, 100, 18, 25),
     "docs/NINJA_TIMES.md": (None, 100, 18, 25),
     "include/nlog.h": (None, 80, 18, 25),
+    "man/nlog.1": (None, 80, 18, 25),
     "man/nlog.3": (None, 80, 18, 25),
 }
 # A paragraph of as many words stands on one page, once.
@@ -50,8 +51,8 @@ ENDS = re.compile(r"(?<=[.?!])[)\"*]*\s+(?=[^a-z\s])|(?<=:)\s*$")
 CALL = re.compile(r"\bnlog_\w+(?:\(\))?")
 # What a manual page writes by an escape, and the macros whose words are text, with a space between two of them or none. Any other is refused,
 # so that no text is passed over.
-ESCAPES = {r"\-": "-", r"\e": "\\", r"\&": "", r"\(aq": "'", r"\(dq": '"', r"\fB": "", r"\fI": "", r"\fR": "", r"\fP": ""}
-APART, JOINED, BREAKS = ("B", "I"), ("BR", "RB", "BI", "IB", "IR", "RI"), ("PP", "RS", "RE", "TP")
+ESCAPES = {r"\-": "-", r"\e": "\\", r"\&": "", r"\(aq": "'", r"\(dq": '"', r"\(lq": '"', r"\(rq": '"', r"\fB": "", r"\fI": "", r"\fR": "", r"\fP": ""}
+APART, JOINED, BREAKS = ("B", "I"), ("BR", "RB", "BI", "IB", "IR", "RI"), ("P", "PP", "IP", "RS", "RE", "TP", "TQ", "in")
 
 
 def columns_of_page(text):
@@ -80,8 +81,8 @@ def lines_of_manual(source):
     is_block = False
     for line in source.split("\n"):
         macro, rest = re.fullmatch(r"(?:\.(\S*) *)?(.*)", line).groups()
-        if macro in ("nf", "EX", "fi", "EE"):
-            is_block = macro in ("nf", "EX")
+        if macro in ("nf", "EX", "SY", "fi", "EE", "YS"):
+            is_block = macro in ("nf", "EX", "SY")
         elif not is_block and macro not in ("TH", '\\"'):
             yield line, macro, [it.strip('"') for it in re.findall(r'"[^"]*"|\S+', rest)] if macro else [rest]
 
@@ -90,17 +91,19 @@ def page_of_manual(source):
     """A manual page's source as a page. A heading is a paragraph of its own, and so is what an item begins with."""
     page, is_tag = [], False
     for line, macro, given in lines_of_manual(source):
+        if macro in BREAKS:
+            page.append("")
+            is_tag = macro in ("TP", "TQ")
+            continue
         said = ("" if macro in JOINED else " ").join(given)
         said = re.sub(r"\\(?:\(..|f.|.)", lambda it: ESCAPES[it[0]], said)
         if macro in ("SH", "SS"):
             page += ["", said, ""]
-        elif macro in BREAKS:
-            page.append("")
         elif macro is None or macro in APART + JOINED:
             page += [said, ""] if is_tag else [said]
         else:
             raise ValueError(f"a macro that isn't read: {line}")
-        is_tag = macro == "TP"
+        is_tag = False
     return CALL.sub("CODE", "\n".join(page))
 
 
