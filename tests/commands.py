@@ -220,6 +220,22 @@ NO_OPTION = b"""error: unexpected argument '--log-version' found
 Usage: nlog %s
 """ + MORE
 
+# An option that the program alone doesn't have, a value behind one that takes none, a value too few of six, and an option that is there twice.
+NO_SHORT_OPTION = b"""error: unexpected argument '-v' found
+
+Usage: nlog [COMMAND]
+""" + MORE
+HELP_OF_A_VALUE = b"""error: unexpected value 'x' for '--help' found; no more were expected
+
+Usage: nlog --help
+""" + MORE
+ONE_TOO_FEW = b"""error: the following required arguments were not provided:
+  <COMMAND>
+
+Usage: nlog record <LOG> <START> <END> <MTIME> <NAME> <COMMAND>
+""" + MORE
+TWO_VERBOSE = TWO_VERSIONS.replace(b"--log-version <VERSION>", b"--verbose")
+
 BEFORE_THE_COMMAND = b"""error: unexpected argument '--log-version' found
 
   tip: a similar argument exists: '--version'
@@ -296,6 +312,10 @@ WORDS = [
     (["--version"], 0, b"nlog 0.1.0\n", b""),
     (["frob"], 2, b"", NO_COMMAND),
     (["hash"], 2, b"", NO_VALUE),
+    (["-v"], 2, b"", NO_SHORT_OPTION),
+    (["--help=x"], 2, b"", HELP_OF_A_VALUE),
+    (["record", "file", "1", "2", "3", "out"], 2, b"", ONE_TOO_FEW),
+    (["show", "-v", "--verbose"], 2, b"", TWO_VERBOSE),
     (["hash", b"\xff"], 2, b"", b"nlog: cannot read the words: invalid data\n"),
     # The version of a log, in each place that it may have.
     (["show", "--log-version", "7", "seven"], 0, NEW_SHOWN, b""),
