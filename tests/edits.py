@@ -83,7 +83,8 @@ def type_name(text, parameters):
 
 
 def of_impl(head, others):
-    """What a check calls an impl block: its type, or its type and its trait; by another name of a type (`others`) that and what it is of."""
+    """What a check calls an impl block: its type, or its type (`Any`, of each one) and its trait; by another name of a type (`others`) that and
+    what it is of."""
     head = re.sub(r"\s+where\b.*|\s*\{.*", "", head).strip()
     parameters = set()
     if head.startswith("<"):
@@ -95,7 +96,7 @@ def of_impl(head, others):
     own = [it for it in parts_of(rest.rpartition(">")[0]) if not it.startswith("'") and it not in parameters]
     if not is_of and (name.strip() in others or own):
         return "+".join([name.strip(), *parts_of(rest.rpartition(">")[0])])
-    return type_name(whom, parameters) + type_name(trait, parameters) if is_of else type_name(head, parameters)
+    return (type_name(whom, parameters) or "Any") + type_name(trait, parameters) if is_of else type_name(head, parameters)
 
 
 def end_of(head):

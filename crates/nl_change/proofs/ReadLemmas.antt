@@ -3,7 +3,8 @@ use Rattle.std.proofs.Common.{◌∙◌, ℕ, List, inl, inr, refl, ap, subst}
 use Rattle.std.specs.Prelude.{Option, Result, Ok, Err, IfErr, OnOk}
 use Rattle.std.specs.Result.{IsErrAnd}
 use Rattle.nl_texts.specs.declared.fault.ToolFault.{ToolFault}
-use Rattle.nl_change.specs.Calls.{ChangesAsRead, ChangesLog, FolderView, IsUnread, Meaning, SaysAsRead}
+use Rattle.nl_folder.specs.declared.folder.Folder.{Ghosts}
+use Rattle.nl_change.specs.Calls.{ChangesAsRead, ChangesLog, FolderView, IsUnread, Meaning, SaysAsRead, folder_view}
 use Rattle.nl_change.specs.Faults.{IsChangeFault, IsFileFault}
 use Rattle.nl_change.specs.Files.{FileReading}
 use Rattle.nl_change.specs.Updates.{AsSaid}
@@ -73,7 +74,12 @@ module _ {T : Type 0} (reading : List ℕ → FileReading T) (meaning : List T �
       Refuses : Result (Unit {0}) ToolFault → Type 0
       Refuses result = IfErr result IsChangeFault
 
-  pub read_first : (result : Result (Unit {0}) ToolFault) → ChangesAsRead reading meaning known result old new
-      → SaysAsRead reading meaning known result old new
-  read_first result (inl u) = unread result u
-  read_first result (inr said) = changed result said
+-- the same of a folder
+pub read_first : {T F : Type 0} (g : Ghosts F) (reading : List ℕ → FileReading T) (meaning : List T → Meaning) (known : Option (List ℕ))
+    (old new : F) (result : Result (Unit {0}) ToolFault) → ChangesAsRead g reading meaning known result old new
+    → SaysAsRead reading meaning known result (folder_view g old) (folder_view g new)
+read_first g reading meaning known old new result (inl u) = unread reading meaning known (folder_view g old) (folder_view g new) result (
+    record { refused = u.refused; bad_line = u.bad_line; stays = ap (folder_view g) u.stays }
+    )
+read_first g reading meaning known old new result (inr said) =
+    changed reading meaning known (folder_view g old) (folder_view g new) result said

@@ -1,6 +1,7 @@
 -- A log that is seen as of a version, and the folder below it.
-use Rattle.std.proofs.Common.{◌≡◌, ◌≢◌, ◌≤◌, ◌∙◌, ℕ, Bool, true, false, List, Option, None, Some, Result, Ok, Err, refl, sym, ap, arith, subst}
-use Rattle.std.specs.Prelude.{IfOk, IsErrOf, IsTrue}
+use Rattle.std.proofs.Common.{◌≡◌, ◌≢◌, ◌≤◌, ◌∙◌, ℕ, true, false, List, Option, None, Some, Result, Ok, Err, refl, sym, ap, arith, subst}
+use Rattle.std.specs.Prelude.{IfErr, IfOk, IsErrOf, IsTrue}
+use Rattle.nl_lines.specs.Source.{FailedBetween}
 use Rattle.nl_lines.specs.declared.version.LogVersion.{LogVersion}
 use Rattle.nl_lines.specs.declared.version.LogVersion.TheVariants.{Five, Six, Seven}
 use Rattle.nl_table.specs.Log.{log_of}
@@ -8,7 +9,9 @@ use Rattle.nl_folder.specs.DiskState.{Disk, SameState}
 use Rattle.nl_folder.specs.declared.folder.Folder.{Ghosts}
 use Rattle.nl_print.specs.VersionOf.{version_of}
 use Rattle.nl_print.specs.Versions.{is_barred, is_four}
-use Rattle.nl_print.proofs.VersionLemmas.{looked, seen_five}
+use Rattle.nl_print.specs.declared.log_version.FirstLine.{FirstLine}
+use Rattle.nl_print.proofs.VersionLemmas.{seen_five}
+use Rattle.nl_print.proofs.VersionOfLemmas.{named_free}
 use Rattle.nl_session.specs.declared.fault.LogFault.{LogFault}
 use Rattle.nl_session.specs.declared.fault.LogFault.TheVariants as refusal
 use Rattle.nl_session.specs.declared.log.Log.{Log}
@@ -16,10 +19,9 @@ use Rattle.nl_session.specs.declared.state.LogState.TheVariants.{Closed}
 use Rattle.nl_session.specs.View.{folder_of, view_of}
 use Rattle.nl_texts.specs.declared.fault.ToolFault.{ToolFault}
 use Rattle.nl_texts.specs.declared.fault.ToolFault.TheVariants.{Folder}
-use Rattle.nl_change.specs.Calls.{FolderView, IsVersionFor, folder_state, folder_view}
+use Rattle.nl_change.specs.Calls.{FolderView, IsFree, IsVersionFor, Looks, folder_state, folder_view}
 use Rattle.nl_change.specs.Seen.{Begins, HandsBack, Seen}
-use Rattle.nl_change.specs.Applying.{IsSeenAnew, IsTurnedAway, Looks}
-use Rattle.nl_change.proofs.SeenLemmas.{named_all}
+use Rattle.nl_change.specs.Applying.{IsSeenAnew, IsTurnedAway}
 
 module _ {F : Type 0} {g : Ghosts F} (log : Log F g) (folder : F) where
   pub begins_five : (view_of log).mode ≡ Closed → folder_of log ≡ folder
@@ -44,57 +46,66 @@ module _ {F : Type 0} {g : Ghosts F} (log : Log F g) (folder : F) where
 
 -- ---- a look at a folder
 
--- by the version that its first line names
-module _ (old new : FolderView) (r : Result LogVersion ToolFault) (same : SameState (folder_state old) (folder_state new))
-    (rises : old.failures ≤ new.failures) where
-  pub looks_named : (version : LogVersion) → r ≡ Ok version
-      → ((d : Disk) → old.disk ≡ Some d → IfOk r (λ named. named ≡ version_of d.visible))
-      → (¬ IsErrOf r Folder → new.failures ≡ old.failures) → Looks None old new (Ok version)
-  looks_named version is names steady = record {
-    same = same;
-    rises = rises;
-    steady = steady (λ failed. absurd (cc (is, failed)));
-    chosen = subst (λ (found : Result LogVersion ToolFault). IfOk found (IsVersionFor None old.disk)) is (named_all r old.disk names);
-    free = λ d asked at none. absurd (cc none);
-    refusals = tt;
-  }
-
 -- where 6 or 7 is asked for, only a log of version 4 is barred
 barred_four : (version : LogVersion) (bytes : List ℕ) → version ≢ Five → is_barred version bytes ≡ is_four (log_of bytes)
 barred_four Five bytes other = absurd (other refl)
 barred_four Six bytes other = refl
 barred_four Seven bytes other = refl
 
--- by whether it is of version 4
-module _ (version : LogVersion) (other : version ≢ Five) (old new : FolderView) (r : Result Bool ToolFault)
-    (same : SameState (folder_state old) (folder_state new)) (rises : old.failures ≤ new.failures)
-    (steady : ¬ IsErrOf r Folder → new.failures ≡ old.failures)
-    (four : (d : Disk) → old.disk ≡ Some d → IfOk r (λ is. is ≡ is_four (log_of d.visible))) where
-  barred_by : (is : Bool) → r ≡ Ok is → (d : Disk) → old.disk ≡ Some d → is_barred version d.visible ≡ is
-  barred_by is found d at =
-      barred_four version d.visible other ∙ sym (looked r is (log_of d.visible) found (four d at))
+module _ (old new : FolderView) (r : Result FirstLine ToolFault) (same : SameState (folder_state old) (folder_state new))
+    (rises : old.failures ≤ new.failures) (steady : ¬ IsErrOf r Folder → new.failures ≡ old.failures) where
+  fine : (line : FirstLine) → r ≡ Ok line → new.failures ≡ old.failures
+  fine line is = steady (λ failed. absurd (cc (is, failed)))
 
-  pub looks_past : r ≡ Ok false → Looks (Some version) old new (Ok version)
-  looks_past is = record {
-    same = same;
-    rises = rises;
-    steady = steady (λ failed. absurd (cc (is, failed)));
-    chosen = refl;
-    free = λ d asked at this.
-        let named : version ≡ asked = cc this in
-        ap (λ (v : LogVersion). is_barred v d.visible) (sym named) ∙ barred_by false is d at;
-    refusals = tt;
-  }
+  -- by the version that its first line names
+  pub looks_named : ((d : Disk) → old.disk ≡ Some d → IfOk r (λ line. line.version ≡ version_of d.visible)) → (line : FirstLine)
+      → r ≡ Ok line → Looks None old new (Ok line.version)
+  looks_named names line is =
+      let named : IsVersionFor None old.disk line.version =
+      λ d at. subst (λ (found : Result FirstLine ToolFault). IfOk found (λ line. line.version ≡ version_of d.visible)) is (names d at) in
+      record {
+        same = same;
+        rises = rises;
+        steady = fine line is;
+        chosen = named;
+        free = λ d at. ap (λ (v : LogVersion). is_barred v d.visible) (named d at) ∙ named_free d.visible;
+        refusals = tt;
+      }
 
-  pub looks_four : r ≡ Ok true → Looks (Some version) old new (Err refusal.OtherVersion)
-  looks_four is = record {
-    same = same;
-    rises = rises;
-    steady = tt;
-    chosen = tt;
-    free = tt;
-    refusals = (steady (λ failed. absurd (cc (is, failed))), barred_by true is);
-  }
+  -- it failed
+  pub looks_failed : (asked : Option LogVersion) → (IsErrOf r Folder → FailedBetween old.failures new.failures)
+      → IfErr r (λ fault. fault ≡ Folder) → (why : ToolFault) → r ≡ Err why → Looks asked old new (Err refusal.Fault)
+  looks_failed asked cause faults why is =
+      let folder : why ≡ Folder = subst (λ (found : Result FirstLine ToolFault). IfErr found (λ fault. fault ≡ Folder)) is faults in
+      record { same = same; rises = rises; steady = tt; chosen = tt; free = tt; refusals = cause (is ∙ ap Err folder) }
+
+  -- by whether it is of version 4
+  module _ (version : LogVersion) (other : version ≢ Five)
+      (four : (d : Disk) → old.disk ≡ Some d → IfOk r (λ line. line.is_four ≡ is_four (log_of d.visible))) (line : FirstLine)
+      (is : r ≡ Ok line) where
+    barred_by : (d : Disk) → old.disk ≡ Some d → is_barred version d.visible ≡ line.is_four
+    barred_by d at = barred_four version d.visible other
+        ∙ sym (subst (λ (found : Result FirstLine ToolFault). IfOk found (λ line. line.is_four ≡ is_four (log_of d.visible))) is (four d at))
+
+    pub looks_past : line.is_four ≡ false → Looks (Some version) old new (Ok version)
+    looks_past later = record {
+      same = same;
+      rises = rises;
+      steady = fine line is;
+      chosen = refl;
+      free = λ d at. barred_by d at ∙ later;
+      refusals = tt;
+    }
+
+    pub looks_four : line.is_four ≡ true → Looks (Some version) old new (Err refusal.OtherVersion)
+    looks_four old_one = record {
+      same = same;
+      rises = rises;
+      steady = tt;
+      chosen = tt;
+      free = tt;
+      refusals = (fine line is, (other, λ d at. barred_by d at ∙ old_one));
+    }
 
 -- ---- a closed log that was looked at
 
@@ -108,7 +119,7 @@ module _ (asked : Option LogVersion) (old new : Seen) (between found : FolderVie
         looked = record { closed = closed; between = between; hands = hands; same = looks.same; rises = looks.rises };
         steady = looks.steady;
         chosen = subst (IsVersionFor asked between.disk) (sym named) looks.chosen;
-        free = looks.free;
+        free = subst (IsFree between.disk) (sym named) looks.free;
         begins = begins;
       }
 

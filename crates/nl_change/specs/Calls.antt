@@ -1,12 +1,11 @@
 -- What each call that changes a log makes of what contracts see of its folder, by the answer: docs/PROMISES.md.
-use Rattle.std.specs.Prelude.{◌≡◌, ◌⊎◌, ◌++◌, ℕ, ℤ, Bool, false, List, [], Option, None, Some, IsSomeAnd, IsTrue, Result, IsErr, IsErrOf, IfErr}
-use Rattle.std.specs.Prelude.{OnErr, OnOk, if◌then◌else◌}
+use Rattle.std.specs.Prelude.{◌≡◌, ◌≢◌, ◌≤◌, ◌⊎◌, ◌++◌, ℕ, ℤ, Bool, true, false, List, [], Option, None, Some, IsSomeAnd, IsTrue, Result, IsErr, IsErrOf, IfErr, IfOk}
+use Rattle.std.specs.Prelude.{OnErr, OnOk}
 use Rattle.std.specs.Result.{IsErrAnd}
 use Rattle.nl_fields.specs.declared.entry.Entry.{Entry}
 use Rattle.nl_fields.specs.EntryLine.{line_of}
 use Rattle.nl_lines.specs.Source.{FailedBetween}
 use Rattle.nl_lines.specs.Split.{with_newline}
-use Rattle.nl_lines.specs.Version.{as_version}
 use Rattle.nl_lines.specs.declared.version.LogVersion.{LogVersion}
 use Rattle.nl_lines.specs.declared.version.LogVersion.TheVariants.{Five}
 use Rattle.nl_table.specs.History.{Enter, History, Touch, Update}
@@ -27,11 +26,11 @@ use Rattle.nl_session.specs.Opened.{IsLog, survivors}
 use Rattle.nl_session.specs.Runs.{BeginsAt}
 use Rattle.nl_session.specs.View.{StandsAt, View}
 use Rattle.nl_print.specs.VersionOf.{version_of}
-use Rattle.nl_print.specs.Versions.{is_barred}
+use Rattle.nl_print.specs.Versions.{hash_as, is_barred, log_as}
 use Rattle.nl_texts.specs.Files.{OfBytes}
 use Rattle.nl_texts.specs.declared.fault.ToolFault.{ToolFault}
 use Rattle.nl_texts.specs.declared.fault.ToolFault.TheVariants.{BadLine, Folder, NegativeTime, NotALog, OtherVersion, Read}
-use Rattle.nl_change.specs.Faults.{IsChangeFault, IsChangeRefusal, IsFileFault, IsNoLogFault}
+use Rattle.nl_change.specs.Faults.{IsChangeFault, IsChangeRefusal, IsFileFault, IsNoLogFault, IsRecordFault}
 use Rattle.nl_change.specs.Files.{BadAt, FileReading}
 use Rattle.nl_change.specs.Updates.{AsSaid, Changes, HasTable, IsOpenLeft, IsRepaired, IsUnmade, IsUpdated, Leaves, OfAllFound}
 use Rattle.nl_change.specs.Updates.{StaysRepaired, dead_but, none_dead}
@@ -81,9 +80,18 @@ keeping names = dropping (dead_but names)
 abbrev pub keeping_all : Meaning
 keeping_all = dropping none_dead
 
+-- an entry with the hash that the command has in logs of the version
+abbrev pub hashed : Entry → List ℕ → LogVersion → Entry
+hashed e command version = record e { hash = hash_as version command }
+
 -- names get these mtimes, and the text of the table with them is the log
 abbrev pub touching : List (List ℕ × ℤ) → Meaning
 touching pairs = record { update = λ h. Touch pairs; bytes = λ es bs. text_of (touched_table pairs es); times = pairs }
+
+-- the faults of a change: its first negative mtime, or those of adding an entry
+abbrev pub IsFaultBy : Meaning → ToolFault → Type 0
+IsFaultBy m (NegativeTime index) = IsFirstNegative m.times index
+IsFaultBy m fault = IsRecordFault fault
 
 -- ---- an open log
 
@@ -135,31 +143,53 @@ pub record ChangesLog (m : Meaning) (result : Result (Unit {0}) ToolFault) (old 
 
 -- the same of a log that is seen as one of the version: bytes that are barred (a log of version 4) are refused, and left as they are, on
 -- every exit
-pub record ChangesSeen (version : LogVersion) (bars : List ℕ → Bool) (m : Meaning) (result : Result (Unit {0}) ToolFault)
-    (old new : FolderView) : Type 0 where
+pub record ChangesSeen (version : LogVersion) (m : Meaning) (result : Result (Unit {0}) ToolFault) (old new : FolderView) : Type 0 where
   pub disk : ChangesDisk m result (seen_as_version version old.disk) (seen_as_version version new.disk)
   pub settled : OnOk result (IsTrue new.settled)
-  pub barred : (d : Disk) → old.disk ≡ Some d → IsTrue (bars d.visible) → IsErr result × (new.disk ≡ old.disk)
-  pub bytes : RefusesBytes (λ bs. if bars bs then log_reading.OtherVersion else log_of (as_version version bs)) result old.disk
+  pub barred : (d : Disk) → old.disk ≡ Some d → IsTrue (is_barred version d.visible) → IsErr result × (new.disk ≡ old.disk)
+  pub bytes : RefusesBytes (log_as version) result old.disk
   pub unchanged : IsErrAnd result IsNoLogFault → new.disk ≡ old.disk
   pub count : old.failures ≡ 0 → IsCounted result old.failures new.failures
   pub refusals : IfErr result IsChangeFault
 
 -- the same of a log of the version that is asked for; of version 5 it is no more and no less
 pub record ChangesLogAs (version : LogVersion) (m : Meaning) (result : Result (Unit {0}) ToolFault) (old new : FolderView) : Type 0 where
-  pub seen : ChangesSeen version (is_barred version) m result old new
+  pub seen : ChangesSeen version m result old new
   pub five : version ≡ Five → ChangesLog m result old new
+
+-- ---- which version
 
 -- the version is the one that is asked for; where none is, it's the one that the bytes of an honest folder name
 abbrev pub IsVersionFor : Option LogVersion → Option Disk → LogVersion → Type 0
 IsVersionFor (Some asked) disk version = version ≡ asked
 IsVersionFor None disk version = (d : Disk) → disk ≡ Some d → version ≡ version_of d.visible
 
--- the same of a log of the version that is asked for, or else of the one that it has
-pub record ChangesLogFor (asked : Option LogVersion) (m : Meaning) (result : Result (Unit {0}) ToolFault) (old new : FolderView) : Type 0 where
+-- the log isn't barred where it's taken for one of the version
+abbrev pub IsFree : Option Disk → LogVersion → Type 0
+IsFree disk version = (d : Disk) → disk ≡ Some d → is_barred version d.visible ≡ false
+
+-- why a log is taken for none: the look at its folder failed; or 6 or 7 is asked for, and it's of version 4
+abbrev pub IsReason : Option LogVersion → Option Disk → ℕ → ℕ → LogFault → Type 0
+IsReason asked disk before after refusal.Fault = FailedBetween before after
+IsReason asked disk before after refusal.OtherVersion = (after ≡ before)
+    × IsSomeAnd asked (λ version. (version ≢ Five) × ((d : Disk) → disk ≡ Some d → is_barred version d.visible ≡ true))
+IsReason asked disk before after _ = ⊥
+
+-- a folder was looked at for the version of its log, and stays as it is
+pub record Looks (asked : Option LogVersion) (old new : FolderView) (result : Result LogVersion LogFault) : Type 0 where
+  pub same : SameState (folder_state old) (folder_state new)
+  pub rises : old.failures ≤ new.failures
+  pub steady : OnOk result (new.failures ≡ old.failures)
+  pub chosen : IfOk result (IsVersionFor asked old.disk)
+  pub free : IfOk result (IsFree old.disk)
+  pub refusals : IfErr result (IsReason asked old.disk old.failures new.failures)
+
+-- the same of a log of the version that is asked for, or else of the one that it has, by what that makes of the change
+pub record ChangesLogFor (asked : Option LogVersion) (m : LogVersion → Meaning) (result : Result (Unit {0}) ToolFault)
+    (old new : FolderView) : Type 0 where
   pub version : LogVersion
   pub chosen : IsVersionFor asked old.disk version
-  pub call : ChangesLogAs version m result old new
+  pub call : ChangesLogAs version (m version) result old new
 
 -- ---- what stands about it
 
@@ -176,10 +206,10 @@ abbrev pub ReadsFirst : {T F : Type 0} → (List ℕ → FileReading T) → Opti
 ReadsFirst reading known Holds result old new = IsUnread reading known result old new ⊎ AsSaid reading known Holds
 
 -- the log of a folder is changed by what a file says, which is read first
-abbrev pub ChangesAsRead : {T : Type 0} → (List ℕ → FileReading T) → (List T → Meaning) → Option (List ℕ) → Result (Unit {0}) ToolFault
-    → FolderView → FolderView → Type 0
-ChangesAsRead reading meaning known result old new =
-    ReadsFirst reading known (λ parts. ChangesLog (meaning parts) result old new) result old new
+abbrev pub ChangesAsRead : {T F : Type 0} → Ghosts F → (List ℕ → FileReading T) → (List T → Meaning) → Option (List ℕ)
+    → Result (Unit {0}) ToolFault → F → F → Type 0
+ChangesAsRead g reading meaning known result old new =
+    ReadsFirst reading known (λ parts. ChangesLog (meaning parts) result (folder_view g old) (folder_view g new)) result old new
 
 -- what each answer then says: nothing was done, or it is of what the file says
 pub record SaysAsRead {T : Type 0} (reading : List ℕ → FileReading T) (meaning : List T → Meaning) (known : Option (List ℕ))

@@ -4,11 +4,8 @@ use Rattle.std.specs.Int.{w32, w64}
 use Rattle.nl_fields.specs.declared.entry.Entry.{Entry}
 use Rattle.nl_fields.specs.declared.name.NameFault.{NameFault}
 use Rattle.nl_fields.specs.declared.name.NameFault.TheVariants as name
-use Rattle.nl_fields.specs.CommandHash.{IsHash}
 use Rattle.nl_fields.specs.Digits.{IsDecimal}
 use Rattle.nl_fields.specs.Name.{HasFault, IsName}
-use Rattle.nl_lines.specs.declared.version.LogVersion.{LogVersion}
-use Rattle.nl_print.specs.Versions.{hash_as}
 use Rattle.nl_texts.specs.declared.fault.ToolFault.{ToolFault}
 use Rattle.nl_texts.specs.declared.fault.ToolFault.TheVariants.{Memory, BadNumber, EmptyName, BadByte, LongName}
 
@@ -29,21 +26,12 @@ pub record GiveEntry (start end mtime name : List ℕ) : Type 0 where
   pub numbers : AreNumbers start end mtime
   pub named : IsName name
 
--- the entry has these numbers and this name, and the hash of this command
-pub record IsEntryOf (start end mtime name command : List ℕ) (e : Entry) : Type 0 where
+-- the entry has these numbers and this name
+pub record IsEntryOf (start end mtime name : List ℕ) (e : Entry) : Type 0 where
   pub start_is : IsDecimal e.start_ms start
   pub end_is : IsDecimal e.end_ms end
   pub mtime_is : IsDecimal e.mtime mtime
   pub name_is : e.name ≡ name
-  pub hash_is : IsHash command e.hash
-
--- the same, with the hash of the command in logs of the version
-pub record IsEntryAs (version : LogVersion) (start end mtime name command : List ℕ) (e : Entry) : Type 0 where
-  pub start_is : IsDecimal e.start_ms start
-  pub end_is : IsDecimal e.end_ms end
-  pub mtime_is : IsDecimal e.mtime mtime
-  pub name_is : e.name ≡ name
-  pub hash_is : e.hash ≡ hash_as version command
 
 -- the fault of a word that is no name
 abbrev pub of_name_fault : NameFault → ToolFault

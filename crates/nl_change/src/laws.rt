@@ -4,9 +4,11 @@ ghost use Rattle.nl_lines.specs.Split.{torn_len};
 ghost use Rattle.nl_table.specs.Log.{skipped_count};
 ghost use Rattle.nl_print.specs.Streams.{damage_text_of};
 ghost use Rattle.nl_texts.specs.declared.fault.ToolFault.{ToolFault};
-ghost use Rattle.nl_change.specs.Calls.{ChangesAsRead, FolderView, SaysAsRead, keeping, touching};
+ghost use Rattle.nl_change.specs.Calls.{ChangesAsRead, SaysAsRead, folder_view, keeping, touching};
 ghost use Rattle.nl_change.specs.Files.{keep_of, times_of};
 ghost use Rattle.nl_change.specs.Updates.{repaired_text};
+
+use nl_folder::Folder;
 
 /// `damage` prints nothing of a log exactly where `check` counts no skipped line and no torn byte.
 pub fn damage_is_what_check_counts()
@@ -20,17 +22,17 @@ pub fn a_repaired_log_has_no_damage()
 {}
 
 /// Where KEEP is read first, each answer of a change by it is of the names that it holds, or nothing was done.
-pub fn keep_is_read_first()
-    ensures { (known : Option (List ℕ)) (result : Result (Unit {0}) ToolFault)
-        (old new : FolderView)
-        → ChangesAsRead keep_of keeping known result old new
-        → SaysAsRead keep_of keeping known result old new }
+pub fn keep_is_read_first<F: Folder>()
+    ensures { (known : Option (List ℕ)) (result : Result (Unit {0}) ToolFault) (old new : F)
+        → ChangesAsRead F.Folder keep_of keeping known result old new
+        → SaysAsRead keep_of keeping known result (folder_view F.Folder old)
+        (folder_view F.Folder new) }
 {}
 
 /// The same of TIMES and its pairs.
-pub fn times_are_read_first()
-    ensures { (known : Option (List ℕ)) (result : Result (Unit {0}) ToolFault)
-        (old new : FolderView)
-        → ChangesAsRead times_of touching known result old new
-        → SaysAsRead times_of touching known result old new }
+pub fn times_are_read_first<F: Folder>()
+    ensures { (known : Option (List ℕ)) (result : Result (Unit {0}) ToolFault) (old new : F)
+        → ChangesAsRead F.Folder times_of touching known result old new
+        → SaysAsRead times_of touching known result (folder_view F.Folder old)
+        (folder_view F.Folder new) }
 {}

@@ -3,6 +3,6 @@ pub mod VersionLemmas
 mod DamageLemmas
 mod EntryLemmas
 mod StreamLemmas
-mod VersionOfLemmas
+pub mod VersionOfLemmas
 mod BeginningLemmas
 mod AnyVersionLemmas

@@ -19,6 +19,6 @@ pub use damage::damage_to;
 pub use entries::entries_to;
 pub use hash::hash_to;
 pub use hash_file::{hash_file_as, hash_file_to};
-pub use log_version::{version_in, version_of};
+pub use log_version::{FirstLine, first_line_in, version_of};
 pub use show::{PIECE, show_any, show_as, show_to, write_lines};
 pub use versions::{command_hash_as, hash_as, load_any, load_as};

@@ -6,10 +6,12 @@ ghost use Rattle.nl_words.specs.declared.version.AskedVersion.{AskedVersion};
 
 use crate::files::open;
 use crate::notes::{NotedReader, NotedWriter, Notes};
-use crate::version_choice::{chosen_in, number_of};
-use nl_change::{apply_on, entry_as, recompact_as, record_as, repair_as, restat_as};
+use crate::version_choice::number_of;
+use nl_change::{
+    AskedFolder, apply_on, entry_of, recompact_on, record_command, repair_on, restat_on,
+};
 use nl_disk::{DiskFolder, SystemFile};
-use nl_lines::LogVersion;
+use nl_fields::EntryRef;
 use nl_texts::ToolFault;
 use nl_words::AskedVersion;
 use std::alloc::Global;
@@ -56,38 +58,26 @@ where
     ensures accepts { OnOk result (GiveEntry start.now end.now mtime.now name.now) }
     ensures faults { IfErr result (IsEntryFault start.now end.now mtime.now name.now) }
 {
-    let _ = entry_as(LogVersion::Five, start, end, mtime, name, command)?;
+    let entry = entry_of(start, end, mtime, name)?;
     let folder = DiskFolder::new(rt, alloc, log)?;
-    record_noted(
-        alloc, asked, folder, start, end, mtime, name, command, notes,
-    )
+    record_noted(alloc, asked, folder, entry, command, notes)
 }
 
-// The same over a folder, for words that give an entry.
 fn record_noted<F: Files + Clock + Drop>(
     alloc: Global,
     asked: AskedVersion,
     folder: DiskFolder<F>,
-    start: &str,
-    end: &str,
-    mtime: &str,
-    name: &str,
+    entry: EntryRef<'_>,
     command: &str,
     notes: &mut Notes,
 ) -> Result<(), ToolFault>
 where
     F::File: SystemFile,
-    requires { GiveEntry start.now end.now mtime.now name.now }
-    ensures accepts { OnOk result (GiveEntry start.now end.now mtime.now name.now) }
-    ensures faults { IfErr result (IsEntryFault start.now end.now mtime.now name.now) }
+    ensures faults { IfErr result IsRecordFault }
 {
-    let (folder, version) = chosen_in(asked, folder);
-    let version = match version {
-        Ok(version) => version,
-        Err(fault) => return noted((folder, Err(fault)), notes),
-    };
-    let entry = entry_as(version, start, end, mtime, name, command)?;
-    noted(record_as(alloc, version, folder, &entry), notes)
+    let asked = number_of(asked);
+    let (folder, answer) = record_command(alloc, asked, folder, entry, command.as_bytes());
+    noted(folder, answer, notes)
 }
 
 pub fn recompact_in<R: Files + Clock>(
@@ -117,9 +107,10 @@ where
     F::File: SystemFile,
     ensures faults { IfErr result IsRecompactFault }
 {
+    let asked = number_of(asked);
     let names = NotedReader::new(names, &mut notes.heard);
-    let done = recompact_as(alloc, number_of(asked), folder, names);
-    noted(done, notes)
+    let (left, answer) = recompact_on(alloc, AskedFolder { asked, folder }, names);
+    noted(left.folder, answer, notes)
 }
 
 pub fn restat_in<R: Files + Clock>(
@@ -149,9 +140,10 @@ where
     F::File: SystemFile,
     ensures faults { IfErr result IsRestatFault }
 {
+    let asked = number_of(asked);
     let pairs = NotedReader::new(pairs, &mut notes.heard);
-    let done = restat_as(alloc, number_of(asked), folder, pairs);
-    noted(done, notes)
+    let (left, answer) = restat_on(alloc, AskedFolder { asked, folder }, pairs);
+    noted(left.folder, answer, notes)
 }
 
 pub fn apply_in<R: Runtime>(
@@ -189,9 +181,9 @@ where
 {
     let mut out = NotedWriter::new(io::writer(rt));
     let reader = NotedReader::new(reader, &mut notes.heard);
-    let done = apply_on(alloc, number_of(asked), folder, reader, &mut out);
+    let (folder, answer) = apply_on(alloc, number_of(asked), folder, reader, &mut out);
     notes.written = out.failure;
-    noted(done, notes)
+    noted(folder, answer, notes)
 }
 
 pub fn repair_in<R: Files + Clock>(
@@ -218,23 +210,26 @@ where
     F::File: SystemFile,
     ensures faults { IfErr result IsRecordFault }
 {
-    noted(repair_as(alloc, number_of(asked), folder), notes)
+    let asked = number_of(asked);
+    let (left, answer) = repair_on(alloc, AskedFolder { asked, folder });
+    noted(left.folder, answer, notes)
 }
 
 // What was answered over a folder, of which it is noted why it last failed, and how a log of another version begins.
 pub fn noted<R: Files + Clock + Drop>(
-    done: (DiskFolder<R>, Result<(), ToolFault>),
+    folder: DiskFolder<R>,
+    answer: Result<(), ToolFault>,
     notes: &mut Notes,
 ) -> Result<(), ToolFault>
 where
     R::File: SystemFile,
-    ensures same { result ≡ done.1 }
-    ensures kept { notes.new.folder ≡ done.0.last_failure }
+    ensures same { result ≡ answer }
+    ensures kept { notes.new.folder ≡ folder.last_failure }
 {
-    let (mut folder, result) = done;
+    let mut folder = folder;
     notes.folder = folder.last_failure();
-    if notes.looks && result == Err(ToolFault::OtherVersion) {
+    if notes.looks && answer == Err(ToolFault::OtherVersion) {
         notes.look_at(&mut folder);
     }
-    result
+    answer
 }

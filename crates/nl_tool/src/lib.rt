@@ -14,14 +14,15 @@ mod version_choice;
 
 pub use ending::{run_line, run_program};
 pub use nl_change::{
-    apply_on, entry_as, recompact_as, recompact_on, record_as, record_on, repair_as, repair_on,
-    restat_as, restat_on,
+    AskedFolder, FoundFolder, LogPlace, apply_on, entry_of, recompact_on, record_command,
+    record_on, repair_on, restat_on,
 };
 pub use nl_disk::DiskFolder;
 pub use nl_lines::LogVersion;
 pub use nl_print::{
-    check_any, check_as, check_to, command_hash_as, damage_to, entries_to, hash_as, hash_file_as,
-    hash_file_to, hash_to, load_any, load_as, show_any, show_as, show_to, version_in, version_of,
+    FirstLine, check_any, check_as, check_to, command_hash_as, damage_to, entries_to,
+    first_line_in, hash_as, hash_file_as, hash_file_to, hash_to, load_any, load_as, show_any,
+    show_as, show_to, version_of,
 };
 pub use nl_replay::replay_to;
 pub use nl_texts::{ToolFault, status_of};
@@ -29,4 +30,4 @@ pub use nl_words::{AskedVersion, CommandLine, Words, read_words};
 pub use notes::{Beginning, Heard, NotedReader, NotedWriter, Notes};
 pub use program::{Outcome, run, run_noted};
 pub use reason::{Place, Reason, Refusal, Why, refusal_of};
-pub use version_choice::{asked_version, chosen_in};
+pub use version_choice::number_of;
