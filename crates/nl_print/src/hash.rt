@@ -1,5 +1,6 @@
 //! The command `hash`.
-ghost use Rattle.std.specs.Prelude.{IfErr, IfOk};
+ghost use Rattle.std.specs.Prelude.{◌≡◌, ◌++◌, ◌∷◌, [], IfErr, IfOk};
+ghost use Rattle.nl_fields.specs.Digits.{digits_of};
 ghost use Rattle.nl_print.specs.Faults.{IsHashFault};
 ghost use Rattle.nl_texts.specs.Output.{Prints};
 ghost use Rattle.nl_print.specs.Output.{IsHashText};
@@ -15,15 +16,16 @@ pub fn hash_to<W: Write>(alloc: Global, command: &[u8], writer: &mut W) -> Resul
         (W.contents writer.new) result }
     ensures faults { IfErr result IsHashFault }
 {
-    let text = hash_text(alloc, command)?;
+    let text = hash_line(alloc, command_hash(command))?;
     write_out(text.as_slice(), writer)
 }
 
-fn hash_text(alloc: Global, command: &[u8]) -> Result<Vec<u8>, AllocError>
-    ensures value { IfOk result (λ text. IsHashText command.now text.items) }
+/// A hash as a log spells it, and a newline.
+pub fn hash_line(alloc: Global, hash: u64) -> Result<Vec<u8>, AllocError>
+    ensures value { IfOk result (λ text. text.items ≡ digits_of 16 hash ++ 10 ∷ []) }
 {
     let mut text = Vec::new(alloc);
-    append_hex64(command_hash(command), &mut text)?;
+    append_hex64(hash, &mut text)?;
     text.push(b'\n')?;
     Ok(text)
 }

@@ -1,5 +1,5 @@
 //! The words that print, over LOG, FILE, SCRIPT or standard input, with standard output for their text.
-ghost use Rattle.std.specs.Prelude.{◌≡◌, ◌<◌, ◌↔◌, ℕ, List, IfErr, IfSome, IsErrOf, MatchResult, length};
+ghost use Rattle.std.specs.Prelude.{◌≡◌, ◌<◌, ◌↔◌, ℕ, List, IfErr, IfOk, IfSome, IsErrOf, MatchResult, length};
 ghost use Rattle.std.specs.Io.KnownBytes.{Appends};
 ghost use Rattle.nl_print.specs.Faults.{IsLogFault};
 ghost use Rattle.nl_print.specs.Output.{IsTextAsRead};
@@ -37,56 +37,69 @@ pub enum Printing<'a> {
     Replay,
 }
 
-pub fn entries_in<R: Runtime>(
-    rt: &R,
-    alloc: Global,
-    log: Option<&str>,
-    notes: &mut Notes,
-) -> Result<(), ToolFault>
-    ensures faults { IfErr result IsLogFault }
-{
-    let mut out = NotedWriter::new(io::writer(rt));
-    let file = match log {
-        Some(path) => open_log(rt, path, notes)?,
-        None => None,
-    };
-    let answer = match file {
-        Some(file) => entries_to(alloc, NotedReader::new(file, &mut notes.heard), &mut out),
-        None if log.is_some() => entries_to(alloc, io::empty(), &mut out),
-        None => entries_to(
-            alloc,
-            NotedReader::new(rt.reader(), &mut notes.heard),
-            &mut out,
-        ),
-    };
-    notes.written = out.failure;
-    answer
+/// What prints while the log is read.
+#[derive(Clone, Copy, Drop)]
+pub enum Streaming {
+    Entries,
+    Damage,
 }
 
-pub fn damage_in<R: Runtime>(
+/// Prints of the log at this path, or of standard input, while it's read.
+pub fn stream_log<R: Runtime>(
     rt: &R,
     alloc: Global,
+    streaming: Streaming,
     log: Option<&str>,
     notes: &mut Notes,
 ) -> Result<Outcome, ToolFault>
     ensures faults { IfErr result IsLogFault }
+    ensures damaged { IfOk result
+        (λ outcome. outcome ≡ Outcome.Damaged → streaming ≡ Streaming.Damage) }
+{
+    let Some(path) = log else {
+        return stream_noted(rt, alloc, streaming, rt.reader(), notes);
+    };
+    match open_log(rt, path, notes)? {
+        Some(file) => stream_noted(rt, alloc, streaming, file, notes),
+        None => stream_noted(rt, alloc, streaming, io::empty(), notes),
+    }
+}
+
+fn stream_noted<P: Print, R: Read + Drop>(
+    rt: &P,
+    alloc: Global,
+    streaming: Streaming,
+    reader: R,
+    notes: &mut Notes,
+) -> Result<Outcome, ToolFault>
+    ensures faults { IfErr result IsLogFault }
+    ensures damaged { IfOk result
+        (λ outcome. outcome ≡ Outcome.Damaged → streaming ≡ Streaming.Damage) }
 {
     let mut out = NotedWriter::new(io::writer(rt));
-    let file = match log {
-        Some(path) => open_log(rt, path, notes)?,
-        None => None,
-    };
-    let answer = match file {
-        Some(file) => tell_damage(alloc, NotedReader::new(file, &mut notes.heard), &mut out),
-        None if log.is_some() => tell_damage(alloc, io::empty(), &mut out),
-        None => tell_damage(
-            alloc,
-            NotedReader::new(rt.reader(), &mut notes.heard),
-            &mut out,
-        ),
-    };
+    let reader = NotedReader::new(reader, &mut notes.heard);
+    let answer = stream_of(alloc, streaming, reader, &mut out);
     notes.written = out.failure;
     answer
+}
+
+fn stream_of<R: Read + Drop, W: Write>(
+    alloc: Global,
+    streaming: Streaming,
+    reader: R,
+    writer: &mut W,
+) -> Result<Outcome, ToolFault>
+    ensures faults { IfErr result IsLogFault }
+    ensures damaged { IfOk result
+        (λ outcome. outcome ≡ Outcome.Damaged → streaming ≡ Streaming.Damage) }
+{
+    match streaming {
+        Streaming::Entries => {
+            entries_to(alloc, reader, writer)?;
+            Ok(Outcome::Done)
+        }
+        Streaming::Damage => tell_damage(alloc, reader, writer),
+    }
 }
 
 // Says of the log that the reader gives whether it is damaged.

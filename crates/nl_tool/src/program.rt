@@ -4,7 +4,7 @@ ghost use Rattle.nl_tool.specs.Faults.{AsksForDamage, CanBeDone, IsFaultOf};
 
 use crate::changing::{apply_in, or_auto, or_five, recompact_in, record_in, repair_in, restat_in};
 use crate::notes::Notes;
-use crate::printing::{Printing, damage_in, entries_in, print_file, print_log, print_noted};
+use crate::printing::{Printing, Streaming, print_file, print_log, print_noted, stream_log};
 use nl_disk::SystemFile;
 use nl_texts::ToolFault;
 use nl_words::{CommandLine, Words};
@@ -57,8 +57,8 @@ where
         }
         Words::HashFile(file) => print_file(rt, alloc, Printing::HashFile, version, file, notes),
         Words::Replay(script) => print_file(rt, alloc, Printing::Replay, version, script, notes),
-        Words::Entries(log) => entries_in(rt, alloc, log, notes),
-        Words::Damage(log) => return damage_in(rt, alloc, log, notes),
+        Words::Entries(log) => return stream_log(rt, alloc, Streaming::Entries, log, notes),
+        Words::Damage(log) => return stream_log(rt, alloc, Streaming::Damage, log, notes),
         Words::Record {
             log,
             start,
