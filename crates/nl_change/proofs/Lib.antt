@@ -7,5 +7,6 @@ mod ReadLemmas
 mod RepairLemmas
 mod SeenLemmas
 mod SeenLogLemmas
+mod AnswerLemmas
 mod ApplyLemmas
 mod BegunLemmas

@@ -1,6 +1,7 @@
 //! What the commands of `nlog` change, over any folder.
 #![tactic(auto)]
 
+mod answers;
 mod apply;
 mod asked;
 mod change;
