@@ -54,6 +54,8 @@ ROWS = [
     (["entries", "LOG"], TORN, ROOMY, None, TORN),
     (["damage", "LOG"], TORN, ROOMY, None, TORN),
     (["damage", "LOG"], NO_LOG, ROOMY, None, NO_LOG),
+    (["builds", "LOG"], TORN, ROOMY, None, TORN),
+    (["builds", "LOG"], NO_LOG, ROOMY, None, NO_LOG),
     (["hash-file", "LOG"], LOG, ROOMY, None, LOG),
     (["record", "--help"], LOG, ROOMY, None, LOG),
     # The first answer that can't be written ends it, behind the open, which cuts the torn line away.

@@ -172,6 +172,8 @@ INPUT_CHECKED = b"version 5\ntotal 1\nunique 1\nskipped 1\ntorn 0\ndue no\n"
 NOTHING_CHECKED = b"version 5\ntotal 0\nunique 0\nskipped 0\ntorn 0\ndue no\n"
 SIX, SEVEN = (b"# ninja log v%d\n1\t2\t3\tout\t8072fc2ac19230e4\nx\n" % it for it in (6, 7))
 FOUR, FOUR_SHOWN = b"# ninja log v4\n1\t2\t3\ta\tcc\tx\n", b"1\t2\t3\ta\t72274e7a30810c7b\n"
+# Each has one command of one output, which took 1 ms.
+FILE_BUILT = INPUT_BUILT = FOUR_BUILT = NEW_BUILT = b"1\t1\t1\t1\t1\n"
 NEW_SHOWN = b"1\t2\t3\tout\t8072fc2ac19230e4\n"
 NEW_CHECKED = b"version %d\ntotal 1\nunique 1\nskipped 1\ntorn 0\ndue no\n"
 REPLAYED = b"ok\nS2 AlreadyOpen\nlog 15\n# ninja log v5\n"
@@ -278,6 +280,13 @@ WORDS = [
     (["entries", "file"], 0, FILE_SHOWN, b""),
     (["entries", "missing"], 0, b"", b""),
     (["entries", "folder"], 1, b"", CANNOT_READ),
+    (["builds"], 0, INPUT_BUILT, b""),
+    (["builds", "file"], 0, FILE_BUILT, b""),
+    (["builds", "--", "-file"], 0, FILE_BUILT, b""),
+    (["builds", "missing"], 0, b"", b""),
+    (["builds", ""], 0, b"", b""),
+    (["builds", "folder"], 1, b"", CANNOT_READ),
+    (["builds", "file/log"], 1, b"", CANNOT_READ),
     (["damage"], 3, b"3\tskipped\t1\t-\n", b""),
     (["damage", "file"], 0, b"", b""),
     (["damage", "missing"], 0, b"", b""),
@@ -307,6 +316,11 @@ WORDS = [
     (["apply", "eight", "script"], 0, b"S6 OtherVersion\nbad line\n", b""),
     (["entries", "six"], 0, NEW_SHOWN, b""),
     (["entries", "seven"], 0, NEW_SHOWN, b""),
+    (["builds", "four"], 0, FOUR_BUILT, b""),
+    (["builds", "six"], 0, NEW_BUILT, b""),
+    (["builds", "seven"], 0, NEW_BUILT, b""),
+    (["builds", "eight"], 1, b"", OTHER_VERSION),
+    (["builds", "script"], 1, b"", NO_LOG),
     (["damage", "seven"], 3, b"3\tskipped\t1\t-\n", b""),
     (["damage", "eight"], 1, b"", OTHER_VERSION),
     (["--version"], 0, b"nlog 0.1.0\n", b""),
@@ -374,6 +388,7 @@ WORDS = [
     (["hash", "--log-version", "seven", "c"], 2, b"", BAD_VERSION % b"seven"),
     (["show", "--log-version", "7", "seven", "--log-version", "7"], 2, b"", TWO_VERSIONS),
     (["entries", "--log-version", "7"], 2, b"", NO_OPTION % b"entries [OPTIONS] [LOG]"),
+    (["builds", "--log-version", "7"], 2, b"", NO_OPTION % b"builds [OPTIONS] [LOG]"),
     (["repair", "--log-version", "7"], 2, b"", NO_LOG_NAME.replace(b"repair <LOG>", b"repair --log-version <VERSION> <LOG>")),
     (["repair", "seven", "--log-version"], 2, b"", NO_VERSION),
     (["repair", "seven", "--log-version", "4"], 2, b"", BAD_VERSION % b"4"),
@@ -406,6 +421,9 @@ WORDS = [
     (["show", "-v", "folder"], 1, b"", CANNOT_READ + b"nlog: LOG folder: " + A_FOLDER),
     (["check", "file/log", "--verbose"], 1, b"", CANNOT_READ + b"nlog: LOG file/log: " + NO_FOLDER),
     (["entries", "-v", "folder"], 1, b"", CANNOT_READ + b"nlog: LOG folder: " + A_FOLDER),
+    (["builds", "-v", "folder"], 1, b"", CANNOT_READ + b"nlog: LOG folder: " + A_FOLDER),
+    (["builds", "eight", "-v"], 1, b"", OTHER_VERSION + b"nlog: LOG eight: version 8\n"),
+    (["builds", "-v"], 0, INPUT_BUILT, b""),
     (["damage", "-v", "folder"], 1, b"", CANNOT_READ + b"nlog: LOG folder: " + A_FOLDER),
     (["hash-file", "-v", "missing"], 1, b"", CANNOT_READ + b"nlog: FILE missing: " + NO_FILE),
     (["replay", "missing", "-v"], 1, b"", CANNOT_READ + b"nlog: SCRIPT missing: " + NO_FILE),
@@ -490,7 +508,7 @@ def try_refused(trials, program, room):
     write(f"{room}/negative", b"-1\ta")
     asking = [["show"], ["check"], ["show", "log"], ["check", "log"], ["record", "log", "1", "2", "3", "a", "c"], ["recompact", "log", "keep"], ["restat", "log", "negative"]]
     auto = [[*words, "--log-version=auto"] for words in asking]
-    others = [["entries"], ["damage"], ["entries", "log"], ["damage", "log"], ["repair", "log"]]
+    others = [["entries"], ["damage"], ["builds"], ["entries", "log"], ["damage", "log"], ["builds", "log"], ["repair", "log"]]
     for log, why, each in [(*it, asking + auto + others) for it in REFUSED] + [(*it, asking) for it in UNASKED]:
         write(f"{room}/log", log)
         for words in [words for words in each if "log" not in words]:

@@ -4,7 +4,7 @@
     python3 tests/large.py PROGRAM
 
 One log has 1,000,001 entries of as many outputs; the second has names of up to 65,536 bytes, lines that are no entries, too long ones among
-them, and a torn line, and is due to be recompacted; the third has lines that were written behind torn ones. The files are made line by line
+them, and a torn line, and is due to be recompacted; the third has lines that were written behind torn ones; the fourth has 1,000,001 builds. The files are made line by line
 by a rule, and what is wanted is computed from that rule, or from `log_format`, a line at a time; it is compared by its length and its hash,
 so that no more of it is held in memory. `entries` and `damage` may take no more memory than for a small log.
 """
@@ -200,6 +200,7 @@ def try_many(trials, program, room):
     large.want_printed("check", [report(*counts)])
     large.want_held("entries", lines(everything))
     large.want_held("damage", [])
+    large.want_printed("builds", [b"1\t%d\t%d\t%d\t%d\n" % (ENTRIES, ENTRIES, ENTRIES + 6, 7 * ENTRIES)])
     large.want_more()
     with open(large.log, "ab") as it:
         it.write(b"1\t2\t3\ttorn")
@@ -295,6 +296,8 @@ def try_long(trials, program, room):
     large.want_printed("check", [report(5, 1_600, len(table), skipped, len(torn), b"yes")])
     large.want_held("entries", (line for line in long_lines(random.Random(SEED)) if entry_of(line[:-1], 5)))
     large.want_held("damage", damaged, 3)
+    # Each command has a hash of its own, and runs from before 0 as long behind it.
+    large.want_printed("builds", [b"1\t%d\t%d\t%d\t%d\n" % (1_600, 1_600, 2 * 1_599, 1_599 * 1_600)])
     large.want_log(["repair", large.log], log_of_table(table))
     large.want_log(["record", large.log, *RECORD], chain(log_of_table(table), [RECORDED]))
     table[b"new"] = 11, 12, -13, 0x72274E7A30810C7B
@@ -342,6 +345,14 @@ def try_damaged(trials, program, room):
         large.want_log(["repair", large.log], chain([HEADER], (entry for _, entry, _ in lines_with() if entry)))
 
 
+def try_builds(trials, program, room):
+    """A million builds, each of one command: END falls from each line to the next."""
+    large = Large(trials, program, room, f"a log of {ENTRIES:,} builds")
+    make(large.log, chain([HEADER], (line_of(name_of(it), (-it, ENTRIES - it, it, it % 7)) for it in range(ENTRIES))))
+    large.want_sizes(large.log)
+    large.want_printed("builds", (b"%d\t1\t1\t%d\t%d\n" % (it + 1, ENTRIES, ENTRIES) for it in range(ENTRIES)))
+
+
 def try_hash(trials, program, room):
     """A command of zeros: by docs/FORMAT.md each group of eight leaves the value but for the factor, and the rest of three does too."""
     size, factor, word = 100_000_003, 0xC6A4A7935BD1E995, 2**64
@@ -359,7 +370,7 @@ def trial(trials, program, room):
         roomy = [it for it in (room, other) if shutil.disk_usage(it).free > ROOM]
         if not roomy:
             return trials.skip("all of it", f"there is no room for files of {ROOM:,} bytes")
-        for part in try_many, try_script, try_long, try_damaged, try_hash:
+        for part in try_many, try_script, try_long, try_damaged, try_builds, try_hash:
             part(trials, program, roomy[0])
             for it in os.listdir(roomy[0]):
                 os.remove(f"{roomy[0]}/{it}")

@@ -1,4 +1,4 @@
-"""What `entries` and `damage` print, read from docs/CLI.md, and which lines are entries from `log_format`."""
+"""What `entries`, `damage` and `builds` print, read from docs/CLI.md and docs/FORMAT.md, and which lines are entries from `log_format`."""
 from log_format import HEADER, MAX_LINE, entry_of, line_of
 
 
@@ -47,3 +47,38 @@ def entries_of(text):
     version, lines, _ = lines_of(text)
     entries = (entry_of(line, version) for line in lines)
     return b"".join(line_of(*it) for it in entries if it)
+
+
+def entries_by_build(text):
+    """The entries of each build that a log still tells, each with its name and four numbers: a build begins where END falls."""
+    version, lines, _ = lines_of(text)
+    found = []
+    for entry in filter(None, (entry_of(line, version) for line in lines)):
+        if not found or entry[1][1] < found[-1][-1][1][1]:
+            found.append([])
+        found[-1].append(entry)
+    return found
+
+
+def commands_of(entries):
+    """When each command of some entries ran, and its hash: one command has a line for each of its outputs, side by side."""
+    ran = [(start, end, command) for _, (start, end, _, command) in entries]
+    return [it for at, it in enumerate(ran) if at == 0 or ran[at - 1] != it]
+
+
+def wall_of(commands):
+    """The milliseconds from the first START to the last END."""
+    return max(0, max(end for _, end, _ in commands) - min(start for start, _, _ in commands))
+
+
+def total_of(commands):
+    return sum(max(0, end - start) for start, end, _ in commands)
+
+
+def builds_of(text):
+    """What `builds` prints of a log."""
+    told = []
+    for number, entries in enumerate(entries_by_build(text), 1):
+        commands = commands_of(entries)
+        told.append(b"%d\t%d\t%d\t%d\t%d\n" % (number, len(commands), len(entries), wall_of(commands), total_of(commands)))
+    return b"".join(told)

@@ -4,7 +4,7 @@
     python3 tests/reports.py PROGRAM
 
 What each has to print is worked out here from the page and docs/FORMAT.md: the entries of the last build, each command once with its time,
-the sums, the trace (whose JSON is read by Python's own), dates, and two logs compared. A script that can't do its work has to print nothing
+the trace (whose JSON is read by Python's own), dates, and two logs compared. `builds` prints what is worked out by hand. A script that can't do its work has to print nothing
 and to end with another status than 0: where the log is missing, is none, or can't be read, where there is no room for its files, and where
 these may grow to so many bytes and no further. Each awk that is there is tried: mawk, gawk, that of busybox and the one true awk. Wants
 GNU's date, and iconv.
@@ -20,7 +20,7 @@ import sys
 
 from examples import read_page
 from log_format import HEADER, Log, as_version, line_of
-from log_lines import entries_of
+from log_lines import builds_of, entries_of
 from trials import main, read, run, write
 
 AWKS = {"mawk": ["mawk"], "gawk": ["gawk"], "busybox": ["busybox", "awk"], "original-awk": ["original-awk"]}
@@ -59,6 +59,17 @@ LOGS = {
     + b"0\t2147483647\t9223372036854775807\tlast\tffffffffffffffff\n1\t2147483647\t0\tnone\t2\n2\t2147483647\t999999999\tearly\t3\n",
     "version 4": b"# ninja log v4\n1\t2\t3\ta\tcc\tx\n0\t1\t1700000000000000000\tb\t\n",
     "many builds": HEADER + b"".join(line_of(b"o%d" % (it % 7), (it % 10, it % 10 + 5, NANO + it, it)) for it in range(995)),
+}
+# What `builds` has to print of each, by hand.
+BUILT = {
+    "no bytes": b"",
+    "a header": b"",
+    # A command of no time at its end, four of 10, 20 and 30 ms that begin at 0, and the others of 35 ms each.
+    "odd names": b"1\t2\t2\t9001\t9001\n2\t%d\t%d\t%d\t%d\n" % (len(NAMES), len(NAMES), 10 * len(NAMES) - 10, 60 + 35 * (len(NAMES) - 4)),
+    "several outputs": b"1\t1\t1\t9\t9\n2\t6\t6\t9\t21\n",
+    "odd numbers": b"1\t6\t6\t4294967295\t8589934581\n",
+    "version 4": b"1\t1\t1\t1\t1\n2\t1\t1\t1\t1\n",
+    "many builds": b"".join(b"%d\t10\t10\t14\t50\n" % it for it in range(1, 100)) + b"100\t5\t5\t9\t25\n",
 }
 # Two logs, by the lines that differ: hashes that an awk may take for one number, names that are numbers.
 OLD = HEADER + b"0\t5\t1\ta\t1e5\n0\t5\t1\tb\t100\n0\t5\t1\tc\tab\n0\t5\t1\t1e5\t7\n0\t5\t1\tgone\t0\n"
@@ -134,8 +145,6 @@ class Reports:
         self.want(f"{kind}: the slowest, how it ends", (status, err), (0, b""))
         self.want(f"{kind}: the slowest", sorted(slow), sorted(b"%d\t%s" % (it.took, it.name) for it in commands))
         self.want(f"{kind}: the slowest, their order", times, sorted(times, reverse=True))
-        sums = len(commands), sum(it.took for it in commands), commands[-1].end if commands else 0
-        self.want(f"{kind}: the sums", self.command("all +="), (0, b"%d %d %d\n" % sums, b""))
         self.try_trace(kind, commands)
         shown = [Entry(it) for it in Log(text).shown().split(b"\n")[:-1]]
         dates = b"".join(b"%s\t%s\n" % (date_of(it.mtime), it.name) for it in shown)
@@ -210,6 +219,16 @@ class Reports:
         self.want(f"{name} of files that are limited: stopped, but not always", 0 < stopped < 29, True)
 
 
+def try_builds(trials, program, room):
+    """What `builds` prints, by hand, of each version, and beside the page."""
+    trials.want("the logs of which builds are told", set(BUILT), set(LOGS))
+    for kind, text in LOGS.items():
+        trials.want(f"{kind}: builds by docs/FORMAT.md", builds_of(text), BUILT[kind])
+        for version in (5, 6, 7):
+            write(f"{room}/LOG", as_version(text, version))
+            trials.want(f"{kind}, version {version}: builds", run([program, "builds", f"{room}/LOG"]), (0, BUILT[kind], b""))
+
+
 def limit(most):
     def begin():
         signal.signal(signal.SIGXFSZ, signal.SIG_IGN)
@@ -222,6 +241,7 @@ def trial(trials, program, room):
     version = run(["date", "--version"])[1]
     if shutil.which("iconv") is None or not re.match(rb"date \(GNU", version):
         return trials.skip("all of it", "iconv or GNU's date isn't there")
+    try_builds(trials, program, room)
     for awk, words in AWKS.items():
         if shutil.which(words[0]) is None or run([*words, "BEGIN {}"])[0] != 0:
             trials.skip(f"the reports by {awk}", "it isn't there")

@@ -175,6 +175,7 @@ READERS = {
     "check": (0, Log(DAMAGED).report()),
     "entries": (0, b"1\t2\t10\ta\taa\n3\t4\t20\ta\tbb\n"),
     "damage": (3, b"3\tskipped\t1\t-\n5\ttorn\t3\t-\n"),
+    "builds": (0, b"1\t2\t2\t3\t2\n"),
     "hash-file": (0, b"%x\n" % command_hash(DAMAGED)),
 }
 UNWRITTEN = b"nlog: cannot write\n"

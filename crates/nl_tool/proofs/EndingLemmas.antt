@@ -10,7 +10,7 @@ use Rattle.nl_tool.specs.declared.program.Outcome.{Outcome}
 use Rattle.nl_tool.specs.declared.program.Outcome.TheVariants.{Done, Damaged}
 use Rattle.nl_words.specs.CommandLine.{IsSaid}
 use Rattle.nl_words.specs.declared.command_line.Words.{Words}
-use Rattle.nl_words.specs.declared.command_line.Words.TheVariants.{Show, Check, Hash, Entries, Damage, HashFile, Record, Recompact, Restat}
+use Rattle.nl_words.specs.declared.command_line.Words.TheVariants.{Show, Check, Hash, Entries, Damage, Builds, HashFile, Record, Recompact, Restat}
 use Rattle.nl_words.specs.declared.command_line.Words.TheVariants.{Repair, Replay, Apply}
 
 pub IsStatusBy_kind : (kinds : Kinds) (entered : Option (Text × List Row)) (e : Error) (status : ℕ) → HasKind kinds e
@@ -28,6 +28,7 @@ names_damage (Show log) entered said asks = absurd asks
 names_damage (Check log) entered said asks = absurd asks
 names_damage (Hash command) entered said asks = absurd asks
 names_damage (Entries log) entered said asks = absurd asks
+names_damage (Builds log) entered said asks = absurd asks
 names_damage (HashFile file) entered said asks = absurd asks
 names_damage (Record log start end mtime name command) entered said asks = absurd asks
 names_damage (Recompact log keep) entered said asks = absurd asks

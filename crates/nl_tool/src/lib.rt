@@ -10,6 +10,7 @@ mod notes;
 mod printing;
 mod program;
 mod reason;
+mod reporting;
 mod version_choice;
 
 pub use ending::{run_line, run_program};
@@ -25,6 +26,7 @@ pub use nl_print::{
     show_as, show_to, version_of,
 };
 pub use nl_replay::replay_to;
+pub use nl_report::builds_to;
 pub use nl_texts::{ToolFault, status_of};
 pub use nl_words::{AskedVersion, CommandLine, Words, read_words};
 pub use notes::{Beginning, Heard, NotedReader, NotedWriter, Notes};

@@ -5,6 +5,7 @@ ghost use Rattle.nl_tool.specs.Faults.{AsksForDamage, CanBeDone, IsFaultOf};
 use crate::changing::{apply_in, or_auto, or_five, recompact_in, record_in, repair_in, restat_in};
 use crate::notes::Notes;
 use crate::printing::{Printing, Streaming, print_file, print_log, print_noted, stream_log};
+use crate::reporting::report_in;
 use nl_disk::SystemFile;
 use nl_texts::ToolFault;
 use nl_words::{CommandLine, Words};
@@ -59,6 +60,7 @@ where
         Words::Replay(script) => print_file(rt, alloc, Printing::Replay, version, script, notes),
         Words::Entries(log) => return stream_log(rt, alloc, Streaming::Entries, log, notes),
         Words::Damage(log) => return stream_log(rt, alloc, Streaming::Damage, log, notes),
+        Words::Builds(log) => report_in(rt, alloc, log, notes),
         Words::Record {
             log,
             start,

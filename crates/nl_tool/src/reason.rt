@@ -195,7 +195,8 @@ fn read_place<'a>(words: &Words<'a>) -> Option<Place<'a>>
         Words::Show(Some(log))
         | Words::Check(Some(log))
         | Words::Entries(Some(log))
-        | Words::Damage(Some(log)) => Some(Place::Log(log)),
+        | Words::Damage(Some(log))
+        | Words::Builds(Some(log)) => Some(Place::Log(log)),
         Words::HashFile(Some(file)) => Some(Place::Command(file)),
         Words::Replay(Some(script))
         | Words::Apply {
@@ -208,6 +209,7 @@ fn read_place<'a>(words: &Words<'a>) -> Option<Place<'a>>
         | Words::Check(None)
         | Words::Entries(None)
         | Words::Damage(None)
+        | Words::Builds(None)
         | Words::HashFile(None)
         | Words::Replay(None)
         | Words::Apply {
@@ -228,9 +230,11 @@ fn log_place<'a>(words: &Words<'a>, file: LogFile) -> Option<Place<'a>>
         | Words::Restat { log, times: _ }
         | Words::Repair(log)
         | Words::Apply { log, script: _ } => Some(file_place(log, file)),
-        Words::Show(_) | Words::Check(_) | Words::Entries(_) | Words::Damage(_) => read_place(
-            words,
-        ),
+        Words::Show(_)
+        | Words::Check(_)
+        | Words::Entries(_)
+        | Words::Damage(_)
+        | Words::Builds(_) => read_place(words),
         Words::Hash(_) | Words::HashFile(_) | Words::Replay(_) => None,
     }
 }

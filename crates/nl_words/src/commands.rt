@@ -2,7 +2,7 @@
 ghost use Rattle.std.specs.Prelude.{◌≡◌, IfOk, false};
 ghost use Rattle.clap.specs.Words.{app_of, with_rule};
 ghost use Rattle.clap.specs.declared.builder.command.Command.TheViews.{out-Command};
-ghost use Rattle.nl_words.specs.CommandLine.{apply, check, damage, entries, hash, hash_file, positional, recompact, record_line, record_values, repair, replay, restat, show, version_rule};
+ghost use Rattle.nl_words.specs.CommandLine.{apply, builds, check, damage, entries, hash, hash_file, positional, recompact, record_line, record_values, repair, replay, restat, show, version_rule};
 
 use clap::{Arg, Command};
 use std::alloc::{AllocError, Global};
@@ -154,6 +154,32 @@ OUTPUT  the output that its last five fields name, the first of them from some d
 Status: 0 where nothing is printed, 3 where there is damage. A log is repaired where it has some by
 
   nlog damage .ninja_log >> damaged || { test $? = 3 && nlog repair .ninja_log; }",
+        );
+    with_value(alloc, command, "LOG", false, OPTIONAL_ANY_LOG)
+}
+
+pub fn builds_command<'a>(alloc: Global) -> Result<Command<'a>, AllocError>
+    ensures shape { IfOk result (λ c. app_of c ≡ builds) }
+    ensures local { IfOk result (λ c. (out-Command c).has_globals ≡ false) }
+{
+    let command = Command::new(alloc, "builds")
+        .about("Prints a line for each build that a log still tells: what it ran, and how long")
+        .after_help(
+            "\
+One line for each, the oldest first: NUMBER, COMMANDS, OUTPUTS, WALL and TOTAL with a tab between
+neighbours.
+
+NUMBER    its number, from 1
+COMMANDS  how many commands ended in it; neighbours with one START, END and HASH are of one
+OUTPUTS   how many outputs these made
+WALL      milliseconds from the first START to the last END
+TOTAL     the sum of the commands' times, in milliseconds; TOTAL / WALL ran at a time
+
+A build begins where END falls. So two builds are one line if the second's first command took longer
+than the whole first build, and a log that was rewritten doesn't tell its builds any more. The last
+build is told by
+
+  nlog builds .ninja_log | tail -n 1",
         );
     with_value(alloc, command, "LOG", false, OPTIONAL_ANY_LOG)
 }

@@ -5,9 +5,9 @@ ghost use Rattle.clap.specs.declared.builder.command.Command.TheViews.{out-Comma
 ghost use Rattle.nl_words.specs.CommandLine.{named, nlog, printing, telling, verbose_rule, with_command};
 
 use crate::commands::{
-    apply_command, check_command, damage_command, entries_command, hash_command, hash_file_command,
-    recompact_command, record_command, repair_command, replay_command, restat_command,
-    show_command,
+    apply_command, builds_command, check_command, damage_command, entries_command, hash_command,
+    hash_file_command, recompact_command, record_command, repair_command, replay_command,
+    restat_command, show_command,
 };
 use clap::{Arg, ArgAction, Command};
 use std::alloc::{AllocError, Global};
@@ -50,6 +50,7 @@ fn telling_commands<'a>(alloc: Global) -> Result<Command<'a>, AllocError>
     let nlog = printing_commands(alloc)?;
     let nlog = with_made(alloc, nlog, entries_command(alloc))?;
     let nlog = with_made(alloc, nlog, damage_command(alloc))?;
+    let nlog = with_made(alloc, nlog, builds_command(alloc))?;
     with_made(alloc, nlog, hash_file_command(alloc))
 }
 
