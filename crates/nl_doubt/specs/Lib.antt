@@ -1,0 +1,3 @@
+pub mod Judging
+pub mod Text
+pub mod Printing
