@@ -54,6 +54,8 @@ ROWS = [
     (["entries", "LOG"], TORN, ROOMY, None, TORN),
     (["damage", "LOG"], TORN, ROOMY, None, TORN),
     (["damage", "LOG"], NO_LOG, ROOMY, None, NO_LOG),
+    (["doubt", "LOG"], TORN, ROOMY, None, TORN),
+    (["doubt", "LOG"], NO_LOG, ROOMY, None, NO_LOG),
     (["builds", "LOG"], TORN, ROOMY, None, TORN),
     (["builds", "LOG"], NO_LOG, ROOMY, None, NO_LOG),
     (["hash-file", "LOG"], LOG, ROOMY, None, LOG),

@@ -280,6 +280,13 @@ WORDS = [
     (["entries", "file"], 0, FILE_SHOWN, b""),
     (["entries", "missing"], 0, b"", b""),
     (["entries", "folder"], 1, b"", CANNOT_READ),
+    (["doubt"], 3, b"missing\tinput\n", b""),
+    (["doubt", "file"], 3, b"newer\tfile\n", b""),
+    (["doubt", "--", "-file"], 3, b"newer\tfile\n", b""),
+    (["doubt", "missing"], 1, b"", CANNOT_READ),
+    (["doubt", ""], 1, b"", CANNOT_READ),
+    (["doubt", "folder"], 1, b"", CANNOT_READ),
+    (["doubt", "file/log"], 1, b"", CANNOT_READ),
     (["builds"], 0, INPUT_BUILT, b""),
     (["builds", "file"], 0, FILE_BUILT, b""),
     (["builds", "--", "-file"], 0, FILE_BUILT, b""),
@@ -316,6 +323,11 @@ WORDS = [
     (["apply", "eight", "script"], 0, b"S6 OtherVersion\nbad line\n", b""),
     (["entries", "six"], 0, NEW_SHOWN, b""),
     (["entries", "seven"], 0, NEW_SHOWN, b""),
+    (["doubt", "four"], 3, b"missing\ta\n", b""),
+    (["doubt", "six"], 3, b"missing\tout\n", b""),
+    (["doubt", "seven"], 3, b"missing\tout\n", b""),
+    (["doubt", "eight"], 1, b"", OTHER_VERSION),
+    (["doubt", "script"], 1, b"", NO_LOG),
     (["builds", "four"], 0, FOUR_BUILT, b""),
     (["builds", "six"], 0, NEW_BUILT, b""),
     (["builds", "seven"], 0, NEW_BUILT, b""),
@@ -388,6 +400,7 @@ WORDS = [
     (["hash", "--log-version", "seven", "c"], 2, b"", BAD_VERSION % b"seven"),
     (["show", "--log-version", "7", "seven", "--log-version", "7"], 2, b"", TWO_VERSIONS),
     (["entries", "--log-version", "7"], 2, b"", NO_OPTION % b"entries [OPTIONS] [LOG]"),
+    (["doubt", "--log-version", "7"], 2, b"", NO_OPTION % b"doubt [OPTIONS] [LOG]"),
     (["builds", "--log-version", "7"], 2, b"", NO_OPTION % b"builds [OPTIONS] [LOG]"),
     (["repair", "--log-version", "7"], 2, b"", NO_LOG_NAME.replace(b"repair <LOG>", b"repair --log-version <VERSION> <LOG>")),
     (["repair", "seven", "--log-version"], 2, b"", NO_VERSION),
@@ -421,6 +434,9 @@ WORDS = [
     (["show", "-v", "folder"], 1, b"", CANNOT_READ + b"nlog: LOG folder: " + A_FOLDER),
     (["check", "file/log", "--verbose"], 1, b"", CANNOT_READ + b"nlog: LOG file/log: " + NO_FOLDER),
     (["entries", "-v", "folder"], 1, b"", CANNOT_READ + b"nlog: LOG folder: " + A_FOLDER),
+    (["doubt", "-v", "folder"], 1, b"", CANNOT_READ + b"nlog: LOG folder: " + A_FOLDER),
+    (["doubt", "-v", "missing"], 1, b"", CANNOT_READ + b"nlog: LOG missing: " + NO_FILE),
+    (["doubt", "eight", "-v"], 1, b"", OTHER_VERSION + b"nlog: LOG eight: version 8\n"),
     (["builds", "-v", "folder"], 1, b"", CANNOT_READ + b"nlog: LOG folder: " + A_FOLDER),
     (["builds", "eight", "-v"], 1, b"", OTHER_VERSION + b"nlog: LOG eight: version 8\n"),
     (["builds", "-v"], 0, INPUT_BUILT, b""),
@@ -508,7 +524,7 @@ def try_refused(trials, program, room):
     write(f"{room}/negative", b"-1\ta")
     asking = [["show"], ["check"], ["show", "log"], ["check", "log"], ["record", "log", "1", "2", "3", "a", "c"], ["recompact", "log", "keep"], ["restat", "log", "negative"]]
     auto = [[*words, "--log-version=auto"] for words in asking]
-    others = [["entries"], ["damage"], ["builds"], ["entries", "log"], ["damage", "log"], ["builds", "log"], ["repair", "log"]]
+    others = [[word, *log] for log in ([], ["log"]) for word in ("entries", "damage", "doubt", "builds")] + [["repair", "log"]]
     for log, why, each in [(*it, asking + auto + others) for it in REFUSED] + [(*it, asking) for it in UNASKED]:
         write(f"{room}/log", log)
         for words in [words for words in each if "log" not in words]:
@@ -516,6 +532,58 @@ def try_refused(trials, program, room):
         for words in [words for words in each if "log" in words]:
             trials.want(f"{words[0]} of a file, {log!r}", asked(program, room, words), (1, b"", why))
             trials.want(f"the file after {words[0]}, {log!r}", read(f"{room}/log"), log)
+
+
+# What is at a name, its time in nanoseconds if it is a file, and what `doubt` says of it in a log of version 5, where MTIME is the file's own
+# time, and in one of 6 or 7, where it is the start of the command: of an entry of 0 to 7 ms with MTIME 5,000,000,000.
+DOUBTS = [
+    (b"older", 4_999_999_999, None, None),
+    (b"same", 5_000_000_000, None, None),
+    (b"a nanosecond", 5_000_000_001, b"newer", None),
+    (b"while it ran", 5_007_000_000, b"newer", None),
+    (b"a tick later", 5_027_000_000, b"newer", None),
+    (b"-later", 5_027_000_001, b"newer", b"newer"),
+    (b"in a folder/much later", 1_700_000_000_000_000_000, b"newer", b"newer"),
+    (b"of 1970", 0, None, None),
+    (b"of before 1970", -1_000_000_000, None, None),
+    (b"no file", None, b"missing", b"missing"),
+    (b"same/below a file", None, b"missing", b"missing"),
+    (b"a folder", None, b"directory", b"directory"),
+    (b"a link to same", None, None, None),
+    (b"a link to a folder", None, b"directory", b"directory"),
+    (b"a link to nothing", None, b"missing", b"missing"),
+    (b"a link to itself", None, b"unknown", b"unknown"),
+    (b"n" * 256, None, b"unknown", b"unknown"),
+    (b"no UTF-8 \xff", 4_000_000_000, b"unknown", b"unknown"),
+]
+
+
+def try_doubt(trials, program, room):
+    """What `doubt` says of files of each kind and time, in the folder in which it runs, and that an entry without a time isn't compared."""
+    for name in (b"in a folder", b"a folder"):
+        os.mkdir(os.path.join(os.fsencode(room), name))
+    for name, time, _, _ in DOUBTS:
+        path = os.path.join(os.fsencode(room), name)
+        if time is not None:
+            write(path, b"")
+            os.utime(path, ns=(time, time))
+        elif name.startswith(b"a link to "):
+            target = {b"nothing": b"none", b"itself": name, b"a folder": b"a folder", b"same": b"same"}[name[10:]]
+            os.symlink(target, path)
+    for version in (5, 6, 7):
+        lines = b"".join(b"0\t7\t5000000000\t%s\tff\n" % name for name, *_ in DOUBTS)
+        write(f"{room}/doubts", as_version(HEADER + b"0\t7\t5000000000\tolder\tff\n" + lines, version))
+        wanted = b"".join(b"%s\t%s\n" % (why, name) for name, why in ((it[0], it[2 if version == 5 else 3]) for it in DOUBTS) if why)
+        trials.want(f"doubt of a log of version {version}", asked(program, room, ["doubt", "doubts"]), (3, wanted, b""))
+        write(f"{room}/doubts", as_version(HEADER + b"0\t7\t5000000000\tsame\tff\n0\t7\t5000000000\ta link to same\tff\n", version))
+        trials.want(f"doubt of none, version {version}", asked(program, room, ["doubt", "doubts"]), (0, b"", b""))
+        write(f"{room}/doubts", as_version(HEADER + b"0\t7\t0\tsame\tff\n0\t7\t0\tno file\tff\n", version))
+        trials.want(f"doubt without a time, version {version}", asked(program, room, ["doubt", "doubts"]), (3, b"no-time\tsame\nmissing\tno file\n", b""))
+        # Ninja counts a file of the first second of 1970 as one of 1 ns, since 0 stands for none.
+        write(f"{room}/doubts", as_version(HEADER + b"0\t0\t1\tof 1970\tff\n", version))
+        trials.want(f"doubt of a file of 1970, version {version}", asked(program, room, ["doubt", "doubts"]), (0, b"", b""))
+    write(f"{room}/doubts", HEADER + b"0\t0\t-1\tof 1970\tff\n")
+    trials.want("doubt of a file of 1970 behind a time of before", asked(program, room, ["doubt", "doubts"]), (3, b"newer\tof 1970\n", b""))
 
 
 def try_changes(trials, program, room):

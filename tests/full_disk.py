@@ -96,7 +96,8 @@ WHOLE = JOINED.replace(PART, b"")
 SCRIPTS = {
     "recompact.sh": (WHOLE, text_of({b"a": (5, 6, 30, 0xBB), b"edge": (1, 2, 3, 4)})),
     "restat.sh": (WHOLE, text_of(dict([LONG, (b"a", (5, 6, 1_700_000_000_000_000_000, 0xBB)), (b"edge", (1, 2, 3, 4))]))),
-    "doubt.sh": (JOINED, text_of(dict([LONG, (b"edge", (1, 2, 3, 4))]))),
+    "mend.sh": (JOINED, text_of(dict([LONG, (b"a", (1, 2, 10, 0xAA)), (b"edge", (1, 2, 3, 4))]))),
+    "forget.sh": (JOINED, text_of(dict([LONG, (b"edge", (1, 2, 3, 4))]))),
 }
 
 

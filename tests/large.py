@@ -109,9 +109,9 @@ class Large:
             size = os.path.getsize(path)
             self.trials.check(f"{self.what}: the size of {os.path.basename(path)}", size > LARGE, f"{size} bytes")
 
-    def want_printed(self, word, pieces):
+    def want_printed(self, word, pieces, status=0):
         """Tries a command that reads the log, or a script in its place, by a file, and by a pipe."""
-        wanted = (0, sum_of(pieces), b"")
+        wanted = (status, sum_of(pieces), b"")
         self.trials.want(f"{self.what}: {word} of a file", streamed([self.program, word, self.log]), wanted)
         self.trials.want(f"{self.what}: {word} of a pipe", streamed([self.program, word], self.log), wanted)
 
@@ -201,6 +201,7 @@ def try_many(trials, program, room):
     large.want_held("entries", lines(everything))
     large.want_held("damage", [])
     large.want_printed("builds", [b"1\t%d\t%d\t%d\t%d\n" % (ENTRIES, ENTRIES, ENTRIES + 6, 7 * ENTRIES)])
+    large.want_printed("doubt", (b"missing\t%s\n" % name_of(it) for it in everything), 3)
     large.want_more()
     with open(large.log, "ab") as it:
         it.write(b"1\t2\t3\ttorn")

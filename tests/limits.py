@@ -22,7 +22,7 @@ from trials import main, read, run, write
 CANNOT_READ = (1, b"", b"nlog: cannot read\n")
 FOLDER_FAILED = (1, b"", b"nlog: the folder failed\n")
 DONE = (0, b"", b"")
-COMMANDS = ("show", "check", "hash", "entries", "damage", "builds", "hash-file", "record", "recompact", "restat", "repair", "replay", "apply")
+COMMANDS = ("show", "check", "hash", "entries", "damage", "doubt", "builds", "hash-file", "record", "recompact", "restat", "repair", "replay", "apply")
 SMALL = HEADER + b"1\t2\t3\ta\taa\n4\t5\t6\tb\tbb\n"
 # By docs/FORMAT.md: the hash of the command `cc<TAB>x`.
 COMMAND, HASH = "cc\tx", 0x72274E7A30810C7B
@@ -136,6 +136,7 @@ def try_words(trials, program, room):
         ["hash", "--", "x", "b"],
         ["entries", "--", "LOG", "b"],
         ["damage", "--", "LOG", "b"],
+        ["doubt", "--", "LOG", "b"],
         ["builds", "--", "LOG", "b"],
         ["hash-file", "--", "FILE", "b"],
         ["repair", "--", "LOG", "b"],
@@ -251,7 +252,7 @@ def without_rights():
 RECORD = ["record", "LOG", "1", "2", "3", "new", COMMAND]
 RECOMPACT, RESTAT = ["recompact", "LOG", "KEEP"], ["restat", "LOG", "TIMES"]
 SHOW, CHECK, REPAIR = ["show", "LOG"], ["check", "LOG"], ["repair", "LOG"]
-READS = (SHOW, CHECK, ["entries", "LOG"], ["damage", "LOG"], ["builds", "LOG"], ["hash-file", "LOG"])
+READS = (SHOW, CHECK, ["entries", "LOG"], ["damage", "LOG"], ["doubt", "LOG"], ["builds", "LOG"], ["hash-file", "LOG"])
 WRITES = (RECORD, RECOMPACT, RESTAT, REPAIR)
 SECRETS = (["recompact", "LOG", "SECRET"], ["restat", "LOG", "SECRET"], ["replay", "SECRET"], ["hash-file", "SECRET"])
 RIGHTS = [

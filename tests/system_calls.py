@@ -175,6 +175,7 @@ READERS = {
     "check": (0, Log(DAMAGED).report()),
     "entries": (0, b"1\t2\t10\ta\taa\n3\t4\t20\ta\tbb\n"),
     "damage": (3, b"3\tskipped\t1\t-\n5\ttorn\t3\t-\n"),
+    "doubt": (3, b"missing\ta\n"),
     "builds": (0, b"1\t2\t2\t3\t2\n"),
     "hash-file": (0, b"%x\n" % command_hash(DAMAGED)),
 }
@@ -198,6 +199,9 @@ def read_disturbed(program, word, room, how, call):
     (ended, out, err), _ = read_traced(program, word, room, ["-e", f"inject={name}:{WAYS[how]}:when={count}"])
     file = "FILE" if word == "hash-file" else "LOG"
     wrong = [] if read(f"{room}/LOG") == DAMAGED else ["LOG was changed"]
+    if word == "doubt" and name == "statx" and '"a"' in line:
+        # The file of the output itself, of which nothing can be told then.
+        text = b"unknown\ta\n"
     if not text.startswith(out):
         wrong.append(f"it printed {out!r}")
     if how == "kill":

@@ -14,6 +14,7 @@ stamps it records.
 import os
 import shutil
 import sys
+import time
 
 from examples import read_page
 from log_format import HEADER, Log, as_version, line_of
@@ -74,7 +75,7 @@ class Build:
         return [] if self.version == 5 else ["--log-version", f"{self.version}"]
 
     def nlog(self, word, *words):
-        option = [] if word in ("damage", "repair") else self.option()
+        option = [] if word in ("damage", "doubt", "repair") else self.option()
         return run([self.program, word, *option, *words], cwd=self.room)
 
     def recipe(self, name, *words, folder=None):
@@ -297,6 +298,45 @@ def try_other_command(trials, build):
     trials.want("A, torn B, A: the output is that of A", read(f"{build.room}/note"), b"n1")
 
 
+# Longer than a command here takes, and the tick of a file system: what runs later has a newer file by each version.
+LATER = 0.1
+
+
+def try_lost_whole(trials, build):
+    """A, B, and B's line cut off whole: neither `damage` nor Ninja sees that it is lost. `doubt` does, and mend.sh has the output made again."""
+    time.sleep(LATER)
+    build.describe("n2")
+    build.ninja()
+    whole = build.text()
+    build.write_log(whole[: whole[:-1].rindex(b"\n") + 1])
+    build.describe("n1")
+    trials.want("a lost line: damage", build.nlog("damage", LOG), (0, b"", b""))
+    trials.check("a lost line: Ninja finds nothing to do", build.is_idle(), repr(build.why()))
+    trials.want("a lost line: over a stale file", read(f"{build.room}/note"), b"n2")
+    trials.want("a lost line: doubt", build.nlog("doubt", LOG), (3, b"newer\tnote\n", b""))
+    trials.want("a lost line: mend.sh ends", build.recipe("mend.sh"), (0, b"", b""))
+    trials.want("a lost line: mend.sh removes the file", os.path.exists(f"{build.room}/note"), False)
+    build.ninja()
+    trials.want("a lost line: the output is that of A", read(f"{build.room}/note"), b"n1")
+    trials.want("a lost line: no doubt is left", build.nlog("doubt", LOG), (0, b"", b""))
+
+
+def try_cut_anywhere(trials, build):
+    """A log of some builds, cut behind each of its bytes: `doubt` names just the outputs with an older entry whose last line was cut away."""
+    for step in range(4):
+        time.sleep(LATER)
+        build.describe(("n2", "n1")[step % 2])
+        write(f"{build.room}/{'ab'[step % 2]}.c", b"%d" % step)
+        build.ninja()
+    whole = build.text()
+    trials.check("a log of some builds: of each output some entries", len(Log(whole).table) == 4 and whole.count(b"\n") > 12, repr(whole))
+    for size in range(len(HEADER), len(whole) + 1):
+        build.write_log(whole[:size])
+        left = Log(whole[:size]).table
+        lost = b"".join(b"newer\t%s\n" % name for name, it in left.items() if it != Log(whole).table[name])
+        trials.want(f"cut to {size} bytes: doubt", build.nlog("doubt", LOG), (3 if lost else 0, lost, b""))
+
+
 def try_joined(trials, build):
     """A, torn B, a line of Ninja's behind it: what `check` tells of it, and the script that has the output made again."""
     build.describe("n2")
@@ -308,16 +348,18 @@ def try_joined(trials, build):
     trials.check("a joined line: Ninja finds nothing to do", build.is_idle(), repr(build.why()))
     trials.want("a joined line: over a stale file", read(f"{build.room}/note"), b"n2")
     others = {name: it for name, it in build.log().table.items() if name != b"note"}
-    trials.want("doubt.sh: ends", build.recipe("doubt.sh"), (0, b"", b""))
-    trials.want("doubt.sh: the entries that are left", build.log().table, others)
-    trials.check("doubt.sh: Ninja makes the output again", UNKNOWN % b"note" in build.why(), repr(build.why()))
+    if build.version == 5:
+        trials.want("a joined line: doubt", build.nlog("doubt", LOG), (3, b"newer\tnote\n", b""))
+    trials.want("forget.sh: ends", build.recipe("forget.sh"), (0, b"", b""))
+    trials.want("forget.sh: the entries that are left", build.log().table, others)
+    trials.check("forget.sh: Ninja makes the output again", UNKNOWN % b"note" in build.why(), repr(build.why()))
     build.ninja()
-    trials.want("doubt.sh: and it is that of A", read(f"{build.room}/note"), b"n1")
+    trials.want("forget.sh: and it is that of A", read(f"{build.room}/note"), b"n1")
 
 
 def try_joined_in_hash(trials, build):
     """A, B torn in its hash, A again, and the line of another output behind the part. `damage` names that one alone. Ninja takes the line for
-    an entry of the first, with another hash; a rewriting drops it, and A's entry counts. doubt.sh doubts both."""
+    an entry of the first, with another hash; a rewriting drops it, and A's entry counts. forget.sh doubts both."""
     for zeros in (b"", bytes(100)):
         what = f"torn in its hash, with {len(zeros)} zero bytes"
         build.describe("n2")
@@ -334,27 +376,27 @@ def try_joined_in_hash(trials, build):
         trials.check(f"{what}: repaired, Ninja lets it be", b"note" not in mirror.why(), repr(mirror.why()))
         trials.want(f"{what}: a stale file", read(f"{mirror.room}/note"), b"n2")
         others = {name: it for name, it in build.log().table.items() if name not in (b"note", b"a.o")}
-        trials.want(f"{what}: doubt.sh ends", build.recipe("doubt.sh"), (0, b"", b""))
+        trials.want(f"{what}: forget.sh ends", build.recipe("forget.sh"), (0, b"", b""))
         trials.want(f"{what}: the entries that are left", build.log().table, others)
         build.ninja()
         trials.want(f"{what}: the output is that of A", read(f"{build.room}/note"), b"n1")
 
 
 def try_zeros(trials, build):
-    """A, B torn in its hash, and zero bytes in place of the rest: `damage` can't name the output, and doubt.sh drops its entry all the same."""
+    """A, B torn in its hash, and zero bytes in place of the rest: `damage` can't name the output, and forget.sh drops its entry all the same."""
     build.describe("n2")
     build.ninja()
     build.cut_hash(b"note", bytes(5000))
     build.describe("n1")
     trials.check("zeros: damage names no output", build.nlog("damage", LOG)[1].endswith(b"\t-\n"))
     trials.check("zeros: Ninja finds nothing to do", build.is_idle(), repr(build.why()))
-    trials.want("zeros: doubt.sh ends", build.recipe("doubt.sh"), (0, b"", b""))
+    trials.want("zeros: forget.sh ends", build.recipe("forget.sh"), (0, b"", b""))
     build.ninja()
     trials.want("zeros: the output is that of A", read(f"{build.room}/note"), b"n1")
 
 
 def try_joined_anywhere(trials, build):
-    """A line that is torn at each of its bytes, with each of these behind it: where the two are no entry, doubt.sh drops the last name, and
+    """A line that is torn at each of its bytes, with each of these behind it: where the two are no entry, forget.sh drops the last name, and
     that of the part where its end can be told."""
     kept, was = line_of(b"a.o", (0, 1, 2, 3)), line_of(b"out/x", (0, 9, 1_700_000_000_000_000_000, 0xA2))
     first = HEADER + kept + was + line_of(b"note", (0, 9, 1_700_000_000_000_000_000, 0xA1))
@@ -369,16 +411,16 @@ def try_joined_anywhere(trials, build):
                     continue
                 is_told = torn[:cut].count(b"\t") == 4 or b"\0" in rest and torn[:cut].endswith(b"out/x")
                 build.write_log(text)
-                build.recipe("doubt.sh")
-                trials.want(f"doubt.sh on {text!r}", build.text(), HEADER + kept + (b"" if is_told else was))
+                build.recipe("forget.sh")
+                trials.want(f"forget.sh on {text!r}", build.text(), HEADER + kept + (b"" if is_told else was))
 
 
 def try_joined_thrice(trials, build):
-    """Two torn lines in one, and the line behind them: doubt.sh drops all three."""
+    """Two torn lines in one, and the line behind them: forget.sh drops all three."""
     names = [b"a.o", b"b.o", b"app", b"note"]
     lines = [line_of(it, (0, 5, 1_700_000_000_000_000_001, 0xABCDEF)) for it in names]
     build.write_log(HEADER + b"".join(lines) + lines[1][:-3] + lines[2][:-4] + lines[3])
-    trials.want("three lines in one: doubt.sh ends", build.recipe("doubt.sh"), (0, b"", b""))
+    trials.want("three lines in one: forget.sh ends", build.recipe("forget.sh"), (0, b"", b""))
     trials.want("three lines in one: what is left", build.text(), HEADER + lines[0])
 
 
@@ -397,7 +439,7 @@ def try_scripts_at_damage(trials, build):
 def try_names_like_options(trials, build):
     """The scripts on a log whose name begins with `-` do what they do on another."""
     whole = build.text()
-    for name, text in (("recompact.sh", whole), ("restat.sh", whole), ("doubt.sh", whole[:-3])):
+    for name, text in (("recompact.sh", whole), ("restat.sh", whole), ("forget.sh", whole[:-3]), ("mend.sh", whole[:-3])):
         left = []
         for log in ("its.log", "-its.log", "it=s.log"):
             write(f"{build.room}/{log}", as_version(text, build.version))
@@ -630,6 +672,8 @@ PARTS = [
     try_times_that_fail,
     try_torn,
     try_other_command,
+    try_lost_whole,
+    try_cut_anywhere,
     try_joined,
     try_joined_in_hash,
     try_zeros,

@@ -4,13 +4,13 @@ use Rattle.std.specs.Prelude.{IfOk}
 use Rattle.clap.specs.Words.{HasKind, Kinds, Row, Text, kind_of}
 use Rattle.clap.specs.declared.error.Error.{Error}
 use Rattle.nl_texts.specs.declared.fault.ToolFault.{ToolFault}
-use Rattle.nl_tool.specs.Ending.{IsEnded, IsStatusBy, IsStatusOfKind, NamesDamage, status_after}
-use Rattle.nl_tool.specs.Faults.{AsksForDamage}
+use Rattle.nl_tool.specs.Ending.{IsEnded, IsStatusBy, IsStatusOfKind, NamesFinding, status_after}
+use Rattle.nl_tool.specs.Faults.{CanFind}
 use Rattle.nl_tool.specs.declared.program.Outcome.{Outcome}
-use Rattle.nl_tool.specs.declared.program.Outcome.TheVariants.{Done, Damaged}
+use Rattle.nl_tool.specs.declared.program.Outcome.TheVariants.{Done, Found}
 use Rattle.nl_words.specs.CommandLine.{IsSaid}
 use Rattle.nl_words.specs.declared.command_line.Words.{Words}
-use Rattle.nl_words.specs.declared.command_line.Words.TheVariants.{Show, Check, Hash, Entries, Damage, Builds, HashFile, Record, Recompact, Restat}
+use Rattle.nl_words.specs.declared.command_line.Words.TheVariants.{Show, Check, Hash, Entries, Damage, Doubt, Builds, HashFile, Record, Recompact, Restat}
 use Rattle.nl_words.specs.declared.command_line.Words.TheVariants.{Repair, Replay, Apply}
 
 pub IsStatusBy_kind : (kinds : Kinds) (entered : Option (Text × List Row)) (e : Error) (status : ℕ) → HasKind kinds e
@@ -21,31 +21,33 @@ IsStatusBy_kind (k ∷ ks) entered e status (inl memory) s = inl (subst (λ k. I
 IsStatusBy_kind (k ∷ ks) entered e status (inr among) s = inr (kind_of e, among, s)
 
 -- only the words of `damage` ask for damage
-names_damage : (w : Words) (entered : Option (Text × List Row)) → IsSaid w entered → AsksForDamage w → NamesDamage entered
-names_damage (Damage log) None said asks = said
-names_damage (Damage log) (Some p) said asks = said.0
-names_damage (Show log) entered said asks = absurd asks
-names_damage (Check log) entered said asks = absurd asks
-names_damage (Hash command) entered said asks = absurd asks
-names_damage (Entries log) entered said asks = absurd asks
-names_damage (Builds log) entered said asks = absurd asks
-names_damage (HashFile file) entered said asks = absurd asks
-names_damage (Record log start end mtime name command) entered said asks = absurd asks
-names_damage (Recompact log keep) entered said asks = absurd asks
-names_damage (Restat log times) entered said asks = absurd asks
-names_damage (Repair log) entered said asks = absurd asks
-names_damage (Replay script) entered said asks = absurd asks
-names_damage (Apply log script) entered said asks = absurd asks
+names_finding : (w : Words) (entered : Option (Text × List Row)) → IsSaid w entered → CanFind w → NamesFinding entered
+names_finding (Damage log) None said asks = said
+names_finding (Damage log) (Some p) said asks = inl said.0
+names_finding (Doubt log) None said asks = said
+names_finding (Doubt log) (Some p) said asks = inr said.0
+names_finding (Show log) entered said asks = absurd asks
+names_finding (Check log) entered said asks = absurd asks
+names_finding (Hash command) entered said asks = absurd asks
+names_finding (Entries log) entered said asks = absurd asks
+names_finding (Builds log) entered said asks = absurd asks
+names_finding (HashFile file) entered said asks = absurd asks
+names_finding (Record log start end mtime name command) entered said asks = absurd asks
+names_finding (Recompact log keep) entered said asks = absurd asks
+names_finding (Restat log times) entered said asks = absurd asks
+names_finding (Repair log) entered said asks = absurd asks
+names_finding (Replay script) entered said asks = absurd asks
+names_finding (Apply log script) entered said asks = absurd asks
 
 -- the status after a command
 pub command_ended : (kinds : Kinds) (w : Words) (entered : Option (Text × List Row)) (answer : Result Outcome ToolFault) (status : ℕ)
-    → kinds ≡ [] → IsSaid w entered → IfOk answer (λ outcome. outcome ≡ Damaged → AsksForDamage w) → status ≡ status_after answer
+    → kinds ≡ [] → IsSaid w entered → IfOk answer (λ outcome. outcome ≡ Found → CanFind w) → status ≡ status_after answer
     → IsStatusBy kinds entered status
 command_ended kinds w entered answer status none said only is =
     subst (λ (ks : Kinds). IsStatusBy ks entered status) (sym none) (ended answer only is)
   where
-    ended : (answer : Result Outcome ToolFault) → IfOk answer (λ outcome. outcome ≡ Damaged → AsksForDamage w)
+    ended : (answer : Result Outcome ToolFault) → IfOk answer (λ outcome. outcome ≡ Found → CanFind w)
         → status ≡ status_after answer → IsEnded entered status
     ended (Ok Done) only is = inl (inl is)
-    ended (Ok Damaged) only is = inr (is, names_damage w entered said (only refl))
+    ended (Ok Found) only is = inr (is, names_finding w entered said (only refl))
     ended (Err fault) only is = inl (inr is)

@@ -5,26 +5,26 @@ use Rattle.clap.specs.declared.error.kind.ErrorKind.{ErrorKind}
 use Rattle.clap.specs.declared.error.kind.ErrorKind.TheVariants as kind
 use Rattle.nl_texts.specs.declared.fault.ToolFault.{ToolFault}
 use Rattle.nl_tool.specs.declared.program.Outcome.{Outcome}
-use Rattle.nl_tool.specs.declared.program.Outcome.TheVariants.{Done, Damaged}
+use Rattle.nl_tool.specs.declared.program.Outcome.TheVariants.{Done, Found}
 
 -- the status after a command
 abbrev pub status_after : Result Outcome ToolFault → ℕ
 status_after (Ok Done) = 0
-status_after (Ok Damaged) = 3
+status_after (Ok Found) = 3
 status_after (Err fault) = 1
 
 -- done or refused
 abbrev pub IsDoneOrRefused : ℕ → Type 0
 IsDoneOrRefused status = (status ≡ 0) ⊎ (status ≡ 1)
 
--- the subcommand that was entered is `damage`
-abbrev pub NamesDamage : Option (Text × List Row) → Type 0
-NamesDamage None = ⊥
-NamesDamage (Some p) = p.0 ≡ codes "damage"
+-- the subcommand that was entered is `damage` or `doubt`
+abbrev pub NamesFinding : Option (Text × List Row) → Type 0
+NamesFinding None = ⊥
+NamesFinding (Some p) = (p.0 ≡ codes "damage") ⊎ (p.0 ≡ codes "doubt")
 
--- done or refused, or 3 after `damage`
+-- done or refused, or 3 after `damage` or `doubt`
 abbrev pub IsEnded : Option (Text × List Row) → ℕ → Type 0
-IsEnded entered status = IsDoneOrRefused status ⊎ ((status ≡ 3) × NamesDamage entered)
+IsEnded entered status = IsDoneOrRefused status ⊎ ((status ≡ 3) × NamesFinding entered)
 
 -- the status after words that name no command, by the kind of what is said of them: help and the version may fail to be written
 abbrev pub IsStatusOfKind : ErrorKind → ℕ → Type 0
@@ -34,7 +34,7 @@ IsStatusOfKind kind.OutOfMemory status = status ≡ 1
 IsStatusOfKind _ status = status ≡ 2
 
 -- the status after a command line, by the kinds of error that its words may give, and by the subcommand that it
--- enters: 2 only for wrong words, and for those never 0; 3 only for `damage`
+-- enters: 2 only for wrong words, and for those never 0; 3 only for `damage` and `doubt`
 abbrev pub IsStatusBy : Kinds → Option (Text × List Row) → ℕ → Type 0
 IsStatusBy [] entered status = IsEnded entered status
 IsStatusBy (k ∷ ks) entered status = (status ≡ 1) ⊎ ((met : ErrorKind) × IsAmong met (k ∷ ks) × IsStatusOfKind met status)

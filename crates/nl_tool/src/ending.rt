@@ -22,7 +22,7 @@ const DONE: u8 = 0;
 
 const WRONG_WORDS: u8 = 2;
 
-const DAMAGED: u8 = 3;
+const FOUND: u8 = 3;
 
 /// The whole program: reads the words that it was given, does what they say, and answers the status to end with.
 pub fn run_program<R: Runtime + AllocGlobal>(rt: &R) -> u8
@@ -72,7 +72,7 @@ fn end(
 {
     match answer {
         Ok(Outcome::Done) => DONE,
-        Ok(Outcome::Damaged) => DAMAGED,
+        Ok(Outcome::Found) => FOUND,
         Err(fault) => say(rt, &refusal_of(alloc, line, fault, notes)),
     }
 }

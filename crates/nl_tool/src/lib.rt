@@ -3,6 +3,7 @@
 #![tactic(auto)]
 
 mod changing;
+mod doubting;
 mod ending;
 mod files;
 pub mod laws;
@@ -19,6 +20,7 @@ pub use nl_change::{
     record_on, repair_on, restat_on,
 };
 pub use nl_disk::DiskFolder;
+pub use nl_doubt::doubt_to;
 pub use nl_lines::LogVersion;
 pub use nl_print::{
     FirstLine, check_any, check_as, check_to, command_hash_as, damage_to, entries_to,

@@ -53,8 +53,8 @@ pub fn stream_log<R: Runtime>(
     notes: &mut Notes,
 ) -> Result<Outcome, ToolFault>
     ensures faults { IfErr result IsLogFault }
-    ensures damaged { IfOk result
-        (λ outcome. outcome ≡ Outcome.Damaged → streaming ≡ Streaming.Damage) }
+    ensures outcome { IfOk result
+        (λ outcome. outcome ≡ Outcome.Found → streaming ≡ Streaming.Damage) }
 {
     let Some(path) = log else {
         return stream_noted(rt, alloc, streaming, rt.reader(), notes);
@@ -73,8 +73,8 @@ fn stream_noted<P: Print, R: Read + Drop>(
     notes: &mut Notes,
 ) -> Result<Outcome, ToolFault>
     ensures faults { IfErr result IsLogFault }
-    ensures damaged { IfOk result
-        (λ outcome. outcome ≡ Outcome.Damaged → streaming ≡ Streaming.Damage) }
+    ensures outcome { IfOk result
+        (λ outcome. outcome ≡ Outcome.Found → streaming ≡ Streaming.Damage) }
 {
     let mut out = NotedWriter::new(io::writer(rt));
     let reader = NotedReader::new(reader, &mut notes.heard);
@@ -90,8 +90,8 @@ fn stream_of<R: Read + Drop, W: Write>(
     writer: &mut W,
 ) -> Result<Outcome, ToolFault>
     ensures faults { IfErr result IsLogFault }
-    ensures damaged { IfOk result
-        (λ outcome. outcome ≡ Outcome.Damaged → streaming ≡ Streaming.Damage) }
+    ensures outcome { IfOk result
+        (λ outcome. outcome ≡ Outcome.Found → streaming ≡ Streaming.Damage) }
 {
     match streaming {
         Streaming::Entries => {
@@ -112,7 +112,7 @@ fn tell_damage<R: Read + Drop, W: Write>(
         (λ outcome.
         (text : List ℕ) × IsTextAsRead (λ bs. damage_text_of (as_five bs)) (R.remaining reader) text
         × Appends (W.contents writer.old) (W.contents writer.new) text
-        × ((outcome ≡ Outcome.Damaged) ↔ (0 < length text)))
+        × ((outcome ≡ Outcome.Found) ↔ (0 < length text)))
         (λ _. IsSoFar (λ bs. damage_text_of (as_five bs)) (R.remaining reader)
         (W.contents writer.old) (W.contents writer.new)) }
     ensures not_a_log { IsErrOf result ToolFault.NotALog
@@ -122,7 +122,7 @@ fn tell_damage<R: Read + Drop, W: Write>(
     ensures faults { IfErr result IsLogFault }
 {
     match damage_to(alloc, reader, writer) {
-        Ok(true) => Ok(Outcome::Damaged),
+        Ok(true) => Ok(Outcome::Found),
         Ok(false) => Ok(Outcome::Done),
         Err(fault) => Err(fault),
     }

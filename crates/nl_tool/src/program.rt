@@ -1,8 +1,9 @@
 //! What the program does once its words are read.
 ghost use Rattle.std.specs.Prelude.{◌≡◌, IfErr, IfOk, OnOk};
-ghost use Rattle.nl_tool.specs.Faults.{AsksForDamage, CanBeDone, IsFaultOf};
+ghost use Rattle.nl_tool.specs.Faults.{CanFind, CanBeDone, IsFaultOf};
 
 use crate::changing::{apply_in, or_auto, or_five, recompact_in, record_in, repair_in, restat_in};
+use crate::doubting::doubt_in;
 use crate::notes::Notes;
 use crate::printing::{Printing, Streaming, print_file, print_log, print_noted, stream_log};
 use crate::reporting::report_in;
@@ -17,8 +18,8 @@ use std::rt::Runtime;
 #[derive(Clone, Copy, Debug, PartialEq, Eq, Drop)]
 pub enum Outcome {
     Done,
-    /// `damage` found some.
-    Damaged,
+    /// `damage` found some, or `doubt` an output.
+    Found,
 }
 
 /// Does what a command line says, with standard output for its text. LOG, FILE or SCRIPT is read, or standard input where it is
@@ -27,8 +28,8 @@ pub fn run<R: Runtime>(rt: &R, alloc: Global, line: &CommandLine<'_>) -> Result<
 where
     R::File: SystemFile,
     ensures accepts { OnOk result (CanBeDone line.now.words) }
-    ensures damaged { IfOk result
-        (λ outcome. outcome ≡ Outcome.Damaged → AsksForDamage line.now.words) }
+    ensures outcome { IfOk result
+        (λ outcome. outcome ≡ Outcome.Found → CanFind line.now.words) }
     ensures faults { IfErr result (IsFaultOf line.now.words) }
 {
     run_noted(rt, alloc, line, &mut Notes::new(alloc, false))
@@ -44,8 +45,8 @@ pub fn run_noted<R: Runtime>(
 where
     R::File: SystemFile,
     ensures accepts { OnOk result (CanBeDone line.now.words) }
-    ensures damaged { IfOk result
-        (λ outcome. outcome ≡ Outcome.Damaged → AsksForDamage line.now.words) }
+    ensures outcome { IfOk result
+        (λ outcome. outcome ≡ Outcome.Found → CanFind line.now.words) }
     ensures faults { IfErr result (IsFaultOf line.now.words) }
 {
     let version = line.version;
@@ -60,6 +61,7 @@ where
         Words::Replay(script) => print_file(rt, alloc, Printing::Replay, version, script, notes),
         Words::Entries(log) => return stream_log(rt, alloc, Streaming::Entries, log, notes),
         Words::Damage(log) => return stream_log(rt, alloc, Streaming::Damage, log, notes),
+        Words::Doubt(log) => return doubt_in(rt, alloc, log, notes),
         Words::Builds(log) => report_in(rt, alloc, log, notes),
         Words::Record {
             log,

@@ -196,6 +196,7 @@ fn read_place<'a>(words: &Words<'a>) -> Option<Place<'a>>
         | Words::Check(Some(log))
         | Words::Entries(Some(log))
         | Words::Damage(Some(log))
+        | Words::Doubt(Some(log))
         | Words::Builds(Some(log)) => Some(Place::Log(log)),
         Words::HashFile(Some(file)) => Some(Place::Command(file)),
         Words::Replay(Some(script))
@@ -209,6 +210,7 @@ fn read_place<'a>(words: &Words<'a>) -> Option<Place<'a>>
         | Words::Check(None)
         | Words::Entries(None)
         | Words::Damage(None)
+        | Words::Doubt(None)
         | Words::Builds(None)
         | Words::HashFile(None)
         | Words::Replay(None)
@@ -234,6 +236,7 @@ fn log_place<'a>(words: &Words<'a>, file: LogFile) -> Option<Place<'a>>
         | Words::Check(_)
         | Words::Entries(_)
         | Words::Damage(_)
+        | Words::Doubt(_)
         | Words::Builds(_) => read_place(words),
         Words::Hash(_) | Words::HashFile(_) | Words::Replay(_) => None,
     }

@@ -18,6 +18,7 @@ pub enum Words<'a> {
     Hash(&'a str),
     Entries(Option<&'a str>),
     Damage(Option<&'a str>),
+    Doubt(Option<&'a str>),
     Builds(Option<&'a str>),
     HashFile(Option<&'a str>),
     Record {
@@ -134,6 +135,7 @@ fn said<'a>(matches: &ArgMatches<'a>) -> Words<'a>
         "hash" => hash_words(inner),
         "entries" => Words::Entries(optional(inner, "LOG")),
         "damage" => Words::Damage(optional(inner, "LOG")),
+        "doubt" => Words::Doubt(optional(inner, "LOG")),
         "builds" => Words::Builds(optional(inner, "LOG")),
         "hash-file" => Words::HashFile(optional(inner, "FILE")),
         "record" => record_words(inner),

@@ -2,7 +2,7 @@
 ghost use Rattle.std.specs.Prelude.{◌≡◌, IfOk, false};
 ghost use Rattle.clap.specs.Words.{app_of, with_rule};
 ghost use Rattle.clap.specs.declared.builder.command.Command.TheViews.{out-Command};
-ghost use Rattle.nl_words.specs.CommandLine.{apply, builds, check, damage, entries, hash, hash_file, positional, recompact, record_line, record_values, repair, replay, restat, show, version_rule};
+ghost use Rattle.nl_words.specs.CommandLine.{apply, builds, check, damage, doubt, entries, hash, hash_file, positional, recompact, record_line, record_values, repair, replay, restat, show, version_rule};
 
 use clap::{Arg, Command};
 use std::alloc::{AllocError, Global};
@@ -154,6 +154,32 @@ OUTPUT  the output that its last five fields name, the first of them from some d
 Status: 0 where nothing is printed, 3 where there is damage. A log is repaired where it has some by
 
   nlog damage .ninja_log >> damaged || { test $? = 3 && nlog repair .ninja_log; }",
+        );
+    with_value(alloc, command, "LOG", false, OPTIONAL_ANY_LOG)
+}
+
+pub fn doubt_command<'a>(alloc: Global) -> Result<Command<'a>, AllocError>
+    ensures shape { IfOk result (λ c. app_of c ≡ doubt) }
+    ensures local { IfOk result (λ c. (out-Command c).has_globals ≡ false) }
+{
+    let command = Command::new(alloc, "doubt")
+        .about("Prints the outputs whose files aren't as a log says; status 3 where there is one")
+        .after_help(
+            "\
+Run it in the folder of the build: it looks at the file of each output. A crash can take the line of a
+command and leave its file, and then an older entry passes for it. One line for each output, by its
+last entry: WHAT and NAME with a tab between them.
+
+WHAT  `newer`: the file was written behind what the entry says, so the entry isn't of the command
+      that wrote it; `missing`: there is no file; `directory`: the output is one, so its time says
+      nothing; `no-time`: the entry has no time; `unknown`: the file can't be looked at
+NAME  the output
+
+Remove the files that are newer, and build. Their names are printed by
+
+  nlog doubt .ninja_log | sed -n 's/^newer\t//p'
+
+Status: 0 where nothing is printed, 3 where something is. A LOG that is missing is refused.",
         );
     with_value(alloc, command, "LOG", false, OPTIONAL_ANY_LOG)
 }

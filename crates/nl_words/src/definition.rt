@@ -5,9 +5,9 @@ ghost use Rattle.clap.specs.declared.builder.command.Command.TheViews.{out-Comma
 ghost use Rattle.nl_words.specs.CommandLine.{named, nlog, printing, telling, verbose_rule, with_command};
 
 use crate::commands::{
-    apply_command, builds_command, check_command, damage_command, entries_command, hash_command,
-    hash_file_command, recompact_command, record_command, repair_command, replay_command,
-    restat_command, show_command,
+    apply_command, builds_command, check_command, damage_command, doubt_command, entries_command,
+    hash_command, hash_file_command, recompact_command, record_command, repair_command,
+    replay_command, restat_command, show_command,
 };
 use clap::{Arg, ArgAction, Command};
 use std::alloc::{AllocError, Global};
@@ -20,7 +20,8 @@ log for a build tool. Without a command, or without LOG, a log is read from stan
 
 Ninja 1.12 and 1.13 write logs of version 6 and 7: put `--log-version auto` behind `show`, `check`,
 `record`, `recompact` or `restat`. The other commands take such a LOG as it is.
-Change no log while Ninja builds, because it locks nothing. If LOG is missing, it is read as empty.
+Change no log while Ninja builds, because it locks nothing. If LOG is missing, `doubt` is refused,
+and the others read it as empty.
 
 Examples:
   nlog show .ninja_log
@@ -28,7 +29,7 @@ Examples:
   nlog damage .ninja_log >> damaged || { test $? = 3 && nlog repair .ninja_log; }
 
 Status: 0 done; 1 refused, and a line `nlog: ...` on standard error says why (a second one says more
-with `--verbose`, behind the command); 2 wrong words; 3 `damage` found some.";
+with `--verbose`, behind the command); 2 wrong words; 3 `damage` or `doubt` found some.";
 
 /// The whole command line.
 pub fn nlog_command<'a>(alloc: Global) -> Result<Command<'a>, AllocError>
@@ -50,6 +51,7 @@ fn telling_commands<'a>(alloc: Global) -> Result<Command<'a>, AllocError>
     let nlog = printing_commands(alloc)?;
     let nlog = with_made(alloc, nlog, entries_command(alloc))?;
     let nlog = with_made(alloc, nlog, damage_command(alloc))?;
+    let nlog = with_made(alloc, nlog, doubt_command(alloc))?;
     let nlog = with_made(alloc, nlog, builds_command(alloc))?;
     with_made(alloc, nlog, hash_file_command(alloc))
 }

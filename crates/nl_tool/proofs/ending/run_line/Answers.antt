@@ -8,7 +8,7 @@ pub returns-in-Ok-clause-status : goal.returns-in-Ok-clause-status
 returns-in-Ok-clause-status g c =
     let line = map string_bytes c.args.line.now in
     command_ended (fault_in line) c.in-Ok.said.words (subcommand_of nlog line) c.run_noted-answer.result c.end.result
-    c.in-Ok.ensures.accepts c.in-Ok.ensures.value c.run_noted-answer.ensures.damaged c.end.ensures.status
+    c.in-Ok.ensures.accepts c.in-Ok.ensures.value c.run_noted-answer.ensures.outcome c.end.ensures.status
 
 pub returns-in-Err : goal.returns-in-Err
 returns-in-Err g c =

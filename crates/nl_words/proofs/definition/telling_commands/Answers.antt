@@ -6,6 +6,7 @@ pub returns : goal.returns
 returns c =
     let two = added_as_named _ _ _ _ c.entries_command.result c.in_ok-nlog-2.ensures c.in_ok-nlog.ensures c.entries_command.ensures.shape in
     let three = added_as_named _ _ _ _ c.damage_command.result c.in_ok-nlog-3.ensures two c.damage_command.ensures.shape in
-    let four = added_as_named _ _ _ _ c.builds_command.result c.in_ok-nlog-4.ensures three c.builds_command.ensures.shape in
-    IfOk-weaker c.with_made-4.result _ _ (λ r h.
-    added_as_named _ _ _ _ c.hash_file_command.result h four c.hash_file_command.ensures.shape) c.with_made-4.ensures
+    let four = added_as_named _ _ _ _ c.doubt_command.result c.in_ok-nlog-4.ensures three c.doubt_command.ensures.shape in
+    let five = added_as_named _ _ _ _ c.builds_command.result c.in_ok-nlog-5.ensures four c.builds_command.ensures.shape in
+    IfOk-weaker c.with_made-5.result _ _ (λ r h.
+    added_as_named _ _ _ _ c.hash_file_command.result h five c.hash_file_command.ensures.shape) c.with_made-5.ensures
