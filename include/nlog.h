@@ -224,8 +224,8 @@ uint64_t nlog_command_hash_v7(const char *command, size_t len);
  * like. A handle from nlog_new is closed, open, or broken:
  *
  *     closed --nlog_open--> open
- *     open --nlog_record, nlog_recompact, nlog_restat, if memory runs out
- *       within the text--> broken
+ *     open --nlog_record, nlog_begin, nlog_recompact, nlog_restat, if memory
+ *       runs out within the text--> broken
  *     open or broken --nlog_close--> closed
  *
  * Each call of part 2 answers NLOG_NO_HANDLE of a handle that nlog_new didn't
@@ -275,6 +275,14 @@ nlog_status nlog_text(const nlog *log, uint64_t from, void *bytes, size_t room, 
  * NLOG_NOT_OPEN, NLOG_BROKEN, NLOG_BAD_NAME, NLOG_OUT_OF_MEMORY: nothing was
  * changed. NLOG_FAULT: the log is broken. */
 nlog_status nlog_record(nlog *log, const char *name, size_t len, const nlog_entry *entry);
+
+/* Adds the intent of an output, before a command of this hash runs that makes
+ * it. It is added if the log has an entry of the output that isn't such an
+ * intent already. No command passes for it, so the output is never taken for
+ * what it was before (docs/FORMAT.md, "Intents"). The moment is that of now, as
+ * the start of an entry.
+ * Refused and answered as nlog_record is. */
+nlog_status nlog_begin(nlog *log, const char *name, size_t len, int32_t moment_ms, uint64_t hash);
 
 /* NLOG_OK if the bytes are a name that a log can hold, else NLOG_BAD_NAME. */
 nlog_status nlog_check_name(const char *name, size_t len);
@@ -433,6 +441,12 @@ nlog_status nlog_writer_record(nlog_writer *writer, const char *name, size_t len
  * NLOG_NOT_OPEN, NLOG_BROKEN, NLOG_BAD_NAME: none is added.
  * NLOG_OUT_OF_MEMORY: those of the first names may be added. */
 nlog_status nlog_writer_record_edge(nlog_writer *writer, const nlog_name *names, size_t count, const nlog_entry *entry);
+
+/* As nlog_begin, of the outputs of a command that is to run. One write adds
+ * them, and none if none of them wants an intent. Then the command may run. If
+ * power may be lost, call nlog_writer_sync before it.
+ * Refused as nlog_writer_record_edge is. */
+nlog_status nlog_writer_begin(nlog_writer *writer, const nlog_name *names, size_t count, int32_t moment_ms, uint64_t hash);
 
 /* As nlog_count, nlog_at and nlog_find, of the open log with all that was
  * recorded. NLOG_NOT_OPEN, NLOG_BROKEN. */

@@ -418,8 +418,13 @@ def texts(trials, made, room):
 
 
 # Lines to a log in memory and what each is answered; the text is asked for by `text FROM`.
+FIND = f"find {hexed(b'a')}"
 NAMES = [b"", b"a\tb", b"a\nb", b"a\0b", b"n" * (MAX_NAME + 1)]
 D = b"-1\t0\t-5\td\tffffffffffffffff\n"
+# Lines that ask for intents, for a command of the hash cc, and the lines of these: the hash has each of its 64 bits turned over.
+BEGIN_A, BEGIN_A_AGAIN = f"begin 7 0 0 cc {hexed(b'a')}", f"begin 8 0 0 cc {hexed(b'a')}"
+INTENT_A, INTENT_B = (b"7\t7\t0\t%s\tffffffffffffff33\n" % it for it in (b"a", b"b"))
+E = b"-9\t-9\t0\ta\tffffffffffffff32\n"
 MEMORY = [
     (b"", 0, ["is_open", "count", f"record 1 2 3 aa {hexed(b'a')}", "sync", "recompact", "restat", "close", f"dead {hexed(b'a')}", "clear", "open", "is_open"],
      ["OK 0", "NO_HANDLE 99", "NOT_OPEN", "NOT_OPEN", "NOT_OPEN", "NOT_OPEN 99", "NOT_OPEN", "OK", "OK", "OK 1", "OK 1"]),
@@ -430,6 +435,11 @@ MEMORY = [
     (HEADER, 0, ["open", *[f"record 1 2 3 aa {hexed(it)}" for it in NAMES], *[f"check {hexed(it)}" for it in [*NAMES, b"n" * MAX_NAME]],
                  *[f"dead {hexed(it)}" for it in NAMES], *[f"time 5 {hexed(it)}" for it in NAMES], "text 0"],
      ["OK 0", *["BAD_NAME"] * 10, "OK", *["BAD_NAME"] * 10, f"OK 15 {HEADER.hex()}"]),
+    # Intents: of an entry that isn't one for this command, and of no other name.
+    (HEADER + A, 0, [BEGIN_A, "open", f"begin 7 0 0 cc {hexed(b'none')}", BEGIN_A, f"text {len(HEADER + A)}", FIND, BEGIN_A_AGAIN, f"begin -9 0 0 cd {hexed(b'a')}",
+                     f"text {len(HEADER + A)}", *[f"begin 7 0 0 cc {hexed(it)}" for it in NAMES], "count"],
+     ["NOT_OPEN", "OK 0", "OK", "OK", f"OK {len(HEADER + A + INTENT_A)} {INTENT_A.hex()}", "OK 7 7 0 ffffffffffffff33", "OK", "OK",
+      f"OK {len(HEADER + A + INTENT_A + E)} {(INTENT_A + E).hex()}", *["BAD_NAME"] * 5, "OK 1"]),
     # Marks of dead names: an open that isn't due keeps them, a recompaction uses them up.
     (HEADER + A + B, 0, [f"dead {hexed(b'a', b'nothing')}", "open", "text 0", "recompact", "text 15", f"record 1 2 3 aa {hexed(b'a')}", "recompact", "text 15"],
      ["OK", "OK 0", f"OK {15 + len(A + B)} {(HEADER + A + B).hex()}", "OK", f"OK {15 + len(B)} {B.hex()}", "OK", "OK", f"OK {15 + len(B + A)} {(B + A).hex()}"]),
@@ -464,7 +474,6 @@ def memory(trials, made, room):
 LONG = b"n" * MAX_NAME
 V7 = b"# ninja log v7\n"
 RECORD = f"record 1 2 3 aa {hexed(b'a')}"
-FIND = f"find {hexed(b'a')}"
 # A log, the version that is asked for, lines to the writer, what each is answered, and the log that is left.
 TURNS = [
     (None, 0, ["open", "version", "rewrote", "is_open", "close", "is_open"], ["OK", "OK 5", "OK 0", "OK 1", "OK", "OK 0"], HEADER),
@@ -484,6 +493,10 @@ TURNS = [
      ["OK", "OK", "OK", "OK -1 0 -5 ffffffffffffffff", "OK"], HEADER + A + B + D),
     (HEADER, 0, ["open", f"edge 1 2 3 aa {hexed(b'x', b'y', b'z')}", "edge 1 2 3 aa", "count", "close"], ["OK", "OK", "OK", "OK 3", "OK"],
      HEADER + b"".join(b"1\t2\t3\t%s\taa\n" % it for it in (b"x", b"y", b"z"))),
+    # The intents of a command's outputs, of which one has no entry; then they are there, and the command has run for one of them.
+    (HEADER + A + B, 0, [BEGIN_A, "open", f"begin 7 0 0 cc {hexed(b'a', b'none', b'b')}", FIND, f"begin 8 0 0 cc {hexed(b'b', b'a')}", "begin 7 0 0 cc", f"record 4 5 6 cc {hexed(b'b')}",
+                         f"begin 7 0 0 cc {hexed(b'a', NAMES[1])}", "close"],
+     ["NOT_OPEN", "OK", "OK", "OK 7 7 0 ffffffffffffff33", "OK", "OK", "OK", "BAD_NAME", "OK"], HEADER + A + B + INTENT_A + INTENT_B + b"4\t5\t6\tb\tcc\n"),
     # A name that a log can't hold is refused, and no line of its edge is written.
     (HEADER, 0, ["open", *[f"record 1 2 3 aa {hexed(it)}" for it in NAMES], f"edge 1 2 3 aa {hexed(b'a', NAMES[2])}", f"dead {hexed(b'')}", f"time 5 {hexed(NAMES[1])}", "count", "close"],
      ["OK", *["BAD_NAME"] * 8, "OK 0", "OK"], HEADER),
@@ -717,6 +730,7 @@ REFUSED = [
     (HEADER + A + B, ["open", f"time 3 {hexed(b'a')}"], []),
     (HEADER + A + B, ["open", f"time 3 {hexed(b'a')}", "restat"], []),
     (HEADER + A, ["open", RECORD, "sync"], []),
+    (HEADER + A + B, ["open", f"begin 7 0 0 cc {hexed(b'a', b'b')}"], []),
 ]
 
 
@@ -856,7 +870,7 @@ def answers_of(process, line):
 
 def forks(trials, made, room):
     """A fork while the log is open: the child may free the writer and no more, and the parent's log stays open, whole and locked."""
-    refused = " ".join(["FORKED"] * 18)
+    refused = " ".join(["FORKED"] * 19)
     ways = drivers(made)
     if may_trace(trials, room):
         # A system that clears no page in a child.
@@ -1181,17 +1195,19 @@ def writes_that_fail(trials, made, room):
 # The calls of the system that a call of the writer makes, alone and where the log is shared.
 COSTS = {
     RECORD: (["write"], ["flock", "stat", "write", "flock"]),
+    BEGIN_A: (["write"], ["flock", "stat", "write", "flock"]),
+    BEGIN_A_AGAIN: ([], ["flock", "stat", "flock"]),
     "sync": (["stat", "fsync", "fsync"], ["flock", "stat", "fsync", "fsync", "flock"]),
     FIND: ([], []),
 }
 
 
 def costs(trials, made, room):
-    """How many calls of the system a record, a sync and a look-up make."""
+    """How many calls of the system a record, an intent, a sync and a look-up make."""
     log = f"{room}/costs.log"
     for is_shared in (False, True):
         write(log, HEADER + B)
-        lines = [*(["shared"] if is_shared else []), "open", RECORD, RECORD, "sync", FIND, "close"]
+        lines = [*(["shared"] if is_shared else []), "open", RECORD, RECORD, BEGIN_A, BEGIN_A_AGAIN, "sync", FIND, "close"]
         asked(["strace", "-o", f"{room}/TRACE", made["C11"]], "write", log, 0, lines)
         parts, calls = [], []
         for call in re.findall(r"(?m)^(\w+)\((\d*)", read(f"{room}/TRACE").decode()):

@@ -174,7 +174,7 @@ static void without_a_written_log(nlog *log) {
   WANT(nlog_open(log, "", 0, 0, &number) == NLOG_NO_HANDLE);
   WANT(nlog_is_open(log, &is) == NLOG_NO_HANDLE);
   WANT(nlog_text(log, 0, bytes, sizeof bytes, &len) == NLOG_NO_HANDLE && nlog_sync(log) == NLOG_NO_HANDLE);
-  WANT(nlog_record(log, "a", 1, &entry) == NLOG_NO_HANDLE);
+  WANT(nlog_record(log, "a", 1, &entry) == NLOG_NO_HANDLE && nlog_begin(log, "a", 1, 7, 8) == NLOG_NO_HANDLE);
   WANT(nlog_sync(log) == NLOG_NO_HANDLE && nlog_recompact(log) == NLOG_NO_HANDLE && nlog_restat(log, &place) == NLOG_NO_HANDLE);
   WANT(nlog_mark_dead(log, "a", 1) == NLOG_NO_HANDLE && nlog_mark_time(log, "a", 1, 5) == NLOG_NO_HANDLE && nlog_clear_marks(log) == NLOG_NO_HANDLE);
   WANT(nlog_close(log) == NLOG_NO_HANDLE);
@@ -193,6 +193,7 @@ static void without_a_writer(void) {
   WANT(nlog_writer_is_open(none, &is) == NLOG_NO_HANDLE && nlog_writer_rewrote(none, &is) == NLOG_NO_HANDLE && is);
   WANT(nlog_writer_version(none, &number) == NLOG_NO_HANDLE && number == 66);
   WANT(nlog_writer_record(none, "a", 1, &entry) == NLOG_NO_HANDLE && nlog_writer_record_edge(none, &name, 1, &entry) == NLOG_NO_HANDLE);
+  WANT(nlog_writer_begin(none, &name, 1, 7, 8) == NLOG_NO_HANDLE);
   WANT(nlog_writer_count(none, &count) == NLOG_NO_HANDLE && nlog_writer_find(none, "a", 1, &entry) == NLOG_NO_HANDLE);
   WANT(nlog_writer_at(none, 0, &entry, bytes, sizeof bytes, &name_len) == NLOG_NO_HANDLE);
   WANT(count == 77 && name_len == 88 && entry.hash == 4 && memcmp(bytes, "abcd", 4) == 0);
@@ -326,7 +327,7 @@ static bool next_request(request *to) {
   for (word = strtok(line, " \n"); word != NULL && count < 2000; word = strtok(NULL, " \n")) words[count++] = word;
   memset(to, 0, sizeof *to);
   to->word = count > 0 ? words[0] : "";
-  has_entry = strcmp(to->word, "record") == 0 || strcmp(to->word, "edge") == 0;
+  has_entry = strcmp(to->word, "record") == 0 || strcmp(to->word, "edge") == 0 || strcmp(to->word, "begin") == 0;
   has_times = strcmp(to->word, "time") == 0;
   if (has_entry && count >= 5) {
     to->entry.start_ms = (int32_t)strtol(words[1], NULL, 10);
@@ -378,6 +379,7 @@ static void write_text(const char *path, uint32_t version) {
     count = 99;
     if (is(&it, "open")) status = nlog_open(&log, bytes, len, version, &change);
     if (is(&it, "record")) status = nlog_record(&log, it.names[0].bytes, it.names[0].len, &it.entry);
+    if (is(&it, "begin")) status = nlog_begin(&log, it.names[0].bytes, it.names[0].len, it.entry.start_ms, it.entry.hash);
     if (is(&it, "check")) status = nlog_check_name(it.names[0].bytes, it.names[0].len);
     if (is(&it, "sync")) status = nlog_sync(&log);
     if (is(&it, "recompact")) status = nlog_recompact(&log);
@@ -465,6 +467,7 @@ static nlog_status call_in_child(nlog_writer *writer) {
   SAY(nlog_writer_version(writer, &number));
   SAY(nlog_writer_record(writer, "child", 5, &entry));
   SAY(nlog_writer_record_edge(writer, &name, 1, &entry));
+  SAY(nlog_writer_begin(writer, &name, 1, 7, 8));
   SAY(nlog_writer_count(writer, &size));
   SAY(nlog_writer_at(writer, 0, &entry, buffer, sizeof buffer, &size));
   SAY(nlog_writer_find(writer, "a", 1, &entry));
@@ -522,6 +525,7 @@ static void write_log(const char *log, uint32_t version) {
     if (is(&it, "open")) status = nlog_writer_open(writer);
     if (is(&it, "record")) status = nlog_writer_record(writer, it.names[0].bytes, it.names[0].len, &it.entry);
     if (is(&it, "edge")) status = nlog_writer_record_edge(writer, it.names, it.count, &it.entry);
+    if (is(&it, "begin")) status = nlog_writer_begin(writer, it.names, it.count, it.entry.start_ms, it.entry.hash);
     if (is(&it, "sync")) status = nlog_writer_sync(writer);
     if (is(&it, "recompact")) status = nlog_writer_recompact(writer);
     if (is(&it, "restat")) status = nlog_writer_restat(writer, &place);
@@ -678,6 +682,7 @@ static void refuse_call(const char *log, long at, int count) {
       if (is(&it, "open")) status = nlog_writer_open(writer);
       if (is(&it, "record")) status = nlog_writer_record(writer, it.names[0].bytes, it.names[0].len, &it.entry);
       if (is(&it, "edge")) status = nlog_writer_record_edge(writer, it.names, it.count, &it.entry);
+      if (is(&it, "begin")) status = nlog_writer_begin(writer, it.names, it.count, it.entry.start_ms, it.entry.hash);
       if (is(&it, "sync")) status = nlog_writer_sync(writer);
       if (is(&it, "recompact")) status = nlog_writer_recompact(writer);
       if (is(&it, "restat")) status = nlog_writer_restat(writer, &place);

@@ -7,7 +7,7 @@ ghost use Rattle.nl_c.specs.LoadedLogs.{IsLoadedFrom, seen};
 ghost use Rattle.nl_c.specs.Answers.{answered_at, answered_count, answered_facts, answered_find, answer_line};
 ghost use Rattle.nl_c.specs.CarriedLogs.{IsNewCarried, MadeRoom, Given, CarriedOpened, CarriedText, CarriedHeader, CarriedLine};
 ghost use Rattle.nl_c.specs.Held.{InCarried, InHandle, IsCarriedAnd, IsWrittenAnd, NoCall, loaded_in, loaded_of, table_in};
-ghost use Rattle.nl_c.specs.Written.{IsNew, Opened, Recorded, Synced, Stopped, Recompacted, Restatted, DeadMarked, TimeMarked, Cleared, IsOpenTold, Texted};
+ghost use Rattle.nl_c.specs.Written.{IsNew, Opened, Recorded, Begun, Synced, Stopped, Recompacted, Restatted, DeadMarked, TimeMarked, Cleared, IsOpenTold, Texted};
 ghost use Rattle.nl_fields.specs.Name.{IsName};
 ghost use Rattle.nl_c.specs.Statuses.{ok, bad_name, not_a_log, other_version, out_of_memory, text_in, status_text};
 
@@ -207,6 +207,26 @@ pub extern "C" fn nlog_record(handle: &mut Handle, alloc: Global, name: &[u8], s
         return status::NO_HANDLE;
     };
     let answer = held.record(name, stamp);
+    *handle = Handle::of(held);
+    answer
+}
+
+/// Adds the line of an intent to the text of an open log, where the entry of the name isn't such an intent.
+#[unsafe(no_mangle)]
+pub extern "C" fn nlog_begin(
+    handle: &mut Handle,
+    alloc: Global,
+    name: &[u8],
+    moment_ms: i32,
+    hash: u64,
+) -> u32
+    ensures call { InHandle (Begun name.now moment_ms hash) (Begun name.now moment_ms hash) result
+        handle.old.kept.log handle.new.kept.log }
+{
+    let Some(mut held) = handle.take(alloc) else {
+        return status::NO_HANDLE;
+    };
+    let answer = held.begin(alloc, name, moment_ms, hash);
     *handle = Handle::of(held);
     answer
 }
