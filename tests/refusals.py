@@ -68,6 +68,19 @@ pub fn stepped(number: u32) -> u32
     number + STEP
 }
 
+/// What there may be one more of.
+pub trait More {
+    fn more(&self, number: u32) -> u32
+        requires small { number ≤ 1000 }
+        ensures value { result ≡ number + 1 };
+}
+
+impl<T> More for T {
+    fn more(&self, number: u32) -> u32 {
+        1 + number
+    }
+}
+
 /// The larger one.
 pub fn larger(a: u32, b: u32) -> u32
     ensures value { a ≤ result }
@@ -84,6 +97,7 @@ EDITS = [
     ("a_neighbour_breaks_what_is_called", "`after_twice`, clause `value`", [("let double = doubled(number);", "let twofold = doubled(number);"), ("    double + 1", "    twofold + 1")], "LET THROUGH", ""),
     ("a_neighbour_is_called_by_its_name", "`before_two`, its one clause", [("    let two = next(number);", "    let one = next(number); let two = one;")], "LET THROUGH", ""),
     ("a_constant_is_larger", "`stepped`, clause `value`", [("const STEP: u32 = 3;", "const STEP: u32 = 4;")], "refused", "returns"),
+    ("one_more_is_two_of_each_type", "`AnyMore::more`, clause `value`", [("        1 + number", "        2 + number")], "refused", "returns"),
     ("the_other_clause_is_broken", "`larger`, clause `other`", [("if a < b { b } else { a }", "if a < b { b } else { b }")], "REFUSED ELSEWHERE", "clause-value"),
     ("a_type_is_wrong", "`larger`, clause `value`", [("if a < b { b } else { a }", "if a < b { b } else { true }")], "BAD EDIT", "it doesn't compile"),
     ("its_function_is_gone", "`thrice`, clause `value`", [("    number + STEP", "    number")], "BAD EDIT", "`thrice` is the name of 0 functions"),
