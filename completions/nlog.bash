@@ -4,7 +4,7 @@ _nlog() {
     local word=${COMP_WORDS[COMP_CWORD]} values=0 dashes='' at
     COMPREPLY=()
     if ((COMP_CWORD == 1)); then
-        mapfile -t COMPREPLY < <(compgen -W 'show check hash entries damage doubt builds hash-file record recompact restat repair replay apply
+        mapfile -t COMPREPLY < <(compgen -W 'show check hash entries damage doubt builds summary hash-file record recompact restat repair replay apply
             --help -h --version -V' -- "$word")
         return
     fi
@@ -31,7 +31,7 @@ _nlog() {
         return
     fi
     case ${COMP_WORDS[1]}:$values in
-        show:0 | check:0 | entries:0 | damage:0 | doubt:0 | builds:0 | hash-file:0 | record:0 | recompact:[01] | restat:[01] | repair:0 | replay:0 | apply:[01])
+        show:0 | check:0 | entries:0 | damage:0 | doubt:0 | builds:0 | summary:0 | hash-file:0 | record:0 | recompact:[01] | restat:[01] | repair:0 | replay:0 | apply:[01])
             compopt -o filenames 2> /dev/null
             mapfile -t COMPREPLY < <(compgen -f -- "$word")
             ;;

@@ -58,6 +58,8 @@ ROWS = [
     (["doubt", "LOG"], NO_LOG, ROOMY, None, NO_LOG),
     (["builds", "LOG"], TORN, ROOMY, None, TORN),
     (["builds", "LOG"], NO_LOG, ROOMY, None, NO_LOG),
+    (["summary", "LOG"], TORN, ROOMY, None, TORN),
+    (["summary", "LOG"], NO_LOG, ROOMY, None, NO_LOG),
     (["hash-file", "LOG"], LOG, ROOMY, None, LOG),
     (["record", "--help"], LOG, ROOMY, None, LOG),
     # The first answer that can't be written ends it, behind the open, which cuts the torn line away.

@@ -174,6 +174,7 @@ SIX, SEVEN = (b"# ninja log v%d\n1\t2\t3\tout\t8072fc2ac19230e4\nx\n" % it for i
 FOUR, FOUR_SHOWN = b"# ninja log v4\n1\t2\t3\ta\tcc\tx\n", b"1\t2\t3\ta\t72274e7a30810c7b\n"
 # Each has one command of one output, which took 1 ms.
 FILE_BUILT = INPUT_BUILT = FOUR_BUILT = NEW_BUILT = b"1\t1\t1\t1\t1\n"
+ONE_SUMMED = b"commands 1\noutputs 1\nwall 1\ntotal 1\nbusy 1\nalone 1\nparallel 1.00\nslowest 1 %s\n"
 NEW_SHOWN = b"1\t2\t3\tout\t8072fc2ac19230e4\n"
 NEW_CHECKED = b"version %d\ntotal 1\nunique 1\nskipped 1\ntorn 0\ndue no\n"
 REPLAYED = b"ok\nS2 AlreadyOpen\nlog 15\n# ninja log v5\n"
@@ -294,6 +295,11 @@ WORDS = [
     (["builds", ""], 0, b"", b""),
     (["builds", "folder"], 1, b"", CANNOT_READ),
     (["builds", "file/log"], 1, b"", CANNOT_READ),
+    (["summary"], 0, ONE_SUMMED % b"input", b""),
+    (["summary", "file"], 0, ONE_SUMMED % b"file", b""),
+    (["summary", "--", "-file"], 0, ONE_SUMMED % b"file", b""),
+    (["summary", "missing"], 0, b"", b""),
+    (["summary", "folder"], 1, b"", CANNOT_READ),
     (["damage"], 3, b"3\tskipped\t1\t-\n", b""),
     (["damage", "file"], 0, b"", b""),
     (["damage", "missing"], 0, b"", b""),
@@ -333,6 +339,11 @@ WORDS = [
     (["builds", "seven"], 0, NEW_BUILT, b""),
     (["builds", "eight"], 1, b"", OTHER_VERSION),
     (["builds", "script"], 1, b"", NO_LOG),
+    (["summary", "four"], 0, ONE_SUMMED % b"a", b""),
+    (["summary", "six"], 0, ONE_SUMMED % b"out", b""),
+    (["summary", "seven"], 0, ONE_SUMMED % b"out", b""),
+    (["summary", "eight"], 1, b"", OTHER_VERSION),
+    (["summary", "script"], 1, b"", NO_LOG),
     (["damage", "seven"], 3, b"3\tskipped\t1\t-\n", b""),
     (["damage", "eight"], 1, b"", OTHER_VERSION),
     (["--version"], 0, b"nlog 0.1.0\n", b""),
@@ -402,6 +413,7 @@ WORDS = [
     (["entries", "--log-version", "7"], 2, b"", NO_OPTION % b"entries [OPTIONS] [LOG]"),
     (["doubt", "--log-version", "7"], 2, b"", NO_OPTION % b"doubt [OPTIONS] [LOG]"),
     (["builds", "--log-version", "7"], 2, b"", NO_OPTION % b"builds [OPTIONS] [LOG]"),
+    (["summary", "--log-version", "7"], 2, b"", NO_OPTION % b"summary [OPTIONS] [LOG]"),
     (["repair", "--log-version", "7"], 2, b"", NO_LOG_NAME.replace(b"repair <LOG>", b"repair --log-version <VERSION> <LOG>")),
     (["repair", "seven", "--log-version"], 2, b"", NO_VERSION),
     (["repair", "seven", "--log-version", "4"], 2, b"", BAD_VERSION % b"4"),
@@ -440,6 +452,8 @@ WORDS = [
     (["builds", "-v", "folder"], 1, b"", CANNOT_READ + b"nlog: LOG folder: " + A_FOLDER),
     (["builds", "eight", "-v"], 1, b"", OTHER_VERSION + b"nlog: LOG eight: version 8\n"),
     (["builds", "-v"], 0, INPUT_BUILT, b""),
+    (["summary", "-v", "folder"], 1, b"", CANNOT_READ + b"nlog: LOG folder: " + A_FOLDER),
+    (["summary", "eight", "-v"], 1, b"", OTHER_VERSION + b"nlog: LOG eight: version 8\n"),
     (["damage", "-v", "folder"], 1, b"", CANNOT_READ + b"nlog: LOG folder: " + A_FOLDER),
     (["hash-file", "-v", "missing"], 1, b"", CANNOT_READ + b"nlog: FILE missing: " + NO_FILE),
     (["replay", "missing", "-v"], 1, b"", CANNOT_READ + b"nlog: SCRIPT missing: " + NO_FILE),
@@ -524,7 +538,7 @@ def try_refused(trials, program, room):
     write(f"{room}/negative", b"-1\ta")
     asking = [["show"], ["check"], ["show", "log"], ["check", "log"], ["record", "log", "1", "2", "3", "a", "c"], ["recompact", "log", "keep"], ["restat", "log", "negative"]]
     auto = [[*words, "--log-version=auto"] for words in asking]
-    others = [[word, *log] for log in ([], ["log"]) for word in ("entries", "damage", "doubt", "builds")] + [["repair", "log"]]
+    others = [[word, *log] for log in ([], ["log"]) for word in ("entries", "damage", "doubt", "builds", "summary")] + [["repair", "log"]]
     for log, why, each in [(*it, asking + auto + others) for it in REFUSED] + [(*it, asking) for it in UNASKED]:
         write(f"{room}/log", log)
         for words in [words for words in each if "log" not in words]:

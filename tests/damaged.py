@@ -1,13 +1,13 @@
 #!/usr/bin/env python3
-"""Damaged and hostile logs: what `show`, `check`, `entries`, `damage`, `builds` and `hash-file` say of each, whole and in pieces of one byte.
+"""Damaged and hostile logs: what `show`, `check`, `entries`, `damage`, `builds`, `summary` and `hash-file` say of each, whole and in pieces of one byte.
 
     python3 tests/damaged.py PROGRAM
 
 Each text is read from a file, and from standard input in pieces of one byte (those of a text of more than 70,000 bytes are longer between
 its first 1,000 bytes and its last): that is one end of a pair of sockets, on which a piece is sent when the one before was read, so that no
 read gives more. The end of the text is the end of what is sent. Both ways have to give the same: literal answers,
-taken from docs/FORMAT.md and docs/CLI.md, and where each byte of a log is replaced those of `log_format`; what `entries`, `damage` and `builds`
-print is that of `log_lines` beside. Each text is read once more as a log of version 6 or 7, its digit changed, by words that are asked for it,
+taken from docs/FORMAT.md and docs/CLI.md, and where each byte of a log is replaced those of `log_format`; what `entries`, `damage`, `builds`
+and `summary` print is that of `log_lines` beside. Each text is read once more as a log of version 6 or 7, its digit changed, by words that are asked for it,
 and by words that go by its first line. At last come names that collide in the table, which `bench/colliding_log.py` finds: they cost time,
 and change no answer.
 """
@@ -22,7 +22,7 @@ import termios
 import threading
 
 from log_format import Log, as_version, command_hash, reading_of
-from log_lines import builds_of, damage_of, entries_of
+from log_lines import builds_of, damage_of, entries_of, summary_of
 from trials import SECONDS, main, read, run, short, write
 
 BENCH = f"{os.path.dirname(os.path.dirname(os.path.abspath(__file__)))}/bench"
@@ -410,8 +410,9 @@ def answers_through(text):
     hashed = b"%x\n" % command_hash(text)
     if reading != "log":
         refusal = (1, b"", b"nlog: " + reading.encode() + b"\n")
-        return {"entries": refusal, "damage": refusal, "builds": refusal, "hash-file": hashed}
-    return {"entries": entries_of(text), "damage": found(damage_of(text)), "builds": builds_of(text), "hash-file": hashed}
+        return {"entries": refusal, "damage": refusal, "builds": refusal, "summary": refusal, "hash-file": hashed}
+    told = {"entries": entries_of(text), "damage": found(damage_of(text)), "builds": builds_of(text)}
+    return {**told, "summary": summary_of(text), "hash-file": hashed}
 
 
 def try_damage(readings):

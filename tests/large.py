@@ -184,6 +184,11 @@ def report(version, total, unique, skipped, torn, due):
     return b"version %d\ntotal %d\nunique %d\nskipped %d\ntorn %d\ndue %s\n" % (version, total, unique, skipped, torn, due)
 
 
+def summed(commands, *counts):
+    """What `summary` prints of a build whose commands have one output each."""
+    return b"commands %d\noutputs %d\nwall %d\ntotal %d\nbusy %d\nalone %d\nparallel %s\nslowest %d %s\n" % (commands, commands, *counts)
+
+
 # By docs/FORMAT.md: the hash of the command `cc<TAB>x`.
 RECORDED = line_of(b"new", (11, 12, -13, 0x72274E7A30810C7B))
 RECORD = ["--", "11", "12", "-13", "new", "cc\tx"]
@@ -202,6 +207,8 @@ def try_many(trials, program, room):
     large.want_held("damage", [])
     large.want_printed("builds", [b"1\t%d\t%d\t%d\t%d\n" % (ENTRIES, ENTRIES, ENTRIES + 6, 7 * ENTRIES)])
     large.want_printed("doubt", (b"missing\t%s\n" % name_of(it) for it in everything), 3)
+    # A command runs 7 ms, and one begins in each: so one alone runs in the first and the last of them.
+    large.want_printed("summary", [summed(ENTRIES, ENTRIES + 6, 7 * ENTRIES, ENTRIES + 6, 2, b"6.99", 7, name_of(0))])
     large.want_more()
     with open(large.log, "ab") as it:
         it.write(b"1\t2\t3\ttorn")
@@ -299,6 +306,9 @@ def try_long(trials, program, room):
     large.want_held("damage", damaged, 3)
     # Each command has a hash of its own, and runs from before 0 as long behind it.
     large.want_printed("builds", [b"1\t%d\t%d\t%d\t%d\n" % (1_600, 1_600, 2 * 1_599, 1_599 * 1_600)])
+    # The last runs 2 x 1,599 ms, and the one before it 2 x 1,598 of these.
+    name = entry_of(list(long_lines(random.Random(SEED)))[-1][:-1], 5)[0]
+    large.want_printed("summary", [summed(1_600, 2 * 1_599, 1_599 * 1_600, 2 * 1_599, 2, b"800.00", 2 * 1_599, name)])
     large.want_log(["repair", large.log], log_of_table(table))
     large.want_log(["record", large.log, *RECORD], chain(log_of_table(table), [RECORDED]))
     table[b"new"] = 11, 12, -13, 0x72274E7A30810C7B
@@ -352,6 +362,7 @@ def try_builds(trials, program, room):
     make(large.log, chain([HEADER], (line_of(name_of(it), (-it, ENTRIES - it, it, it % 7)) for it in range(ENTRIES))))
     large.want_sizes(large.log)
     large.want_printed("builds", (b"%d\t1\t1\t%d\t%d\n" % (it + 1, ENTRIES, ENTRIES) for it in range(ENTRIES)))
+    large.want_printed("summary", [summed(1, ENTRIES, ENTRIES, ENTRIES, ENTRIES, b"1.00", ENTRIES, name_of(ENTRIES - 1))])
 
 
 def try_hash(trials, program, room):

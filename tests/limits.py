@@ -22,7 +22,7 @@ from trials import main, read, run, write
 CANNOT_READ = (1, b"", b"nlog: cannot read\n")
 FOLDER_FAILED = (1, b"", b"nlog: the folder failed\n")
 DONE = (0, b"", b"")
-COMMANDS = ("show", "check", "hash", "entries", "damage", "doubt", "builds", "hash-file", "record", "recompact", "restat", "repair", "replay", "apply")
+COMMANDS = ("show", "check", "hash", "entries", "damage", "doubt", "builds", "summary", "hash-file", "record", "recompact", "restat", "repair", "replay", "apply")
 SMALL = HEADER + b"1\t2\t3\ta\taa\n4\t5\t6\tb\tbb\n"
 # By docs/FORMAT.md: the hash of the command `cc<TAB>x`.
 COMMAND, HASH = "cc\tx", 0x72274E7A30810C7B
@@ -138,6 +138,7 @@ def try_words(trials, program, room):
         ["damage", "--", "LOG", "b"],
         ["doubt", "--", "LOG", "b"],
         ["builds", "--", "LOG", "b"],
+        ["summary", "--", "LOG", "b"],
         ["hash-file", "--", "FILE", "b"],
         ["repair", "--", "LOG", "b"],
         ["replay", "--", "SCRIPT", "b"],
@@ -252,7 +253,7 @@ def without_rights():
 RECORD = ["record", "LOG", "1", "2", "3", "new", COMMAND]
 RECOMPACT, RESTAT = ["recompact", "LOG", "KEEP"], ["restat", "LOG", "TIMES"]
 SHOW, CHECK, REPAIR = ["show", "LOG"], ["check", "LOG"], ["repair", "LOG"]
-READS = (SHOW, CHECK, ["entries", "LOG"], ["damage", "LOG"], ["doubt", "LOG"], ["builds", "LOG"], ["hash-file", "LOG"])
+READS = (SHOW, CHECK, ["entries", "LOG"], ["damage", "LOG"], ["doubt", "LOG"], ["builds", "LOG"], ["summary", "LOG"], ["hash-file", "LOG"])
 WRITES = (RECORD, RECOMPACT, RESTAT, REPAIR)
 SECRETS = (["recompact", "LOG", "SECRET"], ["restat", "LOG", "SECRET"], ["replay", "SECRET"], ["hash-file", "SECRET"])
 RIGHTS = [
@@ -275,6 +276,7 @@ MAY = [
     (0o500, 0o400, ["entries", "LOG"], SMALL[len(HEADER) :], SMALL),
     (0o500, 0o400, ["damage", "LOG"], b"", SMALL),
     (0o500, 0o400, ["builds", "LOG"], b"1\t2\t2\t4\t2\n", SMALL),
+    (0o500, 0o400, ["summary", "LOG"], b"commands 2\noutputs 2\nwall 4\ntotal 2\nbusy 2\nalone 2\nparallel 0.50\nslowest 1 a\n", SMALL),
     (0o500, 0o400, ["hash-file", "LOG"], b"%x\n" % command_hash(SMALL), SMALL),
     (0o700, None, REPAIR, b"", HEADER),
     (0o700, 0o600, REPAIR, b"", SMALL),

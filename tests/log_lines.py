@@ -1,4 +1,4 @@
-"""What `entries`, `damage` and `builds` print, read from docs/CLI.md and docs/FORMAT.md, and which lines are entries from `log_format`."""
+"""What `entries`, `damage`, `builds` and `summary` print, read from docs/CLI.md and docs/FORMAT.md, and which lines are entries from `log_format`."""
 from log_format import HEADER, MAX_LINE, entry_of, line_of
 
 
@@ -82,3 +82,30 @@ def builds_of(text):
         commands = commands_of(entries)
         told.append(b"%d\t%d\t%d\t%d\t%d\n" % (number, len(commands), len(entries), wall_of(commands), total_of(commands)))
     return b"".join(told)
+
+
+def time_where(commands, holds):
+    """The milliseconds in which so many commands run as the test wants."""
+    moments = sorted({it for start, end, _ in commands for it in (start, end)})
+    pairs = zip(moments, moments[1:])
+    return sum(to - at for at, to in pairs if holds(sum(start <= at < end for start, end, _ in commands)))
+
+
+def slowest_of(entries):
+    """The time and the first output of the first command that took the longest."""
+    firsts = [it for at, it in enumerate(entries) if at == 0 or len(commands_of(entries[at - 1 : at + 1])) == 2]
+    name, (start, end, _, _) = max(firsts, key=lambda it: max(0, it[1][1] - it[1][0]))
+    return max(0, end - start), name
+
+
+def summary_of(text):
+    """What `summary` prints of a log: of its last build."""
+    found = entries_by_build(text)
+    if not found:
+        return b""
+    commands = commands_of(found[-1])
+    wall, total = wall_of(commands), total_of(commands)
+    busy, alone = time_where(commands, lambda count: count > 0), time_where(commands, lambda count: count == 1)
+    parallel = b"%d.%02d" % divmod(total * 100 // wall, 100) if wall else b"0.00"
+    counts = (len(commands), len(found[-1]), wall, total, busy, alone, parallel, *slowest_of(found[-1]))
+    return b"commands %d\noutputs %d\nwall %d\ntotal %d\nbusy %d\nalone %d\nparallel %s\nslowest %d %s\n" % counts

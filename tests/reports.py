@@ -4,7 +4,7 @@
     python3 tests/reports.py PROGRAM
 
 What each has to print is worked out here from the page and docs/FORMAT.md: the entries of the last build, each command once with its time,
-the trace (whose JSON is read by Python's own), dates, and two logs compared. `builds` prints what is worked out by hand. A script that can't do its work has to print nothing
+the trace (whose JSON is read by Python's own), dates, and two logs compared. `builds` and `summary` print what is worked out by hand. A script that can't do its work has to print nothing
 and to end with another status than 0: where the log is missing, is none, or can't be read, where there is no room for its files, and where
 these may grow to so many bytes and no further. Each awk that is there is tried: mawk, gawk, that of busybox and the one true awk. Wants
 GNU's date, and iconv.
@@ -20,7 +20,7 @@ import sys
 
 from examples import read_page
 from log_format import HEADER, Log, as_version, line_of
-from log_lines import builds_of, entries_of
+from log_lines import builds_of, entries_of, summary_of
 from trials import main, read, run, write
 
 AWKS = {"mawk": ["mawk"], "gawk": ["gawk"], "busybox": ["busybox", "awk"], "original-awk": ["original-awk"]}
@@ -71,6 +71,19 @@ BUILT = {
     "version 4": b"1\t1\t1\t1\t1\n2\t1\t1\t1\t1\n",
     "many builds": b"".join(b"%d\t10\t10\t14\t50\n" % it for it in range(1, 100)) + b"100\t5\t5\t9\t25\n",
 }
+# What `summary` has to print of each, by hand: commands, outputs, wall, total, busy, alone, parallel, slowest. Of `odd names` the script works it out.
+SUMMED = {
+    "no bytes": None,
+    "a header": None,
+    # Its last build: 0 to 5 three commands of two hashes run, from 3 four, and from 5 to 9 one.
+    "several outputs": (6, 6, 9, 21, 9, 4, b"2.33", 5, b"x"),
+    # Nothing runs from -5 to 0, and three at most at a time. Twice the wall is 9 ms more than the total.
+    "odd numbers": (6, 6, 4294967295, 8589934581, 4294967290, 2147483644, b"1.99", 2147483647, b"last"),
+    "version 4": (1, 1, 1, 1, 1, 1, b"1.00", 1, b"b"),
+    # Five, from 0 to 9, each a millisecond behind the other and 5 ms long: 0 to 1 and 8 to 9 one runs.
+    "many builds": (5, 5, 9, 25, 9, 2, b"2.77", 5, b"o3"),
+}
+KEYS = b"commands %d\noutputs %d\nwall %d\ntotal %d\nbusy %d\nalone %d\nparallel %s\nslowest %d %s\n"
 # Two logs, by the lines that differ: hashes that an awk may take for one number, names that are numbers.
 OLD = HEADER + b"0\t5\t1\ta\t1e5\n0\t5\t1\tb\t100\n0\t5\t1\tc\tab\n0\t5\t1\t1e5\t7\n0\t5\t1\tgone\t0\n"
 NEW = HEADER + b"0\t7\t1\ta\t100000\n0\t7\t1\tb\t100\n-4\t7\t9\tc\tac\n0\t7\t1\t100000\t7\n0\t0\t1\tnew\t0\n"
@@ -220,13 +233,16 @@ class Reports:
 
 
 def try_builds(trials, program, room):
-    """What `builds` prints, by hand, of each version, and beside the page."""
+    """What `builds` and `summary` print, by hand, of each version."""
     trials.want("the logs of which builds are told", set(BUILT), set(LOGS))
     for kind, text in LOGS.items():
         trials.want(f"{kind}: builds by docs/FORMAT.md", builds_of(text), BUILT[kind])
         for version in (5, 6, 7):
             write(f"{room}/LOG", as_version(text, version))
             trials.want(f"{kind}, version {version}: builds", run([program, "builds", f"{room}/LOG"]), (0, BUILT[kind], b""))
+            trials.want(f"{kind}, version {version}: summary", run([program, "summary", f"{room}/LOG"]), (0, summary_of(text), b""))
+    for kind, counts in SUMMED.items():
+        trials.want(f"{kind}: the summary by docs/FORMAT.md", summary_of(LOGS[kind]), KEYS % counts if counts else b"")
 
 
 def limit(most):

@@ -1,15 +1,15 @@
 -- The numbers of a build, entry by entry, and the commands of all builds.
-use Rattle.std.proofs.Common.{◌≡◌, ◌∙◌, ℕ, ◌+◌, ◌-◌, ◌<◌, ◌≤◌, ◌^◌, min, max, Bool, true, false, not, List, [], ◌∷◌, ◌++◌, length, map, Option, Some, None}
-use Rattle.std.proofs.Common.{refl, sym, ap, subst, arith, append-nil, append_assoc, length-append}
-use Rattle.std.specs.Prelude.{if◌then◌else◌, IfOk}
+use Rattle.std.proofs.Common.{◌≡◌, ◌∙◌, ℕ, ◌+◌, ◌<◌, ◌^◌, min, max, Bool, true, false, not, List, [], ◌∷◌, ◌++◌, length, map, None}
+use Rattle.std.proofs.Common.{refl, sym, ap, arith, append-nil, length-append}
+use Rattle.std.specs.Prelude.{if◌then◌else◌}
 use Rattle.std.specs.List.{flat_map, fold, sum_by}
 use Rattle.std.proofs.lemmas.Bool.Decides.{nat_tests}
 use Rattle.std.proofs.lemmas.List.{map-append}
 use Rattle.std.proofs.lemmas.List.Sums.{fold_push, sum_by_push}
 use Rattle.nl_fields.specs.declared.entry.Entry.{Entry}
-use Rattle.nl_report.specs.Runs.{Run, items, one, longer, placed, runs}
+use Rattle.nl_report.specs.Runs.{Run, items, one, longer, placed}
 use Rattle.nl_report.specs.Commands.{commands, falls_after, is_other_command, is_same_command, span_of, time_of, time_of_command}
-use Rattle.nl_report.specs.Builds.{build_of, builds, first_start, is_border, last_end, numbers_of, total_time}
+use Rattle.nl_report.specs.Builds.{build_of, builds, first_start, is_border, last_end, total_time}
 use Rattle.nl_report.specs.BuildSteps.{AreHeld, HasLast, IsCurrent}
 use Rattle.nl_report.specs.declared.builds.Build.{Build}
 use Rattle.nl_report.specs.declared.builds.Current.{Current}

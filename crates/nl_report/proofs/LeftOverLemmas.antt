@@ -1,14 +1,14 @@
 -- How little is left over where shares don't come out even.
-use Rattle.std.proofs.Common.{◌≡◌, ◌∙◌, ℕ, zero, suc, ◌+◌, ◌-◌, ◌*◌, ◌%◌, ◌<◌, ◌≤◌, ◌==◌, ◌&&◌, leb, ltb, Bool, true, false, cond, List, [], ◌∷◌}
-use Rattle.std.proofs.Common.{refl, sym, ap, arith, inl, inr}
-use Rattle.std.specs.Prelude.{count_by, nat_le, nat_lt, if◌then◌else◌}
+use Rattle.std.proofs.Common.{◌≡◌, ◌∙◌, ℕ, zero, suc, ◌-◌, ◌*◌, ◌≤◌, false, List, [], ◌∷◌}
+use Rattle.std.proofs.Common.{refl, arith, inl, inr}
+use Rattle.std.specs.Prelude.{if◌then◌else◌}
 use Rattle.std.specs.List.{All, sum_by}
 use Rattle.std.proofs.lemmas.Bool.{cases_lt}
 use Rattle.std.proofs.lemmas.Bool.Decides.{eqb_tells, nat_tests}
 use Rattle.std.proofs.lemmas.List.Elements.{All-head, All-tail}
 use Rattle.std.proofs.lemmas.List.Sums.{sum_by-cons}
 use Rattle.nl_report.specs.declared.span.Span.{Span}
-use Rattle.nl_report.specs.Sweep.{before, runs_at, running, parts, left_of, last_moment, left_over}
+use Rattle.nl_report.specs.Sweep.{before, runs_at, running, left_of, last_moment, left_over}
 use Rattle.nl_report.proofs.SweepLemmas.{before-same, before-swap, before-within, counted}
 use Rattle.nl_report.proofs.SharesLemmas.{before-beyond, below_last}
 

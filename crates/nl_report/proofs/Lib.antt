@@ -6,3 +6,4 @@ mod SweepStepLemmas
 mod SharesLemmas
 mod LeftOverLemmas
 mod LastBuildLemmas
+mod SummaryLemmas

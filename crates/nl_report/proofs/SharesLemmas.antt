@@ -1,9 +1,9 @@
 -- The shares of commands, by their starts and ends in order.
-use Rattle.std.proofs.Common.{◌≡◌, ◌∙◌, ℕ, zero, suc, ◌+◌, ◌-◌, ◌*◌, ◌<◌, ◌≤◌, ◌^◌, ◌&&◌, max, leb, ltb, Bool, true, false, cond, List, [], ◌∷◌, length, map, take, get_or}
-use Rattle.std.proofs.Common.{refl, sym, ap, subst, arith, inl, inr, Result, Ok, Err}
-use Rattle.std.specs.Prelude.{count_by, nat_le, nat_lt, if◌then◌else◌}
+use Rattle.std.proofs.Common.{◌≡◌, ◌∙◌, ℕ, zero, suc, ◌+◌, ◌-◌, ◌<◌, ◌≤◌, ◌^◌, max, false, cond, List, [], ◌∷◌, length, map, get_or}
+use Rattle.std.proofs.Common.{refl, sym, ap, subst, arith, inl, inr, Ok, Err}
+use Rattle.std.specs.Prelude.{count_by, nat_le, if◌then◌else◌}
 use Rattle.std.specs.List.{All, Contains, fold}
-use Rattle.std.specs.List.Sorted.{IsBinarySearchResult, IsPermutation}
+use Rattle.std.specs.List.Sorted.{IsBinarySearchResult}
 use Rattle.std.specs.Ordering.{nat_cmp}
 use Rattle.std.proofs.lemmas.Bool.{cases_lt}
 use Rattle.std.proofs.lemmas.Bool.Decides.{nat_tests}
@@ -14,7 +14,7 @@ use Rattle.std.proofs.lemmas.List.Sums.{sum_by-cons}
 use Rattle.nl_report.specs.declared.span.Span.{Span}
 use Rattle.nl_report.specs.declared.shares.Shares.{Shares}
 use Rattle.nl_report.specs.Sweep.{before, runs_at, running, share_of, any_of, alone_of, last_moment, busy_time, alone_time, weight}
-use Rattle.nl_report.specs.SweepSteps.{AreSums, IsSwept, Rises, running_by, shares_before}
+use Rattle.nl_report.specs.SweepSteps.{Rises, running_by, shares_before}
 use Rattle.nl_report.specs.Shares.{AreSharesOf, began_of, closed_of}
 use Rattle.nl_report.proofs.SweepLemmas.{before-same, before-within}
 

@@ -1,13 +1,13 @@
 -- Sums over moments, and the weighted times of commands.
-use Rattle.std.proofs.Common.{◌≡◌, ◌∙◌, ℕ, zero, suc, ◌+◌, ◌-◌, ◌*◌, ◌/◌, ◌%◌, ◌==◌, ◌<◌, ◌≤◌, ◌&&◌, leb, ltb, max, Bool, true, false, cond, List, [], ◌∷◌, ◌++◌, length, map}
-use Rattle.std.proofs.Common.{refl, sym, ap, subst, arith, inl, inr, add-zero, add-suc}
+use Rattle.std.proofs.Common.{◌≡◌, ◌∙◌, ℕ, zero, suc, ◌+◌, ◌*◌, ◌<◌, ◌≤◌, ◌&&◌, Bool, true, false, cond, List, [], ◌∷◌}
+use Rattle.std.proofs.Common.{refl, sym, ap, arith, inl, inr, add-zero, add-suc}
 use Rattle.std.specs.Prelude.{if◌then◌else◌, count_by, nat_le, nat_lt}
-use Rattle.std.specs.List.{fold, sum_by}
+use Rattle.std.specs.List.{sum_by}
 use Rattle.std.proofs.lemmas.Bool.{cases_lt}
 use Rattle.std.proofs.lemmas.Bool.Decides.{nat_tests, eqb_tells}
 use Rattle.std.proofs.lemmas.List.Sums.{sum_by-cons}
 use Rattle.nl_report.specs.declared.span.Span.{Span}
-use Rattle.nl_report.specs.Sweep.{before, runs_at, running, parts, share_of, left_of, any_of, alone_of, last_moment, busy_time, alone_time, weight, left_over}
+use Rattle.nl_report.specs.Sweep.{before, runs_at, running, parts, share_of, left_of, any_of, last_moment, busy_time, weight, left_over}
 
 -- ---- sums over moments
 

@@ -1,12 +1,12 @@
 -- The steps of a sweep.
-use Rattle.std.proofs.Common.{◌≡◌, ◌∙◌, ℕ, zero, suc, ◌+◌, ◌-◌, ◌*◌, ◌<◌, ◌≤◌, ◌^◌, leb, Bool, true, false, cond, List, [], ◌∷◌, ◌++◌, length, map, take, get_or}
-use Rattle.std.proofs.Common.{refl, sym, ap, subst, arith, add-one, inl, inr}
+use Rattle.std.proofs.Common.{◌≡◌, ◌∙◌, ℕ, zero, suc, ◌+◌, ◌-◌, ◌*◌, ◌<◌, ◌≤◌, true, false, cond, List, [], ◌∷◌, ◌++◌, length, map, take, get_or}
+use Rattle.std.proofs.Common.{sym, ap, arith, inl, inr}
 use Rattle.std.specs.Prelude.{count_by, nat_le}
 use Rattle.std.proofs.lemmas.Bool.{cases_lt}
 use Rattle.std.proofs.lemmas.Bool.Decides.{nat_tests}
 use Rattle.std.proofs.lemmas.List.{map_more}
 use Rattle.std.proofs.lemmas.List.Sums.{sum_by-cons}
-use Rattle.nl_report.specs.Sweep.{before, share_of, any_of, alone_of, parts}
+use Rattle.nl_report.specs.Sweep.{before, share_of, any_of, alone_of}
 use Rattle.nl_report.specs.SweepSteps.{AreSums, IsLow, IsSwept, Rises, running_by, shares_before}
 use Rattle.nl_report.specs.declared.sweep.Sums.{Sums}
 use Rattle.nl_report.specs.declared.sweep.Sweeping.{Sweeping}

@@ -1,5 +1,5 @@
 -- The text of entries, line by line.
-use Rattle.std.proofs.Common.{◌≡◌, ◌≢◌, ◌∙◌, ℕ, ◌+◌, ◌<◌, ◌==◌, nat_eq, Bool, true, false, List, [], ◌∷◌, ◌++◌, ◌-◌, get_or, length, take, drop, map, Option, Some, None}
+use Rattle.std.proofs.Common.{◌≡◌, ◌≢◌, ◌∙◌, ℕ, ◌+◌, ◌<◌, ◌==◌, List, [], ◌∷◌, ◌++◌, get_or, length, take, drop, Option, Some}
 use Rattle.std.proofs.Common.{refl, sym, ap, subst, inl, inr, arith, append-nil, append_assoc, length-append}
 use Rattle.std.specs.Prelude.{All, position}
 use Rattle.std.specs.List.{position_or_len}
@@ -11,7 +11,7 @@ use lib.Seq.{take-append_seam}
 use Rattle.nl_fields.specs.declared.entry.Entry.{Entry}
 use Rattle.nl_fields.specs.EntryLine.{IsEntry, entry_of, line_of}
 use Rattle.nl_fields.proofs.LineOfLemmas.{entry_of-line_of}
-use Rattle.nl_lines.specs.Split.{NoNewline, joined, with_newline}
+use Rattle.nl_lines.specs.Split.{NoNewline}
 use Rattle.nl_lines.proofs.SplitLemmas.{with_newline-append}
 use Rattle.nl_table.specs.Log.{LogReading, Log, NotALog, OtherVersion, log_of}
 use Rattle.nl_table.specs.LogText.{lines_of_entries}
@@ -21,10 +21,8 @@ use Rattle.nl_print.specs.Output.{IsTextAsRead}
 use Rattle.nl_print.specs.Streams.{entries_text, entries_text_of}
 use Rattle.nl_print.specs.VersionOf.{as_five}
 use Rattle.nl_report.specs.Runs.{Run, placed}
-use Rattle.nl_report.specs.Builds.{build_line, build_of, builds, builds_text, builds_text_of, is_border, lines_from}
-use Rattle.nl_report.specs.BuildSteps.{AreHeld}
+use Rattle.nl_report.specs.Builds.{build_line, builds, is_border, lines_from, report_of}
 use Rattle.nl_report.specs.declared.builds.Build.{Build}
-use Rattle.nl_report.specs.declared.builds.Current.{Current}
 use Rattle.nl_report.proofs.RunLemmas.{runs-push}
 
 -- ---- the first line
@@ -124,20 +122,21 @@ build_more bs i d text new number within count before after =
     ∙ ap (λ (m : ℕ). lines_from 1 (take i bs) ++ build_line m (get_or bs i d)) (sym place)
     ∙ sym (lines-more 1 (take i bs) (get_or bs i d)) ∙ ap (lines_from 1) (sym (take_more bs i d within))
 
-pub builds_told : (known : Option (List ℕ)) (text : List ℕ) (found : List Build) (lines : List ℕ)
+-- ---- a text of the builds of what was read
+
+pub report_told : (told : List (Run Entry) → List ℕ) (known : Option (List ℕ)) (text lines : List ℕ)
     → IsTextAsRead (λ bs. entries_text_of (as_five bs)) known text
-    → ((es : List Entry) → All IsEntry es → text ≡ lines_of_entries es → found ≡ map build_of (builds es)) → lines ≡ lines_from 1 found
-    → IsTextAsRead builds_text_of known lines
-builds_told known text found lines read builds_are lines_are = record {
+    → ((es : List Entry) → All IsEntry es → text ≡ lines_of_entries es → lines ≡ told (builds es))
+    → IsTextAsRead (λ bs. report_of told (log_of (as_five bs))) known lines
+report_told told known text lines read lines_are = record {
   bytes = read.bytes;
   given = read.given;
   is = go (log_of (as_five read.bytes)) refl read.is;
 }
   where
-    go : (r : LogReading) → log_of (as_five read.bytes) ≡ r → entries_text r ≡ Some text → builds_text r ≡ Some lines
+    go : (r : LogReading) → log_of (as_five read.bytes) ≡ r → entries_text r ≡ Some text → report_of told r ≡ Some lines
     go OtherVersion reads none = absurd (cc none)
     go NotALog reads none = absurd (cc none)
     go (Log v es) reads some =
         let same : lines_of_entries es ≡ text = cc some in
-        ap (λ (l : List ℕ). Some l)
-        (ap (lines_from 1) (sym (builds_are es (log_valid (as_five read.bytes) v es reads) (sym same))) ∙ sym lines_are)
+        ap (λ (l : List ℕ). Some l) (sym (lines_are es (log_valid (as_five read.bytes) v es reads) (sym same)))

@@ -54,11 +54,15 @@ abbrev pub lines_from : ℕ → List Build → List ℕ
 lines_from number [] = []
 lines_from number (b ∷ bs) = build_line number b ++ lines_from (number + 1) bs
 
--- the text of `builds`; none where there is no log
-abbrev pub builds_text : LogReading → Option (List ℕ)
-builds_text (Log version entries) = Some (lines_from 1 (map build_of (builds entries)))
-builds_text OtherVersion = None
-builds_text NotALog = None
+-- a text of the builds of a log; none where there is no log
+abbrev pub report_of : (List (Run Entry) → List ℕ) → LogReading → Option (List ℕ)
+report_of told (Log version entries) = Some (told (builds entries))
+report_of told OtherVersion = None
+report_of told NotALog = None
+
+-- the text of `builds`
+abbrev pub builds_text : List (Run Entry) → List ℕ
+builds_text bs = lines_from 1 (map build_of bs)
 
 abbrev pub builds_text_of : List ℕ → Option (List ℕ)
-builds_text_of bytes = builds_text (log_of (as_five bytes))
+builds_text_of bytes = report_of builds_text (log_of (as_five bytes))

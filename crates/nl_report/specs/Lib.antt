@@ -4,5 +4,6 @@ pub mod Builds
 pub mod BuildSteps
 pub mod LastBuild
 pub mod Sweep
+pub mod Summary
 pub mod SweepSteps
 pub mod Shares

@@ -1,5 +1,5 @@
 -- The runs of a list: neighbours that no border parts.
-use Rattle.std.specs.Prelude.{ℕ, Bool, List, [], ◌∷◌, ◌++◌, if◌then◌else◌}
+use Rattle.std.specs.Prelude.{Bool, List, [], ◌∷◌, ◌++◌, if◌then◌else◌}
 use Rattle.std.specs.List.{flat_map, fold}
 
 -- a run: the elements before its last one, and that
@@ -10,6 +10,14 @@ pub record Run (A : Type 0) : Type 0 where
 -- its elements in order
 abbrev pub items : {A : Type 0} → Run A → List A
 items r = r.before ++ r.last ∷ []
+
+-- its first element
+abbrev pub first_in : {A : Type 0} → List A → A → A
+first_in [] last = last
+first_in (x ∷ before) last = x
+
+abbrev pub first_of : {A : Type 0} → Run A → A
+first_of r = first_in r.before r.last
 
 -- a run of one element, and a run with one element more
 abbrev pub one : {A : Type 0} → A → Run A

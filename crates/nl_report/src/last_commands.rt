@@ -1,5 +1,5 @@
 //! When each command of the last build ran.
-ghost use Rattle.std.specs.Prelude.{◌≡◌, List, IfOk, OnOk, Some};
+ghost use Rattle.std.specs.Prelude.{◌≡◌, ◌++◌, ◌∷◌, [], List, IfOk, OnOk, Some};
 ghost use Rattle.std.specs.List.{All};
 ghost use Rattle.nl_fields.specs.EntryLine.{IsEntry, entry_of};
 ghost use Rattle.nl_fields.specs.declared.entry.Entry.{Entry};
@@ -7,75 +7,122 @@ ghost use Rattle.nl_table.specs.LogText.{lines_of_entries};
 ghost use Rattle.nl_report.specs.Runs.{Run, placed};
 ghost use Rattle.nl_report.specs.Builds.{builds, is_border};
 ghost use Rattle.nl_report.specs.Commands.{IsEarly, span_of};
-ghost use Rattle.nl_report.specs.LastBuild.{AreLast};
+ghost use Rattle.nl_report.specs.LastBuild.{AreLast, is_slower, slower_of};
 
 use crate::entry_text::split_line;
 use crate::span::Span;
-use nl_fields::read_entry;
+use nl_fields::{Entry, EntryRef, read_entry};
 use std::alloc::{AllocError, Global};
 
-/// The commands of the last build, each by when it ran, and the last entry.
+/// The commands of the last build, each by when it ran; the first output of the slowest of them; and when the command of the
+/// last entry ran.
 #[derive(Drop)]
 pub struct LastBuild {
     pub commands: Vec<Span>,
+    pub slowest: Option<Entry>,
     pub last: Option<Span>,
 }
 
 /// The commands of the last build that these lines of entries tell, in order.
 pub fn last_build(alloc: Global, text: &[u8]) -> Result<LastBuild, AllocError>
     ensures value { (es : List Entry) → All IsEntry es → text.now ≡ lines_of_entries es
-        → IfOk result (λ found. AreLast (builds es) found.commands.items found.last) }
+        → IfOk result (λ found. AreLast (builds es) found.commands.items found.slowest found.last) }
     ensures early { IfOk result (λ found. All IsEarly found.commands.items) }
 {
     let mut found = LastBuild {
         commands: Vec::new(alloc),
+        slowest: None,
         last: None,
     };
     let mut rest = text;
     'entries: while let Some((line, later)) = split_line(rest) {
-        take_line(line, &mut found)?;
+        take_line(alloc, line, &mut found)?;
         rest = later;
     }
     Ok(found)
 }
 
 // Takes the entry of a line in.
-fn take_line(line: &[u8], found: &mut LastBuild) -> Result<(), AllocError>
+fn take_line(alloc: Global, line: &[u8], found: &mut LastBuild) -> Result<(), AllocError>
     requires early { All IsEarly found.old.commands.items }
     ensures ok { (rs : List (Run Entry)) (e : Entry) → entry_of line.now ≡ Some e
-        → AreLast rs found.old.commands.items found.old.last
-        → OnOk result (AreLast (placed is_border rs e) found.new.commands.items found.new.last) }
+        → AreLast rs found.old.commands.items found.old.slowest found.old.last
+        → OnOk result (AreLast (placed is_border rs e) found.new.commands.items found.new.slowest
+        found.new.last) }
     ensures early { OnOk result (All IsEarly found.new.commands.items) }
 {
     let Some(entry) = read_entry(line) else {
         return Ok(());
     };
     let span = Span::of(&entry);
-    add(span, found.last, &mut found.commands)?;
+    let last = found.last;
+    add(
+        alloc,
+        &entry,
+        span,
+        last,
+        &mut found.commands,
+        &mut found.slowest,
+    )?;
     found.last = Some(span);
     Ok(())
 }
 
 // An entry begins a build, or a command, or is one more output of the last command.
-fn add(span: Span, last: Option<Span>, commands: &mut Vec<Span>) -> Result<(), AllocError>
+fn add(
+    alloc: Global,
+    entry: &EntryRef<'_>,
+    span: Span,
+    last: Option<Span>,
+    commands: &mut Vec<Span>,
+    slowest: &mut Option<Entry>,
+) -> Result<(), AllocError>
     requires early { IsEarly span × All IsEarly commands.old.items }
-    ensures ok { (rs : List (Run Entry)) (e : Entry) → span ≡ span_of e
-        → AreLast rs commands.old.items last
-        → OnOk result (AreLast (placed is_border rs e) commands.new.items (Some span)) }
+    ensures ok { (rs : List (Run Entry)) → span ≡ span_of entry.now
+        → AreLast rs commands.old.items slowest.old last
+        → OnOk result (AreLast (placed is_border rs entry.now) commands.new.items slowest.new (Some span)) }
     ensures early { OnOk result (All IsEarly commands.new.items) }
 {
     let Some(before) = last else {
-        commands.push(span)?;
-        return Ok(());
+        *slowest = None;
+        return begin(alloc, entry, span, commands, slowest);
     };
     if span.falls_after(&before) {
         commands.clear();
-        commands.push(span)?;
-        return Ok(());
+        *slowest = None;
+        return begin(alloc, entry, span, commands, slowest);
     }
     if before.is_same_command(&span) {
         return Ok(());
     }
+    begin(alloc, entry, span, commands, slowest)
+}
+
+// A command begins with its first output.
+fn begin(
+    alloc: Global,
+    entry: &EntryRef<'_>,
+    span: Span,
+    commands: &mut Vec<Span>,
+    slowest: &mut Option<Entry>,
+) -> Result<(), AllocError>
+    ensures items { OnOk result (commands.new.items ≡ commands.old.items ++ span ∷ []) }
+    ensures slowest { span ≡ span_of entry.now
+        → OnOk result (slowest.new ≡ slower_of slowest.old entry.now) }
+{
     commands.push(span)?;
+    if is_slower(span, slowest) {
+        *slowest = Some(Entry::of(alloc, entry)?);
+    }
     Ok(())
+}
+
+// Whether a command is slower than the slowest before it.
+fn is_slower(span: Span, slowest: &Option<Entry>) -> bool
+    ensures value { (e : Entry) → span ≡ span_of e → result ≡ is_slower slowest.now e }
+{
+    let Some(before) = slowest else {
+        return true;
+    };
+    Span::of(&before.view()).time() < span.time()
 }

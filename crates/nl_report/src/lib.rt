@@ -7,6 +7,7 @@ mod last_commands;
 pub mod laws;
 mod shares;
 mod span;
+mod summary;
 mod sweep;
 
 pub use builds::{Build, builds_in, builds_to};
@@ -14,3 +15,4 @@ pub use entry_text::read_entries;
 pub use last_commands::{LastBuild, last_build};
 pub use shares::Shares;
 pub use span::Span;
+pub use summary::summary_to;

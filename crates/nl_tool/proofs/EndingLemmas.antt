@@ -10,7 +10,7 @@ use Rattle.nl_tool.specs.declared.program.Outcome.{Outcome}
 use Rattle.nl_tool.specs.declared.program.Outcome.TheVariants.{Done, Found}
 use Rattle.nl_words.specs.CommandLine.{IsSaid}
 use Rattle.nl_words.specs.declared.command_line.Words.{Words}
-use Rattle.nl_words.specs.declared.command_line.Words.TheVariants.{Show, Check, Hash, Entries, Damage, Doubt, Builds, HashFile, Record, Recompact, Restat}
+use Rattle.nl_words.specs.declared.command_line.Words.TheVariants.{Show, Check, Hash, Entries, Damage, Doubt, Builds, Summary, HashFile, Record, Recompact, Restat}
 use Rattle.nl_words.specs.declared.command_line.Words.TheVariants.{Repair, Replay, Apply}
 
 pub IsStatusBy_kind : (kinds : Kinds) (entered : Option (Text × List Row)) (e : Error) (status : ℕ) → HasKind kinds e
@@ -31,6 +31,7 @@ names_finding (Check log) entered said asks = absurd asks
 names_finding (Hash command) entered said asks = absurd asks
 names_finding (Entries log) entered said asks = absurd asks
 names_finding (Builds log) entered said asks = absurd asks
+names_finding (Summary log) entered said asks = absurd asks
 names_finding (HashFile file) entered said asks = absurd asks
 names_finding (Record log start end mtime name command) entered said asks = absurd asks
 names_finding (Recompact log keep) entered said asks = absurd asks

@@ -3,3 +3,4 @@ pub mod Answers
 pub mod Faults
 pub mod Ending
 pub mod Reasons
+pub mod Reports

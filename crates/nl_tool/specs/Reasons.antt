@@ -9,7 +9,7 @@ use Rattle.nl_texts.specs.Faults.{fault_text}
 use Rattle.nl_texts.specs.declared.fault.ToolFault.{ToolFault}
 use Rattle.nl_texts.specs.declared.fault.ToolFault.TheVariants as fault
 use Rattle.nl_words.specs.declared.command_line.Words.{Words}
-use Rattle.nl_words.specs.declared.command_line.Words.TheVariants.{Show, Check, Hash, Entries, Damage, Doubt, Builds, HashFile, Record, Recompact, Restat}
+use Rattle.nl_words.specs.declared.command_line.Words.TheVariants.{Show, Check, Hash, Entries, Damage, Doubt, Builds, Summary, HashFile, Record, Recompact, Restat}
 use Rattle.nl_words.specs.declared.command_line.Words.TheVariants.{Repair, Replay, Apply}
 use Rattle.nl_tool.specs.declared.reason.Place.{Place}
 use Rattle.nl_tool.specs.declared.reason.Place.TheVariants as at
@@ -63,6 +63,7 @@ read_place (Entries log) = Some (given_or_input at.Log log)
 read_place (Damage log) = Some (given_or_input at.Log log)
 read_place (Doubt log) = Some (given_or_input at.Log log)
 read_place (Builds log) = Some (given_or_input at.Log log)
+read_place (Summary log) = Some (given_or_input at.Log log)
 read_place (HashFile file) = Some (given_or_input at.Command file)
 read_place (Replay script) = Some (given_or_input at.Script script)
 read_place (Apply log script) = Some (given_or_input at.Script script)
@@ -91,6 +92,7 @@ log_place (Entries log) file = read_place (Entries log)
 log_place (Damage log) file = read_place (Damage log)
 log_place (Doubt log) file = read_place (Doubt log)
 log_place (Builds log) file = read_place (Builds log)
+log_place (Summary log) file = read_place (Summary log)
 log_place (Hash command) file = None
 log_place (HashFile path) file = None
 log_place (Replay script) file = None

@@ -28,7 +28,7 @@ pub use nl_print::{
     show_as, show_to, version_of,
 };
 pub use nl_replay::replay_to;
-pub use nl_report::builds_to;
+pub use nl_report::{builds_to, summary_to};
 pub use nl_texts::{ToolFault, status_of};
 pub use nl_words::{AskedVersion, CommandLine, Words, read_words};
 pub use notes::{Beginning, Heard, NotedReader, NotedWriter, Notes};

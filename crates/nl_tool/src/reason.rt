@@ -197,7 +197,8 @@ fn read_place<'a>(words: &Words<'a>) -> Option<Place<'a>>
         | Words::Entries(Some(log))
         | Words::Damage(Some(log))
         | Words::Doubt(Some(log))
-        | Words::Builds(Some(log)) => Some(Place::Log(log)),
+        | Words::Builds(Some(log))
+        | Words::Summary(Some(log)) => Some(Place::Log(log)),
         Words::HashFile(Some(file)) => Some(Place::Command(file)),
         Words::Replay(Some(script))
         | Words::Apply {
@@ -212,6 +213,7 @@ fn read_place<'a>(words: &Words<'a>) -> Option<Place<'a>>
         | Words::Damage(None)
         | Words::Doubt(None)
         | Words::Builds(None)
+        | Words::Summary(None)
         | Words::HashFile(None)
         | Words::Replay(None)
         | Words::Apply {
@@ -237,7 +239,8 @@ fn log_place<'a>(words: &Words<'a>, file: LogFile) -> Option<Place<'a>>
         | Words::Entries(_)
         | Words::Damage(_)
         | Words::Doubt(_)
-        | Words::Builds(_) => read_place(words),
+        | Words::Builds(_)
+        | Words::Summary(_) => read_place(words),
         Words::Hash(_) | Words::HashFile(_) | Words::Replay(_) => None,
     }
 }

@@ -1,19 +1,33 @@
 //! The words that tell what the builds of a log did, over LOG or standard input, with standard output for their text.
 ghost use Rattle.std.specs.Prelude.{IfErr};
 ghost use Rattle.nl_print.specs.Faults.{IsLogFault};
+ghost use Rattle.nl_print.specs.Output.{IsTextAsRead};
+ghost use Rattle.nl_print.specs.VersionOf.{as_five};
+ghost use Rattle.nl_table.specs.Log.{log_of};
+ghost use Rattle.nl_texts.specs.Output.{Prints};
+ghost use Rattle.nl_tool.specs.Answers.{RefusesLog};
+ghost use Rattle.nl_tool.specs.Reports.{report_text_of};
 
 use crate::files::open_log;
 use crate::notes::{NotedReader, NotedWriter, Notes};
-use nl_report::builds_to;
+use nl_report::{builds_to, summary_to};
 use nl_texts::ToolFault;
 use std::alloc::Global;
-use std::io;
+use std::io::{self, Read, Write};
 use std::rt::Runtime;
 
-// Tells of the builds of the log at this path, or of standard input.
+/// What is told of builds.
+#[derive(Clone, Copy, Drop)]
+pub enum Report {
+    Builds,
+    Summary,
+}
+
+// Tells it of the log at this path, or of standard input.
 pub fn report_in<R: Runtime>(
     rt: &R,
     alloc: Global,
+    report: Report,
     log: Option<&str>,
     notes: &mut Notes,
 ) -> Result<(), ToolFault>
@@ -25,14 +39,38 @@ pub fn report_in<R: Runtime>(
         None => None,
     };
     let answer = match file {
-        Some(file) => builds_to(alloc, NotedReader::new(file, &mut notes.heard), &mut out),
-        None if log.is_some() => builds_to(alloc, io::empty(), &mut out),
-        None => builds_to(
+        Some(file) => report_to(
             alloc,
+            report,
+            NotedReader::new(file, &mut notes.heard),
+            &mut out,
+        ),
+        None if log.is_some() => report_to(alloc, report, io::empty(), &mut out),
+        None => report_to(
+            alloc,
+            report,
             NotedReader::new(rt.reader(), &mut notes.heard),
             &mut out,
         ),
     };
     notes.written = out.failure;
     answer
+}
+
+// Tells it of the log that the reader gives.
+fn report_to<R: Read + Drop, W: Write>(
+    alloc: Global,
+    report: Report,
+    reader: R,
+    writer: &mut W,
+) -> Result<(), ToolFault>
+    ensures prints { Prints (IsTextAsRead (report_text_of report) (R.remaining reader))
+        (W.contents writer.old) (W.contents writer.new) result }
+    ensures bytes { RefusesLog (λ bs. log_of (as_five bs)) (R.remaining reader) result }
+    ensures faults { IfErr result IsLogFault }
+{
+    match report {
+        Report::Builds => builds_to(alloc, reader, writer),
+        Report::Summary => summary_to(alloc, reader, writer),
+    }
 }

@@ -60,7 +60,7 @@ entered_whole a (Some p) own e = go (find (λ s. answers_to p.0 (label_of s)) a.
 
 built_own : AllOwn (built nlog).subs
 unfolding clap_on_literals
-built_own = (record { named = inl refl; plain = refl; negates = refl; needs = λ rows h. refl }, (record { named = inr (inl refl); plain = refl; negates = refl; needs = λ rows h. refl }, (record { named = inr (inr (inl refl)); plain = refl; negates = refl; needs = λ rows h. h }, (record { named = inr (inr (inr (inl refl))); plain = refl; negates = refl; needs = λ rows h. refl }, (record { named = inr (inr (inr (inr (inl refl)))); plain = refl; negates = refl; needs = λ rows h. refl }, (record { named = inr (inr (inr (inr (inr (inl refl))))); plain = refl; negates = refl; needs = λ rows h. refl }, (record { named = inr (inr (inr (inr (inr (inr (inl refl)))))); plain = refl; negates = refl; needs = λ rows h. refl }, (record { named = inr (inr (inr (inr (inr (inr (inr (inl refl))))))); plain = refl; negates = refl; needs = λ rows h. refl }, (record { named = inr (inr (inr (inr (inr (inr (inr (inr (inl refl)))))))); plain = refl; negates = refl; needs = λ rows h. h }, (record { named = inr (inr (inr (inr (inr (inr (inr (inr (inr (inl refl))))))))); plain = refl; negates = refl; needs = λ rows h. h }, (record { named = inr (inr (inr (inr (inr (inr (inr (inr (inr (inr (inl refl)))))))))); plain = refl; negates = refl; needs = λ rows h. h }, (record { named = inr (inr (inr (inr (inr (inr (inr (inr (inr (inr (inr (inl refl))))))))))); plain = refl; negates = refl; needs = λ rows h. h }, (record { named = inr (inr (inr (inr (inr (inr (inr (inr (inr (inr (inr (inr (inl refl)))))))))))); plain = refl; negates = refl; needs = λ rows h. refl }, (record { named = inr (inr (inr (inr (inr (inr (inr (inr (inr (inr (inr (inr (inr (refl))))))))))))); plain = refl; negates = refl; needs = λ rows h. h }, tt))))))))))))))
+built_own = (record { named = inl refl; plain = refl; negates = refl; needs = λ rows h. refl }, (record { named = inr (inl refl); plain = refl; negates = refl; needs = λ rows h. refl }, (record { named = inr (inr (inl refl)); plain = refl; negates = refl; needs = λ rows h. h }, (record { named = inr (inr (inr (inl refl))); plain = refl; negates = refl; needs = λ rows h. refl }, (record { named = inr (inr (inr (inr (inl refl)))); plain = refl; negates = refl; needs = λ rows h. refl }, (record { named = inr (inr (inr (inr (inr (inl refl))))); plain = refl; negates = refl; needs = λ rows h. refl }, (record { named = inr (inr (inr (inr (inr (inr (inl refl)))))); plain = refl; negates = refl; needs = λ rows h. refl }, (record { named = inr (inr (inr (inr (inr (inr (inr (inl refl))))))); plain = refl; negates = refl; needs = λ rows h. refl }, (record { named = inr (inr (inr (inr (inr (inr (inr (inr (inl refl)))))))); plain = refl; negates = refl; needs = λ rows h. refl }, (record { named = inr (inr (inr (inr (inr (inr (inr (inr (inr (inl refl))))))))); plain = refl; negates = refl; needs = λ rows h. h }, (record { named = inr (inr (inr (inr (inr (inr (inr (inr (inr (inr (inl refl)))))))))); plain = refl; negates = refl; needs = λ rows h. h }, (record { named = inr (inr (inr (inr (inr (inr (inr (inr (inr (inr (inr (inl refl))))))))))); plain = refl; negates = refl; needs = λ rows h. h }, (record { named = inr (inr (inr (inr (inr (inr (inr (inr (inr (inr (inr (inr (inl refl)))))))))))); plain = refl; negates = refl; needs = λ rows h. h }, (record { named = inr (inr (inr (inr (inr (inr (inr (inr (inr (inr (inr (inr (inr (inl refl))))))))))))); plain = refl; negates = refl; needs = λ rows h. refl }, (record { named = inr (inr (inr (inr (inr (inr (inr (inr (inr (inr (inr (inr (inr (inr (refl)))))))))))))); plain = refl; negates = refl; needs = λ rows h. h }, tt)))))))))))))))
 
 -- a command that was entered without a fault is one of the program's, and has what it requires
 pub nlog_whole : (words : List Text) → fault_of nlog words ≡ [] → IsWhole (subcommand_of nlog words)
@@ -80,6 +80,7 @@ pub only_show : (name : Text) → IsCommandName name
     → (name ≡ codes "damage" → ⊥)
     → (name ≡ codes "doubt" → ⊥)
     → (name ≡ codes "builds" → ⊥)
+    → (name ≡ codes "summary" → ⊥)
     → (name ≡ codes "hash-file" → ⊥)
     → (name ≡ codes "record" → ⊥)
     → (name ≡ codes "recompact" → ⊥)
@@ -88,20 +89,21 @@ pub only_show : (name : Text) → IsCommandName name
     → (name ≡ codes "replay" → ⊥)
     → (name ≡ codes "apply" → ⊥)
     → name ≡ codes "show"
-only_show name (inl h) a b c d e f k m n o q r s = h
-only_show name (inr (inl h)) a b c d e f k m n o q r s = absurd (a h)
-only_show name (inr (inr (inl h))) a b c d e f k m n o q r s = absurd (b h)
-only_show name (inr (inr (inr (inl h)))) a b c d e f k m n o q r s = absurd (c h)
-only_show name (inr (inr (inr (inr (inl h))))) a b c d e f k m n o q r s = absurd (d h)
-only_show name (inr (inr (inr (inr (inr (inl h)))))) a b c d e f k m n o q r s = absurd (e h)
-only_show name (inr (inr (inr (inr (inr (inr (inl h))))))) a b c d e f k m n o q r s = absurd (f h)
-only_show name (inr (inr (inr (inr (inr (inr (inr (inl h)))))))) a b c d e f k m n o q r s = absurd (k h)
-only_show name (inr (inr (inr (inr (inr (inr (inr (inr (inl h))))))))) a b c d e f k m n o q r s = absurd (m h)
-only_show name (inr (inr (inr (inr (inr (inr (inr (inr (inr (inl h)))))))))) a b c d e f k m n o q r s = absurd (n h)
-only_show name (inr (inr (inr (inr (inr (inr (inr (inr (inr (inr (inl h))))))))))) a b c d e f k m n o q r s = absurd (o h)
-only_show name (inr (inr (inr (inr (inr (inr (inr (inr (inr (inr (inr (inl h)))))))))))) a b c d e f k m n o q r s = absurd (q h)
-only_show name (inr (inr (inr (inr (inr (inr (inr (inr (inr (inr (inr (inr (inl h))))))))))))) a b c d e f k m n o q r s = absurd (r h)
-only_show name (inr (inr (inr (inr (inr (inr (inr (inr (inr (inr (inr (inr (inr (h)))))))))))))) a b c d e f k m n o q r s = absurd (s h)
+only_show name (inl h) a b c d e f k m n o q r s t = h
+only_show name (inr (inl h)) a b c d e f k m n o q r s t = absurd (a h)
+only_show name (inr (inr (inl h))) a b c d e f k m n o q r s t = absurd (b h)
+only_show name (inr (inr (inr (inl h)))) a b c d e f k m n o q r s t = absurd (c h)
+only_show name (inr (inr (inr (inr (inl h))))) a b c d e f k m n o q r s t = absurd (d h)
+only_show name (inr (inr (inr (inr (inr (inl h)))))) a b c d e f k m n o q r s t = absurd (e h)
+only_show name (inr (inr (inr (inr (inr (inr (inl h))))))) a b c d e f k m n o q r s t = absurd (f h)
+only_show name (inr (inr (inr (inr (inr (inr (inr (inl h)))))))) a b c d e f k m n o q r s t = absurd (k h)
+only_show name (inr (inr (inr (inr (inr (inr (inr (inr (inl h))))))))) a b c d e f k m n o q r s t = absurd (m h)
+only_show name (inr (inr (inr (inr (inr (inr (inr (inr (inr (inl h)))))))))) a b c d e f k m n o q r s t = absurd (n h)
+only_show name (inr (inr (inr (inr (inr (inr (inr (inr (inr (inr (inl h))))))))))) a b c d e f k m n o q r s t = absurd (o h)
+only_show name (inr (inr (inr (inr (inr (inr (inr (inr (inr (inr (inr (inl h)))))))))))) a b c d e f k m n o q r s t = absurd (q h)
+only_show name (inr (inr (inr (inr (inr (inr (inr (inr (inr (inr (inr (inr (inl h))))))))))))) a b c d e f k m n o q r s t = absurd (r h)
+only_show name (inr (inr (inr (inr (inr (inr (inr (inr (inr (inr (inr (inr (inr (inl h)))))))))))))) a b c d e f k m n o q r s t = absurd (s h)
+only_show name (inr (inr (inr (inr (inr (inr (inr (inr (inr (inr (inr (inr (inr (inr (h))))))))))))))) a b c d e f k m n o q r s t = absurd (t h)
 
 -- an error that is passed on has the kind that it had
 pub fails_on : {T : Type 0} (r : Result T Error) (e : Error) (kinds : Kinds) → IsErrAnd r (λ x. x ≡ e)

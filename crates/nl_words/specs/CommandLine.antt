@@ -11,7 +11,7 @@ use Rattle.clap.specs.declared.error.kind.ErrorKind.TheVariants.{InvalidValue}
 use Rattle.nl_words.specs.declared.version.AskedVersion.{AskedVersion}
 use Rattle.nl_words.specs.declared.version.AskedVersion.TheVariants.{Auto, Five, Six, Seven}
 use Rattle.nl_words.specs.declared.command_line.Words.{Words}
-use Rattle.nl_words.specs.declared.command_line.Words.TheVariants.{Show, Check, Hash, Entries, Damage, Doubt, Builds, HashFile, Record, Recompact, Restat}
+use Rattle.nl_words.specs.declared.command_line.Words.TheVariants.{Show, Check, Hash, Entries, Damage, Doubt, Builds, Summary, HashFile, Record, Recompact, Restat}
 use Rattle.nl_words.specs.declared.command_line.Words.TheVariants.{Repair, Replay, Apply}
 use Rattle.std.specs.Borrow.{Bor}
 
@@ -59,6 +59,9 @@ doubt = with_rule (new_app (codes "doubt")) (positional (codes "LOG") false)
 
 abbrev pub builds : App
 builds = with_rule (new_app (codes "builds")) (positional (codes "LOG") false)
+
+abbrev pub summary : App
+summary = with_rule (new_app (codes "summary")) (positional (codes "LOG") false)
 
 abbrev pub hash_file : App
 hash_file = with_rule (with_rule (new_app (codes "hash-file")) (positional (codes "FILE") false)) version_rule
@@ -113,7 +116,7 @@ printing = with_command (with_command (with_command named show) check) hash
 
 -- and those that go through what they read
 abbrev pub telling : App
-telling = with_command (with_command (with_command (with_command (with_command printing entries) damage) doubt) builds) hash_file
+telling = with_command (with_command (with_command (with_command (with_command (with_command printing entries) damage) doubt) builds) summary) hash_file
 
 -- the program, with its commands in the order of its help
 abbrev pub nlog : App
@@ -123,9 +126,10 @@ nlog = with_command (with_command (with_command (with_command (with_command (wit
 -- the commands that the program has
 abbrev pub IsCommandName : Text → Type 0
 IsCommandName name = (name ≡ codes "show") ⊎ ((name ≡ codes "check") ⊎ ((name ≡ codes "hash")
-    ⊎ ((name ≡ codes "entries") ⊎ ((name ≡ codes "damage") ⊎ ((name ≡ codes "doubt") ⊎ ((name ≡ codes "builds") ⊎ ((name ≡ codes "hash-file")
+    ⊎ ((name ≡ codes "entries") ⊎ ((name ≡ codes "damage") ⊎ ((name ≡ codes "doubt") ⊎ ((name ≡ codes "builds")
+    ⊎ ((name ≡ codes "summary") ⊎ ((name ≡ codes "hash-file")
     ⊎ ((name ≡ codes "record") ⊎ ((name ≡ codes "recompact") ⊎ ((name ≡ codes "restat")
-    ⊎ ((name ≡ codes "repair") ⊎ ((name ≡ codes "replay") ⊎ (name ≡ codes "apply")))))))))))))
+    ⊎ ((name ≡ codes "repair") ⊎ ((name ≡ codes "replay") ⊎ (name ≡ codes "apply"))))))))))))))
 
 -- the values that a command can't be without, by its rules
 abbrev pub required_ids : List Rule → List Text
@@ -169,6 +173,7 @@ IsSaid (Entries log) (Some p) = (p.0 ≡ codes "entries") × IsGiven (codes "LOG
 IsSaid (Damage log) (Some p) = (p.0 ≡ codes "damage") × IsGiven (codes "LOG") p.1 log
 IsSaid (Doubt log) (Some p) = (p.0 ≡ codes "doubt") × IsGiven (codes "LOG") p.1 log
 IsSaid (Builds log) (Some p) = (p.0 ≡ codes "builds") × IsGiven (codes "LOG") p.1 log
+IsSaid (Summary log) (Some p) = (p.0 ≡ codes "summary") × IsGiven (codes "LOG") p.1 log
 IsSaid (HashFile file) (Some p) = (p.0 ≡ codes "hash-file") × IsGiven (codes "FILE") p.1 file
 IsSaid (Record log start end mtime name command) (Some p) = (p.0 ≡ codes "record")
     × IsThere (codes "LOG") p.1 log × IsThere (codes "START") p.1 start

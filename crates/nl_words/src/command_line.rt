@@ -20,6 +20,7 @@ pub enum Words<'a> {
     Damage(Option<&'a str>),
     Doubt(Option<&'a str>),
     Builds(Option<&'a str>),
+    Summary(Option<&'a str>),
     HashFile(Option<&'a str>),
     Record {
         log: &'a str,
@@ -137,6 +138,7 @@ fn said<'a>(matches: &ArgMatches<'a>) -> Words<'a>
         "damage" => Words::Damage(optional(inner, "LOG")),
         "doubt" => Words::Doubt(optional(inner, "LOG")),
         "builds" => Words::Builds(optional(inner, "LOG")),
+        "summary" => Words::Summary(optional(inner, "LOG")),
         "hash-file" => Words::HashFile(optional(inner, "FILE")),
         "record" => record_words(inner),
         "recompact" => recompact_words(inner),

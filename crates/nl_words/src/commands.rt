@@ -2,7 +2,7 @@
 ghost use Rattle.std.specs.Prelude.{◌≡◌, IfOk, false};
 ghost use Rattle.clap.specs.Words.{app_of, with_rule};
 ghost use Rattle.clap.specs.declared.builder.command.Command.TheViews.{out-Command};
-ghost use Rattle.nl_words.specs.CommandLine.{apply, builds, check, damage, doubt, entries, hash, hash_file, positional, recompact, record_line, record_values, repair, replay, restat, show, version_rule};
+ghost use Rattle.nl_words.specs.CommandLine.{apply, builds, check, damage, doubt, entries, hash, hash_file, positional, recompact, record_line, record_values, repair, replay, restat, show, summary, version_rule};
 
 use clap::{Arg, Command};
 use std::alloc::{AllocError, Global};
@@ -206,6 +206,28 @@ than the whole first build, and a log that was rewritten doesn't tell its builds
 build is told by
 
   nlog builds .ninja_log | tail -n 1",
+        );
+    with_value(alloc, command, "LOG", false, OPTIONAL_ANY_LOG)
+}
+
+pub fn summary_command<'a>(alloc: Global) -> Result<Command<'a>, AllocError>
+    ensures shape { IfOk result (λ c. app_of c ≡ summary) }
+    ensures local { IfOk result (λ c. (out-Command c).has_globals ≡ false) }
+{
+    let command = Command::new(alloc, "summary")
+        .about("Prints how much the last build ran, how long it took, and how much ran at a time")
+        .after_help(
+            "\
+commands  how many commands ended in it
+outputs   how many outputs these made
+wall      milliseconds from the first START to the last END
+total     the sum of the commands' times, in milliseconds
+busy      milliseconds in which one command at least ran
+alone     milliseconds in which one command alone ran
+parallel  how many commands ran at a time in the mean: total / wall, rounded down
+slowest   the command that took the longest: its milliseconds, and its first output
+
+Commands and builds are those of `builds`. Where LOG tells no build, nothing is printed.",
         );
     with_value(alloc, command, "LOG", false, OPTIONAL_ANY_LOG)
 }

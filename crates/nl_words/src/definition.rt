@@ -7,7 +7,7 @@ ghost use Rattle.nl_words.specs.CommandLine.{named, nlog, printing, telling, ver
 use crate::commands::{
     apply_command, builds_command, check_command, damage_command, doubt_command, entries_command,
     hash_command, hash_file_command, recompact_command, record_command, repair_command,
-    replay_command, restat_command, show_command,
+    replay_command, restat_command, show_command, summary_command,
 };
 use clap::{Arg, ArgAction, Command};
 use std::alloc::{AllocError, Global};
@@ -53,6 +53,7 @@ fn telling_commands<'a>(alloc: Global) -> Result<Command<'a>, AllocError>
     let nlog = with_made(alloc, nlog, damage_command(alloc))?;
     let nlog = with_made(alloc, nlog, doubt_command(alloc))?;
     let nlog = with_made(alloc, nlog, builds_command(alloc))?;
+    let nlog = with_made(alloc, nlog, summary_command(alloc))?;
     with_made(alloc, nlog, hash_file_command(alloc))
 }
 

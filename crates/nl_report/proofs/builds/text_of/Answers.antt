@@ -1,4 +1,4 @@
-use Rattle.std.proofs.Common.{◌+◌, arith}
+use Rattle.std.proofs.Common.{arith}
 use Rattle.nl_report.proofs.TextLemmas.{build_more}
 use Rattle.nl_report.proofs.builds.text_of.Goals as goal
 

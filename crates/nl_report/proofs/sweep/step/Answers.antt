@@ -1,6 +1,6 @@
-use Rattle.std.proofs.Common.{◌≡◌, ◌<◌, ◌≤◌, ◌+◌, ◌-◌, ◌++◌, ◌∷◌, [], ℕ, length, refl, arith, inl, inr, sym, get_or, ◌∙◌}
+use Rattle.std.proofs.Common.{◌<◌, ◌≤◌, ℕ, length, refl, arith, inl, inr, sym, get_or, ◌∙◌}
 use Rattle.nl_report.proofs.SweepStepLemmas.{steady_until, swept_start, swept_end}
-use Rattle.nl_report.specs.SweepSteps.{AreSums, running_by}
+use Rattle.nl_report.specs.SweepSteps.{running_by}
 use Rattle.nl_report.proofs.sweep.step.Goals as goal
 
 pub returns-then-is_start_next-clause-swept : goal.returns-then-is_start_next-clause-swept

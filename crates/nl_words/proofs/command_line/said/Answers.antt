@@ -3,7 +3,7 @@ use Rattle.clap.specs.Words.{found_of, rows_of}
 use Rattle.nl_words.proofs.DefinitionLemmas.{only_show}
 use Rattle.nl_words.proofs.ValueLemmas.{entered_has, entered_is, entered_says}
 use Rattle.nl_words.specs.CommandLine.{IsSaid, IsWhole}
-use Rattle.nl_words.specs.declared.command_line.Words.TheVariants.{Builds, Check, Damage, Doubt, Entries, HashFile, Replay, Show}
+use Rattle.nl_words.specs.declared.command_line.Words.TheVariants.{Builds, Check, Damage, Doubt, Entries, HashFile, Replay, Show, Summary}
 use Rattle.nl_words.proofs.command_line.said.Goals as goal
 
 pub hash_words-requires : goal.hash_words-requires
@@ -78,6 +78,12 @@ returns-in-builds c =
     let says = entered_says c.args.matches.now met.name.now (rows_of (found_of met.inner.now)) met.ensures.name met.ensures.rows in
     record { value = says (Builds c.optional-in-builds.result) (codes "builds") c.in-builds.is (refl, c.optional-in-builds.ensures) }
 
+pub returns-in-summary : goal.returns-in-summary
+returns-in-summary c =
+    let met = c.in-Some in
+    let says = entered_says c.args.matches.now met.name.now (rows_of (found_of met.inner.now)) met.ensures.name met.ensures.rows in
+    record { value = says (Summary c.optional-in-summary.result) (codes "summary") c.in-summary.is (refl, c.optional-in-summary.ensures) }
+
 pub returns-in-text : goal.returns-in-text
 returns-in-text c =
     let met = c.in-Some in
@@ -127,5 +133,5 @@ returns-in_default-name c =
     let e = entered_is c.args.matches.now met.name.now (rows_of (found_of met.inner.now)) met.ensures.name met.ensures.rows in
     let whole = subst IsWhole e c.requires in
     let is_show : met.name.now ≡ codes "show" = only_show _ whole.0 other.not-check other.not-hash other.not-entries other.not-damage
-    other.not-doubt other.not-builds other.not-text other.not-record other.not-recompact other.not-restat other.not-repair other.not-replay other.not-apply in
+    other.not-doubt other.not-builds other.not-summary other.not-text other.not-record other.not-recompact other.not-restat other.not-repair other.not-replay other.not-apply in
     record { value = subst (IsSaid (Show c.optional-in_default-name.result)) (sym e) (is_show, c.optional-in_default-name.ensures) }

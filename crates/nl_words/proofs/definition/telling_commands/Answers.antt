@@ -8,5 +8,6 @@ returns c =
     let three = added_as_named _ _ _ _ c.damage_command.result c.in_ok-nlog-3.ensures two c.damage_command.ensures.shape in
     let four = added_as_named _ _ _ _ c.doubt_command.result c.in_ok-nlog-4.ensures three c.doubt_command.ensures.shape in
     let five = added_as_named _ _ _ _ c.builds_command.result c.in_ok-nlog-5.ensures four c.builds_command.ensures.shape in
-    IfOk-weaker c.with_made-5.result _ _ (λ r h.
-    added_as_named _ _ _ _ c.hash_file_command.result h five c.hash_file_command.ensures.shape) c.with_made-5.ensures
+    let six = added_as_named _ _ _ _ c.summary_command.result c.in_ok-nlog-6.ensures five c.summary_command.ensures.shape in
+    IfOk-weaker c.with_made-6.result _ _ (λ r h.
+    added_as_named _ _ _ _ c.hash_file_command.result h six c.hash_file_command.ensures.shape) c.with_made-6.ensures

@@ -1,4 +1,4 @@
-use Rattle.std.proofs.Common.{◌≡◌, ◌∙◌, sym, arith}
+use Rattle.std.proofs.Common.{◌≡◌, sym}
 use Rattle.nl_report.specs.Commands.{time_of}
 use Rattle.nl_report.proofs.BuildLemmas.{current_other, current_same}
 use Rattle.nl_report.proofs.builds.Current.longer.Goals as goal

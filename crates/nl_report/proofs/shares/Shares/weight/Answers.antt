@@ -1,4 +1,4 @@
-use Rattle.std.proofs.Common.{◌≡◌, ◌∙◌, ◌-◌, ◌<◌, ap, arith, map, refl}
+use Rattle.std.proofs.Common.{◌≡◌, ◌∙◌, ◌<◌, arith}
 use Rattle.nl_report.specs.SweepSteps.{shares_before}
 use Rattle.nl_report.proofs.SharesLemmas.{end_there, ends_shares, no_weight, start_there, starts_shares, weight_is}
 use Rattle.nl_report.proofs.shares.Shares.weight.Goals as goal

@@ -1,4 +1,3 @@
-use Rattle.std.proofs.Common.{◌*◌, ◌+◌, ◌-◌}
 use Rattle.nl_report.proofs.SweepStepLemmas.{sums_advance}
 use Rattle.nl_report.proofs.sweep.Sums.advance.Goals as goal
 

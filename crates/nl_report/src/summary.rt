@@ -1,0 +1,115 @@
+//! The command `summary`.
+ghost use Rattle.std.specs.Prelude.{◌≡◌, ◌++◌, List, IfErr, IfOk, IfSome, IsErrOf, OnOk, string_bytes};
+ghost use Rattle.std.specs.List.{All};
+ghost use Rattle.nl_fields.specs.EntryLine.{IsEntry};
+ghost use Rattle.nl_fields.specs.declared.entry.Entry.{Entry};
+ghost use Rattle.nl_table.specs.Log.{log_of, NotALog, OtherVersion};
+ghost use Rattle.nl_table.specs.LogText.{lines_of_entries};
+ghost use Rattle.nl_texts.specs.Output.{Prints};
+ghost use Rattle.nl_texts.specs.declared.fault.ToolFault.{ToolFault};
+ghost use Rattle.nl_print.specs.Faults.{IsLogFault};
+ghost use Rattle.nl_print.specs.Output.{IsTextAsRead};
+ghost use Rattle.nl_print.specs.VersionOf.{as_five};
+ghost use Rattle.nl_report.specs.Builds.{builds};
+ghost use Rattle.nl_report.specs.Summary.{last_summary, ratio, slowest_line, summary_lines, summary_text_of};
+
+use crate::builds::{Build, builds_in};
+use crate::entry_text::read_entries;
+use crate::last_commands::last_build;
+use crate::shares::Shares;
+use crate::span::Span;
+use nl_fields::Entry;
+use nl_texts::{ToolFault, write_out};
+use std::alloc::{AllocError, Global};
+use std::io::{Read, Write};
+
+/// Writes eight lines on the last build of the log that the reader gives: how many commands and outputs it has, the
+/// milliseconds from its first START to its last END, the sum of the commands' times, the milliseconds in which one command at
+/// least ran and those in which one alone did, how many ran at a time in the mean, and the slowest command.
+pub fn summary_to<R: Read + Drop, W: Write>(
+    alloc: Global,
+    reader: R,
+    writer: &mut W,
+) -> Result<(), ToolFault>
+    ensures prints { Prints (IsTextAsRead summary_text_of (R.remaining reader)) (W.contents writer.old)
+        (W.contents writer.new) result }
+    ensures not_a_log { IsErrOf result ToolFault.NotALog
+        → IfSome (R.remaining reader) (λ bs. log_of (as_five bs) ≡ NotALog) }
+    ensures other_version { IsErrOf result ToolFault.OtherVersion
+        → IfSome (R.remaining reader) (λ bs. log_of (as_five bs) ≡ OtherVersion) }
+    ensures faults { IfErr result IsLogFault }
+{
+    let text = read_entries(alloc, reader)?;
+    let lines = last_told(alloc, text.as_slice())?;
+    write_out(lines.as_slice(), writer)
+}
+
+// What is told of the last build.
+fn last_told(alloc: Global, text: &[u8]) -> Result<Vec<u8>, AllocError>
+    ensures value { (es : List Entry) → All IsEntry es → text.now ≡ lines_of_entries es
+        → IfOk result (λ lines. lines.items ≡ last_summary (builds es)) }
+{
+    let mut found = builds_in(alloc, text)?;
+    let Some(build) = found.pop() else {
+        return Ok(Vec::new(alloc));
+    };
+    let ran = last_build(alloc, text)?;
+    let shares = Shares::of(alloc, ran.commands.as_slice())?;
+    let mut lines = summary_lines(alloc, &build, shares.busy(), shares.alone())?;
+    append_slowest(alloc, &ran.slowest, &mut lines)?;
+    Ok(lines)
+}
+
+// The command that took the longest, if there is one.
+fn append_slowest(
+    alloc: Global,
+    slowest: &Option<Entry>,
+    lines: &mut Vec<u8>,
+) -> Result<(), AllocError>
+    ensures items { OnOk result (lines.new.items ≡ lines.old.items ++ slowest_line slowest.now) }
+{
+    let Some(first) = slowest else {
+        return Ok(());
+    };
+    let time = Span::of(&first.view()).time();
+    let start = format!(in alloc; "slowest {time} ")?;
+    lines.extend_from_slice(start.as_bytes())?;
+    lines.extend_from_slice(first.name.bytes())?;
+    lines.push(b'\n')?;
+    Ok(())
+}
+
+fn summary_lines(alloc: Global, build: &Build, busy: u64, alone: u64) -> Result<Vec<u8>, AllocError>
+    ensures value { IfOk result (λ lines. lines.items ≡ summary_lines build.now busy alone) }
+{
+    let Build {
+        commands,
+        outputs,
+        began,
+        ended,
+        total,
+    } = build;
+    let wall = ended.saturating_sub(*began);
+    let parallel = ratio(alloc, *total, wall)?;
+    let text = format!(in alloc;
+        "commands {commands}\noutputs {outputs}\nwall {wall}\ntotal {total}\nbusy {busy}\nalone {alone}\nparallel {parallel}\n"
+    )?;
+    let mut lines = Vec::new(alloc);
+    lines.extend_from_slice(text.as_bytes())?;
+    Ok(lines)
+}
+
+// A fraction with two digits behind the point, rounded down.
+fn ratio(alloc: Global, part: u128, whole: u64) -> Result<String, AllocError>
+    ensures value { IfOk result (λ text. string_bytes text ≡ ratio part whole) }
+{
+    if whole == 0 {
+        return String::from_str(alloc, "0.00");
+    }
+    let whole = u128::from(whole);
+    let times = part / whole;
+    let hundredths = part % whole * 100 / whole;
+    let tenth = hundredths / 10;
+    let hundredth = hundredths % 10;
+    format!(in alloc; "{times}.{tenth}{hundredth}")
+}
