@@ -174,7 +174,7 @@ def trial(trials, program, room):
     text = plain(page)
     help_text = run([program, "--help"])[1].decode()
     commands = re.findall(r"(?m)^  ([a-z-]+) ", help_text[help_text.index("Commands:") : help_text.index("Options:")])
-    trials.want("the number of commands", len(commands), 14)
+    trials.want("the number of commands", len(commands), 15)
     for name in commands:
         usage = re.search(r"Usage: (.*)", run([program, name, "--help"])[1].decode())[1]
         trials.check(f"the synopsis of {name}", re.sub("[<>]", "", usage.replace("[OPTIONS] ", "")).split(" ", 1)[1] in text, usage)
