@@ -314,11 +314,15 @@ def try_lost_whole(trials, build):
     trials.check("a lost line: Ninja finds nothing to do", build.is_idle(), repr(build.why()))
     trials.want("a lost line: over a stale file", read(f"{build.room}/note"), b"n2")
     trials.want("a lost line: doubt", build.nlog("doubt", LOG), (3, b"newer\tnote\n", b""))
+    # Somebody has made the manifest by hand since.
+    build.write_log(build.text() + line_of(b"build.ninja", (0, 1, 1, 1)))
+    trials.want("a lost line: doubt of the manifest", build.nlog("doubt", LOG), (3, b"newer\tnote\nnewer\tbuild.ninja\n", b""))
     trials.want("a lost line: mend.sh ends", build.recipe("mend.sh"), (0, b"", b""))
     trials.want("a lost line: mend.sh removes the file", os.path.exists(f"{build.room}/note"), False)
+    trials.want("a lost line: mend.sh leaves the manifest", os.path.exists(f"{build.room}/build.ninja"), True)
     build.ninja()
     trials.want("a lost line: the output is that of A", read(f"{build.room}/note"), b"n1")
-    trials.want("a lost line: no doubt is left", build.nlog("doubt", LOG), (0, b"", b""))
+    trials.want("a lost line: the doubt that is left", build.nlog("doubt", LOG), (3, b"newer\tbuild.ninja\n", b""))
 
 
 def try_cut_anywhere(trials, build):
