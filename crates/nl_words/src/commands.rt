@@ -175,7 +175,7 @@ WHAT  `newer`: the file was written behind what the entry says, so the entry isn
       nothing; `no-time`: the entry has no time; `unknown`: the file can't be looked at
 NAME  the output
 
-Remove the files that are newer, and build. Their names are printed by
+Remove the files that are newer, but not `build.ninja`, and build. Their names are printed by
 
   nlog doubt .ninja_log | sed -n 's/^newer\t//p'
 
