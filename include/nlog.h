@@ -168,15 +168,18 @@ nlog_status nlog_count(const nlog *log, size_t *count);
  * always enough.
  * NLOG_NO_ROOM: the entry and name_len are filled, the buffer is as it was.
  * NLOG_NOT_FOUND: there are no more than `place` outputs. */
-nlog_status nlog_at(const nlog *log, size_t place, nlog_entry *entry, char *name, size_t room, size_t *name_len);
+nlog_status nlog_at(const nlog *log, size_t place, nlog_entry *entry,
+    char *name, size_t room, size_t *name_len);
 
 /* The last entry of an output. */
-nlog_status nlog_find(const nlog *log, const char *name, size_t len, nlog_entry *entry);
+nlog_status nlog_find(const nlog *log, const char *name, size_t len,
+    nlog_entry *entry);
 
 /* Reads one line of a log of this version, without its newline: the entry and
  * its name, as nlog_at fills them.
  * NLOG_NOT_FOUND: the line is no entry. NLOG_NO_ROOM: as of nlog_at. */
-nlog_status nlog_read_line(uint32_t version, const char *line, size_t len, nlog_entry *entry, char *name, size_t room, size_t *name_len);
+nlog_status nlog_read_line(uint32_t version, const char *line, size_t len,
+    nlog_entry *entry, char *name, size_t room, size_t *name_len);
 
 /* What a line is that is no entry. */
 typedef enum nlog_damage_kind {
@@ -210,7 +213,8 @@ typedef struct nlog_damage {
  * more if there are torn bytes. It takes time by the bytes that it goes over,
  * and no memory. Tested and not proved (lib/nlog_damage.c).
  * NLOG_NOT_FOUND: there is no further one. */
-nlog_status nlog_next_damage(uint32_t version, const void *bytes, size_t len, nlog_damage *damage);
+nlog_status nlog_next_damage(uint32_t version, const void *bytes, size_t len,
+    nlog_damage *damage);
 
 /* The hash of a command, as it stands in logs of version 5 and 6, and of
  * version 7. */
@@ -261,20 +265,23 @@ typedef enum nlog_change {
  * NLOG_ALREADY_OPEN, NLOG_BROKEN, NLOG_NOT_A_LOG, NLOG_OTHER_VERSION,
  * NLOG_OUT_OF_MEMORY, NLOG_FAULT (memory ran out in the text): nothing was
  * changed. */
-nlog_status nlog_open(nlog *log, const void *bytes, size_t len, uint32_t version, uint32_t *change);
+nlog_status nlog_open(nlog *log, const void *bytes, size_t len,
+    uint32_t version, uint32_t *change);
 
 nlog_status nlog_is_open(const nlog *log, bool *is_open);
 
 /* Writes the log's text from byte `from` on into the buffer, as much as there
  * is room for. The length of the whole text is written into len. Of a closed
  * log it is none. Of a broken one it is of no use. */
-nlog_status nlog_text(const nlog *log, uint64_t from, void *bytes, size_t room, uint64_t *len);
+nlog_status nlog_text(const nlog *log, uint64_t from, void *bytes, size_t room,
+    uint64_t *len);
 
 /* Adds the entry of an output: the text grows by one line, which you append to
  * the file.
  * NLOG_NOT_OPEN, NLOG_BROKEN, NLOG_BAD_NAME, NLOG_OUT_OF_MEMORY: nothing was
  * changed. NLOG_FAULT: the log is broken. */
-nlog_status nlog_record(nlog *log, const char *name, size_t len, const nlog_entry *entry);
+nlog_status nlog_record(nlog *log, const char *name, size_t len,
+    const nlog_entry *entry);
 
 /* Adds the intent of an output, before a command of this hash runs that makes
  * it. It is added if the log has an entry of the output that isn't such an
@@ -282,7 +289,8 @@ nlog_status nlog_record(nlog *log, const char *name, size_t len, const nlog_entr
  * what it was before (docs/FORMAT.md, "Intents"). The moment is that of now, as
  * the start of an entry.
  * Refused and answered as nlog_record is. */
-nlog_status nlog_begin(nlog *log, const char *name, size_t len, int32_t moment_ms, uint64_t hash);
+nlog_status nlog_begin(nlog *log, const char *name, size_t len,
+    int32_t moment_ms, uint64_t hash);
 
 /* NLOG_OK if the bytes are a name that a log can hold, else NLOG_BAD_NAME. */
 nlog_status nlog_check_name(const char *name, size_t len);
@@ -313,7 +321,8 @@ nlog_status nlog_mark_dead(nlog *log, const char *name, size_t len);
 
 /* Marks an output with the mtime that the next nlog_restat gives it. The last
  * mark of a name counts. It is refused as nlog_mark_dead is. */
-nlog_status nlog_mark_time(nlog *log, const char *name, size_t len, int64_t mtime);
+nlog_status nlog_mark_time(nlog *log, const char *name, size_t len,
+    int64_t mtime);
 
 nlog_status nlog_clear_marks(nlog *log);
 
@@ -374,7 +383,8 @@ typedef struct nlog_name {
  * touched. `version`: as in nlog_open.
  * NLOG_OUT_OF_MEMORY, and NLOG_OTHER_VERSION if the number is none of these:
  * *writer is NULL. */
-nlog_status nlog_writer_new(nlog_writer **writer, const char *path, uint32_t version);
+nlog_status nlog_writer_new(nlog_writer **writer, const char *path,
+    uint32_t version);
 
 /* Frees the writer, and closes what is open without a sync. *writer is then
  * NULL. If it is NULL already, nothing is done. */
@@ -435,24 +445,29 @@ nlog_status nlog_writer_version(const nlog_writer *writer, uint32_t *version);
  * nlog_writer_sync.
  * NLOG_NOT_OPEN, NLOG_BROKEN, NLOG_BAD_NAME, NLOG_OUT_OF_MEMORY: nothing was
  * added. */
-nlog_status nlog_writer_record(nlog_writer *writer, const char *name, size_t len, const nlog_entry *entry);
+nlog_status nlog_writer_record(nlog_writer *writer, const char *name,
+    size_t len, const nlog_entry *entry);
 
 /* Adds one entry for each name, in order, by one write.
  * NLOG_NOT_OPEN, NLOG_BROKEN, NLOG_BAD_NAME: none is added.
  * NLOG_OUT_OF_MEMORY: those of the first names may be added. */
-nlog_status nlog_writer_record_edge(nlog_writer *writer, const nlog_name *names, size_t count, const nlog_entry *entry);
+nlog_status nlog_writer_record_edge(nlog_writer *writer, const nlog_name *names,
+    size_t count, const nlog_entry *entry);
 
 /* As nlog_begin, of the outputs of a command that is to run. One write adds
  * them, and none if none of them wants an intent. Then the command may run. If
  * power may be lost, call nlog_writer_sync before it.
  * Refused as nlog_writer_record_edge is. */
-nlog_status nlog_writer_begin(nlog_writer *writer, const nlog_name *names, size_t count, int32_t moment_ms, uint64_t hash);
+nlog_status nlog_writer_begin(nlog_writer *writer, const nlog_name *names,
+    size_t count, int32_t moment_ms, uint64_t hash);
 
 /* As nlog_count, nlog_at and nlog_find, of the open log with all that was
  * recorded. NLOG_NOT_OPEN, NLOG_BROKEN. */
 nlog_status nlog_writer_count(const nlog_writer *writer, size_t *count);
-nlog_status nlog_writer_at(const nlog_writer *writer, size_t place, nlog_entry *entry, char *name, size_t room, size_t *name_len);
-nlog_status nlog_writer_find(const nlog_writer *writer, const char *name, size_t len, nlog_entry *entry);
+nlog_status nlog_writer_at(const nlog_writer *writer, size_t place,
+    nlog_entry *entry, char *name, size_t room, size_t *name_len);
+nlog_status nlog_writer_find(const nlog_writer *writer, const char *name,
+    size_t len, nlog_entry *entry);
 
 /* NLOG_OK: all that was recorded before is on disk, and stands whatever comes.
  * NLOG_NOT_OPEN, NLOG_BROKEN. */
@@ -473,8 +488,10 @@ nlog_status nlog_writer_restat(nlog_writer *writer, size_t *place);
 
 /* As nlog_mark_dead, nlog_mark_time and nlog_clear_marks, of an open, a closed
  * or a broken writer. */
-nlog_status nlog_writer_mark_dead(nlog_writer *writer, const char *name, size_t len);
-nlog_status nlog_writer_mark_time(nlog_writer *writer, const char *name, size_t len, int64_t mtime);
+nlog_status nlog_writer_mark_dead(nlog_writer *writer, const char *name,
+    size_t len);
+nlog_status nlog_writer_mark_time(nlog_writer *writer, const char *name,
+    size_t len, int64_t mtime);
 nlog_status nlog_writer_clear_marks(nlog_writer *writer);
 
 /* Syncs what was recorded, closes the log and unlocks it. Whatever the status

@@ -7,7 +7,7 @@
 A sentence ends at a full stop, a colon at the end of a line, a question mark, or where a paragraph, an item of a list, a heading or a cell of
 a table ends. What stands in backquotes counts as one word, of a link its text alone, and what stands in an indented or a fenced block isn't
 prose. Of a header the comments are read, and of a manual page the source, whose synopsis and examples are blocks. A page is held to the
-limits of `LIMITS`: words in all, columns outside of indented blocks, words of a sentence on average, and words of the longest one. Each of
+limits of `LIMITS`: words in all, columns (of a page outside of indented blocks), words of a sentence on average, and words of the longest one. Each of
 these was the page's own figure when it was set, or less: a page may get plainer, and not the other way. `--show` prints the sentences of a
 page, the longest first.
 
@@ -71,9 +71,7 @@ def page_of_header(text):
 
 
 def columns_of_header(text):
-    """The columns of the longest line in which a comment stands, or a part of one."""
-    whole = (text[text.rfind("\n", 0, start) + 1 : text.index("\n", end)] for start, end in comments(text))
-    return max(len(it) for lines in whole for it in lines.split("\n"))
+    return max(len(it) for it in text.split("\n"))
 
 
 def lines_of_manual(source):
