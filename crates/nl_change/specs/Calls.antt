@@ -48,7 +48,7 @@ abbrev pub folder_view : {F : Type 0} → Ghosts F → F → FolderView
 folder_view g folder =
     record { disk = g.disk folder; settled = g.is_settled folder; scratch = g.has_scratch folder; failures = g.failures folder }
 
--- the same, of the folder of a log
+-- what contracts see of the folder of a log
 abbrev pub log_folder : View → FolderView
 log_folder v = record { disk = v.disk; settled = v.settled; scratch = v.scratch; failures = v.failures }
 
@@ -141,7 +141,7 @@ pub record ChangesLog (m : Meaning) (result : Result (Unit {0}) ToolFault) (old 
   pub count : IsCounted result old.failures new.failures
   pub refusals : IfErr result IsChangeFault
 
--- the same of a log that is seen as one of the version: bytes that are barred (a log of version 4) are refused, and left as they are, on
+-- a change of a log that is seen as one of the version: bytes that are barred (a log of version 4) are refused, and left as they are, on
 -- every exit
 pub record ChangesSeen (version : LogVersion) (m : Meaning) (result : Result (Unit {0}) ToolFault) (old new : FolderView) : Type 0 where
   pub disk : ChangesDisk m result (seen_as_version version old.disk) (seen_as_version version new.disk)
@@ -152,7 +152,7 @@ pub record ChangesSeen (version : LogVersion) (m : Meaning) (result : Result (Un
   pub count : old.failures ≡ 0 → IsCounted result old.failures new.failures
   pub refusals : IfErr result IsChangeFault
 
--- the same of a log of the version that is asked for; of version 5 it is no more and no less
+-- a change of a log of the version that is asked for; of version 5 it is that of a log as it stands, no more and no less
 pub record ChangesLogAs (version : LogVersion) (m : Meaning) (result : Result (Unit {0}) ToolFault) (old new : FolderView) : Type 0 where
   pub seen : ChangesSeen version m result old new
   pub five : version ≡ Five → ChangesLog m result old new
@@ -184,7 +184,7 @@ pub record Looks (asked : Option LogVersion) (old new : FolderView) (result : Re
   pub free : IfOk result (IsFree old.disk)
   pub refusals : IfErr result (IsReason asked old.disk old.failures new.failures)
 
--- the same of a log of the version that is asked for, or else of the one that it has, by what that makes of the change
+-- a change of a log of the version that is asked for, or else of the one that it has, by what that makes of the change
 pub record ChangesLogFor (asked : Option LogVersion) (m : LogVersion → Meaning) (result : Result (Unit {0}) ToolFault)
     (old new : FolderView) : Type 0 where
   pub version : LogVersion
@@ -240,7 +240,7 @@ pub record Repairs (result : Result (Unit {0}) ToolFault) (old new : Option Disk
   pub contents : (d : Disk) → old ≡ Some d → OnOk result (IsRepaired d.visible new)
   pub again : (d : Disk) → old ≡ Some d → OnOk result (StaysRepaired new)
 
--- the same of a log of the version that is asked for, or else of the one that it has
+-- a repair of a log of the version that is asked for, or else of the one that it has
 pub record RepairsFor (asked : Option LogVersion) (result : Result (Unit {0}) ToolFault) (old new : Option Disk) : Type 0 where
   pub version : LogVersion
   pub chosen : IsVersionFor asked old version

@@ -28,7 +28,7 @@ of_log_fault refusal.OtherVersion = OtherVersion
 of_log_fault refusal.OutOfMemory = Memory
 of_log_fault _ = Folder
 
--- the same of an answer
+-- the answer that a log's answer is
 abbrev pub of_log_answer : Result (Unit {0}) LogFault → Result (Unit {0}) ToolFault
 of_log_answer (Ok done) = Ok done
 of_log_answer (Err why) = Err (of_log_fault why)
@@ -48,7 +48,7 @@ IsRecordFault Memory = ⊤
 IsRecordFault Folder = ⊤
 IsRecordFault _ = ⊥
 
--- the same, or an mtime is negative
+-- a fault of a record, or an mtime is negative
 abbrev pub IsChangeFault : ToolFault → Type 0
 IsChangeFault (NegativeTime index) = ⊤
 IsChangeFault fault = IsRecordFault fault
@@ -71,7 +71,7 @@ IsLinesFault Memory = ⊤
 IsLinesFault Write = ⊤
 IsLinesFault _ = ⊥
 
--- the same, or what was recorded couldn't be synced at the end
+-- a fault of the lines, or what was recorded couldn't be synced at the end
 abbrev pub IsApplyFault : ToolFault → Type 0
 IsApplyFault Folder = ⊤
 IsApplyFault fault = IsLinesFault fault

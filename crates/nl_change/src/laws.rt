@@ -29,7 +29,7 @@ pub fn keep_is_read_first<F: Folder>()
         (folder_view F.Folder new) }
 {}
 
-/// The same of TIMES and its pairs.
+/// Where TIMES is read first, each answer of a change by it is of the pairs that it holds, or nothing was done.
 pub fn times_are_read_first<F: Folder>()
     ensures { (known : Option (List ℕ)) (result : Result (Unit {0}) ToolFault) (old new : F)
         → ChangesAsRead F.Folder times_of touching known result old new

@@ -43,7 +43,7 @@ value_of c = if nat_lt c 97 then c - 48 else c - 87
 unfoldable pub number_of : ℕ → List ℕ → ℕ
 number_of base bytes = fold (λ n c. base * n + value_of c) 0 bytes
 
--- the same in decimal, negative where a `-` comes first
+-- what digits spell in decimal, negative where a `-` comes first
 abbrev pub integer_of : List ℕ → ℤ
 integer_of [] = pos 0
 integer_of (c ∷ bytes) = if c == 45 then neg_ℤ (pos (number_of 10 bytes)) else pos (number_of 10 (c ∷ bytes))

@@ -69,7 +69,7 @@ fn leading_digits(bytes: &[u8]) -> (u64, usize)
     (number, bytes.len())
 }
 
-// The same of any bytes, among the spellings of at most `LONGEST` digits.
+// The number that the longest spelling of at most `LONGEST` digits has at the front of any bytes, and the length of that spelling.
 #[inline(always)]
 fn longest_digits(bytes: &[u8]) -> (u64, usize)
     ensures within { result.1 ≤ length bytes.now }
@@ -134,7 +134,7 @@ pub(crate) fn split_i64(bytes: &[u8]) -> Option<(i64, &[u8])>
     }
 }
 
-/// The same of a smaller number.
+/// The number that bytes begin with, where it fits an `i32`, and the bytes behind it.
 #[inline(always)]
 pub(crate) fn split_i32(bytes: &[u8]) -> Option<(i32, &[u8])>
     ensures found { IfSome result (λ r. Begins (IsDecimal r.0) bytes.now r.1.now) }

@@ -109,7 +109,7 @@ abbrev pub Streams : (List ℕ → Option (List ℕ)) → Option (List ℕ) → 
 Streams text_of known old new (Ok done) = (text : List ℕ) × IsTextAsRead text_of known text × Appends old new text
 Streams text_of known old new (Err fault) = IsSoFar text_of known old new
 
--- the same, where the answer says whether there was any text
+-- a text is written as it is read, and the answer says whether there was any
 abbrev pub Finds : (List ℕ → Option (List ℕ)) → Option (List ℕ) → Option (List ℕ) → Option (List ℕ) → Result Bool ToolFault → Type 0
 Finds text_of known old new (Ok any) =
     (text : List ℕ) × IsTextAsRead text_of known text × Appends old new text × (any ≡ nat_lt 0 (length text))

@@ -36,7 +36,7 @@ pub fn check_to<R: Read + Drop, W: Write>(
     write_out(text.as_bytes(), writer)
 }
 
-/// The same of a log of the version, whose number is the first line.
+/// Writes the six lines on a log of the version, whose number is the first line.
 pub fn check_as<R: Read + Drop, W: Write>(
     alloc: Global,
     version: LogVersion,
@@ -57,7 +57,7 @@ pub fn check_as<R: Read + Drop, W: Write>(
     write_out(report.as_bytes(), writer)
 }
 
-/// The same of a log of whichever version its first line names, whose number is the first line.
+/// Writes the six lines on a log of whichever version its first line names, whose number is the first line.
 pub fn check_any<R: Read + Drop, W: Write>(
     alloc: Global,
     reader: R,

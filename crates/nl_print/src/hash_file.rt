@@ -32,7 +32,7 @@ pub fn hash_file_to<R: Read + Drop, W: Write>(
     hash_to(alloc, command.as_slice(), writer)
 }
 
-/// The same, as a log of the version spells it.
+/// Writes the hash of the command that the reader gives, as a log of the version spells it, and a newline.
 pub fn hash_file_as<R: Read + Drop, W: Write>(
     alloc: Global,
     version: LogVersion,

@@ -43,7 +43,7 @@ pub fn show_to<R: Read + Drop, W: Write>(
     write_lines(&loaded.table, &mut piece, writer)
 }
 
-/// The same of a log of the version.
+/// Writes the last entry of each output of a log of the version, a line each.
 pub fn show_as<R: Read + Drop, W: Write>(
     alloc: Global,
     version: LogVersion,
@@ -63,7 +63,7 @@ pub fn show_as<R: Read + Drop, W: Write>(
     write_lines(&seen.table, &mut held, writer)
 }
 
-/// The same of a log of whichever version its first line names.
+/// Writes the last entry of each output of a log of whichever version its first line names, a line each.
 pub fn show_any<R: Read + Drop, W: Write>(
     alloc: Global,
     reader: R,

@@ -22,7 +22,7 @@ pub record IsEarly (s : Span) : Type 0 where
 abbrev pub time_of : Span → ℕ
 time_of s = s.ended - s.began
 
--- the same START, END and hash
+-- two lines have one START, END and hash
 abbrev pub is_same_command : Span → Span → Bool
 is_same_command a b = a.began == b.began && a.ended == b.ended && a.hash == b.hash
 

@@ -38,7 +38,7 @@ IsAnswerOfAny Show known text = IsTextAsRead show_text_of_any known text
 IsAnswerOfAny Check known text = IsReportOfAny known text
 IsAnswerOfAny printing known text = IsAnswer printing known text
 
--- the same, where a version may be asked for
+-- what is printed, where a version may be asked for
 abbrev pub IsAnswerAs : Option AskedVersion → Printing → Option (List ℕ) → List ℕ → Type 0
 IsAnswerAs None printing known text = IsAnswer printing known text
 IsAnswerAs (Some asked.Five) printing known text = IsAnswerOf Five printing known text

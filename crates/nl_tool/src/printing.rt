@@ -185,7 +185,7 @@ pub fn print_noted<P: Print, R: Read + Drop>(
     answer
 }
 
-// The same with this writer for the text.
+// Prints of what this reader gives to this writer.
 fn print_to<R: Read + Drop, W: Write>(
     alloc: Global,
     printing: Printing<'_>,
@@ -207,7 +207,7 @@ fn print_to<R: Read + Drop, W: Write>(
     }
 }
 
-// The same where no version is asked for.
+// Prints of a log of version 4 or 5.
 fn print_plain<R: Read + Drop, W: Write>(
     alloc: Global,
     printing: Printing<'_>,
@@ -228,7 +228,7 @@ fn print_plain<R: Read + Drop, W: Write>(
     }
 }
 
-// The same over logs of the version.
+// Prints of a log of the version.
 fn print_as<R: Read + Drop, W: Write>(
     alloc: Global,
     printing: Printing<'_>,
@@ -250,7 +250,7 @@ fn print_as<R: Read + Drop, W: Write>(
     }
 }
 
-// The same over logs of whichever version their first line names.
+// Prints of a log of whichever version its first line names.
 fn print_any<R: Read + Drop, W: Write>(
     alloc: Global,
     printing: Printing<'_>,

@@ -35,7 +35,7 @@ where
     run_noted(rt, alloc, line, &mut Notes::new(alloc, false))
 }
 
-/// The same, and notes why what failed has failed.
+/// Does what a command line says, as `run`, and notes why what failed has failed.
 pub fn run_noted<R: Runtime>(
     rt: &R,
     alloc: Global,
