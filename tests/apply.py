@@ -22,6 +22,8 @@ A, B = b"1\t2\t3\ta\taa\n", b"4\t5\t6\tb\tbb\n"
 LONGEST = b"1\t2\t3\t" + b"n" * 65536 + b"\taa\n"
 KEPT = b"recompact\ta" + b"".join(b"\t" + it * 65536 for it in (b"x", b"y", b"z")) + b"\t" + b"w" * 65520
 LONG = b"get\t" + b"x" * 262140
+# A line of 262,143 bytes that begins a command, with one output that has an entry.
+MOST = b"begin\t7\tab\ta\tcc" + b"\tb" * 131064
 # What a log holds or None where it is missing, the lines, the answers, the status, what is said of it, and what the log then holds.
 TURNS = [
     (None, b"", b"", 0, b"", b""),
@@ -55,6 +57,26 @@ TURNS = [
     # The longest name, and the longest line that asks for an event.
     (HEADER, b"open\nrecord\t" + LONGEST + b"get\t" + b"n" * 65536 + b"\n", b"ok\nok\n" + LONGEST, 0, b"", HEADER + LONGEST),
     (HEADER + A + B, b"open\n" + KEPT + b"\ntable\n", b"ok\nok\n" + A + b"end\n", 0, b"", HEADER + A),
+    # An intent over each entry that could pass, with the complement of the hash; none over one that stands already, or where no entry is.
+    (HEADER + A + B, b"begin\t7\tab\ta\nopen\nbegin\t7\tab\ta\tc\tb\nbegin\t9\tab\ta\nbegin\t9\tac\ta\ntable\n",
+     b"S1 NotOpen\nok\nok\nok\nok\n9\t9\t0\ta\tffffffffffffff53\n7\t7\t0\tb\tffffffffffffff54\nend\n", 0, b"",
+     HEADER + A + B + b"7\t7\t0\ta\tffffffffffffff54\n7\t7\t0\tb\tffffffffffffff54\n9\t9\t0\ta\tffffffffffffff53\n"),
+    # Several begin with one sync; names that come twice, and the moments and hashes at the ends of their ranges.
+    (HEADER + A + B, b"open\nbegin\t-2147483648\t0\ta\ta\nbegin\t2147483647\tffffffffffffffff\tb\tc\tb\nsync\ntable\nstop\nbegin\t7\tab\ta\n",
+     b"ok\nok\nok\nok\n-2147483648\t-2147483648\t0\ta\tffffffffffffffff\n2147483647\t2147483647\t0\tb\t0\nend\nok\nS1 NotOpen\n", 0, b"",
+     HEADER + A + B + b"-2147483648\t-2147483648\t0\ta\tffffffffffffffff\n" * 2 + b"2147483647\t2147483647\t0\tb\t0\n" * 2),
+    # What only looks like an intent gets one, and a record behind an intent counts.
+    (HEADER + b"7\t7\t0\ta\taa\n", b"open\nbegin\t7\tab\ta\nget\ta\nrecord\t" + A + b"get\ta\nbegin\t7\tab\ta\nget\ta\n",
+     b"ok\nok\n7\t7\t0\ta\tffffffffffffff54\nok\n" + A + b"ok\n7\t7\t0\ta\tffffffffffffff54\n", 0, b"",
+     HEADER + b"7\t7\t0\ta\taa\n7\t7\t0\ta\tffffffffffffff54\n" + A + b"7\t7\t0\ta\tffffffffffffff54\n"),
+    # The longest name, the most names of the longest line, and one byte more.
+    (HEADER + LONGEST, b"open\nbegin\t7\tab\t" + b"n" * 65536 + b"\nbegin\t7\tab\t" + b"n" * 65537 + b"\nget\ta\n",
+     b"ok\nok\nbad line\nnone\n", 0, b"", HEADER + LONGEST + b"7\t7\t0\t" + b"n" * 65536 + b"\tffffffffffffff54\n"),
+    (HEADER + A, b"open\n" + MOST + b"\nbegin\t17" + MOST[7:] + b"\nget\ta\n",
+     b"ok\nok\nbad line\n7\t7\t0\ta\tffffffffffffff54\n", 0, b"", HEADER + A + b"7\t7\t0\ta\tffffffffffffff54\n"),
+    # What is no moment, no hash in its one spelling, and no name.
+    (HEADER + A, b"open\nbegin\nbegin\t\nbegin\t7\tab\nbegin\t7\tab\t\nbegin\t07\tab\ta\nbegin\t7\tAB\ta\nbegin\t7\t0ab\ta\nbegin\t2147483648\tab\ta\nbegin\t7\tab\ta\t\n",
+     b"ok\n" + b"bad line\n" * 9, 0, b"", HEADER + A),
     # A line that is cut off is not done, however it looks.
     (HEADER, b"open\nrecord\t1\t2\t3\ta\taa", b"ok\nbad line\n", 0, b"", HEADER),
     (HEADER, b"open\nget\ta", b"ok\nbad line\n", 0, b"", HEADER),
@@ -82,6 +104,44 @@ def turns(trials, program, room):
             write(log, held)
         trials.want(f"the answers to {what}", apply(program, log, lines), (status, answers, said))
         trials.want(f"the log behind {what}", read(log) if os.path.exists(log) else None, left)
+
+
+# Moments and hashes in their one spelling, and others; names, and what is none.
+MOMENTS = [b"0", b"7", b"-1", b"2147483647", b"-2147483648"], [b"2147483648", b"-2147483649", b"-0", b"07", b"", b"+7", b" 7", b"1e3", b"-", b"a"]
+HASHES = [b"0", b"ab", b"c0ffee", b"ffffffffffffffff"], [b"10000000000000000", b"AB", b"0ab", b"", b"0x1", b"g", b"-1"]
+OUTPUTS = [b"a", b"b", b"c", b"\xff.o", b"two words", b"b\r"], [b"", b"a\0"]
+
+
+def begins(trials, program, room):
+    """Lines that begin a command, of good fields and of bad ones, by a table that is kept here."""
+    chance, log = random.Random(19), f"{room}/begins.log"
+    table = {b"a": (b"1", b"2", b"3", b"aa"), b"b": (b"4", b"5", b"6", b"bb"), b"two words": (b"7", b"7", b"0", b"ffffffffffffff54")}
+
+    def line_of(name):
+        start, end, mtime, command = table[name]
+        return b"\t".join([start, end, mtime, name, command]) + b"\n"
+
+    def pick(choices):
+        is_good = chance.random() < 0.85
+        return chance.choice(choices[not is_good]), is_good
+
+    text, lines, answers = HEADER + b"".join(map(line_of, table)), [b"open\n"], [b"ok\n"]
+    write(log, text)
+    for _ in range(5000):
+        fields = [pick(MOMENTS), pick(HASHES), *(pick(OUTPUTS) for _ in range(chance.randrange(5)))]
+        fields = fields[: chance.randrange(len(fields) + 1)] if chance.random() < 0.1 else fields
+        lines.append(b"\t".join([b"begin", *(it for it, _ in fields)]) + b"\n")
+        is_good = len(fields) > 2 and all(it for _, it in fields)
+        answers.append(b"ok\n" if is_good else b"bad line\n")
+        if is_good:
+            moment, command, *names = [it for it, _ in fields]
+            intent = (moment, moment, b"0", b"%x" % (int(command, 16) ^ (2**64 - 1)))
+            for name in [it for it in names if it in table and (table[it][0] != table[it][1] or table[it][2:] != intent[2:])]:
+                table[name] = intent
+                text += line_of(name)
+    trials.want("the answers to lines that begin", apply(program, log, b"".join(lines) + b"table\n"), (0, b"".join([*answers, *map(line_of, table), b"end\n"]), b""))
+    trials.want("the log behind lines that begin", read(log), text)
+    trials.check("lines that begin of both kinds", min(answers.count(b"ok\n"), answers.count(b"bad line\n")) > 1000, str(len(answers)))
 
 
 def odd_names(trials, program, room):
@@ -353,6 +413,7 @@ def end_below(pid):
 
 def trial(trials, program, room):
     turns(trials, program, room)
+    begins(trials, program, room)
     odd_names(trials, program, room)
     versions(trials, program, room)
     hashes(trials, program, room)

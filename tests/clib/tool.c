@@ -268,6 +268,8 @@ static void apply_line(char **fields, size_t count) {
     entry.hash = strtoull(fields[5], NULL, 16);
     status = nlog_writer_record(writer, fields[4], strlen(fields[4]), &entry);
   }
+  if (strcmp(fields[0], "begin") == 0 && count > 3)
+    status = nlog_writer_begin(writer, names + 2, given.count - 2, (int32_t)strtol(fields[1], NULL, 10), strtoull(fields[2], NULL, 16));
   if (strcmp(fields[0], "get") == 0 && count == 2) {
     status = nlog_writer_find(writer, fields[1], strlen(fields[1]), &entry);
     if (status == NLOG_OK) {

@@ -7,6 +7,7 @@ mod ReadLemmas
 mod RepairLemmas
 mod SeenLemmas
 mod SeenLogLemmas
+mod BeginLemmas
 mod AnswerLemmas
 mod ApplyLemmas
 mod BegunLemmas

@@ -1,11 +1,20 @@
 //! What a line of `apply` asks for.
-ghost use Rattle.std.specs.Prelude.{◌++◌, ◌∷◌, codes};
-ghost use Rattle.nl_change.specs.Applying.{Asks};
+ghost use Rattle.std.specs.Prelude.{◌++◌, ◌∷◌, codes, IfOk, IsErrOf};
+ghost use Rattle.nl_replay.specs.declared.script.Refusal.{Refusal};
+ghost use Rattle.nl_change.specs.Applying.{Asks, BeginsBy, BeginsNone};
 
-use nl_fields::name_fault;
-use nl_replay::{Refusal, read_event_line};
+use nl_fields::{Name, name_fault, read_hex64, read_i32};
+use nl_replay::{Refusal, read_event_line, read_names, split_tab};
 use nl_session::Event;
 use std::alloc::Global;
+
+/// A command that begins: the moment in the build, its hash, and its outputs.
+#[derive(Drop)]
+pub struct Begin {
+    pub moment_ms: i32,
+    pub hash: u64,
+    pub names: Vec<Name>,
+}
 
 /// What a line asks for.
 #[derive(Drop)]
@@ -15,6 +24,8 @@ pub enum Asked<'a> {
     /// The hash of a command in the log.
     Hashes(&'a [u8]),
     Lists,
+    /// The intents of a command.
+    Begins(Begin),
     /// Nothing that there is.
     Bad,
     /// It isn't known: memory was wanting.
@@ -29,6 +40,7 @@ pub fn read_asked(alloc: Global, line: &[u8]) -> Asked<'_>
         b"table" => Asked::Lists,
         [b'g', b'e', b't', b'\t', name @ ..] => gets(name),
         [b'h', b'a', b's', b'h', b'\t', command @ ..] => Asked::Hashes(command),
+        [b'b', b'e', b'g', b'i', b'n', b'\t', fields @ ..] => begins(alloc, fields),
         _ => match read_event_line(alloc, line) {
             Ok(Event::Crash) => Asked::Bad,
             Ok(event) => Asked::Does(event),
@@ -46,4 +58,36 @@ fn gets(name: &[u8]) -> Asked<'_>
         None => Asked::Gets(name),
         Some(_) => Asked::Bad,
     }
+}
+
+// What is asked for by bytes in the place of a moment, a hash and names.
+fn begins(alloc: Global, fields: &[u8]) -> Asked<'_>
+    ensures asks { Asks (codes "begin" ++ 9 ∷ fields.now) result }
+{
+    match read_begin(alloc, fields) {
+        Ok(begin) => Asked::Begins(begin),
+        Err(Refusal::BadLine) => Asked::Bad,
+        Err(Refusal::OutOfMemory) => Asked::Unread,
+    }
+}
+
+// A moment, a hash, and names behind them.
+fn read_begin(alloc: Global, fields: &[u8]) -> Result<Begin, Refusal>
+    ensures value { IfOk result
+        (λ begin. BeginsBy begin.moment_ms begin.hash begin.names.items fields.now) }
+    ensures bad_line { IsErrOf result Refusal.BadLine → BeginsNone fields.now }
+{
+    let (moment, rest) = split_tab(fields);
+    let (Some(moment_ms), Some(rest)) = (read_i32(moment), rest) else {
+        return Err(Refusal::BadLine);
+    };
+    let (hash, names) = split_tab(rest);
+    let (Some(hash), Some(names)) = (read_hex64(hash), names) else {
+        return Err(Refusal::BadLine);
+    };
+    Ok(Begin {
+        moment_ms,
+        hash,
+        names: read_names(alloc, names)?,
+    })
 }

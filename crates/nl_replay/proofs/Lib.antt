@@ -1,4 +1,4 @@
 mod WordLemmas
 mod ScriptLemmas
-mod ReadingLemmas
+pub mod ReadingLemmas
 mod ReplayLemmas

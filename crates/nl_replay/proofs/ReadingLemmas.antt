@@ -30,15 +30,15 @@ use Rattle.std.specs.Result.{IsErrAnd}
 use Rattle.std.proofs.lemmas.Option.{none-some}
 
 -- nothing, or a tab and more
-abbrev IsTail : List ℕ → Type 0
+abbrev pub IsTail : List ℕ → Type 0
 IsTail [] = ⊤
 IsTail (b ∷ rest) = b ≡ 9
 
-behind-tail : (rest : Option (Bor (List ℕ))) → IsTail (behind_tab rest)
+pub behind-tail : (rest : Option (Bor (List ℕ))) → IsTail (behind_tab rest)
 behind-tail None = tt
 behind-tail (Some rest) = refl
 
-names-tail : (names : List (List ℕ)) → IsTail (flat_map name_field names)
+pub names-tail : (names : List (List ℕ)) → IsTail (flat_map name_field names)
 names-tail [] = tt
 names-tail (name ∷ names) = refl
 
@@ -58,7 +58,7 @@ fields-tail Stop = tt
 fields-tail Crash = tt
 
 -- the texts at the two sides of the first tab, or of the end where there is none
-same_sides : (a b x y : List ℕ) → HasNoTab a → HasNoTab b → IsTail x → IsTail y → a ++ x ≡ b ++ y → (a ≡ b) × (x ≡ y)
+pub same_sides : (a b x y : List ℕ) → HasNoTab a → HasNoTab b → IsTail x → IsTail y → a ++ x ≡ b ++ y → (a ≡ b) × (x ≡ y)
 same_sides a b [] [] no_a no_b is_x is_y same = (sym (append-nil a) ∙ same ∙ append-nil b, refl)
 same_sides a b [] (d ∷ y) no_a no_b is_x is_y same =
     absurd (tab_there b y (subst HasNoTab (sym (append-nil a) ∙ same ∙ ap (λ (c : ℕ). b ++ c ∷ y) is_y) no_a))

@@ -1,10 +1,11 @@
 //! Reading a script: what a folder in memory is told, and then the events.
 ghost use Rattle.std.specs.Prelude.{◌≡◌, ◌↔◌, ◌<◌, ◌++◌, ◌∷◌, ◌^◌, ℕ, [], pos, Some, length, IfErr, IfOk, IfSome, IsErr, IsErrOf, IsSome, OnOk};
-ghost use Rattle.std.specs.List.{flat_map};
+ghost use Rattle.std.specs.List.{All as Each, flat_map};
 ghost use Rattle.nl_fields.specs.Digits.{IsDecimal};
 ghost use Rattle.nl_fields.specs.EntryLine.{IsEntryLine};
 ghost use Rattle.nl_fields.specs.Fields.{HasNoTab};
 ghost use Rattle.nl_fields.specs.EntryLine.{line_of};
+ghost use Rattle.nl_fields.specs.Name.{IsName};
 ghost use Rattle.nl_folder.specs.declared.fuse.Call.{Call};
 ghost use Rattle.nl_replay.specs.Faults.{IsFaultOfLine, IsScriptFault};
 ghost use Rattle.nl_fields.specs.declared.name.NameFault.{NameFault};
@@ -206,10 +207,10 @@ pub fn read_event_line(alloc: Global, line: &[u8]) -> Result<Event, Refusal>
     }
 }
 
-// What stands before the first tab, and what stands behind it, where there is one.
-fn split_tab(text: &[u8]) -> (&[u8], Option<&[u8]>)
+/// What stands before the first tab, and what stands behind it, where there is one.
+pub fn split_tab(text: &[u8]) -> (&[u8], Option<&[u8]>)
     ensures line { text.now ≡ result.0.now ++ behind_tab result.1 }
-    ensures plain { HasNoTab result.0.now }
+    ensures no_tab { HasNoTab result.0.now }
 {
     match text.iter().position(|b| *b == b'\t') {
         Some(at) => (&text[..at], Some(&text[at + 1..])),
@@ -284,8 +285,10 @@ fn read_keep(alloc: Global, text: Option<&[u8]>) -> Result<KeepList, Refusal>
     }
 }
 
-fn read_names(alloc: Global, text: &[u8]) -> Result<Vec<Name>, Refusal>
+/// The names that stand between tabs.
+pub fn read_names(alloc: Global, text: &[u8]) -> Result<Vec<Name>, Refusal>
     ensures line { IfOk result (λ names. flat_map name_field names.items ≡ name_field text.now) }
+    ensures names { IfOk result (λ names. Each IsName names.items) }
     ensures accepts { SaysNames (name_field text.now)
         → IfErr result (λ refusal. refusal ≡ OutOfMemory) }
 {

@@ -408,6 +408,8 @@ Each line is answered before the next is read. There is a tab before each value:
 open [NAME ..]                    opens LOG, which is made where it is missing; where it is due it
                                   keeps these names alone, and all of them where none is given
 record START END MTIME NAME HASH  adds an entry
+begin MOMENT HASH NAME ..         says that the command of this hash is to run, so that no crash
+                                  brings back what these outputs had
 sync                              makes what was recorded durable
 recompact [NAME ..]               rewrites LOG with the last entry of each output, as `open` keeps it
 restat [MTIME NAME ..]            rewrites LOG with these time stamps

@@ -34,8 +34,8 @@ pairs-preserved c =
       line = subst (λ (pairs : List (List ℕ × ℤ)). flat_map time_fields pairs ++ left ≡ behind_tab c.args.text) (sym pushed)
           (pairs_more c.pairs.pairs.items time name left (behind_tab c.args.text) mtime spelled whole);
       says = λ says. (times_more c.in-Some.text.now time c.in-Some-Some.rest.now name c.split_tab.result.1 c.split_tab-in-Some.result.1
-          c.split_tab.ensures.line c.split_tab.ensures.plain (ap behind_tab c.in-Some-Some.is-1)
-          c.split_tab-in-Some.ensures.line c.split_tab-in-Some.ensures.plain
+          c.split_tab.ensures.line c.split_tab.ensures.no_tab (ap behind_tab c.in-Some-Some.is-1)
+          c.split_tab-in-Some.ensures.line c.split_tab-in-Some.ensures.no_tab
           (subst (λ (r : Option (Bor (List ℕ))). SaysTimes (behind_tab r)) c.in-Some.is (c.pairs.invariant.says says))).1;
       there = λ _. c.pairs.invariant.there (ap is_some c.in-Some.is);
     }
@@ -43,7 +43,7 @@ pairs-preserved c =
 pub returns-in_default-2-clause-accepts : goal.returns-in_default-2-clause-accepts
 returns-in_default-2-clause-accepts c = λ says.
     let first =
-    time_first c.in-Some.text.now c.split_tab.result.0.now c.split_tab.result.1 c.split_tab.ensures.line c.split_tab.ensures.plain
+    time_first c.in-Some.text.now c.split_tab.result.0.now c.split_tab.result.1 c.split_tab.ensures.line c.split_tab.ensures.no_tab
     (subst (λ (r : Option (Bor (List ℕ))). SaysTimes (behind_tab r)) c.in-Some.is (c.pairs.invariant.says says)) in
     elim c.in_default-2.branch [
       | in_default-2-via-in-Some+in_default w ↦ absurd (tab_is_there c.split_tab.result.1 _ first.3.4 w.in_default-2.is-1)
@@ -53,7 +53,7 @@ returns-in_default-2-clause-accepts c = λ says.
 pub returns-in_err-read-clause-accepts : goal.returns-in_err-read-clause-accepts
 returns-in_err-read-clause-accepts c = λ says.
     let more = times_more c.in-Some.text.now c.split_tab.result.0.now c.in-Some-Some.rest.now
-    c.split_tab-in-Some.result.0.now c.split_tab.result.1 c.split_tab-in-Some.result.1 c.split_tab.ensures.line c.split_tab.ensures.plain
-    (ap behind_tab c.in-Some-Some.is-1) c.split_tab-in-Some.ensures.line c.split_tab-in-Some.ensures.plain
+    c.split_tab-in-Some.result.0.now c.split_tab.result.1 c.split_tab-in-Some.result.1 c.split_tab.ensures.line c.split_tab.ensures.no_tab
+    (ap behind_tab c.in-Some-Some.is-1) c.split_tab-in-Some.ensures.line c.split_tab-in-Some.ensures.no_tab
     (subst (λ (r : Option (Bor (List ℕ))). SaysTimes (behind_tab r)) c.in-Some.is (c.pairs.invariant.says says)) in
     memory_alone c.from_residual.result c.split_tab-in-Some.result.0.now _ c.from_residual.ensures.1 c.in_err-read.ensures.fault more.0
