@@ -1,0 +1,6 @@
+mod FieldLemmas
+mod WalkLemmas
+mod StepLemmas
+mod PlainLemmas
+mod TrustLemmas
+mod FoundLemmas

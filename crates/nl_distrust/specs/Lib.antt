@@ -1,0 +1,4 @@
+pub mod Named
+pub mod Distrusted
+pub mod Walking
+pub mod Plain

@@ -1,0 +1,59 @@
+//! Laws of what can't be trusted, each the contract of a function that does nothing.
+ghost use Rattle.std.specs.Prelude.{◌≡◌, ◌++◌, ℕ, true, false, None, Some, List, [], All, IsSome, IsSomeAnd, drop, if◌then◌else◌};
+ghost use Rattle.nl_fields.specs.declared.entry.Entry.{Entry};
+ghost use Rattle.nl_fields.specs.Name.{IsName};
+ghost use Rattle.nl_fields.specs.EntryLine.{IsSpelled, IsTold, Texts, line_with};
+ghost use Rattle.nl_lines.specs.Split.{lines_of, rest_of};
+ghost use Rattle.nl_table.specs.History.{holds};
+ghost use Rattle.nl_table.specs.Log.{entry_on};
+ghost use Rattle.nl_table.specs.Table.{entry_named};
+ghost use Rattle.nl_table.specs.Versions.{current_version, oldest_version};
+ghost use Rattle.nl_distrust.specs.Distrusted.{distrusted_in, mentioned_in, mentioned_on};
+ghost use Rattle.nl_distrust.specs.Named.{named_in, torn_behind_name};
+ghost use Rattle.nl_distrust.specs.Plain.{entry_last, plain_last, plain_texts};
+
+/// The last line that plain Ninja takes for an entry of a name is its last entry, unless the log mentions the name.
+pub fn trusted_lines_are_read_alike()
+    ensures { (version : ℕ) (bytes name : List ℕ) → IsName name
+        → holds (mentioned_in version bytes) name ≡ false
+        → plain_last name (drop 1 (lines_of bytes))
+        ≡ entry_last version name (drop 1 (lines_of bytes)) }
+{}
+
+/// Plain Ninja takes the line of an entry for one with the entry's texts.
+pub fn entries_are_read_alike()
+    ensures five { (line : List ℕ) (e : Entry) → entry_on current_version line ≡ Some e
+        → IsSomeAnd (plain_texts line) (IsSpelled e) }
+    ensures four { (line : List ℕ) (e : Entry) → entry_on oldest_version line ≡ Some e
+        → IsSomeAnd (plain_texts line) (IsTold e) }
+{}
+
+/// A line that is no entry, and that plain Ninja takes for one, mentions that one's name.
+pub fn what_is_taken_is_mentioned()
+    ensures { (version : ℕ) (line : List ℕ) (t : Texts) → entry_on version line ≡ None
+        → plain_texts line ≡ Some t → IsName t.name
+        → holds (mentioned_on version line) t.name ≡ true }
+{}
+
+/// Wherever an entry's first four texts stand in a line, they name its output: at its beginning, behind a torn line, and
+/// before another one. So does a name behind which the line was torn.
+pub fn each_part_is_named()
+    ensures within { (before behind : List ℕ) (e : Entry) → IsName e.name
+        → holds (named_in (before ++ line_with e behind)) e.name ≡ true }
+    ensures torn { (before : List ℕ) (e : Entry) → IsName e.name
+        → holds (named_in (before ++ torn_behind_name e)) e.name ≡ true }
+{}
+
+/// Where each line is an entry, and nothing is torn, no name is mentioned.
+pub fn a_whole_log_is_trusted()
+    ensures { (version : ℕ) (bytes : List ℕ)
+        → All (λ line. IsSome (entry_on version line)) (drop 1 (lines_of bytes))
+        → rest_of bytes ≡ [] → mentioned_in version bytes ≡ [] }
+{}
+
+/// What can't be trusted are the table's entries of the names that the log mentions, and no others.
+pub fn mentioned_names_are_found()
+    ensures { (version : ℕ) (bytes name : List ℕ) (es : List Entry)
+        → entry_named (distrusted_in version bytes es) name
+        ≡ (if holds (mentioned_in version bytes) name then entry_named es name else None) }
+{}
