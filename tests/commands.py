@@ -128,37 +128,37 @@ MERGED = HEADER + b"0\t7\t17\tlib.o\tc5\n0\t9\t17\tnote\ta1\n3\t5\t18\tno0\t8\t1
 THROUGH = [
     (b"", b"", b"", HEADER),
     (HEADER, b"", b"", HEADER),
-    (b"# ninja lo", b"", b"1\ttorn\t10\t-\n", HEADER),
+    (b"# ninja lo", b"", b"1\ttorn\t10\t-\t-\n", HEADER),
     # Older entries are listed, and `show` has the last ones alone.
     (LOG, LOG[len(HEADER) :], b"", HEADER + b"5\t6\t30\ta\tcc\n3\t4\t20\tb\tbb\n"),
     (
         b"# ninja log v4\n1\t2\t3\ta\tcc\tx\nx\n4\t5\t6\tb\t\n",
         b"1\t2\t3\ta\t72274e7a30810c7b\n4\t5\t6\tb\t87c2bc0beaf1d91d\n",
-        b"3\tskipped\t1\t-\n",
+        b"3\tskipped\t1\t-\t-\n",
         HEADER + b"1\t2\t3\ta\t72274e7a30810c7b\n4\t5\t6\tb\t87c2bc0beaf1d91d\n",
     ),
     # A line behind a torn one names its output; a number that isn't spelled so is no entry, but its last digit is one.
     (
         MERGED,
         b"0\t7\t17\tlib.o\tc5\n0\t9\t17\tnote\ta1\n",
-        b"4\tskipped\t23\tnote\n5\ttorn\t9\t-\n",
+        b"4\tskipped\t23\tnote\tno0\n5\ttorn\t9\t-\t-\n",
         HEADER + b"0\t7\t17\tlib.o\tc5\n0\t9\t17\tnote\ta1\n",
     ),
-    (HEADER + b"007\t1\t1\to\ta\n" + OK, OK, b"2\tskipped\t11\to\n", HEADER + OK),
-    (HEADER + b"\t1\t1\to\ta\n\n\t\t\t\t\n", b"", b"2\tskipped\t8\t-\n3\tskipped\t0\t-\n4\tskipped\t4\t-\n", HEADER),
-    (HEADER + OK + b"1\t2\t3\tout\tabc", OK, b"3\ttorn\t13\tout\n", HEADER + OK),
+    (HEADER + b"007\t1\t1\to\ta\n" + OK, OK, b"2\tskipped\t11\to\to\n", HEADER + OK),
+    (HEADER + b"\t1\t1\to\ta\n\n\t\t\t\t\n", b"", b"2\tskipped\t8\t-\to\n3\tskipped\t0\t-\t-\n4\tskipped\t4\t-\t-\n", HEADER),
+    (HEADER + OK + b"1\t2\t3\tout\tabc", OK, b"3\ttorn\t13\tout\tout\n", HEADER + OK),
     # The longest line has 262,143 bytes; a longer one is looked at no further, with its newline and without.
     (
         HEADER + b"x" * 262_143 + b"\n" + b"x" * 262_144 + b"\n" + OK + b"x" * 262_144,
         OK,
-        b"2\tskipped\t262143\t-\n3\tlong\t262144\t-\n5\ttorn\t262144\t-\n",
+        b"2\tskipped\t262143\t-\t-\n3\tlong\t262144\t-\t-\n5\ttorn\t262144\t-\t-\n",
         HEADER + OK,
     ),
     # More than one piece of each.
     (
         HEADER + (OK + b"007\t1\t1\t" + b"o" * 60_000 + b"\ta\n") * 40,
         OK * 40,
-        b"".join(b"%d\tskipped\t60010\t" % (2 * n + 3) + b"o" * 60_000 + b"\n" for n in range(40)),
+        b"".join(b"%d\tskipped\t60010\t" % (2 * n + 3) + b"o" * 60_000 + b"\t" + b"o" * 60_000 + b"\n" for n in range(40)),
         HEADER + OK,
     ),
 ]
@@ -300,7 +300,7 @@ WORDS = [
     (["summary", "--", "-file"], 0, ONE_SUMMED % b"file", b""),
     (["summary", "missing"], 0, b"", b""),
     (["summary", "folder"], 1, b"", CANNOT_READ),
-    (["damage"], 3, b"3\tskipped\t1\t-\n", b""),
+    (["damage"], 3, b"3\tskipped\t1\t-\t-\n", b""),
     (["damage", "file"], 0, b"", b""),
     (["damage", "missing"], 0, b"", b""),
     (["damage", "folder"], 1, b"", CANNOT_READ),
@@ -344,7 +344,7 @@ WORDS = [
     (["summary", "seven"], 0, ONE_SUMMED % b"out", b""),
     (["summary", "eight"], 1, b"", OTHER_VERSION),
     (["summary", "script"], 1, b"", NO_LOG),
-    (["damage", "seven"], 3, b"3\tskipped\t1\t-\n", b""),
+    (["damage", "seven"], 3, b"3\tskipped\t1\t-\t-\n", b""),
     (["damage", "eight"], 1, b"", OTHER_VERSION),
     (["--version"], 0, b"nlog 0.1.0\n", b""),
     (["frob"], 2, b"", NO_COMMAND),
@@ -441,7 +441,7 @@ WORDS = [
     # Behind a refusal the file that it is of, and why.
     (["show", "--verbose", "file"], 0, FILE_SHOWN, b""),
     (["check", "-v", "missing"], 0, NOTHING_CHECKED, b""),
-    (["damage", "-v"], 3, b"3\tskipped\t1\t-\n", b""),
+    (["damage", "-v"], 3, b"3\tskipped\t1\t-\t-\n", b""),
     (["hash", "--", "-v"], 0, b"%x\n" % command_hash(b"-v"), b""),
     (["show", "-v", "folder"], 1, b"", CANNOT_READ + b"nlog: LOG folder: " + A_FOLDER),
     (["check", "file/log", "--verbose"], 1, b"", CANNOT_READ + b"nlog: LOG file/log: " + NO_FOLDER),

@@ -22,7 +22,7 @@ import termios
 import threading
 
 from log_format import Log, as_version, command_hash, reading_of
-from log_lines import builds_of, damage_of, entries_of, summary_of
+from log_lines import builds_of, damage_of, entries_of, named_first, summary_of
 from trials import SECONDS, main, read, run, short, write
 
 BENCH = f"{os.path.dirname(os.path.dirname(os.path.abspath(__file__)))}/bench"
@@ -420,12 +420,13 @@ def try_damage(readings):
     first = {5: b"1\t2\t3\ty\t0\n", 4: b"1\t2\t3\ty\t\n"}
     for version, line, output in NAMED:
         kind = b"long" if len(line) > 262_143 else b"skipped"
-        told = b"3\t%s\t%d\t%s\n4\ttorn\t%d\t%s\n" % (kind, len(line), output, len(line), output)
+        outputs = b"%s\t%s" % (output, named_first(line))
+        told = b"3\t%s\t%d\t%s\n4\ttorn\t%d\t%s\n" % (kind, len(line), outputs, len(line), outputs)
         text = HEADERS[version] + first[version] + line + b"\n" + line
         readings.want_each(f"version {version}, twice {short(line)}", text, {"damage": found(told)})
     for version, rest, output in ALONE:
         text = HEADERS[version] + first[version] + rest
-        told = b"3\ttorn\t%d\t%s\n" % (len(rest), output)
+        told = b"3\ttorn\t%d\t%s\t%s\n" % (len(rest), output, named_first(rest))
         readings.want_each(f"version {version}, torn {short(rest)}", text, {"damage": found(told)})
 
 

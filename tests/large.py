@@ -21,6 +21,7 @@ from functools import partial
 from itertools import chain
 
 from log_format import HEADER, MAX_LINE, MAX_NAME, as_version, command_hash, entry_of, line_of
+from log_lines import named_first
 from trials import SECONDS, main, run
 
 ENTRIES = 1_000_001
@@ -212,7 +213,7 @@ def try_many(trials, program, room):
     large.want_more()
     with open(large.log, "ab") as it:
         it.write(b"1\t2\t3\ttorn")
-    large.want_held("damage", [b"%d\ttorn\t10\t-\n" % (ENTRIES + 2)], 3)
+    large.want_held("damage", [b"%d\ttorn\t10\t-\t-\n" % (ENTRIES + 2)], 3)
     large.want_log(["repair", large.log], chain([HEADER], lines(everything)))
     with open(large.log, "ab") as it:
         it.write(b"1\t2\t3\ttorn")
@@ -289,10 +290,10 @@ def try_long(trials, program, room):
         entry = entry_of(line[:-1], 5)
         if entry is None:
             skipped += 1
-            damaged.append(b"%d\t%s\t%d\t-\n" % (number, b"long" if len(line) > MAX_LINE + 1 else b"skipped", len(line) - 1))
+            damaged.append(b"%d\t%s\t%d\t-\t-\n" % (number, b"long" if len(line) > MAX_LINE + 1 else b"skipped", len(line) - 1))
         else:
             table[entry[0]] = entry[1]
-    damaged.append(b"%d\ttorn\t%d\t-\n" % (number + 1, len(torn)))
+    damaged.append(b"%d\ttorn\t%d\t-\t-\n" % (number + 1, len(torn)))
     names = list(table)
     # Each name five times: the last line of TIMES counts.
     make(large.keep, (b"%s\n" % name for _ in range(5) for name in names[1::2]))
@@ -347,11 +348,11 @@ def try_damaged(trials, program, room):
         if version == 5:
             large.want_sizes(large.log)
         damage = (
-            b"%d\tskipped\t%d\t%s\n" % (number, len(line) - 1, output)
+            b"%d\tskipped\t%d\t%s\t%s\n" % (number, len(line) - 1, output, named_first(line[:-1]))
             for number, (line, _, output) in enumerate(lines_with(), 2)
             if output
         )
-        large.want_held("damage", chain(damage, [b"%d\ttorn\t4\t-\n" % (count + 2)]), 3)
+        large.want_held("damage", chain(damage, [b"%d\ttorn\t4\t-\t-\n" % (count + 2)]), 3)
         large.want_held("entries", (entry for _, entry, _ in lines_with() if entry))
         large.want_log(["repair", large.log], chain([HEADER], (entry for _, entry, _ in lines_with() if entry)))
 

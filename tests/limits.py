@@ -197,7 +197,7 @@ def try_dash(trials, program, room):
     want("entries of a file -", ["entries", "-"], SMALL, (0, line, b""))
     want("hash-file of a file -", ["hash-file", "-"], SMALL, (0, b"%x\n" % command_hash(HEADER + line), b""))
     write(dash, HEADER + line + b"x")
-    want("damage of a file -", ["damage", "-"], SMALL, (3, b"3\ttorn\t1\t-\n", b""))
+    want("damage of a file -", ["damage", "-"], SMALL, (3, b"3\ttorn\t1\t-\t-\n", b""))
     want("repair of a file -", ["repair", "-"], SMALL, DONE)
     trials.want("repair of a file -: the file", read(dash), HEADER + line)
     os.remove(dash)

@@ -1,4 +1,6 @@
 """What `entries`, `damage`, `builds` and `summary` print, read from docs/CLI.md and docs/FORMAT.md, and which lines are entries from `log_format`."""
+import re
+
 from log_format import HEADER, MAX_LINE, entry_of, line_of
 
 
@@ -24,8 +26,14 @@ def named_last(line, version):
     return b"-"
 
 
+def named_first(line):
+    """The output that plain Ninja takes a line for an entry of, what stands between its third tab and its fourth, or `-`."""
+    fields = line.split(b"\t")
+    return fields[3] if len(line) <= MAX_LINE and len(fields) >= 5 and fields[3] else b"-"
+
+
 def damage_line(number, what, line, version):
-    return b"%d\t%s\t%d\t%s\n" % (number, what, len(line), named_last(line, version))
+    return b"%d\t%s\t%d\t%s\t%s\n" % (number, what, len(line), named_last(line, version), named_first(line))
 
 
 def damage_of(text):
@@ -40,6 +48,28 @@ def damage_of(text):
     if rest:
         told.append(damage_line(text.count(b"\n") + 1, b"torn", rest, version))
     return b"".join(told)
+
+
+def plain_of(line):
+    """The name and the hash that plain Ninja takes a line for an entry of, or None (docs/FORMAT.md, "What plain Ninja reads")."""
+    fields = line[len(line) // 262_144 * 262_144 :].split(b"\t", 4)
+    if len(fields) < 5:
+        return None
+    return fields[3], int(re.match(rb"[ \n\r\f\v]*\+?(?:0[xX])?([0-9a-fA-F]*)", fields[4])[1] or b"0", 16)
+
+
+def distrusted_of(text):
+    """The entries of the outputs that can't be trusted, in the order in which the log mentions them from its end."""
+    version, lines, rest = lines_of(text)
+    entries = [None if len(line) > MAX_LINE else entry_of(line, version) for line in lines]
+    table = dict(filter(None, entries))
+    settled, found = set(), {}
+    for line, entry in [(rest, None), *reversed(list(zip(lines, entries)))]:
+        if entry:
+            settled.add(entry[0])
+        else:
+            found.update((name, table[name]) for name in re.split(rb"[\t\0]", line)[3:] if name in table and name not in settled and name not in found)
+    return b"".join(line_of(*it) for it in found.items())
 
 
 def entries_of(text):

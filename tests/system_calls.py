@@ -174,7 +174,7 @@ READERS = {
     "show": (0, b"3\t4\t20\ta\tbb\n"),
     "check": (0, Log(DAMAGED).report()),
     "entries": (0, b"1\t2\t10\ta\taa\n3\t4\t20\ta\tbb\n"),
-    "damage": (3, b"3\tskipped\t1\t-\n5\ttorn\t3\t-\n"),
+    "damage": (3, b"3\tskipped\t1\t-\t-\n5\ttorn\t3\t-\t-\n"),
     "doubt": (3, b"missing\ta\n"),
     "builds": (0, b"1\t2\t2\t3\t2\n"),
     "summary": (0, b"commands 2\noutputs 2\nwall 3\ntotal 2\nbusy 2\nalone 2\nparallel 0.66\nslowest 1 a\n"),

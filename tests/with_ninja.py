@@ -12,13 +12,14 @@ recompacts or restats. And what the pages say of Ninja is tried: what a build lo
 stamps it records.
 """
 import os
+import re
 import shutil
 import sys
 import time
 
 from examples import read_page
 from log_format import HEADER, Log, as_version, line_of
-from log_lines import damage_of
+from log_lines import damage_of, distrusted_of, plain_of
 from trials import fill_up, main, read, run, write
 
 RECIPES = {**read_page("docs/RECIPES.md")[0], **read_page("docs/DAMAGE.md")[0]}
@@ -362,7 +363,7 @@ def try_joined(trials, build):
 
 
 def try_joined_in_hash(trials, build):
-    """A, B torn in its hash, A again, and the line of another output behind the part. `damage` names that one alone. Ninja takes the line for
+    """A, B torn in its hash, A again, and the line of another output behind the part. `damage` names both. Ninja takes the line for
     an entry of the first, with another hash; a rewriting drops it, and A's entry counts. forget.sh doubts both."""
     for zeros in (b"", bytes(100)):
         what = f"torn in its hash, with {len(zeros)} zero bytes"
@@ -373,7 +374,7 @@ def try_joined_in_hash(trials, build):
         write(f"{build.room}/a.c", b"changed")
         build.ninja("a.o")
         trials.want(f"{what}: damage", build.nlog("damage", LOG), (3, damage_of(build.text()), b""))
-        trials.check(f"{what}: it names a.o alone", damage_of(build.text()).split(b"\t")[3:] == [b"a.o\n"], repr(damage_of(build.text())))
+        trials.check(f"{what}: it names both", damage_of(build.text()).split(b"\t")[3:] == [b"a.o", b"note\n"], repr(damage_of(build.text())))
         trials.check(f"{what}: while the line stands Ninja makes the output again", OTHER % b"note" in build.why(), repr(build.why()))
         mirror = build.mirror()
         trials.want(f"{what}: repair ends", mirror.nlog("repair", LOG), (0, b"", b""))
@@ -387,16 +388,51 @@ def try_joined_in_hash(trials, build):
 
 
 def try_zeros(trials, build):
-    """A, B torn in its hash, and zero bytes in place of the rest: `damage` can't name the output, and forget.sh drops its entry all the same."""
+    """A, B torn in its hash, and zero bytes in place of the rest: `damage` names the output in its last column, and forget.sh drops its entry."""
     build.describe("n2")
     build.ninja()
     build.cut_hash(b"note", bytes(5000))
     build.describe("n1")
-    trials.check("zeros: damage names no output", build.nlog("damage", LOG)[1].endswith(b"\t-\n"))
+    trials.check("zeros: damage names the output", build.nlog("damage", LOG)[1].endswith(b"\t-\tnote\n"))
     trials.check("zeros: Ninja finds nothing to do", build.is_idle(), repr(build.why()))
     trials.want("zeros: forget.sh ends", build.recipe("forget.sh"), (0, b"", b""))
     build.ninja()
     trials.want("zeros: the output is that of A", read(f"{build.room}/note"), b"n1")
+
+
+# Lines that are no entries, of outputs with a file, and what follows a buffer of Ninja's.
+READ = [
+    b"5\t6\t7\tjoined\tc01\t5\t6\t7\tbehind\t7e",
+    b"+5\t06\t\tplus\t+a",
+    b"5\t6\t7\tthird",
+    b"x\ty\tz\tletters\tq",
+    b"5\t6\t7\tzero\tab\0\0\0\0\0",
+    b"5\t6\t7\tcapitals\t0XABCg",
+    b"5\t6\t7\treturn\tab\r",
+    b"5\t6\t7\tbefore\tab" + b"x" * 262_144,
+    b"y" * 262_144 + b"5\t6\t7\tpast\tab",
+    b"y" * 262_143 + b"5\t6\t7\tinside\tab",
+    b"y" * 262_130 + b"\t6\t7\tlongest\tab",
+    b"5\t6\t" + b"y" * 600_000 + b"7\t8\t9\tthrice\tcd",
+]
+
+
+def try_plain_reading(trials, build):
+    """What Ninja takes lines for that are no entries, by what it writes anew; and that for each output that isn't distrusted it has our entry."""
+    names = {it for line in READ for it in re.split(rb"[\t\0]", line) if 3 < len(it) < 10}
+    for name in names:
+        write(f"{build.room}/{name.decode()}", b"")
+    entries = [line_of(name, (1, 2, 3, 0xD)) for name in sorted(names)]
+    text = build.text() + b"".join(entries) + b"".join(line + b"\n" for line in READ) + b"5\t6\t7\tplus\tee"
+    build.write_log(text)
+    wanted = {name: 0xD for name in names} | dict(filter(None, map(plain_of, READ)))
+    trials.check("plain reading: some lines are taken for entries, and some aren't", 5 < sum(map(bool, map(plain_of, READ))) < len(READ))
+    trials.want("plain reading: ninja -t recompact ends", build.ninja("-t", "recompact")[0], 0)
+    found = {name: numbers[3] for name, numbers in build.log().table.items() if name in names}
+    trials.want("plain reading: the hash of each output", found, {name: it for name, it in wanted.items() if name in names})
+    distrusted = Log(HEADER + distrusted_of(text)).table
+    others = {name for name, it in found.items() if it != 0xD}
+    trials.check("plain reading: what Ninja takes another entry of is distrusted", others and others <= distrusted.keys(), repr(others - distrusted.keys()))
 
 
 def try_joined_anywhere(trials, build):
@@ -681,6 +717,7 @@ PARTS = [
     try_joined,
     try_joined_in_hash,
     try_zeros,
+    try_plain_reading,
     try_joined_anywhere,
     try_joined_thrice,
     try_scripts_at_damage,

@@ -22,7 +22,7 @@ use Rattle.nl_table.proofs.FirstLineLemmas.{log_of-lines}
 use Rattle.nl_table.proofs.LogLemmas.{entry_on-line, is_versioned, log_fits, plain_line, rest_is_header}
 use Rattle.nl_table.proofs.LogTextLemmas.{log_of-text}
 use Rattle.nl_table.proofs.ValidLemmas.{logged_valid}
-use Rattle.nl_print.specs.Streams.{damage_line, damage_on, damage_text_of, named_last, skipped_text, texts_from, text_by_parts, torn_on}
+use Rattle.nl_print.specs.Streams.{damage_line, damage_on, damage_text_of, named_first, named_last, skipped_text, texts_from, text_by_parts, torn_on}
 use Rattle.nl_change.specs.Updates.{repaired_text}
 
 -- the lines of entries
@@ -48,9 +48,10 @@ text_split es all = SplitsInto_unique (text_of es) (version_five ∷ map line_of
 more_some : (xs ys : List ℕ) → 0 < length ys → 0 < length (xs ++ ys)
 more_some xs ys some = omega (arith, some, length-append xs ys)
 
-told_some : (number len : ℕ) (kind output : List ℕ) → 0 < length (damage_line number kind len output)
-told_some number len kind output =
-    more_some (decimal number ++ codes "\t" ++ kind ++ codes "\t" ++ decimal len ++ codes "\t" ++ output) (codes "\n") (omega arith)
+told_some : (number len : ℕ) (kind last first : List ℕ) → 0 < length (damage_line number kind len last first)
+told_some number len kind last first =
+    more_some (decimal number ++ codes "\t" ++ kind ++ codes "\t" ++ decimal len ++ codes "\t" ++ last ++ codes "\t" ++ first) (codes "\n")
+    (omega arith)
 
 -- of an entry nothing is told, and of each other line something
 line_told : (version number : ℕ) (line : List ℕ) → ((damage_on version number line ≡ []) × ((e : Entry) × (entry_on version line ≡ Some e)))
@@ -59,7 +60,7 @@ line_told version number line = elim (leb_tells (length line) max_line) [
   | inl short ↦ read short.0 (entry_by version line) refl
   | inr long ↦ inr (
     subst (λ (t : List ℕ). 0 < length t) (sym (cond-false (nat_le (length line) max_line) _ _ long.0))
-        (told_some number (length line) (codes "long") (codes "-")),
+        (told_some number (length line) (codes "long") (codes "-") (codes "-")),
     cond-false (nat_le (length line) max_line) _ _ long.0,
   )
 ]
@@ -74,7 +75,7 @@ line_told version number line = elim (leb_tells (length line) max_line) [
     read short None is = inr (
       subst (λ (t : List ℕ). 0 < length t)
           (sym (cond-true (nat_le (length line) max_line) _ _ short ∙ ap (skipped_text version number line) is))
-          (told_some number (length line) (codes "skipped") (named_last version line)),
+          (told_some number (length line) (codes "skipped") (named_last version line) (named_first line)),
       cond-true (nat_le (length line) max_line) _ _ short ∙ is,
     )
 
@@ -118,7 +119,10 @@ torn_told : (version number : ℕ) (rest : List ℕ)
     → ((torn_on version number rest ≡ []) × (length rest ≡ 0)) ⊎ ((0 < length (torn_on version number rest)) × (0 < length rest))
 torn_told version number [] = inl (refl, refl)
 torn_told version number (b ∷ rest) =
-    inr (told_some number (length (b ∷ rest)) (codes "torn") (named_last version (lent_rest (b ∷ rest))), omega arith)
+    inr (
+      told_some number (length (b ∷ rest)) (codes "torn") (named_last version (lent_rest (b ∷ rest))) (named_first (lent_rest (b ∷ rest))),
+      omega arith,
+    )
 
 -- the text of a log: nothing exactly where no line is skipped and nothing is torn
 module _ (bytes : List ℕ) (v : ℕ) (es : List Entry) (reads : log_of bytes ≡ Log v es) where

@@ -4,7 +4,8 @@ use Rattle.std.specs.Prelude.{◌≡◌, ℕ, ◌+◌, ◌==◌, ◌&&◌, nat_l
 use Rattle.std.specs.Prelude.{IfSome, Result, Ok, Err, codes, decimal, count_by, if◌then◌else◌}
 use Rattle.std.specs.Io.KnownBytes.{Appends}
 use Rattle.nl_fields.specs.declared.entry.Entry.{Entry}
-use Rattle.nl_fields.specs.EntryLine.{line_of}
+use Rattle.nl_fields.specs.EntryLine.{Texts, line_of}
+use Rattle.nl_distrust.specs.Plain.{plain_texts}
 use Rattle.nl_lines.specs.Prefix.{IsPrefix}
 use Rattle.nl_lines.specs.Split.{lines_of, rest_of, with_newline}
 use Rattle.nl_lines.specs.Lines.{lent_rest, max_line}
@@ -48,9 +49,10 @@ entry_text (Some e) = with_newline (line_of e)
 
 -- ---- `damage`
 
--- a line by its number, what it is, its length, and an output
-abbrev pub damage_line : ℕ → List ℕ → ℕ → List ℕ → List ℕ
-damage_line number kind len output = decimal number ++ codes "\t" ++ kind ++ codes "\t" ++ decimal len ++ codes "\t" ++ output ++ codes "\n"
+-- a line by its number, what it is, its length, and two outputs
+abbrev pub damage_line : ℕ → List ℕ → ℕ → List ℕ → List ℕ → List ℕ
+damage_line number kind len last first = decimal number ++ codes "\t" ++ kind ++ codes "\t" ++ decimal len ++ codes "\t" ++ last
+    ++ codes "\t" ++ first ++ codes "\n"
 
 abbrev pub tabs_in : List ℕ → ℕ
 tabs_in bytes = count_by (λ b. b == 9) bytes
@@ -73,20 +75,34 @@ output_of (Some e) = e.name
 abbrev pub named_last : ℕ → List ℕ → List ℕ
 named_last version line = output_of (entry_by version (last_five line))
 
+-- a name, and `-` where it has no byte
+abbrev pub or_dash : List ℕ → List ℕ
+or_dash [] = codes "-"
+or_dash (b ∷ bytes) = b ∷ bytes
+
+-- the output that plain Ninja takes a line for an entry of, and `-` where it takes it for none
+abbrev pub first_of : Option Texts → List ℕ
+first_of None = codes "-"
+first_of (Some t) = or_dash t.name
+
+abbrev pub named_first : List ℕ → List ℕ
+named_first line = first_of (plain_texts line)
+
 -- of a line that is no entry, and isn't too long
 abbrev pub skipped_text : ℕ → ℕ → List ℕ → Option Entry → List ℕ
-skipped_text version number line None = damage_line number (codes "skipped") (length line) (named_last version line)
+skipped_text version number line None = damage_line number (codes "skipped") (length line) (named_last version line) (named_first line)
 skipped_text version number line (Some e) = []
 
 -- what is said of a line
 abbrev pub damage_on : ℕ → ℕ → List ℕ → List ℕ
 damage_on version number line = if nat_le (length line) max_line then skipped_text version number line (entry_by version line)
-    else damage_line number (codes "long") (length line) (codes "-")
+    else damage_line number (codes "long") (length line) (codes "-") (codes "-")
 
 -- what is said of the bytes after the last newline
 abbrev pub torn_on : ℕ → ℕ → List ℕ → List ℕ
 torn_on version number [] = []
 torn_on version number (b ∷ bytes) = damage_line number (codes "torn") (length (b ∷ bytes)) (named_last version (lent_rest (b ∷ bytes)))
+    (named_first (lent_rest (b ∷ bytes)))
 
 -- the text of `damage`; none where there is no log
 abbrev pub damage_text_of : List ℕ → Option (List ℕ)

@@ -142,7 +142,7 @@ pub fn damage_command<'a>(alloc: Global) -> Result<Command<'a>, AllocError>
         .about("Prints a line for each line that is no entry; status 3 where there is one")
         .after_help(
             "\
-One line for each: LINE, WHAT, LENGTH and OUTPUT with a tab between neighbours.
+One line for each: LINE, WHAT, LENGTH, OUTPUT and FIRST with a tab between neighbours.
 
 LINE    its number; the first line of LOG is 1, and isn't looked at
 WHAT    `skipped`: it is no entry; `long`: it has more than 262143 bytes; `torn`: the bytes after
@@ -150,6 +150,8 @@ WHAT    `skipped`: it is no entry; `long`: it has more than 262143 bytes; `torn`
 LENGTH  its bytes, without the newline
 OUTPUT  the output that its last five fields name, the first of them from some digit on, where
         these are an entry, as one that was written behind a torn line; else `-`
+FIRST   the output that Ninja takes the line for an entry of, between the third tab and the
+        fourth, as that of the torn line; else `-`
 
 Status: 0 where nothing is printed, 3 where there is damage. A log is repaired where it has some by
 
