@@ -19,6 +19,9 @@ _nlog() {
                 mapfile -t COMPREPLY < <(compgen -W '5 6 7 auto' -- "$word")
                 return
             fi
+        elif [[ ! $dashes && ${COMP_WORDS[1]} == summary && ${COMP_WORDS[at]} =~ ^(--lines|-n)$ ]]; then
+            [[ ${COMP_WORDS[at + 1]} == '=' ]] && at=$((at + 1))
+            ((++at >= COMP_CWORD)) && return
         elif [[ $dashes || ${COMP_WORDS[at]} != -?* ]]; then
             values=$((values + 1))
         fi
@@ -26,6 +29,7 @@ _nlog() {
     if [[ ! $dashes && $word == -* ]]; then
         case ${COMP_WORDS[1]} in
             show | check | hash | hash-file | record | recompact | restat | repair | apply) mapfile -t COMPREPLY < <(compgen -W '--log-version --verbose -v --help -h' -- "$word") ;;
+            summary) mapfile -t COMPREPLY < <(compgen -W '--lines -n --verbose -v --help -h' -- "$word") ;;
             *) mapfile -t COMPREPLY < <(compgen -W '--verbose -v --help -h' -- "$word") ;;
         esac
         return

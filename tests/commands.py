@@ -174,7 +174,9 @@ SIX, SEVEN = (b"# ninja log v%d\n1\t2\t3\tout\t8072fc2ac19230e4\nx\n" % it for i
 FOUR, FOUR_SHOWN = b"# ninja log v4\n1\t2\t3\ta\tcc\tx\n", b"1\t2\t3\ta\t72274e7a30810c7b\n"
 # Each has one command of one output, which took 1 ms.
 FILE_BUILT = INPUT_BUILT = FOUR_BUILT = NEW_BUILT = b"1\t1\t1\t1\t1\n"
-ONE_SUMMED = b"commands 1\noutputs 1\nwall 1\ntotal 1\nbusy 1\nalone 1\nparallel 1.00\nslowest 1 %s\n"
+BAD_NUMBER = b"nlog: bad number\n"
+ONE_COUNTED = b"commands 1\noutputs 1\nwall 1\ntotal 1\nbusy 1\nalone 1\nparallel 1.00\nslowest 1 %b\n"
+ONE_SUMMED = ONE_COUNTED + b"by-time 1 1.00 %b\nby-weight 1 1.00 %b\n"
 NEW_SHOWN = b"1\t2\t3\tout\t8072fc2ac19230e4\n"
 NEW_CHECKED = b"version %d\ntotal 1\nunique 1\nskipped 1\ntorn 0\ndue no\n"
 REPLAYED = b"ok\nS2 AlreadyOpen\nlog 15\n# ninja log v5\n"
@@ -295,9 +297,19 @@ WORDS = [
     (["builds", ""], 0, b"", b""),
     (["builds", "folder"], 1, b"", CANNOT_READ),
     (["builds", "file/log"], 1, b"", CANNOT_READ),
-    (["summary"], 0, ONE_SUMMED % b"input", b""),
-    (["summary", "file"], 0, ONE_SUMMED % b"file", b""),
-    (["summary", "--", "-file"], 0, ONE_SUMMED % b"file", b""),
+    (["summary"], 0, ONE_SUMMED % ((b"input",) * 3), b""),
+    (["summary", "-n", "0"], 0, ONE_COUNTED % b"input", b""),
+    (["summary", "--lines", "9223372036854775807"], 0, ONE_SUMMED % ((b"input",) * 3), b""),
+    (["summary", "file", "-n1"], 0, ONE_SUMMED % ((b"file",) * 3), b""),
+    (["summary", "--lines=0", "file"], 0, ONE_COUNTED % b"file", b""),
+    (["summary", "-n", "9223372036854775808"], 1, b"", BAD_NUMBER),
+    (["summary", "--lines=-1"], 1, b"", BAD_NUMBER),
+    (["summary", "-n", "01"], 1, b"", BAD_NUMBER),
+    (["summary", "-n", "+1"], 1, b"", BAD_NUMBER),
+    (["summary", "-n", ""], 1, b"", BAD_NUMBER),
+    (["summary", "-n", "x", "folder"], 1, b"", BAD_NUMBER),
+    (["summary", "file"], 0, ONE_SUMMED % ((b"file",) * 3), b""),
+    (["summary", "--", "-file"], 0, ONE_SUMMED % ((b"file",) * 3), b""),
     (["summary", "missing"], 0, b"", b""),
     (["summary", "folder"], 1, b"", CANNOT_READ),
     (["damage"], 3, b"3\tskipped\t1\t-\t-\n", b""),
@@ -339,9 +351,9 @@ WORDS = [
     (["builds", "seven"], 0, NEW_BUILT, b""),
     (["builds", "eight"], 1, b"", OTHER_VERSION),
     (["builds", "script"], 1, b"", NO_LOG),
-    (["summary", "four"], 0, ONE_SUMMED % b"a", b""),
-    (["summary", "six"], 0, ONE_SUMMED % b"out", b""),
-    (["summary", "seven"], 0, ONE_SUMMED % b"out", b""),
+    (["summary", "four"], 0, ONE_SUMMED % ((b"a",) * 3), b""),
+    (["summary", "six"], 0, ONE_SUMMED % ((b"out",) * 3), b""),
+    (["summary", "seven"], 0, ONE_SUMMED % ((b"out",) * 3), b""),
     (["summary", "eight"], 1, b"", OTHER_VERSION),
     (["summary", "script"], 1, b"", NO_LOG),
     (["damage", "seven"], 3, b"3\tskipped\t1\t-\t-\n", b""),

@@ -21,7 +21,7 @@ from functools import partial
 from itertools import chain
 
 from log_format import HEADER, MAX_LINE, MAX_NAME, as_version, command_hash, entry_of, line_of
-from log_lines import named_first
+from log_lines import PARTS, named_first
 from trials import SECONDS, main, run
 
 ENTRIES = 1_000_001
@@ -190,6 +190,12 @@ def summed(commands, *counts):
     return b"commands %d\noutputs %d\nwall %d\ntotal %d\nbusy %d\nalone %d\nparallel %s\nslowest %d %s\n" % (commands, commands, *counts)
 
 
+def listed(by_time, by_weight):
+    """The lists behind that: of each command its milliseconds, its weighted ones as a text, and its output."""
+    rows = [(b"time", *it) for it in by_time] + [(b"weight", *it) for it in by_weight]
+    return b"".join(b"by-%s %d %s %s\n" % it for it in rows)
+
+
 # By docs/FORMAT.md: the hash of the command `cc<TAB>x`.
 RECORDED = line_of(b"new", (11, 12, -13, 0x72274E7A30810C7B))
 RECORD = ["--", "11", "12", "-13", "new", "cc\tx"]
@@ -209,7 +215,12 @@ def try_many(trials, program, room):
     large.want_printed("builds", [b"1\t%d\t%d\t%d\t%d\n" % (ENTRIES, ENTRIES, ENTRIES + 6, 7 * ENTRIES)])
     large.want_printed("doubt", (b"missing\t%s\n" % name_of(it) for it in everything), 3)
     # A command runs 7 ms, and one begins in each: so one alone runs in the first and the last of them.
-    large.want_printed("summary", [summed(ENTRIES, ENTRIES + 6, 7 * ENTRIES, ENTRIES + 6, 2, b"6.99", 7, name_of(0))])
+    # Of the first and the last the time counts 1 + 1/2 + .. + 1/7, of the next ones 1/2 + .. + 1/7 + 1/7, and so on; all take 7 ms.
+    weights = [b"2.59", b"1.73", b"1.37", b"1.18", b"1.08", b"1.02", b"1.00", b"1.00", b"1.00", b"1.00"]
+    first = [(7, weight, name_of(it)) for it, weight in enumerate(weights)]
+    ends = chain.from_iterable([(7, weight, name_of(it)), (7, weight, name_of(ENTRIES - 1 - it))] for it, weight in enumerate(weights[:5]))
+    counts_told = summed(ENTRIES, ENTRIES + 6, 7 * ENTRIES, ENTRIES + 6, 2, b"6.99", 7, name_of(0))
+    large.want_printed("summary", [counts_told, listed(first, ends)])
     large.want_more()
     with open(large.log, "ab") as it:
         it.write(b"1\t2\t3\ttorn")
@@ -308,8 +319,13 @@ def try_long(trials, program, room):
     # Each command has a hash of its own, and runs from before 0 as long behind it.
     large.want_printed("builds", [b"1\t%d\t%d\t%d\t%d\n" % (1_600, 1_600, 2 * 1_599, 1_599 * 1_600)])
     # The last runs 2 x 1,599 ms, and the one before it 2 x 1,598 of these.
-    name = entry_of(list(long_lines(random.Random(SEED)))[-1][:-1], 5)[0]
-    large.want_printed("summary", [summed(1_600, 2 * 1_599, 1_599 * 1_600, 2 * 1_599, 2, b"800.00", 2 * 1_599, name)])
+    entries = [entry_of(line[:-1], 5) for line in long_lines(random.Random(SEED))]
+    slowest = [(it[0], it[1][1]) for it in entries if it][:-11:-1]
+    counts_told = summed(1_600, 2 * 1_599, 1_599 * 1_600, 2 * 1_599, 2, b"800.00", 2 * 1_599, slowest[0][0])
+    # In the milliseconds from t before 0 to t + 1 behind it those run that end later: the one that ends at 1,599 alone in the last.
+    parts = {end: 2 * sum(PARTS // (1_599 - t) for t in range(end)) * 100 // PARTS for _, end in slowest}
+    rows = [(2 * end, b"%d.%02d" % divmod(parts[end], 100), name) for name, end in slowest]
+    large.want_printed("summary", [counts_told, listed(rows, rows)])
     large.want_log(["repair", large.log], log_of_table(table))
     large.want_log(["record", large.log, *RECORD], chain(log_of_table(table), [RECORDED]))
     table[b"new"] = 11, 12, -13, 0x72274E7A30810C7B
@@ -363,7 +379,8 @@ def try_builds(trials, program, room):
     make(large.log, chain([HEADER], (line_of(name_of(it), (-it, ENTRIES - it, it, it % 7)) for it in range(ENTRIES))))
     large.want_sizes(large.log)
     large.want_printed("builds", (b"%d\t1\t1\t%d\t%d\n" % (it + 1, ENTRIES, ENTRIES) for it in range(ENTRIES)))
-    large.want_printed("summary", [summed(1, ENTRIES, ENTRIES, ENTRIES, ENTRIES, b"1.00", ENTRIES, name_of(ENTRIES - 1))])
+    row = (ENTRIES, b"%d.00" % ENTRIES, name_of(ENTRIES - 1))
+    large.want_printed("summary", [summed(1, ENTRIES, ENTRIES, ENTRIES, ENTRIES, b"1.00", ENTRIES, row[2]), listed([row], [row])])
 
 
 def try_hash(trials, program, room):

@@ -3,6 +3,9 @@ import re
 
 from log_format import HEADER, MAX_LINE, entry_of, line_of
 
+# A millisecond has so many parts, which each number up to 22 divides.
+PARTS = 232_792_560
+
 
 def lines_of(text):
     """The version of a log, its lines after the first, and its rest."""
@@ -121,14 +124,32 @@ def time_where(commands, holds):
     return sum(to - at for at, to in pairs if holds(sum(start <= at < end for start, end, _ in commands)))
 
 
-def slowest_of(entries):
-    """The time and the first output of the first command that took the longest."""
+def told_commands(entries):
+    """Each command of some entries: its milliseconds, its weighted ones in parts of one, and its first output."""
     firsts = [it for at, it in enumerate(entries) if at == 0 or len(commands_of(entries[at - 1 : at + 1])) == 2]
-    name, (start, end, _, _) = max(firsts, key=lambda it: max(0, it[1][1] - it[1][0]))
-    return max(0, end - start), name
+    commands = [(start, end) for _, (start, end, _, _) in firsts]
+    moments = sorted({it for command in commands for it in command})
+    running = [(at, to, sum(start <= at < end for start, end in commands)) for at, to in zip(moments, moments[1:])]
+    told = []
+    for name, (start, end, _, _) in firsts:
+        weight = sum((to - at) * (PARTS // count) for at, to, count in running if start <= at < end)
+        told.append((max(0, end - start), weight, name))
+    return told
 
 
-def summary_of(text):
+def slowest_of(told):
+    """The time and the first output of the first command that took the longest."""
+    time, _, name = max(told, key=lambda it: it[0])
+    return time, name
+
+
+def ranked_of(key, rank, told, most):
+    """The lines of so many commands at most, the highest rank first; those of one rank stay in their order."""
+    rows = sorted(told, key=lambda it: -it[rank])[:most]
+    return b"".join(b"%s %d %d.%02d %s\n" % (key, time, weight // PARTS, weight * 100 // PARTS % 100, name) for time, weight, name in rows)
+
+
+def summary_of(text, most=10):
     """What `summary` prints of a log: of its last build."""
     found = entries_by_build(text)
     if not found:
@@ -137,5 +158,7 @@ def summary_of(text):
     wall, total = wall_of(commands), total_of(commands)
     busy, alone = time_where(commands, lambda count: count > 0), time_where(commands, lambda count: count == 1)
     parallel = b"%d.%02d" % divmod(total * 100 // wall, 100) if wall else b"0.00"
-    counts = (len(commands), len(found[-1]), wall, total, busy, alone, parallel, *slowest_of(found[-1]))
-    return b"commands %d\noutputs %d\nwall %d\ntotal %d\nbusy %d\nalone %d\nparallel %s\nslowest %d %s\n" % counts
+    told = told_commands(found[-1])
+    counts = (len(commands), len(found[-1]), wall, total, busy, alone, parallel, *slowest_of(told))
+    eight = b"commands %d\noutputs %d\nwall %d\ntotal %d\nbusy %d\nalone %d\nparallel %s\nslowest %d %s\n" % counts
+    return eight + ranked_of(b"by-time", 0, told, most) + ranked_of(b"by-weight", 1, told, most)

@@ -6,4 +6,6 @@ mod SweepStepLemmas
 mod SharesLemmas
 mod LeftOverLemmas
 mod LastBuildLemmas
+mod FallingLemmas
+mod SlowestLemmas
 mod SummaryLemmas

@@ -1,29 +1,31 @@
 -- The text of `summary`, of the last build.
-use Rattle.std.proofs.Common.{◌≡◌, ◌∙◌, ℕ, List, [], ◌∷◌, ◌++◌, map, Option, Some, None, refl, sym, ap, append_assoc, inl, inr, length, arith}
+use Rattle.std.proofs.Common.{Bor, ◌≡◌, ◌∙◌, ℕ, List, [], ◌∷◌, ◌++◌, map, Option, Some, None, refl, sym, ap, append_assoc, inl, inr, length, arith}
 use Rattle.std.proofs.Common.{◌/◌, ◌%◌, ◌*◌, ◌==◌, false, codes}
 use Rattle.std.specs.Prelude.{decimal}
 use Rattle.std.proofs.lemmas.Bool.{cond-false}
 use Rattle.std.proofs.lemmas.Bool.Decides.{eqb_tells}
 use Rattle.std.proofs.lemmas.List.{map-append}
 use Rattle.nl_fields.specs.declared.entry.Entry.{Entry}
-use Rattle.nl_report.specs.Runs.{Run}
+use Rattle.nl_report.specs.Runs.{Run, items}
 use Rattle.nl_report.specs.Builds.{build_of}
 use Rattle.nl_report.specs.Commands.{span_of, time_of}
-use Rattle.nl_report.specs.LastBuild.{AreLast}
-use Rattle.nl_report.specs.Summary.{build_summary, last_summary, ratio, slowest_line, summary_lines}
+use Rattle.nl_report.specs.Fraction.{ratio}
+use Rattle.nl_report.specs.LastBuild.{AreLast, named, outputs_of, spans_of}
+use Rattle.nl_report.specs.Slowest.{slowest_lists, told_commands}
+use Rattle.nl_report.specs.Summary.{build_summary, build_told, last_summary, slowest_line, summary_lines}
 use Rattle.nl_report.specs.Sweep.{alone_time, busy_time}
 use Rattle.nl_report.specs.declared.builds.Build.{Build}
 use Rattle.nl_report.specs.declared.span.Span.{Span}
 
-pub last_summary-end : (before : List (Run Entry)) (b : Run Entry) → last_summary (before ++ b ∷ []) ≡ build_summary b
-last_summary-end [] b = refl
-last_summary-end (c ∷ []) b = refl
-last_summary-end (c ∷ d ∷ before) b = last_summary-end (d ∷ before) b
+pub last_summary-end : (most : ℕ) (before : List (Run Entry)) (b : Run Entry) → last_summary most (before ++ b ∷ []) ≡ build_told most b
+last_summary-end most [] b = refl
+last_summary-end most (c ∷ []) b = refl
+last_summary-end most (c ∷ d ∷ before) b = last_summary-end most (d ∷ before) b
 
 -- nothing is told where there is no build
-pub none_told : (rs : List (Run Entry)) → length (map build_of rs) ≡ 0 → last_summary rs ≡ []
-none_told [] none = refl
-none_told (r ∷ rs) none = absurd (omega arith)
+pub none_told : (most : ℕ) (rs : List (Run Entry)) → length (map build_of rs) ≡ 0 → last_summary most rs ≡ []
+none_told most [] none = refl
+none_told most (r ∷ rs) none = absurd (omega arith)
 
 ends_same : {A : Type 0} (xs ys : List A) (x y : A) → xs ++ x ∷ [] ≡ ys ++ y ∷ [] → x ≡ y
 ends_same [] [] x y e = cc
@@ -33,23 +35,28 @@ ends_same (a ∷ []) [] x y e = cc
 ends_same (a ∷ b ∷ xs) [] x y e = cc
 ends_same (a ∷ xs) (b ∷ ys) x y e = ends_same xs ys x y (cc e)
 
--- the last build is told by its numbers, by when its commands ran, and by the slowest of them
-pub last_is_told : (rs : List (Run Entry)) (rest : List Build) (b : Build) (ran : List Span) (slowest : Option Entry) (last : Option Span)
-    (busy alone : ℕ) (lines : List ℕ) → map build_of rs ≡ rest ++ b ∷ [] → AreLast rs ran slowest last → busy ≡ busy_time ran
-    → alone ≡ alone_time ran → lines ≡ summary_lines b busy alone ++ slowest_line slowest → lines ≡ last_summary rs
-last_is_told rs rest b ran slowest None busy alone lines is held busy_is alone_is lines_is =
+-- the last build is told by its numbers, by when its commands ran, by the slowest of them, and by the lists of these
+pub last_is_told : (most : ℕ) (rs : List (Run Entry)) (rest : List Build) (b : Build) (ran : List Span) (outputs : List (Bor (List ℕ)))
+    (slowest : Option Entry) (last : Option Span) (busy alone : ℕ) (eight lines : List ℕ) → map build_of rs ≡ rest ++ b ∷ []
+    → AreLast rs ran outputs slowest last → busy ≡ busy_time ran → alone ≡ alone_time ran
+    → eight ≡ summary_lines b busy alone ++ slowest_line slowest
+    → ((es : List Entry) → ran ≡ spans_of es → named outputs ≡ outputs_of es → lines ≡ eight ++ slowest_lists most (told_commands es))
+    → lines ≡ last_summary most rs
+last_is_told most rs rest b ran outputs slowest None busy alone eight lines is held busy_is alone_is eight_is lists =
     absurd (nothing rest (sym is ∙ ap (map build_of) held.0))
   where
     nothing : (rest : List Build) → rest ++ b ∷ [] ≡ [] → ⊥
     nothing [] none = cc
     nothing (c ∷ rest) none = cc
-last_is_told rs rest b ran slowest (Some s) busy alone lines is held busy_is alone_is lines_is =
+last_is_told most rs rest b ran outputs slowest (Some s) busy alone eight lines is held busy_is alone_is eight_is lists =
     let same : b ≡ build_of held.build =
     ends_same rest (map build_of held.before) b (build_of held.build)
     (sym is ∙ ap (map build_of) held.is ∙ map-append build_of held.before (held.build ∷ [])) in
     let whole : summary_lines b busy alone ++ slowest_line slowest ≡ build_summary held.build = λ i. summary_lines (same i)
     ((busy_is ∙ ap busy_time held.found_is) i) ((alone_is ∙ ap alone_time held.found_is) i) ++ slowest_line (held.slowest_is i) in
-    lines_is ∙ whole ∙ sym (ap last_summary held.is ∙ last_summary-end held.before held.build)
+    lists (items held.build) held.found_is held.outputs_are
+    ∙ ap (λ (l : List ℕ). l ++ slowest_lists most (told_commands (items held.build))) (eight_is ∙ whole)
+    ∙ sym (ap (last_summary most) held.is ∙ last_summary-end most held.before held.build)
 
 -- a fraction over what is not nothing
 pub ratio_told : (n d e : ℕ) (text : List ℕ) → (d ≡ 0 → ⊥) → e ≡ d

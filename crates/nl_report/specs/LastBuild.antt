@@ -1,8 +1,9 @@
 -- The commands of the last build of a log.
-use Rattle.std.specs.Prelude.{Bool, true, nat_lt, if◌then◌else◌, ◌≡◌, List, [], ◌∷◌, ◌++◌, map, Option, None, Some}
+use Rattle.std.specs.Prelude.{ℕ, Bool, true, nat_lt, if◌then◌else◌, ◌≡◌, List, [], ◌∷◌, ◌++◌, map, Option, None, Some}
+use Rattle.std.specs.Borrow.{Bor}
+use Rattle.std.specs.List.{fold}
 use Rattle.nl_fields.specs.declared.entry.Entry.{Entry}
 use Rattle.nl_report.specs.Runs.{Run, first_of, items}
-use Rattle.std.specs.List.{fold}
 use Rattle.nl_report.specs.Commands.{commands, span_of, time_of}
 use Rattle.nl_report.specs.declared.span.Span.{Span}
 
@@ -29,21 +30,25 @@ span_of_command c = span_of c.last
 abbrev pub spans_of : List Entry → List Span
 spans_of entries = map span_of_command (commands entries)
 
--- those of the last build
-abbrev pub last_spans : List (Run Entry) → List Span
-last_spans [] = []
-last_spans (b ∷ []) = spans_of (items b)
-last_spans (b ∷ c ∷ bs) = last_spans (c ∷ bs)
+-- the first output of each command
+abbrev pub outputs_of : List Entry → List (List ℕ)
+outputs_of entries = map (λ e. e.name) (firsts_of entries)
 
--- the commands of the last build are found, and the slowest of them, and its last entry is known
-pub record HasLastOf (rs : List (Run Entry)) (found : List Span) (slowest : Option Entry) (last : Span) : Type 0 where
+-- the names behind references to them
+abbrev pub named : List (Bor (List ℕ)) → List (List ℕ)
+named outputs = map (λ o. o.now) outputs
+
+-- the commands of the last build are found, by their spans and their first outputs, and the slowest of them, and its last entry is known
+pub record HasLastOf (rs : List (Run Entry)) (found : List Span) (outputs : List (Bor (List ℕ))) (slowest : Option Entry) (last : Span)
+    : Type 0 where
   pub before : List (Run Entry)
   pub build : Run Entry
   pub is : rs ≡ before ++ build ∷ []
   pub found_is : found ≡ spans_of (items build)
+  pub outputs_are : named outputs ≡ outputs_of (items build)
   pub slowest_is : slowest ≡ slowest_of (items build)
   pub last_is : last ≡ span_of build.last
 
-abbrev pub AreLast : List (Run Entry) → List Span → Option Entry → Option Span → Type 0
-AreLast rs found slowest None = (rs ≡ []) × (found ≡ [])
-AreLast rs found slowest (Some last) = HasLastOf rs found slowest last
+abbrev pub AreLast : List (Run Entry) → List Span → List (Bor (List ℕ)) → Option Entry → Option Span → Type 0
+AreLast rs found outputs slowest None = (rs ≡ []) × (found ≡ []) × (outputs ≡ [])
+AreLast rs found outputs slowest (Some last) = HasLastOf rs found outputs slowest last

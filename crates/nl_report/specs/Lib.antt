@@ -4,6 +4,8 @@ pub mod Builds
 pub mod BuildSteps
 pub mod LastBuild
 pub mod Sweep
+pub mod Fraction
+pub mod Slowest
 pub mod Summary
 pub mod SweepSteps
 pub mod Shares

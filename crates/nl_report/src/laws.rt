@@ -1,10 +1,12 @@
 //! Laws of commands, builds and weighted times, each the contract of a function that does nothing.
-ghost use Rattle.std.specs.Prelude.{◌≡◌, ◌+◌, ◌*◌, ◌≤◌, List};
+ghost use Rattle.std.specs.Prelude.{◌≡◌, ◌+◌, ◌*◌, ◌<◌, ◌≤◌, ℕ, List, length, slice_index_or};
 ghost use Rattle.std.specs.List.{flat_map, sum_by};
+ghost use Rattle.std.specs.List.Sorted.{IsPermutation};
 ghost use Rattle.nl_fields.specs.declared.entry.Entry.{Entry};
 ghost use Rattle.nl_report.specs.Runs.{items, joined_runs};
 ghost use Rattle.nl_report.specs.Commands.{commands, time_of};
 ghost use Rattle.nl_report.specs.Builds.{builds};
+ghost use Rattle.nl_report.specs.Slowest.{Told, falling, ranked};
 ghost use Rattle.nl_report.specs.Sweep.{busy_time, left_over, parts, weight};
 ghost use Rattle.nl_report.specs.declared.span.Span.{Span};
 
@@ -28,4 +30,15 @@ pub fn weights_add_up()
 /// What is left over is no more parts of a millisecond than the commands' own times have milliseconds.
 pub fn little_is_left_over()
     ensures { (cs : List Span) → left_over cs ≤ sum_by time_of cs }
+{}
+
+/// The commands of a list are those that it is made of, each once; none takes longer than one before it, by what the list goes
+/// by; and those that are equal by it stand as before.
+pub fn the_slowest_come_first()
+    ensures each { (rank : Told → ℕ) (ts : List Told) → IsPermutation ts (falling rank ts) }
+    ensures order { (rank : Told → ℕ) (ts : List Told) (i j : ℕ) (d : Told) → i ≤ j
+        → j < length (falling rank ts)
+        → rank (slice_index_or (falling rank ts) j d) ≤ rank (slice_index_or (falling rank ts) i d) }
+    ensures alike { (rank : Told → ℕ) (v : ℕ) (ts : List Told)
+        → ranked rank v (falling rank ts) ≡ ranked rank v ts }
 {}

@@ -3,9 +3,11 @@
 
 mod builds;
 mod entry_text;
+mod fraction;
 mod last_commands;
 pub mod laws;
 mod shares;
+mod slowest;
 mod span;
 mod summary;
 mod sweep;
@@ -14,5 +16,6 @@ pub use builds::{Build, builds_in, builds_to};
 pub use entry_text::read_entries;
 pub use last_commands::{LastBuild, last_build};
 pub use shares::Shares;
+pub use slowest::{Rank, Row};
 pub use span::Span;
 pub use summary::summary_to;

@@ -1,5 +1,5 @@
 //! The command `summary`.
-ghost use Rattle.std.specs.Prelude.{◌≡◌, ◌++◌, List, IfErr, IfOk, IfSome, IsErrOf, OnOk, string_bytes};
+ghost use Rattle.std.specs.Prelude.{◌≡◌, ◌++◌, List, length, IfErr, IfOk, IfSome, IsErrOf, OnOk};
 ghost use Rattle.std.specs.List.{All};
 ghost use Rattle.nl_fields.specs.EntryLine.{IsEntry};
 ghost use Rattle.nl_fields.specs.declared.entry.Entry.{Entry};
@@ -11,12 +11,17 @@ ghost use Rattle.nl_print.specs.Faults.{IsLogFault};
 ghost use Rattle.nl_print.specs.Output.{IsTextAsRead};
 ghost use Rattle.nl_print.specs.VersionOf.{as_five};
 ghost use Rattle.nl_report.specs.Builds.{builds};
-ghost use Rattle.nl_report.specs.Summary.{last_summary, ratio, slowest_line, summary_lines, summary_text_of};
+ghost use Rattle.nl_report.specs.LastBuild.{named, outputs_of, spans_of};
+ghost use Rattle.nl_report.specs.Shares.{AreSharesOf};
+ghost use Rattle.nl_report.specs.Slowest.{slowest_lists, told_commands};
+ghost use Rattle.nl_report.specs.Summary.{last_summary, slowest_line, summary_lines, summary_text_of};
 
 use crate::builds::{Build, builds_in};
 use crate::entry_text::read_entries;
-use crate::last_commands::last_build;
+use crate::fraction::ratio;
+use crate::last_commands::{LastBuild, last_build};
 use crate::shares::Shares;
+use crate::slowest::{append_slowest_lists, rows_of};
 use crate::span::Span;
 use nl_fields::Entry;
 use nl_texts::{ToolFault, write_out};
@@ -25,13 +30,15 @@ use std::io::{Read, Write};
 
 /// Writes eight lines on the last build of the log that the reader gives: how many commands and outputs it has, the
 /// milliseconds from its first START to its last END, the sum of the commands' times, the milliseconds in which one command at
-/// least ran and those in which one alone did, how many ran at a time in the mean, and the slowest command.
+/// least ran and those in which one alone did, how many ran at a time in the mean, and the slowest command. Behind them it
+/// writes so many lines at most of the slowest commands by time, and as many by weighted time.
 pub fn summary_to<R: Read + Drop, W: Write>(
     alloc: Global,
+    most: usize,
     reader: R,
     writer: &mut W,
 ) -> Result<(), ToolFault>
-    ensures prints { Prints (IsTextAsRead summary_text_of (R.remaining reader)) (W.contents writer.old)
+    ensures prints { Prints (IsTextAsRead (summary_text_of most) (R.remaining reader)) (W.contents writer.old)
         (W.contents writer.new) result }
     ensures not_a_log { IsErrOf result ToolFault.NotALog
         → IfSome (R.remaining reader) (λ bs. log_of (as_five bs) ≡ NotALog) }
@@ -40,14 +47,14 @@ pub fn summary_to<R: Read + Drop, W: Write>(
     ensures faults { IfErr result IsLogFault }
 {
     let text = read_entries(alloc, reader)?;
-    let lines = last_told(alloc, text.as_slice())?;
+    let lines = last_told(alloc, most, text.as_slice())?;
     write_out(lines.as_slice(), writer)
 }
 
 // What is told of the last build.
-fn last_told(alloc: Global, text: &[u8]) -> Result<Vec<u8>, AllocError>
+fn last_told(alloc: Global, most: usize, text: &[u8]) -> Result<Vec<u8>, AllocError>
     ensures value { (es : List Entry) → All IsEntry es → text.now ≡ lines_of_entries es
-        → IfOk result (λ lines. lines.items ≡ last_summary (builds es)) }
+        → IfOk result (λ lines. lines.items ≡ last_summary most (builds es)) }
 {
     let mut found = builds_in(alloc, text)?;
     let Some(build) = found.pop() else {
@@ -57,7 +64,34 @@ fn last_told(alloc: Global, text: &[u8]) -> Result<Vec<u8>, AllocError>
     let shares = Shares::of(alloc, ran.commands.as_slice())?;
     let mut lines = summary_lines(alloc, &build, shares.busy(), shares.alone())?;
     append_slowest(alloc, &ran.slowest, &mut lines)?;
+    append_lists(alloc, most, &ran, &shares, &mut lines)?;
     Ok(lines)
+}
+
+// The lists of the slowest commands, each of so many lines at most.
+fn append_lists(
+    alloc: Global,
+    most: usize,
+    ran: &LastBuild<'_>,
+    shares: &Shares,
+    lines: &mut Vec<u8>,
+) -> Result<(), AllocError>
+    requires shares { AreSharesOf ran.now.commands.items shares.now }
+    requires alike { length ran.now.commands.items ≡ length ran.now.outputs.items }
+    ensures items { (es : List Entry) → ran.now.commands.items ≡ spans_of es
+        → named ran.now.outputs.items ≡ outputs_of es
+        → OnOk result (lines.new.items ≡ lines.old.items ++ slowest_lists most (told_commands es)) }
+{
+    if most == 0 {
+        return Ok(());
+    }
+    let rows = rows_of(
+        alloc,
+        ran.commands.as_slice(),
+        ran.outputs.as_slice(),
+        shares,
+    )?;
+    append_slowest_lists(alloc, most, rows.as_slice(), lines)
 }
 
 // The command that took the longest, if there is one.
@@ -97,19 +131,4 @@ fn summary_lines(alloc: Global, build: &Build, busy: u64, alone: u64) -> Result<
     let mut lines = Vec::new(alloc);
     lines.extend_from_slice(text.as_bytes())?;
     Ok(lines)
-}
-
-// A fraction with two digits behind the point, rounded down.
-fn ratio(alloc: Global, part: u128, whole: u64) -> Result<String, AllocError>
-    ensures value { IfOk result (λ text. string_bytes text ≡ ratio part whole) }
-{
-    if whole == 0 {
-        return String::from_str(alloc, "0.00");
-    }
-    let whole = u128::from(whole);
-    let times = part / whole;
-    let hundredths = part % whole * 100 / whole;
-    let tenth = hundredths / 10;
-    let hundredth = hundredths % 10;
-    format!(in alloc; "{times}.{tenth}{hundredth}")
 }

@@ -6,7 +6,7 @@ ghost use Rattle.nl_report.specs.SweepSteps.{AreSums, IsLow, IsSwept, Rises, run
 use std::alloc::{AllocError, Global};
 
 // A millisecond has so many parts: up to 22 commands share it with nothing left.
-const PARTS: u64 = 232_792_560;
+pub const PARTS: u64 = 232_792_560;
 
 // What the milliseconds before a moment come to.
 #[derive(Clone, Copy, Drop)]

@@ -1,6 +1,6 @@
 pub mod VersionChoice
 pub mod Answers
+pub mod Reports
 pub mod Faults
 pub mod Ending
 pub mod Reasons
-pub mod Reports

@@ -6,7 +6,7 @@ use crate::changing::{apply_in, or_auto, or_five, recompact_in, record_in, repai
 use crate::doubting::doubt_in;
 use crate::notes::Notes;
 use crate::printing::{Printing, Streaming, print_file, print_log, print_noted, stream_log};
-use crate::reporting::{Report, report_in};
+use crate::reporting::{Report, report_in, summary_in};
 use nl_disk::SystemFile;
 use nl_texts::ToolFault;
 use nl_words::{CommandLine, Words};
@@ -63,7 +63,7 @@ where
         Words::Damage(log) => return stream_log(rt, alloc, Streaming::Damage, log, notes),
         Words::Doubt(log) => return doubt_in(rt, alloc, log, notes),
         Words::Builds(log) => report_in(rt, alloc, Report::Builds, log, notes),
-        Words::Summary(log) => report_in(rt, alloc, Report::Summary, log, notes),
+        Words::Summary { log, lines } => summary_in(rt, alloc, log, lines, notes),
         Words::Record {
             log,
             start,

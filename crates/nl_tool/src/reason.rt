@@ -198,7 +198,10 @@ fn read_place<'a>(words: &Words<'a>) -> Option<Place<'a>>
         | Words::Damage(Some(log))
         | Words::Doubt(Some(log))
         | Words::Builds(Some(log))
-        | Words::Summary(Some(log)) => Some(Place::Log(log)),
+        | Words::Summary {
+            log: Some(log),
+            lines: _,
+        } => Some(Place::Log(log)),
         Words::HashFile(Some(file)) => Some(Place::Command(file)),
         Words::Replay(Some(script))
         | Words::Apply {
@@ -213,7 +216,10 @@ fn read_place<'a>(words: &Words<'a>) -> Option<Place<'a>>
         | Words::Damage(None)
         | Words::Doubt(None)
         | Words::Builds(None)
-        | Words::Summary(None)
+        | Words::Summary {
+            log: None,
+            lines: _,
+        }
         | Words::HashFile(None)
         | Words::Replay(None)
         | Words::Apply {
@@ -240,7 +246,7 @@ fn log_place<'a>(words: &Words<'a>, file: LogFile) -> Option<Place<'a>>
         | Words::Damage(_)
         | Words::Doubt(_)
         | Words::Builds(_)
-        | Words::Summary(_) => read_place(words),
+        | Words::Summary { .. } => read_place(words),
         Words::Hash(_) | Words::HashFile(_) | Words::Replay(_) => None,
     }
 }

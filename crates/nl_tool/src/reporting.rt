@@ -1,15 +1,18 @@
 //! The words that tell what the builds of a log did, over LOG or standard input, with standard output for their text.
-ghost use Rattle.std.specs.Prelude.{IfErr};
+ghost use Rattle.std.specs.Prelude.{◌≡◌, ◌<◌, ◌^◌, ℕ, pos, Some, IfErr, IfSome, OnOk};
+ghost use Rattle.nl_fields.specs.Digits.{IsDecimal};
 ghost use Rattle.nl_print.specs.Faults.{IsLogFault};
 ghost use Rattle.nl_print.specs.Output.{IsTextAsRead};
 ghost use Rattle.nl_print.specs.VersionOf.{as_five};
 ghost use Rattle.nl_table.specs.Log.{log_of};
 ghost use Rattle.nl_texts.specs.Output.{Prints};
 ghost use Rattle.nl_tool.specs.Answers.{RefusesLog};
-ghost use Rattle.nl_tool.specs.Reports.{report_text_of};
+ghost use Rattle.nl_tool.specs.Faults.{IsSummaryFault};
+ghost use Rattle.nl_tool.specs.Reports.{IsMost, report_text_of};
 
 use crate::files::open_log;
 use crate::notes::{NotedReader, NotedWriter, Notes};
+use nl_fields::read_i64;
 use nl_report::{builds_to, summary_to};
 use nl_texts::ToolFault;
 use std::alloc::Global;
@@ -20,7 +23,44 @@ use std::rt::Runtime;
 #[derive(Clone, Copy, Drop)]
 pub enum Report {
     Builds,
-    Summary,
+    /// With lists of so many lines at most.
+    Summary(usize),
+}
+
+// Tells of the last build, with lists of as many lines at most as the words say.
+pub fn summary_in<R: Runtime>(
+    rt: &R,
+    alloc: Global,
+    log: Option<&str>,
+    lines: Option<&str>,
+    notes: &mut Notes,
+) -> Result<(), ToolFault>
+    ensures accepts { OnOk result ((most : ℕ) × IsMost lines.entry most) }
+    ensures faults { IfErr result (IsSummaryFault lines.entry) }
+{
+    let Some(most) = most_of(lines) else {
+        return Err(ToolFault::BadNumber);
+    };
+    report_in(rt, alloc, Report::Summary(most), log, notes)
+}
+
+// How many lines a list has at most.
+fn most_of(lines: Option<&str>) -> Option<usize>
+    ensures value { IfSome result (IsMost lines.entry) }
+    ensures accepts { (most : ℕ) → IsMost lines.entry most → result ≡ Some most }
+{
+    match lines {
+        None => Some(10),
+        Some(text) => count_of(text),
+    }
+}
+
+// A number of 0 up to 2^63 - 1, in its one spelling.
+fn count_of(text: &str) -> Option<usize>
+    ensures value { IfSome result (λ n. (n < 2 ^ 63) × IsDecimal (pos n) text.now) }
+    ensures accepts { (n : ℕ) → n < 2 ^ 63 → IsDecimal (pos n) text.now → result ≡ Some n }
+{
+    usize::try_from(read_i64(text.as_bytes())?).ok()
 }
 
 // Tells it of the log at this path, or of standard input.
@@ -71,6 +111,6 @@ fn report_to<R: Read + Drop, W: Write>(
 {
     match report {
         Report::Builds => builds_to(alloc, reader, writer),
-        Report::Summary => summary_to(alloc, reader, writer),
+        Report::Summary(most) => summary_to(alloc, most, reader, writer),
     }
 }

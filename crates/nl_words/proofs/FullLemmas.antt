@@ -1,4 +1,4 @@
--- A walk over words leaves no row without a value, but for that of the option for a version.
+-- A walk over words leaves no row without a value, but for that of an option.
 use Rattle.std.proofs.Common.{◌≡◌, ◌∙◌, ◌<◌, ◌&&◌, ◌||◌, ◌⊎◌, not, inl, inr, ℕ, Bool, true, false, zero, suc, List, [], ◌∷◌, ◌++◌, length}
 use Rattle.std.proofs.Common.{Option, Some, None, is_some, cond, refl, sym, subst, arith, true≢false, length-append}
 use Rattle.std.specs.Prelude.{slice_get}
@@ -21,11 +21,11 @@ use Rattle.clap.specs.declared.builder.value_parser.Reading.{Reading}
 use Rattle.clap.proofs.WalkLemmas.{both}
 use Rattle.clap.proofs.SimpleLemmas.{is_false}
 use Rattle.std.proofs.lemmas.Slice.Eq.{bytes_eq-Decides}
-use Rattle.nl_words.specs.CommandLine.{version_id}
+use Rattle.nl_words.specs.CommandLine.{lines_id, version_id}
 
--- the id is that of the option with a value
+-- the id is that of an option with a value
 abbrev pub is_option : Text → Bool
-is_option id = bytes_eq id version_id
+is_option id = bytes_eq id version_id || bytes_eq id lines_id
 
 -- there is a value, where the id isn't the option's
 abbrev pub IsFilled : Text → List Text → Type 0

@@ -12,7 +12,7 @@ use Rattle.clap.specs.declared.parser.matches.ArgMatches.{ArgMatches}
 use Rattle.clap.specs.declared.parser.matches.ArgMatches.TheViews.{out-ArgMatches, out-SubCommand}
 use Rattle.clap.specs.declared.parser.matches.SubCommand.{SubCommand}
 use Rattle.nl_words.specs.declared.command_line.Words.{Words}
-use Rattle.nl_words.specs.CommandLine.{HasEach, IsSaid, IsWhole, required_of, verbose_id, verbose_rule, version_id, version_rule}
+use Rattle.nl_words.specs.CommandLine.{HasEach, IsSaid, IsWhole, lines_id, lines_rule, required_of, verbose_id, verbose_rule, version_id, version_rule}
 
 -- a reference to a text that is there
 pub some_of : (o : Option (Bor Text)) (t : Option Text) → option_map (λ (s : Bor Text). s.now) o ≡ t → is_some t ≡ true → IsSome o
@@ -60,6 +60,16 @@ pub version_told : (new long named told : Arg) (name value text : Bor Text)
 version_told new long named told name value text e f g is id =
     ap rule_of g ∙ (ap rule_of f ∙ ap (λ (a : Rule). record a { value_names = 1 }) (ap rule_of e
     ∙ ap₂ (λ (a : Rule) (t : Text). record a { long = Some t }) is id))
+
+-- the option for how many lines, by how it is put together
+pub lines_told : (new long short named told : Arg) (name value text : Bor Text) (letter : ℕ)
+    → long ≡ record new { long = Some name } → short ≡ record long { short = Some letter } → named ≡ record short { val_names = One value }
+    → told ≡ record named { help = Some text }
+    → rule_of new ≡ new_rule lines_id → name.now ≡ lines_id → letter ≡ 110 → rule_of told ≡ lines_rule
+lines_told new long short named told name value text letter e f g h is id n =
+    ap rule_of h ∙ (ap rule_of g ∙ ap (λ (a : Rule). record a { value_names = 1 }) (ap rule_of f
+    ∙ ap₂ (λ (a : Rule) (c : ℕ). record a { short = Some c })
+    (ap rule_of e ∙ ap₂ (λ (a : Rule) (t : Text). record a { long = Some t }) is id) n))
 
 -- the flag for a reason, by how it is put together
 pub verbose_told : (new long short flag told : Arg) (name text : Bor Text) (letter : ℕ)

@@ -27,6 +27,14 @@ version_id = codes "log-version"
 abbrev pub version_rule : Rule
 version_rule = record (new_rule version_id) { long = Some version_id; value_names = 1 }
 
+-- the name of the option for how many lines a list has at most
+abbrev pub lines_id : Text
+lines_id = codes "lines"
+
+-- the option: it has one value
+abbrev pub lines_rule : Rule
+lines_rule = record (new_rule lines_id) { long = Some lines_id; short = Some 110; value_names = 1 }
+
 -- the name of the flag for the reason of a refusal
 abbrev pub verbose_id : Text
 verbose_id = codes "verbose"
@@ -61,7 +69,7 @@ abbrev pub builds : App
 builds = with_rule (new_app (codes "builds")) (positional (codes "LOG") false)
 
 abbrev pub summary : App
-summary = with_rule (new_app (codes "summary")) (positional (codes "LOG") false)
+summary = with_rule (with_rule (new_app (codes "summary")) (positional (codes "LOG") false)) lines_rule
 
 abbrev pub hash_file : App
 hash_file = with_rule (with_rule (new_app (codes "hash-file")) (positional (codes "FILE") false)) version_rule
@@ -173,7 +181,7 @@ IsSaid (Entries log) (Some p) = (p.0 ≡ codes "entries") × IsGiven (codes "LOG
 IsSaid (Damage log) (Some p) = (p.0 ≡ codes "damage") × IsGiven (codes "LOG") p.1 log
 IsSaid (Doubt log) (Some p) = (p.0 ≡ codes "doubt") × IsGiven (codes "LOG") p.1 log
 IsSaid (Builds log) (Some p) = (p.0 ≡ codes "builds") × IsGiven (codes "LOG") p.1 log
-IsSaid (Summary log) (Some p) = (p.0 ≡ codes "summary") × IsGiven (codes "LOG") p.1 log
+IsSaid (Summary log lines) (Some p) = (p.0 ≡ codes "summary") × IsGiven (codes "LOG") p.1 log × IsGiven lines_id p.1 lines
 IsSaid (HashFile file) (Some p) = (p.0 ≡ codes "hash-file") × IsGiven (codes "FILE") p.1 file
 IsSaid (Record log start end mtime name command) (Some p) = (p.0 ≡ codes "record")
     × IsThere (codes "LOG") p.1 log × IsThere (codes "START") p.1 start

@@ -20,7 +20,10 @@ pub enum Words<'a> {
     Damage(Option<&'a str>),
     Doubt(Option<&'a str>),
     Builds(Option<&'a str>),
-    Summary(Option<&'a str>),
+    Summary {
+        log: Option<&'a str>,
+        lines: Option<&'a str>,
+    },
     HashFile(Option<&'a str>),
     Record {
         log: &'a str,
@@ -138,7 +141,7 @@ fn said<'a>(matches: &ArgMatches<'a>) -> Words<'a>
         "damage" => Words::Damage(optional(inner, "LOG")),
         "doubt" => Words::Doubt(optional(inner, "LOG")),
         "builds" => Words::Builds(optional(inner, "LOG")),
-        "summary" => Words::Summary(optional(inner, "LOG")),
+        "summary" => summary_words(inner),
         "hash-file" => Words::HashFile(optional(inner, "FILE")),
         "record" => record_words(inner),
         "recompact" => recompact_words(inner),
@@ -155,6 +158,15 @@ fn hash_words<'a>(inner: &ArgMatches<'a>) -> Words<'a>
     ensures value { IsSaid result (Some (codes "hash", rows_of (found_of inner.now))) }
 {
     Words::Hash(value(inner, "COMMAND"))
+}
+
+fn summary_words<'a>(inner: &ArgMatches<'a>) -> Words<'a>
+    ensures value { IsSaid result (Some (codes "summary", rows_of (found_of inner.now))) }
+{
+    Words::Summary {
+        log: optional(inner, "LOG"),
+        lines: optional(inner, "lines"),
+    }
 }
 
 fn record_words<'a>(inner: &ArgMatches<'a>) -> Words<'a>

@@ -2,7 +2,7 @@
 ghost use Rattle.std.specs.Prelude.{◌≡◌, IfOk, false};
 ghost use Rattle.clap.specs.Words.{app_of, with_rule};
 ghost use Rattle.clap.specs.declared.builder.command.Command.TheViews.{out-Command};
-ghost use Rattle.nl_words.specs.CommandLine.{apply, builds, check, damage, doubt, entries, hash, hash_file, positional, recompact, record_line, record_values, repair, replay, restat, show, summary, version_rule};
+ghost use Rattle.nl_words.specs.CommandLine.{apply, builds, check, damage, doubt, entries, hash, hash_file, lines_rule, positional, recompact, record_line, record_values, repair, replay, restat, show, summary, version_rule};
 
 use clap::{Arg, Command};
 use std::alloc::{AllocError, Global};
@@ -22,6 +22,8 @@ const LOG_VERSION: &str =
 
 const HASH_VERSION: &str =
     "5, 6 or 7: the version of the logs that hold the hash; auto: 5, as where it is left out";
+
+const LINES: &str = "How many lines each list has at most: 10 where it is left out; 0 for none";
 
 const OWN_VERSION: &str =
     "5, 6 or 7: the version of LOG; auto: the one that its first line names, as where it is left out";
@@ -56,6 +58,20 @@ fn with_version<'a>(
         .long("log-version")
         .value_name("VERSION");
     command.arg(option.help(help))
+}
+
+// The command with the option for how many lines its lists have.
+fn with_lines<'a>(
+    alloc: Global,
+    command: Command<'a>,
+    help: &'a str,
+) -> Result<Command<'a>, AllocError>
+    ensures shape { IfOk result (λ c. app_of c ≡ with_rule (app_of command.entry) lines_rule) }
+    ensures local { IfOk result
+        (λ c. (out-Command c).has_globals ≡ (out-Command command.entry).has_globals) }
+{
+    let option = Arg::new(alloc, "lines").long("lines").short('n');
+    command.arg(option.value_name("N").help(help))
 }
 
 pub fn show_command<'a>(alloc: Global) -> Result<Command<'a>, AllocError>
@@ -217,7 +233,9 @@ pub fn summary_command<'a>(alloc: Global) -> Result<Command<'a>, AllocError>
     ensures local { IfOk result (λ c. (out-Command c).has_globals ≡ false) }
 {
     let command = Command::new(alloc, "summary")
-        .about("Prints how much the last build ran, how long it took, and how much ran at a time")
+        .about(
+            "Prints how long the last build took, how much ran at a time, and its slowest commands",
+        )
         .after_help(
             "\
 commands  how many commands ended in it
@@ -229,9 +247,18 @@ alone     milliseconds in which one command alone ran
 parallel  how many commands ran at a time in the mean: total / wall, rounded down
 slowest   the command that took the longest: its milliseconds, and its first output
 
+Two lists of commands follow: those that took the longest, and those with the longest weighted time.
+One line for each: KEY, TIME, WEIGHTED and OUTPUT with a space between neighbours.
+
+KEY       `by-time` or `by-weight`: what the list goes by; equal ones stand as in LOG
+TIME      how long the command took, in milliseconds
+WEIGHTED  the same, where a millisecond in which k commands ran counts 1/k; rounded down
+OUTPUT    its first output
+
 Commands and builds are those of `builds`. Where LOG tells no build, nothing is printed.",
         );
-    with_value(alloc, command, "LOG", false, OPTIONAL_ANY_LOG)
+    let command = with_value(alloc, command, "LOG", false, OPTIONAL_ANY_LOG)?;
+    with_lines(alloc, command, LINES)
 }
 
 pub fn hash_file_command<'a>(alloc: Global) -> Result<Command<'a>, AllocError>

@@ -1,5 +1,6 @@
 use Rattle.std.proofs.Common.{◌≡◌, ◌∙◌, ◌++◌, List, ℕ, append_assoc, ap, string_bytes}
-use Rattle.nl_report.specs.Summary.{ratio, told_lines}
+use Rattle.nl_report.specs.Fraction.{ratio}
+use Rattle.nl_report.specs.Summary.{told_lines}
 use Rattle.nl_report.proofs.summary.summary_lines.Goals as goal
 
 pub returns : goal.returns

@@ -3,7 +3,7 @@ use Rattle.clap.specs.Words.{found_of, rows_of}
 use Rattle.nl_words.proofs.DefinitionLemmas.{only_show}
 use Rattle.nl_words.proofs.ValueLemmas.{entered_has, entered_is, entered_says}
 use Rattle.nl_words.specs.CommandLine.{IsSaid, IsWhole}
-use Rattle.nl_words.specs.declared.command_line.Words.TheVariants.{Builds, Check, Damage, Doubt, Entries, HashFile, Replay, Show, Summary}
+use Rattle.nl_words.specs.declared.command_line.Words.TheVariants.{Builds, Check, Damage, Doubt, Entries, HashFile, Replay, Show}
 use Rattle.nl_words.proofs.command_line.said.Goals as goal
 
 pub hash_words-requires : goal.hash_words-requires
@@ -82,7 +82,7 @@ pub returns-in-summary : goal.returns-in-summary
 returns-in-summary c =
     let met = c.in-Some in
     let says = entered_says c.args.matches.now met.name.now (rows_of (found_of met.inner.now)) met.ensures.name met.ensures.rows in
-    record { value = says (Summary c.optional-in-summary.result) (codes "summary") c.in-summary.is (refl, c.optional-in-summary.ensures) }
+    record { value = says c.summary_words.result (codes "summary") c.in-summary.is c.summary_words.ensures.value }
 
 pub returns-in-text : goal.returns-in-text
 returns-in-text c =

@@ -1,7 +1,7 @@
 use Rattle.std.proofs.Common.{◌∙◌, append_assoc}
 use Rattle.std.proofs.lemmas.Result.{IfOk-weaker}
 use Rattle.nl_report.proofs.SummaryLemmas.{ratio_told}
-use Rattle.nl_report.proofs.summary.ratio.Goals as goal
+use Rattle.nl_report.proofs.fraction.ratio.Goals as goal
 
 pub returns : goal.returns
 returns c = record {
