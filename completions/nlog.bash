@@ -16,7 +16,10 @@ _nlog() {
             # Bash has the `=` of `--log-version=7` as a word of its own.
             [[ ${COMP_WORDS[at + 1]} == '=' ]] && at=$((at + 1))
             if ((++at >= COMP_CWORD)); then
-                mapfile -t COMPREPLY < <(compgen -W '5 6 7 auto' -- "$word")
+                case ${COMP_WORDS[1]} in
+                    entries | damage | doubt | builds | summary) mapfile -t COMPREPLY < <(compgen -W 'auto' -- "$word") ;;
+                    *) mapfile -t COMPREPLY < <(compgen -W '5 6 7 auto' -- "$word") ;;
+                esac
                 return
             fi
         elif [[ ! $dashes && ${COMP_WORDS[1]} == summary && ${COMP_WORDS[at]} =~ ^(--lines|-n)$ ]]; then
@@ -28,9 +31,10 @@ _nlog() {
     done
     if [[ ! $dashes && $word == -* ]]; then
         case ${COMP_WORDS[1]} in
-            show | check | hash | hash-file | record | recompact | restat | repair | apply) mapfile -t COMPREPLY < <(compgen -W '--log-version --verbose -v --help -h' -- "$word") ;;
-            summary) mapfile -t COMPREPLY < <(compgen -W '--lines -n --verbose -v --help -h' -- "$word") ;;
-            *) mapfile -t COMPREPLY < <(compgen -W '--verbose -v --help -h' -- "$word") ;;
+            replay) mapfile -t COMPREPLY < <(compgen -W '--verbose -v --help -h' -- "$word") ;;
+            entries | damage | builds | repair) mapfile -t COMPREPLY < <(compgen -W '--log-version --missing-ok --verbose -v --help -h' -- "$word") ;;
+            summary) mapfile -t COMPREPLY < <(compgen -W '--log-version --missing-ok --lines -n --verbose -v --help -h' -- "$word") ;;
+            *) mapfile -t COMPREPLY < <(compgen -W '--log-version --verbose -v --help -h' -- "$word") ;;
         esac
         return
     fi

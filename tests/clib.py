@@ -1361,6 +1361,7 @@ def by_the_rules_of_the_program(trials, made, room):
         return
     system_calls.traced, crash_states.follow = traced_by_path, follow_by_path
     # (the library looks at the log's name in places of its own: `moved`, `kept_away` and `changed_between` try what that is for)
+    system_calls.LOOKS_FIRST, system_calls.note = False, lambda *_: b""
     wanted, done = system_calls.effects_wanted, system_calls.effect
     system_calls.effects_wanted = lambda case: [it for it in wanted(case) if it != "look LOG"]
     system_calls.effect = lambda *call: None if done(*call) == "look LOG" else done(*call)

@@ -43,7 +43,8 @@ ROWS = [
     (["restat", "LOG", "NEGATIVE"], TORN, ROOMY, 1, LOG),
     (["restat", "LOG", "TIMES"], LOG, 0, 1, LOG),
     (["repair", "LOG"], TORN, ROOMY, 0, HEADER + b"5\t6\t30\ta\tcc\n3\t4\t20\tb\tbb\n"),
-    (["repair", "LOG"], None, ROOMY, 0, HEADER),
+    (["repair", "--missing-ok", "LOG"], None, ROOMY, 0, HEADER),
+    (["repair", "LOG"], None, ROOMY, 1, None),
     # Its rewriting finds no room, and the torn line is cut off before that.
     (["repair", "LOG"], TORN, 20, 1, LOG),
     (["repair", "LOG"], NO_LOG, ROOMY, 1, NO_LOG),

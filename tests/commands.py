@@ -225,6 +225,10 @@ NO_OPTION = b"""error: unexpected argument '--log-version' found
 Usage: nlog %s
 """ + MORE
 
+# The words that have no version but the one of their log, and what they say of a number.
+STREAMED = ("entries", "damage", "doubt", "builds", "summary")
+NO_NUMBER = BAD_VERSION.replace(b"5, 6, 7 or auto", b"auto")
+
 # An option that the program alone doesn't have, a value behind one that takes none, a value too few of six, and an option that is there twice.
 NO_SHORT_OPTION = b"""error: unexpected argument '-v' found
 
@@ -240,6 +244,12 @@ ONE_TOO_FEW = b"""error: the following required arguments were not provided:
 Usage: nlog record <LOG> <START> <END> <MTIME> <NAME> <COMMAND>
 """ + MORE
 TWO_VERBOSE = TWO_VERSIONS.replace(b"--log-version <VERSION>", b"--verbose")
+
+# Of the option by which a log may be missing, as a command says which doesn't have it.
+NO_MISSING = NO_OPTION.replace(b"--log-version", b"--missing-ok")
+TWO_MISSING = TWO_VERSIONS.replace(b"--log-version <VERSION>", b"--missing-ok").replace(b"nlog show", b"nlog entries")
+# What a log that is missing was, with `--verbose`.
+IS_MISSING = b": it is missing, and was read as empty\n"
 
 BEFORE_THE_COMMAND = b"""error: unexpected argument '--log-version' found
 
@@ -281,7 +291,13 @@ WORDS = [
     (["hash-file", "folder"], 1, b"", CANNOT_READ),
     (["entries"], 0, INPUT_SHOWN, b""),
     (["entries", "file"], 0, FILE_SHOWN, b""),
-    (["entries", "missing"], 0, b"", b""),
+    (["entries", "missing"], 1, b"", CANNOT_READ),
+    (["entries", ""], 1, b"", CANNOT_READ),
+    (["entries", "--missing-ok", "missing"], 0, b"", b""),
+    (["entries", "file", "--missing-ok"], 0, FILE_SHOWN, b""),
+    (["entries", "--missing-ok"], 0, INPUT_SHOWN, b""),
+    (["entries", "--missing-ok", "folder"], 1, b"", CANNOT_READ),
+    (["entries", "--missing-ok", "file/log"], 1, b"", CANNOT_READ),
     (["entries", "folder"], 1, b"", CANNOT_READ),
     (["doubt"], 3, b"missing\tinput\n", b""),
     (["doubt", "file"], 3, b"newer\tfile\n", b""),
@@ -293,8 +309,10 @@ WORDS = [
     (["builds"], 0, INPUT_BUILT, b""),
     (["builds", "file"], 0, FILE_BUILT, b""),
     (["builds", "--", "-file"], 0, FILE_BUILT, b""),
-    (["builds", "missing"], 0, b"", b""),
-    (["builds", ""], 0, b"", b""),
+    (["builds", "missing"], 1, b"", CANNOT_READ),
+    (["builds", ""], 1, b"", CANNOT_READ),
+    (["builds", "missing", "--missing-ok"], 0, b"", b""),
+    (["builds", "--missing-ok", "file"], 0, FILE_BUILT, b""),
     (["builds", "folder"], 1, b"", CANNOT_READ),
     (["builds", "file/log"], 1, b"", CANNOT_READ),
     (["summary"], 0, ONE_SUMMED % ((b"input",) * 3), b""),
@@ -310,14 +328,33 @@ WORDS = [
     (["summary", "-n", "x", "folder"], 1, b"", BAD_NUMBER),
     (["summary", "file"], 0, ONE_SUMMED % ((b"file",) * 3), b""),
     (["summary", "--", "-file"], 0, ONE_SUMMED % ((b"file",) * 3), b""),
-    (["summary", "missing"], 0, b"", b""),
+    (["summary", "missing"], 1, b"", CANNOT_READ),
+    (["summary", "--missing-ok", "missing"], 0, b"", b""),
+    (["summary", "--missing-ok", "-n", "0", "file"], 0, ONE_COUNTED % b"file", b""),
     (["summary", "folder"], 1, b"", CANNOT_READ),
     (["damage"], 3, b"3\tskipped\t1\t-\t-\n", b""),
     (["damage", "file"], 0, b"", b""),
-    (["damage", "missing"], 0, b"", b""),
+    (["damage", "missing"], 1, b"", CANNOT_READ),
+    (["damage", "--missing-ok", "missing"], 0, b"", b""),
+    (["damage", "--missing-ok"], 3, b"3\tskipped\t1\t-\t-\n", b""),
     (["damage", "folder"], 1, b"", CANNOT_READ),
     (["repair"], 2, b"", NO_LOG_NAME),
     (["repair", "folder"], 1, b"", b"nlog: the folder failed\n"),
+    (["repair", "missing"], 1, b"", CANNOT_READ),
+    (["repair", ""], 1, b"", CANNOT_READ),
+    (["repair", "missing/log"], 1, b"", CANNOT_READ),
+    (["repair", "--log-version", "7", "missing"], 1, b"", CANNOT_READ),
+    (["repair", "--missing-ok", "folder"], 1, b"", b"nlog: the folder failed\n"),
+    (["repair", "--missing-ok", "missing/log"], 1, b"", b"nlog: the folder failed\n"),
+    # A look that fails otherwise says nothing of whether LOG is there.
+    (["repair", "file/log"], 1, b"", b"nlog: the folder failed\n"),
+    (["show", "--missing-ok", "missing"], 2, b"", NO_MISSING % b"show [OPTIONS] [LOG]"),
+    (["doubt", "--missing-ok", "missing"], 2, b"", NO_MISSING % b"doubt [OPTIONS] [LOG]"),
+    (["record", "--missing-ok", "missing"], 2, b"", NO_MISSING % b"record [OPTIONS] <LOG> <START> <END> <MTIME> <NAME> <COMMAND>"),
+    (["apply", "--missing-ok", "missing"], 2, b"", NO_MISSING % b"apply [OPTIONS] <LOG> [SCRIPT]"),
+    (["entries", "--missing-ok", "file", "--missing-ok"], 2, b"", TWO_MISSING),
+    # Behind `--` it is a file.
+    (["entries", "--", "--missing-ok"], 1, b"", CANNOT_READ),
     (["replay"], 1, b"", b"nlog: bad line 1\n"),
     (["replay", "script"], 0, REPLAYED, b""),
     (["replay", "file"], 1, b"", b"nlog: bad line 1\n"),
@@ -422,10 +459,22 @@ WORDS = [
     (["check", "--log-version=07"], 2, b"", BAD_VERSION % b"07"),
     (["hash", "--log-version", "seven", "c"], 2, b"", BAD_VERSION % b"seven"),
     (["show", "--log-version", "7", "seven", "--log-version", "7"], 2, b"", TWO_VERSIONS),
-    (["entries", "--log-version", "7"], 2, b"", NO_OPTION % b"entries [OPTIONS] [LOG]"),
-    (["doubt", "--log-version", "7"], 2, b"", NO_OPTION % b"doubt [OPTIONS] [LOG]"),
-    (["builds", "--log-version", "7"], 2, b"", NO_OPTION % b"builds [OPTIONS] [LOG]"),
-    (["summary", "--log-version", "7"], 2, b"", NO_OPTION % b"summary [OPTIONS] [LOG]"),
+    (["replay", "--log-version", "7"], 2, b"", NO_OPTION % b"replay [OPTIONS] [SCRIPT]"),
+    # These take `auto` alone, which is what they do without it.
+    *[([word, "--log-version", version], 2, b"", NO_NUMBER % version.encode()) for word in STREAMED for version in ("5", "7", "8", "Auto", "")],
+    *[([word, "--log-version"], 2, b"", NO_VERSION) for word in STREAMED],
+    (["entries", "--log-version", "auto", "file"], 0, FILE_SHOWN, b""),
+    (["entries", "seven", "--log-version=auto"], 0, NEW_SHOWN, b""),
+    (["entries", "--log-version", "auto", "four"], 0, FOUR_SHOWN, b""),
+    (["entries", "--log-version", "auto", "eight"], 1, b"", OTHER_VERSION),
+    (["entries", "--log-version", "auto"], 0, INPUT_SHOWN, b""),
+    (["damage", "--log-version", "auto", "seven"], 3, b"3\tskipped\t1\t-\t-\n", b""),
+    (["damage", "--log-version=auto", "--missing-ok", "missing"], 0, b"", b""),
+    (["doubt", "--log-version", "auto", "seven"], 3, b"missing\tout\n", b""),
+    (["builds", "--log-version", "auto", "seven"], 0, NEW_BUILT, b""),
+    (["summary", "--log-version", "auto", "six"], 0, ONE_SUMMED % b"out", b""),
+    (["repair", "--log-version", "auto", "eight"], 1, b"", OTHER_VERSION),
+    (["apply", "--log-version", "auto", "six", "asks"], 0, b"ok\nnone\nnone\n" + NEW_SHOWN + b"end\n", b""),
     (["repair", "--log-version", "7"], 2, b"", NO_LOG_NAME.replace(b"repair <LOG>", b"repair --log-version <VERSION> <LOG>")),
     (["repair", "seven", "--log-version"], 2, b"", NO_VERSION),
     (["repair", "seven", "--log-version", "4"], 2, b"", BAD_VERSION % b"4"),
@@ -452,7 +501,20 @@ WORDS = [
     (["record", "folder", "1", "2", "3", "n", "c"], 1, b"", b"nlog: the folder failed\n"),
     # Behind a refusal the file that it is of, and why.
     (["show", "--verbose", "file"], 0, FILE_SHOWN, b""),
-    (["check", "-v", "missing"], 0, NOTHING_CHECKED, b""),
+    (["check", "-v", "missing"], 0, NOTHING_CHECKED, b"nlog: LOG missing" + IS_MISSING),
+    (["show", "missing", "-v"], 0, b"", b"nlog: LOG missing" + IS_MISSING),
+    (["show", "-v", ""], 0, b"", b"nlog: LOG " + IS_MISSING),
+    (["show", "-v", "--log-version", "7", "missing"], 0, b"", b"nlog: LOG missing" + IS_MISSING),
+    (["entries", "-v", "--missing-ok", "missing"], 0, b"", b"nlog: LOG missing" + IS_MISSING),
+    (["damage", "-v", "--missing-ok", "missing"], 0, b"", b"nlog: LOG missing" + IS_MISSING),
+    (["builds", "-v", "--missing-ok", "missing"], 0, b"", b"nlog: LOG missing" + IS_MISSING),
+    (["summary", "-v", "--missing-ok", "missing"], 0, b"", b"nlog: LOG missing" + IS_MISSING),
+    (["entries", "-v", "missing"], 1, b"", CANNOT_READ + b"nlog: LOG missing: " + NO_FILE),
+    (["damage", "-v", "missing"], 1, b"", CANNOT_READ + b"nlog: LOG missing: " + NO_FILE),
+    (["builds", "-v", "missing"], 1, b"", CANNOT_READ + b"nlog: LOG missing: " + NO_FILE),
+    (["summary", "-v", "missing"], 1, b"", CANNOT_READ + b"nlog: LOG missing: " + NO_FILE),
+    (["repair", "-v", "missing"], 1, b"", CANNOT_READ + b"nlog: LOG missing: " + NO_FILE),
+    (["show", "-v"], 0, INPUT_SHOWN, b""),
     (["damage", "-v"], 3, b"3\tskipped\t1\t-\t-\n", b""),
     (["hash", "--", "-v"], 0, b"%x\n" % command_hash(b"-v"), b""),
     (["show", "-v", "folder"], 1, b"", CANNOT_READ + b"nlog: LOG folder: " + A_FOLDER),
@@ -501,6 +563,14 @@ OWN = [
     (["recompact", "own/x", "own/keep"], HEADER + b"-1\t2\t9\tb\t72274e7a30810c7b\n"),
 ]
 
+# Those that make a log which is missing.
+MADE = [
+    ["record", "own/z", "1", "2", "3", "a", "cc\tx"],
+    ["recompact", "own/z", "own/keep"],
+    ["restat", "own/z", "own/times"],
+    ["repair", "--missing-ok", "own/z"],
+]
+
 # The same of logs of versions 4 to 7, each asked for by its number or by `auto`: a torn header, a torn line, one of version 4 that stays, and the hash of version 7.
 OWN_AS = [
     ("7", ["record", "--", "1", "2", "3", "a", "cc\tx"], None, b"# ninja log v7\n1\t2\t3\ta\t8072fc2ac19230e4\n"),
@@ -511,8 +581,8 @@ OWN_AS = [
     ("5", ["recompact", "keep"], b"# ninja log v4\n1\t2\t3\tb\tcc\tx\n", b"# ninja log v5\n1\t2\t3\tb\t72274e7a30810c7b\n"),
     ("7", ["recompact", "keep"], b"# ninja log v4\n1\t2\t3\tb\tcc\tx\n", OTHER_VERSION),
     # A repair of a log of 0 to 14 bytes, and of others.
-    *[(str(version), ["repair"], log, b"# ninja log v%d\n" % version) for version in (5, 6, 7) for log in (None, *(b"# ninja log v"[:size] for size in range(14)), b"# ninja log v%d" % version)],
-    *[("auto", ["repair"], log, HEADER) for log in (None, b"", b"# ninja log v", b"# ninja log v5")],
+    *[(str(version), ["repair", "--missing-ok"], log, b"# ninja log v%d\n" % version) for version in (5, 6, 7) for log in (None, *(b"# ninja log v"[:size] for size in range(14)), b"# ninja log v%d" % version)],
+    *[("auto", ["repair", "--missing-ok"], log, HEADER) for log in (None, b"", b"# ninja log v", b"# ninja log v5")],
     ("auto", ["repair"], b"# ninja log v7", b"# ninja log v7\n"),
     ("7", ["repair"], b"# ninja log v7\n1\t2\t3\tb\t4\n5\t6", b"# ninja log v7\n1\t2\t3\tb\t4\n"),
     ("5", ["repair"], b"# ninja log v4\n1\t2\t3\tb\tcc\tx\n", b"# ninja log v5\n1\t2\t3\tb\t72274e7a30810c7b\n"),
@@ -667,7 +737,9 @@ def try_through(trials, program, room):
         answers = b"ok\n" + left[len(HEADER) :] + b"end\n"
         trials.want(f"apply after it, {what}", asked(program, room, ["apply", "log"], b"open\ntable\n"), (0, answers, b""))
         trials.want(f"the log after it, {what}", read(f"{room}/log"), left)
-    trials.want("repair of a log that is missing", asked(program, room, ["repair", "none"]), (0, b"", b""))
+    trials.want("repair of a log that is missing", asked(program, room, ["repair", "none"]), (1, b"", CANNOT_READ))
+    trials.want("repair of a log that is missing: no log", read(f"{room}/none"), None)
+    trials.want("repair of a log that may be missing", asked(program, room, ["repair", "--missing-ok", "none"]), (0, b"", b""))
     trials.want("repair of a log that is missing: the log", read(f"{room}/none"), HEADER)
     for command, wanted in HASHES:
         trials.want(f"hash-file of {command!r}", asked(program, room, ["hash-file"], command.encode()), (0, wanted, b""))
@@ -707,12 +779,21 @@ def try_own(trials, program, room):
         trials.want(f"{words}", asked(program, room, words, INPUT), (0, b"", b""))
         trials.want(f"{words}: the log", read(f"{room}/own/x"), left)
         trials.want(f"{words}: the files", sorted(os.listdir(f"{room}/own")), ["keep", "times", "x"])
+    # With `--verbose` each says of a log that was missing that it was, and then no more.
+    for word, *values in MADE:
+        words = [word, "-v", *values]
+        ended = asked(program, room, words, INPUT)
+        trials.want(f"{words} of a missing log", ended, (0, b"", b"nlog: LOG own/z" + IS_MISSING))
+        trials.want(f"{words}: the log that was made", (read(f"{room}/own/z") or b"").startswith(HEADER), True)
+        trials.want(f"{words} again", asked(program, room, words, INPUT), (0, b"", b""))
+        os.remove(f"{room}/own/z")
     trials.want("KEEP and TIMES", (read(f"{room}/own/keep"), read(f"{room}/own/times")), (b"b\n", b"9\tb\n"))
     for version, (word, *values), log, left in OWN_AS:
         write(f"{room}/own/y", log)
         what = f"{word} of {log!r} for version {version}"
         values = [f"own/{it}" if it in ("keep", "times") else it for it in values]
-        ended = asked(program, room, [word, "--log-version", version, "own/y", *values], INPUT)
+        flags = [it for it in values if it == "--missing-ok"]
+        ended = asked(program, room, [word, *flags, "--log-version", version, "own/y", *(it for it in values if it not in flags)], INPUT)
         is_refused = left == OTHER_VERSION
         trials.want(what, ended, (1, b"", OTHER_VERSION) if is_refused else (0, b"", b""))
         trials.want(f"{what}: the log", read(f"{room}/own/y"), log if is_refused else left)

@@ -178,8 +178,9 @@ def try_dash(trials, program, room):
     want("show of a file - that is missing", ["show", "-"], SMALL, DONE)
     want("check of a file - that is missing", ["check", "-"], SMALL, (0, Log(b"").report(), b""))
     want("replay of a file - that is missing", ["replay", "-"], b"open\n", CANNOT_READ)
-    want("entries of a file - that is missing", ["entries", "-"], SMALL, DONE)
-    want("damage of a file - that is missing", ["damage", "-"], SMALL + b"x", DONE)
+    want("entries of a file - that is missing", ["entries", "-"], SMALL, CANNOT_READ)
+    want("damage of a file - that is missing", ["damage", "-"], SMALL + b"x", CANNOT_READ)
+    want("damage of a file - that may be missing", ["damage", "--missing-ok", "-"], SMALL + b"x", DONE)
     want("hash-file of a file - that is missing", ["hash-file", "-"], SMALL, CANNOT_READ)
     write(log, SMALL)
     want("recompact by a file - that is missing", ["recompact", "LOG", "-"], b"a\n", CANNOT_READ, SMALL)
@@ -201,8 +202,10 @@ def try_dash(trials, program, room):
     want("repair of a file -", ["repair", "-"], SMALL, DONE)
     trials.want("repair of a file -: the file", read(dash), HEADER + line)
     os.remove(dash)
-    want("repair of a file - that is missing", ["repair", "-"], SMALL, DONE)
-    trials.want("repair of a file - that is missing: the file", read(dash), HEADER)
+    want("repair of a file - that is missing", ["repair", "-"], SMALL, CANNOT_READ)
+    trials.want("repair of a file - that is missing: the file", read(dash), None)
+    want("repair of a file - that may be missing", ["repair", "--missing-ok", "-"], SMALL, DONE)
+    trials.want("repair of a file - that may be missing: the file", read(dash), HEADER)
 
 
 def mode_of(path):
@@ -212,7 +215,7 @@ def mode_of(path):
 def try_modes(trials, program, room):
     """The mode of a LOG that is made is that of a new file; one that is there keeps its own, also where it is rewritten."""
     record = ["record", "LOG", "1", "2", "3", "a", COMMAND]
-    repair = ["repair", "LOG"]
+    repair = ["repair", "--missing-ok", "LOG"]
     rows = [(record, None), (["recompact", "LOG", "KEEP"], SMALL), (["restat", "LOG", "TIMES"], SMALL), (record, SMALL)]
     rows += [(repair, None), (repair, SMALL)]
     write(f"{room}/KEEP", b"b\n")

@@ -79,7 +79,7 @@ def try_completion(trials, program, room, help_text, commands):
                 want([name, *before, *["1"] * at, ""], ["a file", "b.log"] if value in FILES else [])
                 want([name, *before, *["1"] * at, "b"], ["b.log"] if value in FILES else [])
         if "--log-version" in own:
-            want([name, "--log-version", ""], ["5", "6", "7", "auto"])
+            want([name, "--log-version", ""], ["auto"] if name in ("entries", "damage", "doubt", "builds", "summary") else ["5", "6", "7", "auto"])
             want([name, "--log-version", "7", ""], ["a file", "b.log"] if values[0] in FILES else [])
             want([name, "--log-version=7", "b"], ["b.log"] if values[0] in FILES else [])
             # Behind `--` it is the first value.

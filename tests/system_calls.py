@@ -26,6 +26,10 @@ WAYS = {"kill": "signal=SIGKILL", "error": "error=EIO", "interrupt": "error=EINT
 SAYS = {"error": b"Input/output error (os error 5)", "interrupt": b"Interrupted system call (os error 4)"}
 # The calls that end the process: one that fails would leave it no way to end.
 ENDS = ("exit_group", "exit")
+# A look at the file of a path. With `--verbose` a command that changes a log begins with one, since it says of a log that is missing that it
+# is; where that look fails, nothing is said.
+LOOKS = ("stat", "newfstatat", "statx")
+LOOKS_FIRST = True
 CALL = re.compile(r"(\w+)\((.*?)\) += (\S+)")
 
 
@@ -42,7 +46,7 @@ def effects_wanted(case):
         write = f"write LOG.recompact {sum(len(it) for it in lines_of(Log(text)))}"
         return ["look LOG", "make LOG.recompact", "lock LOG.recompact", write, "sync LOG.recompact", "look LOG", "rename", *sync]
 
-    wanted = ["make LOG"] if case.start is None else []
+    wanted = ["look LOG"] + (["make LOG"] if case.start is None else [])
     wanted += ["lock LOG", "look LOG", *sync]
     if log.torn:
         wanted += [f"cut LOG {log.whole}", *sync]
@@ -53,6 +57,11 @@ def effects_wanted(case):
     if case.change.words[0] == "record":
         return [*wanted, f"write LOG {len(line_of(*RECORDED))}", *sync]
     return [*wanted, *rewrite(case.done), *sync]
+
+
+def note(case, room):
+    """What is said on standard error of a command that is done."""
+    return b"" if case.start is not None else f"nlog: LOG {room}/LOG: it is missing, and was read as empty\n".encode()
 
 
 def effect(call, room, is_missing):
@@ -73,7 +82,7 @@ def effect(call, room, is_missing):
         return "rename"
     if name == "flock":
         return f"lock {file}"
-    if name in ("stat", "newfstatat", "statx") and f'"{room}/LOG"' in parts[2]:
+    if name in LOOKS and f'"{room}/LOG"' in parts[2]:
         return "look LOG"
     if name == "openat" and "O_CREAT" in words:
         made = re.search(r'"([^"]*)"', words)[1]
@@ -112,7 +121,7 @@ class Sweep:
         room = f"{self.room}/whole"
         ended, calls = traced(self.program, self.case, room)
         name, trials = self.case.name, self.trials
-        trials.want(f"{name}: ends", ended, (0, b"", b""))
+        trials.want(f"{name}: ends", ended, (0, b"", note(self.case, room)))
         trials.want(f"{name}: the log", read(f"{room}/LOG"), self.case.done)
         trials.want(f"{name}: its effects", [it for it in (effect(c, room, self.case.start is None) for c in calls) if it], effects_wanted(self.case))
         counts = {}
@@ -121,7 +130,7 @@ class Sweep:
             counts[word] = counts.get(word, 0) + 1
             yield word, counts[word], call.replace(room, "ROOM")
 
-    def disturbed(self, at, how, call):
+    def disturbed(self, at, how, call, is_first_look):
         """Runs the case with one call disturbed: what is wrong with how it ended, and which of the logs it left."""
         word, count, line = call
         room = f"{self.room}/{how}{at:05d}"
@@ -136,7 +145,10 @@ class Sweep:
             wrong.append("it ended with status 0 before its work was done")
         if how == "kill" and status != -9:
             wrong.append(f"it wasn't killed, but ended with status {status}")
-        if how != "kill" and "ROOM" in line and word not in ("close", "execve") and (how == "error" or status != 0):
+        if how != "kill" and is_first_look:
+            if (status, err) != (0, b""):
+                wrong.append(f"status {status} with {err!r} after a look that failed")
+        elif how != "kill" and "ROOM" in line and word not in ("close", "execve") and (how == "error" or status != 0):
             text = (UNREAD if re.search(r"ROOM/(KEEP|TIMES)", line) else FAILED) + reason(line, room, how)
             if (status, err) != (1, text):
                 wrong.append(f"status {status} with {err!r} in place of 1 with {text!r}")
@@ -159,9 +171,10 @@ def sweep(trials, program, case, room, pool, is_first):
     it = Sweep(trials, program, case, room)
     calls = list(it.undisturbed())
     begin = 1 if is_first else next(i for i, call in enumerate(calls) if i and "ROOM" in call[2])
+    first_look = next((i for i, c in enumerate(calls) if LOOKS_FIRST and c[0] in LOOKS and '"ROOM/LOG"' in c[2]), None)
     for how in WAYS:
         chosen = [(i, c) for i, c in enumerate(calls) if i >= begin and (how == "kill" or c[0] not in ENDS)]
-        found = list(pool.map(lambda one: it.disturbed(one[0], how, one[1]), chosen))
+        found = list(pool.map(lambda one: it.disturbed(one[0], how, one[1], one[0] == first_look), chosen))
         places = [it.judge(at, how, call, one) for (at, call), one in zip(chosen, found)]
         if how == "kill":
             trials.check(f"{case.name}: a later kill leaves no less", places == sorted(places), str(places))

@@ -324,6 +324,7 @@ int main(int count, char **words) {
   for (i = 2; i < count && given < 16; i++) {
     if (!is_past && strcmp(words[i], "--") == 0) is_past = true;
     else if (!is_past && strcmp(words[i], "--verbose") == 0) is_verbose = true;
+    else if (!is_past && strcmp(words[i], "--missing-ok") == 0) continue; /* it makes each log */
     else if (!is_past && strcmp(words[i], "--log-version") == 0 && i + 1 < count) version = (uint32_t)atoi(words[++i]); /* of "auto": 0 */
     else values[given++] = words[i];
   }

@@ -1,5 +1,5 @@
 -- What is said behind a refusal where `--verbose` asks for it: docs/CLI.md, "Why something was refused".
-use Rattle.std.specs.Prelude.{⊤, ◌≡◌, ◌++◌, [], List, ℕ, Option, None, Some, IfSome, codes, decimal, string_bytes}
+use Rattle.std.specs.Prelude.{⊤, ◌≡◌, ◌++◌, [], List, ℕ, Option, None, Some, IfSome, codes, decimal, string_bytes, Bool, true}
 use Rattle.std.specs.Borrow.{Bor}
 use Rattle.nl_system.specs.Paths.{folder_of}
 use Rattle.nl_disk.specs.declared.failure.Failure.{Failure}
@@ -17,6 +17,7 @@ use Rattle.nl_tool.specs.declared.reason.Reason.{Reason}
 use Rattle.nl_tool.specs.declared.reason.Reason.TheVariants.{System, Line, Version}
 use Rattle.nl_tool.specs.declared.reason.Why.{Why}
 use Rattle.nl_tool.specs.declared.reason.Refusal.{Refusal}
+use Rattle.nl_tool.specs.declared.reason.Missing.{Missing}
 
 -- ---- what is said
 
@@ -49,9 +50,13 @@ behind (Some why) = codes "\nnlog: " ++ why_text why
 abbrev pub refusal_text : Refusal → List ℕ
 refusal_text refusal = fault_text refusal.fault ++ behind refusal.why
 
+-- what is said behind a command that was done over a log that is missing
+abbrev pub missing_text : Place → List ℕ
+missing_text place = place_text place ++ codes ": it is missing, and was read as empty"
+
 -- ---- of which file it is
 
--- the file that the words have read, or standard input
+-- the file that the words have read or looked for, or standard input
 abbrev pub given_or_input : (Bor (List ℕ) → Place) → Option (Bor (List ℕ)) → Place
 given_or_input place None = at.Input
 given_or_input place (Some path) = place path
@@ -71,7 +76,7 @@ read_place (Recompact log keep) = Some (at.Keep keep)
 read_place (Restat log times) = Some (at.Times times)
 read_place (Hash command) = None
 read_place (Record log start end mtime name command) = None
-read_place (Repair log) = None
+read_place (Repair log) = Some (at.Log log)
 
 -- a file of the log at a path
 abbrev pub file_place : Bor (List ℕ) → LogFile → Place
@@ -115,3 +120,7 @@ IsReasonFor words fault.Folder failed why = IfSome failed (λ failure. log_place
 IsReasonFor words (fault.BadLine number) failed why = (read_place words ≡ Some why.place) × (why.reason ≡ Line number)
 IsReasonFor words fault.OtherVersion failed why = (log_place words file.Log ≡ Some why.place) × IsVersion why.reason
 IsReasonFor words _ failed why = ⊥
+
+-- it is said only of a log that was missing
+abbrev pub IsNoteFor : Words → Bool → Missing → Type 0
+IsNoteFor words missing note = (log_place words file.Log ≡ Some note.place) × (missing ≡ true)

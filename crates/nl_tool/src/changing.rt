@@ -2,9 +2,10 @@
 ghost use Rattle.std.specs.Prelude.{◌≡◌, None, Some, IfErr, OnOk};
 ghost use Rattle.nl_change.specs.Faults.{IsApplyFault, IsEntryFault, IsRecompactFault, IsRecordFault, IsRestatFault};
 ghost use Rattle.nl_change.specs.RecordWords.{GiveEntry};
+ghost use Rattle.nl_tool.specs.Faults.{IsRepairFault};
 ghost use Rattle.nl_words.specs.declared.version.AskedVersion.{AskedVersion};
 
-use crate::files::open;
+use crate::files::{look_there, note_missing, open};
 use crate::notes::{NotedReader, NotedWriter, Notes};
 use crate::version_choice::number_of;
 use nl_change::{
@@ -59,6 +60,7 @@ where
     ensures faults { IfErr result (IsEntryFault start.now end.now mtime.now name.now) }
 {
     let entry = entry_of(start, end, mtime, name)?;
+    note_missing(rt, log, notes);
     let folder = DiskFolder::new(rt, alloc, log)?;
     record_noted(alloc, asked, folder, entry, command, notes)
 }
@@ -93,6 +95,7 @@ where
     ensures faults { IfErr result IsRecompactFault }
 {
     let names = open(rt, keep, notes)?;
+    note_missing(rt, log, notes);
     recompact_noted(alloc, asked, DiskFolder::new(rt, alloc, log)?, names, notes)
 }
 
@@ -126,6 +129,7 @@ where
     ensures faults { IfErr result IsRestatFault }
 {
     let pairs = open(rt, times, notes)?;
+    note_missing(rt, log, notes);
     restat_noted(alloc, asked, DiskFolder::new(rt, alloc, log)?, pairs, notes)
 }
 
@@ -191,12 +195,14 @@ pub fn repair_in<R: Files + Clock>(
     alloc: Global,
     asked: AskedVersion,
     log: &str,
+    missing_ok: bool,
     notes: &mut Notes,
 ) -> Result<(), ToolFault>
 where
     R::File: SystemFile,
-    ensures faults { IfErr result IsRecordFault }
+    ensures faults { IfErr result IsRepairFault }
 {
+    look_there(rt, log, missing_ok, notes)?;
     repair_noted(alloc, asked, DiskFolder::new(rt, alloc, log)?, notes)
 }
 

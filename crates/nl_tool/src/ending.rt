@@ -8,7 +8,7 @@ ghost use Rattle.nl_words.specs.CommandLine.{fault_in, nlog};
 
 use crate::notes::Notes;
 use crate::program::{Outcome, run_noted};
-use crate::reason::{Refusal, refusal_of};
+use crate::reason::{Refusal, note_of, refusal_of};
 use clap::Error;
 use clap::error::ErrorKind;
 use nl_disk::SystemFile;
@@ -71,9 +71,19 @@ fn end(
     ensures bound { result ≤ 3 }
 {
     match answer {
-        Ok(Outcome::Done) => DONE,
+        Ok(Outcome::Done) => {
+            say_note(rt, line, notes);
+            DONE
+        }
         Ok(Outcome::Found) => FOUND,
         Err(fault) => say(rt, &refusal_of(alloc, line, fault, notes)),
+    }
+}
+
+// Says of a command that was done that its log was missing, where that is asked for.
+fn say_note(rt: &impl Eprint, line: &CommandLine<'_>, notes: &Notes) {
+    if let Some(missing) = note_of(line, notes) {
+        let _ = eprintln!(rt; "nlog: {missing}");
     }
 }
 

@@ -1,5 +1,5 @@
 //! The files that a command reads.
-ghost use Rattle.std.specs.Prelude.{◌≡◌, IfErr, IsErr, IsSome};
+ghost use Rattle.std.specs.Prelude.{◌≡◌, false, IfErr, IfOk, IsErr, IsSome};
 ghost use Rattle.nl_texts.specs.declared.fault.ToolFault.{ToolFault};
 
 use crate::notes::Notes;
@@ -8,22 +8,56 @@ use std::fs;
 use std::io::ErrorKind;
 use std::rt::Files;
 
-// The file of a log, or none where it is missing.
+// The file of a log, or none where it is missing, and may be.
 pub fn open_log<R: Files>(
     rt: &R,
     path: &str,
+    missing_ok: bool,
     notes: &mut Notes,
 ) -> Result<Option<R::File>, ToolFault>
+    ensures there { missing_ok ≡ false → IfOk result (λ file. IsSome file) }
     ensures faults { IfErr result (λ e. e ≡ ToolFault.Read) }
     ensures noted { IsErr result → IsSome notes.new.heard.failure }
 {
     match fs::open(rt, path) {
         Ok(file) => Ok(Some(file)),
-        Err(error) if error.kind() == ErrorKind::NotFound => Ok(None),
+        Err(error) if missing_ok && error.kind() == ErrorKind::NotFound => {
+            notes.is_missing = true;
+            Ok(None)
+        }
         Err(error) => {
             notes.heard.failure = Some(error);
             Err(ToolFault::Read)
         }
+    }
+}
+
+// Refuses a log that is missing, where it may not be, before anything else is asked of it.
+pub fn look_there<R: Files>(
+    rt: &R,
+    path: &str,
+    missing_ok: bool,
+    notes: &mut Notes,
+) -> Result<(), ToolFault>
+    ensures faults { IfErr result (λ e. e ≡ ToolFault.Read) }
+    ensures noted { IsErr result → IsSome notes.new.heard.failure }
+{
+    if let Err(error) = fs::metadata(rt, path) {
+        if error.kind() == ErrorKind::NotFound {
+            if !missing_ok {
+                notes.heard.failure = Some(error);
+                return Err(ToolFault::Read);
+            }
+            notes.is_missing = true;
+        }
+    }
+    Ok(())
+}
+
+// Notes whether a log is missing, where that is to be said.
+pub fn note_missing<R: Files>(rt: &R, path: &str, notes: &mut Notes) {
+    if notes.looks {
+        let _ = look_there(rt, path, true, notes);
     }
 }
 

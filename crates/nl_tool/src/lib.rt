@@ -33,5 +33,5 @@ pub use nl_texts::{ToolFault, status_of};
 pub use nl_words::{AskedVersion, CommandLine, Words, read_words};
 pub use notes::{Beginning, Heard, NotedReader, NotedWriter, Notes};
 pub use program::{Outcome, run, run_noted};
-pub use reason::{Place, Reason, Refusal, Why, refusal_of};
+pub use reason::{Missing, Place, Reason, Refusal, Why, note_of, refusal_of};
 pub use version_choice::number_of;

@@ -1,6 +1,6 @@
 //! What the system said of the calls that failed, and the first line of the log that is read: kept while a command is done, for
 //! whoever asks why it was refused.
-ghost use Rattle.std.specs.Prelude.{◌≡◌, None, Some, IfErr};
+ghost use Rattle.std.specs.Prelude.{◌≡◌, None, Some, IfErr, false};
 ghost use Rattle.std.specs.Io.{ReadsAtMost, WritesAtMost};
 ghost use Rattle.std.specs.Io.KnownBytes.{Keeps, ReadConsumes, WriteAppends};
 
@@ -22,7 +22,9 @@ pub struct Notes {
     pub written: Option<io::Error>,
     /// The last call of the log's folder that failed.
     pub folder: Option<Failure>,
-    /// Whether a log of another version is to be looked at once it is refused.
+    /// Whether the log was missing, and was read as one without bytes.
+    pub is_missing: bool,
+    /// Whether more is to be said than the words ask for: so a log of another version is looked at once it is refused.
     pub looks: bool,
 }
 
@@ -30,7 +32,7 @@ impl Notes {
     /// Nothing is known yet.
     pub fn new(alloc: Global, looks: bool) -> Notes
         ensures none { (result.heard.failure ≡ None) × (result.written ≡ None)
-            × (result.folder ≡ None) }
+            × (result.folder ≡ None) × (result.is_missing ≡ false) }
         ensures looks { result.looks ≡ looks }
     {
         Notes {
@@ -43,6 +45,7 @@ impl Notes {
             },
             written: None,
             folder: None,
+            is_missing: false,
             looks,
         }
     }

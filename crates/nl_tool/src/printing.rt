@@ -50,6 +50,7 @@ pub fn stream_log<R: Runtime>(
     alloc: Global,
     streaming: Streaming,
     log: Option<&str>,
+    missing_ok: bool,
     notes: &mut Notes,
 ) -> Result<Outcome, ToolFault>
     ensures faults { IfErr result IsLogFault }
@@ -59,7 +60,7 @@ pub fn stream_log<R: Runtime>(
     let Some(path) = log else {
         return stream_noted(rt, alloc, streaming, rt.reader(), notes);
     };
-    match open_log(rt, path, notes)? {
+    match open_log(rt, path, missing_ok, notes)? {
         Some(file) => stream_noted(rt, alloc, streaming, file, notes),
         None => stream_noted(rt, alloc, streaming, io::empty(), notes),
     }
@@ -142,7 +143,7 @@ pub fn print_log<R: Runtime>(
     let Some(path) = log else {
         return print_noted(rt, alloc, printing, version, rt.reader(), notes);
     };
-    match open_log(rt, path, notes)? {
+    match open_log(rt, path, true, notes)? {
         Some(file) => print_noted(rt, alloc, printing, version, file, notes),
         None => print_noted(rt, alloc, printing, version, io::empty(), notes),
     }

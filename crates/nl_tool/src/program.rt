@@ -23,7 +23,8 @@ pub enum Outcome {
 }
 
 /// Does what a command line says, with standard output for its text. LOG, FILE or SCRIPT is read, or standard input where it is
-/// left out; a log that is missing is read as one without bytes.
+/// left out. A log that is missing is read as one without bytes by the words that make or show it, and by the others where
+/// `--missing-ok` is given.
 pub fn run<R: Runtime>(rt: &R, alloc: Global, line: &CommandLine<'_>) -> Result<Outcome, ToolFault>
 where
     R::File: SystemFile,
@@ -50,6 +51,7 @@ where
     ensures faults { IfErr result (IsFaultOf line.now.words) }
 {
     let version = line.version;
+    let missing_ok = line.missing_ok;
     let done = match line.words {
         Words::Show(log) => print_log(rt, alloc, Printing::Show, version, log, notes),
         Words::Check(log) => print_log(rt, alloc, Printing::Check, version, log, notes),
@@ -59,11 +61,15 @@ where
         }
         Words::HashFile(file) => print_file(rt, alloc, Printing::HashFile, version, file, notes),
         Words::Replay(script) => print_file(rt, alloc, Printing::Replay, version, script, notes),
-        Words::Entries(log) => return stream_log(rt, alloc, Streaming::Entries, log, notes),
-        Words::Damage(log) => return stream_log(rt, alloc, Streaming::Damage, log, notes),
+        Words::Entries(log) => {
+            return stream_log(rt, alloc, Streaming::Entries, log, missing_ok, notes);
+        }
+        Words::Damage(log) => {
+            return stream_log(rt, alloc, Streaming::Damage, log, missing_ok, notes);
+        }
         Words::Doubt(log) => return doubt_in(rt, alloc, log, notes),
-        Words::Builds(log) => report_in(rt, alloc, Report::Builds, log, notes),
-        Words::Summary { log, lines } => summary_in(rt, alloc, log, lines, notes),
+        Words::Builds(log) => report_in(rt, alloc, Report::Builds, log, missing_ok, notes),
+        Words::Summary { log, lines } => summary_in(rt, alloc, log, lines, missing_ok, notes),
         Words::Record {
             log,
             start,
@@ -89,7 +95,7 @@ where
         Words::Restat { log, times } => {
             restat_in(rt, alloc, or_five(version), log, times, notes)
         }
-        Words::Repair(log) => repair_in(rt, alloc, or_auto(version), log, notes),
+        Words::Repair(log) => { repair_in(rt, alloc, or_auto(version), log, missing_ok, notes) }
         Words::Apply { log, script } => apply_in(rt, alloc, or_auto(version), log, script, notes),
     };
     done?;

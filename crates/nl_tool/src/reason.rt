@@ -1,6 +1,7 @@
 //! Why something was refused, as it is said where `--verbose` asks for it: which file it is of, and the reason.
-ghost use Rattle.std.specs.Prelude.{◌≡◌, None, Some, IfSome, false};
-ghost use Rattle.nl_tool.specs.Reasons.{IsReasonFor, IsSystem, IsVersion, file_place, log_place, place_text, read_place, reason_text, refusal_text, why_text};
+ghost use Rattle.std.specs.Prelude.{◌≡◌, None, Some, IfSome, IsSome, false, true};
+ghost use Rattle.nl_disk.specs.declared.failure.LogFile.{LogFile};
+ghost use Rattle.nl_tool.specs.Reasons.{IsNoteFor, IsReasonFor, IsSystem, IsVersion, file_place, log_place, missing_text, place_text, read_place, reason_text, refusal_text, why_text};
 
 use crate::notes::Notes;
 use nl_disk::{LogFile, folder_part};
@@ -105,6 +106,37 @@ impl fmt::Display for Refusal<'_> {
     }
 }
 
+/// That the log is missing over which a command was done.
+#[derive(Clone, Copy, Debug, PartialEq, Eq, Drop)]
+pub struct Missing<'a> {
+    pub place: Place<'a>,
+}
+
+impl fmt::Display for Missing<'_> {
+    ghost output = { λ missing. Some (missing_text missing.place) };
+
+    fn fmt<W: fmt::Write>(&self, f: &mut fmt::Formatter<W>) -> fmt::Result {
+        let Missing { place } = self;
+        write!(f, "{place}: it is missing, and was read as empty")
+    }
+}
+
+/// What is said of a command that was done: that the log was missing, where the command line asks for more.
+pub fn note_of<'a>(line: &CommandLine<'a>, notes: &Notes) -> Option<Missing<'a>>
+    ensures quiet { line.now.verbose ≡ false → result ≡ None }
+    ensures note { IfSome result (IsNoteFor line.now.words notes.now.is_missing) }
+    ensures said { line.now.verbose ≡ true → notes.now.is_missing ≡ true
+        → IsSome (log_place line.now.words LogFile.Log) → IsSome result }
+{
+    if !line.verbose || !notes.is_missing {
+        return None;
+    }
+    match log_place(&line.words, LogFile::Log) {
+        Some(place) => Some(Missing { place }),
+        None => None,
+    }
+}
+
 /// What is said of a fault of a command: its reason only where the command line asks for it, and it is known.
 pub fn refusal_of<'a>(
     alloc: Global,
@@ -187,7 +219,7 @@ fn named_version(beginning: &[u8]) -> Option<&[u8]> {
     }
 }
 
-// The file that the words have read, or standard input.
+// The file that the words have read or looked for, or standard input.
 fn read_place<'a>(words: &Words<'a>) -> Option<Place<'a>>
     ensures { result ≡ read_place words.now }
 {
@@ -226,7 +258,8 @@ fn read_place<'a>(words: &Words<'a>) -> Option<Place<'a>>
             log: _,
             script: None,
         } => Some(Place::Input),
-        Words::Hash(_) | Words::Record { .. } | Words::Repair(_) => None,
+        Words::Repair(log) => Some(Place::Log(log)),
+        Words::Hash(_) | Words::Record { .. } => None,
     }
 }
 

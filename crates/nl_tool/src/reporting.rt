@@ -33,6 +33,7 @@ pub fn summary_in<R: Runtime>(
     alloc: Global,
     log: Option<&str>,
     lines: Option<&str>,
+    missing_ok: bool,
     notes: &mut Notes,
 ) -> Result<(), ToolFault>
     ensures accepts { OnOk result ((most : ℕ) × IsMost lines.entry most) }
@@ -41,7 +42,7 @@ pub fn summary_in<R: Runtime>(
     let Some(most) = most_of(lines) else {
         return Err(ToolFault::BadNumber);
     };
-    report_in(rt, alloc, Report::Summary(most), log, notes)
+    report_in(rt, alloc, Report::Summary(most), log, missing_ok, notes)
 }
 
 // How many lines a list has at most.
@@ -69,13 +70,14 @@ pub fn report_in<R: Runtime>(
     alloc: Global,
     report: Report,
     log: Option<&str>,
+    missing_ok: bool,
     notes: &mut Notes,
 ) -> Result<(), ToolFault>
     ensures faults { IfErr result IsLogFault }
 {
     let mut out = NotedWriter::new(io::writer(rt));
     let file = match log {
-        Some(path) => open_log(rt, path, notes)?,
+        Some(path) => open_log(rt, path, missing_ok, notes)?,
         None => None,
     };
     let answer = match file {

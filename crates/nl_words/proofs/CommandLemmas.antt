@@ -4,6 +4,7 @@ use Rattle.clap.specs.Simple.{app_of_fields}
 use Rattle.clap.specs.Words.{App, Rule, Text, app_of, with_rule}
 use Rattle.clap.specs.declared.builder.command.Command.{Command}
 use Rattle.clap.specs.declared.builder.command.Command.TheViews.{out-Command}
+use Rattle.nl_words.specs.CommandLine.{with_any_log}
 
 abbrev pub IsLocal : Command → Type 0
 IsLocal c = (out-Command c).has_globals ≡ false
@@ -28,3 +29,7 @@ after_help_local old new text e local = ap (λ f. f.has_globals) e ∙ local
 -- one more rule
 pub with_one : (new old app : App) (rule : Rule) → new ≡ with_rule old rule → old ≡ app → new ≡ with_rule app rule
 with_one new old app rule e is = e ∙ ap (λ (a : App). with_rule a rule) is
+
+-- a log, its version, and that it may be missing
+pub log_added : (new old app : App) → new ≡ with_any_log old → old ≡ app → new ≡ with_any_log app
+log_added new old app e is = e ∙ ap with_any_log is

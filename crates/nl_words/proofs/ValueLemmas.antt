@@ -12,7 +12,8 @@ use Rattle.clap.specs.declared.parser.matches.ArgMatches.{ArgMatches}
 use Rattle.clap.specs.declared.parser.matches.ArgMatches.TheViews.{out-ArgMatches, out-SubCommand}
 use Rattle.clap.specs.declared.parser.matches.SubCommand.{SubCommand}
 use Rattle.nl_words.specs.declared.command_line.Words.{Words}
-use Rattle.nl_words.specs.CommandLine.{HasEach, IsSaid, IsWhole, lines_id, lines_rule, required_of, verbose_id, verbose_rule, version_id, version_rule}
+use Rattle.nl_words.specs.CommandLine.{HasEach, IsSaid, IsWhole, lines_id, lines_rule, missing_id, missing_rule, required_of, verbose_id, verbose_rule}
+use Rattle.nl_words.specs.CommandLine.{version_id, version_rule}
 
 -- a reference to a text that is there
 pub some_of : (o : Option (Bor Text)) (t : Option Text) → option_map (λ (s : Bor Text). s.now) o ≡ t → is_some t ≡ true → IsSome o
@@ -80,3 +81,11 @@ verbose_told new long short flag told name text letter e f g h is id v =
     ap rule_of h ∙ (ap rule_of g ∙ ap (λ (a : Rule). record a { action = Some SetTrue }) (ap rule_of f
     ∙ ap₂ (λ (a : Rule) (c : ℕ). record a { short = Some c })
     (ap rule_of e ∙ ap₂ (λ (a : Rule) (t : Text). record a { long = Some t }) is id) v))
+
+-- the flag by which a log may be missing, by how it is put together
+pub missing_told : (new long flag told : Arg) (name text : Bor Text)
+    → long ≡ record new { long = Some name } → flag ≡ record long { action = Some SetTrue } → told ≡ record flag { help = Some text }
+    → rule_of new ≡ new_rule missing_id → name.now ≡ missing_id → rule_of told ≡ missing_rule
+missing_told new long flag told name text e f g is id =
+    ap rule_of g ∙ (ap rule_of f ∙ ap (λ (a : Rule). record a { action = Some SetTrue })
+    (ap rule_of e ∙ ap₂ (λ (a : Rule) (t : Text). record a { long = Some t }) is id))

@@ -43,7 +43,18 @@ verbose_id = codes "verbose"
 abbrev pub verbose_rule : Rule
 verbose_rule = record (new_rule verbose_id) { long = Some verbose_id; short = Some 118; action = Some SetTrue }
 
--- a program with one more command, which has the flag
+-- the name of the flag by which a log may be missing
+abbrev pub missing_id : Text
+missing_id = codes "missing-ok"
+
+abbrev pub missing_rule : Rule
+missing_rule = record (new_rule missing_id) { long = Some missing_id; action = Some SetTrue }
+
+-- a command of a log that tells its version itself, and which has to be there
+abbrev pub with_any_log : App → App
+with_any_log a = with_rule (with_rule (with_rule a (positional (codes "LOG") false)) version_rule) missing_rule
+
+-- a program with one more command, which has the flag for the reason
 abbrev pub with_command : App → App → App
 with_command program command = with_subcommand program (with_rule command verbose_rule).top
 
@@ -57,19 +68,19 @@ abbrev pub hash : App
 hash = with_rule (with_rule (new_app (codes "hash")) (positional (codes "COMMAND") true)) version_rule
 
 abbrev pub entries : App
-entries = with_rule (new_app (codes "entries")) (positional (codes "LOG") false)
+entries = with_any_log (new_app (codes "entries"))
 
 abbrev pub damage : App
-damage = with_rule (new_app (codes "damage")) (positional (codes "LOG") false)
+damage = with_any_log (new_app (codes "damage"))
 
 abbrev pub doubt : App
-doubt = with_rule (new_app (codes "doubt")) (positional (codes "LOG") false)
+doubt = with_rule (with_rule (new_app (codes "doubt")) (positional (codes "LOG") false)) version_rule
 
 abbrev pub builds : App
-builds = with_rule (new_app (codes "builds")) (positional (codes "LOG") false)
+builds = with_any_log (new_app (codes "builds"))
 
 abbrev pub summary : App
-summary = with_rule (with_rule (new_app (codes "summary")) (positional (codes "LOG") false)) lines_rule
+summary = with_rule (with_any_log (new_app (codes "summary"))) lines_rule
 
 abbrev pub hash_file : App
 hash_file = with_rule (with_rule (new_app (codes "hash-file")) (positional (codes "FILE") false)) version_rule
@@ -101,7 +112,10 @@ restat = with_rule (with_rule (with_rule (new_app (codes "restat"))
     version_rule
 
 abbrev pub repair : App
-repair = with_rule (with_rule (new_app (codes "repair")) (positional (codes "LOG") true)) version_rule
+repair = with_rule (with_rule (with_rule (new_app (codes "repair"))
+    (positional (codes "LOG") true))
+    version_rule)
+    missing_rule
 
 abbrev pub replay : App
 replay = with_rule (new_app (codes "replay")) (positional (codes "SCRIPT") false)
@@ -208,6 +222,15 @@ abbrev pub is_version_text : Text → Bool
 is_version_text text =
     bytes_eq text (codes "5") || (bytes_eq text (codes "6") || (bytes_eq text (codes "7") || bytes_eq text (codes "auto")))
 
+-- the commands that have no version but the one that their log names
+abbrev pub tells_version : Text → Bool
+tells_version name = bytes_eq name (codes "entries") || (bytes_eq name (codes "damage") || (bytes_eq name (codes "doubt")
+    || (bytes_eq name (codes "builds") || bytes_eq name (codes "summary"))))
+
+-- whether the command of this name takes a version that is written so
+abbrev pub is_version_for : Text → Text → Bool
+is_version_for name text = if tells_version name then bytes_eq text (codes "auto") else is_version_text text
+
 -- the value of the option, where the command that was entered was given it
 abbrev pub asked_text : Option (Text × List Row) → Option Text
 asked_text entered = option_and_then (λ p. first_of version_id p.1) entered
@@ -218,14 +241,23 @@ IsAsked None None = ⊤
 IsAsked (Some version) (Some text) = text ≡ version_text version
 IsAsked _ _ = ⊥
 
--- whether the command that was entered was given the flag
-abbrev pub asks_reason : Option (Text × List Row) → Bool
-asks_reason entered = option_map_or (λ text. bytes_eq text (codes "true")) (option_and_then (λ p. first_of verbose_id p.1) entered) false
+-- whether the command that was entered was given the flag of this name
+abbrev pub is_flagged : Text → Option (Text × List Row) → Bool
+is_flagged id entered = option_map_or (λ text. bytes_eq text (codes "true")) (option_and_then (λ p. first_of id p.1) entered) false
 
--- the kind of error of a value that is no version
-abbrev pub version_fault : Option Text → Kinds
-version_fault text = if option_map_or is_version_text text true then [] else InvalidValue ∷ []
+-- whether the reason of a refusal is asked for
+abbrev pub asks_reason : Option (Text × List Row) → Bool
+asks_reason entered = is_flagged verbose_id entered
+
+-- whether a log may be missing
+abbrev pub allows_missing : Option (Text × List Row) → Bool
+allows_missing entered = is_flagged missing_id entered
+
+-- the kind of error of a version that the command which was entered doesn't take
+abbrev pub version_fault : Option (Text × List Row) → Kinds
+version_fault None = []
+version_fault (Some p) = if option_map_or (is_version_for p.0) (first_of version_id p.1) true then [] else InvalidValue ∷ []
 
 -- the kinds of error that the words may give: those of clap's definition, and where these are none, that of the version
 abbrev pub fault_in : List Text → Kinds
-fault_in words = or_else (fault_of nlog words) (version_fault (asked_text (subcommand_of nlog words)))
+fault_in words = or_else (fault_of nlog words) (version_fault (subcommand_of nlog words))

@@ -1,10 +1,10 @@
 //! The command that a command line names, and the values that it gives.
 ghost use Rattle.std.specs.Prelude.{◌≡◌, codes, is_some, map, string_bytes, true, IfErr, IfOk};
 ghost use Rattle.clap.specs.Words.{first_of, found_of, kind_of, rows_of, subcommand_of, subcommand_rows_of, FailsBy};
-ghost use Rattle.nl_words.specs.CommandLine.{asked_text, asks_reason, fault_in, nlog, required_of, version_fault, HasEach, IsAsked, IsGiven, IsSaid, IsThere, IsWhole};
+ghost use Rattle.nl_words.specs.CommandLine.{allows_missing, asked_text, asks_reason, fault_in, is_flagged, nlog, required_of, version_fault, HasEach, IsAsked, IsGiven, IsSaid, IsThere, IsWhole};
 
 use crate::definition::nlog_command;
-use crate::version::{AskedVersion, version_of};
+use crate::version::{AskedVersion, tells_version, version_for};
 use clap::error::ErrorKind;
 use clap::{ArgMatches, Error};
 use std::alloc::{AllocError, Global};
@@ -57,6 +57,8 @@ pub struct CommandLine<'a> {
     pub version: Option<AskedVersion>,
     /// Whether the reason of a refusal is to be said.
     pub verbose: bool,
+    /// Whether a log that is missing is taken for an empty one, by the words that else refuse it.
+    pub missing_ok: bool,
 }
 
 /// Reads a command line, of which the first word is the program's name.
@@ -69,6 +71,8 @@ pub fn read_words<'a>(alloc: Global, words: &'a [String]) -> Result<CommandLine<
         IsAsked line.version (asked_text (subcommand_of nlog (map string_bytes words.entry.now)))) }
     ensures verbose { IfOk result (λ line.
         line.verbose ≡ asks_reason (subcommand_of nlog (map string_bytes words.entry.now))) }
+    ensures missing_ok { IfOk result (λ line.
+        line.missing_ok ≡ allows_missing (subcommand_of nlog (map string_bytes words.entry.now))) }
     ensures accepts { FailsBy (fault_in (map string_bytes words.entry.now)) result }
 {
     let matches = nlog_command(alloc)?.try_get_matches_from(words)?;
@@ -77,6 +81,7 @@ pub fn read_words<'a>(alloc: Global, words: &'a [String]) -> Result<CommandLine<
         words: said(&matches),
         version,
         verbose: is_verbose(&matches),
+        missing_ok: is_missing_ok(&matches),
     })
 }
 
@@ -84,10 +89,24 @@ pub fn read_words<'a>(alloc: Global, words: &'a [String]) -> Result<CommandLine<
 fn is_verbose(matches: &ArgMatches<'_>) -> bool
     ensures { result ≡ asks_reason (subcommand_rows_of matches.now) }
 {
+    is_flagged(matches, "verbose")
+}
+
+// Whether a log may be missing.
+fn is_missing_ok(matches: &ArgMatches<'_>) -> bool
+    ensures { result ≡ allows_missing (subcommand_rows_of matches.now) }
+{
+    is_flagged(matches, "missing-ok")
+}
+
+// Whether the command that was entered was given the flag of this name.
+fn is_flagged(matches: &ArgMatches<'_>, id: &str) -> bool
+    ensures { result ≡ is_flagged id.now (subcommand_rows_of matches.now) }
+{
     let Some((_, inner)) = matches.subcommand() else {
         return false;
     };
-    match optional(inner, "verbose") {
+    match optional(inner, id) {
         Some("true") => true,
         _ => false,
     }
@@ -97,33 +116,38 @@ fn is_verbose(matches: &ArgMatches<'_>) -> bool
 fn asked<'a>(alloc: Global, matches: &ArgMatches<'a>) -> Result<Option<AskedVersion>, Error>
     ensures value { IfOk result
         (λ version. IsAsked version (asked_text (subcommand_rows_of matches.now))) }
-    ensures accepts { FailsBy (version_fault (asked_text (subcommand_rows_of matches.now))) result }
+    ensures accepts { FailsBy (version_fault (subcommand_rows_of matches.now)) result }
 {
-    let Some((_, inner)) = matches.subcommand() else {
+    let Some((name, inner)) = matches.subcommand() else {
         return Ok(None);
     };
     let Some(text) = optional(inner, "log-version") else {
         return Ok(None);
     };
-    match version_of(text) {
+    match version_for(name, text) {
         Some(version) => Ok(Some(version)),
-        None => Err(no_version(alloc, text)?),
+        None => Err(no_version(alloc, name, text)?),
     }
 }
 
-// What is said of a version that isn't one.
-fn no_version(alloc: Global, text: &str) -> Result<Error, Error>
+// What is said of a version that the command of this name doesn't take.
+fn no_version(alloc: Global, command: &str, text: &str) -> Result<Error, Error>
     ensures value { IfOk result (λ e. kind_of e ≡ ErrorKind.InvalidValue) }
     ensures memory { IfErr result (λ e. kind_of e ≡ ErrorKind.OutOfMemory) }
 {
-    let message = told_of(alloc, text)?;
+    let message = told_of(alloc, command, text)?;
     let error = nlog_command(alloc)?.error(ErrorKind::InvalidValue, message.as_str())?;
     Ok(error)
 }
 
-// The text for a version that isn't one.
-fn told_of(alloc: Global, text: &str) -> Result<String, AllocError> {
-    format!(in alloc; "invalid value '{text}' for '--log-version <VERSION>': it is 5, 6, 7 or auto")
+// The text for such a version.
+fn told_of(alloc: Global, command: &str, text: &str) -> Result<String, AllocError> {
+    let those = if tells_version(command) {
+        "auto"
+    } else {
+        "5, 6, 7 or auto"
+    };
+    format!(in alloc; "invalid value '{text}' for '--log-version <VERSION>': it is {those}")
 }
 
 // The command that was entered, with its values.

@@ -2,9 +2,10 @@
 ghost use Rattle.std.specs.Prelude.{◌≡◌, IfOk, false};
 ghost use Rattle.clap.specs.Words.{app_of, with_rule};
 ghost use Rattle.clap.specs.declared.builder.command.Command.TheViews.{out-Command};
-ghost use Rattle.nl_words.specs.CommandLine.{apply, builds, check, damage, doubt, entries, hash, hash_file, lines_rule, positional, recompact, record_line, record_values, repair, replay, restat, show, summary, version_rule};
+ghost use Rattle.nl_words.specs.CommandLine.{apply, builds, check, damage, doubt, entries, hash, hash_file, lines_rule, missing_rule, positional, recompact};
+ghost use Rattle.nl_words.specs.CommandLine.{record_line, record_values, repair, replay, restat, show, summary, version_rule, with_any_log};
 
-use clap::{Arg, Command};
+use clap::{Arg, ArgAction, Command};
 use std::alloc::{AllocError, Global};
 
 const LOG: &str = "A build log of Ninja, version 4 or 5; 6 or 7 with `--log-version`";
@@ -24,6 +25,8 @@ const HASH_VERSION: &str =
     "5, 6 or 7: the version of the logs that hold the hash; auto: 5, as where it is left out";
 
 const LINES: &str = "How many lines each list has at most: 10 where it is left out; 0 for none";
+const AUTO_VERSION: &str =
+    "auto alone: the version is the one that LOG's first line names, as where it is left out";
 
 const OWN_VERSION: &str =
     "5, 6 or 7: the version of LOG; auto: the one that its first line names, as where it is left out";
@@ -72,6 +75,28 @@ fn with_lines<'a>(
 {
     let option = Arg::new(alloc, "lines").long("lines").short('n');
     command.arg(option.value_name("N").help(help))
+}
+
+// The command with the flag by which a log may be missing.
+fn with_missing_ok<'a>(alloc: Global, command: Command<'a>) -> Result<Command<'a>, AllocError>
+    ensures shape { IfOk result (λ c. app_of c ≡ with_rule (app_of command.entry) missing_rule) }
+    ensures local { IfOk result
+        (λ c. (out-Command c).has_globals ≡ (out-Command command.entry).has_globals) }
+{
+    let flag = Arg::new(alloc, "missing-ok").long("missing-ok");
+    let flag = flag.action(ArgAction::SetTrue);
+    command.arg(flag.help("Takes a LOG that is missing for an empty one"))
+}
+
+// The command with a log that tells its version itself, and which has to be there.
+fn with_any_log<'a>(alloc: Global, command: Command<'a>) -> Result<Command<'a>, AllocError>
+    ensures shape { IfOk result (λ c. app_of c ≡ with_any_log (app_of command.entry)) }
+    ensures local { IfOk result
+        (λ c. (out-Command c).has_globals ≡ (out-Command command.entry).has_globals) }
+{
+    let command = with_value(alloc, command, "LOG", false, OPTIONAL_ANY_LOG)?;
+    let command = with_version(alloc, command, AUTO_VERSION)?;
+    with_missing_ok(alloc, command)
 }
 
 pub fn show_command<'a>(alloc: Global) -> Result<Command<'a>, AllocError>
@@ -147,7 +172,7 @@ The entry that was written last is printed by
 
   nlog entries .ninja_log | tail -n 1",
         );
-    with_value(alloc, command, "LOG", false, OPTIONAL_ANY_LOG)
+    with_any_log(alloc, command)
 }
 
 pub fn damage_command<'a>(alloc: Global) -> Result<Command<'a>, AllocError>
@@ -171,9 +196,9 @@ FIRST   the output that Ninja takes the line for an entry of, between the third 
 
 Status: 0 where nothing is printed, 3 where there is damage. A log is repaired where it has some by
 
-  nlog damage .ninja_log >> damaged || { test $? = 3 && nlog repair .ninja_log; }",
+  nlog damage --missing-ok .ninja_log >> damaged || { test $? = 3 && nlog repair .ninja_log; }",
         );
-    with_value(alloc, command, "LOG", false, OPTIONAL_ANY_LOG)
+    with_any_log(alloc, command)
 }
 
 pub fn doubt_command<'a>(alloc: Global) -> Result<Command<'a>, AllocError>
@@ -199,7 +224,8 @@ Remove the files that are newer, but not `build.ninja`, and build. Their names a
 
 Status: 0 where nothing is printed, 3 where something is. A LOG that is missing is refused.",
         );
-    with_value(alloc, command, "LOG", false, OPTIONAL_ANY_LOG)
+    let command = with_value(alloc, command, "LOG", false, OPTIONAL_ANY_LOG)?;
+    with_version(alloc, command, AUTO_VERSION)
 }
 
 pub fn builds_command<'a>(alloc: Global) -> Result<Command<'a>, AllocError>
@@ -225,7 +251,7 @@ build is told by
 
   nlog builds .ninja_log | tail -n 1",
         );
-    with_value(alloc, command, "LOG", false, OPTIONAL_ANY_LOG)
+    with_any_log(alloc, command)
 }
 
 pub fn summary_command<'a>(alloc: Global) -> Result<Command<'a>, AllocError>
@@ -257,7 +283,7 @@ OUTPUT    its first output
 
 Commands and builds are those of `builds`. Where LOG tells no build, nothing is printed.",
         );
-    let command = with_value(alloc, command, "LOG", false, OPTIONAL_ANY_LOG)?;
+    let command = with_any_log(alloc, command)?;
     with_lines(alloc, command, LINES)
 }
 
@@ -396,16 +422,17 @@ pub fn repair_command<'a>(alloc: Global) -> Result<Command<'a>, AllocError>
         .after_help(
             "\
 What is torn, skipped or stale is gone after it, version 4 is 5, and what a device forgot is written
-anew. The new log is written to LOG.recompact, and renamed over LOG. A LOG that is missing is made: one
-of version 5, or of 6 for Ninja 1.12 or 7 for 1.13 where `--log-version` has that number. What `damage`
-prints of LOG can't be seen after it, so it is kept first, as by
+anew. The new log is written to LOG.recompact, and renamed over LOG. With `--missing-ok` a LOG that is
+missing is made: one of version 5, or of 6 for Ninja 1.12 or 7 for 1.13 where `--log-version` has that
+number. What `damage` prints of LOG can't be seen after it, so it is kept first, as by
 
-  nlog damage .ninja_log >> damaged || { test $? = 3 && nlog repair .ninja_log; }
+  nlog damage --missing-ok .ninja_log >> damaged || { test $? = 3 && nlog repair .ninja_log; }
 
 No build by Ninja may change LOG meanwhile; another nlog waits.",
         );
     let command = with_value(alloc, command, "LOG", true, ANY_LOG)?;
-    with_version(alloc, command, OWN_VERSION)
+    let command = with_version(alloc, command, OWN_VERSION)?;
+    with_missing_ok(alloc, command)
 }
 
 pub fn replay_command<'a>(alloc: Global) -> Result<Command<'a>, AllocError>

@@ -20,13 +20,14 @@ log for a build tool. Without a command, or without LOG, a log is read from stan
 
 Ninja 1.12 and 1.13 write logs of version 6 and 7: put `--log-version auto` behind `show`, `check`,
 `record`, `recompact` or `restat`. The other commands take such a LOG as it is.
-Change no log while Ninja builds, because it locks nothing. If LOG is missing, `doubt` is refused,
-and the others read it as empty.
+Change no log while Ninja builds, because it locks nothing. A LOG that is missing is refused by
+`doubt`, and without `--missing-ok` by `entries`, `damage`, `builds`, `summary` and `repair`. The
+others read it as empty.
 
 Examples:
   nlog show .ninja_log
   nlog check --log-version auto .ninja_log
-  nlog damage .ninja_log >> damaged || { test $? = 3 && nlog repair .ninja_log; }
+  nlog damage --missing-ok .ninja_log >> damaged || { test $? = 3 && nlog repair .ninja_log; }
 
 Status: 0 done; 1 refused, and a line `nlog: ...` on standard error says why (a second one says more
 with `--verbose`, behind the command); 2 wrong words; 3 `damage` or `doubt` found some.";
@@ -114,5 +115,5 @@ fn with_verbose<'a>(alloc: Global, command: Command<'a>) -> Result<Command<'a>, 
 {
     let flag = Arg::new(alloc, "verbose").long("verbose").short('v');
     let flag = flag.action(ArgAction::SetTrue);
-    command.arg(flag.help("Says behind a refusal which file it is of, and the system's reason"))
+    command.arg(flag.help("Says which file or value a refusal is of, and why; also that LOG is missing, or locked"))
 }

@@ -2,7 +2,7 @@ use Rattle.std.proofs.Common.{◌≡◌, ◌∙◌, List, Option, ap, map, strin
 use Rattle.clap.specs.Words.{App, HasKind, Row, Text, app_of, fault_of, is_simple, is_simple_and_free, subcommand_of}
 use Rattle.nl_words.proofs.DefinitionLemmas.{fails_on, nlog_is_free, nlog_is_simple, nlog_whole}
 use Rattle.nl_words.proofs.AskedLemmas.{first_kind, no_kind, second_kind}
-use Rattle.nl_words.specs.CommandLine.{IsAsked, IsSaid, IsWhole, asked_text, asks_reason, fault_in, nlog, version_fault}
+use Rattle.nl_words.specs.CommandLine.{IsAsked, IsSaid, IsWhole, allows_missing, asked_text, asks_reason, fault_in, nlog, version_fault}
 use Rattle.nl_words.proofs.command_line.read_words.Goals as goal
 
 pub said-requires : goal.said-requires
@@ -21,7 +21,7 @@ returns-in_err-matches-clause-accepts c =
     let error = c.in_err-matches.field-0.0 in
     let k = c.in_err-matches.ensures.kinds (ap is_simple_and_free is_nlog ∙ nlog_is_free) in
     let first : HasKind (fault_in words) error = first_kind (fault_of nlog words)
-    (version_fault (asked_text (subcommand_of nlog words))) error (subst (λ (a : App). HasKind (fault_of a words) error) is_nlog k) in
+    (version_fault (subcommand_of nlog words)) error (subst (λ (a : App). HasKind (fault_of a words) error) is_nlog k) in
     fails_on _ error (fault_in words) c.from_residual-in_err-matches.ensures.1 first
 
 pub returns-in_err-version-clause-accepts : goal.returns-in_err-version-clause-accepts
@@ -33,8 +33,8 @@ returns-in_err-version-clause-accepts c =
     ∙ c.in_ok-matches.ensures.kinds (ap is_simple_and_free is_nlog ∙ nlog_is_free) in
     let error = c.in_err-version.field-0.0 in
     let second : HasKind (fault_in words) error = second_kind (fault_of nlog words)
-    (version_fault (asked_text (subcommand_of nlog words))) error free
-    (subst (λ (entered : Option (Text × List Row)). HasKind (version_fault (asked_text entered)) error) e
+    (version_fault (subcommand_of nlog words)) error free
+    (subst (λ (entered : Option (Text × List Row)). HasKind (version_fault entered) error) e
     c.in_err-version.ensures.accepts) in
     fails_on _ error (fault_in words) c.from_residual-in_err-version.ensures.1 second
 
@@ -59,8 +59,8 @@ returns-clause-accepts c =
     let e = (c.in_ok-matches.ensures.matches (ap is_simple is_nlog ∙ nlog_is_simple)).1 ∙ ap (λ (a : App). subcommand_of a words) is_nlog in
     let free = sym (ap (λ (a : App). fault_of a words) is_nlog)
     ∙ c.in_ok-matches.ensures.kinds (ap is_simple_and_free is_nlog ∙ nlog_is_free) in
-    no_kind (fault_of nlog words) (version_fault (asked_text (subcommand_of nlog words))) free
-    (sym (ap (λ (entered : Option (Text × List Row)). version_fault (asked_text entered)) e) ∙ c.in_ok-version.ensures.accepts)
+    no_kind (fault_of nlog words) (version_fault (subcommand_of nlog words)) free
+    (sym (ap (λ (entered : Option (Text × List Row)). version_fault entered) e) ∙ c.in_ok-version.ensures.accepts)
 
 pub returns-clause-verbose : goal.returns-clause-verbose
 returns-clause-verbose c =
@@ -68,3 +68,10 @@ returns-clause-verbose c =
     let is_nlog : app_of c.in_ok-nlog_command.field-0 ≡ nlog = c.in_ok-nlog_command.ensures in
     let e = (c.in_ok-matches.ensures.matches (ap is_simple is_nlog ∙ nlog_is_simple)).1 ∙ ap (λ (a : App). subcommand_of a words) is_nlog in
     c.is_verbose.ensures ∙ ap asks_reason e
+
+pub returns-clause-missing_ok : goal.returns-clause-missing_ok
+returns-clause-missing_ok c =
+    let words = map string_bytes c.args.words.now in
+    let is_nlog : app_of c.in_ok-nlog_command.field-0 ≡ nlog = c.in_ok-nlog_command.ensures in
+    let e = (c.in_ok-matches.ensures.matches (ap is_simple is_nlog ∙ nlog_is_simple)).1 ∙ ap (λ (a : App). subcommand_of a words) is_nlog in
+    c.is_missing_ok.ensures ∙ ap allows_missing e
