@@ -40,7 +40,23 @@ REFUSED = [
     (b"# ninja log v8", NO_LOG),
     (b"# ninja log v7 \n", NO_LOG),
     (b"# ninja log v7\r\n", NO_LOG),
+    (b"\x1f\x8b\x08\0\0\0\0\0\0\x03\n", NO_LOG),
+    (b"\xef\xbb\xbf# ninja log v5\n", NO_LOG),
+    (b"\xff\xfe#\0 \0", NO_LOG),
+    (b"\xfe\xff\0#\0 ", NO_LOG),
+    (b"# ninjadeps\n\4\0\0\0", NO_LOG),
+    (b"# ninja log v\r\n", NO_LOG),
+    # 20 bytes of it are told, each that isn't shown as it is by its number.
+    (b'a"\\\t \x1b[31m\x7f\x80\xffABCDEFGHIJKL\n', NO_LOG),
 ]
+# What such a file is mistaken for, by its beginning.
+LOOKS = {
+    b"\x1f\x8b": b"it is gzip: unpack it first",
+    b"\xef\xbb\xbf": b"it begins with a byte order mark",
+    b"\xff\xfe": b"it begins with a byte order mark",
+    b"\xfe\xff": b"it begins with a byte order mark",
+    b"# ninjadeps": b"it is Ninja's log of dependencies, .ninja_deps",
+}
 # Those that are refused by the words that have the option, where it isn't given.
 UNASKED = [
     (b"# ninja log v6\n", OTHER_VERSION),
@@ -54,17 +70,24 @@ HASHES = [
     ("cc\tx", b"72274e7a30810c7b\n"),
 ]
 
-# START, END, MTIME and NAME of `record`, and why they are refused.
+# START, END, MTIME and NAME of `record`, why they are refused, and what more is said with `--verbose`.
 BAD_WORDS = [
-    ("x", "2", "3", "a", b"bad number"),
-    ("1", "2147483648", "3", "a", b"bad number"),
-    ("1", "2", "007", "a", b"bad number"),
-    ("1", "2", "", "", b"bad number"),
-    ("1", "2", "3", "", b"empty name"),
-    ("1", "2", "3", "a\tb", b"bad byte in name at 1"),
-    ("1", "2", "3", "ab\n", b"bad byte in name at 2"),
-    ("1", "2", "3", "n" * 65_536 + "\t", b"bad byte in name at 65536"),
-    ("1", "2", "3", "n" * 65_537, b"name too long"),
+    ("x", "2", "3", "a", b"bad number", b"START x: it isn't a number"),
+    ("x", "y", "z", "", b"bad number", b"START x: it isn't a number"),
+    ("+1", "2", "3", "a", b"bad number", b"START +1: it isn't a number"),
+    ("-0", "2", "3", "a", b"bad number", b"START -0: a number has no zero in front"),
+    ("1", "2147483648", "3", "a", b"bad number", b"END 2147483648: it isn't from -2147483648 to 2147483647"),
+    ("1", "-2147483649", "x", "a", b"bad number", b"END -2147483649: it isn't from -2147483648 to 2147483647"),
+    ("1", "-", "3", "a", b"bad number", b"END -: it isn't a number"),
+    ("1", "2", "007", "a", b"bad number", b"MTIME 007: a number has no zero in front"),
+    ("1", "2", "", "", b"bad number", b"MTIME : it isn't a number"),
+    ("1", "2", "1.5", "", b"bad number", b"MTIME 1.5: it isn't a number"),
+    ("1", "2", "9223372036854775808", "a", b"bad number", b"MTIME 9223372036854775808: it isn't a number of 64 bits"),
+    ("1", "2", "3", "", b"empty name", b"NAME: it has no byte"),
+    ("1", "2", "3", "a\tb", b"bad byte in name at 1", b"NAME: byte 1 is a tab"),
+    ("1", "2", "3", "ab\n", b"bad byte in name at 2", b"NAME: byte 2 is a newline"),
+    ("1", "2", "3", "n" * 65_536 + "\t", b"bad byte in name at 65536", b"NAME: byte 65536 is a tab"),
+    ("1", "2", "3", "n" * 65_537, b"name too long", b"NAME: it has 65537 bytes, and a name at most 65536"),
 ]
 
 LOG = HEADER + b"1\t2\t10\ta\taa\n3\t4\t20\tb\tbb\n5\t6\t30\ta\tcc\n"
@@ -90,37 +113,41 @@ RECORDS = [
     (HEADER + OK * 101, HEADER + OK + NEW),
 ]
 
-# KEEP, why it is refused, and the log that it leaves.
+# KEEP, why it is refused, the log that it leaves, and what more is said of it with `--verbose`.
 KEEPS = [
     (b"b\n\n", b"", HEADER + b"3\t4\t20\tb\tbb\n"),
     (b"", b"", HEADER),
     # A last line without a newline counts; a name without an entry is nothing.
     (b"zz\na", b"", HEADER + b"5\t6\t30\ta\tcc\n"),
-    (b"\na\tb", b"bad line 2", LOG),
-    (b"b\n\n\na\0\n\t\n", b"bad line 4", LOG),
+    (b"\na\tb", b"bad line 2", LOG, b"line 2: a name has no tab"),
+    (b"b\n\n\na\0\n\t\n", b"bad line 4", LOG, b"line 4: a name has no zero byte"),
     # The longest line has 262,143 bytes, which is no name; a longer one is bad too, with its newline and without.
-    (b"b\n" + b"x" * 262_144, b"bad line 2", LOG),
-    (b"b\n" + b"x" * 262_144 + b"\n", b"bad line 2", LOG),
+    (b"b\n" + b"x" * 262_144, b"bad line 2", LOG, b"line 2: a line has at most 262143 bytes"),
+    (b"b\n" + b"x" * 262_144 + b"\n", b"bad line 2", LOG, b"line 2: a line has at most 262143 bytes"),
+    (b"b\n" + b"x" * 262_143 + b"\n\t\n", b"bad line 2", LOG, b"line 2: a name has at most 65536 bytes"),
     (b"n" * 65_536 + b"\nb\n", b"", HEADER + b"3\t4\t20\tb\tbb\n"),
-    (b"n" * 65_537 + b"\nb\n", b"bad line 1", LOG),
+    (b"n" * 65_537 + b"\nb\n", b"bad line 1", LOG, b"line 1: a name has at most 65536 bytes"),
     # Twelve lines, of which the last is bad.
-    (b"\n" * 11 + b"a\tb\n", b"bad line 12", LOG),
+    (b"\n" * 11 + b"a\tb\n", b"bad line 12", LOG, b"line 12: a name has no tab"),
 ]
 
-# TIMES, why it is refused, and the log that it leaves.
+# The same of TIMES.
 TIMES = [
     (b"7\ta\n8\ta\n", b"", HEADER + b"5\t6\t8\ta\tcc\n3\t4\t20\tb\tbb\n"),
     # No time changes, and what is stale goes.
     (b"\n9\tzz", b"", HEADER + b"5\t6\t30\ta\tcc\n3\t4\t20\tb\tbb\n"),
-    (b"7\ta\n007\tb\n", b"bad line 2", LOG),
-    (b"7 a\n", b"bad line 1", LOG),
-    (b"7\t\n", b"bad line 1", LOG),
-    (b"\ta\n", b"bad line 1", LOG),
-    (b"7\ta\tb\n", b"bad line 1", LOG),
-    (b"9223372036854775808\ta\n", b"bad line 1", LOG),
-    (b"-1\ta", b"negative time at pair 0", LOG),
+    (b"7\ta\n007\tb\n", b"bad line 2", LOG, b"line 2: before the tab, a number has no zero in front"),
+    (b"7 a\n", b"bad line 1", LOG, b"line 1: there is no tab"),
+    (b"7\t\n", b"bad line 1", LOG, b"line 1: the name is empty"),
+    (b"\ta\n", b"bad line 1", LOG, b"line 1: before the tab, it isn't a number"),
+    (b"7\ta\tb\n", b"bad line 1", LOG, b"line 1: a name has no tab"),
+    (b"9223372036854775808\ta\n", b"bad line 1", LOG, b"line 1: before the tab, it isn't a number of 64 bits"),
+    # A line that is right says nothing, and the last one may have no newline.
+    (b"7\ta\n-1\tb\n7", b"bad line 3", LOG, b"line 3: there is no tab"),
+    (b"-1\ta", b"negative time at pair 0", LOG, b"line 1: the time stamp is negative"),
     # Pairs are counted, and not lines.
-    (b"\n7\ta\n-9223372036854775808\tb\n-1\ta\n", b"negative time at pair 1", LOG),
+    (b"\n7\ta\n-9223372036854775808\tb\n-1\ta\n", b"negative time at pair 1", LOG, b"line 3: the time stamp is negative"),
+    (b"7\ta\n\n8\tb\n-1\tzz", b"negative time at pair 2", LOG, b"line 4: the time stamp is negative"),
 ]
 
 # A log, what `entries` prints of it, what `damage` prints, and what `repair` leaves.
@@ -531,28 +558,28 @@ WORDS = [
     (["damage", "-v", "folder"], 1, b"", CANNOT_READ + b"nlog: LOG folder: " + A_FOLDER),
     (["hash-file", "-v", "missing"], 1, b"", CANNOT_READ + b"nlog: FILE missing: " + NO_FILE),
     (["replay", "missing", "-v"], 1, b"", CANNOT_READ + b"nlog: SCRIPT missing: " + NO_FILE),
-    (["replay", "-v"], 1, b"", b"nlog: bad line 1\nnlog: standard input: line 1\n"),
-    (["replay", "file", "-v"], 1, b"", b"nlog: bad line 1\nnlog: SCRIPT file: line 1\n"),
+    (["replay", "-v"], 1, b"", b"nlog: bad line 1\nnlog: standard input: line 1: no event begins so\n"),
+    (["replay", "file", "-v"], 1, b"", b"nlog: bad line 1\nnlog: SCRIPT file: line 1: no event begins so\n"),
+    (["replay", "wrong", "-v"], 1, b"", b"nlog: bad line 2\nnlog: SCRIPT wrong: line 2: the values are wrong, or the line stands where it must not\n"),
+    (["replay", "late", "-v"], 1, b"", b"nlog: bad line 3\nnlog: SCRIPT late: line 3: the values are wrong, or the line stands where it must not\n"),
     (["apply", "-v", "none", "missing"], 1, b"", CANNOT_READ + b"nlog: SCRIPT missing: " + NO_FILE),
     (["recompact", "-v", "seven", "missing"], 1, b"", CANNOT_READ + b"nlog: KEEP missing: " + NO_FILE),
-    (["recompact", "-v", "seven", "file"], 1, b"", b"nlog: bad line 2\nnlog: KEEP file: line 2\n"),
+    (["recompact", "-v", "seven", "file"], 1, b"", b"nlog: bad line 2\nnlog: KEEP file: line 2: a name has no tab\n"),
     (["restat", "-v", "seven", "folder"], 1, b"", CANNOT_READ + b"nlog: TIMES folder: " + A_FOLDER),
-    (["restat", "-v", "six", "file"], 1, b"", b"nlog: bad line 1\nnlog: TIMES file: line 1\n"),
-    (["restat", "-v", "six", "/dev/null"], 1, b"", OTHER_VERSION + b"nlog: LOG six: version 6\n"),
+    (["restat", "-v", "six", "file"], 1, b"", b"nlog: bad line 1\nnlog: TIMES file: line 1: there is no tab\n"),
+    (["restat", "-v", "six", "/dev/null"], 1, b"", OTHER_VERSION + b"nlog: LOG six: version 6; add --log-version auto\n"),
     # The version is that of LOG, whatever KEEP and TIMES begin with.
-    (["recompact", "-v", "seven", "header"], 1, b"", OTHER_VERSION + b"nlog: LOG seven: version 7\n"),
+    (["recompact", "-v", "seven", "header"], 1, b"", OTHER_VERSION + b"nlog: LOG seven: version 7; add --log-version auto\n"),
     (["recompact", "-v", "eight", "names"], 1, b"", OTHER_VERSION + b"nlog: LOG eight: version 8\n"),
-    (["restat", "-v", "six", "pairs"], 1, b"", OTHER_VERSION + b"nlog: LOG six: version 6\n"),
-    (["show", "-v", "seven"], 1, b"", OTHER_VERSION + b"nlog: LOG seven: version 7\n"),
-    (["show", "-v", "--log-version", "7", "four"], 1, b"", OTHER_VERSION + b"nlog: LOG four: version 4\n"),
+    (["restat", "-v", "six", "pairs"], 1, b"", OTHER_VERSION + b"nlog: LOG six: version 6; add --log-version auto\n"),
+    (["show", "-v", "seven"], 1, b"", OTHER_VERSION + b"nlog: LOG seven: version 7; add --log-version auto\n"),
+    (["show", "-v", "--log-version", "7", "four"], 1, b"", OTHER_VERSION + b"nlog: LOG four: version 4; add --log-version auto\n"),
     # A version of any length, from a file, from standard input and from the log that is to be changed.
     *[([word, "-v", log, *rest], 1, b"", OTHER_VERSION + b"nlog: LOG %s: version %s\n" % (log.encode(), digits)) for log, digits in LONG_VERSIONS.items() for word, *rest in (["show"], ["damage"], ["record", "1", "2", "3", "n", "c"], ["recompact", "names"])],
     (["record", "-v", "folder", "1", "2", "3", "n", "c"], 1, b"", b"nlog: the folder failed\nnlog: LOG folder: " + A_FOLDER),
     (["record", "-v", "missing/log", "1", "2", "3", "n", "c"], 1, b"", b"nlog: the folder failed\nnlog: LOG missing/log: " + NO_FILE),
     (["record", "-v", "n" * 256, "1", "2", "3", "n", "c"], 1, b"", b"nlog: the folder failed\nnlog: LOG " + b"n" * 256 + b": " + LONG_NAME),
-    # Nothing more is known of these.
-    (["record", "-v", "own", "x", "2", "3", "n", "c"], 1, b"", b"nlog: bad number\n"),
-    (["show", "-v", "script"], 1, b"", NO_LOG),
+    (["show", "-v", "script"], 1, b"", NO_LOG + b'nlog: LOG script: it begins with "open\\x0a"\n'),
 ]
 
 # What a log that is missing at first has after each of these commands, one after the other.
@@ -614,6 +641,20 @@ def refused(why):
     return (1, b"", b"nlog: " + why + b"\n") if why else (0, b"", b"")
 
 
+def told(log):
+    """What more is said of a first line that is refused."""
+    line = log[: log.index(b"\n") + 1] if b"\n" in log else log
+    version = line[len(b"# ninja log v") : -1] if line.startswith(b"# ninja log v") and line.endswith(b"\n") else b""
+    if version.isdigit():
+        return b"version " + version + (b"; add --log-version auto" if version in (b"6", b"7") else b"")
+    for start, text in LOOKS.items():
+        if line.startswith(start):
+            return text
+    if line.endswith(b"\r\n"):
+        return b"its first line ends in a carriage return"
+    return b'it begins with "' + b"".join(b"%c" % it if 31 < it < 127 and it not in b'"\\' else b"\\x%02x" % it for it in line[:20]) + b'"'
+
+
 def try_refused(trials, program, room):
     """First lines that are refused, by each command that reads a log; the file stays as it is."""
     write(f"{room}/keep", b"a\n")
@@ -625,8 +666,12 @@ def try_refused(trials, program, room):
         write(f"{room}/log", log)
         for words in [words for words in each if "log" not in words]:
             trials.want(f"{words} < {log!r}", asked(program, room, words, log), (1, b"", why))
+            more = (1, b"", why + b"nlog: standard input: " + told(log) + b"\n")
+            trials.want(f"{words} < {log!r}, and more", asked(program, room, [words[0], "-v", *words[1:]], log), more)
         for words in [words for words in each if "log" in words]:
             trials.want(f"{words[0]} of a file, {log!r}", asked(program, room, words), (1, b"", why))
+            more = (1, b"", why + b"nlog: LOG log: " + told(log) + b"\n")
+            trials.want(f"{words[0]} of a file, {log!r}, and more", asked(program, room, [words[0], "-v", *words[1:]]), more)
             trials.want(f"the file after {words[0]}, {log!r}", read(f"{room}/log"), log)
 
 
@@ -684,9 +729,10 @@ def try_doubt(trials, program, room):
 
 def try_changes(trials, program, room):
     """The commands that change a log, by their words and by KEEP and TIMES, and what a bad one leaves."""
-    for start, end, mtime, name, why in BAD_WORDS:
+    for start, end, mtime, name, why, more in BAD_WORDS:
         what = f"record of {start!r} {end!r} {mtime!r} {name[:9]!r}"
-        trials.want(what, asked(program, room, ["record", "none", start, end, mtime, name, "c"]), refused(why))
+        trials.want(what, asked(program, room, ["record", "--", "none", start, end, mtime, name, "c"]), refused(why))
+        trials.want(f"{what}, and more", asked(program, room, ["record", "-v", "--", "none", start, end, mtime, name, "c"]), refused(why + b"\nnlog: " + more))
         trials.want(f"{what}: the log", read(f"{room}/none"), None)
     for place, (log, left) in enumerate(RECORDS):
         file = f"record{place}"
@@ -695,10 +741,14 @@ def try_changes(trials, program, room):
         trials.want(what, asked(program, room, ["record", file, "4", "5", "6", "out", "cc\tx"]), refused(b""))
         trials.want(f"{what}: the log", read(f"{room}/{file}"), left)
     for command, rows in (("recompact", KEEPS), ("restat", TIMES)):
-        for text, why, left in rows:
+        for text, why, left, *more in rows:
             what = f"{command} by {text[:40]!r}"
             write(f"{room}/log", LOG)
             write(f"{room}/file", text)
+            for it in more:
+                said = why + b"\nnlog: " + (b"KEEP" if command == "recompact" else b"TIMES") + b" file: " + it
+                trials.want(f"{what}, and more", asked(program, room, [command, "-v", "log", "file"]), refused(said))
+                write(f"{room}/log", LOG)
             trials.want(what, asked(program, room, [command, "log", "file"]), refused(why))
             trials.want(f"{what}: the log", read(f"{room}/log"), left)
             trials.want(f"{what}: the file", read(f"{room}/file"), text)
@@ -759,6 +809,8 @@ def try_words(trials, program, room):
     write(f"{room}/names", b"b\nc\n")
     write(f"{room}/pairs", b"9\tb\n")
     write(f"{room}/script", b"open\nopen")
+    write(f"{room}/wrong", b"open\nrecord\t1\n")
+    write(f"{room}/late", b"open\n\nwrites\t1\nfrob")
     write(f"{room}/asks", b"open\nget\tfile\nget\tinput\ntable\n")
     before = sorted(os.listdir(room))
     for words, status, out, err in WORDS:

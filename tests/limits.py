@@ -10,7 +10,9 @@ has no rights.
 """
 import itertools
 import os
+import resource
 import shutil
+import signal
 import stat
 import subprocess
 import sys
@@ -255,7 +257,7 @@ def without_rights():
 # The mode of the folder, that of LOG in it, or None where LOG is missing, the words, and how they end.
 RECORD = ["record", "LOG", "1", "2", "3", "new", COMMAND]
 RECOMPACT, RESTAT = ["recompact", "LOG", "KEEP"], ["restat", "LOG", "TIMES"]
-SHOW, CHECK, REPAIR = ["show", "LOG"], ["check", "LOG"], ["repair", "LOG"]
+SHOW, CHECK, REPAIR, MAKE = ["show", "LOG"], ["check", "LOG"], ["repair", "LOG"], ["repair", "--missing-ok", "LOG"]
 READS = (SHOW, CHECK, ["entries", "LOG"], ["damage", "LOG"], ["doubt", "LOG"], ["builds", "LOG"], ["summary", "LOG"], ["hash-file", "LOG"])
 WRITES = (RECORD, RECOMPACT, RESTAT, REPAIR)
 SECRETS = (["recompact", "LOG", "SECRET"], ["restat", "LOG", "SECRET"], ["replay", "SECRET"], ["hash-file", "SECRET"])
@@ -265,7 +267,7 @@ RIGHTS = [
     *((0o600, 0o600, words, CANNOT_READ) for words in READS),
     *((mode, 0o600, words, FOLDER_FAILED) for mode in (0o600, 0o300) for words in WRITES),
     *((0o500, 0o600, words, FOLDER_FAILED) for words in (RECOMPACT, RESTAT, REPAIR)),
-    *((0o500, None, words, FOLDER_FAILED) for words in (RECORD, REPAIR)),
+    *((0o500, None, words, FOLDER_FAILED) for words in (RECORD, MAKE)),
     *((0o700, 0o600, words, CANNOT_READ) for words in SECRETS),
 ]
 # What the same user may do, with what is printed and the log that is left.
@@ -281,7 +283,7 @@ MAY = [
     (0o500, 0o400, ["builds", "LOG"], b"1\t2\t2\t4\t2\n", SMALL),
     (0o500, 0o400, ["summary", "-n", "0", "LOG"], b"commands 2\noutputs 2\nwall 4\ntotal 2\nbusy 2\nalone 2\nparallel 0.50\nslowest 1 a\n", SMALL),
     (0o500, 0o400, ["hash-file", "LOG"], b"%x\n" % command_hash(SMALL), SMALL),
-    (0o700, None, REPAIR, b"", HEADER),
+    (0o700, None, MAKE, b"", HEADER),
     (0o700, 0o600, REPAIR, b"", SMALL),
 ]
 
@@ -348,13 +350,33 @@ def try_rights(trials, program, room):
         got = run_without_rights(program, room, mode, log_mode, words)
         trials.want(what, got, (wanted, left, [] if left is None else ["LOG"]))
         said = wanted[2] and wanted[2] + reason(room, mode, log_mode, words)
+        if wanted[0] == 0 and log_mode is None:
+            said = f"nlog: LOG {room}/folder/LOG: it is missing, and was read as empty\n".encode()
         got = run_without_rights(program, room, mode, log_mode, [*words, "-v"])
         trials.want(f"{what}, by -v", got, ((*wanted[:2], said), left, [] if left is None else ["LOG"]))
     return None
 
 
+def try_file_size(trials, program, room):
+    """Past the limit on the size of a file the system ends the command, unless it was started with that signal ignored. LOG has its entries."""
+    log, scratch = f"{room}/LOG", f"{room}/LOG.recompact"
+
+    def limited(most, ignored):
+        signal.signal(signal.SIGXFSZ, signal.SIG_IGN if ignored else signal.SIG_DFL)
+        resource.setrlimit(resource.RLIMIT_FSIZE, (most, resource.RLIM_INFINITY))
+
+    too_large = f"nlog: the folder failed\nnlog: scratch {scratch}: File too large (os error 27)\n".encode()
+    for ignored, wanted in ((False, (-signal.SIGXFSZ, b"", b"")), (True, (1, b"", too_large))):
+        write(log, SMALL)
+        ended = run([program, "repair", "-v", log], preexec_fn=lambda it=ignored: limited(20, it), restore_signals=False)
+        trials.want(f"a scratch past the limit, the signal {'ignored' if ignored else 'not ignored'}", ended, wanted)
+        trials.want("the log beside it", read(log), SMALL)
+        trials.want("and it is repaired after it", run([program, "repair", log]), DONE)
+        trials.want("with all its entries", read(log), SMALL)
+
+
 def trial(trials, program, room):
-    for number, part in enumerate((try_names, try_scripts, try_bad_lines, try_words, try_full_output, try_dash, try_modes, try_rights)):
+    for number, part in enumerate((try_names, try_scripts, try_bad_lines, try_words, try_full_output, try_dash, try_modes, try_rights, try_file_size)):
         os.mkdir(f"{room}/{number}")
         part(trials, program, f"{room}/{number}")
 

@@ -5,7 +5,7 @@
 
 The first is an `apply` that is kept open by its input, or this trial, which takes the lock as a command does. Where the first
 doesn't end and changes nothing, the second is refused after 10 seconds, and the log stays; where it changes the log all the while, after a
-minute. A list of names that is missing or bad is refused at once.
+minute. With `--verbose` it says after a second that it waits. A list of names that is missing or bad is refused at once.
 Then four records at once, 100 times on each of four logs, also with a recompact among them, and with kills: what ended with status 0 stands.
 Writers of the library for C among them too. And another program, which takes no lock, renames or removes the log of an `apply`, or writes to it: what is acknowledged from then on is in LOG.
 """
@@ -25,6 +25,7 @@ ENTRY = (1, 2, 3, 4)
 START = HEADER + line_of(b"a", ENTRY) + line_of(b"b", ENTRY)
 DUE = START + line_of(b"a", ENTRY) * 200
 FAILED = b"nlog: the folder failed\n"
+WAITING = b"nlog: LOG LOG: another process has it locked; waiting\n"
 # The second command, and the log that it is given.
 SECOND = {
     "recompact": (["recompact", "LOG", "KEEP"], START),
@@ -79,8 +80,15 @@ def try_held(trials, program, room):
             trials.want(f"{what}: is refused", (*it.communicate(timeout=SECONDS), it.returncode), (b"", said, 1))
             trials.check(f"{what}: at once", time.monotonic() - at < 5)
         at, every = time.monotonic(), {what: begin([program, *words], room) for what, (words, _) in SECOND.items()}
+        told = {what: begin([program, words[0], "-v", *words[1:]], room) for what, (words, _) in SECOND.items()}
+        for what, it in told.items():
+            trials.want(f"{what}: it says that it waits", it.stderr.readline(), WAITING)
+        trials.check("after a second", 1 <= time.monotonic() - at < 6)
         for what, it in every.items():
             trials.want(f"{what}: is refused", (*it.communicate(timeout=SECONDS), it.returncode), (b"", FAILED, 1))
+        for what, it in told.items():
+            said = FAILED + b"nlog: LOG LOG: another process has it locked: an nlog, or a tool that keeps LOG\n"
+            trials.want(f"{what}: and why it is refused", (*it.communicate(timeout=SECONDS), it.returncode), (b"", said, 1))
         trials.check("after 10 seconds", 10 <= time.monotonic() - at < 20)
     trials.want("and the log stays", read(f"{room}/LOG"), START)
 
@@ -91,13 +99,15 @@ def try_busy(trials, program, room):
     with open(f"{room}/LOG", "ab") as held:
         fcntl.flock(held, fcntl.LOCK_EX)
         second = begin([program, *SECOND["record"][0]], room)
+        told = begin([program, "record", "-v", "LOG", "1", "2", "3", "told", "c"], room)
         for name in (b"third", b"fourth"):
             time.sleep(6)
             held.write(line_of(name, ENTRY))
             held.flush()
     ended = (*second.communicate(timeout=SECONDS), second.returncode)
     trials.want("a log that is changed meanwhile is waited for", ended, (b"", b"", 0))
-    trials.want("and all stand", set(Log(read(f"{room}/LOG")).table), {b"a", b"b", b"second", b"third", b"fourth"})
+    trials.want("and it is said once", (*told.communicate(timeout=SECONDS), told.returncode), (b"", WAITING, 0))
+    trials.want("and all stand", set(Log(read(f"{room}/LOG")).table), {b"a", b"b", b"second", b"told", b"third", b"fourth"})
 
 
 def always_busy(program, room):

@@ -1,5 +1,7 @@
 -- What is said behind a refusal where `--verbose` asks for it: docs/CLI.md, "Why something was refused".
-use Rattle.std.specs.Prelude.{⊤, ◌≡◌, ◌++◌, [], List, ℕ, Option, None, Some, IfSome, codes, decimal, string_bytes, Bool, true}
+use Rattle.std.specs.Prelude.{⊤, ◌≡◌, ◌++◌, [], List, ℕ, Option, None, Some, IfSome, codes, decimal, string_bytes, Bool, true, bytes_eq, length, ◌||◌, if◌then◌else◌, FitsSigned, ℤ}
+use Rattle.std.specs.Int.{Width, w32, w64}
+use Rattle.nl_fields.specs.Digits.{IsDecimal}
 use Rattle.std.specs.Borrow.{Bor}
 use Rattle.nl_system.specs.Paths.{folder_of}
 use Rattle.nl_disk.specs.declared.failure.Failure.{Failure}
@@ -14,7 +16,10 @@ use Rattle.nl_words.specs.declared.command_line.Words.TheVariants.{Repair, Repla
 use Rattle.nl_tool.specs.declared.reason.Place.{Place}
 use Rattle.nl_tool.specs.declared.reason.Place.TheVariants as at
 use Rattle.nl_tool.specs.declared.reason.Reason.{Reason}
-use Rattle.nl_tool.specs.declared.reason.Reason.TheVariants.{System, Line, Version}
+use Rattle.nl_tool.specs.declared.reason.Reason.TheVariants.{System, Full, Locked, Line, Negative, Version, Looks, Begins, Number, NoBytes, Tab, Newline, Long}
+use Rattle.nl_tool.specs.declared.notes.Notes.{Notes}
+use Rattle.nl_tool.specs.Looks.{look_of, look_text, start_text}
+use Rattle.nl_tool.specs.Wrong.{line_fault_text, number_fault_text}
 use Rattle.nl_tool.specs.declared.reason.Why.{Why}
 use Rattle.nl_tool.specs.declared.reason.Refusal.{Refusal}
 use Rattle.nl_tool.specs.declared.reason.Missing.{Missing}
@@ -32,11 +37,31 @@ place_text (at.Script path) = codes "SCRIPT " ++ path.now
 place_text (at.Command path) = codes "FILE " ++ path.now
 place_text at.Input = codes "standard input"
 place_text at.Output = codes "standard output"
+place_text (at.Start text) = codes "START " ++ text.now
+place_text (at.End text) = codes "END " ++ text.now
+place_text (at.Mtime text) = codes "MTIME " ++ text.now
+place_text at.Name = codes "NAME"
+
+-- whether a log of this version is taken where `auto` is asked for
+abbrev pub is_known : List ℕ → Bool
+is_known version = bytes_eq version (codes "4") || (bytes_eq version (codes "5") || (bytes_eq version (codes "6") || bytes_eq version (codes "7")))
 
 abbrev pub reason_text : Reason → List ℕ
 reason_text (System text) = string_bytes text
-reason_text (Line number) = codes "line " ++ decimal number
-reason_text (Version version) = codes "version " ++ string_bytes version
+reason_text (Full text) = string_bytes text ++ codes "; LOG keeps its entries"
+reason_text (Locked text) = string_bytes text ++ codes ": an nlog, or a tool that keeps LOG"
+reason_text (Line number None) = codes "line " ++ decimal number
+reason_text (Line number (Some fault)) = codes "line " ++ (decimal number ++ (codes ": " ++ line_fault_text fault))
+reason_text (Negative number) = codes "line " ++ (decimal number ++ codes ": the time stamp is negative")
+reason_text (Version version) =
+    codes "version " ++ (string_bytes version ++ (if is_known (string_bytes version) then codes "; add --log-version auto" else []))
+reason_text (Looks look) = look_text look
+reason_text (Begins text) = codes "it begins with \"" ++ (string_bytes text ++ codes "\"")
+reason_text (Number fault) = number_fault_text fault
+reason_text NoBytes = codes "it has no byte"
+reason_text (Tab at) = codes "byte " ++ (decimal at ++ codes " is a tab")
+reason_text (Newline at) = codes "byte " ++ (decimal at ++ codes " is a newline")
+reason_text (Long length) = codes "it has " ++ (decimal length ++ codes " bytes, and a name at most 65536")
 
 abbrev pub why_text : Why → List ℕ
 why_text why = place_text why.place ++ (codes ": " ++ reason_text why.reason)
@@ -105,6 +130,8 @@ log_place (Replay script) file = None
 -- the reason is what the system said
 abbrev pub IsSystem : Reason → Type 0
 IsSystem (System text) = ⊤
+IsSystem (Full text) = ⊤
+IsSystem (Locked text) = ⊤
 IsSystem _ = ⊥
 
 -- the reason is a version
@@ -112,14 +139,71 @@ abbrev pub IsVersion : Reason → Type 0
 IsVersion (Version version) = ⊤
 IsVersion _ = ⊥
 
--- what may be said of a fault of these words, where the folder's last failure is this
-abbrev pub IsReasonFor : Words → ToolFault → Option Failure → Why → Type 0
-IsReasonFor words fault.Read failed why = (read_place words ≡ Some why.place) × IsSystem why.reason
-IsReasonFor words fault.Write failed why = (why.place ≡ at.Output) × IsSystem why.reason
-IsReasonFor words fault.Folder failed why = IfSome failed (λ failure. log_place words failure.file ≡ Some why.place) × IsSystem why.reason
-IsReasonFor words (fault.BadLine number) failed why = (read_place words ≡ Some why.place) × (why.reason ≡ Line number)
-IsReasonFor words fault.OtherVersion failed why = (log_place words file.Log ≡ Some why.place) × IsVersion why.reason
-IsReasonFor words _ failed why = ⊥
+-- how the file begins that was read last
+abbrev pub heard_of : Notes → List ℕ
+heard_of notes = notes.heard.beginning.bytes.items
+
+-- the reason is what a file looks like that begins so, or else its first bytes
+abbrev pub IsLookAt : List ℕ → Reason → Type 0
+IsLookAt bytes (Looks look) = look_of bytes ≡ Some look
+IsLookAt bytes (Begins text) = (look_of bytes ≡ None) × (string_bytes text ≡ start_text bytes)
+IsLookAt bytes _ = ⊥
+
+abbrev pub IsNumberFault : Reason → Type 0
+IsNumberFault (Number fault) = ⊤
+IsNumberFault _ = ⊥
+
+-- a text that spells a number of the width
+pub record IsNumber (w : Width) (text : List ℕ) : Type 0 where
+  pub number : ℤ
+  pub fits : FitsSigned w number
+  pub is : IsDecimal number text
+
+-- the first of these texts that is no number
+abbrev pub IsFirstBad : Bor (List ℕ) → Bor (List ℕ) → Bor (List ℕ) → Place → Type 0
+IsFirstBad start end mtime (at.Start text) = (text ≡ start) × ¬ IsNumber w32 start.now
+IsFirstBad start end mtime (at.End text) = (text ≡ end) × ¬ IsNumber w32 end.now × IsNumber w32 start.now
+IsFirstBad start end mtime (at.Mtime text) = (text ≡ mtime) × ¬ IsNumber w64 mtime.now × IsNumber w32 start.now × IsNumber w32 end.now
+IsFirstBad start end mtime _ = ⊥
+
+abbrev pub IsBadNumberOf : Words → Why → Type 0
+IsBadNumberOf (Record log start end mtime name command) why = IsFirstBad start end mtime why.place × IsNumberFault why.reason
+IsBadNumberOf _ why = ⊥
+
+-- the reason is this byte
+abbrev pub IsByteAt : ℕ → Reason → Type 0
+IsByteAt place (Tab at) = at ≡ place
+IsByteAt place (Newline at) = at ≡ place
+IsByteAt place _ = ⊥
+
+abbrev pub IsLongNameOf : Words → Why → Type 0
+IsLongNameOf (Record log start end mtime name command) why = (why.place ≡ at.Name) × (why.reason ≡ Long (length name.now))
+IsLongNameOf _ why = ⊥
+
+-- the reason is this line
+abbrev pub IsLine : ℕ → Reason → Type 0
+IsLine number (Line at fault) = at ≡ number
+IsLine number _ = ⊥
+
+abbrev pub IsNegative : Reason → Type 0
+IsNegative (Negative number) = ⊤
+IsNegative _ = ⊥
+
+-- what may be said of a fault of these words, where the folder's last failure is this, and the file that was read last begins so
+abbrev pub IsReasonFor : Words → ToolFault → Option Failure → List ℕ → Why → Type 0
+IsReasonFor words fault.Read failed bytes why = (read_place words ≡ Some why.place) × IsSystem why.reason
+IsReasonFor words fault.Write failed bytes why = (why.place ≡ at.Output) × IsSystem why.reason
+IsReasonFor words fault.Folder failed bytes why =
+    IfSome failed (λ failure. log_place words failure.file ≡ Some why.place) × IsSystem why.reason
+IsReasonFor words (fault.BadLine number) failed bytes why = (read_place words ≡ Some why.place) × IsLine number why.reason
+IsReasonFor words (fault.NegativeTime place) failed bytes why = (read_place words ≡ Some why.place) × IsNegative why.reason
+IsReasonFor words fault.OtherVersion failed bytes why = (log_place words file.Log ≡ Some why.place) × IsVersion why.reason
+IsReasonFor words fault.NotALog failed bytes why = (log_place words file.Log ≡ Some why.place) × IsLookAt bytes why.reason
+IsReasonFor words fault.BadNumber failed bytes why = IsBadNumberOf words why
+IsReasonFor words fault.EmptyName failed bytes why = (why.place ≡ at.Name) × (why.reason ≡ NoBytes)
+IsReasonFor words (fault.BadByte place) failed bytes why = (why.place ≡ at.Name) × IsByteAt place why.reason
+IsReasonFor words fault.LongName failed bytes why = IsLongNameOf words why
+IsReasonFor words fault.Memory failed bytes why = ⊥
 
 -- it is said only of a log that was missing
 abbrev pub IsNoteFor : Words → Bool → Missing → Type 0

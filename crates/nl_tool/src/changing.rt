@@ -8,6 +8,8 @@ ghost use Rattle.nl_words.specs.declared.version.AskedVersion.{AskedVersion};
 use crate::files::{look_there, note_missing, open};
 use crate::notes::{NotedReader, NotedWriter, Notes};
 use crate::version_choice::number_of;
+use crate::waiting::Waiting;
+use crate::wrong::LineKind;
 use nl_change::{
     AskedFolder, apply_on, entry_of, recompact_on, record_command, repair_on, restat_on,
 };
@@ -42,7 +44,7 @@ pub fn or_auto(asked: Option<AskedVersion>) -> AskedVersion
 }
 
 // What is wrong with the words of an entry comes before anything is asked of the log.
-pub fn record_in<R: Files + Clock>(
+pub fn record_in<R: Files + Clock + Eprint>(
     rt: &R,
     alloc: Global,
     asked: AskedVersion,
@@ -61,7 +63,7 @@ where
 {
     let entry = entry_of(start, end, mtime, name)?;
     note_missing(rt, log, notes);
-    let folder = DiskFolder::new(rt, alloc, log)?;
+    let folder = DiskFolder::new(Waiting::new(rt, log, notes.looks), alloc, log)?;
     record_noted(alloc, asked, folder, entry, command, notes)
 }
 
@@ -82,7 +84,7 @@ where
     noted(folder, answer, notes)
 }
 
-pub fn recompact_in<R: Files + Clock>(
+pub fn recompact_in<R: Files + Clock + Eprint>(
     rt: &R,
     alloc: Global,
     asked: AskedVersion,
@@ -95,8 +97,15 @@ where
     ensures faults { IfErr result IsRecompactFault }
 {
     let names = open(rt, keep, notes)?;
+    notes.watch(LineKind::Keep);
     note_missing(rt, log, notes);
-    recompact_noted(alloc, asked, DiskFolder::new(rt, alloc, log)?, names, notes)
+    recompact_noted(
+        alloc,
+        asked,
+        DiskFolder::new(Waiting::new(rt, log, notes.looks), alloc, log)?,
+        names,
+        notes,
+    )
 }
 
 fn recompact_noted<F: Files + Clock + Drop, R: Read + Drop>(
@@ -116,7 +125,7 @@ where
     noted(left.folder, answer, notes)
 }
 
-pub fn restat_in<R: Files + Clock>(
+pub fn restat_in<R: Files + Clock + Eprint>(
     rt: &R,
     alloc: Global,
     asked: AskedVersion,
@@ -129,8 +138,15 @@ where
     ensures faults { IfErr result IsRestatFault }
 {
     let pairs = open(rt, times, notes)?;
+    notes.watch(LineKind::Times);
     note_missing(rt, log, notes);
-    restat_noted(alloc, asked, DiskFolder::new(rt, alloc, log)?, pairs, notes)
+    restat_noted(
+        alloc,
+        asked,
+        DiskFolder::new(Waiting::new(rt, log, notes.looks), alloc, log)?,
+        pairs,
+        notes,
+    )
 }
 
 fn restat_noted<F: Files + Clock + Drop, R: Read + Drop>(
@@ -163,11 +179,11 @@ where
     ensures faults { IfErr result IsApplyFault }
 {
     let Some(path) = script else {
-        let folder = DiskFolder::new(rt, alloc, log)?;
+        let folder = DiskFolder::new(Waiting::new(rt, log, notes.looks), alloc, log)?;
         return apply_noted(rt, alloc, asked, folder, rt.reader(), notes);
     };
     let lines = open(rt, path, notes)?;
-    let folder = DiskFolder::new(rt, alloc, log)?;
+    let folder = DiskFolder::new(Waiting::new(rt, log, notes.looks), alloc, log)?;
     apply_noted(rt, alloc, asked, folder, lines, notes)
 }
 
@@ -190,7 +206,7 @@ where
     noted(folder, answer, notes)
 }
 
-pub fn repair_in<R: Files + Clock>(
+pub fn repair_in<R: Files + Clock + Eprint>(
     rt: &R,
     alloc: Global,
     asked: AskedVersion,
@@ -203,7 +219,12 @@ where
     ensures faults { IfErr result IsRepairFault }
 {
     look_there(rt, log, missing_ok, notes)?;
-    repair_noted(alloc, asked, DiskFolder::new(rt, alloc, log)?, notes)
+    repair_noted(
+        alloc,
+        asked,
+        DiskFolder::new(Waiting::new(rt, log, notes.looks), alloc, log)?,
+        notes,
+    )
 }
 
 fn repair_noted<F: Files + Clock + Drop>(
@@ -221,7 +242,7 @@ where
     noted(left.folder, answer, notes)
 }
 
-// What was answered over a folder, of which it is noted why it last failed, and how a log of another version begins.
+// What was answered over a folder, of which it is noted why it last failed, and how what isn't taken for a log begins.
 pub fn noted<R: Files + Clock + Drop>(
     folder: DiskFolder<R>,
     answer: Result<(), ToolFault>,
@@ -234,8 +255,11 @@ where
 {
     let mut folder = folder;
     notes.folder = folder.last_failure();
-    if notes.looks && answer == Err(ToolFault::OtherVersion) {
-        notes.look_at(&mut folder);
+    match answer {
+        Err(ToolFault::OtherVersion | ToolFault::NotALog) if notes.looks => {
+            notes.look_at(&mut folder);
+        }
+        _ => {}
     }
     answer
 }

@@ -7,14 +7,19 @@ mod doubting;
 mod ending;
 mod files;
 pub mod laws;
+mod looks;
 mod notes;
 mod printing;
 mod program;
 mod reason;
 mod reporting;
 mod version_choice;
+mod waiting;
+mod watch;
+mod wrong;
 
 pub use ending::{run_line, run_program};
+pub use looks::{Look, look_of, start_of};
 pub use nl_change::{
     AskedFolder, FoundFolder, LogPlace, apply_on, entry_of, recompact_on, record_command,
     record_on, repair_on, restat_on,
@@ -35,3 +40,6 @@ pub use notes::{Beginning, Heard, NotedReader, NotedWriter, Notes};
 pub use program::{Outcome, run, run_noted};
 pub use reason::{Missing, Place, Reason, Refusal, Why, note_of, refusal_of};
 pub use version_choice::number_of;
+pub use waiting::Waiting;
+pub use watch::Watch;
+pub use wrong::{LineFault, LineKind, NumberFault};

@@ -4,6 +4,8 @@ ghost use Rattle.std.specs.Prelude.{◌≡◌, None, Some, IfErr, false};
 ghost use Rattle.std.specs.Io.{ReadsAtMost, WritesAtMost};
 ghost use Rattle.std.specs.Io.KnownBytes.{Keeps, ReadConsumes, WriteAppends};
 
+use crate::watch::Watch;
+use crate::wrong::LineKind;
 use nl_disk::Failure;
 use nl_folder::Folder;
 use nl_lines::MAX_LINE;
@@ -42,11 +44,21 @@ impl Notes {
                     bytes: Vec::new(alloc),
                     goes_on: looks,
                 },
+                lines: Watch::new(alloc),
             },
             written: None,
             folder: None,
             is_missing: false,
             looks,
+        }
+    }
+
+    /// Watches the lines of the file that is read next, where more is to be said.
+    pub fn watch(&mut self, kind: LineKind)
+        ensures kept { self.new.folder ≡ self.old.folder }
+    {
+        if self.looks {
+            self.heard.lines.begin(kind);
         }
     }
 
@@ -64,6 +76,7 @@ pub struct Heard {
     /// The error by which it was last not opened, or not read.
     pub failure: Option<io::Error>,
     pub beginning: Beginning,
+    pub lines: Watch,
 }
 
 impl Heard {
@@ -136,6 +149,7 @@ impl<R: Read> Read for NotedReader<'_, R> {
         match self.reader.read(buf) {
             Ok(count) => {
                 self.heard.beginning.note(&buf[..count]);
+                self.heard.lines.note(&buf[..count]);
                 Ok(count)
             }
             Err(error) => {

@@ -7,6 +7,7 @@ use crate::doubting::doubt_in;
 use crate::notes::Notes;
 use crate::printing::{Printing, Streaming, print_file, print_log, print_noted, stream_log};
 use crate::reporting::{Report, report_in, summary_in};
+use crate::wrong::LineKind;
 use nl_disk::SystemFile;
 use nl_texts::ToolFault;
 use nl_words::{CommandLine, Words};
@@ -60,7 +61,10 @@ where
             print_noted(rt, alloc, printing, version, io::empty(), notes)
         }
         Words::HashFile(file) => print_file(rt, alloc, Printing::HashFile, version, file, notes),
-        Words::Replay(script) => print_file(rt, alloc, Printing::Replay, version, script, notes),
+        Words::Replay(script) => {
+            notes.watch(LineKind::Script);
+            print_file(rt, alloc, Printing::Replay, version, script, notes)
+        }
         Words::Entries(log) => {
             return stream_log(rt, alloc, Streaming::Entries, log, missing_ok, notes);
         }

@@ -1,10 +1,14 @@
 //! Why something was refused, as it is said where `--verbose` asks for it: which file it is of, and the reason.
 ghost use Rattle.std.specs.Prelude.{◌≡◌, None, Some, IfSome, IsSome, false, true};
 ghost use Rattle.nl_disk.specs.declared.failure.LogFile.{LogFile};
-ghost use Rattle.nl_tool.specs.Reasons.{IsNoteFor, IsReasonFor, IsSystem, IsVersion, file_place, log_place, missing_text, place_text, read_place, reason_text, refusal_text, why_text};
+ghost use Rattle.nl_tool.specs.declared.reason.Place.{Place};
+ghost use Rattle.nl_tool.specs.Reasons.{IsBadNumberOf, IsByteAt, IsLongNameOf, IsLookAt, IsNoteFor, IsReasonFor, IsSystem, IsVersion, file_place, heard_of, is_known, log_place, missing_text, place_text, read_place, reason_text, refusal_text, why_text};
 
+use crate::looks::{Look, look_of, start_of};
 use crate::notes::Notes;
-use nl_disk::{LogFile, folder_part};
+use crate::wrong::{LineFault, NumberFault, number_fault};
+use nl_disk::{Failure, LogFile, folder_part};
+use nl_fields::{read_i32, read_i64};
 use nl_texts::ToolFault;
 use nl_words::{CommandLine, Words};
 use std::alloc::Global;
@@ -25,6 +29,11 @@ pub enum Place<'a> {
     Command(&'a str),
     Input,
     Output,
+    /// A value of `record`.
+    Start(&'a str),
+    End(&'a str),
+    Mtime(&'a str),
+    Name,
 }
 
 impl fmt::Display for Place<'_> {
@@ -44,8 +53,25 @@ impl fmt::Display for Place<'_> {
             Place::Command(path) => write!(f, "FILE {path}"),
             Place::Input => write!(f, "standard input"),
             Place::Output => write!(f, "standard output"),
+            Place::Start(text) => write!(f, "START {text}"),
+            Place::End(text) => write!(f, "END {text}"),
+            Place::Mtime(text) => write!(f, "MTIME {text}"),
+            Place::Name => write!(f, "NAME"),
         }
     }
+}
+
+// The number of the error of a disk that has no room.
+const FULL: i32 = 28;
+
+// What is said behind a version that another choice of the command line takes.
+const KNOWN: &str = "; add --log-version auto";
+
+// Whether a log of this version is taken where `auto` is asked for.
+fn is_known(version: &str) -> bool
+    ensures { result ≡ is_known version.now }
+{
+    matches!(version, "4" | "5" | "6" | "7")
 }
 
 /// What is known of a refusal beside its fault.
@@ -53,10 +79,26 @@ impl fmt::Display for Place<'_> {
 pub enum Reason {
     /// What the system says of the call that failed.
     System(String),
-    /// The number of a bad line, from 1.
-    Line(u64),
+    /// The same, of a disk that has no room: the log has what it had.
+    Full(String),
+    /// That a log is locked, and who may hold the lock.
+    Locked(String),
+    /// The number of a bad line, from 1, and what is wrong with it, where that is known.
+    Line(u64, Option<LineFault>),
+    /// The number of the line with a negative time, from 1.
+    Negative(u64),
     /// The version of the log, in digits.
     Version(String),
+    /// What a file looks like that is no log.
+    Looks(Look),
+    /// How it begins.
+    Begins(String),
+    Number(NumberFault),
+    /// A name has no byte, a byte that it may not have, or too many.
+    NoBytes,
+    Tab(usize),
+    Newline(usize),
+    Long(usize),
 }
 
 impl fmt::Display for Reason {
@@ -65,8 +107,22 @@ impl fmt::Display for Reason {
     fn fmt<W: fmt::Write>(&self, f: &mut fmt::Formatter<W>) -> fmt::Result {
         match self {
             Reason::System(text) => write!(f, "{text}"),
-            Reason::Line(number) => write!(f, "line {number}"),
-            Reason::Version(version) => write!(f, "version {version}"),
+            Reason::Full(text) => write!(f, "{text}; LOG keeps its entries"),
+            Reason::Locked(text) => write!(f, "{text}: an nlog, or a tool that keeps LOG"),
+            Reason::Line(number, None) => write!(f, "line {number}"),
+            Reason::Line(number, Some(fault)) => write!(f, "line {number}: {fault}"),
+            Reason::Negative(number) => write!(f, "line {number}: the time stamp is negative"),
+            Reason::Version(version) => {
+                let way = if is_known(version) { KNOWN } else { "" };
+                write!(f, "version {version}{way}")
+            }
+            Reason::Looks(look) => write!(f, "{look}"),
+            Reason::Begins(text) => write!(f, "it begins with \"{text}\""),
+            Reason::Number(fault) => write!(f, "{fault}"),
+            Reason::NoBytes => write!(f, "it has no byte"),
+            Reason::Tab(at) => write!(f, "byte {at} is a tab"),
+            Reason::Newline(at) => write!(f, "byte {at} is a newline"),
+            Reason::Long(length) => write!(f, "it has {length} bytes, and a name at most 65536"),
         }
     }
 }
@@ -125,7 +181,7 @@ impl fmt::Display for Missing<'_> {
 pub fn note_of<'a>(line: &CommandLine<'a>, notes: &Notes) -> Option<Missing<'a>>
     ensures quiet { line.now.verbose ≡ false → result ≡ None }
     ensures note { IfSome result (IsNoteFor line.now.words notes.now.is_missing) }
-    ensures said { line.now.verbose ≡ true → notes.now.is_missing ≡ true
+    ensures whenever { line.now.verbose ≡ true → notes.now.is_missing ≡ true
         → IsSome (log_place line.now.words LogFile.Log) → IsSome result }
 {
     if !line.verbose || !notes.is_missing {
@@ -146,7 +202,8 @@ pub fn refusal_of<'a>(
 ) -> Refusal<'a>
     ensures fault { result.fault ≡ fault }
     ensures quiet { line.now.verbose ≡ false → result.why ≡ None }
-    ensures why { IfSome result.why (IsReasonFor line.now.words fault notes.now.folder) }
+    ensures why { IfSome result.why
+        (IsReasonFor line.now.words fault notes.now.folder (heard_of notes.now)) }
 {
     let why = if line.verbose {
         why_of(alloc, &line.words, fault, notes)
@@ -158,28 +215,128 @@ pub fn refusal_of<'a>(
 
 // The reason of a fault, where it is known.
 fn why_of<'a>(alloc: Global, words: &Words<'a>, fault: ToolFault, notes: &Notes) -> Option<Why<'a>>
-    ensures { IfSome result (IsReasonFor words.now fault notes.now.folder) }
+    ensures { IfSome result
+        (IsReasonFor words.now fault notes.now.folder (heard_of notes.now)) }
 {
     match fault {
         ToolFault::Read => said_of(alloc, read_place(words)?, notes.heard.failure?),
         ToolFault::Write => said_of(alloc, Place::Output, notes.written?),
         ToolFault::Folder => {
             let failure = notes.folder?;
-            said_of(alloc, log_place(words, failure.file)?, failure.error)
+            failed_of(alloc, log_place(words, failure.file)?, &failure)
         }
         ToolFault::BadLine(number) => Some(Why {
             place: read_place(words)?,
-            reason: Reason::Line(number),
+            reason: Reason::Line(number, notes.heard.lines.fault_at(number)),
+        }),
+        ToolFault::NegativeTime(place) => Some(Why {
+            place: read_place(words)?,
+            reason: Reason::Negative(notes.heard.lines.line_of_pair(place)?),
         }),
         ToolFault::OtherVersion => version_of(alloc, words, notes),
-        ToolFault::NotALog
-        | ToolFault::Memory
-        | ToolFault::NegativeTime(_)
-        | ToolFault::BadNumber
-        | ToolFault::EmptyName
-        | ToolFault::BadByte(_)
-        | ToolFault::LongName => None,
+        ToolFault::NotALog => looks_of(alloc, words, notes),
+        ToolFault::BadNumber => bad_number(words),
+        ToolFault::EmptyName => Some(of_name(Reason::NoBytes)),
+        ToolFault::BadByte(at) => bad_byte(words, at),
+        ToolFault::LongName => long_name(words),
+        ToolFault::Memory => None,
     }
+}
+
+// What the system said of a file of the log, and what there is to say beside it.
+fn failed_of<'a>(alloc: Global, place: Place<'a>, failure: &Failure) -> Option<Why<'a>>
+    ensures place { IfSome result (λ why. why.place ≡ place.entry) }
+    ensures reason { IfSome result (λ why. IsSystem why.reason) }
+{
+    let error = failure.error;
+    let text = format!(in alloc; "{error}").ok()?;
+    let reason = if error.raw_os_error() == Some(FULL) {
+        Reason::Full(text)
+    } else if error.kind() == io::ErrorKind::WouldBlock {
+        Reason::Locked(text)
+    } else {
+        Reason::System(text)
+    };
+    Some(Why { place, reason })
+}
+
+// What the file of the words looks like that is no log.
+fn looks_of<'a>(alloc: Global, words: &Words<'a>, notes: &Notes) -> Option<Why<'a>>
+    ensures place { IfSome result (λ why. log_place words.now LogFile.Log ≡ Some why.place) }
+    ensures reason { IfSome result (λ why. IsLookAt (heard_of notes.now) why.reason) }
+{
+    let place = log_place(words, LogFile::Log)?;
+    let bytes = notes.heard.beginning.bytes();
+    let reason = match look_of(bytes) {
+        Some(look) => Reason::Looks(look),
+        None => Reason::Begins(start_of(alloc, bytes)?),
+    };
+    Some(Why { place, reason })
+}
+
+// Which number of the words is none, and why.
+fn bad_number<'a>(words: &Words<'a>) -> Option<Why<'a>>
+    ensures { IfSome result (IsBadNumberOf words.now) }
+{
+    let Words::Record {
+        start,
+        end,
+        mtime,
+        ..
+    } = *words
+    else {
+        return None;
+    };
+    if read_i32(start.as_bytes()).is_none() {
+        return Some(Why {
+            place: Place::Start(start),
+            reason: Reason::Number(number_fault(start.as_bytes(), NumberFault::Past32)),
+        });
+    }
+    if read_i32(end.as_bytes()).is_none() {
+        return Some(Why {
+            place: Place::End(end),
+            reason: Reason::Number(number_fault(end.as_bytes(), NumberFault::Past32)),
+        });
+    }
+    if read_i64(mtime.as_bytes()).is_none() {
+        return Some(Why {
+            place: Place::Mtime(mtime),
+            reason: Reason::Number(number_fault(mtime.as_bytes(), NumberFault::Past64)),
+        });
+    }
+    None
+}
+
+fn of_name<'a>(reason: Reason) -> Why<'a>
+    ensures { result ≡ record { place = Place.Name; reason = reason } }
+{
+    Why {
+        place: Place::Name,
+        reason,
+    }
+}
+
+// Which byte no name has.
+fn bad_byte<'a>(words: &Words<'a>, at: usize) -> Option<Why<'a>>
+    ensures { IfSome result (λ why. (why.place ≡ Place.Name) × IsByteAt at why.reason) }
+{
+    let Words::Record { name, .. } = *words else {
+        return None;
+    };
+    match name.as_bytes().get(at)? {
+        b'\n' => Some(of_name(Reason::Newline(at))),
+        _ => Some(of_name(Reason::Tab(at))),
+    }
+}
+
+fn long_name<'a>(words: &Words<'a>) -> Option<Why<'a>>
+    ensures { IfSome result (IsLongNameOf words.now) }
+{
+    let Words::Record { name, .. } = *words else {
+        return None;
+    };
+    Some(of_name(Reason::Long(name.len())))
 }
 
 // What the system said of a file.

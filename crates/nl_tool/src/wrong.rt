@@ -1,0 +1,142 @@
+//! What is wrong with a number, and with a line of KEEP, TIMES or SCRIPT.
+ghost use Rattle.std.specs.Prelude.{Some};
+ghost use Rattle.nl_tool.specs.Wrong.{line_fault_text, number_fault_text};
+
+use nl_fields::{NameFault, name_fault, read_i64};
+use std::fmt;
+
+/// What is wrong with START, END or MTIME.
+#[derive(Clone, Copy, Debug, PartialEq, Eq, Drop)]
+pub enum NumberFault {
+    /// It isn't digits, with a `-` before them or without.
+    NoNumber,
+    /// A zero in front, or `-0`.
+    Spelling,
+    /// It is no number of 32 bits.
+    Past32,
+    /// It is no number of 64 bits.
+    Past64,
+}
+
+impl fmt::Display for NumberFault {
+    ghost output = { λ fault. Some (number_fault_text fault) };
+
+    fn fmt<W: fmt::Write>(&self, f: &mut fmt::Formatter<W>) -> fmt::Result {
+        match self {
+            NumberFault::NoNumber => write!(f, "it isn't a number"),
+            NumberFault::Spelling => write!(f, "a number has no zero in front"),
+            NumberFault::Past32 => write!(f, "it isn't from -2147483648 to 2147483647"),
+            NumberFault::Past64 => write!(f, "it isn't a number of 64 bits"),
+        }
+    }
+}
+
+// What is wrong with a text that isn't a number in its one spelling, or is past the range of which this says so.
+pub fn number_fault(text: &[u8], past: NumberFault) -> NumberFault {
+    let digits = match text {
+        [b'-', digits @ ..] => digits,
+        _ => text,
+    };
+    if digits.is_empty() || !digits.iter().all(|byte| byte.is_ascii_digit()) {
+        return NumberFault::NoNumber;
+    }
+    if digits[0] == b'0' {
+        NumberFault::Spelling
+    } else {
+        past
+    }
+}
+
+/// What is wrong with a line.
+#[derive(Clone, Copy, Debug, PartialEq, Eq, Drop)]
+pub enum LineFault {
+    NoTab,
+    Tab,
+    Number(NumberFault),
+    NoName,
+    Zero,
+    LongName,
+    LongLine,
+    NoEvent,
+    Values,
+}
+
+impl fmt::Display for LineFault {
+    ghost output = { λ fault. Some (line_fault_text fault) };
+
+    fn fmt<W: fmt::Write>(&self, f: &mut fmt::Formatter<W>) -> fmt::Result {
+        match self {
+            LineFault::NoTab => write!(f, "there is no tab"),
+            LineFault::Tab => write!(f, "a name has no tab"),
+            LineFault::Number(fault) => write!(f, "before the tab, {fault}"),
+            LineFault::NoName => write!(f, "the name is empty"),
+            LineFault::Zero => write!(f, "a name has no zero byte"),
+            LineFault::LongName => write!(f, "a name has at most 65536 bytes"),
+            LineFault::LongLine => write!(f, "a line has at most 262143 bytes"),
+            LineFault::NoEvent => write!(f, "no event begins so"),
+            LineFault::Values => write!(
+                f,
+                "the values are wrong, or the line stands where it must not"
+            ),
+        }
+    }
+}
+
+/// What the lines of a file say.
+#[derive(Clone, Copy, Debug, PartialEq, Eq, Drop)]
+pub enum LineKind {
+    Keep,
+    Times,
+    Script,
+}
+
+// What is wrong with a line by itself, as far as that can be told of one of a script.
+pub fn line_fault(kind: LineKind, line: &[u8]) -> Option<LineFault> {
+    match kind {
+        LineKind::Keep => keep_fault(line),
+        LineKind::Times => times_fault(line),
+        LineKind::Script => script_fault(line),
+    }
+}
+
+fn keep_fault(name: &[u8]) -> Option<LineFault> {
+    match name_fault(name)? {
+        NameFault::Empty => Some(LineFault::NoName),
+        NameFault::TooLong => Some(LineFault::LongName),
+        NameFault::BadByte(_) if name.contains(&0) => Some(LineFault::Zero),
+        NameFault::BadByte(_) => Some(LineFault::Tab),
+        NameFault::OutOfMemory => None,
+    }
+}
+
+fn times_fault(line: &[u8]) -> Option<LineFault> {
+    let Some(tab) = line.iter().position(|byte| *byte == b'\t') else {
+        return Some(LineFault::NoTab);
+    };
+    let time = &line[..tab];
+    if read_i64(time).is_none() {
+        return Some(LineFault::Number(number_fault(time, NumberFault::Past64)));
+    }
+    keep_fault(&line[tab + 1..])
+}
+
+fn script_fault(line: &[u8]) -> Option<LineFault> {
+    let end = match line.iter().position(|byte| *byte == b'\t') {
+        Some(tab) => tab,
+        None => line.len(),
+    };
+    match &line[..end] {
+        b"writes"
+        | b"fates"
+        | b"tails"
+        | b"fuse"
+        | b"open"
+        | b"record"
+        | b"sync"
+        | b"recompact"
+        | b"restat"
+        | b"stop"
+        | b"crash" => None,
+        _ => Some(LineFault::NoEvent),
+    }
+}
