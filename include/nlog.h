@@ -329,7 +329,15 @@ nlog_status nlog_clear_marks(nlog *log);
 /* ---- Part 3: a log on disk, for POSIX with flock ---- */
 
 /* A log at a path, which the writer opens, and then keeps open and locked until
- * the close. docs/LIBRARY.md has its states.
+ * the close. A writer is in one of four states:
+ *
+ *     closed --nlog_writer_open--> open
+ *     closed --nlog_writer_open_to_read--> open to read
+ *     open to read --nlog_writer_open, or the first of record, record_edge,
+ *       begin, sync, recompact, restat--> open
+ *     open, or open to read in such a call --a call of the system fails,
+ *       or memory runs out within a change--> broken
+ *     open to read, open or broken --nlog_writer_close--> closed
  *
  * If a call of the system fails, the call here answers NLOG_FAULT, and the
  * writer is broken. Each call that reads or changes the log then answers
@@ -407,6 +415,38 @@ void nlog_writer_free(nlog_writer **writer);
  * nothing of what was lost. */
 nlog_status nlog_writer_open(nlog_writer *writer);
 
+/* Opens the log to read it: reads it as it stands, and locks, writes and makes
+ * no file. A log that is missing, or whose folder is, is an empty one.
+ * nlog_writer_count, nlog_writer_at, nlog_writer_find and nlog_writer_version
+ * then answer as behind nlog_writer_open. Marks of dead names are used up as by
+ * it.
+ * The first call that changes the log locks it. Then it does what an open owes:
+ * it syncs, and repairs or rewrites. So does nlog_writer_open, which does no
+ * more than that. If the file is the one that was read, nothing of it is read
+ * again but the end of its last line. If it only grew by lines of entries,
+ * these are read. If it is another, or was written in any other way, it is read
+ * anew. It is known by its device, its inode, its length, the time of its last
+ * write and its last 128 bytes. A log that is due is rewritten without what is
+ * marked dead by then.
+ * NLOG_OK: the log was read. A close of it is answered NLOG_OK, and does
+ * nothing to any file.
+ * Other statuses of this call: as of nlog_writer_open, and no file was touched.
+ * Other statuses of the first change: NLOG_LOCKED and NLOG_BAD_NAME leave the
+ * log open to read, and the call may be made again. Any other breaks the
+ * writer, and closes it if the call is nlog_writer_open. NLOG_NOT_A_LOG and
+ * NLOG_OTHER_VERSION come if the log was read anew. */
+nlog_status nlog_writer_open_to_read(nlog_writer *writer);
+
+/* Whether the log that is open to read is due, as nlog_facts has it: then the
+ * first change rewrites it. Of an open log it is false.
+ * NLOG_NOT_OPEN, NLOG_BROKEN. */
+nlog_status nlog_writer_is_due(const nlog_writer *writer, bool *is_due);
+
+/* The number of the version that the log's first line has, if the last open,
+ * or the last first change, answered NLOG_OTHER_VERSION. UINT64_MAX if it is
+ * larger. 0 if that wasn't so, or if the number begins with a 0. */
+uint64_t nlog_writer_other_version(const nlog_writer *writer);
+
 /* Whether the log is shared, which it isn't at first. Then the lock is held
  * within each call alone, and not from the open to the close. This is for a
  * tool whose commands may run the tool itself in the same folder, as a build
@@ -428,16 +468,17 @@ nlog_status nlog_writer_set_shared(nlog_writer *writer, bool is_shared);
  * There is no queue, so among many that wait one may wait long. */
 nlog_status nlog_writer_set_wait(nlog_writer *writer, uint32_t milliseconds);
 
-/* Whether an open succeeded that no close followed, and nothing broke the
- * writer since. */
+/* Whether an open, or an open to read, succeeded that no close followed, and
+ * nothing broke the writer since. */
 nlog_status nlog_writer_is_open(const nlog_writer *writer, bool *is_open);
 
-/* Whether the last open rewrote the log. NLOG_NOT_OPEN, NLOG_BROKEN. */
+/* Whether the last open rewrote the log, also at the first change behind an
+ * open to read. NLOG_NOT_OPEN, NLOG_BROKEN. */
 nlog_status nlog_writer_rewrote(const nlog_writer *writer, bool *rewrote);
 
-/* The version of the open log: 5, 6 or 7. The hash of each entry must be that
- * of the version: nlog_command_hash_v7 of 7, else nlog_command_hash.
- * NLOG_NOT_OPEN, NLOG_BROKEN. */
+/* The version of the log, open or open to read: 5, 6 or 7. The hash of each
+ * entry must be that of the version: nlog_command_hash_v7 of 7, else
+ * nlog_command_hash. NLOG_NOT_OPEN, NLOG_BROKEN. */
 nlog_status nlog_writer_version(const nlog_writer *writer, uint32_t *version);
 
 /* Adds the entry of an output, by one write.
@@ -461,8 +502,8 @@ nlog_status nlog_writer_record_edge(nlog_writer *writer, const nlog_name *names,
 nlog_status nlog_writer_begin(nlog_writer *writer, const nlog_name *names,
     size_t count, int32_t moment_ms, uint64_t hash);
 
-/* As nlog_count, nlog_at and nlog_find, of the open log with all that was
- * recorded. NLOG_NOT_OPEN, NLOG_BROKEN. */
+/* As nlog_count, nlog_at and nlog_find, of the log, open or open to read, with
+ * all that was recorded. NLOG_NOT_OPEN, NLOG_BROKEN. */
 nlog_status nlog_writer_count(const nlog_writer *writer, size_t *count);
 nlog_status nlog_writer_at(const nlog_writer *writer, size_t place,
     nlog_entry *entry, char *name, size_t room, size_t *name_len);

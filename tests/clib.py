@@ -29,22 +29,20 @@ from concurrent.futures import ThreadPoolExecutor
 
 import apply_calls
 import between
+import clib_looks
 import crash_states
 import full_disk
 import short_writes
 import system_calls
+from clib_driver import A, B, D, DRIVER, FIND, LONG, RECORD, STATUS, STRICT, TOP, V7, answers_of, asked, drivers, hexed, may_trace, opened, version_seen
 from crash_rules import Sweep, Worker
 from log_format import HEADER, MAX_LINE, MAX_NAME, Log, as_version, command_hash, command_hash_v7, entry_of, line_of, reading_of, text_of
 from log_lines import damage_of
 from trials import is_locked, main, read, run, write
 
-TOP = os.path.dirname(os.path.dirname(os.path.abspath(__file__)))
-DRIVER, TOOL, SHARER, READERS, RUST = (f"{TOP}/tests/clib/{it}" for it in ("driver.c", "tool.c", "shared.c", "readers.c", "safe.rs"))
-STRICT = ["-Wall", "-Wextra", "-Wpedantic", "-Werror", "-D_POSIX_C_SOURCE=200809L", "-I", f"{TOP}/include"]
+TOOL, SHARER, READERS, RUST = (f"{TOP}/tests/clib/{it}" for it in ("tool.c", "shared.c", "readers.c", "safe.rs"))
 VERSION_OF_NAMES = "NLOG_0.2"
 SANITIZED = ["-fsanitize=address,undefined", "-fno-sanitize-recover=all"]
-A, B = b"1\t2\t3\ta\taa\n", b"4\t5\t6\tb\tbb\n"
-STATUS = {"log": "NLOG_OK", "not a ninja log": "NLOG_NOT_A_LOG", "log version not supported": "NLOG_OTHER_VERSION"}
 
 
 def build(trials, room):
@@ -119,10 +117,6 @@ def sanitizes(room, how=SANITIZED):
     return run(["cc", *how, f"{room}/empty.c", "-o", f"{room}/empty"])[0] == 0 and run([f"{room}/empty"])[0] == 0
 
 
-def drivers(made):
-    return [(name, [made[name]]) for name in ("C11", "C++17", "sanitized") if name in made]
-
-
 def linked(trials, made, room):
     """The driver by each compiler that is there, over the archive and over the shared object."""
     for compiler in ("gcc", "clang"):
@@ -167,11 +161,6 @@ def logs():
     yield "a foreign text with a digit at its place", b"hello, world!6\n" + A
     yield "zero bytes", bytes(100)
     yield "a short first line with a digit behind it", b"# ninja log\nv6\n"
-
-
-def version_seen(text):
-    """The version as of which a text is seen: 6 or 7 where its first line is that of one."""
-    return {b"# ninja log v6": 6, b"# ninja log v7": 7}.get(text.partition(b"\n")[0], 5)
 
 
 def said_of(text, names):
@@ -268,7 +257,7 @@ def misuse(trials, made, room):
     if shutil.which("valgrind") is None:
         trials.skip("reads and leaks under valgrind", "valgrind isn't there")
         return
-    asks = "\n".join(["open", f"record 1 2 3 aa {b'a'.hex()}", f"dead {b'out7'.hex()}", f"time 5 {b'a'.hex()}", "recompact", "restat", "at 0", "sync", "close", "open", "free", "open"])
+    asks = "\n".join(["open", f"record 1 2 3 aa {b'a'.hex()}", f"dead {b'out7'.hex()}", f"time 5 {b'a'.hex()}", "recompact", "restat", "at 0", "sync", "close", "look", "find 61", "close", "look", "record 1 2 3 aa 61", "close", "look", "free", "open"])
     for words in (["misuse"], ["read", path, "out7"], ["text", path, "0"], ["write", f"{room}/valgrind-write.log", "0"]):
         ran = run(["valgrind", "-q", "--error-exitcode=9", "--leak-check=full", made["C11"], *words], input=asks.encode() + b"\n", stdin=None)
         trials.check(f"{words[0]} under valgrind", ran[0] == 0 and not ran[2], ran[2][-600:].decode(errors="replace"))
@@ -363,33 +352,6 @@ def pages(trials, room):
 # ---- A log in memory that is written ----
 
 
-def hexed(*names):
-    return " ".join(it.hex() or "-" for it in names)
-
-
-def asked(driver, how, path, version, lines, **more):
-    """Runs the driver on lines: how it ended, with its answers as words behind `NLOG_`."""
-    ran = run([*driver, how, path, str(version)], input="\n".join(lines).encode() + b"\n", stdin=None, **more)
-    return ran[0], ran[1].decode().replace("NLOG_", "").split("\n")[:-1], ran[2]
-
-
-def opened(text, version):
-    """What an open makes of the bytes, by docs/FORMAT.md: its status, the change and the text, both None where it is refused."""
-    named = {b"# ninja log v6": 6, b"# ninja log v7": 7}.get(text.partition(b"\n")[0], 5)
-    as_asked = as_version(text, version or named)
-    status = STATUS[reading_of(as_asked)]
-    if status != "NLOG_OK" or version in (6, 7) and text.startswith(b"# ninja log v4\n"):
-        return "OTHER_VERSION" if status == "NLOG_OK" else status[5:], None, None
-    log = Log(as_asked)
-    if log.whole == 0:
-        change, whole = "APPEND", HEADER
-    elif log.is_due():
-        change, whole = "REPLACE", text_of(log.table)
-    else:
-        change, whole = "CUT" if log.torn else "KEEP", as_asked[: log.whole]
-    return "OK", change, as_version(whole, version or named)
-
-
 CHANGES = ["KEEP", "APPEND", "CUT", "REPLACE"]
 
 
@@ -418,9 +380,7 @@ def texts(trials, made, room):
 
 
 # Lines to a log in memory and what each is answered; the text is asked for by `text FROM`.
-FIND = f"find {hexed(b'a')}"
 NAMES = [b"", b"a\tb", b"a\nb", b"a\0b", b"n" * (MAX_NAME + 1)]
-D = b"-1\t0\t-5\td\tffffffffffffffff\n"
 # Lines that ask for intents, for a command of the hash cc, and the lines of these: the hash has each of its 64 bits turned over.
 BEGIN_A, BEGIN_A_AGAIN = f"begin 7 0 0 cc {hexed(b'a')}", f"begin 8 0 0 cc {hexed(b'a')}"
 INTENT_A, INTENT_B = (b"7\t7\t0\t%s\tffffffffffffff33\n" % it for it in (b"a", b"b"))
@@ -471,9 +431,8 @@ def memory(trials, made, room):
 
 # ---- A log on disk ----
 
-LONG = b"n" * MAX_NAME
-V7 = b"# ninja log v7\n"
-RECORD = f"record 1 2 3 aa {hexed(b'a')}"
+# Numbers of versions that aren't read, and as which they are told.
+OTHERS = [(b"1", 1), (b"8", 8), (b"50", 50), (b"0", 0), (b"05", 0), (b"007", 0), (b"%d" % (2**64 - 1), 2**64 - 1), (b"%d" % 2**64, 2**64 - 1), (b"9" * 300, 2**64 - 1)]
 # A log, the version that is asked for, lines to the writer, what each is answered, and the log that is left.
 TURNS = [
     (None, 0, ["open", "version", "rewrote", "is_open", "close", "is_open"], ["OK", "OK 5", "OK 0", "OK 1", "OK", "OK 0"], HEADER),
@@ -514,10 +473,11 @@ TURNS = [
     (HEADER + A + B, 0, ["open", f"time 9 {hexed(b'a')} 8 {hexed(b'none')}", "restat", "restat", "close"], ["OK"] * 5, HEADER + b"1\t2\t9\ta\taa\n" + B),
     (HEADER + A + B, 0, ["open", f"time 9 {hexed(b'a')} -1 {hexed(b'b')}", "restat", "clear", "restat", "close"], ["OK", "OK", "NEGATIVE_TIME 1", "OK", "OK", "OK"], HEADER + A + B),
     (b"hello\n", 0, ["open", "sync", "close"], ["NOT_A_LOG", "NOT_OPEN", "NOT_OPEN"], b"hello\n"),
-    (b"# ninja log v8\n" + A, 0, ["open"], ["OTHER_VERSION"], b"# ninja log v8\n" + A),
+    (b"# ninja log v8\n" + A, 0, ["open"], ["OTHER_VERSION 8"], b"# ninja log v8\n" + A),
     (b"# ninja log v6\n" + A + b"4\t5", 0, ["open", "version", f"record 4 5 6 bb {hexed(b'b')}", "close"], ["OK", "OK 6", "OK", "OK"], b"# ninja log v6\n" + A + B),
     (V7 + A * 101 + B, 0, ["open", "version", FIND, "rewrote", "close"], ["OK", "OK 7", "OK 1 2 3 aa", "OK 1", "OK"], V7 + A + B),
-    *[(text, version, ["open"], ["OTHER_VERSION"], text) for text, version in ((V7 + A, 5), (V7 + A, 6), (HEADER + A, 7), (b"# ninja log v4\n", 6))],
+    *[(text, version, ["open"], [f"OTHER_VERSION {chr(text[13])}"], text) for text, version in ((V7 + A, 5), (V7 + A, 6), (HEADER + A, 7), (b"# ninja log v4\n", 6))],
+    *[(b"# ninja log v%s\n" % number, 0, ["open", "close"], [f"OTHER_VERSION {said}", "NOT_OPEN"], b"# ninja log v%s\n" % number) for number, said in OTHERS],
     (b"# ninja log v4\n1\t2\t3\ta\tcc\n", 5, ["open", "version", "rewrote", "close"], ["OK", "OK 5", "OK 1", "OK"], HEADER + line_of(b"a", (1, 2, 3, command_hash(b"cc")))),
     (HEADER + A * 101 + B + b"4\t5", 0, ["open", "rewrote", "close"], ["OK", "OK 1", "OK"], HEADER + A + B),
     # Due logs that begin with their own rewriting: a cut in place could leave an older entry.
@@ -690,7 +650,7 @@ def without_rights(trials, made, room):
     rows = [
         (0o700, 0o400, HEADER + A, ["FAULT EACCES open log", "NOT_OPEN", "NOT_OPEN"]),
         (0o700, 0o400, b"hello\n", ["NOT_A_LOG", "NOT_OPEN", "NOT_OPEN"]),
-        (0o700, 0o400, b"# ninja log v9\n", ["OTHER_VERSION", "NOT_OPEN", "NOT_OPEN"]),
+        (0o700, 0o400, b"# ninja log v9\n", ["OTHER_VERSION 9", "NOT_OPEN", "NOT_OPEN"]),
         (0o700, 0o200, HEADER + A, ["FAULT EACCES open log", "NOT_OPEN", "NOT_OPEN"]),
         (0o600, 0o600, HEADER + A, ["FAULT EACCES open log", "NOT_OPEN", "NOT_OPEN"]),
         (0o500, None, None, ["FAULT EACCES open log", "NOT_OPEN", "NOT_OPEN"]),
@@ -731,6 +691,13 @@ REFUSED = [
     (HEADER + A + B, ["open", f"time 3 {hexed(b'a')}", "restat"], []),
     (HEADER + A, ["open", RECORD, "sync"], []),
     (HEADER + A + B, ["open", f"begin 7 0 0 cc {hexed(b'a', b'b')}"], []),
+    # A look, and the first change behind one.
+    *[(text, ["look"], []) for text in (None, HEADER + A + b"4\t5", HEADER + A * 101 + B)],
+    (None, ["look", RECORD], [b"a"]),
+    (HEADER + B + b"4\t5", ["look", RECORD], [b"a"]),
+    (HEADER + B * 101, ["look", RECORD], [b"a"]),
+    (HEADER + B * 101, ["look", "recompact"], []),
+    (HEADER + B, ["look", f"edge 1 2 3 aa {hexed(*[b'%d' % i for i in range(40)])}"], [b"%d" % i for i in range(40)]),
 ]
 
 
@@ -752,7 +719,7 @@ def refusals(trials, made, room):
                 break
             count += 1
             what = f"{lines[-1][:30]} on {held and held[:40]!r}, with memory refused at place {at}"
-            again = ("NLOG_OK",) if lines[-1] == "open" else ("NLOG_OK", "NLOG_BROKEN")
+            again = ("NLOG_OK",) if lines[-1] in ("open", "look") else ("NLOG_OK", "NLOG_BROKEN")
             trials.check(what, (ended, err, first) == (0, b"", "NLOG_OUT_OF_MEMORY") and second in again, (ended, first, second, err))
             broken += second == "NLOG_BROKEN"
             left = read(log) or b""
@@ -769,13 +736,19 @@ def refusals(trials, made, room):
 
 def kept_memory(trials, made, room):
     """How much memory a writer takes: at its open the log's bytes and the table, while it is open what a load takes, and behind its close less."""
-    log, names = f"{room}/kept.log", [b"%d" % i + LONG[: MAX_NAME - 3] for i in range(100)]
+    for first in ("open", "look"):
+        kept_memory_behind(trials, made, f"{room}/kept.log", first)
+
+
+def kept_memory_behind(trials, made, log, first):
+    """Behind an open, or a look and the first change."""
+    names = [b"%d" % i + LONG[: MAX_NAME - 3] for i in range(100)]
     write(log, HEADER + b"".join(line_of(name, (i, i, i, i)) for i in range(3) for name in names))
     size, table, buffers = os.stat(log).st_size, 100 * MAX_NAME, 1_000_000
     loader, writer = (subprocess.Popen([made["C11"], "write", log, "0"], stdin=subprocess.PIPE, stdout=subprocess.PIPE) for _ in range(2))
     try:
         begun = [resident(it.pid, "VmRSS") for it in (loader, writer) if answers_of(it, "is_open")]
-        trials.want("a log of long names", [answers_of(loader, "load"), answers_of(writer, "open")], ["OK", "OK"])
+        trials.want(f"a log of long names, {first}", [answers_of(loader, "load"), answers_of(writer, first)], ["OK", "OK"])
         loaded, most = resident(loader.pid, "VmRSS") - begun[0], resident(writer.pid, "VmHWM") - begun[1]
         trials.check("an open takes the bytes and the table", most < size + table + 4_000_000, f"{most} bytes for a log of {size}")
         held = [resident(writer.pid, "VmRSS") - begun[1]]
@@ -861,16 +834,9 @@ def locks(trials, made, program, room):
     trials.want("both stand", set(Log(read(log)).table), {b"d", b"a", b"b", b"beside"})
 
 
-def answers_of(process, line):
-    """Asks a driver that runs for one more line, and gives what it answers, as words behind `NLOG_`."""
-    process.stdin.write(line.encode() + b"\n")
-    process.stdin.flush()
-    return process.stdout.readline().decode().replace("NLOG_", "").strip()
-
-
 def forks(trials, made, room):
     """A fork while the log is open: the child may free the writer and no more, and the parent's log stays open, whole and locked."""
-    refused = " ".join(["FORKED"] * 19)
+    refused = " ".join(["FORKED"] * 21)
     ways = drivers(made)
     if may_trace(trials, room):
         # A system that clears no page in a child.
@@ -1118,16 +1084,6 @@ def killed(trials, made, room):
 
 
 # ---- Calls of the system that fail ----
-
-
-def may_trace(trials, room):
-    if shutil.which("strace") is None:
-        trials.skip("calls of the system that fail, and what a crash leaves", "strace isn't there")
-        return False
-    if run(["strace", "-o", f"{room}/TRACE", "-e", "inject=write:error=EIO", "true"])[0] != 0:
-        trials.skip("calls of the system that fail, and what a crash leaves", "strace may not trace here")
-        return False
-    return True
 
 
 def syncs_that_fail(trials, made, room):
@@ -1480,6 +1436,7 @@ def trial(trials, program, room):
         joins(trials, made, room)
         signals(trials, made, room)
         replaced(trials, made, room)
+    clib_looks.trial(trials, made, room)
     by_the_rules_of_the_program(trials, made, room)
     by_rust(trials, made, room)
     records(trials, made, room)

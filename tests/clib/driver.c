@@ -189,6 +189,7 @@ static void without_a_writer(void) {
   size_t count = 77, name_len = 88;
   bool is = true;
   char bytes[4] = {'a', 'b', 'c', 'd'};
+  WANT(nlog_writer_open_to_read(none) == NLOG_NO_HANDLE && nlog_writer_is_due(none, &is) == NLOG_NO_HANDLE && nlog_writer_other_version(none) == 0);
   WANT(nlog_writer_open(none) == NLOG_NO_HANDLE && nlog_writer_close(none) == NLOG_NO_HANDLE && nlog_writer_sync(none) == NLOG_NO_HANDLE);
   WANT(nlog_writer_is_open(none, &is) == NLOG_NO_HANDLE && nlog_writer_rewrote(none, &is) == NLOG_NO_HANDLE && is);
   WANT(nlog_writer_version(none, &number) == NLOG_NO_HANDLE && number == 66);
@@ -460,6 +461,8 @@ static nlog_status call_in_child(nlog_writer *writer) {
   pid_t child = fork();
   if (child != 0) return child > 0 && waitpid(child, &ended, 0) == child && ended == 0 ? NLOG_OK : NLOG_FAULT;
   SAY(nlog_writer_open(writer));
+  SAY(nlog_writer_open_to_read(writer));
+  SAY(nlog_writer_is_due(writer, &flag));
   SAY(nlog_writer_set_shared(writer, true));
   SAY(nlog_writer_set_wait(writer, 0));
   SAY(nlog_writer_is_open(writer, &flag));
@@ -523,6 +526,7 @@ static void write_log(const char *log, uint32_t version) {
     status = NLOG_STATUS_MAX;
     place = 99;
     if (is(&it, "open")) status = nlog_writer_open(writer);
+    if (is(&it, "look")) status = nlog_writer_open_to_read(writer);
     if (is(&it, "record")) status = nlog_writer_record(writer, it.names[0].bytes, it.names[0].len, &it.entry);
     if (is(&it, "edge")) status = nlog_writer_record_edge(writer, it.names, it.count, &it.entry);
     if (is(&it, "begin")) status = nlog_writer_begin(writer, it.names, it.count, it.entry.start_ms, it.entry.hash);
@@ -535,6 +539,7 @@ static void write_log(const char *log, uint32_t version) {
     if (is(&it, "close")) status = nlog_writer_close(writer);
     if (is(&it, "is_open")) status = nlog_writer_is_open(writer, &flag);
     if (is(&it, "rewrote")) status = nlog_writer_rewrote(writer, &flag);
+    if (is(&it, "is_due")) status = nlog_writer_is_due(writer, &flag);
     if (is(&it, "version")) status = nlog_writer_version(writer, &number);
     if (is(&it, "count")) status = nlog_writer_count(writer, &count);
     if (is(&it, "at")) status = nlog_writer_at(writer, (size_t)it.number, &entry, name, sizeof name, &name_len);
@@ -557,7 +562,8 @@ static void write_log(const char *log, uint32_t version) {
     printf("%s", nlog_status_name(status));
     if (status == NLOG_FAULT || status == NLOG_LOCKED) show_failure(writer, log);
     if (is(&it, "restat") && status == NLOG_NEGATIVE_TIME) printf(" %zu", place);
-    if ((is(&it, "is_open") || is(&it, "rewrote")) && status == NLOG_OK) printf(" %d", flag);
+    if ((is(&it, "is_open") || is(&it, "rewrote") || is(&it, "is_due")) && status == NLOG_OK) printf(" %d", flag);
+    if (status == NLOG_OTHER_VERSION) printf(" %" PRIu64, nlog_writer_other_version(writer));
     if (is(&it, "version") && status == NLOG_OK) printf(" %" PRIu32, number);
     if (is(&it, "count") && status == NLOG_OK) printf(" %zu", count);
     if ((is(&it, "find") || is(&it, "at")) && status == NLOG_OK) show_found(&entry);
@@ -680,6 +686,7 @@ static void refuse_call(const char *log, long at, int count) {
     for (turn = 0; turn < 2; turn++) {
       if (line == count && turn == 0) left = at;
       if (is(&it, "open")) status = nlog_writer_open(writer);
+      if (is(&it, "look")) status = nlog_writer_open_to_read(writer);
       if (is(&it, "record")) status = nlog_writer_record(writer, it.names[0].bytes, it.names[0].len, &it.entry);
       if (is(&it, "edge")) status = nlog_writer_record_edge(writer, it.names, it.count, &it.entry);
       if (is(&it, "begin")) status = nlog_writer_begin(writer, it.names, it.count, it.entry.start_ms, it.entry.hash);
