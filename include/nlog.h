@@ -73,7 +73,8 @@ typedef enum nlog_status {
   NLOG_BAD_NAME = 12,      /* empty, longer than NLOG_MAX_NAME, or with a NUL,
                             * a tab or a newline */
   NLOG_LOCKED = 13,        /* another has had the log locked for 10 seconds, or
-                            * as long as nlog_writer_set_wait says */
+                            * as long as nlog_writer_set_wait says, or until a
+                            * signal came */
   NLOG_FORKED = 14,        /* this process's parent opened the writer's log */
   NLOG_STATUS_MAX = 0x7fffffff
 } nlog_status;
@@ -349,10 +350,15 @@ nlog_status nlog_clear_marks(nlog *log);
  * Lock: flock on the log's file, as each `nlog` that changes a log takes it,
  *   and no Ninja does. If the file system has no locks, there is none. The
  *   close unlocks the log, also if a child that was forked while it was open
- *   lives on: see "Fork" above.
- * Signals: a call goes on if a signal interrupts it. A process that has a limit
- *   on the length of files (RLIMIT_FSIZE) must ignore SIGXFSZ, or it is ended
- *   by it.
+ *   lives on: see "Fork" above. If the process was started with a descriptor
+ *   that has the lock, as by `flock LOG COMMAND`, it counts as the writer's. It
+ *   has to be below 256 and not close-on-exec, and the system Linux with /proc.
+ *   Who else was started with it isn't kept out.
+ * Signals: a call goes on if a signal interrupts it. But a wait for a lock ends
+ *   if a handler runs, or if SIGINT, SIGTERM or SIGHUP is blocked and pending.
+ *   The call then answers NLOG_LOCKED with EINTR, and may be made again. A
+ *   process that has a limit on the length of files (RLIMIT_FSIZE) must ignore
+ *   SIGXFSZ, or it is ended by it.
  * Threads and processes: each call may block as long as the disk does.
  *   Descriptors are close-on-exec, and none is a standard stream's.
  * Files: the scratch of a rewriting is the path with `.recompact` behind it. A
@@ -363,19 +369,25 @@ nlog_status nlog_clear_marks(nlog *log);
  *   Other names of a file stay those of the old one. nlog_writer_open looks the
  *   path up. The folder that it names then is held open until the close,
  *   wherever it is moved to.
+ * Syncs: a log is synced by its folder, and then by its file. A sync of the
+ *   folder may answer EINVAL, ENOSYS, ENOTSUP or EROFS. Then the file system
+ *   has none, and the call goes on without. So it does if the folder may be
+ *   searched and not read. A power failure may then take the name of a log that
+ *   was made or rewritten. Any other error is a failure.
  * Others: nobody else writes, removes or replaces the log while it is open, but
  *   writers that share it. The log is looked at before each sync, each close
  *   that syncs and each rewriting. If another file stands there, none, or one
  *   of another length, the call answers NLOG_FAULT, with ESTALE or ENOENT and
  *   "stat", and changes nothing. What was recorded since the last sync may then
  *   be lost. What another program puts there between the look and the end of
- *   the call isn't seen.
- * Memory: an open log takes its table, as nlog_load does, and a buffer of
- *   327,743 bytes. While it is opened it takes the log's bytes too. The close
- *   frees them. If there is none, a call answers NLOG_OUT_OF_MEMORY, and no
- *   file was changed, unless the call says more. nlog_writer_is_open tells
- *   whether the log is then still open, and the call may be made again. If
- *   memory ran out within a change, the writer is broken.
+ *   the call isn't seen. If the log or its folder was removed, docs/LIBRARY.md
+ *   has what each call answers.
+ * Memory: a log that is open, or open to read, takes its table, as nlog_load
+ *   does, and a buffer of 327,743 bytes. While it is opened it takes the log's
+ *   bytes too. The close frees them. If there is none, a call answers
+ *   NLOG_OUT_OF_MEMORY, and no file was changed, unless the call says more.
+ *   nlog_writer_is_open tells whether the log is then still open, and the call
+ *   may be made again. If memory ran out within a change, the writer is broken.
  *
  * If the writer is NULL, every call but nlog_writer_new and nlog_writer_free
  * answers NLOG_NO_HANDLE, 0 or NULL. */
@@ -463,9 +475,10 @@ uint64_t nlog_writer_other_version(const nlog_writer *writer);
 nlog_status nlog_writer_set_shared(nlog_writer *writer, bool is_shared);
 
 /* How long a lock is waited for from now on, in milliseconds: 10,000 at first,
- * and with 0 it is asked for once. It is asked for again each millisecond at
- * first, and each 20 by and by. Whoever asks first behind an unlock has it.
- * There is no queue, so among many that wait one may wait long. */
+ * and with 0 it is asked for once. A signal ends the wait (see "Signals"). It
+ * is asked for again each millisecond at first, and each 20 by and by. Whoever
+ * asks first behind an unlock has it. There is no queue, so among many that
+ * wait one may wait long. */
 nlog_status nlog_writer_set_wait(nlog_writer *writer, uint32_t milliseconds);
 
 /* Whether an open, or an open to read, succeeded that no close followed, and
@@ -547,7 +560,8 @@ nlog_status nlog_writer_close(nlog_writer *writer);
 /* These three tell of the last call of the system that failed since the last
  * open began. They are its errno (0: none did), the path that it was about, and
  * its name, as "fsync" (NULL: none did). After NLOG_LOCKED these are
- * EWOULDBLOCK and "flock". The texts last until the next call on the writer. */
+ * EWOULDBLOCK and "flock", or EINTR and "flock" if a signal ended the wait. The
+ * texts last until the next call on the writer. */
 int nlog_writer_errno(const nlog_writer *writer);
 const char *nlog_writer_failed_path(const nlog_writer *writer);
 const char *nlog_writer_failed_call(const nlog_writer *writer);

@@ -30,6 +30,7 @@ from concurrent.futures import ThreadPoolExecutor
 import apply_calls
 import between
 import clib_looks
+import clib_systems
 import crash_states
 import full_disk
 import short_writes
@@ -78,7 +79,7 @@ def build(trials, room):
         ran = run([*words, "-o", f"{room}/{name}"])
         if trials.check(f"the driver is built as {name} without a warning", ran[0] == 0 and not ran[2], ran[2][-800:].decode(errors="replace")):
             made[name] = f"{room}/{name}"
-    made["shared"] = f"{room}/libnlog.so"
+    made["shared"], made["archive"] = f"{room}/libnlog.so", archive
     return made
 
 
@@ -654,11 +655,13 @@ def without_rights(trials, made, room):
         (0o700, 0o200, HEADER + A, ["FAULT EACCES open log", "NOT_OPEN", "NOT_OPEN"]),
         (0o600, 0o600, HEADER + A, ["FAULT EACCES open log", "NOT_OPEN", "NOT_OPEN"]),
         (0o500, None, None, ["FAULT EACCES open log", "NOT_OPEN", "NOT_OPEN"]),
-        (0o300, 0o600, HEADER + A, ["FAULT EACCES open folder", "NOT_OPEN", "NOT_OPEN"]),
+        (0o300, 0o600, HEADER + A, ["OK", "OK", "OK"]),
+        (0o300, 0o600, HEADER + A * 101 + B + b"4", ["OK", "OK", "OK"], HEADER + A + B),
+        (0o300, None, None, ["OK", "OK", "OK"], HEADER),
         (0o500, 0o600, HEADER + A, ["OK", "FAULT EACCES open scratch", "BROKEN"]),
         (0o500, 0o600, HEADER + A * 101 + B, ["FAULT EACCES open scratch", "NOT_OPEN", "NOT_OPEN"]),
     ]
-    for mode, log_mode, text, answers in rows:
+    for mode, log_mode, text, answers, *left in rows:
         os.mkdir(f"{room}/folder")
         write(log, text)
         for path, its in ((log, log_mode), (f"{room}/folder", mode)):
@@ -670,7 +673,7 @@ def without_rights(trials, made, room):
             said = asked([*way, driver], "write", log, 0, ["open", "recompact", "close"], cwd="/", preexec_fn=end_rights)
             trials.want(f"{way} a folder of mode {mode:o}, a log of {log_mode} with {text and text[:30]!r}", said, (0, answers, b""))
         os.chmod(f"{room}/folder", 0o700)
-        trials.want("the log then", read(log), text)
+        trials.want("the log then", read(log), left[0] if left else text)
         shutil.rmtree(f"{room}/folder")
 
 
@@ -1437,6 +1440,7 @@ def trial(trials, program, room):
         signals(trials, made, room)
         replaced(trials, made, room)
     clib_looks.trial(trials, made, room)
+    clib_systems.trial(trials, made, room)
     by_the_rules_of_the_program(trials, made, room)
     by_rust(trials, made, room)
     records(trials, made, room)

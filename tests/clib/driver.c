@@ -3,6 +3,7 @@
 #include "nlog.h"
 
 #include <errno.h>
+#include <fcntl.h>
 #include <inttypes.h>
 #include <signal.h>
 #include <stdio.h>
@@ -34,6 +35,14 @@ void *__wrap_calloc(size_t count, size_t size) { return left >= 0 && left-- == 0
 #endif
 
 static int wrong = 0;
+
+/* How many descriptors are open. */
+static int descriptors(void) {
+  int fd, count = 0;
+  for (fd = 0; fd < 256; fd++)
+    if (fcntl(fd, F_GETFD) >= 0) count++;
+  return count;
+}
 
 #define WANT(is_good)                                                       \
   do {                                                                      \
@@ -422,6 +431,9 @@ static const char *error_name(int error) {
     case EACCES: return "EACCES";
     case EFBIG: return "EFBIG";
     case EIO: return "EIO";
+    case EINTR: return "EINTR";
+    case ENOLCK: return "ENOLCK";
+    case ENOMEM: return "ENOMEM";
     case EINVAL: return "EINVAL";
     case EISDIR: return "EISDIR";
     case ELOOP: return "ELOOP";
@@ -501,12 +513,43 @@ static nlog_status open_in_child(nlog_writer *writer) {
   _exit(0);
 }
 
+/* Opens the log by a writer of its own in a forked child. */
+static nlog_status rival_in_child(const char *log) {
+  nlog_writer *writer;
+  int ended = 1;
+  pid_t child = fork();
+  if (child != 0) return child > 0 && waitpid(child, &ended, 0) == child && WIFEXITED(ended) ? (nlog_status)WEXITSTATUS(ended) : NLOG_FAULT;
+  if (nlog_writer_new(&writer, log, 0) != NLOG_OK || nlog_writer_set_wait(writer, 50) != NLOG_OK) _exit(99);
+  _exit((int)nlog_writer_open(writer));
+}
+
 /* Forks a child that does nothing, until this process ends it. */
 static nlog_status keep_child(pid_t *child) {
   *child = fork();
   if (*child != 0) return *child > 0 ? NLOG_OK : NLOG_FAULT;
   close(1);
   for (;;) pause();
+}
+
+/* Keeps back the signals that ask for an end, as a build tool does that looks for them between calls. */
+static nlog_status block_signals(void) {
+  sigset_t kept;
+  sigemptyset(&kept);
+  sigaddset(&kept, SIGINT);
+  sigaddset(&kept, SIGTERM);
+  sigaddset(&kept, SIGHUP);
+  return sigprocmask(SIG_BLOCK, &kept, NULL) == 0 ? NLOG_OK : NLOG_FAULT;
+}
+
+static void heed_nothing(int number) { (void)number; }
+
+/* A signal that is handled, and interrupts what isn't restarted. */
+static void handle_signals(void) {
+  struct sigaction action;
+  memset(&action, 0, sizeof action);
+  action.sa_handler = heed_nothing;
+  action.sa_flags = SA_RESTART;
+  sigaction(SIGUSR1, &action, NULL);
 }
 
 static void write_log(const char *log, uint32_t version) {
@@ -521,6 +564,7 @@ static void write_log(const char *log, uint32_t version) {
   nlog loaded = NLOG_INIT;
   pid_t child = -1;
   nlog_status status = nlog_writer_new(&writer, log, version);
+  handle_signals();
   if (status != NLOG_OK) printf("%s\n", nlog_status_name(status));
   while (next_request(&it)) {
     status = NLOG_STATUS_MAX;
@@ -540,6 +584,7 @@ static void write_log(const char *log, uint32_t version) {
     if (is(&it, "is_open")) status = nlog_writer_is_open(writer, &flag);
     if (is(&it, "rewrote")) status = nlog_writer_rewrote(writer, &flag);
     if (is(&it, "is_due")) status = nlog_writer_is_due(writer, &flag);
+    if (is(&it, "block")) status = block_signals();
     if (is(&it, "version")) status = nlog_writer_version(writer, &number);
     if (is(&it, "count")) status = nlog_writer_count(writer, &count);
     if (is(&it, "at")) status = nlog_writer_at(writer, (size_t)it.number, &entry, name, sizeof name, &name_len);
@@ -555,12 +600,13 @@ static void write_log(const char *log, uint32_t version) {
     if (is(&it, "keep-child")) status = keep_child(&child);
     if (is(&it, "call-in-child")) status = call_in_child(writer);
     if (is(&it, "open-in-child")) status = open_in_child(writer);
+    if (is(&it, "rival")) status = rival_in_child(log);
     if (is(&it, "free")) {
       nlog_writer_free(&writer);
       status = writer == NULL ? NLOG_OK : NLOG_FAULT;
     }
     printf("%s", nlog_status_name(status));
-    if (status == NLOG_FAULT || status == NLOG_LOCKED) show_failure(writer, log);
+    if ((status == NLOG_FAULT || status == NLOG_LOCKED) && !is(&it, "rival")) show_failure(writer, log);
     if (is(&it, "restat") && status == NLOG_NEGATIVE_TIME) printf(" %zu", place);
     if ((is(&it, "is_open") || is(&it, "rewrote") || is(&it, "is_due")) && status == NLOG_OK) printf(" %d", flag);
     if (status == NLOG_OTHER_VERSION) printf(" %" PRIu64, nlog_writer_other_version(writer));
@@ -707,12 +753,6 @@ static void refuse_call(const char *log, long at, int count) {
 }
 #endif
 
-static int descriptors(void) {
-  int fd, count = 0;
-  for (fd = 0; fd < 256; fd++)
-    if (dup2(fd, fd) >= 0) count++;
-  return count;
-}
 
 /* With the standard streams closed: no descriptor is left, none is a standard stream's. What came is printed into a file. */
 static void closed_streams(const char *log, const char *to) {
@@ -743,6 +783,7 @@ static void closed_streams(const char *log, const char *to) {
 int main(int count, char **words) {
   size_t len;
   char *bytes;
+  const int before = descriptors();
   if (count >= 3 && strcmp(words[1], "read") == 0) {
     read_log(count - 2, words + 2);
   } else if (count == 2 && strcmp(words[1], "misuse") == 0) {
@@ -768,13 +809,14 @@ int main(int count, char **words) {
   } else if (count == 3 && strcmp(words[1], "load") == 0) {
     load_file(words[2]);
   } else if (count == 5 && strcmp(words[1], "many") == 0) {
-    return write_many(words[2], atoi(words[3]), atoi(words[4]));
+    wrong |= write_many(words[2], atoi(words[3]), atoi(words[4]));
   } else if (count == 6 && strcmp(words[1], "time") == 0) {
-    return time_records(words[2], words[3], atoi(words[4]), atoi(words[5]));
+    wrong |= time_records(words[2], words[3], atoi(words[4]), atoi(words[5]));
   } else if (count == 4 && strcmp(words[1], "closed") == 0) {
     closed_streams(words[2], words[3]);
   } else {
     return 2;
   }
+  WANT(descriptors() == before);
   return wrong;
 }
