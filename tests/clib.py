@@ -30,6 +30,7 @@ from concurrent.futures import ThreadPoolExecutor
 import apply_calls
 import between
 import clib_looks
+import clib_steps
 import clib_systems
 import crash_states
 import full_disk
@@ -43,6 +44,8 @@ from trials import is_locked, main, read, run, write
 
 TOOL, SHARER, READERS, RUST = (f"{TOP}/tests/clib/{it}" for it in ("tool.c", "shared.c", "readers.c", "safe.rs"))
 VERSION_OF_NAMES = "NLOG_0.2"
+# The calls of the system that change a file, which a driver writes down (clib_steps.py).
+RECORDED = ["fsync", "ftruncate64", "write", "openat64", "unlinkat", "renameat"]
 SANITIZED = ["-fsanitize=address,undefined", "-fno-sanitize-recover=all"]
 
 
@@ -60,6 +63,7 @@ def build(trials, room):
         ("C++17", ["c++", "-x", "c++", "-std=c++17", *STRICT, DRIVER, "-x", "none", archive]),
         ("sanitized", ["cc", "-std=c11", "-g", *SANITIZED, *STRICT, DRIVER, *parts]),
         ("refused", ["cc", "-std=c11", "-DREFUSES", "-Wl,--wrap=malloc,--wrap=realloc,--wrap=calloc", *STRICT, DRIVER, archive]),
+        ("steps", ["cc", "-std=c11", "-O2", "-DRECORDS", f"-Wl,{','.join(f'--wrap={it}' for it in RECORDED)}", *STRICT, DRIVER, archive]),
         ("tool", ["cc", "-std=c11", "-O2", *STRICT, TOOL, archive]),
         ("sharer", ["cc", "-std=c11", "-g", *SANITIZED, *STRICT, SHARER, *parts] if sanitizes(room) else ["cc", "-std=c11", *STRICT, SHARER, archive]),
         ("readers", ["cc", "-std=c11", "-g", *STRICT, READERS, "-pthread", archive]),
@@ -961,7 +965,8 @@ def kept_away(trials, made, room):
 def moved(trials, made, room):
     """The working folder changes, or the log's folder is moved, while the log is open: the log is the one of the beginning."""
     for how in ("cd", "mv"):
-        for way, driver in drivers(made):
+        # (the driver that writes its steps down looks at the log by its path)
+        for way, driver in [it for it in drivers(made) if it[0] != "steps"]:
             for name in ("one", "two"):
                 shutil.rmtree(f"{room}/{name}", ignore_errors=True)
                 os.mkdir(f"{room}/{name}")
@@ -1103,37 +1108,37 @@ def syncs_that_fail(trials, made, room):
         shutil.rmtree(f"{room}/sync", ignore_errors=True)
         os.mkdir(f"{room}/sync")
         write(log, HEADER + B)
-        driver = ["strace", "-y", "-o", f"{room}/TRACE", "-e", f"inject=fsync:error=EIO:when={nth}", made["C11"]]
+        driver = ["strace", "-y", "-o", f"{room}/TRACE", "-e", f"inject=fsync:error=EIO:when={nth}", made.get("steps", made["C11"])]
         wanted = ["OK", "OK", f"FAULT EIO fsync {why}", "BROKEN", "BROKEN", "BROKEN", *later]
         trials.want(f"a sync of the {why} that fails", asked(driver, "write", log, 0, lines)[1], wanted)
         trials.want("the log then", read(log), HEADER + B + A)
         calls = re.findall(r"(?m)^(fsync|rename)\w*\(\d+<([^>]*)>", read(f"{room}/TRACE").decode())
         names = [call if call == "rename" else f"{call} {os.path.basename(path)}" for call, path in calls]
         trials.want("its syncs", names, syncs)
-        trials.want("another writer opens the log", asked([made["C11"]], "write", log, 0, ["open", FIND, "close"])[1], ["OK", "OK 1 2 3 aa", "OK"])
+        trials.want("another writer opens the log", asked([made.get("steps", made["C11"])], "write", log, 0, ["open", FIND, "close"])[1], ["OK", "OK 1 2 3 aa", "OK"])
     # Behind the rename of a rewriting: the log is the new one, and the folder is not asked to keep its name once more.
     write(log, HEADER + A + B)
-    driver = ["strace", "-y", "-o", f"{room}/TRACE", "-e", "inject=fsync:error=EIO:when=4", made["C11"]]
+    driver = ["strace", "-y", "-o", f"{room}/TRACE", "-e", "inject=fsync:error=EIO:when=4", made.get("steps", made["C11"])]
     said = asked(driver, "write", log, 0, ["open", "recompact", "recompact", "close", "open", "open"])[1]
     trials.want("a sync of the folder that fails behind a rename", said, ["OK", folder, "BROKEN", "BROKEN", folder, folder])
     trials.want("the syncs that are asked for", len(re.findall(rb"(?m)^fsync\(", read(f"{room}/TRACE"))), 4)
     # In an open: the writer is closed, and the next open makes a new file, or is refused.
     for nth, why, later in ((1, "folder", [folder, "NOT_OPEN", "NOT_OPEN"]), (2, "log", ["OK", "OK 1", "OK"])):
         write(log, HEADER + B + b"4\t5")
-        driver = ["strace", "-o", f"{room}/TRACE", "-e", f"inject=fsync:error=EIO:when={nth}", made["C11"]]
+        driver = ["strace", "-o", f"{room}/TRACE", "-e", f"inject=fsync:error=EIO:when={nth}", made.get("steps", made["C11"])]
         wanted = [f"FAULT EIO fsync {why}", "OK 0", *later]
         trials.want(f"a sync of the {why} that fails in an open", asked(driver, "write", log, 0, ["open", "is_open", "open", "rewrote", "close"])[1], wanted)
         trials.want("the log then", read(log), HEADER + B + (b"4\t5" if why == "folder" else b""))
     # Permissions that can't be kept, and then of a scratch: the log is as it was, and its own syncs count.
     write(log, HEADER + B)
     os.chmod(log, 0o666)
-    driver = ["strace", "-o", f"{room}/TRACE", "-e", "inject=fchmod:error=EPERM", made["C11"]]
+    driver = ["strace", "-o", f"{room}/TRACE", "-e", "inject=fchmod:error=EPERM", made.get("steps", made["C11"])]
     said = asked(driver, "write", log, 0, ["open", "recompact", "close", "open", "rewrote", "close"])[1]
     trials.want("an fchmod that fails", said, ["OK", "FAULT EPERM fchmod scratch", "BROKEN", "OK", "OK 0", "OK"])
     trials.want("the log then", read(log), HEADER + B)
     os.remove(log)
     write(log, HEADER + B)
-    driver = ["strace", "-o", f"{room}/TRACE", "-e", "inject=fsync:error=EIO:when=3", made["C11"]]
+    driver = ["strace", "-o", f"{room}/TRACE", "-e", "inject=fsync:error=EIO:when=3", made.get("steps", made["C11"])]
     said = asked(driver, "write", log, 0, ["open", "recompact", "close", "open", "rewrote", "close"])[1]
     trials.want("a sync of a scratch that fails", said, ["OK", "FAULT EIO fsync scratch", "BROKEN", "OK", "OK 0", "OK"])
 
@@ -1142,12 +1147,12 @@ def writes_that_fail(trials, made, room):
     """A write of a record that fails breaks the writer until it is opened again; a close syncs what was recorded, and no more than that."""
     log = f"{room}/writes.log"
     write(log, HEADER + B)
-    driver = ["strace", "-o", f"{room}/TRACE", "-P", log, "-e", "inject=write:error=ENOSPC:when=1", made["C11"]]
+    driver = ["strace", "-o", f"{room}/TRACE", "-P", log, "-e", "inject=write:error=ENOSPC:when=1", made.get("steps", made["C11"])]
     said = asked(driver, "write", log, 0, ["open", RECORD, RECORD, "sync", "recompact", "count", "is_open", "close", "open", RECORD, "close"])[1]
     trials.want("a write that fails", said, ["OK", "FAULT ENOSPC write log", *["BROKEN"] * 4, "OK 0", "BROKEN", "OK", "OK", "OK"])
     trials.want("the log then", read(log), HEADER + B + A)
     for lines, wanted in ((["open", RECORD, "close"], ["fsync", "write", "fsync"]), (["open", RECORD, "sync", "close"], ["fsync", "write", "fsync"]), (["open", "close"], ["fsync"])):
-        run(["strace", "-o", f"{room}/TRACE", "-P", log, made["C11"], "write", log, "0"], input="\n".join(lines).encode() + b"\n", stdin=None)
+        run(["strace", "-o", f"{room}/TRACE", "-P", log, made.get("steps", made["C11"]), "write", log, "0"], input="\n".join(lines).encode() + b"\n", stdin=None)
         trials.want(f"the calls of {lines}", re.findall(r"(?m)^(fsync|write)\(", read(f"{room}/TRACE").decode()), wanted)
 
 
@@ -1406,6 +1411,8 @@ def trial(trials, program, room):
     made = build(trials, room)
     if "C11" not in made:
         return
+    os.mkdir(f"{room}/steps-taken")
+    os.environ["NLOG_STEPS"] = f"{room}/steps-taken"
     names(trials, room)
     linked(trials, made, room)
     reads(trials, made, room)
@@ -1442,6 +1449,8 @@ def trial(trials, program, room):
     clib_looks.trial(trials, made, room)
     clib_systems.trial(trials, made, room)
     by_the_rules_of_the_program(trials, made, room)
+    if "steps" in made:
+        clib_steps.steps(trials, f"{room}/steps-taken")
     by_rust(trials, made, room)
     records(trials, made, room)
 

@@ -34,6 +34,129 @@ void *__wrap_calloc(size_t count, size_t size) { return left >= 0 && left-- == 0
 #endif
 #endif
 
+#ifdef RECORDS
+/* Linked with --wrap: each call of the system that changes a file is written down, with the file that it is about, in the file of this process in
+ * the folder NLOG_STEPS; and each call of the writer, with the log as it finds it and as it leaves it (tests/clib_steps.py). */
+#include <stdarg.h>
+#include <sys/stat.h>
+#ifdef __cplusplus
+#error "the driver records its steps as C alone"
+#endif
+int __real_fsync(int fd);
+int __wrap_fsync(int fd);
+int __real_ftruncate64(int fd, int64_t len);
+int __wrap_ftruncate64(int fd, int64_t len);
+ssize_t __real_write(int fd, const void *bytes, size_t len);
+ssize_t __wrap_write(int fd, const void *bytes, size_t len);
+int __real_openat64(int folder, const char *path, int how, mode_t mode);
+int __wrap_openat64(int folder, const char *path, int how, ...);
+int __real_unlinkat(int folder, const char *path, int how);
+int __wrap_unlinkat(int folder, const char *path, int how);
+int __real_renameat(int from, const char *path, int to, const char *name);
+int __wrap_renameat(int from, const char *path, int to, const char *name);
+
+static FILE *steps = NULL;
+static pid_t steps_of = 0;
+static char file_is[256]; /* of a descriptor: `f` the folder, `l` the log, `s` the scratch */
+
+static void note_step(const char *what, int fd, int64_t number, const void *bytes, bool is_done) {
+  int error = errno;
+  if (steps != NULL && getpid() == steps_of) {
+    fprintf(steps, "%s %c %" PRId64 " %d %zu\n", what, fd >= 0 && fd < 256 && file_is[fd] != 0 ? file_is[fd] : '-', number, is_done, bytes == NULL ? (size_t)0 : (size_t)number);
+    if (bytes != NULL) fwrite(bytes, 1, (size_t)number, steps);
+    fflush(steps);
+  }
+  errno = error;
+}
+
+int __wrap_fsync(int fd) {
+  int answer = __real_fsync(fd);
+  note_step("sync", fd, 0, NULL, answer == 0);
+  return answer;
+}
+
+int __wrap_ftruncate64(int fd, int64_t len) {
+  int answer = __real_ftruncate64(fd, len);
+  note_step("cut", fd, len, NULL, answer == 0);
+  return answer;
+}
+
+ssize_t __wrap_write(int fd, const void *bytes, size_t len) {
+  ssize_t count = __real_write(fd, bytes, len);
+  if (fd >= 0 && fd < 256 && file_is[fd] != 0) note_step("write", fd, count < 0 ? 0 : count, bytes, count >= 0);
+  return count;
+}
+
+int __wrap_openat64(int folder, const char *path, int how, ...) {
+  size_t len = strlen(path);
+  va_list rest;
+  mode_t mode;
+  int fd;
+  va_start(rest, how);
+  mode = va_arg(rest, mode_t);
+  va_end(rest);
+  fd = __real_openat64(folder, path, how, mode);
+  if (fd >= 0 && fd < 256) file_is[fd] = (how & O_DIRECTORY) != 0 ? 'f' : len > 10 && strcmp(path + len - 10, ".recompact") == 0 ? 's' : folder == AT_FDCWD ? 0 : 'l';
+  if ((how & O_EXCL) != 0) note_step("make", fd, 0, NULL, fd >= 0);
+  return fd;
+}
+
+int __wrap_unlinkat(int folder, const char *path, int how) {
+  int answer = __real_unlinkat(folder, path, how);
+  note_step("unlink", -1, 0, NULL, answer == 0 || errno == ENOENT);
+  return answer;
+}
+
+int __wrap_renameat(int from, const char *path, int to, const char *name) {
+  int answer = __real_renameat(from, path, to, name), fd;
+  for (fd = 0; fd < 256 && answer == 0; fd++) {
+    if (file_is[fd] == 'l') file_is[fd] = 'o';
+    if (file_is[fd] == 's') file_is[fd] = 'l';
+  }
+  note_step("rename", -1, 0, NULL, answer == 0);
+  return answer;
+}
+
+static void note_log(const char *what, const char *word, const char *log) {
+  struct stat about;
+  FILE *file;
+  char *bytes = NULL;
+  size_t len = 0;
+  int error = errno;
+  if (steps == NULL) return;
+  file = stat(log, &about) == 0 && S_ISREG(about.st_mode) ? fopen(log, "rb") : NULL;
+  if (file != NULL) {
+    bytes = (char *)malloc((size_t)about.st_size + 1);
+    if (bytes != NULL) len = fread(bytes, 1, (size_t)about.st_size, file);
+  }
+  fprintf(steps, "%s %s %d 1 %zu\n", what, word, bytes != NULL, len);
+  if (len > 0) fwrite(bytes, 1, len, steps);
+  fflush(steps);
+  free(bytes);
+  if (file != NULL) fclose(file);
+  errno = error;
+}
+
+static void begin_steps(const char *log, uint32_t version) {
+  char path[4096], word[16];
+  const char *folder = getenv("NLOG_STEPS");
+  if (folder == NULL) return;
+  steps_of = getpid();
+  snprintf(path, sizeof path, "%s/%d", folder, (int)steps_of);
+  steps = fopen(path, "ab");
+  snprintf(word, sizeof word, "%u", (unsigned int)version);
+  if (steps != NULL) setvbuf(steps, NULL, _IOFBF, 1 << 16);
+  note_log("run", word, log);
+}
+#define NOTE_LOG(what, word, log) note_log(what, word, log)
+#define BEGIN_STEPS(log, version) begin_steps(log, version)
+#define END_STEPS() (steps != NULL ? fclose(steps) : 0)
+#else
+#define NOTE_LOG(what, word, log) ((void)0)
+#define BEGIN_STEPS(log, version) ((void)0)
+#define END_STEPS() ((void)0)
+#endif
+
 static int wrong = 0;
 
 /* How many descriptors are open. */
@@ -336,7 +459,7 @@ static bool next_request(request *to) {
   if (fgets(line, sizeof line, stdin) == NULL) return false;
   for (word = strtok(line, " \n"); word != NULL && count < 2000; word = strtok(NULL, " \n")) words[count++] = word;
   memset(to, 0, sizeof *to);
-  to->word = count > 0 ? words[0] : "";
+  to->word = count > 0 ? words[0] : "-";
   has_entry = strcmp(to->word, "record") == 0 || strcmp(to->word, "edge") == 0 || strcmp(to->word, "begin") == 0;
   has_times = strcmp(to->word, "time") == 0;
   if (has_entry && count >= 5) {
@@ -565,10 +688,12 @@ static void write_log(const char *log, uint32_t version) {
   pid_t child = -1;
   nlog_status status = nlog_writer_new(&writer, log, version);
   handle_signals();
+  BEGIN_STEPS(log, version);
   if (status != NLOG_OK) printf("%s\n", nlog_status_name(status));
   while (next_request(&it)) {
     status = NLOG_STATUS_MAX;
     place = 99;
+    NOTE_LOG("call", it.word, log);
     if (is(&it, "open")) status = nlog_writer_open(writer);
     if (is(&it, "look")) status = nlog_writer_open_to_read(writer);
     if (is(&it, "record")) status = nlog_writer_record(writer, it.names[0].bytes, it.names[0].len, &it.entry);
@@ -605,6 +730,7 @@ static void write_log(const char *log, uint32_t version) {
       nlog_writer_free(&writer);
       status = writer == NULL ? NLOG_OK : NLOG_FAULT;
     }
+    NOTE_LOG("done", nlog_status_name(status), log);
     printf("%s", nlog_status_name(status));
     if ((status == NLOG_FAULT || status == NLOG_LOCKED) && !is(&it, "rival")) show_failure(writer, log);
     if (is(&it, "restat") && status == NLOG_NEGATIVE_TIME) printf(" %zu", place);
@@ -622,6 +748,7 @@ static void write_log(const char *log, uint32_t version) {
   }
   nlog_writer_free(&writer);
   nlog_free(&loaded);
+  END_STEPS();
   if (child > 0) {
     kill(child, SIGKILL);
     waitpid(child, NULL, 0);
