@@ -5,7 +5,7 @@ set -eu
 usage="usage: ./install.sh PREFIX
 puts PREFIX/bin/nlog, PREFIX/share/man/man1/nlog.1 and PREFIX/share/bash-completion/completions/nlog, and where cc, ar and objcopy are there
 PREFIX/lib/libnlog.a, PREFIX/lib/libnlog.so.0 with its links, PREFIX/include/nlog.h, PREFIX/lib/pkgconfig/nlog.pc,
-PREFIX/share/man/man3/nlog.3 and a link to it of the name of each call
+PREFIX/lib/cmake/nlog with nlog-config.cmake and nlog-config-version.cmake, PREFIX/share/man/man3/nlog.3 and a link to it of the name of each call
 PREFIX is a folder, as /usr/local; with DESTDIR=FOLDER all is put below FOLDER, from where a package takes it to PREFIX, which begins with /
 NLOG_PROGRAM=FILE puts that program, and proves and builds none"
 
@@ -69,7 +69,7 @@ fi
 room=$(mktemp -d)
 trap 'rm -rf "$room"' EXIT
 "$top/lib/archive.sh" "$room/libnlog.a"
-mkdir -p "$to/lib/pkgconfig" "$to/include" "$to/share/man/man3"
+mkdir -p "$to/lib/pkgconfig" "$to/lib/cmake/nlog" "$to/include" "$to/share/man/man3"
 number=$(sed -n 's/^#define NLOG_VERSION //p' "$top/include/nlog.h")
 version=$((number / 1000000)).$((number / 1000 % 1000)).$((number % 1000))
 [ -n "$root" ] || prefix=$(cd "$prefix" && pwd)
@@ -85,6 +85,41 @@ Version: $version
 Cflags: -I"\${includedir}"
 Libs: -L"\${libdir}" -lnlog
 END
+# For CMake: the targets lie where this file does, wherever that is.
+cat > "$room/nlog-config.cmake" << END
+# The library nlog: nlog::nlog is the shared object, nlog::static the archive, which needs nothing but the C library.
+get_filename_component(nlog_PREFIX "\${CMAKE_CURRENT_LIST_DIR}/../../.." ABSOLUTE)
+if(NOT TARGET nlog::nlog)
+  add_library(nlog::nlog SHARED IMPORTED)
+  set_target_properties(nlog::nlog PROPERTIES
+    IMPORTED_LOCATION "\${nlog_PREFIX}/lib/libnlog.so.$version"
+    IMPORTED_SONAME "libnlog.so.$((number / 1000000))"
+    INTERFACE_INCLUDE_DIRECTORIES "\${nlog_PREFIX}/include")
+  add_library(nlog::static STATIC IMPORTED)
+  set_target_properties(nlog::static PROPERTIES
+    IMPORTED_LOCATION "\${nlog_PREFIX}/lib/libnlog.a"
+    IMPORTED_LINK_INTERFACE_LANGUAGES "C"
+    INTERFACE_INCLUDE_DIRECTORIES "\${nlog_PREFIX}/include")
+endif()
+END
+# Until 1.0.0 a version of another second number may change a call.
+cat > "$room/nlog-config-version.cmake" << END
+set(PACKAGE_VERSION "$version")
+set(PACKAGE_VERSION_COMPATIBLE FALSE)
+set(PACKAGE_VERSION_EXACT FALSE)
+if(PACKAGE_FIND_VERSION VERSION_EQUAL PACKAGE_VERSION)
+  set(PACKAGE_VERSION_COMPATIBLE TRUE)
+  set(PACKAGE_VERSION_EXACT TRUE)
+elseif(PACKAGE_FIND_VERSION VERSION_LESS PACKAGE_VERSION AND NOT PACKAGE_FIND_VERSION VERSION_LESS "${version%.*}")
+  set(PACKAGE_VERSION_COMPATIBLE TRUE)
+endif()
+if(CMAKE_SIZEOF_VOID_P AND NOT CMAKE_SIZEOF_VOID_P EQUAL 8)
+  set(PACKAGE_VERSION_UNSUITABLE TRUE)
+endif()
+END
+for file in nlog-config.cmake nlog-config-version.cmake; do
+    put 644 "$room/$file" "$to/lib/cmake/nlog/$file"
+done
 put 644 "$room/libnlog.a" "$to/lib/libnlog.a"
 for file in "$room"/libnlog.so*; do
     name=$(basename "$file")
@@ -103,4 +138,4 @@ echo ".so man3/nlog.3" > "$room/page"
 for name in $(sed -n 's/^[a-z].*[ *]\(nlog_[a-z0-9_]*\)(.*/\1/p' "$top/include/nlog.h"); do
     put 644 "$room/page" "$to/share/man/man3/$name.3"
 done
-echo "install.sh: $to/lib/libnlog.a, $to/lib/libnlog.so.0, $to/include/nlog.h, $to/lib/pkgconfig/nlog.pc and nlog(3) are there"
+echo "install.sh: $to/lib/libnlog.a, $to/lib/libnlog.so.0, $to/include/nlog.h, $to/lib/pkgconfig/nlog.pc, $to/lib/cmake/nlog and nlog(3) are there"

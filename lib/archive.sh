@@ -8,12 +8,23 @@ makes TO, as libnlog.a, from crates/nl_c and the C below lib/, and libnlog.so.VE
     exit 2
 fi
 
+if [ ! -d "$(dirname "$1")" ]; then
+    echo "lib/archive.sh: $(dirname "$1") isn't there, the folder of $1" >&2
+    exit 1
+fi
 if ! command -v rt > /dev/null; then
     echo "lib/archive.sh: rt isn't there: the command of the Rattle toolchain, which proves and compiles nlog; README.md says what to do without it" >&2
     exit 1
 fi
 
-top=$(cd "$(dirname "$0")/.." && pwd)
+cc=${CC:-cc}
+for it in "$cc" ar nm objcopy; do
+    # A compiler may have flags behind its name.
+    command -v "${it%% *}" > /dev/null || { echo "lib/archive.sh: ${it%% *} isn't there" >&2; exit 1; }
+done
+
+# From any folder, by a link too.
+top=$(CDPATH='' cd -- "$(dirname "$(readlink -f "$0")")/.." && pwd)
 # The toolchain's folder, which has the allocator of Rattle's that calls malloc.
 kit=$(dirname "$(dirname "$(readlink -f "$(command -v rt)")")")
 heap=$kit/c/liblibc_c.a
@@ -26,16 +37,15 @@ fi
 
 room=$(mktemp -d)
 trap 'rm -rf "$room"' EXIT
-cc=${CC:-cc}
 # The proved calls that only read are called by lib/nlog_reads.c, which has their names.
 objcopy --redefine-syms="$top/lib/nlog_reads.names" "$top/crates/nl_c/out/libnl_c.a" "$room/proved.a"
 (cd "$room" && ar x proved.a && rm proved.a && ar x "$heap")
 for part in nlog_writer nlog_reads nlog_damage nlog_status; do
-    "$cc" -std=c11 -Wall -Wextra -O2 -fPIC -I "$top/include" -c "$top/lib/$part.c" -o "$room/$part.o"
+    $cc -std=c11 -Wall -Wextra -O2 -fPIC -I "$top/include" -c "$top/lib/$part.c" -o "$room/$part.o"
 done
 
 # One object, with the names that the header declares for all, and every other for itself.
-"$cc" -r -nostdlib -o "$room/all.obj" "$room"/*.o
+$cc -r -nostdlib -o "$room/all.obj" "$room"/*.o
 nm -g --defined-only "$room/all.obj" | awk '$3 ~ /^nlog_/ { print $3 }' | sort > "$room/names"
 objcopy --keep-global-symbols="$room/names" "$room/all.obj" "$room/nlog.obj"
 rm -f "$room"/*.o
@@ -49,7 +59,7 @@ shared=libnlog.so.$major.$((number / 1000 % 1000)).$((number % 1000))
 # Each name has the version of the library that it came with, so that a program finds out as it starts where a library is too old for it. What
 # a later version adds has that one's.
 (echo "NLOG_0.2 { global:" && sed 's/$/;/' "$room/names" && echo "local: *; };") > "$room/versions"
-"$cc" -shared -Wl,-soname,"libnlog.so.$major" -Wl,--version-script,"$room/versions" -Wl,--no-undefined -Wl,-z,relro,-z,now -o "$room/$shared" "$room/nlog.o"
+$cc -shared -Wl,-soname,"libnlog.so.$major" -Wl,--version-script,"$room/versions" -Wl,--no-undefined -Wl,-z,relro,-z,now -o "$room/$shared" "$room/nlog.o"
 
 # Puts a file in the place of another at once, so that a program that has it open stays whole.
 put() {

@@ -8,8 +8,11 @@ the format says of each log from log_format.py. tests/clib/tool.c has the comman
 program's system calls, of writes that are cut, of a full disk, of what a crash leaves, and of `apply` are made of the library too, by the
 same rules. Writers run at once, one beside PROGRAM too, and are killed.
 
-Wants `rt` and `cc`; a C++ compiler, AddressSanitizer, ThreadSanitizer, valgrind, ctypes, strace, rustc, and the right to mount a tmpfs, where
-they are there.
+Parts of it are clib_looks.py (a log that is opened to read), clib_systems.py (what a file system can't do, and what is done to a log),
+clib_steps.py (the steps of a change) and clib_packages.py (how the library is taken).
+
+Wants `rt` and `cc`; a C++ compiler, AddressSanitizer, ThreadSanitizer, valgrind, ctypes, strace, rustc, cmake, pkg-config, and the right to mount
+a tmpfs, where they are there.
 Each that is missing is said.
 """
 import ctypes
@@ -30,6 +33,7 @@ from concurrent.futures import ThreadPoolExecutor
 import apply_calls
 import between
 import clib_looks
+import clib_packages
 import clib_steps
 import clib_systems
 import crash_states
@@ -1448,6 +1452,7 @@ def trial(trials, program, room):
         replaced(trials, made, room)
     clib_looks.trial(trials, made, room)
     clib_systems.trial(trials, made, room)
+    clib_packages.trial(trials, made, program, room)
     by_the_rules_of_the_program(trials, made, room)
     if "steps" in made:
         clib_steps.steps(trials, f"{room}/steps-taken")

@@ -135,6 +135,10 @@ def try_install(trials, program, room):
         about = read(f"{room}/prefix/lib/pkgconfig/nlog.pc")
         trials.check("what it says of the library", about and b"\nVersion: 0.2.0\n" in about and f"prefix={room}/prefix\n".encode() in about, about)
         made.discard("lib/pkgconfig/nlog.pc")
+        for it, says in (("nlog-config.cmake", b"libnlog.so.0.2.0"), ("nlog-config-version.cmake", b'PACKAGE_VERSION "0.2.0"')):
+            about = read(f"{room}/prefix/lib/cmake/nlog/{it}")
+            trials.check(f"what {it} says of the library", about and says in about and room.encode() not in about, about)
+            made.discard(f"lib/cmake/nlog/{it}")
     else:
         trials.skip("that install.sh puts the library", "cc, ar or objcopy isn't there")
     trials.want("what it puts", made, set(wanted))
