@@ -1,19 +1,22 @@
 #!/usr/bin/env python3
 """A small build that keeps its log by `nlog apply`, and goes on where an earlier one ended.
 
-    python3 examples/build.py NLOG LOG COUNT
+    python3 examples/build.py NLOG LOG COUNT [FLAG]
 
 For each of COUNT outputs it asks the log for the entry. Where that is missing, or has another command's hash, the command is run (here it
-only counts), and its entry recorded. A build whose outputs must outlive a power cut syncs each of them before it records it. After every
-16 commands it syncs, and prints how many outputs then stand, whatever comes.
+only counts), and its entry recorded. Another FLAG makes another command of each. A build whose outputs must outlive a power cut syncs each
+of them before it records it.
 
-An output whose record a power cut took back has its older entry again, which passes for fresh where the command goes back to that one. A
-build that must not take it records the output with another hash, and syncs, before it runs the command.
+Sixteen commands start at once. Each is begun before it runs, so an output whose record was lost doesn't pass for that of an earlier
+command. One sync is enough for all of them, and with it the records of the commands before them stand. Each time it prints how many outputs
+then stand, whatever comes.
 """
 import os
 import subprocess
 import sys
 import zlib
+
+AT_ONCE = 16
 
 
 class Log:
@@ -56,22 +59,33 @@ class Log:
             raise OSError("nlog failed")
 
 
-def entry(i):
-    """The fields of an output's entry. A build of Ninja's logs would take the hash from `nlog hash`."""
-    return str(i), str(i + 5), str(1000 + i), f"out{i}", format(zlib.crc32(b"make out%d" % i), "x")
+def entry(i, flag=""):
+    """The fields of an output's entry: those that start at once take turns. A build of Ninja's logs would take the hash from `nlog hash`."""
+    start = i // AT_ONCE * 100
+    return str(start), str(start + 5 + i % AT_ONCE), str(1000 + i), f"out{i}", format(zlib.crc32(b"make out%d %s" % (i, os.fsencode(flag))), "x")
 
 
-def main(nlog, path, count):
-    log = Log(nlog, path)
-    for i in range(int(count)):
-        if log.get(f"out{i}") != list(entry(i)):
-            log.do("record", *entry(i))
-        if i % 16 == 15:
-            log.do("sync")
-            print(i + 1, flush=True)
+def build(log, count, flag, run):
+    """Brings the outputs up to date by `run(i, flag)`, which runs a command, and yields how many of them stand, whatever comes."""
+    for first in range(0, count, AT_ONCE):
+        stale = [i for i in range(first, min(first + AT_ONCE, count)) if log.get(f"out{i}") != list(entry(i, flag))]
+        for i in stale:
+            start, _, _, name, command = entry(i, flag)
+            log.do("begin", start, command, name)
+        log.do("sync")
+        yield first
+        for i in stale:
+            run(i, flag)
+            log.do("record", *entry(i, flag))
     log.do("sync")
+    yield count
+
+
+def main(nlog, path, count, flag=""):
+    log = Log(nlog, path)
+    for stand in build(log, int(count), flag, lambda i, flag: None):
+        print(stand, flush=True)
     log.close()
-    print(count, flush=True)
 
 
 if __name__ == "__main__":

@@ -162,7 +162,7 @@ def odd_names(trials, program, room):
             trials.want(f"the answer behind {name[:9]!r}", log.get("a"), ["1", "2", "3", "a", "aa"])
     log.close()
     log.nlog.stdout.close()
-    trials.want("a build whose log's name begins with `-`", run([sys.executable, BUILD, program, "-its.log", "3"], cwd=room), (0, b"3\n", b""))
+    trials.want("a build whose log's name begins with `-`", run([sys.executable, BUILD, program, "-its.log", "3"], cwd=room), (0, b"0\n3\n", b""))
     trials.want("its log", (read(f"{room}/-its.log") or b"").count(b"\n"), 4)
     write(f"{room}/eight.log", b"# ninja log v8\n" + A)
     try:
