@@ -1,5 +1,5 @@
 -- What is said of a file that is no log: docs/CLI.md, "Why something was refused".
-use Rattle.std.specs.Prelude.{ℕ, Bool, ◌&&◌, ◌||◌, ◌==◌, ◌/◌, ◌%◌, not, nat_lt, nat_eq, List, [], ◌∷◌, take, Option, None, Some, codes, if◌then◌else◌}
+use Rattle.std.specs.Prelude.{ℕ, Bool, ◌&&◌, ◌||◌, ◌==◌, ◌/◌, ◌%◌, not, nat_lt, nat_eq, List, [], ◌∷◌, length, min, take, Option, None, Some, codes, if◌then◌else◌}
 use Rattle.std.specs.List.{ends_with, flat_map, starts_with}
 use Rattle.nl_fields.specs.Digits.{digit_of}
 use Rattle.nl_tool.specs.declared.looks.Look.{Look}
@@ -32,4 +32,4 @@ escaped b = if is_shown b then b ∷ [] else 92 ∷ 120 ∷ digit_of (b / 16) �
 
 -- the first bytes of a file, as they are said
 abbrev pub start_text : List ℕ → List ℕ
-start_text bytes = flat_map escaped (take 20 bytes)
+start_text bytes = flat_map escaped (take (min (length bytes) 20) bytes)

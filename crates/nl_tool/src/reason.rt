@@ -1,8 +1,9 @@
 //! Why something was refused, as it is said where `--verbose` asks for it: which file it is of, and the reason.
 ghost use Rattle.std.specs.Prelude.{◌≡◌, None, Some, IfSome, IsSome, false, true};
+ghost use Rattle.std.specs.Int.{w32, w64};
 ghost use Rattle.nl_disk.specs.declared.failure.LogFile.{LogFile};
 ghost use Rattle.nl_tool.specs.declared.reason.Place.{Place};
-ghost use Rattle.nl_tool.specs.Reasons.{IsBadNumberOf, IsByteAt, IsLongNameOf, IsLookAt, IsNoteFor, IsReasonFor, IsSystem, IsVersion, file_place, heard_of, is_known, log_place, missing_text, place_text, read_place, reason_text, refusal_text, why_text};
+ghost use Rattle.nl_tool.specs.Reasons.{IsBadNumberOf, IsByteAt, IsLongNameOf, IsLookAt, IsNoteFor, IsNumber, IsReasonFor, IsSystem, IsVersion, file_place, heard_of, is_known, log_place, missing_text, place_text, read_place, reason_text, refusal_text, why_text};
 
 use crate::looks::{Look, look_of, start_of};
 use crate::notes::Notes;
@@ -274,6 +275,20 @@ fn looks_of<'a>(alloc: Global, words: &Words<'a>, notes: &Notes) -> Option<Why<'
     Some(Why { place, reason })
 }
 
+fn is_i32(text: &str) -> bool
+    ensures yes { result ≡ true → IsNumber w32 text.now }
+    ensures no { result ≡ false → ¬ IsNumber w32 text.now }
+{
+    read_i32(text.as_bytes()).is_some()
+}
+
+fn is_i64(text: &str) -> bool
+    ensures yes { result ≡ true → IsNumber w64 text.now }
+    ensures no { result ≡ false → ¬ IsNumber w64 text.now }
+{
+    read_i64(text.as_bytes()).is_some()
+}
+
 // Which number of the words is none, and why.
 fn bad_number<'a>(words: &Words<'a>) -> Option<Why<'a>>
     ensures { IfSome result (IsBadNumberOf words.now) }
@@ -287,19 +302,19 @@ fn bad_number<'a>(words: &Words<'a>) -> Option<Why<'a>>
     else {
         return None;
     };
-    if read_i32(start.as_bytes()).is_none() {
+    if !is_i32(start) {
         return Some(Why {
             place: Place::Start(start),
             reason: Reason::Number(number_fault(start.as_bytes(), NumberFault::Past32)),
         });
     }
-    if read_i32(end.as_bytes()).is_none() {
+    if !is_i32(end) {
         return Some(Why {
             place: Place::End(end),
             reason: Reason::Number(number_fault(end.as_bytes(), NumberFault::Past32)),
         });
     }
-    if read_i64(mtime.as_bytes()).is_none() {
+    if !is_i64(mtime) {
         return Some(Why {
             place: Place::Mtime(mtime),
             reason: Reason::Number(number_fault(mtime.as_bytes(), NumberFault::Past64)),

@@ -41,7 +41,8 @@ impl<R: Clock + Eprint> Clock for Waiting<'_, R> {
 
     fn sleep(&self, duration: Duration) {
         let before = self.waited.get();
-        let after = before.saturating_add(duration.as_millis() as u64);
+        let more = u64::try_from(duration.as_millis()).unwrap_or(u64::MAX);
+        let after = before.saturating_add(more);
         self.waited.set(after);
         if self.tells && before < PATIENCE && after >= PATIENCE {
             let log = self.log;
