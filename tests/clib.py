@@ -869,6 +869,17 @@ def forks(trials, made, room):
             parent.stdout.readline()
             ended = parent.communicate(f"open\nfind {hexed(b'child')}\nclose\n".encode())[0]
             trials.want(f"{what}what it recorded", ended, b"NLOG_OK\nNLOG_OK 7 8 9 a\nNLOG_OK\n")
+            # Of a log that is open to read too: it is the parent's, and the child's part closes the child's descriptor alone.
+            write(log, HEADER + A + b"4\t5")
+            parent = subprocess.Popen([*driver, "write", log, "0"], stdin=subprocess.PIPE, stdout=subprocess.PIPE)
+            for line in [*(["shared"] if is_shared else []), "look"]:
+                trials.want(f"{what}{line}", answers_of(parent, line), "OK")
+            trials.want(f"{what}each call in a child, behind a look", answers_of(parent, "call-in-child"), f"{refused} freed")
+            trials.want(f"{what}that child ends", parent.stdout.readline(), b"NLOG_OK\n")
+            trials.want(f"{what}it changed nothing", read(log), HEADER + A + b"4\t5")
+            said = [answers_of(parent, line) for line in (f"record 4 5 6 bb {hexed(b'b')}", "close")]
+            parent.communicate()
+            trials.want(f"{what}the parent goes on", (said, read(log)), (["OK", "OK"], HEADER + A + B))
 
 
 def waits(trials, made, room):
