@@ -204,9 +204,13 @@ typedef struct nlog_damage {
                           * entry, as one that was written behind a torn line */
   size_t output_len;     /* 0 if they are none, or if the line has more than
                           * 262143 bytes */
+  size_t first_from;     /* the same of the output that plain Ninja takes the
+                          * line for an entry of: it stands between the third
+                          * tab and the fourth */
+  size_t first_len;      /* 0 if there are fewer tabs, or as above */
 } nlog_damage;
 
-#define NLOG_DAMAGE_INIT {0, 0, 0, NLOG_SKIPPED, 0, 0}
+#define NLOG_DAMAGE_INIT {0, 0, 0, NLOG_SKIPPED, 0, 0, 0, 0}
 
 /* The first line that is no entry, of a log that nlog_load takes, by its bytes
  * and the version of nlog_get_facts. If `damage` is what the call before
@@ -216,6 +220,17 @@ typedef struct nlog_damage {
  * NLOG_NOT_FOUND: there is no further one. */
 nlog_status nlog_next_damage(uint32_t version, const void *bytes, size_t len,
     nlog_damage *damage);
+
+/* Loads the log as nlog_load does, and keeps those entries alone whose outputs
+ * can't be trusted. A line that is no entry may be about such an output, and no
+ * entry of it follows. Or the torn bytes may be about it. docs/FORMAT.md has
+ * the rule, "Outputs that can't be trusted". Make it again, as if it had no
+ * entry.
+ * nlog_count, nlog_at and nlog_find tell of these outputs. nlog_get_facts has
+ * their number as `unique`, by which `is_due` is then of no use. All else is
+ * that of the log. If it has nothing skipped and nothing torn, there are none.
+ * Answered as nlog_load is. */
+nlog_status nlog_load_distrusted(nlog *log, const void *bytes, size_t len);
 
 /* The hash of a command, as it stands in logs of version 5 and 6, and of
  * version 7. */
@@ -572,6 +587,11 @@ const char *nlog_writer_failed_call(const nlog_writer *writer);
  * missing. EISDIR, EINVAL: it is a folder, a pipe, a device or the like. After
  * any other status *error is as it was. */
 nlog_status nlog_load_file(nlog *log, const char *path, int *error);
+
+/* Reads the file once, and loads the log, as nlog_load_file. It loads those of
+ * the log's outputs that can't be trusted too, as nlog_load_distrusted. Unless
+ * it answers NLOG_OK, both handles hold what they held. */
+nlog_status nlog_load_file_distrusted(nlog *log, nlog *distrusted, const char *path, int *error);
 
 #ifdef __cplusplus
 }

@@ -28,6 +28,20 @@ static void find_output(uint32_t version, const char *bytes, nlog_damage *damage
   damage->output_len = tabs[0] - (tabs[1] + 1);
 }
 
+/* Finds the output that plain Ninja takes a line for an entry of: what stands between its third tab and its fourth. */
+static void find_first(const char *bytes, nlog_damage *damage) {
+  const char *at = bytes + damage->from, *end = at + damage->len, *name = at;
+  size_t tabs;
+  for (tabs = 0; tabs < 4; tabs++) {
+    const char *tab = (const char *)memchr(at, '\t', (size_t)(end - at));
+    if (tab == NULL) return;
+    name = at;
+    at = tab + 1;
+  }
+  damage->first_from = (size_t)(name - bytes);
+  damage->first_len = (size_t)(at - 1 - name);
+}
+
 nlog_status nlog_next_damage(uint32_t version, const void *bytes, size_t len, nlog_damage *damage) {
   const char *text = (const char *)bytes;
   nlog_damage found = *damage;
@@ -43,10 +57,14 @@ nlog_status nlog_next_damage(uint32_t version, const void *bytes, size_t len, nl
     found.len = newline == NULL ? len - at : (size_t)(newline - text) - at;
     found.kind = newline == NULL ? NLOG_TORN : found.len > MAX_LINE ? NLOG_LONG : NLOG_SKIPPED;
     found.output_from = found.output_len = 0;
+    found.first_from = found.first_len = 0;
     at += found.len + 1;
     if (newline != NULL && found.number == 1) continue;
     if (found.kind == NLOG_SKIPPED && is_entry(version, text + found.from, found.len)) continue;
-    if (found.len <= MAX_LINE) find_output(version, text, &found);
+    if (found.len <= MAX_LINE) {
+      find_output(version, text, &found);
+      find_first(text, &found);
+    }
     *damage = found;
     return NLOG_OK;
   }

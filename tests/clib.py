@@ -43,7 +43,7 @@ import system_calls
 from clib_driver import A, B, D, DRIVER, FIND, LONG, RECORD, STATUS, STRICT, TOP, V7, answers_of, asked, drivers, hexed, may_trace, opened, version_seen
 from crash_rules import Sweep, Worker
 from log_format import HEADER, MAX_LINE, MAX_NAME, Log, as_version, command_hash, command_hash_v7, entry_of, line_of, reading_of, text_of
-from log_lines import damage_of
+from log_lines import damage_of, distrusted_of
 from trials import is_locked, main, read, run, write
 
 TOOL, SHARER, READERS, RUST = (f"{TOP}/tests/clib/{it}" for it in ("tool.c", "shared.c", "readers.c", "safe.rs"))
@@ -243,17 +243,21 @@ def damaged(chance):
 
 def damage(trials, made, program, room):
     """Each line that is no entry, as the page of `nlog damage` has it, and as PROGRAM prints it."""
-    path, known = f"{room}/damaged.log", 0
+    path, known, distrusted = f"{room}/damaged.log", 0, 0
     for text in [*(text for _, text in logs()), *damaged(random.Random(5))]:
         write(path, text)
         status = STATUS[reading_of(as_version(text, version_seen(text)))]
         wanted = damage_of(text) if status == "NLOG_OK" else status.encode() + b"\n"
         for way, driver in drivers(made):
             trials.want(f"the damage of {text[:60]!r} by {way}", run([*driver, "damage", path]), (0, wanted, b""))
+            found = distrusted_of(text) if status == "NLOG_OK" else wanted
+            trials.want(f"what can't be trusted of {text[:60]!r} by {way}", run([*driver, "distrusted", path]), (0, found, b""))
         if status == "NLOG_OK":
             known += wanted.count(b"\n")
+            distrusted += found.count(b"\n")
             trials.want(f"that of {text[:60]!r} by the program", run([program, "damage", path]), (3 if wanted else 0, wanted, b""))
     trials.check("many lines are told", known > 600, str(known))
+    trials.check("many outputs can't be trusted", distrusted > 50, str(distrusted))
 
 
 def misuse(trials, made, room):
@@ -324,7 +328,7 @@ def header(trials):
     text = read(f"{TOP}/include/nlog.h").decode()
     proved = {it for it in exported() if not it.startswith("carried_")}
     c_parts = "".join(read(f"{TOP}/lib/{it}").decode() for it in ("nlog_writer.c", "nlog_damage.c"))
-    written = set(re.findall(r"(?m)^\w[\w *]*?(nlog_(?:writer_\w+|load_file|next_damage))\(", c_parts))
+    written = set(re.findall(r"(?m)^\w[\w *]*?(nlog_(?:writer_\w+|load_file|load_file_distrusted|next_damage))\(", c_parts))
     own = set(re.findall(r"(?m)^nlog_status (carried_\w+)\(", c_parts))
     trials.want("the functions that the writer alone has", own, exported() - proved)
     trials.want("the functions that the header declares", declared(), proved | written)

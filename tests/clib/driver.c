@@ -245,6 +245,36 @@ static void read_line(uint32_t version, const char *path) {
   free(line);
 }
 
+/* Tells the entries of the file's outputs that can't be trusted, from its bytes and from the file. */
+static void tell_distrusted(const char *path) {
+  nlog log = NLOG_INIT, found = NLOG_INIT, again = NLOG_INIT;
+  nlog_entry entry;
+  nlog_facts facts;
+  size_t len, count, place, name_len;
+  int error = 77;
+  char *bytes = file_of(path, &len), *name = (char *)malloc(NLOG_MAX_NAME);
+  nlog_status status = nlog_load_distrusted(&found, bytes, len);
+  WANT(nlog_load_file_distrusted(&log, &again, path, &error) == status && error == 77);
+  if (status == NLOG_OK) {
+    WANT(nlog_count(&found, &count) == NLOG_OK && nlog_get_facts(&found, &facts) == NLOG_OK && facts.unique == count);
+    for (place = 0; place < count; place++) {
+      WANT(nlog_at(&found, place, &entry, name, NLOG_MAX_NAME, &name_len) == NLOG_OK);
+      show(&entry, name, name_len);
+      WANT(nlog_find(&log, name, name_len, &entry) == NLOG_OK && nlog_find(&again, name, name_len, &entry) == NLOG_OK);
+    }
+    WANT(nlog_count(&again, &place) == NLOG_OK && place == count);
+    WANT(nlog_load(&found, bytes, len) == NLOG_OK && nlog_count(&found, &count) == NLOG_OK && nlog_count(&log, &place) == NLOG_OK && place == count);
+  } else {
+    printf("%s\n", nlog_status_name(status));
+    WANT(nlog_count(&log, &count) == NLOG_NO_HANDLE && nlog_count(&again, &count) == NLOG_NO_HANDLE && nlog_count(&found, &count) == NLOG_NO_HANDLE);
+  }
+  free(bytes);
+  free(name);
+  nlog_free(&log);
+  nlog_free(&found);
+  nlog_free(&again);
+}
+
 /* Tells the damage of the log that the file is, as `nlog damage` does. */
 static void tell_damage(const char *path) {
   static const char *const kinds[] = {"skipped", "long", "torn"};
@@ -260,8 +290,11 @@ static void tell_damage(const char *path) {
     WANT(nlog_get_facts(&log, &facts) == NLOG_OK);
     while (nlog_next_damage(facts.version, bytes, len, &damage) == NLOG_OK) {
       const char *output = damage.output_len > 0 ? bytes + damage.output_from : "-";
+      const char *first = damage.first_len > 0 ? bytes + damage.first_from : "-";
       printf("%" PRIu64 "\t%s\t%zu\t", damage.number, kinds[damage.kind], damage.len);
       fwrite(output, 1, damage.output_len > 0 ? damage.output_len : 1, stdout);
+      printf("\t");
+      fwrite(first, 1, damage.first_len > 0 ? damage.first_len : 1, stdout);
       printf("\n");
       told += 1;
       memcpy(&before, &damage, sizeof damage);
@@ -929,6 +962,8 @@ int main(int count, char **words) {
     read_line((uint32_t)strtoul(words[2], NULL, 10), words[3]);
   } else if (count == 3 && strcmp(words[1], "damage") == 0) {
     tell_damage(words[2]);
+  } else if (count == 3 && strcmp(words[1], "distrusted") == 0) {
+    tell_distrusted(words[2]);
   } else if (count == 4 && strcmp(words[1], "text") == 0) {
     write_text(words[2], (uint32_t)strtoul(words[3], NULL, 10));
   } else if (count == 4 && strcmp(words[1], "write") == 0) {

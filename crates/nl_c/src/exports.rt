@@ -3,7 +3,7 @@ ghost use Rattle.std.specs.Prelude.{◌≡◌, ◌≢◌, ◌↔◌, ◌⊎◌, 
 ghost use Rattle.nl_fields.specs.CommandHash.{IsHash, hash_of};
 ghost use Rattle.nl_fields.specs.RapidHash.{rapid_hash_of};
 ghost use Rattle.nl_table.specs.Log.{NotALog, OtherVersion, log_of};
-ghost use Rattle.nl_c.specs.LoadedLogs.{IsLoadedFrom, seen};
+ghost use Rattle.nl_c.specs.LoadedLogs.{IsDistrustedFrom, IsLoadedFrom, seen};
 ghost use Rattle.nl_c.specs.Answers.{answered_at, answered_count, answered_facts, answered_find, answer_line};
 ghost use Rattle.nl_c.specs.CarriedLogs.{IsNewCarried, MadeRoom, Given, CarriedOpened, CarriedText, CarriedHeader, CarriedLine};
 ghost use Rattle.nl_c.specs.Held.{InCarried, InHandle, IsCarriedAnd, IsWrittenAnd, NoCall, loaded_in, loaded_of, table_in};
@@ -53,6 +53,32 @@ pub extern "C" fn nlog_load(handle: &mut Handle, alloc: Global, bytes: &[u8]) ->
     let log = match LoadedLog::load(alloc, bytes) {
         Ok(log) => log,
         Err(fault) => return status::of_fault(fault),
+    };
+    match Box::new(alloc, Held::Loaded(log)) {
+        Ok(log) => {
+            drop(handle.take(alloc));
+            *handle = Handle::of(log);
+            status::OK
+        }
+        Err(_) => status::OUT_OF_MEMORY,
+    }
+}
+
+/// Loads those entries alone of the log that the bytes are whose outputs can't be trusted. Where the handle has a log, the
+/// new one takes its place.
+#[unsafe(no_mangle)]
+pub extern "C" fn nlog_load_distrusted(handle: &mut Handle, alloc: Global, bytes: &[u8]) -> u32
+    ensures ok { result ≡ ok → IsSomeAnd handle.new.kept.log
+        (λ held. IsSomeAnd (loaded_of held) (IsDistrustedFrom bytes.now)) }
+    ensures not_a_log { result ≡ not_a_log → log_of (seen bytes.now) ≡ NotALog }
+    ensures other_version { result ≡ other_version → log_of (seen bytes.now) ≡ OtherVersion }
+    ensures refusals { (result ≡ ok) ⊎ (result ≡ not_a_log) ⊎ (result ≡ other_version)
+        ⊎ (result ≡ out_of_memory) }
+    ensures unchanged { result ≢ ok → handle.new.kept.log ≡ handle.old.kept.log }
+{
+    let log = match LoadedLog::load_distrusted(alloc, bytes) {
+        Ok(log) => log,
+        Err(refused) => return status::of_fault(refused),
     };
     match Box::new(alloc, Held::Loaded(log)) {
         Ok(log) => {
