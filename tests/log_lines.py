@@ -82,11 +82,26 @@ def entries_of(text):
     return b"".join(line_of(*it) for it in entries if it)
 
 
+def is_intent(entry):
+    """An entry that stands for an output while its command runs: docs/FORMAT.md, "Intents"."""
+    start, end, mtime, _ = entry[1]
+    return start == end and mtime == 0
+
+
+def unfinished_of(text):
+    """How many outputs have an intent for their last entry."""
+    version, lines, _ = lines_of(text)
+    last = dict(filter(None, (entry_of(line, version) for line in lines)))
+    return sum(is_intent(it) for it in last.items())
+
+
 def entries_by_build(text):
     """The entries of each build that a log still tells, each with its name and four numbers: a build begins where END falls."""
     version, lines, _ = lines_of(text)
     found = []
     for entry in filter(None, (entry_of(line, version) for line in lines)):
+        if is_intent(entry):
+            continue
         if not found or entry[1][1] < found[-1][-1][1][1]:
             found.append([])
         found[-1].append(entry)
@@ -151,9 +166,10 @@ def ranked_of(key, rank, told, most):
 
 def summary_of(text, most=10):
     """What `summary` prints of a log: of its last build."""
-    found = entries_by_build(text)
+    found, count = entries_by_build(text), unfinished_of(text)
+    unfinished = b"unfinished %d\n" % count if count else b""
     if not found:
-        return b""
+        return unfinished
     commands = commands_of(found[-1])
     wall, total = wall_of(commands), total_of(commands)
     busy, alone = time_where(commands, lambda count: count > 0), time_where(commands, lambda count: count == 1)
@@ -161,4 +177,4 @@ def summary_of(text, most=10):
     told = told_commands(found[-1])
     counts = (len(commands), len(found[-1]), wall, total, busy, alone, parallel, *slowest_of(told))
     eight = b"commands %d\noutputs %d\nwall %d\ntotal %d\nbusy %d\nalone %d\nparallel %s\nslowest %d %s\n" % counts
-    return eight + ranked_of(b"by-time", 0, told, most) + ranked_of(b"by-weight", 1, told, most)
+    return eight + unfinished + ranked_of(b"by-time", 0, told, most) + ranked_of(b"by-weight", 1, told, most)

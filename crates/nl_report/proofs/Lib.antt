@@ -6,6 +6,7 @@ mod SweepStepLemmas
 mod SharesLemmas
 mod LeftOverLemmas
 mod LastBuildLemmas
+mod IntentLemmas
 mod FallingLemmas
 mod SlowestLemmas
 mod SummaryLemmas

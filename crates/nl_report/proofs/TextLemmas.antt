@@ -57,13 +57,17 @@ after_newline text line later at is there =
 lines-cons : (e : Entry) (es : List Entry) → lines_of_entries (e ∷ es) ≡ line_of e ++ 10 ∷ lines_of_entries es
 lines-cons e es = with_newline-append (line_of e) (lines_of_entries es)
 
--- this holds of the builds of the entries before the rest of a text
-pub record HoldsBefore (es : List Entry) (rest : List ℕ) (Held : List (Run Entry) → Type 0) : Type 0 where
+-- this holds of the entries before the rest of a text
+pub record Passed (es : List Entry) (rest : List ℕ) (Held : List Entry → Type 0) : Type 0 where
   pub front : List Entry
   pub later : List Entry
   pub is : es ≡ front ++ later
   pub rest_is : rest ≡ lines_of_entries later
-  pub held : Held (builds front)
+  pub held : Held front
+
+-- this holds of their builds
+abbrev pub HoldsBefore : List Entry → List ℕ → (List (Run Entry) → Type 0) → Type 0
+HoldsBefore es rest Held = Passed es rest (λ front. Held (builds front))
 
 -- what was split off is a line, if the text begins with one
 abbrev pub SplitsOff : List ℕ → List ℕ → List ℕ → Type 0
@@ -73,10 +77,10 @@ entries_behind : (front later : List Entry) → All IsEntry (front ++ later) →
 entries_behind [] later all = all
 entries_behind (e ∷ front) later all = entries_behind front later (All-tail IsEntry e (front ++ later) all)
 
-module _ (es : List Entry) (old line rest : List ℕ) (Held Holds : List (Run Entry) → Type 0) (valid : All IsEntry es)
+module _ (es : List Entry) (old line rest : List ℕ) (Held Holds : List Entry → Type 0) (valid : All IsEntry es)
     (splits : SplitsOff old line rest) (shorter : length rest < length old)
-    (takes : (rs : List (Run Entry)) (e : Entry) → entry_of line ≡ Some e → Held rs → Holds (placed is_border rs e)) where
-  line_more : (front later : List Entry) → es ≡ front ++ later → old ≡ lines_of_entries later → Held (builds front) → HoldsBefore es rest Holds
+    (takes : (front : List Entry) (e : Entry) → line ≡ line_of e → entry_of line ≡ Some e → Held front → Holds (front ++ e ∷ [])) where
+  line_more : (front later : List Entry) → es ≡ front ++ later → old ≡ lines_of_entries later → Held front → Passed es rest Holds
   line_more front [] is none held = absurd (omega (arith, shorter, ap length none))
   line_more front (e ∷ later) is some held =
       let behind : All IsEntry (e ∷ later) = entries_behind front (e ∷ later) (subst (All IsEntry) is valid) in
@@ -87,22 +91,33 @@ module _ (es : List Entry) (old line rest : List ℕ) (Held Holds : List (Run En
         later = later;
         is = is ∙ sym (append_assoc front (e ∷ []) later);
         rest_is = split.1;
-        held = subst Holds (sym (runs-push is_border front e)) (takes (builds front) e (ap entry_of split.0 ∙ entry_of-line_of e entry) held);
+        held = takes front e split.0 (ap entry_of split.0 ∙ entry_of-line_of e entry) held;
       }
 
-  pub held_line : HoldsBefore es old Held → HoldsBefore es rest Holds
-  held_line before = line_more before.front before.later before.is before.rest_is before.held
+  pub passed_line : Passed es old Held → Passed es rest Holds
+  passed_line before = line_more before.front before.later before.is before.rest_is before.held
 
-module _ (es : List Entry) (rest : List ℕ) (Held : List (Run Entry) → Type 0) (valid : All IsEntry es)
+module _ (es : List Entry) (old line rest : List ℕ) (Held Holds : List (Run Entry) → Type 0) (valid : All IsEntry es)
+    (splits : SplitsOff old line rest) (shorter : length rest < length old)
+    (takes : (rs : List (Run Entry)) (e : Entry) → entry_of line ≡ Some e → Held rs → Holds (placed is_border rs e)) where
+  pub held_line : HoldsBefore es old Held → HoldsBefore es rest Holds
+  held_line = passed_line es old line rest (λ (front : List Entry). Held (builds front)) (λ (front : List Entry). Holds (builds front)) valid
+      splits shorter (λ front e same is held. subst Holds (sym (runs-push is_border front e)) (takes (builds front) e is held))
+
+module _ (es : List Entry) (rest : List ℕ) (Held : List Entry → Type 0) (valid : All IsEntry es)
     (none : (line later : List ℕ) → NoNewline line → rest ≡ line ++ 10 ∷ later → ⊥) where
-  all_taken : (front later : List Entry) → es ≡ front ++ later → rest ≡ lines_of_entries later → Held (builds front) → Held (builds es)
-  all_taken front [] is nothing held = subst (λ (l : List Entry). Held (builds l)) (sym (is ∙ append-nil front)) held
+  all_taken : (front later : List Entry) → es ≡ front ++ later → rest ≡ lines_of_entries later → Held front → Held es
+  all_taken front [] is nothing held = subst Held (sym (is ∙ append-nil front)) held
   all_taken front (e ∷ later) is some held =
       let behind : All IsEntry (e ∷ later) = entries_behind front (e ∷ later) (subst (All IsEntry) is valid) in
       absurd (none (line_of e) (lines_of_entries later) (plain_line e (All-head IsEntry e later behind)) (some ∙ lines-cons e later))
 
-  pub held_all : HoldsBefore es rest Held → Held (builds es)
-  held_all before = all_taken before.front before.later before.is before.rest_is before.held
+  pub passed_all : Passed es rest Held → Held es
+  passed_all before = all_taken before.front before.later before.is before.rest_is before.held
+
+pub held_all : (es : List Entry) (rest : List ℕ) (Held : List (Run Entry) → Type 0) → All IsEntry es
+    → ((line later : List ℕ) → NoNewline line → rest ≡ line ++ 10 ∷ later → ⊥) → HoldsBefore es rest Held → Held (builds es)
+held_all es rest Held valid none = passed_all es rest (λ (front : List Entry). Held (builds front)) valid none
 
 -- ---- the text of `builds`
 
@@ -122,11 +137,11 @@ build_more bs i d text new number within count before after =
     ∙ ap (λ (m : ℕ). lines_from 1 (take i bs) ++ build_line m (get_or bs i d)) (sym place)
     ∙ sym (lines-more 1 (take i bs) (get_or bs i d)) ∙ ap (lines_from 1) (sym (take_more bs i d within))
 
--- ---- a text of the builds of what was read
+-- ---- a text on the entries of what was read
 
-pub report_told : (told : List (Run Entry) → List ℕ) (known : Option (List ℕ)) (text lines : List ℕ)
+pub report_told : (told : List Entry → List ℕ) (known : Option (List ℕ)) (text lines : List ℕ)
     → IsTextAsRead (λ bs. entries_text_of (as_five bs)) known text
-    → ((es : List Entry) → All IsEntry es → text ≡ lines_of_entries es → lines ≡ told (builds es))
+    → ((es : List Entry) → All IsEntry es → text ≡ lines_of_entries es → lines ≡ told es)
     → IsTextAsRead (λ bs. report_of told (log_of (as_five bs))) known lines
 report_told told known text lines read lines_are = record {
   bytes = read.bytes;

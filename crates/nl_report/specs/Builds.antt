@@ -5,6 +5,7 @@ use Rattle.nl_fields.specs.declared.entry.Entry.{Entry}
 use Rattle.nl_table.specs.Log.{LogReading, Log, NotALog, OtherVersion, log_of}
 use Rattle.nl_print.specs.VersionOf.{as_five}
 use Rattle.nl_report.specs.Runs.{Run, items, runs}
+use Rattle.nl_report.specs.Intents.{recorded}
 use Rattle.nl_report.specs.Commands.{commands, falls_after, span_of, time_of_command}
 use Rattle.nl_report.specs.declared.builds.Build.{Build}
 
@@ -54,15 +55,15 @@ abbrev pub lines_from : ℕ → List Build → List ℕ
 lines_from number [] = []
 lines_from number (b ∷ bs) = build_line number b ++ lines_from (number + 1) bs
 
--- a text of the builds of a log; none where there is no log
-abbrev pub report_of : (List (Run Entry) → List ℕ) → LogReading → Option (List ℕ)
-report_of told (Log version entries) = Some (told (builds entries))
+-- a text on the entries of a log; none where there is no log
+abbrev pub report_of : (List Entry → List ℕ) → LogReading → Option (List ℕ)
+report_of told (Log version entries) = Some (told entries)
 report_of told OtherVersion = None
 report_of told NotALog = None
 
--- the text of `builds`
-abbrev pub builds_text : List (Run Entry) → List ℕ
-builds_text bs = lines_from 1 (map build_of bs)
+-- the text of `builds`: of the entries that are no intents
+abbrev pub builds_text : List Entry → List ℕ
+builds_text entries = lines_from 1 (map build_of (builds (recorded entries)))
 
 abbrev pub builds_text_of : List ℕ → Option (List ℕ)
 builds_text_of bytes = report_of builds_text (log_of (as_five bytes))

@@ -1,5 +1,6 @@
 pub mod Runs
 pub mod Commands
+pub mod Intents
 pub mod Builds
 pub mod BuildSteps
 pub mod LastBuild

@@ -1,11 +1,12 @@
 -- The text of `summary`.
-use Rattle.std.specs.Prelude.{ℕ, ◌-◌, List, [], ◌∷◌, ◌++◌, Option, None, Some, codes, decimal}
+use Rattle.std.specs.Prelude.{ℕ, ◌-◌, ◌==◌, List, [], ◌∷◌, ◌++◌, Option, None, Some, codes, decimal, if◌then◌else◌}
 use Rattle.nl_fields.specs.declared.entry.Entry.{Entry}
 use Rattle.nl_table.specs.Log.{log_of}
 use Rattle.nl_print.specs.VersionOf.{as_five}
 use Rattle.nl_report.specs.Runs.{Run, items}
-use Rattle.nl_report.specs.Builds.{build_of, report_of}
+use Rattle.nl_report.specs.Builds.{build_of, builds, report_of}
 use Rattle.nl_report.specs.Commands.{span_of, time_of}
+use Rattle.nl_report.specs.Intents.{recorded, unfinished}
 use Rattle.nl_report.specs.Fraction.{ratio}
 use Rattle.nl_report.specs.LastBuild.{slowest_of, spans_of}
 use Rattle.nl_report.specs.Slowest.{slowest_lists, told_commands}
@@ -33,15 +34,23 @@ abbrev pub build_summary : Run Entry → List ℕ
 build_summary b = summary_lines (build_of b) (busy_time (spans_of (items b))) (alone_time (spans_of (items b)))
     ++ slowest_line (slowest_of (items b))
 
--- and behind them the lists of its slowest commands, each of so many lines at most
-abbrev pub build_told : ℕ → Run Entry → List ℕ
-build_told most b = build_summary b ++ slowest_lists most (told_commands (items b))
+-- how many outputs wait for a command that didn't end, where one does
+abbrev pub unfinished_line : ℕ → List ℕ
+unfinished_line count = if count == 0 then [] else codes "unfinished " ++ decimal count ++ codes "\n"
 
--- the text of `summary`: that of the last build; nothing where there is none
-abbrev pub last_summary : ℕ → List (Run Entry) → List ℕ
-last_summary most [] = []
-last_summary most (b ∷ []) = build_told most b
-last_summary most (b ∷ c ∷ bs) = last_summary most (c ∷ bs)
+-- and behind these the lists of the slowest commands, each of so many lines at most
+abbrev pub build_told : ℕ → ℕ → Run Entry → List ℕ
+build_told most count b = build_summary b ++ unfinished_line count ++ slowest_lists most (told_commands (items b))
+
+-- that of the last build
+abbrev pub last_summary : ℕ → ℕ → List (Run Entry) → List ℕ
+last_summary most count [] = unfinished_line count
+last_summary most count (b ∷ []) = build_told most count b
+last_summary most count (b ∷ c ∷ bs) = last_summary most count (c ∷ bs)
+
+-- the text of `summary`: the builds are of the entries that are no intents
+abbrev pub summary_text : ℕ → List Entry → List ℕ
+summary_text most entries = last_summary most (unfinished entries) (builds (recorded entries))
 
 abbrev pub summary_text_of : ℕ → List ℕ → Option (List ℕ)
-summary_text_of most bytes = report_of (last_summary most) (log_of (as_five bytes))
+summary_text_of most bytes = report_of (summary_text most) (log_of (as_five bytes))

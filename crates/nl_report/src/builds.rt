@@ -16,6 +16,7 @@ ghost use Rattle.nl_report.specs.Builds.{build_line, build_of, builds, builds_te
 ghost use Rattle.nl_report.specs.BuildSteps.{AreHeld, IsBounded, IsCurrent, IsBoundedIf, outputs_in};
 
 use crate::entry_text::{read_entries, split_line};
+use crate::intents::without_intents;
 use crate::span::Span;
 use nl_fields::read_entry;
 use nl_texts::{ToolFault, write_out};
@@ -170,7 +171,7 @@ fn finish(done: Vec<Build>, current: Option<Current>) -> Result<Vec<Build>, Allo
 }
 
 /// Writes a line for each build that the log which the reader gives still tells: its number, how many commands and outputs,
-/// the milliseconds from the first START to the last END, and the sum of the commands' times.
+/// the milliseconds from the first START to the last END, and the sum of the commands' times. An intent is no command.
 pub fn builds_to<R: Read + Drop, W: Write>(
     alloc: Global,
     reader: R,
@@ -185,7 +186,8 @@ pub fn builds_to<R: Read + Drop, W: Write>(
     ensures faults { IfErr result IsLogFault }
 {
     let text = read_entries(alloc, reader)?;
-    let found = builds_in(alloc, text.as_slice())?;
+    let recorded = without_intents(alloc, text)?;
+    let found = builds_in(alloc, recorded.as_slice())?;
     let lines = text_of(alloc, found.as_slice())?;
     write_out(lines.as_slice(), writer)
 }

@@ -4,6 +4,7 @@
 mod builds;
 mod entry_text;
 mod fraction;
+mod intents;
 mod last_commands;
 pub mod laws;
 mod shares;

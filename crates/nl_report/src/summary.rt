@@ -14,11 +14,12 @@ ghost use Rattle.nl_report.specs.Builds.{builds};
 ghost use Rattle.nl_report.specs.LastBuild.{named, outputs_of, spans_of};
 ghost use Rattle.nl_report.specs.Shares.{AreSharesOf};
 ghost use Rattle.nl_report.specs.Slowest.{slowest_lists, told_commands};
-ghost use Rattle.nl_report.specs.Summary.{last_summary, slowest_line, summary_lines, summary_text_of};
+ghost use Rattle.nl_report.specs.Summary.{last_summary, slowest_line, summary_lines, summary_text_of, unfinished_line};
 
 use crate::builds::{Build, builds_in};
 use crate::entry_text::read_entries;
 use crate::fraction::ratio;
+use crate::intents::{unfinished_in, without_intents};
 use crate::last_commands::{LastBuild, last_build};
 use crate::shares::Shares;
 use crate::slowest::{append_slowest_lists, rows_of};
@@ -31,7 +32,8 @@ use std::io::{Read, Write};
 /// Writes eight lines on the last build of the log that the reader gives: how many commands and outputs it has, the
 /// milliseconds from its first START to its last END, the sum of the commands' times, the milliseconds in which one command at
 /// least ran and those in which one alone did, how many ran at a time in the mean, and the slowest command. Behind them it
-/// writes so many lines at most of the slowest commands by time, and as many by weighted time.
+/// says how many outputs wait for a command that didn't end, where one does. Then it writes so many lines at most of the slowest
+/// commands by time, and as many by weighted time. An intent is no command.
 pub fn summary_to<R: Read + Drop, W: Write>(
     alloc: Global,
     most: usize,
@@ -47,25 +49,49 @@ pub fn summary_to<R: Read + Drop, W: Write>(
     ensures faults { IfErr result IsLogFault }
 {
     let text = read_entries(alloc, reader)?;
-    let lines = last_told(alloc, most, text.as_slice())?;
+    let count = unfinished_in(alloc, text.as_slice())?;
+    let recorded = without_intents(alloc, text)?;
+    let lines = last_told(alloc, most, count, recorded.as_slice())?;
     write_out(lines.as_slice(), writer)
 }
 
 // What is told of the last build.
-fn last_told(alloc: Global, most: usize, text: &[u8]) -> Result<Vec<u8>, AllocError>
+fn last_told(alloc: Global, most: usize, count: u64, text: &[u8]) -> Result<Vec<u8>, AllocError>
     ensures value { (es : List Entry) → All IsEntry es → text.now ≡ lines_of_entries es
-        → IfOk result (λ lines. lines.items ≡ last_summary most (builds es)) }
+        → IfOk result (λ lines. lines.items ≡ last_summary most count (builds es)) }
 {
     let mut found = builds_in(alloc, text)?;
     let Some(build) = found.pop() else {
-        return Ok(Vec::new(alloc));
+        return unfinished_alone(alloc, count);
     };
     let ran = last_build(alloc, text)?;
     let shares = Shares::of(alloc, ran.commands.as_slice())?;
     let mut lines = summary_lines(alloc, &build, shares.busy(), shares.alone())?;
     append_slowest(alloc, &ran.slowest, &mut lines)?;
+    append_unfinished(alloc, count, &mut lines)?;
     append_lists(alloc, most, &ran, &shares, &mut lines)?;
     Ok(lines)
+}
+
+// What is told where there is no build.
+fn unfinished_alone(alloc: Global, count: u64) -> Result<Vec<u8>, AllocError>
+    ensures value { IfOk result (λ lines. lines.items ≡ unfinished_line count) }
+{
+    let mut lines = Vec::new(alloc);
+    append_unfinished(alloc, count, &mut lines)?;
+    Ok(lines)
+}
+
+// How many outputs wait for a command that didn't end, where one does.
+fn append_unfinished(alloc: Global, count: u64, lines: &mut Vec<u8>) -> Result<(), AllocError>
+    ensures items { OnOk result (lines.new.items ≡ lines.old.items ++ unfinished_line count) }
+{
+    if count == 0 {
+        return Ok(());
+    }
+    let line = format!(in alloc; "unfinished {count}\n")?;
+    lines.extend_from_slice(line.as_bytes())?;
+    Ok(())
 }
 
 // The lists of the slowest commands, each of so many lines at most.

@@ -240,7 +240,8 @@ One line for each, the oldest first: NUMBER, COMMANDS, OUTPUTS, WALL and TOTAL w
 neighbours.
 
 NUMBER    its number, from 1
-COMMANDS  how many commands ended in it; neighbours with one START, END and HASH are of one
+COMMANDS  how many commands ended in it; neighbours with one START, END and HASH are of one, and an
+          intent is of none
 OUTPUTS   how many outputs these made
 WALL      milliseconds from the first START to the last END
 TOTAL     the sum of the commands' times, in milliseconds; TOTAL / WALL ran at a time
@@ -272,6 +273,8 @@ busy      milliseconds in which one command at least ran
 alone     milliseconds in which one command alone ran
 parallel  how many commands ran at a time in the mean: total / wall, rounded down
 slowest   the command that took the longest: its milliseconds, and its first output
+
+A line `unfinished` tells how many outputs wait for a command that didn't end, where one does.
 
 Two lists of commands follow: those that took the longest, and those with the longest weighted time.
 One line for each: KEY, TIME, WEIGHTED and OUTPUT with a space between neighbours.
