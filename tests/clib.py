@@ -1114,27 +1114,21 @@ def killed(trials, made, room):
 
 
 def syncs_that_fail(trials, made, room):
-    """A sync that fails, of the folder, of the log or of a scratch: nothing is acknowledged, the writer is broken, and no later sync of that
+    """A sync that fails, of the log, of its folder or of a scratch: nothing is acknowledged, the writer is broken, and no later sync of that
     file counts: the next open writes a new one, or is refused where it was the folder's."""
     log, lines = f"{room}/sync/log", ["open", RECORD, "sync", RECORD, FIND, "close", "open", "rewrote", FIND, "close", "open", "rewrote", "close"]
     # The syncs of the first open are the first two.
-    opened, others, folder = ["fsync sync", "fsync log"], ["OK", "OK 1", "OK 1 2 3 aa", "OK", "OK", "OK 0", "OK"], "FAULT EIO fsync folder"
-    refused = [folder, "NOT_OPEN", "NOT_OPEN", "NOT_OPEN", folder, "NOT_OPEN", "NOT_OPEN"]
-    for nth, why, later, syncs in (
-        (3, "folder", refused, [*opened, "fsync sync"]),
-        (4, "log", others, [*opened, *opened, "fsync log.recompact", "rename", *opened, *opened]),
-    ):
-        shutil.rmtree(f"{room}/sync", ignore_errors=True)
-        os.mkdir(f"{room}/sync")
-        write(log, HEADER + B)
-        driver = ["strace", "-y", "-o", f"{room}/TRACE", "-e", f"inject=fsync:error=EIO:when={nth}", made.get("steps", made["C11"])]
-        wanted = ["OK", "OK", f"FAULT EIO fsync {why}", "BROKEN", "BROKEN", "BROKEN", *later]
-        trials.want(f"a sync of the {why} that fails", asked(driver, "write", log, 0, lines)[1], wanted)
-        trials.want("the log then", read(log), HEADER + B + A)
-        calls = re.findall(r"(?m)^(fsync|rename)\w*\(\d+<([^>]*)>", read(f"{room}/TRACE").decode())
-        names = [call if call == "rename" else f"{call} {os.path.basename(path)}" for call, path in calls]
-        trials.want("its syncs", names, syncs)
-        trials.want("another writer opens the log", asked([made.get("steps", made["C11"])], "write", log, 0, ["open", FIND, "close"])[1], ["OK", "OK 1 2 3 aa", "OK"])
+    opened, later, folder = ["fsync sync", "fsync log"], ["OK", "OK 1", "OK 1 2 3 aa", "OK", "OK", "OK 0", "OK"], "FAULT EIO fsync folder"
+    os.mkdir(f"{room}/sync")
+    write(log, HEADER + B)
+    driver = ["strace", "-y", "-o", f"{room}/TRACE", "-e", "inject=fsync:error=EIO:when=3", made.get("steps", made["C11"])]
+    wanted = ["OK", "OK", "FAULT EIO fsync log", "BROKEN", "BROKEN", "BROKEN", *later]
+    trials.want("a sync that fails", asked(driver, "write", log, 0, lines)[1], wanted)
+    trials.want("the log then", read(log), HEADER + B + A)
+    calls = re.findall(r"(?m)^(fsync|rename)\w*\(\d+<([^>]*)>", read(f"{room}/TRACE").decode())
+    names = [call if call == "rename" else f"{call} {os.path.basename(path)}" for call, path in calls]
+    trials.want("its syncs", names, [*opened, "fsync log", "fsync log.recompact", "rename", *opened, *opened])
+    trials.want("another writer opens the log", asked([made.get("steps", made["C11"])], "write", log, 0, ["open", FIND, "close"])[1], ["OK", "OK 1 2 3 aa", "OK"])
     # Behind the rename of a rewriting: the log is the new one, and the folder is not asked to keep its name once more.
     write(log, HEADER + A + B)
     driver = ["strace", "-y", "-o", f"{room}/TRACE", "-e", "inject=fsync:error=EIO:when=4", made.get("steps", made["C11"])]
@@ -1180,7 +1174,7 @@ COSTS = {
     RECORD: (["write"], ["flock", "stat", "write", "flock"]),
     BEGIN_A: (["write"], ["flock", "stat", "write", "flock"]),
     BEGIN_A_AGAIN: ([], ["flock", "stat", "flock"]),
-    "sync": (["stat", "fsync", "fsync"], ["flock", "stat", "fsync", "fsync", "flock"]),
+    "sync": (["stat", "fsync"], ["flock", "stat", "fsync", "flock"]),
     FIND: ([], []),
 }
 
@@ -1346,7 +1340,13 @@ def by_the_rules_of_the_program(trials, made, room):
     # (the library looks at the log's name in places of its own: `moved`, `kept_away` and `changed_between` try what that is for)
     system_calls.LOOKS_FIRST, system_calls.note = False, lambda *_: b""
     wanted, done = system_calls.effects_wanted, system_calls.effect
-    system_calls.effects_wanted = lambda case: [it for it in wanted(case) if it != "look LOG"]
+
+    def wanted_of_tool(case):
+        """The sync behind the change is of the log alone: its folder is durable since the open, or since the rename."""
+        found = [it for it in wanted(case) if it != "look LOG"]
+        return [*found[:-2], found[-1]] if found[-2:] == ["sync folder", "sync LOG"] else found
+
+    system_calls.effects_wanted = wanted_of_tool
     system_calls.effect = lambda *call: None if done(*call) == "look LOG" else done(*call)
     passed = {}
 
