@@ -11,6 +11,11 @@ said the same (but for times and the order of lines), have the same files with t
 entries: their outputs, their hashes, the numbers that both were given, and of other time stamps which are those of before the step.
 
 A torn line is followed by a recompaction, since a build by the plain one then spoils the log: faults.py shows that.
+
+The patched one writes intents, and so one differs from the other where a command fails, or a record is lost: faults.py shows that too. Here an
+output whose last entry is such an intent has an older entry, or none, in the other log, and no reason to be built is compared of it. Until
+it was built no file gets another time by hand, and the file whose record was cut off is removed. Where one log is due, which may be that of the
+patched one first, both are rewritten.
 """
 import os
 import random
@@ -153,6 +158,8 @@ class Side:
         self.before = {}
         # What was given both sides: the times of files and of entries, and when a command of the log began and ended.
         self.known, self.given = {0}, set()
+        # The entries as they stand, and whether a build rewrites the log.
+        self.entries, self.is_due = {}, False
 
     def path(self, name):
         return f"{self.folder}/{name}"
@@ -188,18 +195,23 @@ class Side:
         """The header, and of each output its hash, its times where they are known, and else whether its time stamp is that of before."""
         text = self.bytes(LOG)
         if text is None:
+            self.entries, self.is_due = {}, False
             return None
         lines, found, kept = text.split(b"\n"), {}, {}
+        self.entries, total = {}, 0
         for line in lines[1:-1]:
             fields = line.split(b"\t", 4)
             if len(fields) < 5:
                 continue
             start, end, mtime, name, command = fields
             kept[name] = mtime
+            self.entries[name] = tuple(fields)
+            total += 1
             mtime = mtime if int(mtime) in self.known else self.before.get(name) == mtime
             found[name] = (command, mtime, (start, end) if (start, end) in self.given else None)
         self.before = kept
         found[b"header"], found[b"torn"] = lines[0], lines[-1]
+        self.is_due = total > 100 and total > 3 * len(self.entries)
         return found
 
 
@@ -226,12 +238,27 @@ def tick(folder):
 class Differ:
     def __init__(self, ninjas, room):
         self.ninjas, self.room = ninjas, room
-        self.steps = self.commands = 0
+        self.steps = self.commands = self.intents = 0
+
+    @staticmethod
+    def begun(sides):
+        """The outputs whose command began, by the patched log, and has no record yet."""
+        plain, patched = (it.entries for it in sides)
+        return {name for name, it in patched.items() if it[0] == it[1] and it[2] == b"0" and (name not in plain or plain[name][4] != it[4])}
 
     def compare(self, sides, what, answers):
         """What the two differ in, if anything."""
         self.steps += 1
-        for name, of_sides in (("answers", answers), ("files", [it.files() for it in sides]), ("logs", [it.log() for it in sides])):
+        before = self.begun(sides)
+        logs = [it.log() for it in sides]
+        after = self.begun(sides)
+        self.intents += len(after - before)
+        for it in logs:
+            for name in after:
+                (it or {}).pop(name, None)
+        if answers[0] is not None:
+            answers = [(status, [it for it in said if not (it.startswith(b"ninja explain: ") and any(name in it for name in before | after))]) for status, said in answers]
+        for name, of_sides in (("answers", answers), ("files", [it.files() for it in sides]), ("logs", logs)):
             if of_sides[0] != of_sides[1]:
                 return f"after {what}: {name}: {apart(*of_sides)}"
         return None
@@ -258,10 +285,19 @@ class Differ:
                 both("build.ninja", project.manifest())
 
         def run(*words):
+            text = sides[1].bytes(LOG) or b""
             answers = [it.run(words) for it in sides]
             self.commands += 1
+            # A falling end begins a build, for whoever reports of them.
+            more = sides[1].bytes(LOG) or b""
+            ends = [int(it.split(b"\t")[1]) for it in more[len(text) :].split(b"\n") if it.count(b"\t") == 4]
+            if text.endswith(b"\n") and more.startswith(text) and not project.has_inner and not project.is_remade and ends != sorted(ends):
+                return f"after {words}: an end falls within a build: {ends}"
             tick(folder)
-            return self.compare(sides, words, answers)
+            difference = self.compare(sides, words, answers)
+            if not difference and sides[0].is_due != sides[1].is_due:
+                return run("-t", "recompact")
+            return difference
 
         for name in project.sources:
             both(name, name)
@@ -291,8 +327,7 @@ class Differ:
                 return difference
         return None
 
-    @staticmethod
-    def step(random_numbers, project, sides, calls):
+    def step(self, random_numbers, project, sides, calls):
         """One step at random."""
         both, dated, manifest, run = calls
         what = random_numbers.choice(["build"] * 5 + ["one", "ask", "edit", "edit", "change", "change", "remove", "break", "tear", "recompact", "restat", "cleandead", "clean"])
@@ -322,15 +357,22 @@ class Differ:
             texts = [it.bytes(LOG) or b"" for it in sides]
             places = [it[:-1].rfind(b"\n") + 1 for it in texts]
             # Rewritten logs are in other orders.
-            if min(places) > 0 and len({it[at:].split(b"\t")[-2] for it, at in zip(texts, places) if it[at:].count(b"\t") > 3}) == 1:
+            names = {it[at:].split(b"\t")[-2] for it, at in zip(texts, places) if it[at:].count(b"\t") > 3}
+            kept = {os.fsencode(it) for it in [*project.sources, "build.ninja"]}
+            if min(places) > 0 and len(names) == 1 and not names & (self.begun(sides) | kept):
                 cut = random_numbers.randint(1, 20)
                 for side, text, at in zip(sides, texts, places):
+                    for name in names:
+                        if os.path.isfile(side.path(os.fsdecode(name))):
+                            os.remove(side.path(os.fsdecode(name)))
                     with open(side.path(LOG), "wb") as it:
                         it.write(text[: max(at, len(text) - cut)])
                 return run("-t", "recompact")
-        elif what == "restat":
+        elif what == "restat" and not self.begun(sides):
+            # (-t cleandead removes a source that no edge takes any more, if a line of the log is of it)
+            near = next((os.stat(sides[0].path(it)).st_mtime_ns for it in project.sources if os.path.exists(sides[0].path(it))), 10**18)
             for name in [*project.outputs(), "dynout", "hid.den", "other", "inside", "outside"]:
-                dated(name, os.stat(sides[0].path(project.sources[0])).st_mtime_ns + random_numbers.randint(-5, 5))
+                dated(name, near + random_numbers.randint(-5, 5))
             return run("-t", "restat", *(["--", *some] if random_numbers.random() < 0.5 else []))
         elif what in ("recompact", "cleandead", "clean"):
             return run("-t", what)
@@ -361,7 +403,7 @@ def main(plain, patched, projects="300", seed=None):
             shutil.rmtree(folder)
     finally:
         shutil.rmtree(room, ignore_errors=True)
-    print(f"{differ.commands} runs of each, {differ.steps} comparisons")
+    print(f"{differ.commands} runs of each, {differ.steps} comparisons, {differ.intents} outputs whose command began and has no record")
     print(f"{int(projects) - failed} passed, {failed} failed")
     return failed > 0
 

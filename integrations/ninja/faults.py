@@ -3,9 +3,10 @@
 
     python3 integrations/ninja/faults.py PLAIN PATCHED
 
-The four faults of README.md are shown on the plain one, and shown to be gone on the patched one. Then what the patch does otherwise: logs
-of other versions and files that are no logs, names that a log can't hold, times before 1970, a log that is locked, a build that does
-nothing.
+The faults of README.md are shown on the plain one, and shown to be gone on the patched one: a torn line, a full disk, a read error, a kill
+within a rewriting; commands that were killed, failed or interrupted. Then each other row of its table: what intents are written, and when they
+are synced; logs of other versions, damaged ones and files that are no logs; names that a log can't hold, times before 1970, a log that is
+locked, a build that does nothing.
 """
 import fcntl
 import os
@@ -32,9 +33,9 @@ class Ninja:
         os.makedirs(folder, exist_ok=True)
         os.chdir(folder)
 
-    def run(self, *words, before=()):
+    def run(self, *words, before=(), **env):
         """Its status, and what it says."""
-        done = subprocess.run([*before, self.path, *words], stdout=subprocess.PIPE, stderr=subprocess.STDOUT, text=True, check=False)
+        done = subprocess.run([*before, self.path, *words], stdout=subprocess.PIPE, stderr=subprocess.STDOUT, text=True, check=False, env={**os.environ, **env})
         return done.returncode, done.stdout
 
 
@@ -44,6 +45,39 @@ def echoing(word):
 
 def touching(*names):
     write("build.ninja", "rule c\n  command = touch $out\n" + "".join(f"build {it}: c\n" for it in names))
+
+
+def making(text):
+    """A manifest of commands that `die` kills with Ninja when they have run, that `fail` fails then, and that `hang` holds before they end."""
+    more = "(test ! -e die || kill -9 $$PPID) && test ! -e fail && (test ! -e hang || (touch held; sleep 60))"
+    write("build.ninja", f"more = {more}\n{text}")
+
+
+def tagged(word):
+    making(f"rule c\n  command = echo {word} > out && $more\nbuild out: c\n")
+
+
+def entries_of(name):
+    """The lines of an output: their start, end, time stamp and hash."""
+    lines = [it.split(b"\t") for it in (read(LOG) or b"").split(b"\n")[1:-1]]
+    return [(int(it[0]), int(it[1]), int(it[2]), int(it[4], 16)) for it in lines if len(it) == 5 and it[3] == name.encode()]
+
+
+def is_intent(entry):
+    return entry[0] == entry[1] and entry[2] == 0
+
+
+def kinds_of(name):
+    """The lines of an output, as `intent` or `record`."""
+    return ["intent" if is_intent(it) else "record" for it in entries_of(name)]
+
+
+def with_file(name, call):
+    """Makes a call while a file is there."""
+    write(name, "")
+    answer = call()
+    os.remove(name)
+    return answer
 
 
 def names_in(text):
@@ -83,6 +117,13 @@ def try_full_disk(trial, ninja, header, is_plain):
             os.remove("fill")
             trial.want("once there is room: -t recompact", ninja.run("-t", "recompact")[0], 0)
             trial.want("once there is room: the log", read(LOG), text)
+            # The log fills its page. A command that ran is told by what it leaves, for which there is room on another disk.
+            write("build.ninja", f"rule c\n  command = touch {ninja.folder}/ran\nbuild a: c\n")
+            text += b"1\t2\t3\t" + b"x" * (4096 - len(text) - 10) + b"\taa\n"
+            write(LOG, text)
+            fill_up("fill")
+            status, said = ninja.run()
+            trial.check("a full disk: a build fails, and runs no command", len(text) == 4096 and status != 0 and not os.path.exists(f"{ninja.folder}/ran"), said)
     finally:
         os.chdir(ninja.folder)
         subprocess.run(["umount", "full"], check=False)
@@ -131,7 +172,79 @@ def try_kill(trial, ninja, header, is_plain):
         trial.want("after that: no other file is left", [it for it in os.listdir(".") if it.startswith(LOG + ".")], [])
 
 
-FAULTS = [("torn", try_torn), ("full", try_full_disk), ("read", try_read_error), ("kill", try_kill)]
+def try_killed(trial, ninja, header, is_plain):
+    """A, B with a kill behind the command, and A again."""
+    tagged("A")
+    ninja.run()
+    tagged("B")
+    trial.want("killed: B", with_file("die", ninja.run)[0], -signal.SIGKILL)
+    trial.want("killed: the lines", kinds_of("out"), ["record"] if is_plain else ["record", "intent"])
+    tagged("A")
+    explained = ninja.run("-n", "-d", "explain")[1]
+    said = ninja.run()[1]
+    trial.want("killed: A after that", (said == IDLE, read("out")), (True, b"B\n") if is_plain else (False, b"A\n"))
+    if not is_plain:
+        trial.check("killed: it says why", "command line changed for out" in explained, explained)
+        tagged("B")
+        ninja.run()
+        hashes = [it[3] for it in entries_of("out")]
+        trial.want("killed: the intent has the complement of B's hash", hashes[1], 2**64 - 1 - hashes[-1])
+        ends = [it[1] for it in entries_of("out")][-2:]
+        trial.check("killed: within a build no end falls", ends == sorted(ends), repr(ends))
+
+
+def try_failed(trial, ninja, header, is_plain):
+    """A, B that fails when it has written its output, and A again; a command that fails over an output that was removed; one that fails twice."""
+    tagged("A")
+    ninja.run()
+    tagged("B")
+    trial.check("failed: B", with_file("fail", ninja.run)[0] != 0)
+    tagged("A")
+    said = ninja.run()[1]
+    trial.want("failed: A after that", (said == IDLE, read("out")), (True, b"B\n") if is_plain else (False, b"A\n"))
+    tagged("A")
+    ninja.run()
+    os.remove("out")
+    trial.check("failed: over a removed output", with_file("fail", ninja.run)[0] != 0)
+    trial.want("failed: is there nothing to do behind it", ninja.run()[1] == IDLE, is_plain)
+    tagged("B")
+    trial.check("failed: once", with_file("fail", ninja.run)[0] != 0)
+    count = len(entries_of("out"))
+    trial.check("failed: twice", with_file("fail", ninja.run)[0] != 0)
+    trial.want("failed: twice: no line more", len(entries_of("out")), count)
+
+
+def interrupted(ninja):
+    """Interrupts a build whose command hangs: its status."""
+    write("hang", "")
+    child = subprocess.Popen([ninja.path], stdout=subprocess.DEVNULL, stderr=subprocess.DEVNULL)
+    while not os.path.exists("held"):
+        time.sleep(0.01)
+    child.send_signal(signal.SIGINT)
+    os.remove("hang")
+    status = child.wait()
+    os.remove("held")
+    return status
+
+
+def try_interrupted(trial, ninja, header, is_plain):
+    """A build that is interrupted removes the outputs that a command wrote; the others it leaves."""
+    tagged("A")
+    ninja.run()
+    tagged("B")
+    trial.check("interrupted: B", interrupted(ninja) not in (0, -signal.SIGINT))
+    trial.want("interrupted: the output is removed", read("out"), None)
+    tagged("A")
+    trial.want("interrupted: A after that", (ninja.run()[0], read("out")), (0, b"A\n"))
+    making("rule c\n  command = $more && echo B > out\nbuild out: c\n")
+    interrupted(ninja)
+    trial.want("interrupted before it wrote: the output stays", read("out"), b"A\n")
+    tagged("A")
+    trial.want("interrupted before it wrote: is there nothing to do for A", ninja.run()[1] == IDLE, is_plain)
+
+
+FAULTS = [("torn", try_torn), ("full", try_full_disk), ("read", try_read_error), ("kill", try_kill),
+          ("killed", try_killed), ("failed", try_failed), ("interrupted", try_interrupted)]
 
 
 # ---- what the patched one does otherwise ----
@@ -154,6 +267,14 @@ def try_plain(trial, ninja, header):
     write(LOG, b"something else\n")
     said = ninja.run()[1]
     trial.check("plain: what is no log is removed, as an old version", "starting over" in said and b"something" not in read(LOG) and not os.path.exists(LOG + ".not-a-log"), said)
+    write(LOG, header[:7])
+    trial.check("plain: a torn first line is taken for an old version", "starting over" in ninja.run()[1])
+    os.chmod(LOG, 0o640)
+    ninja.run("-t", "recompact")
+    trial.check("plain: a rewritten log has other permissions", os.stat(LOG).st_mode & 0o777 != 0o640)
+    text = read(LOG)
+    write(LOG, text.replace(b"\n", b"\r\n"))
+    trial.want("plain: a carriage return behind a hash is passed over", ninja.run()[1], IDLE)
     write(LOG, header + b"1\t2\t3\ta\tcommand\n")
     ninja.run("-t", "restat")
     trial.check("plain: a hash is what strtoull makes of it", read(LOG).endswith(b"\ta\tc\n"), repr(read(LOG)))
@@ -168,6 +289,209 @@ def try_plain(trial, ninja, header):
     trial.check("plain: a time before 1970 is negative", b"\t-5000000000\ta\t" in read(LOG), repr(read(LOG)))
 
 
+def try_restat_rule(trial, ninja, header):
+    """A rule with restat: its record follows its intent, also where its output doesn't change, and what depends on it isn't built then."""
+    def described(word, text):
+        making(f"rule c\n  command = : {word}; echo {text} > $out.new; (cmp -s $out.new $out && rm $out.new || mv $out.new $out) && $more\n  restat = 1\n"
+               "rule d\n  command = cat $in > $out\nbuild out: c\nbuild down: d out\ndefault down\n")
+    described("A", "x")
+    ninja.run()
+    described("B", "x")
+    ninja.run()
+    trial.want("restat: the lines", (kinds_of("out"), kinds_of("down")), (["record", "intent", "record"], ["record"]))
+    trial.want("restat: nothing is left to do", ninja.run()[1], IDLE)
+    described("A", "x")
+    with_file("die", ninja.run)
+    described("B", "x")
+    trial.check("restat: killed, and B again: it runs", ninja.run()[1] != IDLE)
+    trial.want("restat: what depends on it doesn't", kinds_of("down"), ["record"])
+    described("B", "y")
+    with_file("die", ninja.run)
+    described("B", "x")
+    ninja.run()
+    trial.want("restat: what it wrote before the kill is gone", (read("out"), read("down"), ninja.run()[1]), (b"x\n", b"x\n", IDLE))
+
+
+def try_outputs(trial, ninja, header):
+    """A command with several outputs: an intent of each that has an entry. Those that a dyndep file names have one too."""
+    making("rule c\n  command = touch $out && $more\nbuild a b: c\n")
+    ninja.run()
+    making("rule c\n  command = : ; touch $out && $more\nbuild a b c: c\n")
+    with_file("die", ninja.run)
+    trial.want("outputs: the lines", [kinds_of(it) for it in "abc"], [["record", "intent"], ["record", "intent"], []])
+    trial.check("outputs: all are built again", ninja.run()[1] != IDLE and ninja.run()[1] == IDLE)
+    write("dd", "ninja_dyndep_version = 1\nbuild out | hid: dyndep\n")
+    for word in ("A", "B"):
+        making(f"rule c\n  command = : {word}; touch out hid && $more\nbuild out: c || dd\n  dyndep = dd\n")
+        if word == "A":
+            ninja.run()
+    with_file("die", ninja.run)
+    trial.want("dyndep: the lines", [kinds_of(it) for it in ("out", "hid")], [["record", "intent"]] * 2)
+
+
+def try_generator(trial, ninja, header):
+    """A generator's output is judged by its time stamp: with an input it is made again, without one it isn't, nor without an entry."""
+    def described(inputs):
+        making(f"rule g\n  command = touch out && $more\n  generator = 1\nbuild out: g {inputs}\n")
+    write("in", "")
+    described("in")
+    ninja.run()
+    os.remove("out")
+    with_file("die", ninja.run)
+    trial.want("a generator: the lines", kinds_of("out"), ["record", "intent"])
+    trial.check("a generator: it runs again", ninja.run()[1] != IDLE and ninja.run()[1] == IDLE)
+    os.remove("out")
+    with_file("die", ninja.run)
+    ninja.run("-t", "restat", "out")
+    trial.want("a generator: not behind -t restat", ninja.run()[1], IDLE)
+    described("")
+    os.remove("out")
+    with_file("die", ninja.run)
+    trial.want("a generator without inputs: it isn't made again", ninja.run()[1], IDLE)
+    os.remove(LOG)
+    os.remove("out")
+    described("in")
+    with_file("die", ninja.run)
+    trial.want("a generator without an entry: no intent", (entries_of("out"), ninja.run()[1]), ([], IDLE))
+
+
+def try_no_intent(trial, ninja, header):
+    """What runs no command writes none: -n, tools, phony edges. What -t restat and -t recompact make of one."""
+    touching("a")
+    with open("build.ninja", "a", encoding="ascii") as it:
+        it.write("build all: phony a\ndefault all\n")
+    ninja.run()
+    trial.want("phony: the log", names_in(read(LOG)), [b"a"])
+    write("build.ninja", read("build.ninja").replace(b"touch", b"touch --"))
+    text = read(LOG)
+    for words in (["-n"], ["-t", "query", "a"], ["-t", "commands"], ["-t", "targets"], ["-t", "cleandead"], ["-t", "clean"]):
+        trial.want(f"{words}: the log", (ninja.run(*words)[0], read(LOG)), (0, text))
+    os.remove(LOG)
+    tagged("A")
+    with_file("fail", ninja.run)
+    trial.want("a first build that fails: no log", read(LOG), None)
+    ninja.run()
+    tagged("B")
+    with_file("die", ninja.run)
+    intent = entries_of("out")[-1]
+    ninja.run("-t", "recompact")
+    trial.want("-t recompact keeps an intent", entries_of("out"), [intent])
+    ninja.run("-t", "restat")
+    trial.want("-t restat gives it the file's time stamp", entries_of("out"), [(*intent[:2], os.stat("out").st_mtime_ns, intent[3])])
+    tagged("A")
+    trial.check("-t restat: it is built again", ninja.run()[1] != IDLE)
+
+
+def try_due(trial, ninja, header):
+    """A command that runs again adds two lines, and what its record follows goes by the next rewriting: behind three builds and not four."""
+    names = [f"o{it}" for it in range(40)]
+    counts = []
+    for word in range(4):
+        write("build.ninja", f"rule c\n  command = : {word}; touch $out\n" + "".join(f"build {it}: c\n" for it in names))
+        ninja.run()
+        counts.append(len(names_in(read(LOG))))
+    trial.want("due: the lines after each build", counts, [40, 120, 200, 120])
+    ninja.run("-t", "recompact")
+    trial.want("due: no intent is left", {tuple(kinds_of(it)) for it in names}, {("record",)})
+
+
+def try_syncs(trial, ninja, header):
+    """By NINJA_LOG_SYNC the intents of all edges that start at once are synced once, before any of these; and outputs before their records."""
+    for value in ("", "intents", "outputs"):
+        for word in "AB":
+            write("build.ninja", f"rule c\n  command = : {word}; touch $out\n" + "".join(f"build o{it}: c\n" for it in range(4)) + "build all: phony o0 o1 o2 o3\ndefault all\n")
+            before = ["strace", "-y", "-o", "calls", "-e", "signal=none", "-e", "trace=write,fsync,clone,clone3,vfork"]
+            trial.want(f"syncs, {value!r}: ends", ninja.run("-j4", before=before, NINJA_LOG_SYNC=value)[0], 0)
+        calls = []
+        for it in read("calls").decode().splitlines():
+            if it.startswith(("clone", "vfork")):
+                calls.append("start")
+            elif f"{LOG}>" in it:
+                calls.append("fsync" if it.startswith("fsync") else "write")
+            elif it.startswith("fsync") and "/o" in it:
+                calls.append("output")
+        begun = calls[: calls.index("start")] if "start" in calls else calls
+        trial.want(f"syncs, {value!r}: before the first command", begun, ["fsync", "write"] if not value else ["fsync", *["write"] * 4, "fsync"])
+        rest = calls[len(begun):]
+        ends = [at for at, it in enumerate(rest) if it == "write"]
+        if value == "outputs":
+            trial.check("syncs, outputs: each record follows the sync of its output", len(ends) == 4 and all(rest[at - 1] == "output" for at in ends), repr(rest))
+        if value == "intents":
+            trial.want("syncs, intents: and no more syncs", rest.count("fsync"), 0)
+    # Of many, one sync for those that start and for as many that start next.
+    for word in "AB":
+        touching(*(f"many{it}" for it in range(40)))
+        write("build.ninja", read("build.ninja").replace(b"touch", b"touch --" if word == "B" else b"touch"))
+        before = ["strace", "-y", "-o", "calls", "-e", "signal=none", "-e", "trace=fsync"]
+        trial.want("syncs of many: ends", ninja.run("-j4", before=before, NINJA_LOG_SYNC="intents")[0], 0)
+    count = sum(f"{LOG}>" in it for it in read("calls").decode().splitlines()) - 1
+    trial.check("syncs of many: one for 5 to 8 commands", 40 // 8 <= count <= 40 // 5 + 1, f"{count} syncs of 40 commands")
+    trial.want("syncs: the first build of a folder has none", with_fresh(ninja), 0)
+    status, said = ninja.run(NINJA_LOG_SYNC="1")
+    trial.check("syncs: another value is refused", status == 1 and "NINJA_LOG_SYNC is neither" in said, said)
+    trial.want("syncs: with a limit on the load", ninja.run("-l", "1000", NINJA_LOG_SYNC="outputs")[0], 0)
+
+
+def with_fresh(ninja):
+    """How many syncs of the log a build makes in a folder without one, beside the two of the open: no output has an entry."""
+    os.remove(LOG)
+    ninja.run("-j4", before=["strace", "-y", "-o", "calls", "-e", "signal=none", "-e", "trace=fsync"], NINJA_LOG_SYNC="intents")
+    return sum(f"{LOG}>" in it for it in read("calls").decode().splitlines()) - 2
+
+
+def try_order(trial, ninja, header):
+    """A rewritten log has its outputs in the order in which they first appeared."""
+    names = [f"o{it * 7 % 40}" for it in range(40)]
+    touching(*names)
+    write(LOG, header + b"".join(b"1\t2\t3\t%s\taa\n" % it.encode() for it in [*names, *names[5:]]))
+    ninja.run("-t", "recompact")
+    trial.want("the order after -t recompact", names_in(read(LOG)), [it.encode() for it in names])
+
+
+def try_torn_header(trial, ninja, header):
+    """A first line that was cut off is completed, and nothing is said."""
+    touching("a")
+    write(LOG, header[:7])
+    status, said = ninja.run()
+    trial.check("a torn first line: no warning", status == 0 and "warning" not in said, said)
+    trial.check("a torn first line: a new log", read(LOG).startswith(header) and names_in(read(LOG)) == [b"a"], repr(read(LOG)))
+
+
+def try_permissions(trial, ninja, header):
+    """A rewritten log keeps its permissions; a log that is a folder is refused."""
+    touching("a")
+    ninja.run()
+    os.chmod(LOG, 0o640)
+    ninja.run("-t", "recompact")
+    trial.want("permissions after -t recompact", os.stat(LOG).st_mode & 0o777, 0o640)
+    os.remove(LOG)
+    os.mkdir(LOG)
+    os.remove("a")
+    status, said = ninja.run()
+    trial.check("a log that is a folder: refused before a command runs", status == 1 and "s a directory" in said and not os.path.exists("a"), said)
+
+
+def try_damaged(trial, ninja, header):
+    """A number that no Ninja wrote is damage, and so is a carriage return: the file is kept under the first free name."""
+    touching("a")
+    lines = b"1\t2\t3\ta\taa\n"
+    kept = {}
+    for at, (word, says) in enumerate((("v05", "damaged first line"), ("v0", "damaged first line"), ("v100", "damaged first line"), ("v18446744073709551615", "damaged first line"),
+                                      ("v", "damaged first line"), ("v5x", "damaged first line"), ("v-5", "damaged first line"), (header[12:-1].decode() + "\r", "CR before each newline"))):
+        text = b"# ninja log " + word.encode() + b"\n" + lines
+        write(LOG, text)
+        status, said = ninja.run()
+        name = f"{LOG}.damaged" + (f".{at + 1}" if at else "")
+        kept[name] = text
+        trial.check(f"{word!r}: it starts over, and says so", status == 0 and says in said and "starting over" in said and f"as {name}" in said, said)
+        trial.check(f"{word!r}: a new log", read(LOG).startswith(header) and names_in(read(LOG)) == [b"a"], repr(read(LOG)))
+        trial.want(f"{word!r}: all are kept", {it: read(it) for it in kept}, kept)
+    os.remove(f"{LOG}.damaged.3")
+    os.symlink("nowhere", f"{LOG}.damaged.3")
+    write(LOG, b"# ninja log v007\n")
+    trial.check("a name that a link takes isn't free", "as .ninja_log.damaged.9" in ninja.run()[1] and os.path.islink(f"{LOG}.damaged.3"))
+
+
 def try_other_versions(trial, ninja, header):
     own = int(header[-2:-1])
     lines = b"1\t2\t3\ta\taa\n"
@@ -180,12 +504,12 @@ def try_other_versions(trial, ninja, header):
         os.remove("a")
         write(LOG, b"# ninja log v%d\n" % version + lines)
         trial.want(f"version {version}: -t recompact", (ninja.run("-t", "recompact")[0], read(LOG)), (0, header if own == 5 else None))
-    for version in (own + 1, own + 2, 8, 9, 10, 77, 18446744073709551615):
+    for version in (own + 1, own + 2, 8, 9, 10, 77, 99):
         text = b"# ninja log v%d\n" % version + lines
         for words in ([], ["-n"], ["-t", "recompact"], ["-t", "restat"]):
             write(LOG, text)
             status, said = ninja.run(*words)
-            trial.check(f"version {version}, {words}: refused", status == 1 and "is too new" in said and not os.path.exists("a"), said)
+            trial.check(f"version {version}, {words}: refused", status == 1 and f"version {version} is too new; remove {LOG} to start over" in said and not os.path.exists("a"), said)
             trial.want(f"version {version}, {words}: the log", read(LOG), text)
 
 
@@ -199,8 +523,8 @@ def try_no_log(trial, ninja, header):
     trial.check("no log: a new log", read(LOG).startswith(header) and names_in(read(LOG)) == [b"a"], repr(read(LOG)))
     write(LOG, bytes(100))
     status, said = ninja.run()
-    trial.check("a second one: refused", status == 1 and "not a build log" in said, said)
-    trial.want("a second one: both stay", (read(LOG), read(LOG + ".not-a-log")), (bytes(100), text))
+    trial.check("a second one: it starts over too", status == 0 and "not a build log; starting over" in said and f"as {LOG}.not-a-log.2" in said, said)
+    trial.want("a second one: both are kept", (read(LOG + ".not-a-log"), read(LOG + ".not-a-log.2")), (text, bytes(100)))
 
 
 def try_names(trial, ninja, header):
@@ -283,12 +607,13 @@ def try_locked(trial, ninja, header):
         text = read(LOG)
         status, said = ninja.run()
         trial.check("locked: refused, and says so", status == 1 and "build log .ninja_log: another process" in said, said)
+        trial.check("locked: before a command runs", not os.path.exists("b"))
         trial.want("locked: the log", read(LOG), text)
     trial.want("once it is free", ninja.run()[0], 0)
     trial.want("once it is free: the log", names_in(read(LOG)), [b"a", b"b"])
 
 
-OTHERWISE = [try_other_versions, try_no_log, try_names, try_early_time, try_idle, try_kill_in_a_build, try_inner, try_two, try_locked]
+OTHERWISE = [try_restat_rule, try_outputs, try_generator, try_no_intent, try_due, try_syncs, try_order, try_torn_header, try_permissions, try_damaged, try_other_versions, try_no_log, try_names, try_early_time, try_idle, try_kill_in_a_build, try_inner, try_two, try_locked]
 
 
 def main(plain, patched):
@@ -310,8 +635,8 @@ def main(plain, patched):
                 print(f"{name}: {which}: {'FAILED' if trial.failed > before else 'the fault is there' if which == 'plain' else 'the fault is gone'}")
         try_plain(trial, Ninja(plain, f"{room}/plain"), header)
         for at, part in enumerate(OTHERWISE):
-            if part == try_idle and not has_strace:
-                print("skipped: no work: nothing can be traced")
+            if part in (try_idle, try_syncs) and not has_strace:
+                print(f"skipped: {part.__name__}: nothing can be traced")
                 continue
             part(trial, Ninja(patched, f"{room}/{at}"), header)
     finally:
