@@ -8,16 +8,18 @@
 #
 #   NLOG_CFLAGS, NLOG_LIBS    the library to take, as the compiler is told of it; else lib/archive.sh makes it, which wants rt
 #   NLOG_DEBIAN               the mirror (http://deb.debian.org/debian)
-#   NLOG_PARTS                which of tests, differ, faults, cost are run (all)
-#   NLOG_PROJECTS, NLOG_SEED  how many projects differ.py makes (300), and from which seed (one by the clock)
+#   NLOG_PARTS                which of tests, faults, differ, stale, cost are run (all)
+#   NLOG_PROJECTS, NLOG_SEED  how many projects differ.py makes (300), and from which seed it and stale.py go (one by the clock)
+#   NLOG_STATES               how many outputs stale.py looks at (20000)
 #   NLOG_EDGES, NLOG_ROUNDS   the size of what cost.py builds (10000), and how often (9)
+#   NLOG_COMMANDS             how many commands of 100 ms it builds by the clock (100)
 #
 # Needs a C++ compiler, python3 and patch; to fetch, apt-get, dpkg-source and Debian's keyring; strace, and the right to mount, for the faults;
 # script for Ninja's output tests. Where it can't do its work it prints a line `skipped: why`, and ends with status 0.
 set -uo pipefail
 
 version=${1-} folder=${2-}
-case $version in 1.11.1 | 1.13.2) ;; *) sed -n '2,/^$/s/^# \{0,1\}//p' "$0" | head -n 16 >&2; exit 2 ;; esac
+case $version in 1.11.1 | 1.13.2) ;; *) sed -n '2,/^$/s/^# \{0,1\}//p' "$0" | head -n 18 >&2; exit 2 ;; esac
 
 here=$(cd "$(dirname "$0")" && pwd)
 top=$(cd "$here/../.." && pwd)
@@ -40,7 +42,7 @@ check() { # name, status
     if [[ $2 == 0 ]]; then passed=$((passed + 1)) && echo "ok: $1"; else failed=$((failed + 1)) && echo "FAILED: $1"; fi
 }
 
-wants() { [[ " ${NLOG_PARTS-tests differ faults cost} " == *" $1 "* ]]; }
+wants() { [[ " ${NLOG_PARTS-tests faults differ stale cost} " == *" $1 "* ]]; }
 
 for it in "${CXX:-c++}" python3 patch; do command -v "$it" > /dev/null || skip "$it isn't there"; done
 if [[ -z ${NLOG_LIBS-} ]]; then
@@ -154,5 +156,6 @@ part() { # name, words
 }
 part faults
 part differ "${NLOG_PROJECTS:-300}" ${NLOG_SEED:+"$NLOG_SEED"}
-part cost "${NLOG_EDGES:-10000}" "${NLOG_ROUNDS:-9}"
+part stale "${NLOG_STATES:-20000}" ${NLOG_SEED:+"$NLOG_SEED"}
+part cost "${NLOG_EDGES:-10000}" "${NLOG_ROUNDS:-9}" "${NLOG_COMMANDS:-100}"
 end
