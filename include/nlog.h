@@ -591,7 +591,8 @@ nlog_status nlog_load_file(nlog *log, const char *path, int *error);
 /* Reads the file once, and loads the log, as nlog_load_file. It loads those of
  * the log's outputs that can't be trusted too, as nlog_load_distrusted. Unless
  * it answers NLOG_OK, both handles hold what they held. */
-nlog_status nlog_load_file_distrusted(nlog *log, nlog *distrusted, const char *path, int *error);
+nlog_status nlog_load_file_distrusted(nlog *log, nlog *distrusted,
+    const char *path, int *error);
 
 #ifdef __cplusplus
 }
