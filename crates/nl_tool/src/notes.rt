@@ -106,7 +106,9 @@ pub struct Beginning {
 }
 
 impl Beginning {
-    pub fn bytes(&self) -> &[u8] {
+    pub fn bytes(&self) -> &[u8]
+        ensures value { result.now ≡ self.now.bytes.items }
+    {
         self.bytes.as_slice()
     }
 

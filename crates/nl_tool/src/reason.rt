@@ -3,6 +3,7 @@ ghost use Rattle.std.specs.Prelude.{◌≡◌, None, Some, IfSome, IsSome, false
 ghost use Rattle.std.specs.Int.{w32, w64};
 ghost use Rattle.nl_disk.specs.declared.failure.LogFile.{LogFile};
 ghost use Rattle.nl_tool.specs.declared.reason.Place.{Place};
+ghost use Rattle.nl_tool.specs.Looks.{look_of};
 ghost use Rattle.nl_tool.specs.Reasons.{IsBadNumberOf, IsByteAt, IsLongNameOf, IsLookAt, IsNoteFor, IsNumber, IsReasonFor, IsSystem, IsVersion, file_place, heard_of, is_known, log_place, missing_text, place_text, read_place, reason_text, refusal_text, why_text};
 
 use crate::looks::{Look, look_of, start_of};
@@ -267,12 +268,28 @@ fn looks_of<'a>(alloc: Global, words: &Words<'a>, notes: &Notes) -> Option<Why<'
     ensures reason { IfSome result (λ why. IsLookAt (heard_of notes.now) why.reason) }
 {
     let place = log_place(words, LogFile::Log)?;
-    let bytes = notes.heard.beginning.bytes();
-    let reason = match look_of(bytes) {
-        Some(look) => Reason::Looks(look),
-        None => Reason::Begins(start_of(alloc, bytes)?),
-    };
+    let reason = look_reason(alloc, notes.heard.beginning.bytes())?;
     Some(Why { place, reason })
+}
+
+// What a file looks like that begins with these bytes, or these.
+fn look_reason(alloc: Global, bytes: &[u8]) -> Option<Reason>
+    ensures { IfSome result (IsLookAt bytes.now) }
+{
+    match look_of(bytes) {
+        Some(look) => Some(Reason::Looks(look)),
+        None => begins_reason(alloc, bytes),
+    }
+}
+
+fn begins_reason(alloc: Global, bytes: &[u8]) -> Option<Reason>
+    requires { look_of bytes.now ≡ None }
+    ensures { IfSome result (IsLookAt bytes.now) }
+{
+    match start_of(alloc, bytes) {
+        Some(text) => Some(Reason::Begins(text)),
+        None => None,
+    }
 }
 
 fn is_i32(text: &str) -> bool
