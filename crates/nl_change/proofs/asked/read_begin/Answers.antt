@@ -1,4 +1,4 @@
-use Rattle.std.proofs.Common.{◌≡◌, ◌<◌, ◌^◌, ◌∙◌, ◌++◌, ◌∷◌, List, ℕ, ℤ, Bor, FitsSigned, w32, ap, sym, subst, rules}
+use Rattle.std.proofs.Common.{◌<◌, ◌^◌, ◌∙◌, ◌++◌, List, ℕ, ℤ, Bor, FitsSigned, w32, ap, sym, subst, rules}
 use Rattle.std.specs.Prelude.{Option}
 use Rattle.std.proofs.lemmas.Int.{to_z-of_z}
 use Rattle.std.proofs.lemmas.Option.{none-some}
