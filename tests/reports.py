@@ -242,8 +242,9 @@ def try_builds(trials, program, room):
             write(f"{room}/LOG", as_version(text, version))
             trials.want(f"{kind}, version {version}: builds", run([program, "builds", f"{room}/LOG"]), (0, BUILT[kind], b""))
             trials.want(f"{kind}, version {version}: summary", run([program, "summary", f"{room}/LOG"]), (0, summary_of(text), b""))
+            trials.want(f"{kind}, version {version}: its numbers", run([program, "summary", "-n", "0", f"{room}/LOG"]), (0, summary_of(text, 0), b""))
     for kind, counts in SUMMED.items():
-        trials.want(f"{kind}: the summary by docs/FORMAT.md", summary_of(LOGS[kind]), KEYS % counts if counts else b"")
+        trials.want(f"{kind}: the summary by docs/FORMAT.md", summary_of(LOGS[kind], 0), KEYS % counts if counts else b"")
 
 
 def limit(most):
