@@ -14,7 +14,7 @@ ghost use Rattle.nl_c.specs.Statuses.{ok, bad_name, not_a_log, other_version, ou
 use crate::carried_log::CarriedLog;
 use crate::handle::Handle;
 use crate::held::Held;
-use crate::loaded_log::{Facts, LoadedLog, Stamp};
+use crate::loaded_log::{CStamp, Facts, LoadedLog};
 use crate::written_log::WrittenLog;
 use crate::{look_up, status};
 use nl_fields::{command_hash, command_hash_v7, name_fault};
@@ -143,7 +143,7 @@ pub extern "C" fn nlog_at(
     handle: &mut Handle,
     alloc: Global,
     place: usize,
-    stamp: &mut Stamp,
+    stamp: &mut CStamp,
     name: &mut [u8],
     name_len: &mut usize,
 ) -> u32
@@ -169,7 +169,7 @@ pub extern "C" fn nlog_find(
     handle: &mut Handle,
     alloc: Global,
     name: &[u8],
-    stamp: &mut Stamp,
+    stamp: &mut CStamp,
 ) -> u32
     ensures same { handle.new.kept.log ≡ handle.old.kept.log }
     ensures value { (result, stamp.new)
@@ -225,7 +225,12 @@ pub extern "C" fn nlog_open(
 
 /// Adds the line of an entry to the text of an open log.
 #[unsafe(no_mangle)]
-pub extern "C" fn nlog_record(handle: &mut Handle, alloc: Global, name: &[u8], stamp: &Stamp) -> u32
+pub extern "C" fn nlog_record(
+    handle: &mut Handle,
+    alloc: Global,
+    name: &[u8],
+    stamp: &CStamp,
+) -> u32
     ensures call { InHandle (Recorded name.now stamp.now) (Recorded name.now stamp.now) result handle.old.kept.log
         handle.new.kept.log }
 {
@@ -501,7 +506,7 @@ pub extern "C" fn carried_line(
 pub extern "C" fn nlog_read_line(
     version: u32,
     line: &[u8],
-    stamp: &mut Stamp,
+    stamp: &mut CStamp,
     name: &mut [u8],
     name_len: &mut usize,
 ) -> u32

@@ -2,12 +2,12 @@
 ghost use Rattle.std.specs.Prelude.{◌≡◌};
 ghost use Rattle.nl_c.specs.Answers.{answer_at, answer_find, answer_line, entry_in};
 
-use crate::loaded_log::{Stamp, stamp_of};
+use crate::loaded_log::{CStamp, stamp_of};
 use crate::status;
 use nl_fields::{EntryRef, MAX_LINE, read_entry, read_entry_v4};
 use nl_table::{OLDEST_VERSION, Table};
 
-pub(crate) fn find(table: &Table, name: &[u8], stamp: &mut Stamp) -> u32
+pub(crate) fn find(table: &Table, name: &[u8], stamp: &mut CStamp) -> u32
     ensures { (result, stamp.new) ≡ answer_find table.now name.now stamp.old }
 {
     match table.get(name) {
@@ -20,7 +20,7 @@ pub(crate) fn find(table: &Table, name: &[u8], stamp: &mut Stamp) -> u32
 }
 
 /// Fills a stamp, a buffer and a length with an entry, where there is one.
-fn fill(found: Option<EntryRef>, stamp: &mut Stamp, name: &mut [u8], name_len: &mut usize) -> u32
+fn fill(found: Option<EntryRef>, stamp: &mut CStamp, name: &mut [u8], name_len: &mut usize) -> u32
     ensures { (result, record { stamp = stamp.new; name = name.new; len = name_len.new })
         ≡ entry_in found.entry (record { stamp = stamp.old; name = name.old; len = name_len.old }) }
 {
@@ -40,7 +40,7 @@ fn fill(found: Option<EntryRef>, stamp: &mut Stamp, name: &mut [u8], name_len: &
 pub(crate) fn at(
     table: &Table,
     place: usize,
-    stamp: &mut Stamp,
+    stamp: &mut CStamp,
     name: &mut [u8],
     name_len: &mut usize,
 ) -> u32
@@ -55,7 +55,7 @@ pub(crate) fn at(
 pub(crate) fn line(
     version: u32,
     line: &[u8],
-    stamp: &mut Stamp,
+    stamp: &mut CStamp,
     name: &mut [u8],
     name_len: &mut usize,
 ) -> u32

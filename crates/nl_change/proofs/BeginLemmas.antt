@@ -21,12 +21,12 @@ use Rattle.nl_session.specs.Calls as log
 use Rattle.nl_session.specs.Intents.{intents_over}
 use Rattle.nl_session.specs.Machine.{Records, reply_of}
 use Rattle.nl_session.specs.Runs.{act_of}
-use Rattle.nl_session.specs.View.{EdgeStepsBy, View}
+use Rattle.nl_session.specs.LogView.{EdgeStepsBy, LogView}
 use Rattle.nl_session.specs.Headline.{Exchange}
 use Rattle.nl_session.proofs.AppendLemmas.{run_join}
 use Rattle.nl_replay.specs.Replay.{behind_tab, name_field, reply_line}
-use Rattle.nl_replay.specs.declared.script.Refusal.{Refusal}
-use Rattle.nl_replay.specs.declared.script.Refusal.TheVariants.{BadLine, OutOfMemory}
+use Rattle.nl_replay.specs.declared.script.LineRefusal.{LineRefusal}
+use Rattle.nl_replay.specs.declared.script.LineRefusal.TheVariants.{BadLine, OutOfMemory}
 use Rattle.nl_replay.proofs.ReadingLemmas.{behind-tail, names-tail, same_sides}
 use Rattle.nl_change.specs.declared.asked.Begin.{Begin}
 use Rattle.nl_change.specs.Applying.{AreRecords, BeginsBy, HasBegun, Steps, recorded}
@@ -70,7 +70,7 @@ names_there rest [] some there none = omega (arith, some)
 names_there rest (name ∷ names) some there none = omega (arith, ap length (sym there ∙ ap behind_tab none))
 
 -- where names are said, they aren't refused as a bad line
-pub no_bad_line : {T : Type 0} (r : Result T Refusal) (why : Refusal) → IsErrAnd r (λ refusal. refusal ≡ why) → why ≡ OutOfMemory
+pub no_bad_line : {T : Type 0} (r : Result T LineRefusal) (why : LineRefusal) → IsErrAnd r (λ refusal. refusal ≡ why) → why ≡ OutOfMemory
     → IsErrOf r BadLine → ⊥
 no_bad_line (Ok value) why is memory bad = absurd is
 no_bad_line (Err refusal) why is memory bad = absurd (cc (bad, is, memory))
@@ -106,7 +106,7 @@ replies_recorded [] = refl
 replies_recorded (e ∷ es) = ap (λ replies. Done ∷ replies) (replies_recorded es)
 
 -- an edge was answered: the records that it made
-pub edge_recorded : (es : List Entry) (result : Result (Unit {0}) LogFault) (old new : View) → EdgeStepsBy es (reply_of result) old new
+pub edge_recorded : (es : List Entry) (result : Result (Unit {0}) LogFault) (old new : LogView) → EdgeStepsBy es (reply_of result) old new
     → (exchanges : List Exchange) × AreRecords es (reply_of result) exchanges × Steps exchanges old new
 edge_recorded es (Ok done) old new steps = (
   recorded es,
@@ -127,7 +127,7 @@ edge_recorded es (Err Fault) old new stops = (
 edge_recorded es (Err why) old new steps = ([], refl, λ s at. record { last = s; run = refl; at = (steps s at).1 })
 
 -- so a begin was, of these names and this moment
-pub has_begun : (begin : Begin) (old new : View) (result : Result (Unit {0}) LogFault) (names : List (List ℕ)) (moment : ℤ)
+pub has_begun : (begin : Begin) (old new : LogView) (result : Result (Unit {0}) LogFault) (names : List (List ℕ)) (moment : ℤ)
     → names ≡ begin.names.items → moment ≡ begin.moment_ms → log.Begins names moment begin.hash result old new
     → EdgeStepsBy (intents_over old.table names moment begin.hash) (reply_of result) old new
     → (r : Result (Unit {0}) LogFault) → result ≡ r

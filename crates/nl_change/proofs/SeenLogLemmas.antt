@@ -16,7 +16,7 @@ use Rattle.nl_session.specs.declared.fault.LogFault.{LogFault}
 use Rattle.nl_session.specs.declared.fault.LogFault.TheVariants as refusal
 use Rattle.nl_session.specs.declared.log.Log.{Log}
 use Rattle.nl_session.specs.declared.state.LogState.TheVariants.{Closed}
-use Rattle.nl_session.specs.View.{folder_of, view_of}
+use Rattle.nl_session.specs.LogView.{folder_of, view_of}
 use Rattle.nl_texts.specs.declared.fault.ToolFault.{ToolFault}
 use Rattle.nl_texts.specs.declared.fault.ToolFault.TheVariants.{Folder}
 use Rattle.nl_change.specs.Calls.{FolderView, IsFree, IsVersionFor, Looks, folder_state, folder_view}

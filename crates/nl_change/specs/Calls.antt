@@ -24,7 +24,7 @@ use Rattle.nl_session.specs.Calls as log
 use Rattle.nl_session.specs.Machine.{IsFirstNegative, State, all_of}
 use Rattle.nl_session.specs.Opened.{IsLog, survivors}
 use Rattle.nl_session.specs.Runs.{BeginsAt}
-use Rattle.nl_session.specs.View.{StandsAt, View}
+use Rattle.nl_session.specs.LogView.{StandsAt, LogView}
 use Rattle.nl_print.specs.VersionOf.{version_of}
 use Rattle.nl_print.specs.Versions.{hash_as, is_barred, log_as}
 use Rattle.nl_texts.specs.Files.{OfBytes}
@@ -32,7 +32,7 @@ use Rattle.nl_texts.specs.declared.fault.ToolFault.{ToolFault}
 use Rattle.nl_texts.specs.declared.fault.ToolFault.TheVariants.{BadLine, Folder, NegativeTime, NotALog, OtherVersion, Read}
 use Rattle.nl_change.specs.Faults.{IsChangeFault, IsChangeRefusal, IsFileFault, IsNoLogFault, IsRecordFault}
 use Rattle.nl_change.specs.Files.{BadAt, FileReading}
-use Rattle.nl_change.specs.Updates.{AsSaid, Changes, HasTable, IsOpenLeft, IsRepaired, IsUnmade, IsUpdated, Leaves, OfAllFound}
+use Rattle.nl_change.specs.Updates.{AsSaid, Changes, HasTable, IsOpenLeft, IsRepaired, IsUnmade, IsUpdated, UpdateLeaves, OfAllFound}
 use Rattle.nl_change.specs.Updates.{StaysRepaired, dead_but, none_dead}
 
 -- ---- what is seen
@@ -49,7 +49,7 @@ folder_view g folder =
     record { disk = g.disk folder; settled = g.is_settled folder; scratch = g.has_scratch folder; failures = g.failures folder }
 
 -- what contracts see of the folder of a log
-abbrev pub log_folder : View → FolderView
+abbrev pub log_folder : LogView → FolderView
 log_folder v = record { disk = v.disk; settled = v.settled; scratch = v.scratch; failures = v.failures }
 
 -- what is seen beside the count
@@ -96,7 +96,7 @@ IsFaultBy m fault = IsRecordFault fault
 -- ---- an open log
 
 -- an open log is changed
-pub record Makes (m : Meaning) (result : Result (Unit {0}) LogFault) (old new : View) : Type 0 where
+pub record Makes (m : Meaning) (result : Result (Unit {0}) LogFault) (old new : LogView) : Type 0 where
   pub stays_open : OnOk result (new.mode ≡ LogState.Open)
   pub contents : (d : Disk) → old.disk ≡ Some d → OnOk result (IsSomeAnd new.disk (λ e. e.visible ≡ m.bytes old.table d.visible))
   pub refusals : IfErr result IsChangeRefusal
@@ -112,7 +112,7 @@ pub record Makes (m : Meaning) (result : Result (Unit {0}) LogFault) (old new : 
 -- what is on disk then, of an honest folder: the change is made, or it isn't, or after a fault a crash decides; where an mtime is negative
 -- the log was opened; and bytes that are no log stay as they are, whatever the answer
 pub record ChangesDisk (m : Meaning) (result : Result (Unit {0}) ToolFault) (old new : Option Disk) : Type 0 where
-  pub leaves : (start : History) → BeginsAt start old → Leaves m.update start result new
+  pub leaves : (start : History) → BeginsAt start old → UpdateLeaves m.update start result new
   pub contents : (d : Disk) → old ≡ Some d → OnOk result (IsUpdated m.bytes d.visible new)
   pub unmade : (d : Disk) → old ≡ Some d → ¬ IsErrOf result Folder → OnErr result (IsUnmade d new)
   pub opened : (d : Disk) (index : ℕ) → old ≡ Some d → IsErrOf result (NegativeTime index) → IsOpenLeft d new
@@ -215,7 +215,7 @@ ChangesAsRead g reading meaning known result old new =
 pub record SaysAsRead {T : Type 0} (reading : List ℕ → FileReading T) (meaning : List T → Meaning) (known : Option (List ℕ))
     (result : Result (Unit {0}) ToolFault) (old new : FolderView) : Type 0 where
   pub leaves : (start : History) → BeginsAt start old.disk
-      → (IsErr result × (new ≡ old)) ⊎ AsSaid reading known (λ parts. Leaves (meaning parts).update start result new.disk)
+      → (IsErr result × (new ≡ old)) ⊎ AsSaid reading known (λ parts. UpdateLeaves (meaning parts).update start result new.disk)
   pub contents : (d : Disk) → old.disk ≡ Some d
       → OnOk result (AsSaid reading known (λ parts. IsUpdated (meaning parts).bytes d.visible new.disk))
   pub settled : OnOk result (IsTrue new.settled)

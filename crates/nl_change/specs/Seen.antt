@@ -5,7 +5,7 @@ use Rattle.nl_lines.specs.declared.version.LogVersion.TheVariants.{Five, Six, Se
 use Rattle.nl_folder.specs.declared.folder.Folder.{Ghosts}
 use Rattle.nl_folder.specs.Version.{seen_as_version}
 use Rattle.nl_session.specs.declared.state.LogState.TheVariants.{Closed}
-use Rattle.nl_session.specs.View.{View, view_of}
+use Rattle.nl_session.specs.LogView.{LogView, view_of}
 use Rattle.nl_change.specs.declared.seen.AnyLog.{AnyLog}
 use Rattle.nl_change.specs.declared.seen.AnyLog.TheVariants.{OfFive, OfSix, OfSeven}
 use Rattle.nl_change.specs.Calls.{FolderView, log_folder}
@@ -13,7 +13,7 @@ use Rattle.nl_change.specs.Calls.{FolderView, log_folder}
 -- the version, and what is seen as of it
 pub record Seen : Type 0 where
   pub version : LogVersion
-  pub view : View
+  pub view : LogView
 
 abbrev pub seen_of : {A B C : Type 0} {a : Ghosts A} {b : Ghosts B} {c : Ghosts C} → AnyLog A B C a b c → Seen
 seen_of (OfFive log) = record { version = Five; view = view_of log }

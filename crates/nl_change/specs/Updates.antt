@@ -42,9 +42,9 @@ abbrev pub MayRepresent : (History → Update) → History → List ℕ → Type
 MayRepresent update start bs = Represents bs start ⊎ Represents bs (history_kept start) ⊎ Represents bs (history_updated update start)
 
 -- what is found after the answer to an update of a log with this history
-abbrev pub Leaves : {E : Type 0} → (History → Update) → History → Result Unit E → Option Disk → Type 0
-Leaves update start (Ok done) disk = OfAllFound (λ bs. Represents bs (history_updated update start)) disk
-Leaves update start (Err fault) disk = OfAllFound (MayRepresent update start) disk
+abbrev pub UpdateLeaves : {E : Type 0} → (History → Update) → History → Result Unit E → Option Disk → Type 0
+UpdateLeaves update start (Ok done) disk = OfAllFound (λ bs. Represents bs (history_updated update start)) disk
+UpdateLeaves update start (Err fault) disk = OfAllFound (MayRepresent update start) disk
 
 -- the bytes that are made of opened ones and their table are the log, and every crash leaves them so
 abbrev pub IsUpdated : (List Entry → List ℕ → List ℕ) → List ℕ → Option Disk → Type 0

@@ -1,10 +1,10 @@
 //! What a line of `apply` asks for.
 ghost use Rattle.std.specs.Prelude.{◌++◌, ◌∷◌, codes, IfOk, IsErrOf};
-ghost use Rattle.nl_replay.specs.declared.script.Refusal.{Refusal};
+ghost use Rattle.nl_replay.specs.declared.script.LineRefusal.{LineRefusal};
 ghost use Rattle.nl_change.specs.Applying.{Asks, BeginsBy, BeginsNone};
 
 use nl_fields::{Name, name_fault, read_hex64, read_i32};
-use nl_replay::{Refusal, read_event_line, read_names, split_tab};
+use nl_replay::{LineRefusal, read_event_line, read_names, split_tab};
 use nl_session::Event;
 use std::alloc::Global;
 
@@ -44,8 +44,8 @@ pub fn read_asked(alloc: Global, line: &[u8]) -> Asked<'_>
         _ => match read_event_line(alloc, line) {
             Ok(Event::Crash) => Asked::Bad,
             Ok(event) => Asked::Does(event),
-            Err(Refusal::BadLine) => Asked::Bad,
-            Err(Refusal::OutOfMemory) => Asked::Unread,
+            Err(LineRefusal::BadLine) => Asked::Bad,
+            Err(LineRefusal::OutOfMemory) => Asked::Unread,
         },
     }
 }
@@ -66,24 +66,24 @@ fn begins(alloc: Global, fields: &[u8]) -> Asked<'_>
 {
     match read_begin(alloc, fields) {
         Ok(begin) => Asked::Begins(begin),
-        Err(Refusal::BadLine) => Asked::Bad,
-        Err(Refusal::OutOfMemory) => Asked::Unread,
+        Err(LineRefusal::BadLine) => Asked::Bad,
+        Err(LineRefusal::OutOfMemory) => Asked::Unread,
     }
 }
 
 // A moment, a hash, and names behind them.
-fn read_begin(alloc: Global, fields: &[u8]) -> Result<Begin, Refusal>
+fn read_begin(alloc: Global, fields: &[u8]) -> Result<Begin, LineRefusal>
     ensures value { IfOk result
         (λ begin. BeginsBy begin.moment_ms begin.hash begin.names.items fields.now) }
-    ensures bad_line { IsErrOf result Refusal.BadLine → BeginsNone fields.now }
+    ensures bad_line { IsErrOf result LineRefusal.BadLine → BeginsNone fields.now }
 {
     let (moment, rest) = split_tab(fields);
     let (Some(moment_ms), Some(rest)) = (read_i32(moment), rest) else {
-        return Err(Refusal::BadLine);
+        return Err(LineRefusal::BadLine);
     };
     let (hash, names) = split_tab(rest);
     let (Some(hash), Some(names)) = (read_hex64(hash), names) else {
-        return Err(Refusal::BadLine);
+        return Err(LineRefusal::BadLine);
     };
     Ok(Begin {
         moment_ms,

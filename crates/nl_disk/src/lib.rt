@@ -6,5 +6,5 @@ mod failure;
 mod renewal;
 
 pub use disk_folder::DiskFolder;
-pub use failure::{Failure, LogFile};
-pub use nl_system::{SystemFile, folder_part};
+pub use failure::Failure;
+pub use nl_system::{FileRole, SystemFile, folder_part};

@@ -2,7 +2,7 @@
 ghost use Rattle.std.specs.Prelude.{◌≡◌, ℕ, ◌<◌, ◌≤◌, ◌^◌, List, length, take, IsSome, IfSome, Some, SomeIff, ℤ, pos, FitsSigned};
 ghost use Rattle.std.specs.Int.{w32, w64};
 ghost use Rattle.nl_fields.specs.Digits.{IsDigit, IsDigits, IsDecimal};
-ghost use Rattle.nl_fields.specs.Fields.{Begins};
+ghost use Rattle.nl_fields.specs.Fields.{BeginsWith};
 
 use crate::digits::read_digits;
 
@@ -87,8 +87,8 @@ fn longest_digits(bytes: &[u8]) -> (u64, usize)
 // The number up to the first tab, and what follows the tab.
 #[inline(always)]
 fn split_digits(bytes: &[u8]) -> Option<(u64, &[u8])>
-    ensures found { IfSome result (λ r. Begins (IsDigits 10 r.0) bytes.now r.1.now) }
-    ensures accepts { (n : ℕ) (rest : List ℕ) → n < 10 ^ 19 → Begins (IsDigits 10 n) bytes.now rest
+    ensures found { IfSome result (λ r. BeginsWith (IsDigits 10 r.0) bytes.now r.1.now) }
+    ensures accepts { (n : ℕ) (rest : List ℕ) → n < 10 ^ 19 → BeginsWith (IsDigits 10 n) bytes.now rest
         → IsSome result }
 {
     let (number, len) = longest_digits(bytes);
@@ -117,9 +117,9 @@ fn to_i32(number: i64) -> Option<i32>
 /// The number up to the first tab, and what follows the tab.
 #[inline(always)]
 pub(crate) fn split_i64(bytes: &[u8]) -> Option<(i64, &[u8])>
-    ensures found { IfSome result (λ r. Begins (IsDecimal r.0) bytes.now r.1.now) }
+    ensures found { IfSome result (λ r. BeginsWith (IsDecimal r.0) bytes.now r.1.now) }
     ensures accepts { (n : ℤ) (rest : List ℕ) → FitsSigned w64 n
-        → Begins (IsDecimal n) bytes.now rest → IsSome result }
+        → BeginsWith (IsDecimal n) bytes.now rest → IsSome result }
 {
     let (first, digits) = bytes.split_first()?;
     if *first == b'-' {
@@ -137,9 +137,9 @@ pub(crate) fn split_i64(bytes: &[u8]) -> Option<(i64, &[u8])>
 /// The number that bytes begin with, where it fits an `i32`, and the bytes behind it.
 #[inline(always)]
 pub(crate) fn split_i32(bytes: &[u8]) -> Option<(i32, &[u8])>
-    ensures found { IfSome result (λ r. Begins (IsDecimal r.0) bytes.now r.1.now) }
+    ensures found { IfSome result (λ r. BeginsWith (IsDecimal r.0) bytes.now r.1.now) }
     ensures accepts { (n : ℤ) (rest : List ℕ) → FitsSigned w32 n
-        → Begins (IsDecimal n) bytes.now rest → IsSome result }
+        → BeginsWith (IsDecimal n) bytes.now rest → IsSome result }
 {
     let (number, rest) = split_i64(bytes)?;
     Some((to_i32(number)?, rest))

@@ -2,7 +2,7 @@ pub mod Limits
 pub mod Model
 pub mod SystemCalls
 pub mod Failures
-pub mod Hands
+pub mod Holdings
 pub mod SystemImages
 pub mod Covered
 pub mod LogFile

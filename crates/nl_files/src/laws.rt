@@ -4,18 +4,18 @@ ghost use Rattle.nl_files.specs.Model.{Model};
 ghost use Rattle.nl_folder.specs.CrashImages.{IsImage};
 ghost use Rattle.nl_files.specs.SystemImages.{SystemImage};
 ghost use Rattle.nl_files.specs.Covered.{Covers};
-ghost use Rattle.nl_files.specs.Hands.{Hands, Pad, disk_of, with_scratch, IsNone, IsNotAside};
+ghost use Rattle.nl_files.specs.Holdings.{Holdings, ScratchState, disk_of, with_scratch, IsNone, IsNotSpare};
 ghost use Rattle.nl_files.specs.Scratch.{KeepsAll};
 
 /// Writing what waits leaves the record.
 pub fn writing_leaves_the_record()
-    ensures { (m m_now : Model) (pad pad_now : Pad) (h : Hands) → h.scratch ≡ Some pad
-        → KeepsAll m pad m_now pad_now → IsNone pad.id m.log → IsNotAside pad.id h.other
-        → disk_of (with_scratch (Some pad_now) h) m_now ≡ disk_of h m }
+    ensures { (m m_now : Model) (scratch scratch_now : ScratchState) (h : Holdings) → h.scratch ≡ Some scratch
+        → KeepsAll m scratch m_now scratch_now → IsNone scratch.id m.log → IsNotSpare scratch.id h.other
+        → disk_of (with_scratch (Some scratch_now) h) m_now ≡ disk_of h m }
 {}
 
 /// What a crash may leave of a system is a crash image of the folder's record, where the folder knows what the name may show.
 pub fn a_crash_leaves_an_image_of_the_record()
-    ensures { (m : Model) (h : Hands) (settled : Bool) (bs : List ℕ) → Covers m h settled
+    ensures { (m : Model) (h : Holdings) (settled : Bool) (bs : List ℕ) → Covers m h settled
         → SystemImage m bs → IsImage (disk_of h m) bs }
 {}

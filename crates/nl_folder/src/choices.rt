@@ -84,7 +84,7 @@ pub fn amount(number: Option<u64>, least: u64, most: usize) -> usize
 }
 
 /// How long a text of `old` bytes stays: `len` bytes and as many more as the number says.
-pub fn kept(number: Option<u64>, len: u64, old: usize) -> usize
+pub fn kept_len(number: Option<u64>, len: u64, old: usize) -> usize
     ensures { result ≡ kept_len number len old }
 {
     match number {

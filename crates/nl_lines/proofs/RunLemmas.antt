@@ -3,7 +3,7 @@ use Rattle.std.proofs.Common.{◌≡◌, ◌+◌, ◌<◌, ◌∙◌, ℕ, List,
 use Rattle.std.specs.Prelude.{Option, None, Some, Ok, map}
 use Rattle.std.proofs.lemmas.Bool.{le-leb, lt-leb}
 use Rattle.nl_lines.specs.Split.{with_newline, joined, lines_of, rest_of, whole_len}
-use Rattle.nl_lines.specs.Lines.{Reader, IsReading, HasEnded, fresh, text_left, TakesLine, TakesRest, Answers, Gives, max_line, lent_rest}
+use Rattle.nl_lines.specs.Lines.{Reader, IsReading, HasEnded, fresh, text_left, TakesLine, TakesRest, AnswersNext, Gives, max_line, lent_rest}
 use Rattle.nl_lines.specs.Runs.{Shown, ALine, ALongLine, ARest, GivenInTurn, as_shown, line_shown, rest_shown, text_shown}
 use Rattle.nl_lines.specs.declared.window.Phase.{Phase}
 use Rattle.nl_lines.specs.declared.window.Phase.TheVariants.{Reading, Ended}
@@ -82,7 +82,7 @@ run_shows (Torn at len bytes ∷ lines) s a text last b end c reading is run non
     ∙ sym (behind_rest s a run.0 run.1 text is run.2.0 run.2.1)
 
 pub run_of_text : (text : List ℕ) (lines : List Line) (last : Reader) (b : Option (List ℕ)) (end : Reader) (c : Option (List ℕ))
-    → GivenInTurn fresh (Some text) lines last b → Answers last b end c (Ok None) → map as_shown lines ≡ text_shown text
+    → GivenInTurn fresh (Some text) lines last b → AnswersNext last b end c (Ok None) → map as_shown lines ≡ text_shown text
 run_of_text text lines last b end c run none =
     run_shows lines fresh (Some text) text last b end c refl refl run none
     ∙ ap (λ (n : ℕ). map line_shown (lines_of text) ++ rest_shown n (rest_of text)) {y = whole_len text} (omega arith)

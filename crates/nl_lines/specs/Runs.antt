@@ -1,7 +1,7 @@
 -- What calls of `next` show of a text, one after another.
 use Rattle.std.specs.Prelude.{ℕ, ◌≡◌, List, [], ◌∷◌, ◌++◌, length, map, nat_le, if◌then◌else◌, Option, Some, Ok}
 use Rattle.nl_lines.specs.Split.{lines_of, rest_of, whole_len}
-use Rattle.nl_lines.specs.Lines.{Reader, Answers, lent_rest, max_line}
+use Rattle.nl_lines.specs.Lines.{Reader, AnswersNext, lent_rest, max_line}
 use Rattle.nl_lines.specs.declared.lines.Line.{Line}
 use Rattle.nl_lines.specs.declared.lines.Line.TheVariants.{Whole, TooLong, Torn}
 
@@ -34,4 +34,4 @@ text_shown text = map line_shown (lines_of text) ++ rest_shown (whole_len text) 
 abbrev pub GivenInTurn : Reader → Option (List ℕ) → List Line → Reader → Option (List ℕ) → Type 0
 GivenInTurn old a [] new b = (new ≡ old) × (b ≡ a)
 GivenInTurn old a (line ∷ lines) new b =
-    (next : Reader) × (ahead : Option (List ℕ)) × Answers old a next ahead (Ok (Some line)) × GivenInTurn next ahead lines new b
+    (next : Reader) × (ahead : Option (List ℕ)) × AnswersNext old a next ahead (Ok (Some line)) × GivenInTurn next ahead lines new b

@@ -2,7 +2,7 @@
 ghost use Rattle.std.specs.Prelude.{◌≡◌, ◌⊎◌, ◌<◌, ◌≤◌, ◌+◌, ℕ, List, [], ◌∷◌, ◌++◌, length, take, drop, All, Option, None, Some, Ok, Err, map};
 ghost use Rattle.nl_lines.specs.Prefix.{IsPrefix};
 ghost use Rattle.nl_lines.specs.Split.{NoNewline, EndsInNewline, SplitsInto, with_newline, joined, lines_of, rest_of, whole_len, torn_len};
-ghost use Rattle.nl_lines.specs.Lines.{Reader, TakesLine, TakesRest, Answers, fresh, max_line, max_log, text_left};
+ghost use Rattle.nl_lines.specs.Lines.{Reader, TakesLine, TakesRest, AnswersNext, fresh, max_line, max_log, text_left};
 ghost use Rattle.nl_lines.specs.Runs.{GivenInTurn, as_shown, text_shown};
 ghost use Rattle.nl_lines.specs.Version.{as_version, as_version_from, digit_place};
 ghost use Rattle.nl_lines.specs.declared.lines.Line.{Line};
@@ -108,7 +108,7 @@ pub fn the_rest_is_last()
 pub fn a_run_shows_the_text()
     ensures { (text : List ℕ) (lines : List Line)
         (last : Reader) (b : Option (List ℕ)) (end : Reader) (c : Option (List ℕ))
-        → GivenInTurn fresh (Some text) lines last b → Answers last b end c (Ok None)
+        → GivenInTurn fresh (Some text) lines last b → AnswersNext last b end c (Ok None)
         → map as_shown lines ≡ text_shown text }
 {}
 
@@ -116,7 +116,7 @@ pub fn a_run_shows_the_text()
 pub fn a_text_that_is_shown_is_within_the_limit()
     ensures { (text : List ℕ) (lines : List Line)
         (last : Reader) (b : Option (List ℕ)) (end : Reader) (c : Option (List ℕ))
-        → GivenInTurn fresh (Some text) lines last b → Answers last b end c (Ok None)
+        → GivenInTurn fresh (Some text) lines last b → AnswersNext last b end c (Ok None)
         → length text ≤ max_log }
 {}
 
@@ -124,7 +124,7 @@ pub fn a_text_that_is_shown_is_within_the_limit()
 pub fn a_text_that_is_too_large_is_beyond_the_limit()
     ensures { (text : List ℕ) (lines : List Line)
         (last : Reader) (b : Option (List ℕ)) (end : Reader) (c : Option (List ℕ))
-        → GivenInTurn fresh (Some text) lines last b → Answers last b end c (Err LineFault.TooLarge)
+        → GivenInTurn fresh (Some text) lines last b → AnswersNext last b end c (Err LineFault.TooLarge)
         → max_log < length text }
 {}
 

@@ -6,9 +6,9 @@ ghost use Rattle.nl_table.specs.Log.{history_of};
 ghost use Rattle.nl_folder.specs.DiskState.{Disk, SameState};
 ghost use Rattle.nl_session.specs.Reopening.{Moved};
 ghost use Rattle.nl_session.specs.Runs.{BeginsAt, Ran, HeadlineOn, RestsThrough, OpensAtLast, TakesMemory, faults_of, HasRisen, HadMemory, Ends};
-ghost use Rattle.nl_files.specs.Start.{Begins, begun};
+ghost use Rattle.nl_files.specs.Start.{IsAtStart, begun};
 ghost use Rattle.nl_files.specs.FileFolder.{system_of, state_of, failure_count};
-ghost use Rattle.nl_files.specs.MemSystem.{no_files, rest_of};
+ghost use Rattle.nl_files.specs.MemSystem.{no_files, numbers_left};
 
 use nl_files::{CrashableSystem, FileFolder, MemSystem, Plan};
 use nl_session::{Event, Outcome, Reply, run_events};
@@ -21,7 +21,7 @@ pub fn run_over_system<S: CrashableSystem + Drop>(
     system: S,
     events: &[Event],
 ) -> Result<(FileFolder<S>, Vec<Reply>, Outcome), AllocError>
-    requires begins { ForSome (S.System.model system) Begins }
+    requires begins { ForSome (S.System.model system) IsAtStart }
     ensures headline { (start : History) → BeginsAt start (option_map begun (S.System.model system))
         → IfOk result (λ r. HeadlineOn start (zip events.now r.1.items) (state_of r.0).disk) }
     ensures run { (start : History) → BeginsAt start (option_map begun (S.System.model system))
@@ -79,7 +79,7 @@ pub fn run_in_memory(
         (state_of r.0)) }
     ensures untouched { IfOk result
         (λ r. r.1.items ≡ [] → ¬ IsSomeAnd (slice_get events.now 0) TakesMemory
-        → rest_of (system_of r.0).plan ≡ rest_of plan) }
+        → numbers_left (system_of r.0).plan ≡ numbers_left plan) }
 {
     run_over_system(alloc, MemSystem::new(alloc, plan), events)
 }

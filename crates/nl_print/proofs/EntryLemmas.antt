@@ -19,7 +19,7 @@ use Rattle.nl_table.specs.Log.{LogReading, Log, NotALog, OtherVersion, entries_o
 use Rattle.nl_table.specs.LogText.{lines_of_entries}
 use Rattle.nl_table.proofs.FirstLineLemmas.{log_of-lines}
 use Rattle.nl_table.proofs.LogLemmas.{is_versioned, rest_is_header}
-use Rattle.nl_print.specs.Streams.{Finds, IsSoFar, Streams, entry_text, entries_text_of, entries_text, texts_from}
+use Rattle.nl_print.specs.Streams.{StreamsSome, IsSoFar, Streams, entry_text, entries_text_of, entries_text, texts_from}
 use Rattle.nl_print.specs.Streams.{text_by_lines, text_by_parts}
 use Rattle.nl_print.specs.VersionOf.{as_five}
 
@@ -60,7 +60,7 @@ told_listed bytes = go (log_of bytes) refl
 same_text : text_by_lines entry_line no_rest ≡ entries_text_of
 same_text = λ i bytes. told_listed bytes i
 
-pub all_listed : (known w v : Option (List ℕ)) (any : Bool) → Finds (λ bs. text_by_lines entry_line no_rest (as_five bs)) known w v (Ok any)
+pub all_listed : (known w v : Option (List ℕ)) (any : Bool) → StreamsSome (λ bs. text_by_lines entry_line no_rest (as_five bs)) known w v (Ok any)
     → Streams (λ bs. entries_text_of (as_five bs)) known w v (Ok tt)
 all_listed known w v any found = subst (λ (text_of : List ℕ → Option (List ℕ)). Streams (λ bs. text_of (as_five bs)) known w v (Ok tt))
     same_text (found.0, found.1, found.2)

@@ -126,7 +126,7 @@ Streams text_of known old new (Ok done) = (text : List ℕ) × IsTextAsRead text
 Streams text_of known old new (Err fault) = IsSoFar text_of known old new
 
 -- a text is written as it is read, and the answer says whether there was any
-abbrev pub Finds : (List ℕ → Option (List ℕ)) → Option (List ℕ) → Option (List ℕ) → Option (List ℕ) → Result Bool ToolFault → Type 0
-Finds text_of known old new (Ok any) =
+abbrev pub StreamsSome : (List ℕ → Option (List ℕ)) → Option (List ℕ) → Option (List ℕ) → Option (List ℕ) → Result Bool ToolFault → Type 0
+StreamsSome text_of known old new (Ok any) =
     (text : List ℕ) × IsTextAsRead text_of known text × Appends old new text × (any ≡ nat_lt 0 (length text))
-Finds text_of known old new (Err fault) = IsSoFar text_of known old new
+StreamsSome text_of known old new (Err fault) = IsSoFar text_of known old new

@@ -52,7 +52,7 @@ pub fn check_as<R: Read + Drop, W: Write>(
     ensures faults { IfErr result IsLogFault }
 {
     let mut loaded = load_as(alloc, version, reader)?;
-    loaded.version = numbered(version, loaded.version);
+    loaded.version = version_number(version, loaded.version);
     let report = report_text(alloc, &loaded)?;
     write_out(report.as_bytes(), writer)
 }
@@ -72,13 +72,13 @@ pub fn check_any<R: Read + Drop, W: Write>(
     ensures faults { IfErr result IsLogFault }
 {
     let (version, mut loaded) = load_any(alloc, reader)?;
-    loaded.version = numbered(version, loaded.version);
+    loaded.version = version_number(version, loaded.version);
     let report = report_text(alloc, &loaded)?;
     write_out(report.as_bytes(), writer)
 }
 
 // The number of the version that a log has whose text is seen so.
-fn numbered(version: LogVersion, seen: u8) -> u8
+fn version_number(version: LogVersion, seen: u8) -> u8
     ensures { result ≡ numbered version seen }
 {
     match version {

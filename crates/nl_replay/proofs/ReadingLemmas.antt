@@ -24,8 +24,8 @@ use Rattle.nl_fields.specs.declared.name.NameFault.TheVariants as fault
 use Rattle.nl_fields.specs.EntryLine.{IsEntryLine, line_of}
 use Rattle.nl_fields.specs.Name.{HasFault}
 use Rattle.nl_fields.proofs.LineOfLemmas.{IsEntryLine-line_of}
-use Rattle.nl_replay.specs.declared.script.Refusal.{Refusal}
-use Rattle.nl_replay.specs.declared.script.Refusal.TheVariants.{OutOfMemory}
+use Rattle.nl_replay.specs.declared.script.LineRefusal.{LineRefusal}
+use Rattle.nl_replay.specs.declared.script.LineRefusal.TheVariants.{OutOfMemory}
 use Rattle.std.specs.Result.{IsErrAnd}
 use Rattle.std.proofs.lemmas.Option.{none-some}
 
@@ -155,12 +155,12 @@ only_memory name (fault.BadByte at) has named = absurd (none-some _ (sym named.a
 only_memory name fault.TooLong has named = absurd (omega (arith, named.short, has.0))
 only_memory name fault.OutOfMemory has named = refl
 
-pub memory_kept : {T : Type 0} (r : Result T Refusal) (why : Refusal) → IsErrAnd r (λ refusal. refusal ≡ why) → why ≡ OutOfMemory
+pub memory_kept : {T : Type 0} (r : Result T LineRefusal) (why : LineRefusal) → IsErrAnd r (λ refusal. refusal ≡ why) → why ≡ OutOfMemory
     → IfErr r (λ refusal. refusal ≡ OutOfMemory)
 memory_kept (Ok value) why is memory = absurd is
 memory_kept (Err refusal) why is memory = is ∙ memory
 
-pub memory_alone : {T : Type 0} (r : Result T Refusal) (name : List ℕ) (why : NameFault)
+pub memory_alone : {T : Type 0} (r : Result T LineRefusal) (name : List ℕ) (why : NameFault)
     → IsErrAnd r (λ refusal. (refusal ≡ OutOfMemory) ↔ (why ≡ fault.OutOfMemory)) → HasFault name why → IsName name
     → IfErr r (λ refusal. refusal ≡ OutOfMemory)
 memory_alone (Ok value) name why is has named = absurd is

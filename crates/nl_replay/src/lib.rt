@@ -7,4 +7,4 @@ mod script;
 
 pub use replay::replay_to;
 pub use reply_line::{MAX_REPLY_LINE, append_reply};
-pub use script::{Refusal, read_event_line, read_names, split_tab};
+pub use script::{LineRefusal, read_event_line, read_names, split_tab};

@@ -1,7 +1,7 @@
 //! The command `replay`.
 ghost use Rattle.std.specs.Prelude.{◌≡◌, [], true, false, Some, IfErr, IfOk};
 ghost use Rattle.nl_folder.specs.DiskState.{durable_disk, empty_file};
-ghost use Rattle.nl_folder.specs.MemFolder.{state_of, failure_count, choices_of};
+ghost use Rattle.nl_folder.specs.MemFolder.{mem_state_of, failure_count, choices_of};
 ghost use Rattle.nl_replay.specs.Faults.{IsReplayFault};
 ghost use Rattle.nl_texts.specs.Output.{Prints};
 ghost use Rattle.nl_replay.specs.Replay.{IsReplayOf, IsReplayText, printed, reply_words, told_by};
@@ -32,7 +32,7 @@ pub fn replay_to<R: Read + Drop, W: Write>(
 
 // A folder in memory whose log is empty, which is told what the script sets, and the events.
 fn set_up(alloc: Global, script: Script) -> (MemFolder, Vec<Event>)
-    ensures state { state_of result.0
+    ensures state { mem_state_of result.0
         ≡ record {
           disk = Some (durable_disk [] empty_file);
           is_settled = true;

@@ -9,7 +9,7 @@ ghost use Rattle.nl_fields.specs.Name.{IsName};
 ghost use Rattle.nl_folder.specs.declared.fuse.Call.{Call};
 ghost use Rattle.nl_replay.specs.Faults.{IsFaultOfLine, IsScriptFault};
 ghost use Rattle.nl_fields.specs.declared.name.NameFault.{NameFault};
-ghost use Rattle.nl_replay.specs.declared.script.Refusal.TheVariants.{OutOfMemory};
+ghost use Rattle.nl_replay.specs.declared.script.LineRefusal.TheVariants.{OutOfMemory};
 ghost use Rattle.nl_replay.specs.declared.script.Word.{Word};
 ghost use Rattle.nl_texts.specs.Files.{OfBytes, file_lines};
 ghost use Rattle.nl_fields.specs.declared.entry.Entry.{Entry};
@@ -56,34 +56,34 @@ pub enum Word {
 
 /// Why a line isn't taken.
 #[derive(Clone, Copy, Drop)]
-pub enum Refusal {
+pub enum LineRefusal {
     BadLine,
     OutOfMemory,
 }
 
-impl From<AllocError> for Refusal {
+impl From<AllocError> for LineRefusal {
     ghost from_gives = { λ _ refusal. refusal ≡ OutOfMemory };
 
-    fn from(_error: AllocError) -> Refusal {
-        Refusal::OutOfMemory
+    fn from(_error: AllocError) -> LineRefusal {
+        LineRefusal::OutOfMemory
     }
 }
 
-impl<T: Drop> From<AllocFailed<T>> for Refusal {
+impl<T: Drop> From<AllocFailed<T>> for LineRefusal {
     ghost from_gives = { λ _ refusal. refusal ≡ OutOfMemory };
 
-    fn from(_error: AllocFailed<T>) -> Refusal {
-        Refusal::OutOfMemory
+    fn from(_error: AllocFailed<T>) -> LineRefusal {
+        LineRefusal::OutOfMemory
     }
 }
 
-impl From<NameFault> for Refusal {
+impl From<NameFault> for LineRefusal {
     ghost from_gives = { λ fault refusal. (refusal ≡ OutOfMemory) ↔ (fault ≡ NameFault.OutOfMemory) };
 
-    fn from(fault: NameFault) -> Refusal {
+    fn from(fault: NameFault) -> LineRefusal {
         match fault {
-            NameFault::OutOfMemory => Refusal::OutOfMemory,
-            NameFault::Empty | NameFault::BadByte(_) | NameFault::TooLong => Refusal::BadLine,
+            NameFault::OutOfMemory => LineRefusal::OutOfMemory,
+            NameFault::Empty | NameFault::BadByte(_) | NameFault::TooLong => LineRefusal::BadLine,
         }
     }
 }
@@ -146,8 +146,8 @@ fn take_line(alloc: Global, line: &[u8], number: u64, script: &mut Script) -> Re
     }
     match script.take(alloc, line) {
         Ok(()) => Ok(()),
-        Err(Refusal::BadLine) => Err(ToolFault::BadLine(number)),
-        Err(Refusal::OutOfMemory) => Err(ToolFault::Memory),
+        Err(LineRefusal::BadLine) => Err(ToolFault::BadLine(number)),
+        Err(LineRefusal::OutOfMemory) => Err(ToolFault::Memory),
     }
 }
 
@@ -165,12 +165,12 @@ impl Script {
     }
 
     // Takes in a setting, where it is the first of its kind and no event came yet, or an event.
-    fn take(&mut self, alloc: Global, line: &[u8]) -> Result<(), Refusal>
+    fn take(&mut self, alloc: Global, line: &[u8]) -> Result<(), LineRefusal>
         ensures ok { OnOk result (SaysMore self.old.events.items self.new.events.items line.now) }
     {
         let (word, rest) = split_tab(line);
         let Some(word) = read_word(word) else {
-            return Err(Refusal::BadLine);
+            return Err(LineRefusal::BadLine);
         };
         let may_set = self.events.is_empty();
         match (word, rest) {
@@ -193,7 +193,7 @@ impl Script {
 }
 
 /// The event that a line says, as one of a script.
-pub fn read_event_line(alloc: Global, line: &[u8]) -> Result<Event, Refusal>
+pub fn read_event_line(alloc: Global, line: &[u8]) -> Result<Event, LineRefusal>
     ensures line { IfOk result (λ event. event_line event ≡ line.now) }
     ensures some { IfOk result KeepsSome }
     ensures accepts { (event : Event) → IsLineOf event line.now
@@ -203,7 +203,7 @@ pub fn read_event_line(alloc: Global, line: &[u8]) -> Result<Event, Refusal>
     let (word, rest) = split_tab(line);
     match read_word(word) {
         Some(word) => read_event(alloc, word, rest),
-        None => Err(Refusal::BadLine),
+        None => Err(LineRefusal::BadLine),
     }
 }
 
@@ -249,7 +249,7 @@ fn word_named(name: &str) -> Option<Word>
     }
 }
 
-fn read_event(alloc: Global, word: Word, rest: Option<&[u8]>) -> Result<Event, Refusal>
+fn read_event(alloc: Global, word: Word, rest: Option<&[u8]>) -> Result<Event, LineRefusal>
     ensures line { IfOk result
         (λ event. event_line event ≡ text_of_word word ++ behind_tab rest.entry) }
     ensures some { IfOk result KeepsSome }
@@ -267,12 +267,12 @@ fn read_event(alloc: Global, word: Word, rest: Option<&[u8]>) -> Result<Event, R
         (Word::Sync, None) => Ok(Event::Sync),
         (Word::Stop, None) => Ok(Event::Stop),
         (Word::Crash, None) => Ok(Event::Crash),
-        _ => Err(Refusal::BadLine),
+        _ => Err(LineRefusal::BadLine),
     }
 }
 
 // The names that a recompaction keeps: all of them where none is given.
-fn read_keep(alloc: Global, text: Option<&[u8]>) -> Result<KeepList, Refusal>
+fn read_keep(alloc: Global, text: Option<&[u8]>) -> Result<KeepList, LineRefusal>
     ensures line { IfOk result (λ keep. keep_fields keep ≡ behind_tab text.entry) }
     ensures some { IfOk result NamesSome }
     ensures accepts { SaysNames (behind_tab text.entry)
@@ -286,7 +286,7 @@ fn read_keep(alloc: Global, text: Option<&[u8]>) -> Result<KeepList, Refusal>
 }
 
 /// The names that stand between tabs.
-pub fn read_names(alloc: Global, text: &[u8]) -> Result<Vec<Name>, Refusal>
+pub fn read_names(alloc: Global, text: &[u8]) -> Result<Vec<Name>, LineRefusal>
     ensures line { IfOk result (λ names. flat_map name_field names.items ≡ name_field text.now) }
     ensures names { IfOk result (λ names. Each IsName names.items) }
     ensures accepts { SaysNames (name_field text.now)
@@ -303,7 +303,7 @@ pub fn read_names(alloc: Global, text: &[u8]) -> Result<Vec<Name>, Refusal>
 }
 
 // Pairs of an mtime and a name.
-fn read_times(alloc: Global, text: Option<&[u8]>) -> Result<Vec<(Name, i64)>, Refusal>
+fn read_times(alloc: Global, text: Option<&[u8]>) -> Result<Vec<(Name, i64)>, LineRefusal>
     ensures line { IfOk result (λ times. flat_map time_fields times.items ≡ behind_tab text.entry) }
     ensures accepts { SaysTimes (behind_tab text.entry)
         → IfErr result (λ refusal. refusal ≡ OutOfMemory) }
@@ -314,7 +314,7 @@ fn read_times(alloc: Global, text: Option<&[u8]>) -> Result<Vec<(Name, i64)>, Re
     'pairs: while let Some(text) = left {
         let (time, rest) = split_tab(text);
         let (Some(mtime), Some(rest)) = (read_i64(time), rest) else {
-            return Err(Refusal::BadLine);
+            return Err(LineRefusal::BadLine);
         };
         let (name, rest) = split_tab(rest);
         pairs.push((Name::read(alloc, name)?, mtime))?;
@@ -323,29 +323,29 @@ fn read_times(alloc: Global, text: Option<&[u8]>) -> Result<Vec<(Name, i64)>, Re
     Ok(pairs)
 }
 
-fn read_record(alloc: Global, line: &[u8]) -> Result<Entry, Refusal>
+fn read_record(alloc: Global, line: &[u8]) -> Result<Entry, LineRefusal>
     ensures line { IfOk result (λ e. line_of e ≡ line.now) }
     ensures accepts { (e : Entry) → IsEntryLine e line.now
         → IfErr result (λ refusal. refusal ≡ OutOfMemory) }
 {
     let Some(entry) = read_entry(line) else {
-        return Err(Refusal::BadLine);
+        return Err(LineRefusal::BadLine);
     };
     Ok(Entry::of(alloc, &entry)?)
 }
 
-fn read_numbers(alloc: Global, text: &[u8]) -> Result<Vec<u64>, Refusal> {
+fn read_numbers(alloc: Global, text: &[u8]) -> Result<Vec<u64>, LineRefusal> {
     let mut numbers = Vec::new(alloc);
     for number in text.split(|b| *b == b'\t') {
-        numbers.push(read_number(number).ok_or(Refusal::BadLine)?)?;
+        numbers.push(read_number(number).ok_or(LineRefusal::BadLine)?)?;
     }
     Ok(numbers)
 }
 
-fn read_fuse(text: &[u8]) -> Result<Fuse, Refusal> {
+fn read_fuse(text: &[u8]) -> Result<Fuse, LineRefusal> {
     let (word, rest) = split_tab(text);
-    let call = read_call(word).ok_or(Refusal::BadLine)?;
-    let nth = rest.and_then(read_number).ok_or(Refusal::BadLine)?;
+    let call = read_call(word).ok_or(LineRefusal::BadLine)?;
+    let nth = rest.and_then(read_number).ok_or(LineRefusal::BadLine)?;
     Ok(Fuse { call, nth })
 }
 

@@ -51,12 +51,17 @@ pub fn summary_to<R: Read + Drop, W: Write>(
     let text = read_entries(alloc, reader)?;
     let count = unfinished_in(alloc, text.as_slice())?;
     let recorded = without_intents(alloc, text)?;
-    let lines = last_told(alloc, most, count, recorded.as_slice())?;
+    let lines = last_build_lines(alloc, most, count, recorded.as_slice())?;
     write_out(lines.as_slice(), writer)
 }
 
 // What is told of the last build.
-fn last_told(alloc: Global, most: usize, count: u64, text: &[u8]) -> Result<Vec<u8>, AllocError>
+fn last_build_lines(
+    alloc: Global,
+    most: usize,
+    count: u64,
+    text: &[u8],
+) -> Result<Vec<u8>, AllocError>
     ensures value { (es : List Entry) → All IsEntry es → text.now ≡ lines_of_entries es
         → IfOk result (λ lines. lines.items ≡ last_summary most count (builds es)) }
 {

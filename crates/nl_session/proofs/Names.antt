@@ -42,7 +42,7 @@ pub use Rattle.nl_folder.specs.CrashImages.{IsImageOf, IsDisk, IsImage}
 pub use Rattle.nl_folder.specs.DiskState.{Disk, durable_disk, empty_file, File, durable_file}
 pub use Rattle.nl_session.specs.Answers.{HasCounted, Answered, CallOf, Exchanged, events_of, replies_of, StandsSound}
 pub use Rattle.nl_session.specs.Effects.{LeavesOk, LeavesFault, Leaves, Rewrites, RewriteFaults}
-pub use Rattle.nl_session.specs.{Grows.EndsClear, Grows.Grew, View.View, View.view_of, View.StandsAt, View.HasStayed, View.StepsBy}
+pub use Rattle.nl_session.specs.{Grows.EndsClear, Grows.Grew, LogView.LogView, LogView.view_of, LogView.StandsAt, LogView.HasStayed, LogView.StepsBy}
 pub use Rattle.nl_session.specs.{Represents.Represents, Represents.Agrees, Represents.RepresentsPrefix, Machine.gained_state}
 pub use Rattle.nl_session.specs.{Machine.moved_to, Machine.IsFirstNegative}
 pub use Rattle.nl_session.specs.Headline.{Exchange, update_of, makes_durable, is_crash, is_kept, acks, Holds, NoneClears, MayStand}

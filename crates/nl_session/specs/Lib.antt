@@ -2,7 +2,7 @@ pub mod Machine
 pub mod Represents
 pub mod States
 pub mod Opened
-pub mod View
+pub mod LogView
 pub mod Intents
 pub mod Calls
 pub mod Parts

@@ -9,11 +9,11 @@ folder_of_split None = codes "."
 folder_of_split (Some split) = if length split.0 == 0 then codes "/" else split.0
 
 -- the folder of a path: the text before its last slash, `/` where that is empty, and `.` where it has no slash
-abbrev pub folder_of : List ℕ → List ℕ
-folder_of path = folder_of_split (rsplit_once slash path)
+abbrev pub folder_path_of : List ℕ → List ℕ
+folder_path_of path = folder_of_split (rsplit_once slash path)
 
 -- the paths of a log, of its scratch, and of the folder in which both stand
 pub record ArePathsOf (path : List ℕ) (paths : Paths) : Type 0 where
   pub log : string_bytes paths.log ≡ path
   pub scratch : string_bytes paths.scratch ≡ path ++ codes ".recompact"
-  pub folder : string_bytes paths.folder ≡ folder_of path
+  pub folder : string_bytes paths.folder ≡ folder_path_of path

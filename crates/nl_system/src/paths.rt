@@ -1,6 +1,6 @@
 //! Where the files of a log stand.
 ghost use Rattle.std.specs.Prelude.{◌≡◌, IfOk};
-ghost use Rattle.nl_system.specs.Paths.{ArePathsOf, folder_of};
+ghost use Rattle.nl_system.specs.Paths.{ArePathsOf, folder_path_of};
 
 use std::alloc::{AllocError, Global};
 
@@ -31,7 +31,7 @@ impl Paths {
 
 /// The folder in which the file of this path stands.
 pub fn folder_part(path: &str) -> &str
-    ensures value { result.now ≡ folder_of path.now }
+    ensures value { result.now ≡ folder_path_of path.now }
 {
     match path.rfind('/') {
         None => ".",

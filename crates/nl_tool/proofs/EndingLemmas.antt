@@ -6,8 +6,8 @@ use Rattle.clap.specs.declared.error.Error.{Error}
 use Rattle.nl_texts.specs.declared.fault.ToolFault.{ToolFault}
 use Rattle.nl_tool.specs.Ending.{IsEnded, IsStatusBy, IsStatusOfKind, NamesFinding, status_after}
 use Rattle.nl_tool.specs.Faults.{CanFind}
-use Rattle.nl_tool.specs.declared.program.Outcome.{Outcome}
-use Rattle.nl_tool.specs.declared.program.Outcome.TheVariants.{Done, Found}
+use Rattle.nl_tool.specs.declared.program.Verdict.{Verdict}
+use Rattle.nl_tool.specs.declared.program.Verdict.TheVariants.{Done, Found}
 use Rattle.nl_words.specs.CommandLine.{IsSaid}
 use Rattle.nl_words.specs.declared.command_line.Words.{Words}
 use Rattle.nl_words.specs.declared.command_line.Words.TheVariants.{Show, Check, Hash, Entries, Damage, Doubt, Builds, Summary, HashFile, Record, Recompact, Restat}
@@ -41,13 +41,13 @@ names_finding (Replay script) entered said asks = absurd asks
 names_finding (Apply log script) entered said asks = absurd asks
 
 -- the status after a command
-pub command_ended : (kinds : Kinds) (w : Words) (entered : Option (Text × List Row)) (answer : Result Outcome ToolFault) (status : ℕ)
+pub command_ended : (kinds : Kinds) (w : Words) (entered : Option (Text × List Row)) (answer : Result Verdict ToolFault) (status : ℕ)
     → kinds ≡ [] → IsSaid w entered → IfOk answer (λ outcome. outcome ≡ Found → CanFind w) → status ≡ status_after answer
     → IsStatusBy kinds entered status
 command_ended kinds w entered answer status none said only is =
     subst (λ (ks : Kinds). IsStatusBy ks entered status) (sym none) (ended answer only is)
   where
-    ended : (answer : Result Outcome ToolFault) → IfOk answer (λ outcome. outcome ≡ Found → CanFind w)
+    ended : (answer : Result Verdict ToolFault) → IfOk answer (λ outcome. outcome ≡ Found → CanFind w)
         → status ≡ status_after answer → IsEnded entered status
     ended (Ok Done) only is = inl (inl is)
     ended (Ok Found) only is = inr (is, names_finding w entered said (only refl))

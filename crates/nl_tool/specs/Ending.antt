@@ -4,11 +4,11 @@ use Rattle.clap.specs.Words.{IsAmong, Kinds, Row, Text}
 use Rattle.clap.specs.declared.error.kind.ErrorKind.{ErrorKind}
 use Rattle.clap.specs.declared.error.kind.ErrorKind.TheVariants as kind
 use Rattle.nl_texts.specs.declared.fault.ToolFault.{ToolFault}
-use Rattle.nl_tool.specs.declared.program.Outcome.{Outcome}
-use Rattle.nl_tool.specs.declared.program.Outcome.TheVariants.{Done, Found}
+use Rattle.nl_tool.specs.declared.program.Verdict.{Verdict}
+use Rattle.nl_tool.specs.declared.program.Verdict.TheVariants.{Done, Found}
 
 -- the status after a command
-abbrev pub status_after : Result Outcome ToolFault → ℕ
+abbrev pub status_after : Result Verdict ToolFault → ℕ
 status_after (Ok Done) = 0
 status_after (Ok Found) = 3
 status_after (Err fault) = 1

@@ -3,10 +3,10 @@ use Rattle.std.specs.Prelude.{⊤, ◌≡◌, ◌++◌, [], List, ℕ, Option, N
 use Rattle.std.specs.Int.{Width, w32, w64}
 use Rattle.nl_fields.specs.Digits.{IsDecimal}
 use Rattle.std.specs.Borrow.{Bor}
-use Rattle.nl_system.specs.Paths.{folder_of}
+use Rattle.nl_system.specs.Paths.{folder_path_of}
 use Rattle.nl_disk.specs.declared.failure.Failure.{Failure}
-use Rattle.nl_disk.specs.declared.failure.LogFile.{LogFile}
-use Rattle.nl_disk.specs.declared.failure.LogFile.TheVariants as file
+use Rattle.nl_system.specs.declared.failed_call.FileRole.{FileRole}
+use Rattle.nl_system.specs.declared.failed_call.FileRole.TheVariants as file
 use Rattle.nl_texts.specs.Faults.{fault_text}
 use Rattle.nl_texts.specs.declared.fault.ToolFault.{ToolFault}
 use Rattle.nl_texts.specs.declared.fault.ToolFault.TheVariants as fault
@@ -30,7 +30,7 @@ use Rattle.nl_tool.specs.declared.reason.Missing.{Missing}
 abbrev pub place_text : Place → List ℕ
 place_text (at.Log path) = codes "LOG " ++ path.now
 place_text (at.Scratch log) = codes "scratch " ++ (log.now ++ codes ".recompact")
-place_text (at.Folder log) = codes "folder " ++ folder_of log.now
+place_text (at.Folder log) = codes "folder " ++ folder_path_of log.now
 place_text (at.Keep path) = codes "KEEP " ++ path.now
 place_text (at.Times path) = codes "TIMES " ++ path.now
 place_text (at.Script path) = codes "SCRIPT " ++ path.now
@@ -104,13 +104,13 @@ read_place (Record log start end mtime name command) = None
 read_place (Repair log) = Some (at.Log log)
 
 -- a file of the log at a path
-abbrev pub file_place : Bor (List ℕ) → LogFile → Place
+abbrev pub file_place : Bor (List ℕ) → FileRole → Place
 file_place log file.Log = at.Log log
 file_place log file.Scratch = at.Scratch log
 file_place log file.Folder = at.Folder log
 
 -- a file of the log that the words change, or what they read a log from
-abbrev pub log_place : Words → LogFile → Option Place
+abbrev pub log_place : Words → FileRole → Option Place
 log_place (Record log start end mtime name command) file = Some (file_place log file)
 log_place (Recompact log keep) file = Some (file_place log file)
 log_place (Restat log times) file = Some (file_place log file)

@@ -81,7 +81,7 @@ where
 {
     let asked = number_of(asked);
     let (folder, answer) = record_command(alloc, asked, folder, entry, command.as_bytes());
-    noted(folder, answer, notes)
+    note_folder(folder, answer, notes)
 }
 
 pub fn recompact_in<R: Files + Clock + Eprint>(
@@ -122,7 +122,7 @@ where
     let asked = number_of(asked);
     let names = NotedReader::new(names, &mut notes.heard);
     let (left, answer) = recompact_on(alloc, AskedFolder { asked, folder }, names);
-    noted(left.folder, answer, notes)
+    note_folder(left.folder, answer, notes)
 }
 
 pub fn restat_in<R: Files + Clock + Eprint>(
@@ -163,7 +163,7 @@ where
     let asked = number_of(asked);
     let pairs = NotedReader::new(pairs, &mut notes.heard);
     let (left, answer) = restat_on(alloc, AskedFolder { asked, folder }, pairs);
-    noted(left.folder, answer, notes)
+    note_folder(left.folder, answer, notes)
 }
 
 pub fn apply_in<R: Runtime>(
@@ -203,7 +203,7 @@ where
     let reader = NotedReader::new(reader, &mut notes.heard);
     let (folder, answer) = apply_on(alloc, number_of(asked), folder, reader, &mut out);
     notes.written = out.failure;
-    noted(folder, answer, notes)
+    note_folder(folder, answer, notes)
 }
 
 pub fn repair_in<R: Files + Clock + Eprint>(
@@ -239,11 +239,11 @@ where
 {
     let asked = number_of(asked);
     let (left, answer) = repair_on(alloc, AskedFolder { asked, folder });
-    noted(left.folder, answer, notes)
+    note_folder(left.folder, answer, notes)
 }
 
 // What was answered over a folder, of which it is noted why it last failed, and how what isn't taken for a log begins.
-pub fn noted<R: Files + Clock + Drop>(
+pub fn note_folder<R: Files + Clock + Drop>(
     folder: DiskFolder<R>,
     answer: Result<(), ToolFault>,
     notes: &mut Notes,

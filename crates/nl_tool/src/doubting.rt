@@ -6,11 +6,11 @@ ghost use Rattle.nl_print.specs.Faults.{IsLogFault};
 ghost use Rattle.nl_print.specs.VersionOf.{as_five};
 ghost use Rattle.nl_table.specs.Log.{NotALog, OtherVersion, log_of};
 ghost use Rattle.nl_texts.specs.declared.fault.ToolFault.{ToolFault};
-ghost use Rattle.nl_tool.specs.declared.program.Outcome.{Outcome};
+ghost use Rattle.nl_tool.specs.declared.program.Verdict.{Verdict};
 
 use crate::files::open;
 use crate::notes::{NotedReader, NotedWriter, Notes};
-use crate::program::Outcome;
+use crate::program::Verdict;
 use nl_doubt::{FileState, OutputFiles, doubt_to};
 use nl_texts::ToolFault;
 use std::alloc::Global;
@@ -64,7 +64,7 @@ pub fn doubt_in<R: Runtime>(
     alloc: Global,
     log: Option<&str>,
     notes: &mut Notes,
-) -> Result<Outcome, ToolFault>
+) -> Result<Verdict, ToolFault>
     ensures faults { IfErr result IsLogFault }
 {
     let mut out = NotedWriter::new(io::writer(rt));
@@ -96,12 +96,12 @@ fn tell_doubts<R: Read + Drop, F: OutputFiles, W: Write>(
     reader: R,
     files: &F,
     writer: &mut W,
-) -> Result<Outcome, ToolFault>
+) -> Result<Verdict, ToolFault>
     ensures found { IfOk result
         (λ outcome.
         (text : List ℕ) × IsDoubtText (R.remaining reader) (F.states files.now) text
         × Appends (W.contents writer.old) (W.contents writer.new) text
-        × ((outcome ≡ Outcome.Found) ↔ (0 < length text))) }
+        × ((outcome ≡ Verdict.Found) ↔ (0 < length text))) }
     ensures not_a_log { IsErrOf result ToolFault.NotALog
         → IfSome (R.remaining reader) (λ bs. log_of (as_five bs) ≡ NotALog) }
     ensures other_version { IsErrOf result ToolFault.OtherVersion
@@ -109,8 +109,8 @@ fn tell_doubts<R: Read + Drop, F: OutputFiles, W: Write>(
     ensures faults { IfErr result IsLogFault }
 {
     match doubt_to(alloc, reader, files, writer) {
-        Ok(true) => Ok(Outcome::Found),
-        Ok(false) => Ok(Outcome::Done),
+        Ok(true) => Ok(Verdict::Found),
+        Ok(false) => Ok(Verdict::Done),
         Err(fault) => Err(fault),
     }
 }

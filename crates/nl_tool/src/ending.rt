@@ -7,7 +7,7 @@ ghost use Rattle.nl_tool.specs.Ending.{status_after, IsStatusBy, IsStatusOfKind}
 ghost use Rattle.nl_words.specs.CommandLine.{fault_in, nlog};
 
 use crate::notes::Notes;
-use crate::program::{Outcome, run_noted};
+use crate::program::{Verdict, run_noted};
 use crate::reason::{Refusal, note_of, refusal_of};
 use clap::Error;
 use clap::error::ErrorKind;
@@ -64,18 +64,18 @@ fn end(
     rt: &impl Eprint,
     alloc: Global,
     line: &CommandLine<'_>,
-    answer: Result<Outcome, ToolFault>,
+    answer: Result<Verdict, ToolFault>,
     notes: &Notes,
 ) -> u8
     ensures status { result ≡ status_after answer }
     ensures bound { result ≤ 3 }
 {
     match answer {
-        Ok(Outcome::Done) => {
+        Ok(Verdict::Done) => {
             say_note(rt, line, notes);
             DONE
         }
-        Ok(Outcome::Found) => FOUND,
+        Ok(Verdict::Found) => FOUND,
         Err(fault) => say(rt, &refusal_of(alloc, line, fault, notes)),
     }
 }

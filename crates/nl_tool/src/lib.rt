@@ -37,7 +37,7 @@ pub use nl_report::{builds_to, summary_to};
 pub use nl_texts::{ToolFault, status_of};
 pub use nl_words::{AskedVersion, CommandLine, Words, read_words};
 pub use notes::{Beginning, Heard, NotedReader, NotedWriter, Notes};
-pub use program::{Outcome, run, run_noted};
+pub use program::{Verdict, run, run_noted};
 pub use reason::{Missing, Place, Reason, Refusal, Why, note_of, refusal_of};
 pub use version_choice::number_of;
 pub use waiting::Waiting;

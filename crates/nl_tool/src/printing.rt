@@ -14,7 +14,7 @@ ghost use Rattle.nl_tool.specs.Faults.{IsPrintingFault, IsReadingFault};
 
 use crate::files::{open, open_log};
 use crate::notes::{NotedReader, NotedWriter, Notes};
-use crate::program::Outcome;
+use crate::program::Verdict;
 use nl_lines::LogVersion;
 use nl_print::{
     check_any, check_as, check_to, damage_to, entries_to, hash_as, hash_file_as, hash_file_to,
@@ -52,10 +52,10 @@ pub fn stream_log<R: Runtime>(
     log: Option<&str>,
     missing_ok: bool,
     notes: &mut Notes,
-) -> Result<Outcome, ToolFault>
+) -> Result<Verdict, ToolFault>
     ensures faults { IfErr result IsLogFault }
     ensures outcome { IfOk result
-        (λ outcome. outcome ≡ Outcome.Found → streaming ≡ Streaming.Damage) }
+        (λ outcome. outcome ≡ Verdict.Found → streaming ≡ Streaming.Damage) }
 {
     let Some(path) = log else {
         return stream_noted(rt, alloc, streaming, rt.reader(), notes);
@@ -72,10 +72,10 @@ fn stream_noted<P: Print, R: Read + Drop>(
     streaming: Streaming,
     reader: R,
     notes: &mut Notes,
-) -> Result<Outcome, ToolFault>
+) -> Result<Verdict, ToolFault>
     ensures faults { IfErr result IsLogFault }
     ensures outcome { IfOk result
-        (λ outcome. outcome ≡ Outcome.Found → streaming ≡ Streaming.Damage) }
+        (λ outcome. outcome ≡ Verdict.Found → streaming ≡ Streaming.Damage) }
 {
     let mut out = NotedWriter::new(io::writer(rt));
     let reader = NotedReader::new(reader, &mut notes.heard);
@@ -89,15 +89,15 @@ fn stream_of<R: Read + Drop, W: Write>(
     streaming: Streaming,
     reader: R,
     writer: &mut W,
-) -> Result<Outcome, ToolFault>
+) -> Result<Verdict, ToolFault>
     ensures faults { IfErr result IsLogFault }
     ensures outcome { IfOk result
-        (λ outcome. outcome ≡ Outcome.Found → streaming ≡ Streaming.Damage) }
+        (λ outcome. outcome ≡ Verdict.Found → streaming ≡ Streaming.Damage) }
 {
     match streaming {
         Streaming::Entries => {
             entries_to(alloc, reader, writer)?;
-            Ok(Outcome::Done)
+            Ok(Verdict::Done)
         }
         Streaming::Damage => tell_damage(alloc, reader, writer),
     }
@@ -108,12 +108,12 @@ fn tell_damage<R: Read + Drop, W: Write>(
     alloc: Global,
     reader: R,
     writer: &mut W,
-) -> Result<Outcome, ToolFault>
+) -> Result<Verdict, ToolFault>
     ensures found { MatchResult result
         (λ outcome.
         (text : List ℕ) × IsTextAsRead (λ bs. damage_text_of (as_five bs)) (R.remaining reader) text
         × Appends (W.contents writer.old) (W.contents writer.new) text
-        × ((outcome ≡ Outcome.Found) ↔ (0 < length text)))
+        × ((outcome ≡ Verdict.Found) ↔ (0 < length text)))
         (λ _. IsSoFar (λ bs. damage_text_of (as_five bs)) (R.remaining reader)
         (W.contents writer.old) (W.contents writer.new)) }
     ensures not_a_log { IsErrOf result ToolFault.NotALog
@@ -123,8 +123,8 @@ fn tell_damage<R: Read + Drop, W: Write>(
     ensures faults { IfErr result IsLogFault }
 {
     match damage_to(alloc, reader, writer) {
-        Ok(true) => Ok(Outcome::Found),
-        Ok(false) => Ok(Outcome::Done),
+        Ok(true) => Ok(Verdict::Found),
+        Ok(false) => Ok(Verdict::Done),
         Err(fault) => Err(fault),
     }
 }

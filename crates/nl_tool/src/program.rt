@@ -17,7 +17,7 @@ use std::rt::Runtime;
 
 /// How a command ended that was done.
 #[derive(Clone, Copy, Debug, PartialEq, Eq, Drop)]
-pub enum Outcome {
+pub enum Verdict {
     Done,
     /// `damage` found some, or `doubt` an output.
     Found,
@@ -26,12 +26,12 @@ pub enum Outcome {
 /// Does what a command line says, with standard output for its text. LOG, FILE or SCRIPT is read, or standard input where it is
 /// left out. A log that is missing is read as one without bytes by the words that make or show it, and by the others where
 /// `--missing-ok` is given.
-pub fn run<R: Runtime>(rt: &R, alloc: Global, line: &CommandLine<'_>) -> Result<Outcome, ToolFault>
+pub fn run<R: Runtime>(rt: &R, alloc: Global, line: &CommandLine<'_>) -> Result<Verdict, ToolFault>
 where
     R::File: SystemFile,
     ensures accepts { OnOk result (CanBeDone line.now.words) }
     ensures outcome { IfOk result
-        (λ outcome. outcome ≡ Outcome.Found → CanFind line.now.words) }
+        (λ outcome. outcome ≡ Verdict.Found → CanFind line.now.words) }
     ensures faults { IfErr result (IsFaultOf line.now.words) }
 {
     run_noted(rt, alloc, line, &mut Notes::new(alloc, false))
@@ -43,12 +43,12 @@ pub fn run_noted<R: Runtime>(
     alloc: Global,
     line: &CommandLine<'_>,
     notes: &mut Notes,
-) -> Result<Outcome, ToolFault>
+) -> Result<Verdict, ToolFault>
 where
     R::File: SystemFile,
     ensures accepts { OnOk result (CanBeDone line.now.words) }
     ensures outcome { IfOk result
-        (λ outcome. outcome ≡ Outcome.Found → CanFind line.now.words) }
+        (λ outcome. outcome ≡ Verdict.Found → CanFind line.now.words) }
     ensures faults { IfErr result (IsFaultOf line.now.words) }
 {
     let version = line.version;
@@ -103,5 +103,5 @@ where
         Words::Apply { log, script } => apply_in(rt, alloc, or_auto(version), log, script, notes),
     };
     done?;
-    Ok(Outcome::Done)
+    Ok(Verdict::Done)
 }

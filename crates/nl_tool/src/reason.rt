@@ -1,7 +1,7 @@
 //! Why something was refused, as it is said where `--verbose` asks for it: which file it is of, and the reason.
 ghost use Rattle.std.specs.Prelude.{◌≡◌, None, Some, IfSome, IsSome, false, true};
 ghost use Rattle.std.specs.Int.{w32, w64};
-ghost use Rattle.nl_disk.specs.declared.failure.LogFile.{LogFile};
+ghost use Rattle.nl_system.specs.declared.failed_call.FileRole.{FileRole};
 ghost use Rattle.nl_tool.specs.declared.reason.Place.{Place};
 ghost use Rattle.nl_tool.specs.Looks.{look_of};
 ghost use Rattle.nl_tool.specs.Reasons.{IsBadNumberOf, IsByteAt, IsLongNameOf, IsLookAt, IsNoteFor, IsNumber, IsReasonFor, IsSystem, IsVersion, file_place, heard_of, is_known, log_place, missing_text, place_text, read_place, reason_text, refusal_text, why_text};
@@ -9,7 +9,7 @@ ghost use Rattle.nl_tool.specs.Reasons.{IsBadNumberOf, IsByteAt, IsLongNameOf, I
 use crate::looks::{Look, look_of, start_of};
 use crate::notes::Notes;
 use crate::wrong::{LineFault, NumberFault, number_fault};
-use nl_disk::{Failure, LogFile, folder_part};
+use nl_disk::{Failure, FileRole, folder_part};
 use nl_fields::{read_i32, read_i64};
 use nl_texts::ToolFault;
 use nl_words::{CommandLine, Words};
@@ -184,12 +184,12 @@ pub fn note_of<'a>(line: &CommandLine<'a>, notes: &Notes) -> Option<Missing<'a>>
     ensures quiet { line.now.verbose ≡ false → result ≡ None }
     ensures note { IfSome result (IsNoteFor line.now.words notes.now.is_missing) }
     ensures whenever { line.now.verbose ≡ true → notes.now.is_missing ≡ true
-        → IsSome (log_place line.now.words LogFile.Log) → IsSome result }
+        → IsSome (log_place line.now.words FileRole.Log) → IsSome result }
 {
     if !line.verbose || !notes.is_missing {
         return None;
     }
-    match log_place(&line.words, LogFile::Log) {
+    match log_place(&line.words, FileRole::Log) {
         Some(place) => Some(Missing { place }),
         None => None,
     }
@@ -235,7 +235,7 @@ fn why_of<'a>(alloc: Global, words: &Words<'a>, fault: ToolFault, notes: &Notes)
             place: read_place(words)?,
             reason: Reason::Negative(notes.heard.lines.line_of_pair(place)?),
         }),
-        ToolFault::OtherVersion => version_of(alloc, words, notes),
+        ToolFault::OtherVersion => version_why(alloc, words, notes),
         ToolFault::NotALog => looks_of(alloc, words, notes),
         ToolFault::BadNumber => bad_number(words),
         ToolFault::EmptyName => Some(of_name(Reason::NoBytes)),
@@ -264,10 +264,10 @@ fn failed_of<'a>(alloc: Global, place: Place<'a>, failure: &Failure) -> Option<W
 
 // What the file of the words looks like that is no log.
 fn looks_of<'a>(alloc: Global, words: &Words<'a>, notes: &Notes) -> Option<Why<'a>>
-    ensures place { IfSome result (λ why. log_place words.now LogFile.Log ≡ Some why.place) }
+    ensures place { IfSome result (λ why. log_place words.now FileRole.Log ≡ Some why.place) }
     ensures reason { IfSome result (λ why. IsLookAt (heard_of notes.now) why.reason) }
 {
-    let place = log_place(words, LogFile::Log)?;
+    let place = log_place(words, FileRole::Log)?;
     let reason = look_reason(alloc, notes.heard.beginning.bytes())?;
     Some(Why { place, reason })
 }
@@ -384,14 +384,14 @@ fn said_of<'a>(alloc: Global, place: Place<'a>, error: io::Error) -> Option<Why<
 }
 
 // Which version the log of the words names.
-fn version_of<'a>(alloc: Global, words: &Words<'a>, notes: &Notes) -> Option<Why<'a>>
-    ensures place { IfSome result (λ why. log_place words.now LogFile.Log ≡ Some why.place) }
+fn version_why<'a>(alloc: Global, words: &Words<'a>, notes: &Notes) -> Option<Why<'a>>
+    ensures place { IfSome result (λ why. log_place words.now FileRole.Log ≡ Some why.place) }
     ensures reason { IfSome result (λ why. IsVersion why.reason) }
 {
     let digits = named_version(notes.heard.beginning.bytes())?;
     let version = str::from_utf8(digits).ok()?;
     Some(Why {
-        place: log_place(words, LogFile::Log)?,
+        place: log_place(words, FileRole::Log)?,
         reason: Reason::Version(String::from_str(alloc, version).ok()?),
     })
 }
@@ -453,7 +453,7 @@ fn read_place<'a>(words: &Words<'a>) -> Option<Place<'a>>
 }
 
 // A file of the log that the words name, or what they read a log from.
-fn log_place<'a>(words: &Words<'a>, file: LogFile) -> Option<Place<'a>>
+fn log_place<'a>(words: &Words<'a>, file: FileRole) -> Option<Place<'a>>
     ensures { result ≡ log_place words.now file }
 {
     match *words {
@@ -473,12 +473,12 @@ fn log_place<'a>(words: &Words<'a>, file: LogFile) -> Option<Place<'a>>
     }
 }
 
-fn file_place(log: &str, file: LogFile) -> Place<'_>
+fn file_place(log: &str, file: FileRole) -> Place<'_>
     ensures { result ≡ file_place log.entry file }
 {
     match file {
-        LogFile::Log => Place::Log(log),
-        LogFile::Scratch => Place::Scratch(log),
-        LogFile::Folder => Place::Folder(log),
+        FileRole::Log => Place::Log(log),
+        FileRole::Scratch => Place::Scratch(log),
+        FileRole::Folder => Place::Folder(log),
     }
 }

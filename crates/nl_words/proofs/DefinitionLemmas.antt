@@ -13,7 +13,7 @@ use Rattle.clap.specs.declared.error.Error.{Error}
 use Rattle.clap.specs.Walk.{answers_to, nothing_held, stop_after, walk_from}
 use Rattle.clap.proofs.OnLiterals.{clap_on_literals}
 use Rattle.clap.proofs.WalkLemmas.{both}
-use Rattle.nl_words.specs.CommandLine.{HasEach, IsCommandName, IsWhole, nlog, required_of, with_command}
+use Rattle.nl_words.specs.CommandLine.{HasEach, IsCommandName, IsComplete, nlog, required_of, with_command}
 use Rattle.nl_words.proofs.FullLemmas.{is_plain_rule}
 use Rattle.nl_words.proofs.RequiredLemmas.{has_required, level_required, none_fails}
 
@@ -47,12 +47,12 @@ each_there (id ∷ ids) rows e =
     (parts.0, each_there ids rows parts.1)
 
 -- what a parse without a fault entered
-entered_whole : (a : App) (stop : Option (Text × List Text)) → AllOwn a.subs → entered_fault a stop ≡ [] → IsWhole (entered a stop)
+entered_whole : (a : App) (stop : Option (Text × List Text)) → AllOwn a.subs → entered_fault a stop ≡ [] → IsComplete (entered a stop)
 entered_whole a None own e = tt
 entered_whole a (Some p) own e = go (find (λ s. answers_to p.0 (label_of s)) a.subs) (found_own _ a.subs own) e
   where
     go : (o : Option Shape) → IfSome o IsOwn → option_map_or (λ s. level_fault s [] nothing_held p.1 false []) o [] ≡ []
-        → IsWhole (option_map (λ s. rows_at s p.1) o)
+        → IsComplete (option_map (λ s. rows_at s p.1) o)
     go None own e = tt
     go (Some s) own e =
         let there = level_required s p.1 own.plain own.negates e in
@@ -63,7 +63,7 @@ unfolding clap_on_literals
 built_own = (record { named = inl refl; plain = refl; negates = refl; needs = λ rows h. refl }, (record { named = inr (inl refl); plain = refl; negates = refl; needs = λ rows h. refl }, (record { named = inr (inr (inl refl)); plain = refl; negates = refl; needs = λ rows h. h }, (record { named = inr (inr (inr (inl refl))); plain = refl; negates = refl; needs = λ rows h. refl }, (record { named = inr (inr (inr (inr (inl refl)))); plain = refl; negates = refl; needs = λ rows h. refl }, (record { named = inr (inr (inr (inr (inr (inl refl))))); plain = refl; negates = refl; needs = λ rows h. refl }, (record { named = inr (inr (inr (inr (inr (inr (inl refl)))))); plain = refl; negates = refl; needs = λ rows h. refl }, (record { named = inr (inr (inr (inr (inr (inr (inr (inl refl))))))); plain = refl; negates = refl; needs = λ rows h. refl }, (record { named = inr (inr (inr (inr (inr (inr (inr (inr (inl refl)))))))); plain = refl; negates = refl; needs = λ rows h. refl }, (record { named = inr (inr (inr (inr (inr (inr (inr (inr (inr (inl refl))))))))); plain = refl; negates = refl; needs = λ rows h. h }, (record { named = inr (inr (inr (inr (inr (inr (inr (inr (inr (inr (inl refl)))))))))); plain = refl; negates = refl; needs = λ rows h. h }, (record { named = inr (inr (inr (inr (inr (inr (inr (inr (inr (inr (inr (inl refl))))))))))); plain = refl; negates = refl; needs = λ rows h. h }, (record { named = inr (inr (inr (inr (inr (inr (inr (inr (inr (inr (inr (inr (inl refl)))))))))))); plain = refl; negates = refl; needs = λ rows h. h }, (record { named = inr (inr (inr (inr (inr (inr (inr (inr (inr (inr (inr (inr (inr (inl refl))))))))))))); plain = refl; negates = refl; needs = λ rows h. refl }, (record { named = inr (inr (inr (inr (inr (inr (inr (inr (inr (inr (inr (inr (inr (inr (refl)))))))))))))); plain = refl; negates = refl; needs = λ rows h. h }, tt)))))))))))))))
 
 -- a command that was entered without a fault is one of the program's, and has what it requires
-pub nlog_whole : (words : List Text) → fault_of nlog words ≡ [] → IsWhole (subcommand_of nlog words)
+pub nlog_whole : (words : List Text) → fault_of nlog words ≡ [] → IsComplete (subcommand_of nlog words)
 nlog_whole words e =
     let top = (built nlog).top in
     let names = names_of (built nlog) in

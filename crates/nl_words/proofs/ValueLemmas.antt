@@ -12,7 +12,8 @@ use Rattle.clap.specs.declared.parser.matches.ArgMatches.{ArgMatches}
 use Rattle.clap.specs.declared.parser.matches.ArgMatches.TheViews.{out-ArgMatches, out-SubCommand}
 use Rattle.clap.specs.declared.parser.matches.SubCommand.{SubCommand}
 use Rattle.nl_words.specs.declared.command_line.Words.{Words}
-use Rattle.nl_words.specs.CommandLine.{HasEach, IsSaid, IsWhole, lines_id, lines_rule, missing_id, missing_rule, required_of, verbose_id, verbose_rule}
+use Rattle.nl_words.specs.CommandLine.{HasEach, IsSaid, IsComplete, lines_id, lines_rule, missing_id, missing_rule, required_of, verbose_id}
+use Rattle.nl_words.specs.CommandLine.{verbose_rule}
 use Rattle.nl_words.specs.CommandLine.{version_id, version_rule}
 
 -- a reference to a text that is there
@@ -42,9 +43,9 @@ entered_is m name rows e f = go (out-ArgMatches m).subcommand e f
 -- what the entered subcommand has, by its name
 pub entered_has : (m : ArgMatches) (name : Text) (rows : List Row) → Some name ≡ subcommand_name_of m
     → Some rows ≡ option_map (λ p. p.1) (subcommand_rows (out-ArgMatches m).subcommand)
-    → IsWhole (subcommand_rows_of m) → (known : Text) → name ≡ known → HasEach (required_of known) rows
+    → IsComplete (subcommand_rows_of m) → (known : Text) → name ≡ known → HasEach (required_of known) rows
 entered_has m name rows e f whole known is =
-    let here = subst IsWhole (entered_is m name rows e f) whole in
+    let here = subst IsComplete (entered_is m name rows e f) whole in
     subst (λ n. HasEach (required_of n) rows) is here.1
 
 -- what it says, by its name

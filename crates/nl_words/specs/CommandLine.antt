@@ -173,9 +173,9 @@ HasEach [] rows = ⊤
 HasEach (id ∷ ids) rows = (is_some (first_of id rows) ≡ true) × HasEach ids rows
 
 -- a command that was entered is one of the program's, and has what it can't be without
-abbrev pub IsWhole : Option (Text × List Row) → Type 0
-IsWhole None = ⊤
-IsWhole (Some p) = IsCommandName p.0 × HasEach (required_of p.0) p.1
+abbrev pub IsComplete : Option (Text × List Row) → Type 0
+IsComplete None = ⊤
+IsComplete (Some p) = IsCommandName p.0 × HasEach (required_of p.0) p.1
 
 -- a value that may be left out
 abbrev pub IsGiven : Text → List Row → Option (Bor Text) → Type 0

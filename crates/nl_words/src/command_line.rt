@@ -1,7 +1,8 @@
 //! The command that a command line names, and the values that it gives.
 ghost use Rattle.std.specs.Prelude.{◌≡◌, codes, is_some, map, string_bytes, true, IfErr, IfOk};
 ghost use Rattle.clap.specs.Words.{first_of, found_of, kind_of, rows_of, subcommand_of, subcommand_rows_of, FailsBy};
-ghost use Rattle.nl_words.specs.CommandLine.{allows_missing, asked_text, asks_reason, fault_in, is_flagged, nlog, required_of, version_fault, HasEach, IsAsked, IsGiven, IsSaid, IsThere, IsWhole};
+ghost use Rattle.nl_words.specs.CommandLine.{allows_missing, asked_text, asks_reason, fault_in, is_flagged, nlog, required_of, version_fault};
+ghost use Rattle.nl_words.specs.CommandLine.{HasEach, IsAsked, IsGiven, IsSaid, IsThere, IsComplete};
 
 use crate::definition::nlog_command;
 use crate::version::{AskedVersion, tells_version, version_for};
@@ -76,9 +77,9 @@ pub fn read_words<'a>(alloc: Global, words: &'a [String]) -> Result<CommandLine<
     ensures accepts { FailsBy (fault_in (map string_bytes words.entry.now)) result }
 {
     let matches = nlog_command(alloc)?.try_get_matches_from(words)?;
-    let version = asked(alloc, &matches)?;
+    let version = version_in(alloc, &matches)?;
     Ok(CommandLine {
-        words: said(&matches),
+        words: words_in(&matches),
         version,
         verbose: is_verbose(&matches),
         missing_ok: is_missing_ok(&matches),
@@ -113,7 +114,7 @@ fn is_flagged(matches: &ArgMatches<'_>, id: &str) -> bool
 }
 
 // The version that is asked for, where one is.
-fn asked<'a>(alloc: Global, matches: &ArgMatches<'a>) -> Result<Option<AskedVersion>, Error>
+fn version_in<'a>(alloc: Global, matches: &ArgMatches<'a>) -> Result<Option<AskedVersion>, Error>
     ensures value { IfOk result
         (λ version. IsAsked version (asked_text (subcommand_rows_of matches.now))) }
     ensures accepts { FailsBy (version_fault (subcommand_rows_of matches.now)) result }
@@ -151,8 +152,8 @@ fn told_of(alloc: Global, command: &str, text: &str) -> Result<String, AllocErro
 }
 
 // The command that was entered, with its values.
-fn said<'a>(matches: &ArgMatches<'a>) -> Words<'a>
-    requires { IsWhole (subcommand_rows_of matches.now) }
+fn words_in<'a>(matches: &ArgMatches<'a>) -> Words<'a>
+    requires { IsComplete (subcommand_rows_of matches.now) }
     ensures value { IsSaid result (subcommand_rows_of matches.now) }
 {
     let Some((name, inner)) = matches.subcommand() else {

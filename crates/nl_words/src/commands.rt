@@ -25,6 +25,7 @@ const HASH_VERSION: &str =
     "5, 6 or 7: the version of the logs that hold the hash; auto: 5, as where it is left out";
 
 const LINES: &str = "How many lines each list has at most: 10 where it is left out; 0 for none";
+
 const AUTO_VERSION: &str =
     "auto alone: the version is the one that LOG's first line names, as where it is left out";
 

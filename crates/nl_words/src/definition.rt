@@ -115,5 +115,7 @@ fn with_verbose<'a>(alloc: Global, command: Command<'a>) -> Result<Command<'a>, 
 {
     let flag = Arg::new(alloc, "verbose").long("verbose").short('v');
     let flag = flag.action(ArgAction::SetTrue);
-    command.arg(flag.help("Says which file or value a refusal is of, and why; also that LOG is missing, or locked"))
+    command.arg(flag.help(
+        "Says which file or value a refusal is of, and why; also that LOG is missing, or locked",
+    ))
 }

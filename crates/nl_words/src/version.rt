@@ -14,7 +14,7 @@ pub enum AskedVersion {
 }
 
 // The version that is written so.
-pub fn version_of(text: &str) -> Option<AskedVersion>
+pub fn asked_version_of(text: &str) -> Option<AskedVersion>
     ensures value { IfSome result (λ version. text.now ≡ version_text version) }
     ensures accepts { is_some result ≡ is_version_text text.now }
 {
@@ -33,7 +33,7 @@ pub fn version_for(command: &str, text: &str) -> Option<AskedVersion>
     ensures accepts { is_some result ≡ is_version_for command.now text.now }
 {
     if !tells_version(command) {
-        return version_of(text);
+        return asked_version_of(text);
     }
     if text == "auto" {
         Some(AskedVersion::Auto)

@@ -1,6 +1,6 @@
 use Rattle.std.proofs.Common.{FitsSigned, w32, rules}
 use Rattle.std.proofs.lemmas.Int.{to_z-of_z}
-use Rattle.nl_session.specs.View.{view_of}
+use Rattle.nl_session.specs.LogView.{view_of}
 use Rattle.nl_change.proofs.BeginLemmas.{has_begun}
 use Rattle.nl_change.proofs.answers.begin_on.Goals as goal
 

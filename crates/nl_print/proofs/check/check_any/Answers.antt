@@ -10,7 +10,7 @@ returns-clause-prints g c =
     let known = g.R.Read.remaining c.args.reader in
     let loaded = c.in_ok-version.loaded in
     let text = c.as_bytes.ensures.value ∙ c.in_ok-report.ensures.value
-    ∙ ap (λ version. report version loaded.total (length loaded.table) loaded.skipped loaded.torn) c.numbered.ensures in
+    ∙ ap (λ version. report version loaded.total (length loaded.table) loaded.skipped loaded.torn) c.version_number.ensures in
     prints_text (IsReportOfAny known) c.as_bytes.result.now _ _ c.write_out.result
     (subst (IsReportOfAny known) (sym text) (any_checked known _ _ c.in_ok-version.ensures.loaded)) c.write_out.ensures.ok
     c.write_out.ensures.prefix c.write_out.ensures.faults

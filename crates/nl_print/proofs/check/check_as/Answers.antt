@@ -10,7 +10,7 @@ returns-clause-prints g c =
     let loaded = c.in_ok-loaded.loaded in
     let is = checked_text c.args.version known loaded c.in_ok-loaded.ensures.loaded c.in_ok-loaded.ensures.asked in
     let text = c.as_bytes.ensures.value ∙ c.in_ok-report.ensures.value
-    ∙ ap (λ version. report version loaded.total (length loaded.table) loaded.skipped loaded.torn) c.numbered.ensures in
+    ∙ ap (λ version. report version loaded.total (length loaded.table) loaded.skipped loaded.torn) c.version_number.ensures in
     prints_text (IsTextAsRead (check_text_as c.args.version) known) c.as_bytes.result.now _ _ c.write_out.result
     (subst (IsTextAsRead (check_text_as c.args.version) known) (sym text) is) c.write_out.ensures.ok c.write_out.ensures.prefix
     c.write_out.ensures.faults

@@ -2,17 +2,17 @@ use Rattle.std.proofs.Common.{◌≡◌, ◌∙◌, List, Option, ap, map, strin
 use Rattle.clap.specs.Words.{App, HasKind, Row, Text, app_of, fault_of, is_simple, is_simple_and_free, subcommand_of}
 use Rattle.nl_words.proofs.DefinitionLemmas.{fails_on, nlog_is_free, nlog_is_simple, nlog_whole}
 use Rattle.nl_words.proofs.AskedLemmas.{first_kind, no_kind, second_kind}
-use Rattle.nl_words.specs.CommandLine.{IsAsked, IsSaid, IsWhole, allows_missing, asked_text, asks_reason, fault_in, nlog, version_fault}
+use Rattle.nl_words.specs.CommandLine.{IsAsked, IsSaid, IsComplete, allows_missing, asked_text, asks_reason, fault_in, nlog, version_fault}
 use Rattle.nl_words.proofs.command_line.read_words.Goals as goal
 
-pub said-requires : goal.said-requires
-said-requires c =
+pub words_in-requires : goal.words_in-requires
+words_in-requires c =
     let words = map string_bytes c.args.words.now in
     let is_nlog : app_of c.in_ok-nlog_command.field-0 ≡ nlog = c.in_ok-nlog_command.ensures in
     let e = (c.in_ok-matches.ensures.matches (ap is_simple is_nlog ∙ nlog_is_simple)).1 ∙ ap (λ (a : App). subcommand_of a words) is_nlog in
     let free = sym (ap (λ (a : App). fault_of a words) is_nlog)
     ∙ c.in_ok-matches.ensures.kinds (ap is_simple_and_free is_nlog ∙ nlog_is_free) in
-    subst IsWhole (sym e) (nlog_whole words free)
+    subst IsComplete (sym e) (nlog_whole words free)
 
 pub returns-in_err-matches-clause-accepts : goal.returns-in_err-matches-clause-accepts
 returns-in_err-matches-clause-accepts c =
@@ -43,7 +43,7 @@ returns-clause-value c =
     let words = map string_bytes c.args.words.now in
     let is_nlog : app_of c.in_ok-nlog_command.field-0 ≡ nlog = c.in_ok-nlog_command.ensures in
     let e = (c.in_ok-matches.ensures.matches (ap is_simple is_nlog ∙ nlog_is_simple)).1 ∙ ap (λ (a : App). subcommand_of a words) is_nlog in
-    subst (IsSaid c.said.result) e c.said.ensures.value
+    subst (IsSaid c.words_in.result) e c.words_in.ensures.value
 
 pub returns-clause-version : goal.returns-clause-version
 returns-clause-version c =

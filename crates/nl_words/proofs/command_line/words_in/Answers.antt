@@ -2,9 +2,9 @@ use Rattle.std.proofs.Common.{◌≡◌, codes, refl, subst, sym}
 use Rattle.clap.specs.Words.{found_of, rows_of}
 use Rattle.nl_words.proofs.DefinitionLemmas.{only_show}
 use Rattle.nl_words.proofs.ValueLemmas.{entered_has, entered_is, entered_says}
-use Rattle.nl_words.specs.CommandLine.{IsSaid, IsWhole}
+use Rattle.nl_words.specs.CommandLine.{IsSaid, IsComplete}
 use Rattle.nl_words.specs.declared.command_line.Words.TheVariants.{Builds, Check, Damage, Doubt, Entries, HashFile, Replay, Show}
-use Rattle.nl_words.proofs.command_line.said.Goals as goal
+use Rattle.nl_words.proofs.command_line.words_in.Goals as goal
 
 pub hash_words-requires : goal.hash_words-requires
 hash_words-requires c =
@@ -131,7 +131,7 @@ returns-in_default-name c =
     let met = c.in-Some in
     let other = c.in_default-name in
     let e = entered_is c.args.matches.now met.name.now (rows_of (found_of met.inner.now)) met.ensures.name met.ensures.rows in
-    let whole = subst IsWhole e c.requires in
+    let whole = subst IsComplete e c.requires in
     let is_show : met.name.now ≡ codes "show" = only_show _ whole.0 other.not-check other.not-hash other.not-entries other.not-damage
     other.not-doubt other.not-builds other.not-summary other.not-text other.not-record other.not-recompact other.not-restat other.not-repair other.not-replay other.not-apply in
     record { value = subst (IsSaid (Show c.optional-in_default-name.result)) (sym e) (is_show, c.optional-in_default-name.ensures) }

@@ -2,7 +2,7 @@ use Rattle.std.proofs.Common.{◌∙◌, ap, option_map, Bor}
 use Rattle.clap.specs.Words.{Text, found_of, rows_of}
 use Rattle.nl_words.proofs.AskedLemmas.{asked_from, given_text, none_asked, none_wrong, some_asked, some_right, some_wrong}
 use Rattle.nl_words.proofs.ValueLemmas.{entered_is}
-use Rattle.nl_words.proofs.command_line.asked.Goals as goal
+use Rattle.nl_words.proofs.command_line.version_in.Goals as goal
 
 pub returns-in_default-optional-clause-value : goal.returns-in_default-optional-clause-value
 returns-in_default-optional-clause-value c =

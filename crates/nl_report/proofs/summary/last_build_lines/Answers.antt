@@ -3,7 +3,7 @@ use Rattle.std.proofs.lemmas.Result.{IfOk-weaker}
 use Rattle.nl_report.specs.Builds.{builds}
 use Rattle.nl_report.specs.Summary.{slowest_line}
 use Rattle.nl_report.proofs.SummaryLemmas.{last_is_told, none_told}
-use Rattle.nl_report.proofs.summary.last_told.Goals as goal
+use Rattle.nl_report.proofs.summary.last_build_lines.Goals as goal
 
 pub returns-in_default : goal.returns-in_default
 returns-in_default c = record {
