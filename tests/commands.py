@@ -499,7 +499,7 @@ WORDS = [
     (["damage", "--log-version=auto", "--missing-ok", "missing"], 0, b"", b""),
     (["doubt", "--log-version", "auto", "seven"], 3, b"missing\tout\n", b""),
     (["builds", "--log-version", "auto", "seven"], 0, NEW_BUILT, b""),
-    (["summary", "--log-version", "auto", "six"], 0, ONE_SUMMED % b"out", b""),
+    (["summary", "--log-version", "auto", "six"], 0, ONE_SUMMED % ((b"out",) * 3), b""),
     (["repair", "--log-version", "auto", "eight"], 1, b"", OTHER_VERSION),
     (["apply", "--log-version", "auto", "six", "asks"], 0, b"ok\nnone\nnone\n" + NEW_SHOWN + b"end\n", b""),
     (["repair", "--log-version", "7"], 2, b"", NO_LOG_NAME.replace(b"repair <LOG>", b"repair --log-version <VERSION> <LOG>")),

@@ -284,7 +284,7 @@ def long_lines(chance):
             yield b"1\t2\t3\t%s\tf\n" % (b"x" * (MAX_NAME + 1))
         if at % 40 == 33:
             yield b"y" * (MAX_LINE + 1 + at) + b"\n"
-        yield line_of(long_name(chance.randrange(400)), (-at, at, at * 2**40, at * 2**50))
+        yield line_of(long_name(chance.randrange(400)), (-at, at, (at + 1) * 2**40, at * 2**50))
 
 
 def log_of_table(table):
@@ -301,7 +301,8 @@ def try_long(trials, program, room):
         entry = entry_of(line[:-1], 5)
         if entry is None:
             skipped += 1
-            damaged.append(b"%d\t%s\t%d\t-\t-\n" % (number, b"long" if len(line) > MAX_LINE + 1 else b"skipped", len(line) - 1))
+            what = b"long" if len(line) > MAX_LINE + 1 else b"skipped"
+            damaged.append(b"%d\t%s\t%d\t-\t%s\n" % (number, what, len(line) - 1, named_first(line[:-1])))
         else:
             table[entry[0]] = entry[1]
     damaged.append(b"%d\ttorn\t%d\t-\t-\n" % (number + 1, len(torn)))

@@ -46,7 +46,8 @@ def effects_wanted(case):
         write = f"write LOG.recompact {sum(len(it) for it in lines_of(Log(text)))}"
         return ["look LOG", "make LOG.recompact", "lock LOG.recompact", write, "sync LOG.recompact", "look LOG", "rename", *sync]
 
-    wanted = ["look LOG"] + (["make LOG"] if case.start is None else [])
+    # (a look that finds no file has no effect)
+    wanted = ["make LOG"] if case.start is None else ["look LOG"]
     wanted += ["lock LOG", "look LOG", *sync]
     if log.torn:
         wanted += [f"cut LOG {log.whole}", *sync]
