@@ -186,18 +186,21 @@ pub fn damage_command<'a>(alloc: Global) -> Result<Command<'a>, AllocError>
             "\
 One line for each: LINE, WHAT, LENGTH, OUTPUT and FIRST with a tab between neighbours.
 
-LINE    its number; the first line of LOG is 1, and isn't looked at
+LINE    its number; 1 is the first line of LOG, which is told only where it is torn
 WHAT    `skipped`: it is no entry; `long`: it has more than 262143 bytes; `torn`: the bytes after
         the last newline
 LENGTH  its bytes, without the newline
-OUTPUT  the output that its last five fields name, the first of them from some digit on, where
-        these are an entry, as one that was written behind a torn line; else `-`
+OUTPUT  the output of the entry at the line's end, also where that was written behind a torn one;
+        else `-`
 FIRST   the output that Ninja takes the line for an entry of, between the third tab and the
         fourth, as that of the torn line; else `-`
 
 Status: 0 where nothing is printed, 3 where there is damage. A log is repaired where it has some by
 
-  nlog damage --missing-ok .ninja_log >> damaged || { test $? = 3 && nlog repair .ninja_log; }",
+  nlog damage --missing-ok .ninja_log >> damaged || { test $? = 3 && nlog repair .ninja_log; }
+
+Before Ninja runs, remove the files that the last two columns of `damaged` name. Where both are `-`,
+remove LOG.",
         );
     with_any_log(alloc, command)
 }
@@ -285,7 +288,7 @@ TIME      how long the command took, in milliseconds
 WEIGHTED  the same, where a millisecond in which k commands ran counts 1/k; rounded down
 OUTPUT    its first output
 
-Commands and builds are those of `builds`. Where LOG tells no build, nothing is printed.",
+Commands and builds are those of `builds`. Where LOG has no entry, nothing is printed.",
         );
     let command = with_any_log(alloc, command)?;
     with_lines(alloc, command, LINES)

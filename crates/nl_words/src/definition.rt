@@ -20,11 +20,11 @@ log for a build tool. Without a command, or without LOG, a log is read from stan
 
 Ninja 1.12 and 1.13 write logs of version 6 and 7: put `--log-version auto` behind `show`, `check`,
 `record`, `recompact` or `restat`. The other commands take such a LOG as it is.
-Change no log while Ninja builds, because it locks nothing. `entries`, `damage`, `doubt`, `builds`,
-`summary` and `repair` refuse a LOG that is missing; the others read it as empty.
+Change no log while Ninja builds, because it locks nothing. A LOG that is missing is refused by
+`doubt`, and without `--missing-ok` by `entries`, `damage`, `builds`, `summary` and `repair`.
 
 Examples:
-  nlog show .ninja_log
+  nlog show --log-version auto .ninja_log
   nlog check --log-version auto .ninja_log
   nlog damage --missing-ok .ninja_log >> damaged || { test $? = 3 && nlog repair .ninja_log; }
 
