@@ -1053,7 +1053,7 @@ def at_once(trials, made, program, room):
         return ended == 0 and set(answers) == {"OK"}
 
     def theirs(number):
-        words = [["record", log, "1", "2", "3", f"theirs{number}-{i}", "cc"] if i % 5 else ["repair", log] for i in range(count)]
+        words = [["record", log, "1", "2", "3", f"theirs{number}-{i}", "cc"] if i % 5 else ["repair", "--missing-ok", log] for i in range(count)]
         return all(run([program, *it])[0] == 0 for it in words)
 
     with ThreadPoolExecutor(6) as pool:
