@@ -1,4 +1,3 @@
 pub mod ReadsAtLemmas
 pub mod ImageLemmas
-pub mod VersionFolderLemmas
 mod MemFolderLemmas

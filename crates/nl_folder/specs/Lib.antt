@@ -7,5 +7,3 @@ pub mod Choices
 pub mod MemFile
 pub mod MemFolder
 pub mod LogReader
-pub mod Version
-pub mod SeenDisk

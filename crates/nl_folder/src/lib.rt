@@ -8,12 +8,8 @@ pub mod laws;
 mod log_reader;
 mod mem_file;
 mod mem_folder;
-mod version;
-mod version_folder;
 
 pub use folder::{Crashable, Fault, Folder};
 pub use fuse::{Call, Fuse};
 pub use log_reader::LogReader;
 pub use mem_folder::MemFolder;
-pub use version::{Version, VersionSeven, VersionSix};
-pub use version_folder::VersionFolder;

@@ -4,6 +4,5 @@ pub mod NewlineLemmas
 pub mod LinesLemmas
 pub mod RunLemmas
 pub mod LimitLemmas
-pub mod VersionLemmas
 mod WindowLemmas
 pub mod ResultLemmas

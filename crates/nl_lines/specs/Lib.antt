@@ -4,4 +4,3 @@ pub mod Split
 pub mod Lines
 pub mod Runs
 pub mod Window
-pub mod Version

@@ -1,12 +1,10 @@
 //! The laws of lines and of what readers of lines give. Each is the contract of a function that does nothing.
-ghost use Rattle.std.specs.Prelude.{◌≡◌, ◌⊎◌, ◌<◌, ◌≤◌, ◌+◌, ℕ, List, [], ◌∷◌, ◌++◌, length, take, drop, All, Option, None, Some, Ok, Err, map};
+ghost use Rattle.std.specs.Prelude.{◌≡◌, ◌⊎◌, ◌<◌, ◌≤◌, ◌+◌, ℕ, List, [], ◌∷◌, ◌++◌, length, take, All, Option, None, Some, Ok, Err, map};
 ghost use Rattle.nl_lines.specs.Prefix.{IsPrefix};
 ghost use Rattle.nl_lines.specs.Split.{NoNewline, EndsInNewline, SplitsInto, with_newline, joined, lines_of, rest_of, whole_len, torn_len};
 ghost use Rattle.nl_lines.specs.Lines.{Reader, TakesLine, TakesRest, AnswersNext, fresh, max_line, max_log, text_left};
 ghost use Rattle.nl_lines.specs.Runs.{GivenInTurn, as_shown, text_shown};
-ghost use Rattle.nl_lines.specs.Version.{as_version, as_version_from, digit_place};
 ghost use Rattle.nl_lines.specs.declared.lines.Line.{Line};
-ghost use Rattle.nl_lines.specs.declared.version.LogVersion.{LogVersion};
 
 use crate::limits::{MAX_LINE, MAX_LOG};
 use crate::lines::LineFault;
@@ -126,47 +124,4 @@ pub fn a_text_that_is_too_large_is_beyond_the_limit()
         (last : Reader) (b : Option (List ℕ)) (end : Reader) (c : Option (List ℕ))
         → GivenInTurn fresh (Some text) lines last b → AnswersNext last b end c (Err LineFault.TooLarge)
         → max_log < length text }
-{}
-
-/// A text that is seen as one of another version, and seen so again, is as it was. One of version 5 stays as it is.
-pub fn a_version_is_seen_back()
-    ensures back { (version : LogVersion) (text : List ℕ)
-        → as_version version (as_version version text) ≡ text }
-    ensures five { (text : List ℕ) → as_version LogVersion.Five text ≡ text }
-{}
-
-/// One byte is seen as another, and no other byte is.
-pub fn a_version_is_one_byte()
-    ensures before { (version : LogVersion) (text : List ℕ)
-        → take digit_place (as_version version text) ≡ take digit_place text }
-    ensures behind { (version : LogVersion) (text : List ℕ)
-        → drop (digit_place + 1) (as_version version text) ≡ drop (digit_place + 1) text }
-{}
-
-/// Lengths and prefixes stay, and so do newlines: each line and the rest keep their places.
-pub fn a_version_keeps_the_shape()
-    ensures length { (version : LogVersion) (text : List ℕ)
-        → length (as_version version text) ≡ length text }
-    ensures prefix { (version : LogVersion) (prefix text : List ℕ) → IsPrefix prefix text
-        → IsPrefix (as_version version prefix) (as_version version text) }
-    ensures joins { (version : LogVersion) (text more : List ℕ)
-        → as_version version (text ++ more)
-        ≡ as_version version text ++ as_version_from version (length text) more }
-    ensures plain { (version : LogVersion) (text : List ℕ) → NoNewline text
-        → NoNewline (as_version version text) }
-    ensures lines { (version : LogVersion) (text : List ℕ)
-        → map length (lines_of (as_version version text)) ≡ map length (lines_of text) }
-    ensures whole { (version : LogVersion) (text : List ℕ)
-        → whole_len (as_version version text) ≡ whole_len text }
-{}
-
-/// Behind a first line that has the digit, each line is seen as it is, and so is the rest.
-pub fn later_lines_are_of_each_version()
-    ensures lines { (version : LogVersion) (text first : List ℕ) (later : List (List ℕ))
-        → lines_of text ≡ first ∷ later
-        → digit_place < length first
-        → lines_of (as_version version text) ≡ as_version version first ∷ later }
-    ensures rest { (version : LogVersion) (text first : List ℕ) (later : List (List ℕ))
-        → lines_of text ≡ first ∷ later
-        → digit_place < length first → rest_of (as_version version text) ≡ rest_of text }
 {}

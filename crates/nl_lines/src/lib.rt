@@ -8,8 +8,6 @@ mod pieces;
 mod read_source;
 mod slice_source;
 mod source;
-mod version;
-mod version_source;
 mod window;
 
 pub use limits::{MAX_LINE, MAX_LOG};
@@ -17,5 +15,3 @@ pub use lines::{Line, LineFault, Lines};
 pub use read_source::ReadSource;
 pub use slice_source::SliceSource;
 pub use source::{Source, SourceFault};
-pub use version::LogVersion;
-pub use version_source::VersionSource;

@@ -8,6 +8,5 @@ pub mod FirstLineLemmas
 pub mod LoadLemmas
 pub mod LoadedLemmas
 pub mod LogLemmas
-pub mod VersionLogLemmas
 pub mod LogTextLemmas
 pub mod ValidLemmas

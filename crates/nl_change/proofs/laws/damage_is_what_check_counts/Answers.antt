@@ -1,5 +1,0 @@
-use Rattle.nl_change.proofs.DamageLawLemmas.{damage_counts}
-use Rattle.nl_change.proofs.laws.damage_is_what_check_counts.Goals as goal
-
-pub returns : goal.returns
-returns c = damage_counts

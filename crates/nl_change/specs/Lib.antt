@@ -1,7 +1,0 @@
-pub mod Files
-pub mod RecordWords
-pub mod Faults
-pub mod Updates
-pub mod Calls
-pub mod Seen
-pub mod Applying

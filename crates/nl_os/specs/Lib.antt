@@ -1,0 +1,6 @@
+pub mod FailedCall
+pub mod FileId
+pub mod Paths
+pub mod OsSystem
+pub mod Failure
+pub mod Renewal

@@ -1,0 +1,19 @@
+-- Where the files of a log stand (docs/ARCHITECTURE.md, "Real files").
+use Rattle.std.specs.Prelude.{◌≡◌, ℕ, ◌++◌, ◌==◌, List, length, Option, Some, None, codes, if◌then◌else◌, string_bytes}
+use Rattle.std.specs.Path.{rsplit_once, slash}
+use Rattle.nl_os.specs.declared.paths.Paths.{Paths}
+
+-- the folder of a path that was split at its last slash, where it has one
+abbrev pub folder_of_split : Option (List ℕ × List ℕ) → List ℕ
+folder_of_split None = codes "."
+folder_of_split (Some split) = if length split.0 == 0 then codes "/" else split.0
+
+-- the folder of a path: the text before its last slash, `/` where that is empty, and `.` where it has no slash
+abbrev pub folder_path_of : List ℕ → List ℕ
+folder_path_of path = folder_of_split (rsplit_once slash path)
+
+-- the paths of a log, of its scratch, and of the folder in which both stand
+pub record ArePathsOf (path : List ℕ) (paths : Paths) : Type 0 where
+  pub log : string_bytes paths.log ≡ path
+  pub scratch : string_bytes paths.scratch ≡ path ++ codes ".recompact"
+  pub folder : string_bytes paths.folder ≡ folder_path_of path

@@ -1,0 +1,19 @@
+//! The files of one log on an operating system, asked for by one call of it at a time, the lock on them, and a folder over them.
+#![tactic(auto)]
+
+mod disk_folder;
+mod failed_call;
+mod failure;
+mod file_id;
+mod os_system;
+mod paths;
+mod renewal;
+mod system_file;
+mod wait;
+
+pub use disk_folder::DiskFolder;
+pub use failed_call::{FailedCall, FileRole, SystemCall};
+pub use failure::Failure;
+pub use os_system::OsSystem;
+pub use paths::folder_part;
+pub use system_file::SystemFile;

@@ -1,0 +1,41 @@
+//! Where the files of a log stand.
+ghost use Rattle.std.specs.Prelude.{◌≡◌, IfOk};
+ghost use Rattle.nl_os.specs.Paths.{ArePathsOf, folder_path_of};
+
+use std::alloc::{AllocError, Global};
+
+/// The paths of a log, of its scratch, and of the folder in which both stand.
+#[derive(Drop)]
+pub struct Paths {
+    pub log: String,
+    pub scratch: String,
+    pub folder: String,
+}
+
+impl Paths {
+    /// Those of the log at `path`.
+    pub fn new(alloc: Global, path: &str) -> Result<Paths, AllocError>
+        ensures value { IfOk result (ArePathsOf path.now) }
+    {
+        let log = String::from_str(alloc, path)?;
+        let mut scratch = String::from_str(alloc, path)?;
+        scratch.push_str(".recompact")?;
+        let folder = String::from_str(alloc, folder_part(path))?;
+        Ok(Paths {
+            log,
+            scratch,
+            folder,
+        })
+    }
+}
+
+/// The folder in which the file of this path stands.
+pub fn folder_part(path: &str) -> &str
+    ensures value { result.now ≡ folder_path_of path.now }
+{
+    match path.rfind('/') {
+        None => ".",
+        Some(0) => "/",
+        Some(slash) => &path[..slash],
+    }
+}

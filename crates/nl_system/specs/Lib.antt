@@ -1,4 +1,0 @@
-pub mod FailedCall
-pub mod FileId
-pub mod Paths
-pub mod OsSystem

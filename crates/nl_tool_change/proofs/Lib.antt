@@ -1,0 +1,14 @@
+pub mod FileLemmas
+pub mod ChangeLemmas
+mod KeepLemmas
+mod TimesLemmas
+mod ManifestLemmas
+mod DamageLawLemmas
+mod ReadLemmas
+mod RepairLemmas
+mod SeenLemmas
+mod SeenLogLemmas
+mod BeginLemmas
+mod AnswerLemmas
+mod ApplyLemmas
+mod BegunLemmas

@@ -1,0 +1,39 @@
+-- A log that is seen as of a version, and what is seen of its folder: docs/CLI.md, "`apply`".
+use Rattle.std.specs.Prelude.{◌≡◌, ◌<◌, ◌≤◌, false, IsTrue}
+use Rattle.nl_versions.specs.declared.version.LogVersion.{LogVersion}
+use Rattle.nl_versions.specs.declared.version.LogVersion.TheVariants.{Five, Six, Seven}
+use Rattle.nl_folder.specs.declared.folder.Folder.{Ghosts}
+use Rattle.nl_versions.specs.VersionFolder.{seen_as_version}
+use Rattle.nl_session.specs.declared.state.LogState.TheVariants.{Closed}
+use Rattle.nl_session.specs.LogView.{LogView, view_of}
+use Rattle.nl_tool_change.specs.declared.seen.AnyLog.{AnyLog}
+use Rattle.nl_tool_change.specs.declared.seen.AnyLog.TheVariants.{OfFive, OfSix, OfSeven}
+use Rattle.nl_tool_change.specs.Calls.{FolderView, log_folder}
+
+-- the version, and what is seen as of it
+pub record Seen : Type 0 where
+  pub version : LogVersion
+  pub view : LogView
+
+abbrev pub seen_of : {A B C : Type 0} {a : Ghosts A} {b : Ghosts B} {c : Ghosts C} → AnyLog A B C a b c → Seen
+seen_of (OfFive log) = record { version = Five; view = view_of log }
+seen_of (OfSix log) = record { version = Six; view = view_of log }
+seen_of (OfSeven log) = record { version = Seven; view = view_of log }
+
+-- a closed log over a folder that is seen as of its version: through a folder that asks for a sync first, and knows of no scratch, where that
+-- isn't 5
+pub record Begins (found : FolderView) (seen : Seen) : Type 0 where
+  pub closed : seen.view.mode ≡ Closed
+  pub disk : seen.view.disk ≡ seen_as_version seen.version found.disk
+  pub failures : seen.view.failures ≡ found.failures
+  pub five : seen.version ≡ Five → log_folder seen.view ≡ found
+  pub other : (seen.version ≡ Five → ⊥) → (seen.view.settled ≡ false) × (seen.view.scratch ≡ false)
+
+-- the folder below a log, as it is handed back
+pub record HandsBack (seen : Seen) (left : FolderView) : Type 0 where
+  pub disk : left.disk ≡ seen_as_version seen.version seen.view.disk
+  pub settled : IsTrue seen.view.settled → IsTrue left.settled
+  pub scratch : IsTrue seen.view.scratch → IsTrue left.scratch
+  pub failed : left.failures ≤ seen.view.failures
+  pub cause : 0 < seen.view.failures → 0 < left.failures
+  pub five : seen.version ≡ Five → left ≡ log_folder seen.view

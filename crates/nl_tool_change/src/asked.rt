@@ -1,0 +1,107 @@
+//! What a line of `apply` asks for.
+ghost use Rattle.std.specs.Prelude.{◌++◌, ◌∷◌, ◌≢◌, codes, IfOk, IsErrOf};
+ghost use Rattle.nl_tool_script.specs.declared.script.LineRefusal.{LineRefusal};
+ghost use Rattle.nl_tool_change.specs.Applying.{Asks, BeginsBy, BeginsNone};
+
+use nl_fields::{Name, name_fault, read_hex64, read_i32};
+use nl_session::Event;
+use nl_tool_script::{LineRefusal, read_event_line, read_names, split_tab};
+use std::alloc::Global;
+
+/// A command that begins: the moment in the build, its hash, and its outputs.
+#[derive(Drop)]
+pub struct Begin {
+    pub moment_ms: i32,
+    pub hash: u64,
+    pub names: Vec<Name>,
+}
+
+/// What a line asks for.
+#[derive(Drop)]
+pub enum Asked<'a> {
+    Does(Event),
+    Gets(&'a [u8]),
+    /// The hash of a command in the log.
+    Hashes(&'a [u8]),
+    Lists,
+    /// The outputs of a closed log that can't be trusted.
+    Doubts,
+    /// The intents of a command.
+    Begins(Begin),
+    /// Nothing that there is.
+    Bad,
+    /// It isn't known: memory was wanting.
+    Unread,
+}
+
+/// What a line asks for. A crash isn't asked for.
+pub fn read_asked(alloc: Global, line: &[u8]) -> Asked<'_>
+    ensures asks { Asks line.now result }
+{
+    if line == b"distrusted".as_slice() {
+        Asked::Doubts
+    } else {
+        read_other(alloc, line)
+    }
+}
+
+// What another line asks for.
+fn read_other(alloc: Global, line: &[u8]) -> Asked<'_>
+    requires other { line.now ≢ codes "distrusted" }
+    ensures asks { Asks line.now result }
+{
+    match line {
+        b"table" => Asked::Lists,
+        [b'g', b'e', b't', b'\t', name @ ..] => gets(name),
+        [b'h', b'a', b's', b'h', b'\t', command @ ..] => Asked::Hashes(command),
+        [b'b', b'e', b'g', b'i', b'n', b'\t', fields @ ..] => begins(alloc, fields),
+        _ => match read_event_line(alloc, line) {
+            Ok(Event::Crash) => Asked::Bad,
+            Ok(event) => Asked::Does(event),
+            Err(LineRefusal::BadLine) => Asked::Bad,
+            Err(LineRefusal::OutOfMemory) => Asked::Unread,
+        },
+    }
+}
+
+// What is asked for by bytes in the place of a name.
+fn gets(name: &[u8]) -> Asked<'_>
+    ensures asks { Asks (codes "get" ++ 9 ∷ name.now) result }
+{
+    match name_fault(name) {
+        None => Asked::Gets(name),
+        Some(_) => Asked::Bad,
+    }
+}
+
+// What is asked for by bytes in the place of a moment, a hash and names.
+fn begins(alloc: Global, fields: &[u8]) -> Asked<'_>
+    ensures asks { Asks (codes "begin" ++ 9 ∷ fields.now) result }
+{
+    match read_begin(alloc, fields) {
+        Ok(begin) => Asked::Begins(begin),
+        Err(LineRefusal::BadLine) => Asked::Bad,
+        Err(LineRefusal::OutOfMemory) => Asked::Unread,
+    }
+}
+
+// A moment, a hash, and names behind them.
+fn read_begin(alloc: Global, fields: &[u8]) -> Result<Begin, LineRefusal>
+    ensures value { IfOk result
+        (λ begin. BeginsBy begin.moment_ms begin.hash begin.names.items fields.now) }
+    ensures bad_line { IsErrOf result LineRefusal.BadLine → BeginsNone fields.now }
+{
+    let (moment, rest) = split_tab(fields);
+    let (Some(moment_ms), Some(rest)) = (read_i32(moment), rest) else {
+        return Err(LineRefusal::BadLine);
+    };
+    let (hash, names) = split_tab(rest);
+    let (Some(hash), Some(names)) = (read_hex64(hash), names) else {
+        return Err(LineRefusal::BadLine);
+    };
+    Ok(Begin {
+        moment_ms,
+        hash,
+        names: read_names(alloc, names)?,
+    })
+}

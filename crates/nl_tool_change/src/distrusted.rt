@@ -1,0 +1,80 @@
+//! Which outputs of the log in a folder can't be trusted, by a read of all of it. The folder stays as it is.
+ghost use Rattle.std.specs.Prelude.{◌≡◌, ◌≤◌, ◌⊎◌, Some, IfErr, IfOk, IfSome, IsErrOf};
+ghost use Rattle.nl_lines.specs.Source.{FailedBetween};
+ghost use Rattle.nl_table.specs.Log.{NotALog, OtherVersion};
+ghost use Rattle.nl_versions.specs.LogAs.{log_for};
+ghost use Rattle.nl_session.specs.declared.fault.LogFault.{LogFault};
+ghost use Rattle.nl_tool_change.specs.Calls.{folder_view};
+ghost use Rattle.nl_tool_change.specs.Distrusts.{AreDistrusted, Distrusts};
+
+use nl_distrust::distrusted;
+use nl_folder::{Folder, LogReader};
+use nl_lines::{SliceSource, Source};
+use nl_session::LogFault;
+use nl_table::{LoadFault, Table};
+use nl_versions::{LogVersion, load_seen};
+use std::alloc::Global;
+
+// How many bytes are asked for at a time.
+const ASKED_LEN: usize = 65_536;
+
+/// The entries whose outputs can't be trusted, of a log of the version that is asked for, or where none is, of the one
+/// that its first line names. It takes the memory of the log's bytes, and of its table.
+pub fn distrusted_for<F: Folder>(
+    alloc: Global,
+    asked: Option<LogVersion>,
+    folder: F,
+) -> (F, Result<Table, LogFault>)
+    ensures distrusts { Distrusts asked (folder_view F.Folder folder)
+        (folder_view F.Folder result.0) result.1 }
+{
+    let mut reader = LogReader::new(folder);
+    match read_all(alloc, &mut reader) {
+        Ok(bytes) => (reader.folder, distrusted_of(alloc, asked, bytes.as_slice())),
+        Err(why) => (reader.folder, Err(why)),
+    }
+}
+
+// Those of the log that the bytes are.
+fn distrusted_of(alloc: Global, asked: Option<LogVersion>, bytes: &[u8]) -> Result<Table, LogFault>
+    ensures found { IfOk result (AreDistrusted asked bytes.now) }
+    ensures not_a_log { IsErrOf result LogFault.NotALog → log_for asked bytes.now ≡ NotALog }
+    ensures other_version { IsErrOf result LogFault.OtherVersion
+        → log_for asked bytes.now ≡ OtherVersion }
+    ensures refusals { IfErr result (λ why. (why ≡ LogFault.NotALog) ⊎ (why ≡ LogFault.OtherVersion)
+        ⊎ (why ≡ LogFault.OutOfMemory)) }
+{
+    match load_seen(alloc, asked, SliceSource::new(bytes)) {
+        Ok((_, loaded)) => match distrusted(alloc, loaded.version, bytes, &loaded.table) {
+            Ok(found) => Ok(found),
+            Err(_) => Err(LogFault::OutOfMemory),
+        },
+        Err(LoadFault::NotALog) => Err(LogFault::NotALog),
+        Err(LoadFault::OtherVersion) => Err(LogFault::OtherVersion),
+        // No read of bytes that are there fails.
+        Err(LoadFault::OutOfMemory | LoadFault::Read) => Err(LogFault::OutOfMemory),
+    }
+}
+
+// All bytes that a source has left.
+fn read_all<S: Source>(alloc: Global, source: &mut S) -> Result<Vec<u8>, LogFault>
+    ensures value { IfOk result (λ all. IfSome (S.ahead source.old) (λ bytes. bytes ≡ all.items)) }
+    ensures cause { IsErrOf result LogFault.Fault
+        → FailedBetween (S.failures source.old) (S.failures source.new) }
+    ensures refusals { IfErr result
+        (λ why. (why ≡ LogFault.Fault) ⊎ (why ≡ LogFault.OutOfMemory)) }
+    ensures rises { S.failures source.old ≤ S.failures source.new }
+    ensures relation { S.keeps source.old source.new }
+{
+    let mut piece = Vec::new(alloc);
+    piece.resize(ASKED_LEN, 0)?;
+    let mut all = Vec::new(alloc);
+    'pieces: for _ in 0..u64::MAX {
+        match source.read_some(piece.as_mut_slice()) {
+            Ok(0) => return Ok(all),
+            Ok(n) => all.extend_from_slice(&piece[..n])?,
+            Err(_) => return Err(LogFault::Fault),
+        }
+    }
+    Err(LogFault::OutOfMemory)
+}

@@ -1,0 +1,39 @@
+//! KEEP: the names of the outputs to keep, one a line.
+ghost use Rattle.std.specs.Prelude.{◌≡◌, ℕ, List, IfOk, IfErr, IsErrOf};
+ghost use Rattle.nl_table.specs.History.{holds};
+ghost use Rattle.nl_tool_change.specs.Faults.{IsFileFault};
+ghost use Rattle.nl_tool_texts.specs.Files.{OfBytes};
+ghost use Rattle.nl_tool_change.specs.Files.{Says, BadAt, name_on, keep_of};
+ghost use Rattle.nl_tool_texts.specs.declared.fault.ToolFault.{ToolFault};
+
+use crate::parts::{Part, read_parts};
+use nl_fields::{Name, NameFault};
+use nl_table::NameSet;
+use nl_tool_texts::ToolFault;
+use std::alloc::{AllocError, Global};
+use std::io::Read;
+
+impl Part for Name {
+    ghost part_of = { name_on };
+
+    fn read(alloc: Global, line: &[u8]) -> Result<Option<Name>, AllocError> {
+        match Name::read(alloc, line) {
+            Ok(name) => Ok(Some(name)),
+            Err(NameFault::OutOfMemory) => Err(AllocError),
+            Err(NameFault::Empty | NameFault::BadByte(_) | NameFault::TooLong) => Ok(None),
+        }
+    }
+}
+
+/// Reads KEEP. It takes the memory of the names, and of an index over them.
+pub fn read_keep<R: Read + Drop>(alloc: Global, reader: R) -> Result<NameSet, ToolFault>
+    ensures value { IfOk result (λ set. OfBytes (R.remaining reader) (λ bytes.
+        (names : List (List ℕ)) × (keep_of bytes ≡ Says names)
+        × ((name : List ℕ) → holds set name ≡ holds names name))) }
+    ensures bad_line { (number : ℕ) → IsErrOf result (ToolFault.BadLine number)
+        → OfBytes (R.remaining reader) (λ bytes. keep_of bytes ≡ BadAt number) }
+    ensures faults { IfErr result IsFileFault }
+{
+    let names: Vec<Name> = read_parts(alloc, reader)?;
+    Ok(NameSet::of(alloc, names)?)
+}

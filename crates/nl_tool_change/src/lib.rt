@@ -1,0 +1,27 @@
+//! What the commands of `nlog` change, over any folder.
+#![tactic(auto)]
+
+mod answers;
+mod apply;
+mod asked;
+mod change;
+mod distrusted;
+mod keep_file;
+pub mod laws;
+mod log_fault;
+mod look;
+mod manifest_file;
+mod parts;
+mod place;
+mod record_words;
+mod seen;
+mod times_file;
+mod update;
+
+pub use apply::apply_on;
+pub use manifest_file::read_manifest;
+pub use place::{AskedFolder, FoundFolder, LogPlace};
+pub use record_words::entry_of;
+pub use update::{
+    keep_on, recompact_on, record_command, record_on, repair_on, restat_on, retime_on,
+};

@@ -1,0 +1,51 @@
+//! The version of the log in a folder, by its first line: it is looked at once, before anything else is asked of the folder.
+//!
+//! A log of version 6 or 7 is changed through a folder that sees it as one of version 5. That one would take a log of
+//! version 4 too, and write it anew as one of the version: so where 6 or 7 is asked for, a log of version 4 is of another.
+ghost use Rattle.std.specs.Prelude.{◌≢◌, None, Some};
+ghost use Rattle.nl_versions.specs.declared.version.LogVersion.{LogVersion};
+ghost use Rattle.nl_tool_change.specs.Calls.{Looks, folder_view};
+
+use nl_folder::Folder;
+use nl_session::LogFault;
+use nl_versions::{LogVersion, first_line_in};
+
+/// The version as one of which the log of a folder is taken: the one that is asked for, or else the one that its first
+/// line names. The folder stays as it is, and isn't looked at where 5 is asked for.
+pub fn look_for<F: Folder>(
+    asked: Option<LogVersion>,
+    folder: F,
+) -> (F, Result<LogVersion, LogFault>)
+    ensures looks { Looks asked (folder_view F.Folder folder) (folder_view F.Folder result.0)
+        result.1 }
+{
+    match asked {
+        Some(LogVersion::Five) => (folder, Ok(LogVersion::Five)),
+        Some(version) => look_past_four(version, folder),
+        None => look_named(folder),
+    }
+}
+
+fn look_past_four<F: Folder>(version: LogVersion, folder: F) -> (F, Result<LogVersion, LogFault>)
+    requires version { version ≢ LogVersion.Five }
+    ensures looks { Looks (Some version) (folder_view F.Folder folder)
+        (folder_view F.Folder result.0) result.1 }
+{
+    let (folder, looked) = first_line_in(folder);
+    match looked {
+        Ok(line) if line.is_four => (folder, Err(LogFault::OtherVersion)),
+        Ok(_) => (folder, Ok(version)),
+        Err(_) => (folder, Err(LogFault::Fault)),
+    }
+}
+
+fn look_named<F: Folder>(folder: F) -> (F, Result<LogVersion, LogFault>)
+    ensures looks { Looks None (folder_view F.Folder folder) (folder_view F.Folder result.0)
+        result.1 }
+{
+    let (folder, looked) = first_line_in(folder);
+    match looked {
+        Ok(line) => (folder, Ok(line.version)),
+        Err(_) => (folder, Err(LogFault::Fault)),
+    }
+}

@@ -1,0 +1,89 @@
+//! The targets of a build, as `ninja -t targets all` prints them: a name, `: ` and a rule a line.
+ghost use Rattle.std.specs.Prelude.{◌≡◌, ◌++◌, ◌∷◌, [], ℕ, List, IfOk, IfErr, IsErrOf, IsNone, IfSome, option_map};
+ghost use Rattle.nl_tool_change.specs.Faults.{IsFileFault};
+ghost use Rattle.nl_tool_texts.specs.Files.{OfBytes};
+ghost use Rattle.nl_tool_change.specs.Files.{Says, BadAt, before_rule, manifest_of, target_on};
+ghost use Rattle.nl_tool_texts.specs.declared.fault.ToolFault.{ToolFault};
+
+use crate::parts::{Part, read_parts};
+use nl_fields::Name;
+use nl_tool_texts::ToolFault;
+use std::alloc::{AllocError, Global};
+use std::io::Read;
+use std::marker::Model;
+
+/// The name of a target.
+#[derive(Drop)]
+pub struct Target {
+    name: Name,
+}
+
+impl Model for Target {
+    ghost Value = { List ℕ };
+
+    ghost view = { λ target. target.name };
+}
+
+impl Part for Target {
+    ghost part_of = { target_on };
+
+    fn read(alloc: Global, line: &[u8]) -> Result<Option<Target>, AllocError> {
+        let Some(target) = before_rule(line) else {
+            return Ok(None);
+        };
+        match <Name as Part>::read(alloc, target)? {
+            Some(name) => Ok(Some(Target { name })),
+            None => Ok(None),
+        }
+    }
+}
+
+// What stands before the last space of a line, without the colon that has to stand there.
+fn before_rule(line: &[u8]) -> Option<&[u8]>
+    ensures value { option_map (λ target. target.now) result ≡ before_rule line.now }
+{
+    let mut rest = line;
+    'bytes: while let Some((last, front)) = rest.split_last() {
+        if *last == b' ' {
+            return before_colon(front);
+        }
+        rest = front;
+    }
+    None
+}
+
+// What stands before a colon at the end.
+fn before_colon(bytes: &[u8]) -> Option<&[u8]>
+    ensures found { IfSome result (λ front. bytes.now ≡ front.now ++ 58 ∷ []) }
+    ensures none { IsNone result → (front : List ℕ) → bytes.now ≡ front ++ 58 ∷ [] → ⊥ }
+{
+    match bytes.split_last() {
+        Some((b':', front)) => Some(front),
+        _ => None,
+    }
+}
+
+/// Reads the targets of a build. There has to be one: a Ninja that fails prints none. It takes the memory of the names.
+pub fn read_manifest<R: Read + Drop>(alloc: Global, reader: R) -> Result<Vec<Name>, ToolFault>
+    ensures value { IfOk result (λ names.
+        OfBytes (R.remaining reader) (λ bytes. manifest_of bytes ≡ Says names.items)) }
+    ensures bad_line { (number : ℕ) → IsErrOf result (ToolFault.BadLine number)
+        → OfBytes (R.remaining reader) (λ bytes. manifest_of bytes ≡ BadAt number) }
+    ensures faults { IfErr result IsFileFault }
+{
+    let targets: Vec<Target> = read_parts(alloc, reader)?;
+    if targets.is_empty() {
+        return Err(ToolFault::BadLine(1));
+    }
+    Ok(names_of(alloc, targets)?)
+}
+
+fn names_of(alloc: Global, targets: Vec<Target>) -> Result<Vec<Name>, AllocError>
+    ensures value { IfOk result (λ names. names.items ≡ targets.items) }
+{
+    let mut names = Vec::new(alloc);
+    for target in targets {
+        names.push(target.name)?;
+    }
+    Ok(names)
+}

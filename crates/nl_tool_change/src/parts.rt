@@ -1,0 +1,138 @@
+//! Files that say something line by line.
+ghost use Rattle.std.specs.Prelude.{◌≡◌, ◌⊎◌, ℕ, ◌+◌, ◌<◌, ◌≤◌, ◌^◌, List, Option, Some, None, IfOk, IfErr, IsErrOf, IsSomeAnd, MatchResult, OnOk, length};
+ghost use Rattle.nl_lines.specs.Lines.{lent_rest, max_line};
+ghost use Rattle.nl_tool_change.specs.Faults.{IsFileFault};
+ghost use Rattle.nl_tool_texts.specs.Files.{OfBytes};
+ghost use Rattle.nl_tool_change.specs.Files.{Says, BadAt, said_by, said_after, said_of};
+ghost use Rattle.nl_tool_texts.specs.declared.fault.ToolFault.{ToolFault};
+
+use nl_lines::{Line, Lines, MAX_LINE, ReadSource, Source};
+use nl_tool_texts::ToolFault;
+use std::alloc::{AllocError, Global};
+use std::io::Read;
+
+/// What a line of a file says.
+pub trait Part: Drop {
+    // The part that a line is, where it is one.
+    ghost part_of: { List ℕ → Option Self };
+
+    fn read(alloc: Global, line: &[u8]) -> Result<Option<Self>, AllocError>
+        ensures value { IfOk result (λ part. part ≡ part_of line.now) };
+}
+
+// What the lines so far say.
+#[derive(Drop)]
+struct SoFar<P: Part> {
+    parts: Vec<P>,
+    // How many lines there were, with those that say nothing.
+    count: u64,
+    // The number of the first bad one.
+    bad: Option<u64>,
+}
+
+/// The parts of the file that a reader gives, which is read to its end.
+pub fn read_parts<P: Part, R: Read + Drop>(alloc: Global, reader: R) -> Result<Vec<P>, ToolFault>
+    ensures value { IfOk result (λ parts.
+        OfBytes (R.remaining reader) (λ bytes. said_by P.part_of bytes ≡ Says parts.items)) }
+    ensures bad_line { (number : ℕ) → IsErrOf result (ToolFault.BadLine number)
+        → OfBytes (R.remaining reader) (λ bytes. said_by P.part_of bytes ≡ BadAt number) }
+    ensures faults { IfErr result IsFileFault }
+{
+    let so_far = read_lines(alloc, &mut ReadSource::new(reader))?;
+    parts_of(so_far)
+}
+
+// What all lines of a source say.
+fn read_lines<P: Part, S: Source>(alloc: Global, source: &mut S) -> Result<SoFar<P>, ToolFault>
+    ensures value { IfOk result (λ so_far. OfBytes (S.ahead source.old)
+        (λ bytes. said_by P.part_of bytes ≡ said_of so_far.parts.items so_far.bad)) }
+    ensures faults { IfErr result (λ e. (e ≡ ToolFault.Read) ⊎ (e ≡ ToolFault.Memory)) }
+{
+    let mut lines = Lines::new(alloc)?;
+    let mut so_far = SoFar {
+        parts: Vec::new(alloc),
+        count: 0,
+        bad: None,
+    };
+    'lines: loop {
+        match lines.next(source)? {
+            Some(Line::Whole(line)) => take(alloc, line, &mut so_far)?,
+            Some(Line::TooLong) => refuse(&mut so_far),
+            Some(Line::Torn { at: _, len, bytes }) => {
+                take_rest(alloc, len, bytes, &mut so_far)?;
+                return Ok(so_far);
+            }
+            None => return Ok(so_far),
+        }
+    }
+}
+
+// Takes in a line of up to the length of a line.
+fn take<P: Part>(alloc: Global, line: &[u8], so_far: &mut SoFar<P>) -> Result<(), AllocError>
+    requires short { length line.now ≤ max_line }
+    requires room { so_far.old.count < 2 ^ 63 }
+    ensures ok { OnOk result (said_of so_far.new.parts.items so_far.new.bad ≡ said_after P.part_of
+        so_far.new.count line.now (said_of so_far.old.parts.items so_far.old.bad)) }
+    ensures count { so_far.new.count ≡ so_far.old.count + 1 }
+{
+    so_far.count += 1;
+    if line.is_empty() || so_far.bad.is_some() {
+        return Ok(());
+    }
+    match P::read(alloc, line)? {
+        Some(part) => so_far.parts.push(part)?,
+        None => so_far.bad = Some(so_far.count),
+    }
+    Ok(())
+}
+
+// Takes in a line that is too long.
+fn refuse<P: Part>(so_far: &mut SoFar<P>)
+    requires room { so_far.old.count < 2 ^ 63 }
+    ensures value { (line : List ℕ) → max_line < length line
+        → said_of so_far.new.parts.items so_far.new.bad ≡ said_after P.part_of so_far.new.count line
+        (said_of so_far.old.parts.items so_far.old.bad) }
+    ensures count { so_far.new.count ≡ so_far.old.count + 1 }
+{
+    so_far.count += 1;
+    if so_far.bad.is_none() {
+        so_far.bad = Some(so_far.count);
+    }
+}
+
+// Takes in what follows the last newline, as it is lent.
+fn take_rest<P: Part>(
+    alloc: Global,
+    len: u64,
+    lent: &[u8],
+    so_far: &mut SoFar<P>,
+) -> Result<(), AllocError>
+    requires short { length lent.now ≤ max_line }
+    requires room { so_far.old.count < 2 ^ 63 }
+    ensures ok { (rest : List ℕ) → len ≡ length rest → lent.now ≡ lent_rest rest
+        → OnOk result (said_of so_far.new.parts.items so_far.new.bad ≡ said_after P.part_of
+        so_far.new.count rest (said_of so_far.old.parts.items so_far.old.bad)) }
+    ensures count { so_far.new.count ≡ so_far.old.count + 1 }
+{
+    if len > MAX_LINE as u64 {
+        refuse(so_far);
+        return Ok(());
+    }
+    take(alloc, lent, so_far)
+}
+
+// The parts, unless a line was bad.
+fn parts_of<P: Part>(so_far: SoFar<P>) -> Result<Vec<P>, ToolFault>
+    ensures value { MatchResult result (λ parts. (so_far.bad ≡ None) × (parts ≡ so_far.parts))
+        (λ e. IsSomeAnd so_far.bad (λ number. e ≡ ToolFault.BadLine number)) }
+{
+    let SoFar {
+        parts,
+        count: _,
+        bad,
+    } = so_far;
+    match bad {
+        Some(number) => Err(ToolFault::BadLine(number)),
+        None => Ok(parts),
+    }
+}

@@ -1,0 +1,138 @@
+//! Where a log stands that is changed: in a folder, as it is, or as one of the version that is asked for.
+ghost use Rattle.std.specs.Prelude.{◌≡◌, Result, IfErr};
+ghost use Rattle.nl_versions.specs.VersionFolder.{seen_as_version};
+ghost use Rattle.nl_tool_texts.specs.declared.fault.ToolFault.{ToolFault};
+ghost use Rattle.nl_tool_change.specs.Calls.{ChangesLog, ChangesLogAs, ChangesLogFor, ChangesSeen, IsFaultBy, IsFree, Meaning, Repairs, RepairsFor, folder_view, keeping_all};
+
+use crate::change::{Change, change_log};
+use crate::log_fault::of_log_fault;
+use crate::look::look_for;
+use nl_folder::Folder;
+use nl_session::Log;
+use nl_tool_texts::ToolFault;
+use nl_versions::{LogVersion, Version, VersionFolder, VersionSeven, VersionSix};
+use std::alloc::Global;
+
+/// Where a log stands that is changed: each folder is a place, whose log is changed as it is.
+pub trait LogPlace: Sized {
+    // What a change does, by what it means and by its answer.
+    ghost changes: { Meaning → Result (Unit {0}) ToolFault → Self → Self → Type 0 };
+
+    // What a change that drops nothing leaves, by its answer.
+    ghost repairs: { Result (Unit {0}) ToolFault → Self → Self → Type 0 };
+
+    /// Makes a change of the log durable.
+    fn change<C: Change>(self, alloc: Global, change: &C) -> (Self, Result<(), ToolFault>)
+        ensures call { changes (C.meaning change.now) result.1 self result.0 }
+        ensures repairs { C.meaning change.now ≡ keeping_all → repairs result.1 self result.0 }
+        ensures faults { IfErr result.1 (IsFaultBy (C.meaning change.now)) };
+}
+
+/// A folder whose log is one of the version that is asked for, or where none is, of the one that its first line names.
+#[derive(Drop)]
+pub struct AskedFolder<F> {
+    pub asked: Option<LogVersion>,
+    pub folder: F,
+}
+
+/// A folder whose log was found to be one of the version, or is taken for one.
+#[derive(Drop)]
+pub struct FoundFolder<F> {
+    pub version: LogVersion,
+    pub folder: F,
+}
+
+impl<F: Folder> LogPlace for F {
+    ghost changes = { λ m result old new. ChangesLog m result (folder_view F.Folder old) (folder_view F.Folder new) };
+
+    ghost repairs = { λ result old new. Repairs result (F.disk old) (F.disk new) };
+
+    fn change<C: Change>(self, alloc: Global, change: &C) -> (F, Result<(), ToolFault>) {
+        change_on(alloc, self, change)
+    }
+}
+
+// Makes a change of the log of a folder durable.
+fn change_on<F: Folder, C: Change>(
+    alloc: Global,
+    folder: F,
+    change: &C,
+) -> (F, Result<(), ToolFault>)
+    ensures call { ChangesLog (C.meaning change.now) result.1
+        (folder_view F.Folder folder) (folder_view F.Folder result.0) }
+    ensures faults { IfErr result.1 (IsFaultBy (C.meaning change.now)) }
+{
+    let mut log = Log::new(alloc, folder);
+    match change_log(&mut log, change) {
+        Ok(()) => (log.into_folder(), Ok(())),
+        Err(fault) => (log.into_folder(), Err(of_log_fault(fault))),
+    }
+}
+
+impl<F: Folder> LogPlace for FoundFolder<F> {
+    ghost changes = { λ m result old new. IsFree (F.disk old.folder) old.version
+        → ChangesLogAs old.version m result (folder_view F.Folder old.folder) (folder_view F.Folder new.folder) };
+
+    ghost repairs = { λ result old new. IsFree (F.disk old.folder) old.version
+        → Repairs result (seen_as_version old.version (F.disk old.folder))
+        (seen_as_version old.version (F.disk new.folder)) };
+
+    fn change<C: Change>(self, alloc: Global, change: &C) -> (Self, Result<(), ToolFault>) {
+        let FoundFolder { version, folder } = self;
+        match version {
+            LogVersion::Five => {
+                let (folder, result) = change_on(alloc, folder, change);
+                (FoundFolder { version, folder }, result)
+            }
+            LogVersion::Six => {
+                let (folder, result) = change_seen(alloc, VersionSix, folder, change);
+                (FoundFolder { version, folder }, result)
+            }
+            LogVersion::Seven => {
+                let (folder, result) = change_seen(alloc, VersionSeven, folder, change);
+                (FoundFolder { version, folder }, result)
+            }
+        }
+    }
+}
+
+// Makes a change durable through a folder that sees the log as one of version 5.
+fn change_seen<F: Folder, V: Version, C: Change>(
+    alloc: Global,
+    version: V,
+    folder: F,
+    change: &C,
+) -> (F, Result<(), ToolFault>)
+    ensures call { IsFree (F.disk folder) V.version
+        → ChangesSeen V.version (C.meaning change.now) result.1
+        (folder_view F.Folder folder) (folder_view F.Folder result.0) }
+    ensures faults { IfErr result.1 (IsFaultBy (C.meaning change.now)) }
+{
+    let (seen, result) = change_on(alloc, VersionFolder::new(version, folder), change);
+    (seen.into_folder(), result)
+}
+
+impl<F: Folder> LogPlace for AskedFolder<F> {
+    ghost changes = { λ m result old new. ChangesLogFor old.asked (λ _. m) result
+        (folder_view F.Folder old.folder) (folder_view F.Folder new.folder) };
+
+    ghost repairs = { λ result old new. RepairsFor old.asked result (F.disk old.folder) (F.disk new.folder) };
+
+    fn change<C: Change>(self, alloc: Global, change: &C) -> (Self, Result<(), ToolFault>) {
+        let AskedFolder { asked, folder } = self;
+        let (folder, looked) = look_for(asked, folder);
+        match looked {
+            Ok(version) => {
+                let (found, result) = FoundFolder { version, folder }.change(alloc, change);
+                (
+                    AskedFolder {
+                        asked,
+                        folder: found.folder,
+                    },
+                    result,
+                )
+            }
+            Err(fault) => (AskedFolder { asked, folder }, Err(of_log_fault(fault))),
+        }
+    }
+}

@@ -1,0 +1,55 @@
+//! TIMES: an mtime and the name of an output a line, with a tab between them.
+ghost use Rattle.std.specs.Prelude.{◌≡◌, ℕ, [], IfOk, IfErr, IfSome, IsErrOf, IsNone};
+ghost use Rattle.nl_fields.specs.EntryLine.{before_tab, after_tab};
+ghost use Rattle.nl_tool_change.specs.Faults.{IsFileFault};
+ghost use Rattle.nl_tool_texts.specs.Files.{OfBytes};
+ghost use Rattle.nl_tool_change.specs.Files.{Says, BadAt, pair_on, times_of};
+ghost use Rattle.nl_tool_texts.specs.declared.fault.ToolFault.{ToolFault};
+
+use crate::parts::{Part, read_parts};
+use nl_fields::{Name, read_i64};
+use nl_tool_script::split_tab;
+use nl_tool_texts::ToolFault;
+use std::alloc::{AllocError, Global};
+use std::io::Read;
+
+impl Part for (Name, i64) {
+    ghost part_of = { pair_on };
+
+    fn read(alloc: Global, line: &[u8]) -> Result<Option<(Name, i64)>, AllocError> {
+        let Some((time, name)) = time_and_name(line) else {
+            return Ok(None);
+        };
+        let Some(mtime) = read_i64(time) else {
+            return Ok(None);
+        };
+        match <Name as Part>::read(alloc, name)? {
+            Some(name) => Ok(Some((name, mtime))),
+            None => Ok(None),
+        }
+    }
+}
+
+// The bytes before the first tab, and those after it.
+fn time_and_name(line: &[u8]) -> Option<(&[u8], &[u8])>
+    ensures found { IfSome result
+        (λ parts. (parts.0.now ≡ before_tab line.now) × (parts.1.now ≡ after_tab line.now)) }
+    ensures none { IsNone result → after_tab line.now ≡ [] }
+{
+    let (time, rest) = split_tab(line);
+    match rest {
+        Some(name) => Some((time, name)),
+        None => None,
+    }
+}
+
+/// Reads TIMES. It takes the memory of the pairs.
+pub fn read_times<R: Read + Drop>(alloc: Global, reader: R) -> Result<Vec<(Name, i64)>, ToolFault>
+    ensures value { IfOk result
+        (λ times. OfBytes (R.remaining reader) (λ bytes. times_of bytes ≡ Says times.items)) }
+    ensures bad_line { (number : ℕ) → IsErrOf result (ToolFault.BadLine number)
+        → OfBytes (R.remaining reader) (λ bytes. times_of bytes ≡ BadAt number) }
+    ensures faults { IfErr result IsFileFault }
+{
+    read_parts(alloc, reader)
+}

@@ -1,0 +1,6 @@
+pub mod OutputLemmas
+pub mod VersionLemmas
+mod DamageLemmas
+mod EntryLemmas
+mod StreamLemmas
+mod AnyVersionLemmas

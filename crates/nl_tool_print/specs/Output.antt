@@ -1,0 +1,60 @@
+-- What the commands print (docs/CLI.md), and what a writer holds after them.
+use Rattle.std.specs.Prelude.{◌≡◌, ◌++◌, ◌∷◌, [], Bool, List, ℕ, Option, None, Some, IfSome, codes, decimal, if◌then◌else◌, length, map}
+use Rattle.std.specs.Io.KnownBytes.{Appends}
+use Rattle.nl_fields.specs.CommandHash.{IsHash}
+use Rattle.nl_fields.specs.Digits.{digits_of}
+use Rattle.nl_fields.specs.EntryLine.{line_of}
+use Rattle.nl_lines.specs.Split.{joined, torn_len}
+use Rattle.nl_table.specs.Due.{is_due}
+use Rattle.nl_table.specs.History.{logged, table}
+use Rattle.nl_table.specs.Log.{LogReading, Log, NotALog, OtherVersion, log_of, skipped_count}
+
+-- a text is held but for its prefix, by which known bytes grew
+pub record HoldsAllBut (old new : Option (List ℕ)) (text held : List ℕ) : Type 0 where
+  pub written : List ℕ
+  pub is : text ≡ written ++ held
+  pub appended : Appends old new written
+
+-- the text of `hash`: the hash in its one spelling, and a newline
+pub record IsHashText (command text : List ℕ) : Type 0 where
+  pub hash : ℕ
+  pub is_hash : IsHash command hash
+  pub is : text ≡ digits_of 16 hash ++ 10 ∷ []
+
+-- the text of `show`: the line of each entry of the table, in order; none where there is no log
+abbrev pub show_text : LogReading → Option (List ℕ)
+show_text (Log version entries) = Some (joined (map line_of (table (logged version entries))))
+show_text OtherVersion = None
+show_text NotALog = None
+
+abbrev pub show_text_of : List ℕ → Option (List ℕ)
+show_text_of bytes = show_text (log_of bytes)
+
+abbrev pub yes_or_no : Bool → List ℕ
+yes_or_no b = if b then codes "yes" else codes "no"
+
+-- six lines, each a key and a value
+abbrev pub report_lines : ℕ → ℕ → ℕ → ℕ → ℕ → List ℕ → List ℕ
+report_lines version total unique skipped torn due = codes "version " ++ decimal version ++ codes "\ntotal " ++ decimal total
+    ++ codes "\nunique " ++ decimal unique ++ codes "\nskipped " ++ decimal skipped ++ codes "\ntorn " ++ decimal torn
+    ++ codes "\ndue " ++ due ++ codes "\n"
+
+-- the six lines of `check`, by the counts
+abbrev pub report : ℕ → ℕ → ℕ → ℕ → ℕ → List ℕ
+report version total unique skipped torn = report_lines version total unique skipped torn (yes_or_no (is_due version total unique))
+
+-- the text of `check`, by the numbers of skipped lines and of torn bytes; none where there is no log
+abbrev pub checked_of : ℕ → ℕ → LogReading → Option (List ℕ)
+checked_of skipped torn (Log version entries) =
+    Some (report version (length entries) (length (table (logged version entries))) skipped torn)
+checked_of skipped torn OtherVersion = None
+checked_of skipped torn NotALog = None
+
+abbrev pub check_text_of : List ℕ → Option (List ℕ)
+check_text_of bytes = checked_of (skipped_count bytes) (torn_len bytes) (log_of bytes)
+
+-- the text is that of the bytes which a reader gave: the known ones where they are known
+pub record IsTextAsRead (text_of : List ℕ → Option (List ℕ)) (known : Option (List ℕ)) (text : List ℕ) : Type 0 where
+  pub bytes : List ℕ
+  pub given : IfSome known (λ bs. bs ≡ bytes)
+  pub is : text_of bytes ≡ Some text

@@ -1,0 +1,81 @@
+//! The command `check`.
+ghost use Rattle.std.specs.Prelude.{◌≡◌, length, string_bytes, IfErr, IfOk, IfSome, IsErrOf};
+ghost use Rattle.nl_table.specs.Log.{log_of, NotALog, OtherVersion};
+ghost use Rattle.nl_tool_print.specs.Faults.{IsLogFault};
+ghost use Rattle.nl_tool_texts.specs.Output.{Prints};
+ghost use Rattle.nl_tool_print.specs.Output.{check_text_of, report, yes_or_no, IsTextAsRead};
+ghost use Rattle.nl_versions.specs.LogAs.{log_for};
+ghost use Rattle.nl_tool_print.specs.Versions.{IsReportFor};
+ghost use Rattle.nl_tool_texts.specs.declared.fault.ToolFault.{ToolFault};
+
+use crate::loading::load_read;
+use nl_table::{Loaded, is_due};
+use nl_tool_texts::{ToolFault, write_out};
+use nl_versions::LogVersion;
+use std::alloc::{AllocError, Global};
+use std::io::{Read, Write};
+
+/// Writes six lines on the log that the reader gives: its version, how many entry lines, outputs, skipped lines and
+/// torn bytes it has, and whether it is due for recompaction.
+pub fn check_to<R: Read + Drop, W: Write>(
+    alloc: Global,
+    reader: R,
+    writer: &mut W,
+) -> Result<(), ToolFault>
+    ensures prints { Prints (IsTextAsRead check_text_of (R.remaining reader))
+        (W.contents writer.old) (W.contents writer.new) result }
+    ensures not_a_log { IsErrOf result ToolFault.NotALog
+        → IfSome (R.remaining reader) (λ bs. log_of bs ≡ NotALog) }
+    ensures other_version { IsErrOf result ToolFault.OtherVersion
+        → IfSome (R.remaining reader) (λ bs. log_of bs ≡ OtherVersion) }
+    ensures faults { IfErr result IsLogFault }
+{
+    check_log(alloc, Some(LogVersion::Five), reader, writer)
+}
+
+/// Writes the six lines on a log of the version that is asked for, or where none is, of the one that its first line names: its
+/// number is the first line.
+pub fn check_log<R: Read + Drop, W: Write>(
+    alloc: Global,
+    asked: Option<LogVersion>,
+    reader: R,
+    writer: &mut W,
+) -> Result<(), ToolFault>
+    ensures prints { Prints (IsReportFor asked (R.remaining reader)) (W.contents writer.old)
+        (W.contents writer.new) result }
+    ensures not_a_log { IsErrOf result ToolFault.NotALog
+        → IfSome (R.remaining reader) (λ bs. log_for asked bs ≡ NotALog) }
+    ensures other_version { IsErrOf result ToolFault.OtherVersion
+        → IfSome (R.remaining reader) (λ bs. log_for asked bs ≡ OtherVersion) }
+    ensures faults { IfErr result IsLogFault }
+{
+    let (version, mut loaded) = load_read(alloc, asked, reader)?;
+    loaded.version = version.number(loaded.version);
+    let report = report_text(alloc, &loaded)?;
+    write_out(report.as_bytes(), writer)
+}
+
+fn report_text(alloc: Global, loaded: &Loaded) -> Result<String, AllocError>
+    ensures value { IfOk result (λ text. string_bytes text
+        ≡ report loaded.now.version loaded.now.total
+        (length loaded.now.table) loaded.now.skipped loaded.now.torn) }
+{
+    let Loaded {
+        version,
+        total,
+        skipped,
+        torn,
+        ..
+    } = loaded;
+    let unique = loaded.table.len() as u64;
+    let due = yes_or_no(is_due(*version, *total, unique));
+    format!(in alloc;
+        "version {version}\ntotal {total}\nunique {unique}\nskipped {skipped}\ntorn {torn}\ndue {due}\n"
+    )
+}
+
+fn yes_or_no(yes: bool) -> &'static str
+    ensures { result.now ≡ yes_or_no yes }
+{
+    if yes { "yes" } else { "no" }
+}

@@ -1,0 +1,32 @@
+//! Loading the log that a reader gives.
+ghost use Rattle.std.specs.Prelude.{◌≡◌, IfErr, IfOk, IfSome, IsErrOf};
+ghost use Rattle.nl_table.specs.Log.{NotALog, OtherVersion};
+ghost use Rattle.nl_versions.specs.Loading.{IsLoadFor};
+ghost use Rattle.nl_versions.specs.LogAs.{log_for};
+ghost use Rattle.nl_tool_texts.specs.declared.fault.ToolFault.{ToolFault};
+ghost use Rattle.nl_tool_print.specs.Faults.{IsLogFault};
+
+use nl_lines::ReadSource;
+use nl_table::Loaded;
+use nl_tool_texts::ToolFault;
+use nl_versions::{LogVersion, load_seen};
+use std::alloc::Global;
+use std::io::Read;
+
+/// The table and the counts of the bytes that the reader has left, and the version as one of which they are taken: the one that
+/// is asked for, or where none is, the one that their first line names.
+pub fn load_read<R: Read + Drop>(
+    alloc: Global,
+    asked: Option<LogVersion>,
+    reader: R,
+) -> Result<(LogVersion, Loaded), ToolFault>
+    ensures loaded { IfOk result (λ both. IsLoadFor asked (R.remaining reader) both.0 both.1) }
+    ensures not_a_log { IsErrOf result ToolFault.NotALog
+        → IfSome (R.remaining reader) (λ bs. log_for asked bs ≡ NotALog) }
+    ensures other_version { IsErrOf result ToolFault.OtherVersion
+        → IfSome (R.remaining reader) (λ bs. log_for asked bs ≡ OtherVersion) }
+    ensures faults { IfErr result IsLogFault }
+    ensures write { IsErrOf result ToolFault.Write → ⊥ }
+{
+    Ok(load_seen(alloc, asked, ReadSource::new(reader))?)
+}

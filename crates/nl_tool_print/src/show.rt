@@ -1,0 +1,105 @@
+//! The command `show`.
+ghost use Rattle.std.specs.Prelude.{◌≡◌, ◌+◌, ◌≤◌, [], map, vec_len, vec_capacity, IfErr, IfSome, IsErrOf, OnErr, OnOk};
+ghost use Rattle.std.specs.Io.KnownBytes.{Appends};
+ghost use Rattle.nl_fields.specs.EntryLine.{line_of};
+ghost use Rattle.nl_lines.specs.Split.{joined};
+ghost use Rattle.nl_table.specs.Log.{log_of, NotALog, OtherVersion};
+ghost use Rattle.nl_tool_print.specs.Faults.{IsLogFault};
+ghost use Rattle.nl_tool_texts.specs.Output.{AppendsPrefixOf, Prints};
+ghost use Rattle.nl_tool_print.specs.Output.{IsTextAsRead, HoldsAllBut, show_text_of};
+ghost use Rattle.nl_versions.specs.LogAs.{log_for};
+ghost use Rattle.nl_tool_print.specs.Versions.{show_text_for};
+ghost use Rattle.nl_tool_texts.specs.declared.fault.ToolFault.{ToolFault};
+
+use crate::loading::load_read;
+use nl_fields::{MAX_ENTRY_LINE, append_entry};
+use nl_table::Table;
+use nl_tool_texts::{ToolFault, write_out};
+use nl_versions::LogVersion;
+use std::alloc::Global;
+use std::io::{Read, Write};
+
+// The bytes of lines that are held before they are written: more than the longest line.
+pub const PIECE: usize = 262_144;
+
+/// Writes the last entry of each output of the log that the reader gives, a line each.
+pub fn show_to<R: Read + Drop, W: Write>(
+    alloc: Global,
+    reader: R,
+    writer: &mut W,
+) -> Result<(), ToolFault>
+    ensures prints { Prints (IsTextAsRead show_text_of (R.remaining reader)) (W.contents writer.old)
+        (W.contents writer.new) result }
+    ensures not_a_log { IsErrOf result ToolFault.NotALog
+        → IfSome (R.remaining reader) (λ bs. log_of bs ≡ NotALog) }
+    ensures other_version { IsErrOf result ToolFault.OtherVersion
+        → IfSome (R.remaining reader) (λ bs. log_of bs ≡ OtherVersion) }
+    ensures faults { IfErr result IsLogFault }
+{
+    show_log(alloc, Some(LogVersion::Five), reader, writer)
+}
+
+/// Writes the last entry of each output of a log of the version that is asked for, or where none is, of the one that its first
+/// line names, a line each.
+pub fn show_log<R: Read + Drop, W: Write>(
+    alloc: Global,
+    asked: Option<LogVersion>,
+    reader: R,
+    writer: &mut W,
+) -> Result<(), ToolFault>
+    ensures prints { Prints (IsTextAsRead (show_text_for asked) (R.remaining reader))
+        (W.contents writer.old) (W.contents writer.new) result }
+    ensures not_a_log { IsErrOf result ToolFault.NotALog
+        → IfSome (R.remaining reader) (λ bs. log_for asked bs ≡ NotALog) }
+    ensures other_version { IsErrOf result ToolFault.OtherVersion
+        → IfSome (R.remaining reader) (λ bs. log_for asked bs ≡ OtherVersion) }
+    ensures faults { IfErr result IsLogFault }
+{
+    let (_, loaded) = load_read(alloc, asked, reader)?;
+    // All that the output takes is taken before the first write, so what can fail from here on is a write.
+    let mut piece = Vec::with_capacity(alloc, PIECE)?;
+    write_lines(&loaded.table, &mut piece, writer)
+}
+
+// Writes the line of each entry, in order, as many at a time as the piece has room for.
+pub fn write_lines<W: Write>(
+    table: &Table,
+    piece: &mut Vec<u8>,
+    writer: &mut W,
+) -> Result<(), ToolFault>
+    requires empty { piece.old.items ≡ [] }
+    requires room { MAX_ENTRY_LINE ≤ vec_capacity piece.old }
+    ensures capacity { vec_capacity piece.old ≤ vec_capacity piece.new }
+    ensures ok { OnOk result
+        (Appends (W.contents writer.old) (W.contents writer.new) (joined (map line_of table.now))) }
+    ensures prefix { OnErr result (AppendsPrefixOf (W.contents writer.old) (W.contents writer.new)
+        (joined (map line_of table.now))) }
+    ensures faults { IfErr result (λ e. e ≡ ToolFault.Write) }
+{
+    for place in 0..table.len() {
+        if let Some(entry) = table.at(place) {
+            make_room(piece, writer)?;
+            append_entry(&entry, piece).unwrap();
+        }
+    }
+    write_out(piece.as_slice(), writer)
+}
+
+// Writes what is held where the longest line might not fit after it.
+pub fn make_room<W: Write>(held: &mut Vec<u8>, writer: &mut W) -> Result<(), ToolFault>
+    requires { MAX_ENTRY_LINE ≤ vec_capacity held.old }
+    ensures room { OnOk result (vec_len held.new + MAX_ENTRY_LINE ≤ vec_capacity held.new) }
+    ensures capacity { vec_capacity held.old ≤ vec_capacity held.new }
+    ensures moved { OnOk result (HoldsAllBut (W.contents writer.old)
+        (W.contents writer.new) held.old.items held.new.items) }
+    ensures prefix { OnErr result
+        (AppendsPrefixOf (W.contents writer.old) (W.contents writer.new) held.old.items) }
+    ensures faults { IfErr result (λ e. e ≡ ToolFault.Write) }
+{
+    if held.capacity() - held.len() >= MAX_ENTRY_LINE {
+        return Ok(());
+    }
+    write_out(held.as_slice(), writer)?;
+    held.clear();
+    Ok(())
+}

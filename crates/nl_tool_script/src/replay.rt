@@ -1,0 +1,104 @@
+//! The command `replay`.
+ghost use Rattle.std.specs.Prelude.{◌≡◌, [], true, false, Some, IfErr, IfOk};
+ghost use Rattle.nl_folder.specs.DiskState.{durable_disk, empty_file};
+ghost use Rattle.nl_folder.specs.MemFolder.{mem_state_of, failure_count, choices_of};
+ghost use Rattle.nl_tool_script.specs.Faults.{IsReplayFault};
+ghost use Rattle.nl_tool_texts.specs.Output.{Prints};
+ghost use Rattle.nl_tool_script.specs.Replay.{IsReplayOf, IsReplayText, printed, reply_words, told_by};
+
+use crate::script::{Script, read_script};
+use nl_folder::MemFolder;
+use nl_session::{Event, LogFault, Outcome, Reply, run_events};
+use nl_tool_texts::{ToolFault, write_out};
+use std::alloc::{AllocError, Global};
+use std::fmt;
+use std::io::{Read, Write};
+
+/// Runs the events of the script that the reader gives, over a folder in memory whose log is empty, and writes the replies
+/// and the log that they leave.
+pub fn replay_to<R: Read + Drop, W: Write>(
+    alloc: Global,
+    reader: R,
+    writer: &mut W,
+) -> Result<(), ToolFault>
+    ensures prints { Prints (IsReplayText (R.remaining reader)) (W.contents writer.old)
+        (W.contents writer.new) result }
+    ensures faults { IfErr result IsReplayFault }
+{
+    let script = read_script(alloc, reader)?;
+    let text = run_script(alloc, script)?;
+    write_out(text.as_slice(), writer)
+}
+
+// A folder in memory whose log is empty, which is told what the script sets, and the events.
+fn set_up(alloc: Global, script: Script) -> (MemFolder, Vec<Event>)
+    ensures state { mem_state_of result.0
+        ≡ record {
+          disk = Some (durable_disk [] empty_file);
+          is_settled = true;
+          has_scratch = false;
+        } }
+    ensures failures { failure_count result.0 ≡ 0 }
+    ensures choices { choices_of result.0 ≡ told_by script }
+    ensures events { result.1.items ≡ script.events.items }
+{
+    let Script {
+        writes,
+        fates,
+        tails,
+        fuse,
+        events,
+    } = script;
+    let mut folder = MemFolder::new(alloc, Vec::new(alloc), writes, fates, fuse);
+    folder.set_tails(tails);
+    (folder, events)
+}
+
+// What is printed of a script.
+fn run_script(alloc: Global, script: Script) -> Result<Vec<u8>, AllocError>
+    ensures value { IfOk result (λ text. IsReplayOf script.events.items text.items) }
+{
+    let (folder, events) = set_up(alloc, script);
+    let (folder, replies, outcome) = run_events(alloc, folder, &events);
+    match outcome {
+        Outcome::Whole => text_of(alloc, &replies, folder.log_bytes()),
+        Outcome::OutOfMemory { .. } => Err(AllocError),
+    }
+}
+
+// The replies, a line each, and the log behind a line with its length.
+fn text_of(alloc: Global, replies: &[Reply], log: &[u8]) -> Result<Vec<u8>, AllocError>
+    ensures value { IfOk result (λ text. text.items ≡ printed replies.now log.now) }
+{
+    let mut text = Vec::new(alloc);
+    for reply in replies {
+        let line = format!(in alloc; "{}\n", Answer(*reply))?;
+        text.extend_from_slice(line.as_bytes())?;
+    }
+    let line = format!(in alloc; "log {}\n", log.len())?;
+    text.extend_from_slice(line.as_bytes())?;
+    text.extend_from_slice(log)?;
+    Ok(text)
+}
+
+// A reply as it is printed.
+#[derive(Clone, Copy)]
+struct Answer(Reply);
+
+impl fmt::Display for Answer {
+    ghost output = { λ a. Some (reply_words a.0) };
+
+    fn fmt<W: fmt::Write>(&self, f: &mut fmt::Formatter<W>) -> fmt::Result {
+        match self.0 {
+            Reply::Done => write!(f, "ok"),
+            Reply::Refused(LogFault::NotOpen) => write!(f, "S1 NotOpen"),
+            Reply::Refused(LogFault::AlreadyOpen) => write!(f, "S2 AlreadyOpen"),
+            Reply::Refused(LogFault::Broken) => write!(f, "S3 Broken"),
+            Reply::Refused(LogFault::NegativeTime(index)) => write!(f, "S4 NegativeTime {index}"),
+            Reply::Refused(LogFault::NotALog) => write!(f, "S5 NotALog"),
+            Reply::Refused(LogFault::OtherVersion) => write!(f, "S6 OtherVersion"),
+            Reply::Refused(LogFault::OutOfMemory) => write!(f, "S7 OutOfMemory"),
+            Reply::Refused(LogFault::Fault) => write!(f, "S8 Fault"),
+        }
+    }
+}

@@ -1,0 +1,96 @@
+//! Why a command of the tool is refused, and the text that says so.
+ghost use Rattle.std.specs.Prelude.{◌≡◌, Some};
+ghost use Rattle.nl_tool_texts.specs.Faults.{of_line_fault, of_load_fault, fault_text};
+ghost use Rattle.nl_tool_texts.specs.declared.fault.ToolFault.TheVariants.{Memory};
+
+use nl_lines::LineFault;
+use nl_table::LoadFault;
+use std::alloc::AllocError;
+use std::error::Error;
+use std::fmt;
+
+/// Why a command was refused. Its `Display` is the text for the user.
+#[derive(Clone, Copy, Debug, PartialEq, Eq)]
+pub enum ToolFault {
+    NotALog,
+    OtherVersion,
+    Read,
+    Memory,
+    Write,
+    /// A call of the log's folder failed.
+    Folder,
+    /// The index, from 0, of the first pair of TIMES whose mtime is negative.
+    NegativeTime(usize),
+    /// START, END or MTIME of `record` is no number in its one spelling, or out of its range.
+    BadNumber,
+    EmptyName,
+    /// The place, from 0, of the first byte that no name may have.
+    BadByte(usize),
+    LongName,
+    /// The number, from 1, of the first bad line of KEEP, TIMES or SCRIPT. Lines that are ignored are counted.
+    BadLine(u64),
+}
+
+impl fmt::Display for ToolFault {
+    ghost output = { λ f. Some (fault_text f) };
+
+    fn fmt<W: fmt::Write>(&self, f: &mut fmt::Formatter<W>) -> fmt::Result {
+        match self {
+            ToolFault::NotALog => write!(f, "not a ninja log"),
+            ToolFault::OtherVersion => write!(f, "log version not supported"),
+            ToolFault::Read => write!(f, "cannot read"),
+            ToolFault::Memory => write!(f, "out of memory"),
+            ToolFault::Write => write!(f, "cannot write"),
+            ToolFault::Folder => write!(f, "the folder failed"),
+            ToolFault::NegativeTime(index) => write!(f, "negative time at pair {index}"),
+            ToolFault::BadNumber => write!(f, "bad number"),
+            ToolFault::EmptyName => write!(f, "empty name"),
+            ToolFault::BadByte(at) => write!(f, "bad byte in name at {at}"),
+            ToolFault::LongName => write!(f, "name too long"),
+            ToolFault::BadLine(number) => write!(f, "bad line {number}"),
+        }
+    }
+}
+
+impl Error for ToolFault {}
+
+impl From<AllocError> for ToolFault {
+    ghost from_gives = { λ _ f. f ≡ Memory };
+
+    fn from(_error: AllocError) -> ToolFault {
+        ToolFault::Memory
+    }
+}
+
+impl From<LineFault> for ToolFault {
+    ghost from_gives = { λ fault f. f ≡ of_line_fault fault };
+
+    fn from(fault: LineFault) -> ToolFault {
+        match fault {
+            LineFault::OutOfMemory => ToolFault::Memory,
+            LineFault::Read | LineFault::Failed | LineFault::TooLarge => ToolFault::Read,
+        }
+    }
+}
+
+impl From<LoadFault> for ToolFault {
+    ghost from_gives = { λ fault f. f ≡ of_load_fault fault };
+
+    fn from(fault: LoadFault) -> ToolFault {
+        match fault {
+            LoadFault::NotALog => ToolFault::NotALog,
+            LoadFault::OtherVersion => ToolFault::OtherVersion,
+            LoadFault::Read => ToolFault::Read,
+            LoadFault::OutOfMemory => ToolFault::Memory,
+        }
+    }
+}
+
+const REFUSED: u8 = 1;
+
+/// The status with which a program ends after this fault.
+pub fn status_of(_fault: &ToolFault) -> u8
+    ensures value { result ≡ 1 }
+{
+    REFUSED
+}

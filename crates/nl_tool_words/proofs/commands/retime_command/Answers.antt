@@ -1,0 +1,19 @@
+use Rattle.std.proofs.Common.{◌∙◌}
+use Rattle.std.proofs.lemmas.Result.{IfOk-weaker}
+use Rattle.nl_tool_words.proofs.CommandLemmas.{about_keeps, about_local, after_help_keeps, after_help_local, with_one}
+use Rattle.nl_tool_words.proofs.commands.retime_command.Goals as goal
+
+pub returns-clause-shape : goal.returns-clause-shape
+returns-clause-shape c =
+    let made = after_help_keeps _ _ _ _ c.after_help-command.ensures (about_keeps _ _ _ _ c.about.ensures c.new.ensures.app) in
+    let one = with_one _ _ _ _ c.in_ok-command.ensures.shape made in
+    let two = with_one _ _ _ _ c.in_ok-command-2.ensures.shape one in
+    IfOk-weaker c.with_version.result _ _ (λ r h. with_one _ _ _ _ h two) c.with_version.ensures.shape
+
+pub returns-clause-local : goal.returns-clause-local
+returns-clause-local c =
+    let made = about_local _ _ _ c.about.ensures c.new.ensures.local in
+    let helped = after_help_local _ _ _ c.after_help-command.ensures made in
+    let one = c.in_ok-command.ensures.local ∙ helped in
+    let two = c.in_ok-command-2.ensures.local ∙ one in
+    IfOk-weaker c.with_version.result _ _ (λ r h. h ∙ two) c.with_version.ensures.local

@@ -1,0 +1,13 @@
+use Rattle.std.proofs.lemmas.Result.{IfOk-weaker}
+use Rattle.nl_tool_words.proofs.DefinitionLemmas.{added_as_named}
+use Rattle.nl_tool_words.proofs.definition.nlog_command.Goals as goal
+
+pub returns : goal.returns
+returns c =
+    let two = added_as_named _ _ _ _ c.record_command.result c.in_ok-nlog-2.ensures c.in_ok-nlog.ensures c.record_command.ensures.shape in
+    let three = added_as_named _ _ _ _ c.recompact_command.result c.in_ok-nlog-3.ensures two c.recompact_command.ensures.shape in
+    let four = added_as_named _ _ _ _ c.restat_command.result c.in_ok-nlog-4.ensures three c.restat_command.ensures.shape in
+    let five = added_as_named _ _ _ _ c.repair_command.result c.in_ok-nlog-5.ensures four c.repair_command.ensures.shape in
+    let six = added_as_named _ _ _ _ c.replay_command.result c.in_ok-nlog-6.ensures five c.replay_command.ensures.shape in
+    IfOk-weaker c.with_made-6.result _ _ (λ r h.
+    added_as_named _ _ _ _ c.apply_command.result h six c.apply_command.ensures.shape) c.with_made-6.ensures

@@ -1,0 +1,17 @@
+use Rattle.std.proofs.Common.{rules, ◌≡◌, ◌∙◌, ap, false, refl}
+use Rattle.std.proofs.lemmas.Result.{IfOk-weaker}
+use Rattle.clap.specs.Words.{app_of, with_rule}
+use Rattle.nl_tool_words.proofs.ValueLemmas.{or_false, verbose_told}
+use Rattle.nl_tool_words.proofs.definition.with_verbose.Goals as goal
+
+pub returns-clause-shape : goal.returns-clause-shape
+returns-clause-shape c =
+    let local : c.help.result.global ≡ false = search rules in
+    let is = verbose_told c.new.result c.long.result c.short-flag.result c.action-flag.result c.help.result _ _ _ c.long.ensures
+    c.short-flag.ensures c.action-flag.ensures c.help.ensures c.new.ensures.rule refl refl in
+    IfOk-weaker c.arg.result _ _ (λ r h. h.shape local ∙ ap (with_rule (app_of c.args.command)) is) c.arg.ensures
+
+pub returns-clause-local : goal.returns-clause-local
+returns-clause-local c =
+    let local : c.help.result.global ≡ false = search rules in
+    IfOk-weaker c.arg.result _ _ (λ r h. h.globals ∙ or_false _ _ local) c.arg.ensures

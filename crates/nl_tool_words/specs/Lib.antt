@@ -1,0 +1,3 @@
+pub mod Form
+pub mod CommandLine
+pub use Rattle.clap.specs.Words

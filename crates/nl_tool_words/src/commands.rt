@@ -1,0 +1,681 @@
+//! The commands of the program, each with its values and the texts of its help.
+ghost use Rattle.std.specs.Prelude.{◌≡◌, IfOk, false};
+ghost use Rattle.clap.specs.Words.{app_of, with_rule};
+ghost use Rattle.clap.specs.declared.builder.command.Command.TheViews.{out-Command};
+ghost use Rattle.nl_tool_words.specs.CommandLine.{all_rule, apply, build_rule, builds, check, compare, damage, doubt, entries, files_rule, hash, hash_file, lines_rule, manifest_rule, missing_rule, positional, pruning, recompact};
+ghost use Rattle.nl_tool_words.specs.CommandLine.{picture, record_line, record_values, repair, replay, restat, retiming, show, summary, trace, version_rule, with_any_log};
+
+use clap::{Arg, ArgAction, Command};
+use std::alloc::{AllocError, Global};
+
+const LOG: &str = "A build log of Ninja, version 4 or 5; 6 or 7 with `--log-version`";
+
+const OPTIONAL_LOG: &str =
+    "A build log of Ninja, version 4 or 5; 6 or 7 with `--log-version`; standard input where it is left out";
+
+const ANY_LOG: &str = "A build log of Ninja, version 4 to 7";
+
+const OPTIONAL_ANY_LOG: &str =
+    "A build log of Ninja, version 4 to 7; standard input where it is left out";
+
+const OLD: &str = "The log of before, version 4 to 7";
+
+const NEW: &str = "The log of after, version 4 to 7";
+
+const LOG_VERSION: &str =
+    "5, 6 or 7: the version of LOG; auto: the one that its first line names; 4 or 5 where it is left out";
+
+const HASH_VERSION: &str =
+    "5, 6 or 7: the version of the logs that hold the hash; auto: 5, as where it is left out";
+
+const LINES: &str = "How many lines each list has at most: 10 where it is left out; 0 for none";
+
+const BUILD: &str =
+    "The number of a build, as `builds` tells it; the last build where it is left out";
+
+const AUTO_VERSION: &str =
+    "auto alone: the version is the one that LOG's first line names, as where it is left out";
+
+const OWN_VERSION: &str =
+    "5, 6 or 7: the version of LOG; auto: the one that its first line names, as where it is left out";
+
+// The command with one more value, which stands by its place.
+fn with_value<'a>(
+    alloc: Global,
+    command: Command<'a>,
+    id: &'a str,
+    required: bool,
+    help: &'a str,
+) -> Result<Command<'a>, AllocError>
+    ensures shape { IfOk result
+        (λ c. app_of c ≡ with_rule (app_of command.entry) (positional id.entry.now required)) }
+    ensures local { IfOk result
+        (λ c. (out-Command c).has_globals ≡ (out-Command command.entry).has_globals) }
+{
+    command.arg(Arg::new(alloc, id).required(required).help(help))
+}
+
+// The command with the option for the version of its logs.
+fn with_version<'a>(
+    alloc: Global,
+    command: Command<'a>,
+    help: &'a str,
+) -> Result<Command<'a>, AllocError>
+    ensures shape { IfOk result (λ c. app_of c ≡ with_rule (app_of command.entry) version_rule) }
+    ensures local { IfOk result
+        (λ c. (out-Command c).has_globals ≡ (out-Command command.entry).has_globals) }
+{
+    let option = Arg::new(alloc, "log-version")
+        .long("log-version")
+        .value_name("VERSION");
+    command.arg(option.help(help))
+}
+
+// The command with the option for how many lines its lists have.
+fn with_lines<'a>(
+    alloc: Global,
+    command: Command<'a>,
+    help: &'a str,
+) -> Result<Command<'a>, AllocError>
+    ensures shape { IfOk result (λ c. app_of c ≡ with_rule (app_of command.entry) lines_rule) }
+    ensures local { IfOk result
+        (λ c. (out-Command c).has_globals ≡ (out-Command command.entry).has_globals) }
+{
+    let option = Arg::new(alloc, "lines").long("lines").short('n');
+    command.arg(option.value_name("N").help(help))
+}
+
+// The command with the option for the number of a build.
+fn with_build<'a>(alloc: Global, command: Command<'a>) -> Result<Command<'a>, AllocError>
+    ensures shape { IfOk result (λ c. app_of c ≡ with_rule (app_of command.entry) build_rule) }
+    ensures local { IfOk result
+        (λ c. (out-Command c).has_globals ≡ (out-Command command.entry).has_globals) }
+{
+    let option = Arg::new(alloc, "build").long("build");
+    command.arg(option.value_name("BUILD").help(BUILD))
+}
+
+// The command with the flag for all outputs.
+fn with_all<'a>(alloc: Global, command: Command<'a>) -> Result<Command<'a>, AllocError>
+    ensures shape { IfOk result (λ c. app_of c ≡ with_rule (app_of command.entry) all_rule) }
+    ensures local { IfOk result
+        (λ c. (out-Command c).has_globals ≡ (out-Command command.entry).has_globals) }
+{
+    let flag = Arg::new(alloc, "all").long("all");
+    let flag = flag.action(ArgAction::SetTrue);
+    command.arg(flag.help("Tells of the last entry of each output, as if they were one build"))
+}
+
+// The command with the flag by which a log may be missing.
+fn with_missing_ok<'a>(alloc: Global, command: Command<'a>) -> Result<Command<'a>, AllocError>
+    ensures shape { IfOk result (λ c. app_of c ≡ with_rule (app_of command.entry) missing_rule) }
+    ensures local { IfOk result
+        (λ c. (out-Command c).has_globals ≡ (out-Command command.entry).has_globals) }
+{
+    let flag = Arg::new(alloc, "missing-ok").long("missing-ok");
+    let flag = flag.action(ArgAction::SetTrue);
+    command.arg(flag.help("Takes a LOG that is missing for an empty one"))
+}
+
+// The command with the option for the targets of a build.
+fn with_manifest<'a>(alloc: Global, command: Command<'a>) -> Result<Command<'a>, AllocError>
+    ensures shape { IfOk result (λ c. app_of c ≡ with_rule (app_of command.entry) manifest_rule) }
+    ensures local { IfOk result
+        (λ c. (out-Command c).has_globals ≡ (out-Command command.entry).has_globals) }
+{
+    let option = Arg::new(alloc, "manifest")
+        .long("manifest")
+        .value_name("FILE");
+    command.arg(option.help("What `ninja -t targets all` prints; `-` is standard input"))
+}
+
+// The command with the flag by which the files are asked.
+fn with_files<'a>(alloc: Global, command: Command<'a>) -> Result<Command<'a>, AllocError>
+    ensures shape { IfOk result (λ c. app_of c ≡ with_rule (app_of command.entry) files_rule) }
+    ensures local { IfOk result
+        (λ c. (out-Command c).has_globals ≡ (out-Command command.entry).has_globals) }
+{
+    let flag = Arg::new(alloc, "files").long("files");
+    let flag = flag.action(ArgAction::SetTrue);
+    command.arg(flag.help("Takes the time stamps of the files"))
+}
+
+// The command with a log that tells its version itself, and which has to be there.
+fn with_any_log<'a>(alloc: Global, command: Command<'a>) -> Result<Command<'a>, AllocError>
+    ensures shape { IfOk result (λ c. app_of c ≡ with_any_log (app_of command.entry)) }
+    ensures local { IfOk result
+        (λ c. (out-Command c).has_globals ≡ (out-Command command.entry).has_globals) }
+{
+    let command = with_value(alloc, command, "LOG", false, OPTIONAL_ANY_LOG)?;
+    let command = with_version(alloc, command, AUTO_VERSION)?;
+    with_missing_ok(alloc, command)
+}
+
+pub fn show_command<'a>(alloc: Global) -> Result<Command<'a>, AllocError>
+    ensures shape { IfOk result (λ c. app_of c ≡ show) }
+    ensures local { IfOk result (λ c. (out-Command c).has_globals ≡ false) }
+{
+    let command = Command::new(alloc, "show")
+        .about(
+            "Prints the last entry of each output, in the order in which the outputs first appear",
+        )
+        .after_help(
+            "\
+One line for each output: START, END, MTIME, NAME and HASH with a tab between neighbours.
+
+START  when its command began, in milliseconds since the build began
+END    when its command ended, in milliseconds since the build began
+MTIME  the time stamp that the build recorded, in the unit of its file system: Ninja on Linux
+       writes nanoseconds since 1970
+NAME   the output
+HASH   the hash of the command, in hexadecimal",
+        );
+    let command = with_value(alloc, command, "LOG", false, OPTIONAL_LOG)?;
+    with_version(alloc, command, LOG_VERSION)
+}
+
+pub fn check_command<'a>(alloc: Global) -> Result<Command<'a>, AllocError>
+    ensures shape { IfOk result (λ c. app_of c ≡ check) }
+    ensures local { IfOk result (λ c. (out-Command c).has_globals ≡ false) }
+{
+    let command = Command::new(alloc, "check")
+        .about("Prints what a log holds: version, total, unique, skipped, torn, due")
+        .after_help(
+            "\
+version  the log's version: 4 or 5; 6 or 7 with `--log-version`
+total    how many of its lines are entries
+unique   how many outputs these entries have
+skipped  how many whole lines after the first are no entries
+torn     how many bytes stand after the last newline
+due      `yes` where a build would recompact the log, else `no`",
+        );
+    let command = with_value(alloc, command, "LOG", false, OPTIONAL_LOG)?;
+    with_version(alloc, command, LOG_VERSION)
+}
+
+pub fn hash_command<'a>(alloc: Global) -> Result<Command<'a>, AllocError>
+    ensures shape { IfOk result (λ c. app_of c ≡ hash) }
+    ensures local { IfOk result (λ c. (out-Command c).has_globals ≡ false) }
+{
+    let command = Command::new(alloc, "hash").about(
+        "Prints the hash of a command as a log holds it, in hexadecimal",
+    );
+    let command = with_value(
+        alloc,
+        command,
+        "COMMAND",
+        true,
+        "The command's text, as one word",
+    )?;
+    with_version(alloc, command, HASH_VERSION)
+}
+
+pub fn entries_command<'a>(alloc: Global) -> Result<Command<'a>, AllocError>
+    ensures shape { IfOk result (λ c. app_of c ≡ entries) }
+    ensures local { IfOk result (λ c. (out-Command c).has_globals ≡ false) }
+{
+    let command = Command::new(alloc, "entries")
+        .about("Prints each entry, older ones included, in the order of the file")
+        .after_help(
+            "\
+The lines are those of `show`, which has the last entry of each output alone. They are printed while
+LOG is read, so where a read fails, or LOG is larger than a log may be, the first ones were printed.
+The entry that was written last is printed by
+
+  nlog entries .ninja_log | tail -n 1",
+        );
+    with_any_log(alloc, command)
+}
+
+pub fn damage_command<'a>(alloc: Global) -> Result<Command<'a>, AllocError>
+    ensures shape { IfOk result (λ c. app_of c ≡ damage) }
+    ensures local { IfOk result (λ c. (out-Command c).has_globals ≡ false) }
+{
+    let command = Command::new(alloc, "damage")
+        .about("Prints a line for each line that is no entry; status 3 where there is one")
+        .after_help(
+            "\
+One line for each: LINE, WHAT, LENGTH, OUTPUT and FIRST with a tab between neighbours.
+
+LINE    its number; 1 is the first line of LOG, which is told only where it is torn
+WHAT    `skipped`: it is no entry; `long`: it has more than 262143 bytes; `torn`: the bytes after
+        the last newline
+LENGTH  its bytes, without the newline
+OUTPUT  the output of the entry at the line's end, also where that was written behind a torn one;
+        else `-`
+FIRST   the output that Ninja takes the line for an entry of, between the third tab and the
+        fourth, as that of the torn line; else `-`
+
+Status: 0 where nothing is printed, 3 where there is damage. A log is repaired where it has some by
+
+  nlog damage --missing-ok .ninja_log >> damaged || { test $? = 3 && nlog repair .ninja_log; }
+
+Before Ninja runs, remove the files that the last two columns of `damaged` name. Where both are `-`,
+remove LOG.",
+        );
+    with_any_log(alloc, command)
+}
+
+pub fn doubt_command<'a>(alloc: Global) -> Result<Command<'a>, AllocError>
+    ensures shape { IfOk result (λ c. app_of c ≡ doubt) }
+    ensures local { IfOk result (λ c. (out-Command c).has_globals ≡ false) }
+{
+    let command = Command::new(alloc, "doubt")
+        .about("Prints the outputs whose files aren't as a log says; status 3 where there is one")
+        .after_help(
+            "\
+Run it in the folder of the build: it looks at the file of each output. A crash can take the line of a
+command and leave its file, and then an older entry passes for it. One line for each output, by its
+last entry: WHAT and NAME with a tab between them.
+
+WHAT  `newer`: the file was written behind what the entry says, so the entry isn't of the command
+      that wrote it; `missing`: there is no file; `directory`: the output is one, so its time says
+      nothing; `no-time`: the entry has no time; `unknown`: the file can't be looked at
+NAME  the output
+
+Remove the files that are newer, but not `build.ninja`, and build. Their names are printed by
+
+  nlog doubt .ninja_log | sed -n 's/^newer\t//p'
+
+Status: 0 where nothing is printed, 3 where something is. A LOG that is missing is refused.",
+        );
+    let command = with_value(alloc, command, "LOG", false, OPTIONAL_ANY_LOG)?;
+    with_version(alloc, command, AUTO_VERSION)
+}
+
+pub fn builds_command<'a>(alloc: Global) -> Result<Command<'a>, AllocError>
+    ensures shape { IfOk result (λ c. app_of c ≡ builds) }
+    ensures local { IfOk result (λ c. (out-Command c).has_globals ≡ false) }
+{
+    let command = Command::new(alloc, "builds")
+        .about("Prints a line for each build that a log still tells: what it ran, and how long")
+        .after_help(
+            "\
+One line for each, the oldest first: NUMBER, COMMANDS, OUTPUTS, WALL and TOTAL with a tab between
+neighbours.
+
+NUMBER    its number, from 1
+COMMANDS  how many commands ended in it; neighbours with one START, END and HASH are of one, and an
+          intent is of none
+OUTPUTS   how many outputs these made
+WALL      milliseconds from the first START to the last END
+TOTAL     the sum of the commands' times, in milliseconds; TOTAL / WALL ran at a time
+
+A build begins where END falls. So two builds are one line if the second's first command took longer
+than the whole first build, and a log that was rewritten doesn't tell its builds any more. The last
+build is told by
+
+  nlog builds .ninja_log | tail -n 1",
+        );
+    with_any_log(alloc, command)
+}
+
+pub fn summary_command<'a>(alloc: Global) -> Result<Command<'a>, AllocError>
+    ensures shape { IfOk result (λ c. app_of c ≡ summary) }
+    ensures local { IfOk result (λ c. (out-Command c).has_globals ≡ false) }
+{
+    let command = Command::new(alloc, "summary")
+        .about("Prints how long a build took, how much ran at a time, and its slowest commands")
+        .after_help(
+            "\
+commands  how many commands ended in it
+outputs   how many outputs these made
+wall      milliseconds from the first START to the last END
+total     the sum of the commands' times, in milliseconds
+busy      milliseconds in which one command at least ran
+alone     milliseconds in which one command alone ran
+parallel  how many commands ran at a time in the mean: total / wall, rounded down
+slowest   the command that took the longest: its milliseconds, and its first output
+
+A line `unfinished` tells how many outputs wait for a command that didn't end, where one does.
+
+Two lists of commands follow: those that took the longest, and those with the longest weighted time.
+One line for each: KEY, TIME, WEIGHTED and OUTPUT with a space between neighbours.
+
+KEY       `by-time` or `by-weight`: what the list goes by; equal ones stand as in LOG
+TIME      how long the command took, in milliseconds
+WEIGHTED  the same, where a millisecond in which k commands ran counts 1/k; rounded down
+OUTPUT    its first output
+
+Commands and builds are those of `builds`. Where LOG has no entry, nothing is printed. Where it has
+fewer builds than BUILD, a line `builds` tells how many it has, in the place of all but `unfinished`.
+With `--all`, each START and END counts from the beginning of its own build.",
+        );
+    let command = with_any_log(alloc, command)?;
+    let command = with_build(alloc, command)?;
+    let command = with_all(alloc, command)?;
+    with_lines(alloc, command, LINES)
+}
+
+pub fn compare_command<'a>(alloc: Global) -> Result<Command<'a>, AllocError>
+    ensures shape { IfOk result (λ c. app_of c ≡ compare) }
+    ensures local { IfOk result (λ c. (out-Command c).has_globals ≡ false) }
+{
+    let command = Command::new(alloc, "compare")
+        .about("Prints which outputs are new, gone, changed, slower and faster in another log")
+        .after_help(
+            "\
+It compares the last entry of each output, by the time of its command. One line tells whether hashes
+were compared, and seven lines tell the total of each class: `total`, CLASS, COUNT, DIFFERENCE, BEFORE
+and AFTER with a tab between neighbours. A list for each class but the last follows, the largest
+differences first: CLASS, DIFFERENCE, BEFORE, AFTER and OUTPUT.
+
+CLASS       `new`: NEW alone has the output; `gone`: OLD alone; `changed`: the command has another hash;
+            `slower`, `faster`: it has the same; `unfinished`: one of the two says that the command
+            didn't end; `same`: as long as before
+COUNT       how many outputs are of the class
+DIFFERENCE  AFTER - BEFORE
+BEFORE      milliseconds that the command took in OLD, 0 where it isn't there; of a total their sum
+AFTER       the same in NEW
+OUTPUT      the output; equal differences stand as in OLD, new ones as in NEW
+
+A log of version 7 has other hashes than older ones, so between these nothing is `changed`. A command
+with several outputs counts once for each.",
+        );
+    let command = with_value(alloc, command, "OLD", true, OLD)?;
+    let command = with_value(alloc, command, "NEW", true, NEW)?;
+    let command = with_version(alloc, command, AUTO_VERSION)?;
+    let command = with_missing_ok(alloc, command)?;
+    with_lines(alloc, command, LINES)
+}
+
+pub fn trace_command<'a>(alloc: Global) -> Result<Command<'a>, AllocError>
+    ensures shape { IfOk result (λ c. app_of c ≡ trace) }
+    ensures local { IfOk result (λ c. (out-Command c).has_globals ≡ false) }
+{
+    let command = Command::new(alloc, "trace")
+        .about(
+            "Prints the last build as JSON for a trace viewer: a lane for what ran beside others",
+        )
+        .after_help(
+            "\
+A JSON array of events in Chrome's format, which https://ui.perfetto.dev and chrome://tracing open:
+
+  nlog trace .ninja_log > trace.json
+
+\"ph\":\"M\"  the build: \"pid\" is its number, as `builds` has it
+\"ph\":\"X\"  a command: \"tid\" is its lane, \"ts\" when it began, in microseconds from the first START of
+          the build, \"dur\" how long it took, \"name\" its first output; behind \"args\" all outputs, and HASH
+\"ph\":\"C\"  how many commands run at \"ts\": for each command as it begins, and as it has ended
+
+No lane has two commands at one time, and no other lanes would be fewer. Commands and builds are
+those of `builds`. A byte that isn't UTF-8 is shown as U+FFFD. Where LOG has no entry, the array is
+empty.",
+        );
+    with_any_log(alloc, command)
+}
+
+pub fn picture_command<'a>(alloc: Global) -> Result<Command<'a>, AllocError>
+    ensures shape { IfOk result (λ c. app_of c ≡ picture) }
+    ensures local { IfOk result (λ c. (out-Command c).has_globals ≡ false) }
+{
+    let command = Command::new(alloc, "picture")
+        .about("Draws the last build as SVG: a bar for each command, and how many ran at a time")
+        .after_help(
+            "\
+One SVG file, which each browser shows:
+
+  nlog picture .ninja_log > build.svg
+
+Each command is a bar in a lane, and no lane has two commands at one time. Hold the mouse over a bar:
+it tells the first output, how many more there are, how long the command took, and when it began, in
+seconds from the first START of the build. The colour is that of the kind, which is the extension of
+the first output: nine kinds are told apart, and the legend names them. What is narrower than half a
+pixel has one bar together with its neighbours of the same lane, pixel and kind.
+
+Below the lanes is the curve of how many commands ran. Commands and builds are those of `builds`. A
+byte that isn't UTF-8, and a control character, is shown as U+FFFD.",
+        );
+    with_any_log(alloc, command)
+}
+
+pub fn hash_file_command<'a>(alloc: Global) -> Result<Command<'a>, AllocError>
+    ensures shape { IfOk result (λ c. app_of c ≡ hash_file) }
+    ensures local { IfOk result (λ c. (out-Command c).has_globals ≡ false) }
+{
+    let command = Command::new(alloc, "hash-file")
+        .about("Prints the hash of a command that stands in a file: of each of its bytes")
+        .after_help(
+            "\
+A newline at the end of FILE is a byte of it, so a command that has none is hashed by
+
+  printf %s \"$command\" | nlog hash-file",
+        );
+    let command = with_value(
+        alloc,
+        command,
+        "FILE",
+        false,
+        "The file; standard input where it is left out",
+    )?;
+    with_version(alloc, command, HASH_VERSION)
+}
+
+// `record` with its values.
+fn record_values<'a>(alloc: Global) -> Result<Command<'a>, AllocError>
+    ensures shape { IfOk result (λ c. app_of c ≡ record_values) }
+    ensures local { IfOk result (λ c. (out-Command c).has_globals ≡ false) }
+{
+    let command = Command::new(alloc, "record")
+        .about("Adds one entry to a log; prints nothing")
+        .after_help(
+            "\
+The log is made where it is missing: one of version 5, or of 6 for Ninja 1.12 or 7 for 1.13 where
+`--log-version` has that number. START and END are from -2147483648 to 2147483647, MTIME is a 64-bit
+number. A value that begins with `-` stands behind `--`, as in
+
+  nlog record -- .ninja_log -1 2 3 out 'cc out.c'
+
+No build by Ninja may change LOG meanwhile; another nlog waits.",
+        );
+    let command = with_value(alloc, command, "LOG", true, LOG)?;
+    let command = with_value(
+        alloc,
+        command,
+        "START",
+        true,
+        "When the command began, in milliseconds",
+    )?;
+    let command = with_value(
+        alloc,
+        command,
+        "END",
+        true,
+        "When the command ended, in milliseconds",
+    )?;
+    let command = with_value(
+        alloc,
+        command,
+        "MTIME",
+        true,
+        "The time stamp of the output",
+    )?;
+    let command = with_value(alloc, command, "NAME", true, "The name of the output")?;
+    with_value(
+        alloc,
+        command,
+        "COMMAND",
+        true,
+        "The command's text, as one word; its hash is recorded",
+    )
+}
+
+pub fn record_command<'a>(alloc: Global) -> Result<Command<'a>, AllocError>
+    ensures shape { IfOk result (λ c. app_of c ≡ record_line) }
+    ensures local { IfOk result (λ c. (out-Command c).has_globals ≡ false) }
+{
+    with_version(alloc, record_values(alloc)?, LOG_VERSION)
+}
+
+pub fn recompact_command<'a>(alloc: Global) -> Result<Command<'a>, AllocError>
+    ensures shape { IfOk result (λ c. app_of c ≡ recompact) }
+    ensures local { IfOk result (λ c. (out-Command c).has_globals ≡ false) }
+{
+    let command = Command::new(alloc, "recompact")
+        .about("Rewrites a log with the last entry of each output that KEEP names; prints nothing")
+        .after_help(
+            "\
+An empty line of KEEP says nothing, and an empty KEEP drops every entry. `--manifest FILE` in the place
+of KEEP keeps what a build by Ninja has: `nlog recompact --manifest - --help` says more. The new log
+is written to LOG.recompact, and renamed over LOG.
+
+No build by Ninja may change LOG meanwhile; another nlog waits.",
+        );
+    let command = with_value(alloc, command, "LOG", true, LOG)?;
+    let command = with_value(
+        alloc,
+        command,
+        "KEEP",
+        true,
+        "A file with the name of one output a line",
+    )?;
+    with_version(alloc, command, LOG_VERSION)
+}
+
+pub fn restat_command<'a>(alloc: Global) -> Result<Command<'a>, AllocError>
+    ensures shape { IfOk result (λ c. app_of c ≡ restat) }
+    ensures local { IfOk result (λ c. (out-Command c).has_globals ≡ false) }
+{
+    let command = Command::new(alloc, "restat")
+        .about("Rewrites a log with the time stamps that TIMES gives; prints nothing")
+        .after_help(
+            "\
+An empty line of TIMES says nothing. The last line of a name counts, and names that the log lacks are
+passed over. `--files` in the place of TIMES takes the time stamps of the outputs' files: `nlog restat
+--files --help` says more. The new log is written to LOG.recompact, and renamed over LOG.
+
+No build by Ninja may change LOG meanwhile; another nlog waits.",
+        );
+    let command = with_value(alloc, command, "LOG", true, LOG)?;
+    let command = with_value(
+        alloc,
+        command,
+        "TIMES",
+        true,
+        "A file with a time stamp, a tab and a name a line",
+    )?;
+    with_version(alloc, command, LOG_VERSION)
+}
+
+pub fn prune_command<'a>(alloc: Global) -> Result<Command<'a>, AllocError>
+    ensures shape { IfOk result (λ c. app_of c ≡ pruning) }
+    ensures local { IfOk result (λ c. (out-Command c).has_globals ≡ false) }
+{
+    let command = Command::new(alloc, "recompact")
+        .about("Rewrites a log with the last entry of each output that a build has; prints nothing")
+        .after_help(
+            "\
+It keeps the targets that FILE names, and each output whose file is there, as Ninja does. FILE is read
+first; the names are those of the folder in which you run it. If LOG is damaged, it prints what
+`damage` prints, ends with status 3 and changes nothing. The new log is written to LOG.recompact, and
+renamed over LOG. A FILE without a target is refused, since Ninja failed then.
+
+  ninja -t targets all > targets && nlog recompact .ninja_log --manifest targets
+
+No build by Ninja may change LOG meanwhile; another nlog waits.",
+        );
+    let command = with_value(alloc, command, "LOG", true, ANY_LOG)?;
+    let command = with_manifest(alloc, command)?;
+    with_version(alloc, command, OWN_VERSION)
+}
+
+pub fn retime_command<'a>(alloc: Global) -> Result<Command<'a>, AllocError>
+    ensures shape { IfOk result (λ c. app_of c ≡ retiming) }
+    ensures local { IfOk result (λ c. (out-Command c).has_globals ≡ false) }
+{
+    let command = Command::new(alloc, "restat")
+        .about("Rewrites a log with the time stamps that the outputs' files have; prints nothing")
+        .after_help(
+            "\
+An output without a file keeps its time stamp, and so does a directory. The names are those of the
+folder in which you run it. If LOG is damaged, it prints what `damage` prints, ends with status 3 and
+changes nothing. The new log is written to LOG.recompact, and renamed over LOG.
+
+No build by Ninja may change LOG meanwhile; another nlog waits.",
+        );
+    let command = with_value(alloc, command, "LOG", true, ANY_LOG)?;
+    let command = with_files(alloc, command)?;
+    with_version(alloc, command, OWN_VERSION)
+}
+
+pub fn repair_command<'a>(alloc: Global) -> Result<Command<'a>, AllocError>
+    ensures shape { IfOk result (λ c. app_of c ≡ repair) }
+    ensures local { IfOk result (λ c. (out-Command c).has_globals ≡ false) }
+{
+    let command = Command::new(alloc, "repair")
+        .about("Rewrites a log with the last entry of each output; prints nothing")
+        .after_help(
+            "\
+What is torn, skipped or stale is gone after it, version 4 is 5, and what a device forgot is written
+anew. The new log is written to LOG.recompact, and renamed over LOG. With `--missing-ok` a LOG that is
+missing is made: one of version 5, or of 6 for Ninja 1.12 or 7 for 1.13 where `--log-version` has that
+number. What `damage` prints of LOG can't be seen after it, so it is kept first, as by
+
+  nlog damage --missing-ok .ninja_log >> damaged || { test $? = 3 && nlog repair .ninja_log; }
+
+No build by Ninja may change LOG meanwhile; another nlog waits.",
+        );
+    let command = with_value(alloc, command, "LOG", true, ANY_LOG)?;
+    let command = with_version(alloc, command, OWN_VERSION)?;
+    with_missing_ok(alloc, command)
+}
+
+pub fn replay_command<'a>(alloc: Global) -> Result<Command<'a>, AllocError>
+    ensures shape { IfOk result (λ c. app_of c ≡ replay) }
+    ensures local { IfOk result (λ c. (out-Command c).has_globals ≡ false) }
+{
+    let command = Command::new(alloc, "replay").about(
+        "Runs the events of a script on a log in memory, and prints the replies and that log",
+    );
+    with_value(
+        alloc,
+        command,
+        "SCRIPT",
+        false,
+        "The script; standard input where it is left out",
+    )
+}
+
+pub fn apply_command<'a>(alloc: Global) -> Result<Command<'a>, AllocError>
+    ensures shape { IfOk result (λ c. app_of c ≡ apply) }
+    ensures local { IfOk result (λ c. (out-Command c).has_globals ≡ false) }
+{
+    let command = Command::new(alloc, "apply")
+        .about("Answers lines that ask for changes and entries, one after another, on one open log")
+        .after_help(
+            "\
+Each line is answered before the next is read. There is a tab before each value:
+
+open [NAME ..]                    opens LOG, which is made where it is missing; where it is due it
+                                  keeps these names alone, and all of them where none is given
+record START END MTIME NAME HASH  adds an entry
+begin MOMENT HASH NAME ..         says that the command of this hash is to run, so that no crash
+                                  brings back what these outputs had
+sync                              makes what was recorded durable
+recompact [NAME ..]               rewrites LOG with the last entry of each output, as `open` keeps it
+restat [MTIME NAME ..]            rewrites LOG with these time stamps
+stop                              makes what was recorded durable, and closes LOG
+get NAME                          answers the last entry of NAME, or `none`
+hash COMMAND                      answers the hash that LOG has of a command
+table                             answers the last entry of each output, a line each, and then `end`
+distrusted                        before `open`: answers the same of each output that a damaged line
+                                  may be about, whose file is to be removed then
+
+The others are answered `ok`, or why they were not done, as `S8 Fault`; any other line `bad line`.
+A LOG that is missing is made one of version 5, or of 6 for Ninja 1.12 or 7 for 1.13 where
+`--log-version` has that number. The last entry of an output is asked for by
+
+  printf 'open\\nget\\tapp.o\\n' | nlog apply .ninja_log
+
+No build by Ninja may change LOG meanwhile; another nlog waits.",
+        );
+    let command = with_value(alloc, command, "LOG", true, ANY_LOG)?;
+    let command = with_value(
+        alloc,
+        command,
+        "SCRIPT",
+        false,
+        "A file with the lines; standard input where it is left out",
+    )?;
+    with_version(alloc, command, OWN_VERSION)
+}

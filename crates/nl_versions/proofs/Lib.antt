@@ -1,0 +1,7 @@
+pub mod VersionLemmas
+pub mod VersionFolderLemmas
+pub mod VersionLogLemmas
+pub mod LogAsLemmas
+pub mod VersionOfLemmas
+pub mod NamedLemmas
+mod BeginningLemmas

@@ -1,2 +1,0 @@
-pub mod CommandLine
-pub use Rattle.clap.specs.Words
