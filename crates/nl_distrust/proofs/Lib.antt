@@ -4,3 +4,4 @@ mod StepLemmas
 mod PlainLemmas
 mod TrustLemmas
 mod FoundLemmas
+pub mod WholeLemmas

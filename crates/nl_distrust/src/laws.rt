@@ -1,14 +1,14 @@
 //! Laws of what can't be trusted, each the contract of a function that does nothing.
-ghost use Rattle.std.specs.Prelude.{◌≡◌, ◌++◌, ℕ, true, false, None, Some, List, [], All, IsSome, IsSomeAnd, drop, if◌then◌else◌};
+ghost use Rattle.std.specs.Prelude.{◌≡◌, ◌==◌, ◌&&◌, ◌++◌, ℕ, true, false, None, Some, List, [], All, IsSome, IsSomeAnd, drop, if◌then◌else◌};
 ghost use Rattle.nl_fields.specs.declared.entry.Entry.{Entry};
 ghost use Rattle.nl_fields.specs.Name.{IsName};
 ghost use Rattle.nl_fields.specs.EntryLine.{IsSpelled, IsTold, Texts, line_with};
-ghost use Rattle.nl_lines.specs.Split.{lines_of, rest_of};
+ghost use Rattle.nl_lines.specs.Split.{lines_of, rest_of, torn_len};
 ghost use Rattle.nl_table.specs.History.{holds};
-ghost use Rattle.nl_table.specs.Log.{entry_on};
+ghost use Rattle.nl_table.specs.Log.{Log, entry_on, log_of, skipped_count};
 ghost use Rattle.nl_table.specs.Table.{entry_named};
 ghost use Rattle.nl_table.specs.Versions.{current_version, oldest_version};
-ghost use Rattle.nl_distrust.specs.Distrusted.{distrusted_in, mentioned_in, mentioned_on};
+ghost use Rattle.nl_distrust.specs.Distrusted.{distrusted_in, is_whole, mentioned_in, mentioned_on};
 ghost use Rattle.nl_distrust.specs.Named.{named_in, torn_behind_name};
 ghost use Rattle.nl_distrust.specs.Plain.{entry_last, plain_last, plain_texts};
 
@@ -46,9 +46,17 @@ pub fn each_part_is_named()
 
 /// Where each line is an entry, and nothing is torn, no name is mentioned.
 pub fn a_whole_log_is_trusted()
-    ensures { (version : ℕ) (bytes : List ℕ)
+    ensures entries { (version : ℕ) (bytes : List ℕ)
         → All (λ line. IsSome (entry_on version line)) (drop 1 (lines_of bytes))
         → rest_of bytes ≡ [] → mentioned_in version bytes ≡ [] }
+    ensures whole { (version : ℕ) (bytes : List ℕ) (es : List Entry)
+        → is_whole version bytes ≡ true → distrusted_in version bytes es ≡ [] }
+{}
+
+/// A log is whole exactly if its load skipped no line, and nothing is torn.
+pub fn a_whole_log_skips_no_line()
+    ensures { (version : ℕ) (bytes : List ℕ) (es : List Entry) → log_of bytes ≡ Log version es
+        → is_whole version bytes ≡ (torn_len bytes == 0 && skipped_count bytes == 0) }
 {}
 
 /// What can't be trusted are the table's entries of the names that the log mentions, and no others.

@@ -7,4 +7,4 @@ mod plain;
 mod walk;
 
 pub use plain::plain_name;
-pub use walk::distrusted;
+pub use walk::{distrusted, is_torn, is_whole};
