@@ -464,8 +464,9 @@ nlog_status nlog_writer_open(nlog_writer *writer);
  * NLOG_OTHER_VERSION come if the log was read anew. */
 nlog_status nlog_writer_open_to_read(nlog_writer *writer);
 
-/* Whether the log that is open to read is due, as nlog_facts has it: then the
- * first change rewrites it. Of an open log it is false.
+/* Whether the first change rewrites the log that is open to read. It does if
+ * the log is due, as nlog_facts has it, or if a wary writer dropped an entry.
+ * Of an open log it is false.
  * NLOG_NOT_OPEN, NLOG_BROKEN. */
 nlog_status nlog_writer_is_due(const nlog_writer *writer, bool *is_due);
 
@@ -488,6 +489,20 @@ uint64_t nlog_writer_other_version(const nlog_writer *writer);
  * NLOG_LOCKED of a later call: nothing was done, the log is open still, and the
  * call may be made again. */
 nlog_status nlog_writer_set_shared(nlog_writer *writer, bool is_shared);
+
+/* Whether the writer is wary, which it isn't at first. Then each open, also one
+ * to read, drops the entries of the outputs that can't be trusted, as
+ * nlog_load_distrusted tells them. This is for a build tool: it makes an output
+ * again that has no entry.
+ * If there is such an output, the open rewrites the log, or the first change
+ * does, without what is marked dead. Until the new log has the old one's place,
+ * that one still tells of them. So no kill brings a dropped entry back, and no
+ * power cut does once the damaged line is on disk. A log whose lines are all
+ * entries is read and loaded once. Any other one is read twice.
+ * If such an open fails for want of memory, some of these outputs may be marked
+ * dead still.
+ * NLOG_ALREADY_OPEN: the writer has to be closed; also of a broken one. */
+nlog_status nlog_writer_set_wary(nlog_writer *writer, bool is_wary);
 
 /* How long a lock is waited for from now on, in milliseconds: 10,000 at first,
  * and with 0 it is asked for once. A signal ends the wait (see "Signals"). It

@@ -8,8 +8,8 @@ the format says of each log from log_format.py. tests/clib/tool.c has the comman
 program's system calls, of writes that are cut, of a full disk, of what a crash leaves, and of `apply` are made of the library too, by the
 same rules. Writers run at once, one beside PROGRAM too, and are killed.
 
-Parts of it are clib_looks.py (a log that is opened to read), clib_systems.py (what a file system can't do, and what is done to a log),
-clib_steps.py (the steps of a change) and clib_packages.py (how the library is taken).
+Parts of it are clib_looks.py (a log that is opened to read), clib_wary.py (a writer that drops what can't be trusted), clib_systems.py (what a
+file system can't do, and what is done to a log), clib_steps.py (the steps of a change) and clib_packages.py (how the library is taken).
 
 Wants `rt` and `cc`; a C++ compiler, AddressSanitizer, ThreadSanitizer, valgrind, ctypes, strace, rustc, cmake, pkg-config, and the right to mount
 a tmpfs, where they are there.
@@ -36,6 +36,7 @@ import clib_looks
 import clib_packages
 import clib_steps
 import clib_systems
+import clib_wary
 import crash_states
 import full_disk
 import short_writes
@@ -272,8 +273,28 @@ def misuse(trials, made, room):
         return
     asks = "\n".join(["open", f"record 1 2 3 aa {b'a'.hex()}", f"dead {b'out7'.hex()}", f"time 5 {b'a'.hex()}", "recompact", "restat", "at 0", "sync", "close", "look", "find 61", "close", "look", "record 1 2 3 aa 61", "close", "look", "free", "open"])
     for words in (["misuse"], ["read", path, "out7"], ["text", path, "0"], ["write", f"{room}/valgrind-write.log", "0"]):
-        ran = run(["valgrind", "-q", "--error-exitcode=9", "--leak-check=full", made["C11"], *words], input=asks.encode() + b"\n", stdin=None)
+        # No block may be left at the end, reachable or not.
+        ran = run(["valgrind", "-q", "--error-exitcode=9", "--leak-check=full", "--show-leak-kinds=all", "--errors-for-leak-kinds=all", made["C11"], *words], input=asks.encode() + b"\n", stdin=None)
         trials.check(f"{words[0]} under valgrind", ran[0] == 0 and not ran[2], ran[2][-600:].decode(errors="replace"))
+
+
+def large(trials, made, room):
+    """Beyond sizes at which a body could stop that only small logs try: entries of a load, bytes of an open, records to one text."""
+    log, count = f"{room}/large.log", 8_000_001
+    with open(log, "wb") as it:
+        it.write(HEADER)
+        for first in range(0, count, 100_000):
+            it.write(b"".join(b"1\t2\t3\t%d\taa\n" % i for i in range(first, min(first + 100_000, count))))
+    trials.want(f"a load of {count} outputs", run([made["C11"], "large", log, "0"]), (0, b"%d\n" % count, b""))
+    names = [b"%d" % i + LONG[: MAX_NAME - 6] for i in range(1100)]
+    text = HEADER + b"".join(line_of(name, (1, 2, 3, 0xAA)) for name in names)
+    lines = b"".join(b"%d\t%d\t0\tmore\taa\n" % (i, i) for i in range(200_001))
+    write(log, text)
+    said = run([made["C11"], "large", log, "200001"])
+    trials.check("a log of more than 64 MiB", len(text) > 64 << 20, len(text))
+    trials.want("it is opened in memory and on disk, and takes 200,001 records", said, (0, b"%d %d\n" % (len(names), len(text) + len(lines)), b""))
+    trials.check("the log then", read(log) == text + lines)
+    os.remove(log)
 
 
 class Handle(ctypes.Structure):
@@ -851,7 +872,7 @@ def locks(trials, made, program, room):
 
 def forks(trials, made, room):
     """A fork while the log is open: the child may free the writer and no more, and the parent's log stays open, whole and locked."""
-    refused = " ".join(["FORKED"] * 21)
+    refused = " ".join(["FORKED"] * 22)
     ways = drivers(made)
     if may_trace(trials, room):
         # A system that clears no page in a child.
@@ -1439,6 +1460,7 @@ def trial(trials, program, room):
     lines(trials, made, room)
     damage(trials, made, program, room)
     misuse(trials, made, room)
+    large(trials, made, room)
     by_ctypes(trials, made, room)
     pages(trials, room)
     texts(trials, made, room)
@@ -1466,6 +1488,7 @@ def trial(trials, program, room):
         signals(trials, made, room)
         replaced(trials, made, room)
     clib_looks.trial(trials, made, room)
+    clib_wary.trial(trials, made, room)
     clib_systems.trial(trials, made, room)
     clib_packages.trial(trials, made, program, room)
     by_the_rules_of_the_program(trials, made, room)

@@ -3,6 +3,7 @@ import os
 import shutil
 
 from log_format import HEADER, MAX_NAME, Log, as_version, reading_of, text_of
+from log_lines import distrusted_of
 from trials import run
 
 
@@ -53,6 +54,16 @@ def opened(text, version):
     else:
         change, whole = "CUT" if log.torn else "KEEP", as_asked[: log.whole]
     return "OK", change, as_version(whole, version or named)
+
+
+def opened_warily(text, version):
+    """The same of a writer that drops the entries of outputs that can't be trusted."""
+    status, change, whole = opened(text, version)
+    doubted = Log(HEADER + distrusted_of(text)).table if status == "OK" else {}
+    if not doubted:
+        return status, change, whole
+    table = Log(as_version(whole, version_seen(whole))).table
+    return status, "REPLACE", as_version(text_of({name: it for name, it in table.items() if name not in doubted}), version_seen(whole))
 
 
 def answers_of(process, line):

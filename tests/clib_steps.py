@@ -7,7 +7,7 @@ with it, step by step: in an open, in the first change behind an open to read, i
 import os
 import re
 
-from clib_driver import TOP, opened
+from clib_driver import TOP, opened, opened_warily
 from log_format import HEADER
 from trials import read
 
@@ -142,10 +142,11 @@ class Process:
     def __init__(self, definition):
         self.definition, self.version, self.told = definition, 0, 0
         self.state, self.change, self.is_pending, self.is_unsound, self.is_shared = "closed", None, False, False, False
+        self.opened = opened
 
     def openings(self, before):
         """The steps that an open of these bytes may owe."""
-        status, change, text = opened(before, self.version)
+        status, change, text = self.opened(before, self.version)
         changes = [] if status != "OK" else ["REPLACE" if self.is_unsound else change]
         if self.state == "read" and self.change is not None:
             changes += ["REPLACE" if self.change == "REPLACE" else "KEEP"]
@@ -168,7 +169,7 @@ class Process:
         is_other = word in ("recompact", "restat") or not is_done
         first = []
         for change in changes:
-            text_then = opened(before, self.version)[2] if is_other else text
+            text_then = self.opened(before, self.version)[2] if is_other else text
             steps = self.definition.steps_of(change, before, text_then or b"")
             if self.is_unsound:
                 steps = steps[1:]
@@ -209,8 +210,10 @@ class Process:
                 self.is_unsound = False
         if status == "NLOG_OK" and word == "shared":
             self.is_shared = True
+        if status == "NLOG_OK" and word == "wary":
+            self.opened = opened_warily
         if word == "look" and status == "NLOG_OK":
-            self.state, self.change = "read", opened(before, self.version)[1]
+            self.state, self.change = "read", self.opened(before, self.version)[1]
         elif word == "open" and self.state in ("closed", "read"):
             if not (status == "NLOG_LOCKED" and self.state == "read"):
                 self.state = "open" if status == "NLOG_OK" else "closed"

@@ -434,6 +434,35 @@ static void misuse(void) {
   printf("done\n");
 }
 
+/* Loads a log, and records so many entries of one output to it, in memory and on disk: how many outputs it has, and how long the text then is. */
+static void load_and_record(const char *path, int count) {
+  nlog log = NLOG_INIT;
+  nlog_writer *writer = NULL;
+  nlog_entry entry = {0, 0, 0, 0xaa};
+  size_t len, outputs = 0;
+  uint64_t text_len = 0;
+  uint32_t change = 9;
+  int i;
+  char *bytes = file_of(path, &len);
+  WANT(nlog_load(&log, bytes, len) == NLOG_OK && nlog_count(&log, &outputs) == NLOG_OK);
+  printf("%zu", outputs);
+  if (count > 0) {
+    WANT(nlog_new(&log) == NLOG_OK && nlog_open(&log, bytes, len, 0, &change) == NLOG_OK && change == NLOG_KEEP);
+    WANT(nlog_writer_new(&writer, path, 0) == NLOG_OK && nlog_writer_open(writer) == NLOG_OK);
+    for (i = 0; i < count; i++) {
+      entry.start_ms = entry.end_ms = i;
+      WANT(nlog_record(&log, "more", 4, &entry) == NLOG_OK && nlog_writer_record(writer, "more", 4, &entry) == NLOG_OK);
+    }
+    WANT(nlog_text(&log, 0, NULL, 0, &text_len) == NLOG_OK && nlog_find(&log, "more", 4, &entry) == NLOG_OK && entry.start_ms == count - 1);
+    WANT(nlog_writer_count(writer, &len) == NLOG_OK && len == outputs + 1 && nlog_writer_close(writer) == NLOG_OK);
+    printf(" %" PRIu64, text_len);
+  }
+  printf("\n");
+  nlog_writer_free(&writer);
+  nlog_free(&log);
+  free(bytes);
+}
+
 #ifdef REFUSES
 /* Refuses memory at each place of a load in turn, with and without a log in the handle. */
 static void refuse(const char *path) {
@@ -632,6 +661,7 @@ static nlog_status call_in_child(nlog_writer *writer) {
   SAY(nlog_writer_open_to_read(writer));
   SAY(nlog_writer_is_due(writer, &flag));
   SAY(nlog_writer_set_shared(writer, true));
+  SAY(nlog_writer_set_wary(writer, true));
   SAY(nlog_writer_set_wait(writer, 0));
   SAY(nlog_writer_is_open(writer, &flag));
   SAY(nlog_writer_rewrote(writer, &flag));
@@ -750,6 +780,7 @@ static void write_log(const char *log, uint32_t version) {
     if (is(&it, "pause")) status = NLOG_OK;
     if (is(&it, "load")) status = nlog_load_file(&loaded, log, &error);
     if (is(&it, "shared")) status = nlog_writer_set_shared(writer, true);
+    if (is(&it, "wary")) status = nlog_writer_set_wary(writer, true);
     if (is(&it, "wait")) status = nlog_writer_set_wait(writer, (uint32_t)it.number);
     if (is(&it, "cd")) {
       snprintf(name, sizeof name, "%.*s", (int)it.names[0].len, it.names[0].bytes);
@@ -972,6 +1003,8 @@ int main(int count, char **words) {
     load_file(words[2]);
   } else if (count == 5 && strcmp(words[1], "many") == 0) {
     wrong |= write_many(words[2], atoi(words[3]), atoi(words[4]));
+  } else if (count == 4 && strcmp(words[1], "large") == 0) {
+    load_and_record(words[2], atoi(words[3]));
   } else if (count == 6 && strcmp(words[1], "time") == 0) {
     wrong |= time_records(words[2], words[3], atoi(words[4]), atoi(words[5]));
   } else if (count == 4 && strcmp(words[1], "closed") == 0) {

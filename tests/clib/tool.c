@@ -243,7 +243,31 @@ static void answer(nlog_status status, size_t place) {
   }
 }
 
-static void apply_line(char **fields, size_t count) {
+/* Tells the entries of the closed log that can't be trusted. Where the log is missing there are none. */
+static void tell_distrusted(const char *log) {
+  nlog all = NLOG_INIT, doubted = NLOG_INIT;
+  nlog_entry entry;
+  uint32_t version;
+  size_t place, len;
+  int error = 0;
+  nlog_status status = nlog_writer_version(writer, &version);
+  if (status != NLOG_NOT_OPEN) {
+    answer(status == NLOG_OK ? NLOG_ALREADY_OPEN : status, 0);
+    return;
+  }
+  status = nlog_load_file_distrusted(&all, &doubted, log, &error);
+  if (status == NLOG_FAULT && error == ENOENT) status = NLOG_OK;
+  if (status != NLOG_OK) {
+    answer(status, 0);
+    return;
+  }
+  for (place = 0; nlog_at(&doubted, place, &entry, name_of, sizeof name_of, &len) == NLOG_OK; place++) show(&entry, name_of, len);
+  printf("end\n");
+  nlog_free(&all);
+  nlog_free(&doubted);
+}
+
+static void apply_line(const char *log, char **fields, size_t count) {
   static nlog_name names[1000];
   static int64_t times[1000];
   list given = {NULL, names, times, 0};
@@ -251,6 +275,10 @@ static void apply_line(char **fields, size_t count) {
   nlog_status status = NLOG_BAD_NAME;
   size_t place = 0, len, i;
   bool is_restat = strcmp(fields[0], "restat") == 0;
+  if (strcmp(fields[0], "distrusted") == 0) {
+    tell_distrusted(log);
+    return;
+  }
   for (i = 1; i < count && given.count < 1000; i++) {
     if (is_restat) times[given.count] = strtoll(fields[i++], NULL, 10);
     if (i == count) break;
@@ -307,7 +335,7 @@ static int apply(const char *log, const char *script) {
       at = strchr(at, '\t');
       if (at != NULL) *at++ = 0;
     }
-    apply_line(fields, count);
+    apply_line(log, fields, count);
     if (fflush(stdout) != 0) return end("cannot write");
   }
   if (ferror(from)) return end("cannot read");

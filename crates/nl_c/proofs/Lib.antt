@@ -5,4 +5,6 @@ mod JoinLemmas
 mod KeptValues
 mod LogDrop
 mod RecordLemmas
+mod RewritingLemmas
 mod ToldLemmas
+mod WholeLemmas

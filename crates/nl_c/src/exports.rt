@@ -1,15 +1,17 @@
 //! What is exported. Each call takes the log out of its handle, and puts it back.
-ghost use Rattle.std.specs.Prelude.{◌≡◌, ◌≢◌, ◌↔◌, ◌⊎◌, None, IsSomeAnd};
+ghost use Rattle.std.specs.Prelude.{◌≡◌, ◌≢◌, ◌↔◌, ◌⊎◌, true, false, None, IfErr, IfOk, IsErrOf, IsOk, IsSomeAnd};
+ghost use Rattle.nl_distrust.specs.Distrusted.{is_whole};
 ghost use Rattle.nl_fields.specs.CommandHash.{IsHash, hash_of};
 ghost use Rattle.nl_fields.specs.RapidHash.{rapid_hash_of};
 ghost use Rattle.nl_table.specs.Log.{NotALog, OtherVersion, log_of};
-ghost use Rattle.nl_c.specs.LoadedLogs.{IsDistrustedFrom, IsLoadedFrom, seen};
+ghost use Rattle.nl_versions.specs.VersionOf.{as_five, lines_version};
+ghost use Rattle.nl_c.specs.LoadedLogs.{IsDistrustedFrom, IsLoadedFrom};
 ghost use Rattle.nl_c.specs.Answers.{answered_at, answered_count, answered_facts, answered_find, answer_line};
-ghost use Rattle.nl_c.specs.CarriedLogs.{IsNewCarried, MadeRoom, Given, CarriedOpened, CarriedText, CarriedHeader, CarriedLine};
-ghost use Rattle.nl_c.specs.Held.{InCarried, InHandle, IsCarriedAnd, IsWrittenAnd, NoCall, loaded_in, loaded_of, table_in};
+ghost use Rattle.nl_c.specs.CarriedLogs.{IsNewCarried, MadeRoom, Given, CarriedOpened, WholeOpened, CarriedText, CarriedHeader, CarriedLine};
+ghost use Rattle.nl_c.specs.Held.{InCarried, InHandle, IsCarriedAnd, IsWrittenAnd, NoCall, given_in, given_of, has_carried, is_carried, loaded_in, loaded_of, table_in};
 ghost use Rattle.nl_c.specs.Written.{IsNew, Opened, Recorded, Begun, Synced, Stopped, Recompacted, Restatted, DeadMarked, TimeMarked, Cleared, IsOpenTold, Texted};
 ghost use Rattle.nl_fields.specs.Name.{IsName};
-ghost use Rattle.nl_c.specs.Statuses.{ok, bad_name, not_a_log, other_version, out_of_memory, text_in, status_text};
+ghost use Rattle.nl_c.specs.Statuses.{ok, bad_name, no_handle, not_a_log, not_found, other_version, out_of_memory, text_in, status_text};
 
 use crate::carried_log::CarriedLog;
 use crate::handle::Handle;
@@ -17,7 +19,9 @@ use crate::held::Held;
 use crate::loaded_log::{CStamp, Facts, LoadedLog};
 use crate::written_log::WrittenLog;
 use crate::{look_up, status};
+use nl_distrust::is_whole;
 use nl_fields::{command_hash, command_hash_v7, name_fault};
+use nl_versions::lines_version;
 use std::alloc::Global;
 
 /// The version of the library: 1000000 times the first number, 1000 times the second, and the third.
@@ -44,8 +48,8 @@ pub extern "C" fn nlog_status_text(status: u32, buf: &mut [u8]) -> usize
 pub extern "C" fn nlog_load(handle: &mut Handle, alloc: Global, bytes: &[u8]) -> u32
     ensures ok { result ≡ ok → IsSomeAnd handle.new.kept.log
         (λ held. IsSomeAnd (loaded_of held) (IsLoadedFrom bytes.now)) }
-    ensures not_a_log { result ≡ not_a_log → log_of (seen bytes.now) ≡ NotALog }
-    ensures other_version { result ≡ other_version → log_of (seen bytes.now) ≡ OtherVersion }
+    ensures not_a_log { result ≡ not_a_log → log_of (as_five bytes.now) ≡ NotALog }
+    ensures other_version { result ≡ other_version → log_of (as_five bytes.now) ≡ OtherVersion }
     ensures refusals { (result ≡ ok) ⊎ (result ≡ not_a_log) ⊎ (result ≡ other_version)
         ⊎ (result ≡ out_of_memory) }
     ensures unchanged { result ≢ ok → handle.new.kept.log ≡ handle.old.kept.log }
@@ -70,8 +74,8 @@ pub extern "C" fn nlog_load(handle: &mut Handle, alloc: Global, bytes: &[u8]) ->
 pub extern "C" fn nlog_load_distrusted(handle: &mut Handle, alloc: Global, bytes: &[u8]) -> u32
     ensures ok { result ≡ ok → IsSomeAnd handle.new.kept.log
         (λ held. IsSomeAnd (loaded_of held) (IsDistrustedFrom bytes.now)) }
-    ensures not_a_log { result ≡ not_a_log → log_of (seen bytes.now) ≡ NotALog }
-    ensures other_version { result ≡ other_version → log_of (seen bytes.now) ≡ OtherVersion }
+    ensures not_a_log { result ≡ not_a_log → log_of (as_five bytes.now) ≡ NotALog }
+    ensures other_version { result ≡ other_version → log_of (as_five bytes.now) ≡ OtherVersion }
     ensures refusals { (result ≡ ok) ⊎ (result ≡ not_a_log) ⊎ (result ≡ other_version)
         ⊎ (result ≡ out_of_memory) }
     ensures unchanged { result ≢ ok → handle.new.kept.log ≡ handle.old.kept.log }
@@ -448,6 +452,86 @@ pub extern "C" fn carried_open(
     let answer = held.open_given(alloc, version, change);
     *handle = Handle::of(held);
     answer
+}
+
+/// Opens the log that the bytes are which were given, where each of their lines is an entry and none is torn: then all of its
+/// outputs can be trusted. Else nothing is opened, and that is answered as what isn't found.
+#[unsafe(no_mangle)]
+pub extern "C" fn carried_open_whole(
+    handle: &mut Handle,
+    alloc: Global,
+    version: u32,
+    change: &mut u32,
+) -> u32
+    ensures call { InCarried (WholeOpened version (change.old, change.new)) result handle.old.kept.log handle.new.kept.log }
+{
+    let Some(mut held) = handle.take(alloc) else {
+        return status::NO_HANDLE;
+    };
+    let answer = held.open_whole(alloc, version, change);
+    *handle = Handle::of(held);
+    answer
+}
+
+/// Loads those entries alone of the bytes that were given whose outputs can't be trusted, into another handle. Where the log
+/// is whole, none is loaded.
+#[unsafe(no_mangle)]
+pub extern "C" fn carried_distrusted(handle: &mut Handle, alloc: Global, other: &mut Handle) -> u32
+    ensures same { handle.new.kept.log ≡ handle.old.kept.log }
+    ensures ok { result ≡ ok → IsSomeAnd other.new.kept.log
+        (λ held. IsSomeAnd (loaded_of held) (IsDistrustedFrom (given_in handle.old.kept.log))) }
+    ensures no_handle { result ≡ no_handle ↔ (has_carried handle.old.kept.log ≡ false) }
+    ensures whole { result ≡ not_found ↔ (has_carried handle.old.kept.log ≡ true)
+        × (is_whole (lines_version (given_in handle.old.kept.log)) (given_in handle.old.kept.log) ≡ true) }
+    ensures not_a_log { result ≡ not_a_log → log_of (as_five (given_in handle.old.kept.log)) ≡ NotALog }
+    ensures other_version { result ≡ other_version
+        → log_of (as_five (given_in handle.old.kept.log)) ≡ OtherVersion }
+    ensures refusals { (result ≡ ok) ⊎ (result ≡ no_handle) ⊎ (result ≡ not_found) ⊎ (result ≡ not_a_log)
+        ⊎ (result ≡ other_version) ⊎ (result ≡ out_of_memory) }
+    ensures unchanged { result ≢ ok → other.new.kept.log ≡ other.old.kept.log }
+{
+    let Some(held) = handle.take(alloc) else {
+        return status::NO_HANDLE;
+    };
+    let found = distrusted_of(&held, alloc);
+    *handle = Handle::of(held);
+    match found {
+        Err(refused) => refused,
+        Ok(log) => match Box::new(alloc, Held::Loaded(log)) {
+            Ok(log) => {
+                drop(other.take(alloc));
+                *other = Handle::of(log);
+                status::OK
+            }
+            Err(_) => status::OUT_OF_MEMORY,
+        },
+    }
+}
+
+// Those entries alone of the bytes that a log was given whose outputs can't be trusted; or the status of their absence.
+fn distrusted_of(held: &Held, alloc: Global) -> Result<LoadedLog, u32>
+    ensures ok { IfOk result (IsDistrustedFrom (given_of held.now)) }
+    ensures whole { IsOk result → is_whole (lines_version (given_of held.now)) (given_of held.now) ≡ false }
+    ensures carried { IsOk result → is_carried held.now ≡ true }
+    ensures no_handle { IsErrOf result no_handle ↔ (is_carried held.now ≡ false) }
+    ensures none { IsErrOf result not_found ↔ (is_carried held.now ≡ true)
+        × (is_whole (lines_version (given_of held.now)) (given_of held.now) ≡ true) }
+    ensures not_a_log { IsErrOf result not_a_log → log_of (as_five (given_of held.now)) ≡ NotALog }
+    ensures other_version { IsErrOf result other_version
+        → log_of (as_five (given_of held.now)) ≡ OtherVersion }
+    ensures refusals { IfErr result (λ why. (why ≡ no_handle) ⊎ (why ≡ not_found) ⊎ (why ≡ not_a_log)
+        ⊎ (why ≡ other_version) ⊎ (why ≡ out_of_memory)) }
+{
+    let Some(bytes) = held.given() else {
+        return Err(status::NO_HANDLE);
+    };
+    if is_whole(lines_version(bytes), bytes) {
+        return Err(status::NOT_FOUND);
+    }
+    match LoadedLog::load_distrusted(alloc, bytes) {
+        Ok(log) => Ok(log),
+        Err(fault) => Err(status::of_fault(fault)),
+    }
 }
 
 /// How long the text is, and as much of it from a place on as there is room for, where that wasn't carried.

@@ -1,25 +1,23 @@
 //! Laws of what is loaded, each the contract of a function that does nothing.
-ghost use Rattle.std.specs.Prelude.{◌≡◌, ◌≤◌, ◌++◌, ℕ, Bool, false, List, All, IsSomeAnd, length};
+ghost use Rattle.std.specs.Prelude.{◌≡◌, ◌≤◌, ◌⊎◌, ◌++◌, ℕ, Bool, false, List, All, IsSomeAnd, length};
 ghost use Rattle.nl_fields.specs.EntryLine.{IsEntry};
 ghost use Rattle.nl_fields.specs.declared.entry.Entry.{Entry};
 ghost use Rattle.nl_lines.specs.Lines.{max_log};
-ghost use Rattle.nl_lines.specs.Version.{as_version};
-ghost use Rattle.nl_lines.specs.declared.version.LogVersion.{LogVersion};
 ghost use Rattle.nl_table.specs.Due.{is_history_due};
 ghost use Rattle.nl_table.specs.Log.{history_of};
 ghost use Rattle.nl_table.specs.LogText.{lines_of_entries};
 ghost use Rattle.nl_table.specs.Table.{all_entered_table};
 ghost use Rattle.nl_session.specs.Opened.{opened_bytes, IsTableOf};
-ghost use Rattle.nl_c.specs.Changes.{IsOpenText};
-ghost use Rattle.nl_c.specs.LoadedLogs.{seen, version_at};
+ghost use Rattle.nl_folder.specs.CrashImages.{IsDisk, IsImage};
+ghost use Rattle.nl_folder.specs.DiskState.{Disk};
+ghost use Rattle.nl_c.specs.Changes.{IsOpenText, StepsLeave, replace, steps_of};
 
-/// Bytes whose digit names neither 6 nor 7 are seen as they are, and others as those of the version that it names.
-pub fn seen_bytes()
-    ensures five { (bytes : List ℕ) → version_at bytes ≡ LogVersion.Five → seen bytes ≡ bytes }
-    ensures six { (bytes : List ℕ) → version_at bytes ≡ LogVersion.Six
-        → seen bytes ≡ as_version LogVersion.Six bytes }
-    ensures seven { (bytes : List ℕ) → version_at bytes ≡ LogVersion.Seven
-        → seen bytes ≡ as_version LogVersion.Seven bytes }
+/// A rewriting puts a new file in the place of the log. Wherever its steps end, and the power then fails, what is found could be found
+/// before, or is the text, whatever text that is.
+pub fn a_rewriting_leaves_the_old_or_the_new()
+    ensures { (old new : Disk) (text bs : List ℕ) → IsDisk old
+        → StepsLeave (steps_of replace old.visible text) old new → IsImage new bs
+        → IsImage old bs ⊎ (bs ≡ text) }
 {}
 
 /// Lines of entries behind the text of an open log: the table in which each was entered is that of the whole, which an open leaves as it

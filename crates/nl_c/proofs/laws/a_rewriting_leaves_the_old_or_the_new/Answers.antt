@@ -1,0 +1,5 @@
+use Rattle.nl_c.proofs.RewritingLemmas.{old_or_text}
+use Rattle.nl_c.proofs.laws.a_rewriting_leaves_the_old_or_the_new.Goals as goal
+
+pub returns : goal.returns
+returns c = λ old new text bs honest left image. old_or_text text old honest new left bs image
