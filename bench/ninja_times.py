@@ -2,7 +2,7 @@
 """What MTIME is in the log of each Ninja; whether builds border where it jumps; and what it tells of entries that a cut took.
 
     python3 bench/ninja_times.py [--tree FOLDER ..] [--files N] [--steps N] [--tree-steps N] [--cuts N] [--seed N] [--jobs N]
-                                 [--pause SECONDS] [--room FOLDER] NINJA [NINJA ..]
+                                 [--pause SECONDS] [--room FOLDER] [--nlog PROGRAM] NINJA [NINJA ..]
 
 NINJA is the path of a ninja of 1.11 to 1.13. With each, two projects that are made here (ninja_builds.py) are built again and again, with a
 random change and a pause before each build; and so is each FOLDER, a source tree with a CMakeLists.txt. Then it prints tables:
@@ -12,7 +12,8 @@ random change and a pause before each build; and so is each FOLDER, a source tre
 - rewritten: whether a rule tells a log that was written anew, by `ninja -t recompact` or in the order of first appearance;
 - doubt: the log cut at random places, each entry that is left compared with its output's file. Lost are the outputs whose last entry the
   cut took, of which an older one is left. Found, missed, false: those that a rule names of them, doesn't name, and names beside them.
-  Of the missed, those are told whose file wasn't written since the older entry, so that nothing is stale.
+  Of the missed, those are told whose file wasn't written since the older entry, so that nothing is stale. With PROGRAM, a built nlog, the same of
+  what `nlog doubt` names on the same cuts, run in the folder of the build.
 
 The builds are made in a folder of FOLDER, or of the machine's place for such; what file system that is, is printed. Wants cc, and for the
 trees cmake and a C++ compiler. A table is a page's: lines of Markdown.
@@ -249,23 +250,53 @@ def measure_doubt(all_builds, cuts, seed):
             row(version, what, slack or "-", ", ".join(f"{kind}: {count}" for kind, count in sorted(found.items())))
 
 
-def doubt(builds, rule, slack, random_, cuts, kinds):
-    """Lost, found, missed, missed that weren't written since, false, and false where nothing is cut."""
-    entries, files, lost = entries_of(builds.log()), look(builds), [0] * 6
-    at = builds.log().find(b"\n") + 1
+def measure_program(all_builds, cuts, seed, program):
+    head("Ninja", "lost", "found by `nlog doubt`", "missed", "of these not written since", "false", "false in the whole log", "other words")
+    for version, many in all_builds.items():
+        total, kinds, words = [0] * 6, {}, {}
+        for builds in many:
+            total = [a + b for a, b in zip(total, doubt(builds, None, 0, random.Random(seed), cuts, kinds, program, words))]
+        row(version, *total, ", ".join(f"{word}: {count}" for word, count in sorted(words.items())) or "-")
+        if kinds:
+            print(f"<!-- {version}: named falsely in the whole log, by edge: {', '.join(f'{kind}: {count}' for kind, count in sorted(kinds.items()))} -->")
+
+
+def told_by(program, builds, text, words):
+    """The outputs that `nlog doubt` names as newer in a log of these bytes, run where the build is. Its other words are counted."""
+    path = builds.path("cut.log")
+    with open(path, "wb") as it:
+        it.write(text)
+    ended = subprocess.run([program, "doubt", "cut.log"], cwd=builds.folder, capture_output=True)
+    os.remove(path)
+    lines = [os.fsdecode(it).split("\t") for it in ended.stdout.split(b"\n")[:-1]]
+    if ended.returncode != (3 if lines else 0) or ended.stderr:
+        sys.exit(f"ninja_times.py: nlog doubt ended with {ended.returncode}: {ended.stderr.decode()}")
+    for word, _ in lines:
+        if word != "newer":
+            words[word] = words.get(word, 0) + 1
+    return {name for word, name in lines if word == "newer"}
+
+
+def doubt(builds, rule, slack, random_, cuts, kinds, program=None, words=None):
+    """Lost, found, missed, missed that weren't written since, false, and false where nothing is cut: by a rule, or by what the program prints."""
+    text = builds.log()
+    entries, files, lost = entries_of(text), look(builds), [0] * 6
+    at = text.find(b"\n") + 1
     ends = {it.name: it for it in entries}
 
-    def named(last):
+    def named(last, cut):
+        if program:
+            return told_by(program, builds, text[:cut], words)
         return {name for name, it in last.items() if isinstance(files[name], int) and it.mtime and rule(it, files[name], slack)}
 
     for _ in range(cuts):
         cut = random_.randrange(at, entries[-1].to)
         last = {it.name: it for it in entries if it.to <= cut}
         taken = {name for name, it in last.items() if ends[name] is not it and isinstance(files[name], int)}
-        it = named(last)
+        it = named(last, cut)
         wrote = {name for name in taken - it if was_written(builds, name, last[name])}
         lost = [a + b for a, b in zip(lost, (len(taken), len(taken & it), len(taken - it), len(taken - it - wrote), len(it - taken), 0))]
-    whole = named(ends)
+    whole = named(ends, len(text))
     for name in whole:
         kinds[builds.kind(name)] = kinds.get(builds.kind(name), 0) + 1
     lost[5] = len(whole)
@@ -311,6 +342,7 @@ def main():
         words.add_argument(f"--{name}", type=int, default=default, metavar="N")
     words.add_argument("--pause", type=float, default=0.5, metavar="SECONDS")
     words.add_argument("--room", metavar="FOLDER")
+    words.add_argument("--nlog", metavar="PROGRAM")
     words.add_argument("NINJA", nargs="+")
     given = words.parse_args()
     given.tree = [os.path.abspath(it) for it in given.tree]
@@ -329,6 +361,8 @@ def main():
         measure_borders(all_builds)
         measure_rewritten(all_builds)
         measure_doubt(all_builds, given.cuts, given.seed)
+        if given.nlog:
+            measure_program(all_builds, given.cuts, given.seed, os.path.abspath(given.nlog))
     return 0
 
 

@@ -4,12 +4,15 @@
     python3 tests/reports.py PROGRAM
 
 What each has to print is worked out here from the page and docs/FORMAT.md: the entries of the last build, each command once with its time,
-the trace (whose JSON is read by Python's own), dates, and two logs compared. `builds` and `summary` print what is worked out by hand. A script that can't do its work has to print nothing
+dates, and two logs compared. `builds` and `summary` print what is worked out by hand, and so is the JSON of `trace`, which Python's reader reads;
+`picture` draws as many bars as are counted by hand, in XML that Python's reader reads, and a browser too, if one is there;
+the log of a real build is told and drawn too, if Ninja is there. A script that can't do its work has to print nothing
 and to end with another status than 0: where the log is missing, is none, or can't be read, where there is no room for its files, and where
 these may grow to so many bytes and no further. Each awk that is there is tried: mawk, gawk, that of busybox and the one true awk. Wants
 GNU's date, and iconv.
 """
 import datetime
+import itertools
 import json
 import os
 import re
@@ -17,10 +20,11 @@ import resource
 import shutil
 import signal
 import sys
+import xml.etree.ElementTree as ElementTree
 
 from examples import read_page
 from log_format import HEADER, Log, as_version, line_of
-from log_lines import builds_of, entries_of, summary_of
+from log_lines import builds_of, compare_of, entries_of, picture_of, summary_of, trace_of
 from trials import main, read, run, write
 
 AWKS = {"mawk": ["mawk"], "gawk": ["gawk"], "busybox": ["busybox", "awk"], "original-awk": ["original-awk"]}
@@ -83,6 +87,19 @@ SUMMED = {
     # Five, from 0 to 9, each a millisecond behind the other and 5 ms long: 0 to 1 and 8 to 9 one runs.
     "many builds": (5, 5, 9, 25, 9, 2, b"2.77", 5, b"o3"),
 }
+# How many bars `picture` has to draw of each, by hand, and how many for commands that are too short: those of no time, or of less than half a
+# pixel of 1,440. Two of `odd numbers` are, a pixel apart.
+DRAWN = {
+    "no bytes": (0, []),
+    "a header": (0, []),
+    "odd names": (len(NAMES) - 1, [1]),
+    "several outputs": (5, [1]),
+    "odd numbers": (4, [1, 1]),
+    "version 4": (1, []),
+    "many builds": (5, []),
+}
+BROWSERS = ("chromium", "chromium-browser", "google-chrome")
+SVG = "{http://www.w3.org/2000/svg}"
 KEYS = b"commands %d\noutputs %d\nwall %d\ntotal %d\nbusy %d\nalone %d\nparallel %s\nslowest %d %s\n"
 # Two logs, by the lines that differ: hashes that an awk may take for one number, names that are numbers.
 OLD = HEADER + b"0\t5\t1\ta\t1e5\n0\t5\t1\tb\t100\n0\t5\t1\tc\tab\n0\t5\t1\t1e5\t7\n0\t5\t1\tgone\t0\n"
@@ -126,7 +143,7 @@ class Reports:
         files, examples = read_page(PAGE)
         self.commands = [it.command for it in examples]
         os.makedirs(f"{room}/bin")
-        for name in (*SCRIPTS, "trace.awk"):
+        for name in SCRIPTS:
             write(f"{room}/{name}", files[name])
         words = [shutil.which(AWKS[awk][0]), *AWKS[awk][1:]]
         write(f"{room}/bin/awk", f'#!/bin/sh\nexec {" ".join(words)} "$@"\n'.encode())
@@ -158,7 +175,6 @@ class Reports:
         self.want(f"{kind}: the slowest, how it ends", (status, err), (0, b""))
         self.want(f"{kind}: the slowest", sorted(slow), sorted(b"%d\t%s" % (it.took, it.name) for it in commands))
         self.want(f"{kind}: the slowest, their order", times, sorted(times, reverse=True))
-        self.try_trace(kind, commands)
         shown = [Entry(it) for it in Log(text).shown().split(b"\n")[:-1]]
         dates = b"".join(b"%s\t%s\n" % (date_of(it.mtime), it.name) for it in shown)
         self.want(f"{kind}: dates", self.script("dates.sh", "LOG"), (0, dates, b""))
@@ -169,24 +185,6 @@ class Reports:
         self.want(f"{kind}: compared with none", self.script("compare.sh", "LOG", "OTHER"), (0, gone, b""))
         new = b"".join(b"new\t-\t%d\t%s\n" % (it.took, it.name) for it in shown)
         self.want(f"{kind}: none compared with it", self.script("compare.sh", "OTHER", "LOG"), (0, new, b""))
-
-    def try_trace(self, kind, commands):
-        # The status is that of iconv too, which tells of bytes that aren't UTF-8.
-        _, out, err = self.command("-f trace.awk")
-        self.want(f"{kind}: the trace, how it ends", (out, err), (b"", b""))
-        try:
-            events = json.loads(read(f"{self.room}/trace.json").decode())
-        except ValueError as why:
-            return self.want(f"{kind}: the trace is JSON", str(why), "")
-        wanted = [(it.name.decode(errors="ignore"), it.start * 1000, it.took * 1000) for it in commands]
-        self.want(f"{kind}: the trace", sorted((it["name"], it["ts"], it["dur"]) for it in events), sorted(wanted))
-        self.want(f"{kind}: its other fields", {(it["ph"], it["pid"], len(it)) for it in events} | {("X", 1, 6)}, {("X", 1, 6)})
-        # Whoever ends before it begins is in no lane's way.
-        spans = [(it["ts"], it["ts"] + it["dur"], it["tid"]) for it in events if it["dur"] > 0]
-        clashes = [(a, b) for a in spans for b in spans if a is not b and a[2] == b[2] and a[0] < b[1] and b[0] < a[1]]
-        self.want(f"{kind}: commands that share a lane at one time", clashes, [])
-        most = max((sum(a[0] <= b[0] < a[1] for a in spans) for b in spans), default=0)
-        return self.want(f"{kind}: lanes", max((it[2] for it in spans), default=0), most)
 
     def try_versions(self):
         """A log of version 6 or 7 gives the reports of the same log of version 5, and so does one whose name begins with `-`."""
@@ -234,7 +232,7 @@ class Reports:
 
 
 def try_builds(trials, program, room):
-    """What `builds` and `summary` print, by hand, of each version."""
+    """What `builds` and `summary` print, by hand, of each version, and what `trace` and `picture` do of each and `compare` of each two logs."""
     trials.want("the logs of which builds are told", set(BUILT), set(LOGS))
     for kind, text in LOGS.items():
         trials.want(f"{kind}: builds by docs/FORMAT.md", builds_of(text), BUILT[kind])
@@ -242,9 +240,116 @@ def try_builds(trials, program, room):
             write(f"{room}/LOG", as_version(text, version))
             trials.want(f"{kind}, version {version}: builds", run([program, "builds", f"{room}/LOG"]), (0, BUILT[kind], b""))
             trials.want(f"{kind}, version {version}: summary", run([program, "summary", f"{room}/LOG"]), (0, summary_of(text), b""))
+            for number in range(1, 5):
+                got = run([program, "summary", "-n", "2", "--build", str(number), f"{room}/LOG"])
+                trials.want(f"{kind}, version {version}: summary of build {number}", got, (0, summary_of(text, 2, number), b""))
+            got = run([program, "summary", "-n", "3", "--all", f"{room}/LOG"])
+            trials.want(f"{kind}, version {version}: summary of all outputs", got, (0, summary_of(text, 3, of_all=True), b""))
+            status, out, err = run([program, "trace", f"{room}/LOG"])
+            trials.want(f"{kind}, version {version}: trace", (status, out, err), (0, trace_of(text), b""))
+            trials.want(f"{kind}, version {version}: its lanes", lanes_that_fail(json.loads(out.decode())), [])
+            status, out, err = run([program, "picture", f"{room}/LOG"])
+            trials.want(f"{kind}, version {version}: picture", (status, out, err), (0, picture_of(text), b""))
+            want_drawn(trials, f"{kind}, version {version}: its picture", out, *DRAWN[kind])
             trials.want(f"{kind}, version {version}: its numbers", run([program, "summary", "-n", "0", f"{room}/LOG"]), (0, summary_of(text, 0), b""))
+    for (kind, old), (other, new) in itertools.product(LOGS.items(), repeat=2):
+        # Of each two one is of version 5, 6 or 7 by turns.
+        versions = 5 + len(kind) % 3, 5 + len(other) % 3
+        write(f"{room}/OLD", as_version(old, versions[0]))
+        write(f"{room}/NEW", as_version(new, versions[1]))
+        are_seven = [as_version(it, version)[:14] == b"# ninja log v7" for it, version in ((old, versions[0]), (new, versions[1]))]
+        wanted = compare_of(old, new, are_seven[0] == are_seven[1], 3)
+        got = run([program, "compare", "-n", "3", f"{room}/OLD", f"{room}/NEW"])
+        trials.want(f"{kind}, version {versions[0]}, and {other}, version {versions[1]}: compare", got, (0, wanted, b""))
     for kind, counts in SUMMED.items():
         trials.want(f"{kind}: the summary by docs/FORMAT.md", summary_of(LOGS[kind], 0), KEYS % counts if counts else b"")
+
+
+def lanes_that_fail(events):
+    """The lanes of a trace that hold two commands at one time, and those beyond the most commands that run at one time."""
+    bars = [(it["ts"], it["ts"] + it["dur"], it["tid"]) for it in events if it["ph"] == "X"]
+    bars = [it for it in bars if it[0] < it[1]]
+    both = [(one, other) for at, one in enumerate(bars) for other in bars[:at] if one[2] == other[2] and one[0] < other[1] and other[0] < one[1]]
+    most = max((sum(it[0] <= bar[0] < it[1] for it in bars) for bar in bars), default=0)
+    return both + [it for it in bars if it[2] > max(most, 1)]
+
+
+def bars_of(picture):
+    """The bars of a picture, each by where it begins and ends, its lane's place, and its title."""
+    tops = [it for it in ElementTree.fromstring(picture) if it.tag == f"{SVG}rect" and it.find(f"{SVG}title") is not None]
+    return [(int(it.get("x")), int(it.get("x")) + int(it.get("width")), int(it.get("y")), it.find(f"{SVG}title").text) for it in tops]
+
+
+def want_drawn(trials, what, picture, count, short):
+    """A picture is XML. It has so many bars of one command, and so many bars of short ones, of which each tells how many they are."""
+    try:
+        bars = bars_of(picture)
+    except ElementTree.ParseError as why:
+        return trials.check(what, False, why)
+    joined = [it for it in bars if re.fullmatch(r"\d+ short", it[3])]
+    long = [it for it in bars if it not in joined]
+    both = [(one, other) for at, one in enumerate(long) for other in long[:at] if one[2] == other[2] and one[0] < other[1] and other[0] < one[1]]
+    trials.want(f"{what}: bars that lie over each other", both, [])
+    trials.want(f"{what}: the titles that aren't two lines", [it for it in long if it[3].count("\n") != 1], [])
+    return trials.want(f"{what}: bars", (len(long), sorted(int(it[3].split()[0]) for it in joined)), (count, short))
+
+
+def try_browser(trials, program, room):
+    """A browser reads the picture of odd names as an image of its size, and shows no error of XML."""
+    browser = next((it for it in BROWSERS if shutil.which(it)), None)
+    if browser is None:
+        return trials.skip("a picture in a browser", f"none of {', '.join(BROWSERS)} is there")
+    write(f"{room}/LOG", LOGS["odd names"])
+    write(f"{room}/build.svg", run([program, "picture", f"{room}/LOG"])[1])
+    words = [browser, "--headless", "--no-sandbox", "--disable-gpu", f"--user-data-dir={room}/browser", "--dump-dom", f"file://{room}/build.svg"]
+    status, shown, _ = run(words, timeout=120)
+    trials.want("a picture in a browser: how it ends, and its titles", (status, shown.count(b"<title>"), b"parsererror" in shown), (0, len(NAMES), False))
+    return None
+
+
+def try_many(trials, program, room):
+    """A build of 20,000 commands, eight at a time: it takes at most 400 bytes a command, and as many commands are in its bars."""
+    lines, ends, number = [], [0] * 8, 20_000
+    for it in range(number):
+        lane = ends.index(min(ends))
+        start, took = ends[lane], (3, 0, 17, 1, 250)[it % 5]
+        ends[lane] = start + took
+        lines.append((ends[lane], line_of(b"out/some/folder/of/the/build/file%d.%s" % (it, b"abcdefghijkl"[it % 12 : it % 12 + 1]), (start, ends[lane], 1, it))))
+    text = HEADER + b"".join(it[1] for it in sorted(lines, key=lambda it: it[0]))
+    write(f"{room}/LOG", text)
+    status, out, err = run([program, "picture", f"{room}/LOG"])
+    trials.want(f"{number:,} commands: picture", (status, out, err), (0, picture_of(text), b""))
+    bars = bars_of(out)
+    told = [re.fullmatch(r"(\d+) short", it[3]) for it in bars]
+    trials.check(f"{number:,} commands: its size", len(out) <= 400 * number, len(out))
+    trials.want(f"{number:,} commands: those in its bars", sum(int(it[1]) if it else 1 for it in told), number)
+    # By hand: 1,440 pixels in 8 lanes hold half as many bars again as pixels at most, of ten colours; each long one takes half a pixel or more.
+    return trials.check(f"{number:,} commands: its bars", len(bars) <= 8 * 1440 * (10 + 2), len(bars))
+
+
+def try_ninja(trials, program, room):
+    """What `trace` and `picture` print of the log of a real build, four commands at a time, of which one has two outputs."""
+    if shutil.which("ninja") is None:
+        return trials.skip("a trace of a real build", "Ninja isn't there")
+    os.makedirs(f"{room}/built")
+    rules = ["rule wait", "  command = sleep 0.0$in && touch $out", "build two.a two.b: wait 3"] + [f"build out{it}: wait {it % 4}" for it in range(30)]
+    write(f"{room}/built/build.ninja", "\n".join([*rules, ""]).encode())
+    for it in range(4):
+        write(f"{room}/built/{it}", b"")
+    trials.want("a real build", run(["ninja", "-j4"], cwd=f"{room}/built")[0], 0)
+    log = f"{room}/built/.ninja_log"
+    status, out, err = run([program, "trace", log])
+    events = json.loads(out.decode())
+    trials.want("a real build: trace", (status, out, err), (0, trace_of(read(log)), b""))
+    trials.want("a real build: its lanes", lanes_that_fail(events), [])
+    trials.check("a real build: no more lanes than jobs", max(it["tid"] for it in events if it["ph"] == "X") <= 4, out)
+    status, out, err = run([program, "picture", log])
+    trials.want("a real build: picture", (status, out, err), (0, picture_of(read(log)), b""))
+    counts = [re.fullmatch(r"(\d+) short", it[3]) for it in bars_of(out)]
+    trials.want("a real build: the commands in its bars", sum(int(it[1]) if it else 1 for it in counts), 31)
+    trials.check("a real build: both outputs are told", any(it[3].startswith("two.a and 1 more\n") for it in bars_of(out)), out)
+    told = sorted(tuple(it["args"]["outputs"]) for it in events if it["ph"] == "X")
+    return trials.want("a real build: its outputs", told, sorted([("two.a", "two.b"), *((f"out{it}",) for it in range(30))]))
 
 
 def limit(most):
@@ -260,6 +365,9 @@ def trial(trials, program, room):
     if shutil.which("iconv") is None or not re.match(rb"date \(GNU", version):
         return trials.skip("all of it", "iconv or GNU's date isn't there")
     try_builds(trials, program, room)
+    try_ninja(trials, program, room)
+    try_many(trials, program, room)
+    try_browser(trials, program, room)
     for awk, words in AWKS.items():
         if shutil.which(words[0]) is None or run([*words, "BEGIN {}"])[0] != 0:
             trials.skip(f"the reports by {awk}", "it isn't there")

@@ -1,0 +1,5 @@
+mod TextLemmas
+mod BarLemmas
+mod CurveLemmas
+mod MarkLemmas
+mod EscapeLemmas

@@ -1,0 +1,44 @@
+-- Names as the text of an XML document (docs/CLI.md, "`picture`").
+use Rattle.std.specs.Prelude.{◌≡◌, ◌≢◌, ◌⊎◌, ◌≤◌, ℕ, ◌==◌, ◌&&◌, nat_le, List, [], ◌∷◌, ◌++◌, length, take, codes, if◌then◌else◌}
+use Rattle.std.specs.List.{All, flat_map}
+use Rattle.std.specs.Str.Lossy.{utf8_lossy}
+
+-- what a byte becomes behind two others: XML has no control characters but three, and no U+FFFE and U+FFFF, whose bytes are 239, 191, and 190
+-- or 191; each is shown as U+FFFD
+abbrev pub piece : ℕ → ℕ → ℕ → List ℕ
+piece a b c = if c == 60 then codes "&lt;" else (if c == 62 then codes "&gt;" else (if c == 34 then codes "&#34;" else
+    (if c == 38 then codes "&#38;" else (if nat_le c 31 then 239 ∷ 191 ∷ 189 ∷ [] else
+    (if a == 239 && (b == 191 && nat_le 190 c) then 189 ∷ [] else c ∷ [])))))
+
+-- a text in UTF-8 behind two bytes
+abbrev pub escaped_behind : ℕ → ℕ → List ℕ → List ℕ
+escaped_behind a b [] = []
+escaped_behind a b (c ∷ cs) = piece a b c ++ escaped_behind b c cs
+
+abbrev pub escaped : List ℕ → List ℕ
+escaped text = escaped_behind 0 0 text
+
+-- a name, with U+FFFD for what isn't UTF-8
+abbrev pub shown : List ℕ → List ℕ
+shown name = escaped (utf8_lossy name)
+
+-- a name, of which the beginning alone stands there where it is too long
+abbrev pub label : List ℕ → List ℕ
+label name = if nat_le (length (shown name)) 200 then shown name else shown (take 40 name) ++ codes ".."
+
+-- a byte that is no control character and none of `<`, `>`, `"`; and one that isn't `&` either
+abbrev pub IsQuiet : ℕ → Type 0
+IsQuiet c = (32 ≤ c) × ((c ≢ 60) × ((c ≢ 62) × (c ≢ 34)))
+
+abbrev pub IsPlain : ℕ → Type 0
+IsPlain c = IsQuiet c × (c ≢ 38)
+
+-- an entity, or plain bytes
+abbrev pub IsPiece : List ℕ → Type 0
+IsPiece p = (p ≡ codes "&lt;") ⊎ ((p ≡ codes "&gt;") ⊎ ((p ≡ codes "&#34;") ⊎ ((p ≡ codes "&#38;") ⊎ All IsPlain p)))
+
+-- it is made of these alone
+pub record IsMadeOfPieces (text : List ℕ) : Type 0 where
+  pub pieces : List (List ℕ)
+  pub is : text ≡ flat_map (λ p. p) pieces
+  pub each : All IsPiece pieces

@@ -1,0 +1,16 @@
+pub mod RunLemmas
+pub mod BuildLemmas
+pub mod TextLemmas
+mod SweepLemmas
+mod SweepStepLemmas
+mod SharesLemmas
+mod LeftOverLemmas
+mod LastBuildLemmas
+pub mod IntentLemmas
+pub mod FallingLemmas
+mod SlowestLemmas
+mod SummaryLemmas
+mod FirstBuildLemmas
+mod EndingLemmas
+mod CompareLemmas
+mod ClassLemmas

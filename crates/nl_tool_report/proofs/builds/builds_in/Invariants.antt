@@ -1,0 +1,19 @@
+use Rattle.std.proofs.Common.{◌≡◌, ◌+◌, ◌≤◌, List, length}
+use Rattle.std.specs.List.{All}
+use Rattle.nl_fields.specs.EntryLine.{IsEntry}
+use Rattle.nl_fields.specs.declared.entry.Entry.{Entry}
+use Rattle.nl_table.specs.LogText.{lines_of_entries}
+use Rattle.nl_tool_report.specs.BuildSteps.{AreHeld, IsBoundedIf, outputs_in}
+use Rattle.nl_tool_report.specs.Runs.{Run}
+use Rattle.nl_tool_report.proofs.TextLemmas.{HoldsBefore}
+use Rattle.nl_tool_report.proofs.builds.builds_in.Given as goal
+
+abbrev pub invariant-entries : goal.invariant-entries
+invariant-entries l = record {
+  held : (es : List Entry) → All IsEntry es → l.fn.text ≡ lines_of_entries es → HoldsBefore es l.rest (λ (rs : List (Run Entry)). AreHeld rs l.done.items l.current);
+  bound : IsBoundedIf l.current;
+  count : outputs_in l.current + length l.rest ≤ length l.fn.text;
+}
+
+abbrev pub decreases-entries : goal.decreases-entries
+decreases-entries l = length l.rest

@@ -1,0 +1,17 @@
+pub mod Runs
+pub mod Commands
+pub mod Intents
+pub mod Builds
+pub mod BuildSteps
+pub mod LastBuild
+pub mod Sweep
+pub mod FirstBuilds
+pub mod Fraction
+pub mod Slowest
+pub mod Outputs
+pub mod Summary
+pub mod Compare
+pub mod ComparedRows
+pub mod SweepSteps
+pub mod Shares
+pub mod EndingSteps

@@ -1,0 +1,79 @@
+-- The text of `summary`.
+use Rattle.std.specs.Prelude.{ℕ, ◌-◌, ◌==◌, List, [], ◌∷◌, ◌++◌, length, nat_lt, take, Option, None, Some, codes, decimal, if◌then◌else◌}
+use Rattle.nl_fields.specs.declared.entry.Entry.{Entry}
+use Rattle.nl_table.specs.Log.{log_of}
+use Rattle.nl_versions.specs.VersionOf.{as_five}
+use Rattle.nl_tool_report.specs.Runs.{Run, items}
+use Rattle.nl_tool_report.specs.Builds.{build_of, builds, report_of}
+use Rattle.nl_tool_report.specs.Commands.{span_of, time_of}
+use Rattle.nl_tool_report.specs.Intents.{recorded, unfinished}
+use Rattle.nl_tool_report.specs.Outputs.{outputs}
+use Rattle.nl_tool_report.specs.Fraction.{ratio}
+use Rattle.nl_tool_report.specs.LastBuild.{slowest_of, spans_of}
+use Rattle.nl_tool_report.specs.Slowest.{slowest_lists, told_commands}
+use Rattle.nl_tool_report.specs.Sweep.{alone_time, busy_time}
+use Rattle.nl_tool_report.specs.declared.builds.Build.{Build}
+use Rattle.nl_tool_report.specs.declared.scope.Scope.{Scope}
+use Rattle.nl_tool_report.specs.declared.scope.Scope.TheVariants.{Last, Numbered, Outputs}
+
+-- seven lines, each a key and a value
+abbrev pub told_lines : ℕ → ℕ → ℕ → ℕ → ℕ → ℕ → List ℕ → List ℕ
+told_lines commands outputs wall total busy alone parallel = codes "commands " ++ decimal commands ++ codes "\noutputs " ++ decimal outputs
+    ++ codes "\nwall " ++ decimal wall ++ codes "\ntotal " ++ decimal total ++ codes "\nbusy " ++ decimal busy
+    ++ codes "\nalone " ++ decimal alone ++ codes "\nparallel " ++ parallel ++ codes "\n"
+
+-- of a build: its commands and outputs, the milliseconds from the first START to the last END, the sum of the commands' times, the
+-- milliseconds in which one command at least ran, and one alone, and how many ran at a time in the mean
+abbrev pub summary_lines : Build → ℕ → ℕ → List ℕ
+summary_lines b busy alone = told_lines b.commands b.outputs (b.ended - b.began) b.total busy alone (ratio b.total (b.ended - b.began))
+
+-- the command that took the longest, by its milliseconds and its first output
+abbrev pub slowest_line : Option Entry → List ℕ
+slowest_line None = []
+slowest_line (Some e) = codes "slowest " ++ decimal (time_of (span_of e)) ++ codes " " ++ e.name ++ codes "\n"
+
+-- the eight lines of a build
+abbrev pub build_summary : Run Entry → List ℕ
+build_summary b = summary_lines (build_of b) (busy_time (spans_of (items b))) (alone_time (spans_of (items b)))
+    ++ slowest_line (slowest_of (items b))
+
+-- how many outputs wait for a command that didn't end, where one does
+abbrev pub unfinished_line : ℕ → List ℕ
+unfinished_line count = if count == 0 then [] else codes "unfinished " ++ decimal count ++ codes "\n"
+
+-- and behind these the lists of the slowest commands, each of so many lines at most
+abbrev pub build_told : ℕ → ℕ → Run Entry → List ℕ
+build_told most count b = build_summary b ++ unfinished_line count ++ slowest_lists most (told_commands (items b))
+
+-- that of the last build
+abbrev pub last_summary : ℕ → ℕ → List (Run Entry) → List ℕ
+last_summary most count [] = unfinished_line count
+last_summary most count (b ∷ []) = build_told most count b
+last_summary most count (b ∷ c ∷ bs) = last_summary most count (c ∷ bs)
+
+-- said where there are fewer builds than were asked for: how many there are
+abbrev pub fewer_line : ℕ → List ℕ
+fewer_line count = codes "builds " ++ decimal count ++ codes "\n"
+
+-- that of the build of a number, from 1: of the last of so many first ones
+abbrev pub numbered_summary : ℕ → ℕ → ℕ → List (Run Entry) → List ℕ
+numbered_summary number most count bs = if nat_lt (length bs) number then fewer_line (length bs) ++ unfinished_line count
+    else last_summary most count (take number bs)
+
+abbrev pub asked_summary : Scope → ℕ → ℕ → List (Run Entry) → List ℕ
+asked_summary Last most count bs = last_summary most count bs
+asked_summary (Numbered number) most count bs = numbered_summary number most count bs
+asked_summary Outputs most count bs = last_summary most count bs
+
+-- the entries that are told of: those that are no intents, or of the last entries of outputs those, in the order in which they ended
+abbrev pub told_entries : Scope → List Entry → List Entry
+told_entries Last entries = recorded entries
+told_entries (Numbered number) entries = recorded entries
+told_entries Outputs entries = outputs entries
+
+-- the text of `summary`
+abbrev pub summary_text : Scope → ℕ → List Entry → List ℕ
+summary_text scope most entries = asked_summary scope most (unfinished entries) (builds (told_entries scope entries))
+
+abbrev pub summary_text_of : Scope → ℕ → List ℕ → Option (List ℕ)
+summary_text_of scope most bytes = report_of (summary_text scope most) (log_of (as_five bytes))

@@ -1,0 +1,68 @@
+//! Laws of commands, builds, weighted times and of two logs compared, each the contract of a function that does nothing.
+ghost use Rattle.std.specs.Prelude.{◌≡◌, ◌+◌, ◌++◌, ◌*◌, ◌<◌, ◌≤◌, ℕ, Bool, List, count_by, length, map, slice_index_or};
+ghost use Rattle.std.specs.List.{All, flat_map, sum_by};
+ghost use Rattle.nl_fields.specs.EntryLine.{IsEntry};
+ghost use Rattle.std.specs.List.Sorted.{IsPermutation};
+ghost use Rattle.nl_fields.specs.declared.entry.Entry.{Entry};
+ghost use Rattle.nl_tool_report.specs.Runs.{items, joined_runs};
+ghost use Rattle.nl_tool_report.specs.Commands.{commands, time_of};
+ghost use Rattle.nl_tool_report.specs.Builds.{builds};
+ghost use Rattle.nl_table.specs.Table.{entry_names};
+ghost use Rattle.nl_tool_report.specs.Compare.{Compared, classes, compared, is_of, lacking, of_class};
+ghost use Rattle.nl_tool_report.specs.Slowest.{Told, falling, ranked};
+ghost use Rattle.nl_tool_report.specs.Outputs.{by_end};
+ghost use Rattle.nl_tool_report.specs.Sweep.{busy_time, left_over, parts, weight};
+ghost use Rattle.nl_tool_report.specs.declared.span.Span.{Span};
+
+/// The outputs of the commands, in order, are the entries of the log, each once.
+pub fn commands_are_the_entries()
+    ensures { (es : List Entry) → joined_runs (commands es) ≡ es }
+{}
+
+/// The builds, in order, are the entries of the log, each once; and their commands are those of the log.
+pub fn builds_are_the_log()
+    ensures entries { (es : List Entry) → joined_runs (builds es) ≡ es }
+    ensures commands { (es : List Entry)
+        → flat_map (λ b. commands (items b)) (builds es) ≡ commands es }
+{}
+
+/// The last entries of outputs, in the order in which their commands ended, are those entries, each once, and of one build at most.
+pub fn the_outputs_are_one_build()
+    ensures each { (es : List Entry) → IsPermutation es (by_end es) }
+    ensures one { (es : List Entry) → All IsEntry es → length (builds (by_end es)) ≤ 1 }
+{}
+
+/// The weighted times of commands, and what is left over, add up to the time in which one command at least runs.
+pub fn weights_add_up()
+    ensures { (cs : List Span) → sum_by (weight cs) cs + left_over cs ≡ parts * busy_time cs }
+{}
+
+/// What is left over is no more parts of a millisecond than the commands' own times have milliseconds.
+pub fn little_is_left_over()
+    ensures { (cs : List Span) → left_over cs ≤ sum_by time_of cs }
+{}
+
+/// The commands of a list are those that it is made of, each once; none takes longer than one before it, by what the list goes
+/// by; and those that are equal by it stand as before.
+pub fn the_slowest_come_first()
+    ensures each { (rank : Told → ℕ) (ts : List Told) → IsPermutation ts (falling rank ts) }
+    ensures order { (rank : Told → ℕ) (ts : List Told) (i j : ℕ) (d : Told) → i ≤ j
+        → j < length (falling rank ts)
+        → rank (slice_index_or (falling rank ts) j d) ≤ rank (slice_index_or (falling rank ts) i d) }
+    ensures alike { (rank : Told → ℕ) (v : ℕ) (ts : List Told)
+        → ranked rank v (falling rank ts) ≡ ranked rank v ts }
+{}
+
+/// The outputs that are compared are those of the old log, in its order, and then those that the new one alone has.
+pub fn each_output_is_compared()
+    ensures { (hashes : Bool) (old new : List Entry)
+        → map (λ (c : Compared). c.output) (compared hashes old new)
+        ≡ entry_names old ++ entry_names (lacking old new) }
+{}
+
+/// Each output is in one class; so the totals of all classes add up to those of all outputs, whatever is summed.
+pub fn each_output_is_in_one_class()
+    ensures one { (c : Compared) → count_by (λ k. is_of k c) classes ≡ 1 }
+    ensures sums { (f : Compared → ℕ) (cs : List Compared)
+        → sum_by (λ k. sum_by f (of_class k cs)) classes ≡ sum_by f cs }
+{}

@@ -1,0 +1,34 @@
+//! What the builds of a log did, as numbers, over any reader and writer.
+#![tactic(auto)]
+
+mod builds;
+mod class;
+mod compare;
+mod compared;
+mod ending;
+mod entry_text;
+mod first_builds;
+mod fraction;
+mod intents;
+mod last_commands;
+pub mod laws;
+mod scope;
+mod shares;
+mod slowest;
+mod span;
+mod summary;
+mod sweep;
+
+pub use builds::{Build, builds_in, builds_to};
+pub use class::Class;
+pub use compare::{TableAsRead, compare_to, read_table};
+pub use compared::{ComparedRow, Times};
+pub use ending::Ending;
+pub use entry_text::{read_entries, split_line};
+pub use intents::without_intents;
+pub use last_commands::{LastBuild, last_build};
+pub use scope::Scope;
+pub use shares::Shares;
+pub use slowest::{Rank, Row};
+pub use span::Span;
+pub use summary::summary_to;

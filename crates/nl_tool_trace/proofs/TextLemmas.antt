@@ -1,0 +1,124 @@
+-- The text of a trace, event by event.
+use Rattle.std.proofs.Common.{◌≡◌, ◌∙◌, ℕ, ◌+◌, ◌<◌, ◌≤◌, false, List, [], ◌∷◌, ◌++◌, true, length, get_or, map, take, refl, sym, ap, arith, append_assoc, append-nil, length-append}
+use Rattle.std.specs.List.{flat_map, zip}
+use Rattle.std.proofs.lemmas.Grind.{flat_map-append}
+use Rattle.std.proofs.lemmas.List.{get_or-map, length-map, take_all, take_more}
+use Rattle.std.proofs.lemmas.Simd.{map-map}
+use Rattle.std.proofs.lemmas.Slice.Zip.{get_or-zip, length-zip}
+use Rattle.serde_json.specs.Data.{Data}
+use Rattle.serde_json.specs.View.{items_of}
+use Rattle.serde_json.specs.Written.{compact_text, has_float, items_have_float, items_text}
+use Rattle.nl_fields.specs.declared.entry.Entry.{Entry}
+use Rattle.nl_tool_report.specs.Runs.{Run}
+use Rattle.nl_tool_report.specs.Builds.{build_of}
+use Rattle.nl_tool_report.specs.declared.builds.Build.{Build}
+use Rattle.nl_tool_report.specs.declared.span.Span.{Span}
+use Rattle.nl_tool_trace.specs.Events.{build_event, command_event, running_event, shown}
+use Rattle.nl_tool_trace.specs.Jobs.{Job, by_start, job, last_in, last_jobs}
+use Rattle.nl_tool_trace.specs.declared.commands.Command.{Command}
+use Rattle.nl_tool_trace.specs.Lanes.{lanes}
+use Rattle.nl_tool_trace.specs.Trace.{array_text, event_text, events_of, job_events, last_events, spans}
+use Rattle.nl_tool_trace.specs.TraceSteps.{behind_commas, told_to}
+
+-- ---- no event has a float
+
+names_have_none : (names : List (List ℕ)) → items_have_float (items_of (map shown names)) ≡ false
+names_have_none [] = refl
+names_have_none (n ∷ names) = names_have_none names
+
+pub build_has_none : (build : ℕ) → has_float (build_event build) ≡ false
+build_has_none build = refl
+
+pub command_has_none : (build began lane : ℕ) (j : Job) → has_float (command_event build began lane j) ≡ false
+command_has_none build began lane j = rw (names_have_none j.outputs) refl
+
+pub running_has_none : (build began : ℕ) (cs : List Span) (at : ℕ) → has_float (running_event build began cs at) ≡ false
+running_has_none build began cs at = refl
+
+-- ---- an array
+
+commas : (ds : List Data) → items_text true (items_of ds) ≡ behind_commas ds ++ 93 ∷ []
+unfolding event_text
+commas [] = refl
+commas (d ∷ ds) =
+    ap (λ (l : List ℕ). 44 ∷ (compact_text d ++ l)) (commas ds)
+    ∙ sym (append_assoc (44 ∷ compact_text d) (behind_commas ds) (93 ∷ []))
+
+array_is : (d : Data) (ds : List Data) → array_text (d ∷ ds) ≡ ((91 ∷ event_text d) ++ behind_commas ds) ++ 93 ∷ []
+unfolding array_text event_text
+array_is d ds =
+    ap (λ (l : List ℕ). 91 ∷ (compact_text d ++ l)) (commas ds) ∙ sym (append_assoc (91 ∷ compact_text d) (behind_commas ds) (93 ∷ []))
+
+pub none_is : 91 ∷ 93 ∷ [] ≡ array_text []
+unfolding array_text
+none_is = refl
+
+pub three_more : (old first second new a b c : List ℕ) → first ≡ old ++ a → second ≡ first ++ b → new ≡ second ++ c
+    → new ≡ old ++ (a ++ (b ++ (c ++ [])))
+three_more old first second new a b c one two three =
+    three ∙ ap (λ (l : List ℕ). l ++ c) (two ∙ ap (λ (l : List ℕ). l ++ b) one)
+    ∙ append_assoc (old ++ a) b c ∙ append_assoc old a (b ++ c)
+    ∙ ap (λ (l : List ℕ). old ++ (a ++ (b ++ l))) (sym (append-nil c))
+
+-- ---- the events of one command more
+
+pub told_more : (build began : ℕ) (js : List Job) (found : List ℕ) (i lane : ℕ) (j : Job) (front old new : List ℕ) → i < length js → i < length found
+    → get_or js i j ≡ j → get_or found i lane ≡ lane → old ≡ front ++ told_to build began js found i
+    → new ≡ old ++ behind_commas (events_of build began (spans js) (j, lane)) → new ≡ front ++ told_to build began js found (i + 1)
+told_more build began js found i lane j front old new there lane_there job_is lane_is before more =
+    let events = events_of build began (spans js) in
+    let both = zip js found in
+    let place : get_or both i (j, lane) ≡ (j, lane) = get_or-zip js found i (j, lane) there lane_there ∙ (λ k. (job_is k, lane_is k)) in
+    let within : i < length both = omega (arith, there, lane_there, length-zip js found) in
+    let grown : flat_map events (take (i + 1) both) ≡ flat_map events (take i both) ++ events (j, lane) =
+    ap (flat_map events) (take_more both i (j, lane) within) ∙ flat_map-append events (take i both) (get_or both i (j, lane) ∷ [])
+    ∙ ap (λ (l : List Data). flat_map events (take i both) ++ l) (append-nil (events (get_or both i (j, lane))) ∙ ap events place) in
+    more ∙ ap (λ (l : List ℕ). l ++ behind_commas (events (j, lane))) before
+    ∙ append_assoc front (told_to build began js found i) (behind_commas (events (j, lane)))
+    ∙ ap (λ (l : List ℕ). front ++ l) (sym (ap behind_commas grown
+    ∙ flat_map-append (λ (d : Data). 44 ∷ event_text d) (flat_map events (take i both)) (events (j, lane))))
+
+-- all of them
+pub told_all : (build began : ℕ) (js : List Job) (found : List ℕ) (i : ℕ) → found ≡ lanes (spans js) → length js ≤ i
+    → ((91 ∷ event_text (build_event build)) ++ told_to build began js found i) ++ 93 ∷ []
+    ≡ array_text (build_event build ∷ job_events build began js)
+told_all build began js found i is all =
+    let long : length (zip js found) ≤ i = omega (arith, all, length-zip js found) in
+    let events = events_of build began (spans js) in
+    ap (λ (l : List (Job × ℕ)). ((91 ∷ event_text (build_event build)) ++ behind_commas (flat_map events l)) ++ 93 ∷ []) (take_all i (zip js found) long)
+    ∙ ap (λ (l : List ℕ). ((91 ∷ event_text (build_event build)) ++ behind_commas (flat_map events (zip js l))) ++ 93 ∷ []) is
+    ∙ sym (array_is (build_event build) (job_events build began js))
+
+-- ---- the last build
+
+last_built : (r : Run Entry) (rs : List (Run Entry)) (before : List Build) (b : Build) → map build_of (r ∷ rs) ≡ before ++ b ∷ []
+    → build_of (last_in r rs) ≡ b
+last_built r [] [] b is = cc is
+last_built r [] (x ∷ before) b is = absurd (omega (arith, ap length is, length-append before (b ∷ [])))
+last_built r (s ∷ rs) [] b is = absurd (omega (arith, ap length is))
+last_built r (s ∷ rs) (x ∷ before) b is = last_built s rs before b (cc is)
+
+pub last_told : (rs : List (Run Entry)) (before : List Build) (b : Build) → map build_of rs ≡ before ++ b ∷ []
+    → last_events rs ≡ build_event (length rs) ∷ job_events (length rs) b.began (by_start (last_jobs rs))
+last_told [] before b is = absurd (omega (arith, ap length is, length-append before (b ∷ [])))
+last_told (r ∷ rs) before b is =
+    ap (λ (c : Build). build_event (length (r ∷ rs)) ∷ job_events (length (r ∷ rs)) c.began (by_start (last_jobs (r ∷ rs)))) (last_built r rs before b is)
+
+pub none_told : (rs : List (Run Entry)) → length (map build_of rs) ≡ 0 → last_events rs ≡ []
+none_told [] none = refl
+none_told (r ∷ rs) none = absurd (omega (arith, none))
+
+pub jobs_length : (ks : List Command) → length (spans (map job ks)) ≡ length ks
+jobs_length ks = length-map (map job ks) (λ (j : Job). j.span) ∙ length-map ks job
+
+-- the same of commands as they are held
+pub told_step : (build began : ℕ) (ks : List Command) (found : List ℕ) (i lane : ℕ) (k : Command) (front old new : List ℕ) → i < length ks
+    → i < length found → k ≡ get_or ks i k → lane ≡ get_or found i lane → old ≡ front ++ told_to build began (map job ks) found i
+    → new ≡ old ++ behind_commas (events_of build began (spans (map job ks)) (job k, lane))
+    → new ≡ front ++ told_to build began (map job ks) found (i + 1)
+told_step build began ks found i lane k front old new there lane_there is lane_is before more =
+    told_more build began (map job ks) found i lane (job k) front old new (omega (arith, there, length-map ks job)) lane_there
+    (get_or-map job ks i k (job k) there ∙ ap job (sym is)) (sym lane_is) before more
+
+pub spans_same : (ks : List Command) → map (λ k. k.span) ks ≡ spans (map job ks)
+spans_same ks = sym (map-map (λ (j : Job). j.span) job ks)

@@ -1,0 +1,204 @@
+//! The command `trace`.
+ghost use Rattle.std.specs.Prelude.{◌≡◌, ◌<◌, ◌^◌, ◌++◌, ◌∷◌, [], false, List, length, map, IfErr, IfOk, IfSome, IsErrOf, OnOk};
+ghost use Rattle.serde_json.specs.View.{view};
+ghost use Rattle.serde_json.specs.Written.{has_float};
+ghost use Rattle.std.specs.List.{All};
+ghost use Rattle.nl_fields.specs.EntryLine.{IsEntry};
+ghost use Rattle.nl_fields.specs.declared.entry.Entry.{Entry};
+ghost use Rattle.nl_table.specs.Log.{log_of, NotALog, OtherVersion};
+ghost use Rattle.nl_table.specs.LogText.{lines_of_entries};
+ghost use Rattle.nl_tool_texts.specs.Output.{Prints};
+ghost use Rattle.nl_tool_texts.specs.declared.fault.ToolFault.{ToolFault};
+ghost use Rattle.nl_tool_print.specs.Faults.{IsLogFault};
+ghost use Rattle.nl_tool_print.specs.Output.{IsTextAsRead};
+ghost use Rattle.nl_versions.specs.VersionOf.{as_five};
+ghost use Rattle.nl_tool_report.specs.Builds.{builds};
+ghost use Rattle.nl_tool_report.specs.Commands.{IsEarly};
+ghost use Rattle.nl_tool_report.specs.declared.span.Span.{Span};
+ghost use Rattle.nl_tool_trace.specs.Jobs.{job};
+ghost use Rattle.nl_tool_trace.specs.Events.{build_event, command_event, running_event};
+ghost use Rattle.nl_tool_trace.specs.Lanes.{lanes};
+ghost use Rattle.nl_tool_trace.specs.Running.{AreMoments};
+ghost use Rattle.nl_tool_trace.specs.Trace.{array_text, event_text, events_of, job_events, last_events, spans, trace_text_of};
+ghost use Rattle.nl_tool_trace.specs.TraceSteps.{behind_commas, told_to};
+
+use crate::commands::{Command, last_commands};
+use crate::events::{append_value, build_value, command_value, running_value};
+use crate::lanes::lanes_of;
+use crate::running::Moments;
+use nl_tool_report::{Span, builds_in, read_entries, without_intents};
+use nl_tool_texts::{ToolFault, write_out};
+use serde_json::Value;
+use std::alloc::{AllocError, Global};
+use std::io::{Read, Write};
+
+/// Writes what the last build of the log that the reader gives did, as the events of a trace: a JSON array. Each command has a
+/// lane, in which no other runs as it does, and all its outputs; and it is told how many run as it begins and as it has
+/// ended. An intent is no command.
+pub fn trace_to<R: Read + Drop, W: Write>(
+    alloc: Global,
+    reader: R,
+    writer: &mut W,
+) -> Result<(), ToolFault>
+    ensures prints { Prints (IsTextAsRead trace_text_of (R.remaining reader)) (W.contents writer.old)
+        (W.contents writer.new) result }
+    ensures not_a_log { IsErrOf result ToolFault.NotALog
+        → IfSome (R.remaining reader) (λ bs. log_of (as_five bs) ≡ NotALog) }
+    ensures other_version { IsErrOf result ToolFault.OtherVersion
+        → IfSome (R.remaining reader) (λ bs. log_of (as_five bs) ≡ OtherVersion) }
+    ensures faults { IfErr result IsLogFault }
+{
+    let text = read_entries(alloc, reader)?;
+    let recorded = without_intents(alloc, text)?;
+    let events = last_build_text(alloc, recorded.as_slice())?;
+    write_out(events.as_slice(), writer)
+}
+
+// The events of the last build.
+fn last_build_text(alloc: Global, text: &[u8]) -> Result<Vec<u8>, AllocError>
+    ensures value { (es : List Entry) → All IsEntry es → text.now ≡ lines_of_entries es
+        → IfOk result (λ out. out.items ≡ array_text (last_events (builds es))) }
+{
+    let mut found = builds_in(alloc, text)?;
+    let count = found.len() as u64;
+    let Some(last) = found.pop() else {
+        return nothing(alloc);
+    };
+    let commands = last_commands(alloc, text)?;
+    events_text(alloc, count, last.began, commands.as_slice())
+}
+
+// What is told where there is no build.
+fn nothing(alloc: Global) -> Result<Vec<u8>, AllocError>
+    ensures value { IfOk result (λ out. out.items ≡ array_text []) }
+{
+    let mut out = Vec::new(alloc);
+    out.extend_from_slice(b"[]")?;
+    Ok(out)
+}
+
+fn events_text(
+    alloc: Global,
+    build: u64,
+    began: u64,
+    commands: &[Command<'_>],
+) -> Result<Vec<u8>, AllocError>
+    requires early { All (λ k. IsEarly k.span) commands.now }
+    ensures value { IfOk result (λ out. out.items
+        ≡ array_text (build_event build ∷ job_events build began (map job commands.now))) }
+{
+    let ran = spans_of(alloc, commands)?;
+    let found = lanes_of(alloc, ran.as_slice())?;
+    let moments = Moments::of(alloc, ran.as_slice())?;
+    let mut out = Vec::new(alloc);
+    out.push(b'[')?;
+    append_build(alloc, build, &mut out)?;
+    append_commands(
+        alloc,
+        build,
+        began,
+        &moments,
+        found.as_slice(),
+        commands,
+        &mut out,
+    )?;
+    out.push(b']')?;
+    Ok(out)
+}
+
+// The events of each command, which have these lanes.
+fn append_commands(
+    alloc: Global,
+    build: u64,
+    began: u64,
+    moments: &Moments,
+    found: &[u64],
+    commands: &[Command<'_>],
+    out: &mut Vec<u8>,
+) -> Result<(), AllocError>
+    requires early { All (λ k. IsEarly k.span) commands.now }
+    requires lanes { found.now ≡ lanes (spans (map job commands.now)) }
+    requires moments { AreMoments (spans (map job commands.now)) moments.now }
+    ensures items { OnOk result (out.new.items
+        ≡ out.old.items ++ told_to build began (map job commands.now) found.now (length commands.now)) }
+{
+    for i in 0..commands.len() {
+        append_command(alloc, build, began, found[i], moments, &commands[i], out)?;
+    }
+    Ok(())
+}
+
+fn spans_of(alloc: Global, commands: &[Command<'_>]) -> Result<Vec<Span>, AllocError>
+    ensures value { IfOk result (λ found. found.items ≡ map (λ k. k.span) commands.now) }
+{
+    commands.iter().map(|command| command.span).collect(alloc)
+}
+
+fn append_build(alloc: Global, build: u64, out: &mut Vec<u8>) -> Result<(), AllocError>
+    ensures items { OnOk result (out.new.items ≡ out.old.items ++ event_text (build_event build)) }
+{
+    let value = build_value(alloc, build)?;
+    append_value(alloc, &value, out)
+}
+
+// The three events of a command, each behind a comma.
+fn append_command(
+    alloc: Global,
+    build: u64,
+    began: u64,
+    lane: u64,
+    moments: &Moments,
+    command: &Command<'_>,
+    out: &mut Vec<u8>,
+) -> Result<(), AllocError>
+    requires early { IsEarly command.now.span }
+    requires lane { lane < 2 ^ 63 }
+    ensures items { (cs : List Span) → AreMoments cs moments.now → OnOk result (out.new.items
+        ≡ out.old.items ++ behind_commas (events_of build began cs (job command.now, lane))) }
+{
+    append_bar(alloc, build, began, lane, command, out)?;
+    append_running(alloc, build, began, moments, command.span.began, out)?;
+    let closed = command.span.began.max(command.span.ended);
+    append_running(alloc, build, began, moments, closed, out)
+}
+
+fn append_bar(
+    alloc: Global,
+    build: u64,
+    began: u64,
+    lane: u64,
+    command: &Command<'_>,
+    out: &mut Vec<u8>,
+) -> Result<(), AllocError>
+    requires early { IsEarly command.now.span }
+    requires lane { lane < 2 ^ 63 }
+    ensures items { OnOk result (out.new.items
+        ≡ out.old.items ++ 44 ∷ event_text (command_event build began lane (job command.now))) }
+{
+    let value = command_value(alloc, build, began, lane, command)?;
+    append_behind_comma(alloc, &value, out)
+}
+
+fn append_running(
+    alloc: Global,
+    build: u64,
+    began: u64,
+    moments: &Moments,
+    at: u64,
+    out: &mut Vec<u8>,
+) -> Result<(), AllocError>
+    requires early { at < 2 ^ 32 }
+    ensures items { (cs : List Span) → AreMoments cs moments.now → OnOk result (out.new.items
+        ≡ out.old.items ++ 44 ∷ event_text (running_event build began cs at)) }
+{
+    let value = running_value(alloc, build, began, moments, at)?;
+    append_behind_comma(alloc, &value, out)
+}
+
+fn append_behind_comma(alloc: Global, value: &Value, out: &mut Vec<u8>) -> Result<(), AllocError>
+    ensures items { has_float (view value.now) ≡ false
+        → OnOk result (out.new.items ≡ out.old.items ++ 44 ∷ event_text (view value.now)) }
+{
+    out.push(b',')?;
+    append_value(alloc, value, out)
+}
