@@ -203,7 +203,39 @@ FOUR, FOUR_SHOWN = b"# ninja log v4\n1\t2\t3\ta\tcc\tx\n", b"1\t2\t3\ta\t72274e7
 FILE_BUILT = INPUT_BUILT = FOUR_BUILT = NEW_BUILT = b"1\t1\t1\t1\t1\n"
 BAD_NUMBER = b"nlog: bad number\n"
 ONE_COUNTED = b"commands 1\noutputs 1\nwall 1\ntotal 1\nbusy 1\nalone 1\nparallel 1.00\nslowest 1 %b\n"
+# What `compare` prints but for its lists: whether hashes were compared, and of each class the count, the difference and both times.
+COMPARED = b"hashes\t%bcompared\n" + b"".join(b"total\t%b\t%%b\n" % it for it in (b"new", b"gone", b"changed", b"slower", b"faster", b"unfinished", b"same"))
+NONE = b"0\t0\t0\t0"
 ONE_SUMMED = ONE_COUNTED + b"by-time 1 1.00 %b\nby-weight 1 1.00 %b\n"
+# It begins 0 ms behind the first START, and nothing runs once it has ended.
+ONE_TRACED = (
+    b'[{"args":{"name":"build 1"},"name":"process_name","ph":"M","pid":1},'
+    b'{"args":{"hash":"%b","outputs":["%b"]},"dur":1000,"name":"%b","ph":"X","pid":1,"tid":1,"ts":0},'
+    b'{"args":{"commands":1},"name":"running","ph":"C","pid":1,"ts":0},{"args":{"commands":0},"name":"running","ph":"C","pid":1,"ts":1000}]'
+)
+INPUT_TRACED, FILE_TRACED = ONE_TRACED % (b"ab", b"input", b"input"), ONE_TRACED % (b"ff", b"file", b"file")
+FOUR_TRACED, NEW_TRACED = ONE_TRACED % (b"72274e7a30810c7b", b"a", b"a"), ONE_TRACED % (b"8072fc2ac19230e4", b"out", b"out")
+# Of a picture: so many commands, in so many seconds; a line at each tenth; the bars; where the curve stands, and the legend.
+PICTURED = (
+    b'<svg xmlns="http://www.w3.org/2000/svg" width="1600" height="%d" viewBox="0 0 16000 %d" font-family="sans-serif" font-size="120">\n'
+    b'<rect width="100%%" height="100%%" fill="#fff"/>\n<text x="600" y="260" font-size="180">%d commands in 0.00%d s</text>\n%b'
+    b'<polygon fill="#ccc" points="600,2000 %b15000,2000"/>\n<text x="550" y="1100" text-anchor="end">1</text>\n%b</svg>\n'
+)
+TICK = b'<path stroke="#ddd" stroke-width="10" d="M%d 520V2000"/><text x="%d" y="480" text-anchor="middle">0.00%d s</text>\n'
+# No time passes, so each line stands for the one moment, and nothing runs.
+NOTHING_PICTURED = PICTURED % (250, 2500, 0, 0, b"".join(TICK % (at, at, 0) for at in range(600, 15001, 1440)), b"".join(b"%d,2000 " % at for at in range(600, 15001, 30)), b"")
+
+
+def pictured(name):
+    """The picture of one command of 1 ms. Its bar is as wide as all of the build, and it has ended at the last moment alone."""
+    ticks = b"".join(TICK % (at, at, at == 15000) for at in range(600, 15001, 1440))
+    bar = b'<rect x="600" y="600" width="14400" height="140" fill="hsl(0,50%%,60%%)"><title>%b\n0.001 s from 0.000 s</title></rect>\n' % name
+    curve = b"".join(b"%d,1000 " % at for at in range(600, 15000, 30)) + b"15000,2000 "
+    legend = b'<rect x="600" y="2300" width="140" height="140" fill="hsl(0,50%,60%)"/><text x="800" y="2420">no extension</text>\n'
+    return PICTURED % (270, 2700, 1, 1, ticks + bar, curve, legend)
+
+
+INPUT_PICTURED, FILE_PICTURED, FOUR_PICTURED, NEW_PICTURED = map(pictured, (b"input", b"file", b"a", b"out"))
 NEW_SHOWN = b"1\t2\t3\tout\t8072fc2ac19230e4\n"
 NEW_CHECKED = b"version %d\ntotal 1\nunique 1\nskipped 1\ntorn 0\ndue no\n"
 REPLAYED = b"ok\nS2 AlreadyOpen\nlog 15\n# ninja log v5\n"
@@ -253,7 +285,7 @@ Usage: nlog %s
 """ + MORE
 
 # The words that have no version but the one of their log, and what they say of a number.
-STREAMED = ("entries", "damage", "doubt", "builds", "summary")
+STREAMED = ("entries", "damage", "doubt", "builds", "summary", "trace", "picture")
 NO_NUMBER = BAD_VERSION.replace(b"5, 6, 7 or auto", b"auto")
 
 # An option that the program alone doesn't have, a value behind one that takes none, a value too few of six, and an option that is there twice.
@@ -274,6 +306,8 @@ TWO_VERBOSE = TWO_VERSIONS.replace(b"--log-version <VERSION>", b"--verbose")
 
 # Of the option by which a log may be missing, as a command says which doesn't have it.
 NO_MISSING = NO_OPTION.replace(b"--log-version", b"--missing-ok")
+TWO_BUILDS = TWO_VERSIONS.replace(b"--log-version <VERSION>", b"--build <BUILD>").replace(b"nlog show", b"nlog summary")
+TWO_SCOPES = b"error: the argument '--build <BUILD>' cannot be used with '--all'\n\nUsage: nlog [COMMAND]\n" + MORE
 TWO_MISSING = TWO_VERSIONS.replace(b"--log-version <VERSION>", b"--missing-ok").replace(b"nlog show", b"nlog entries")
 # What a log that is missing was, with `--verbose`.
 IS_MISSING = b": it is missing, and was read as empty\n"
@@ -357,8 +391,54 @@ WORDS = [
     (["summary", "--", "-file"], 0, ONE_SUMMED % ((b"file",) * 3), b""),
     (["summary", "missing"], 1, b"", CANNOT_READ),
     (["summary", "--missing-ok", "missing"], 0, b"", b""),
+    (["summary", "--build", "1", "file"], 0, ONE_SUMMED % ((b"file",) * 3), b""),
+    (["summary", "--build=2", "file"], 0, b"builds 1\n", b""),
+    (["summary", "file", "-n0", "--build", "9223372036854775807"], 0, b"builds 1\n", b""),
+    (["summary", "--missing-ok", "missing", "--build", "1"], 0, b"builds 0\n", b""),
+    (["summary", "--all", "file"], 0, ONE_SUMMED % ((b"file",) * 3), b""),
+    (["summary", "file", "--all", "-n", "0"], 0, ONE_COUNTED % b"file", b""),
+    (["summary", "--missing-ok", "missing", "--all"], 0, b"", b""),
+    (["summary", "--all", "missing"], 1, b"", CANNOT_READ),
+    (["summary", "--all", "--build", "x", "missing"], 2, b"", TWO_SCOPES),
+    (["summary", "--build=1", "file", "--all"], 2, b"", TWO_SCOPES),
+    (["summary", "--all", "-n", "x", "file"], 1, b"", BAD_NUMBER),
+    (["summary", "--build", "1", "file", "--build=1"], 2, b"", TWO_BUILDS),
+    (["summary", "file", "--build"], 2, b"", NO_VERSION.replace(b"--log-version <VERSION>", b"--build <BUILD>")),
+    (["summary", "--build", "9223372036854775808"], 1, b"", BAD_NUMBER),
+    *[(["summary", f"--build={number}"], 1, b"", BAD_NUMBER) for number in ("0", "-1", "01", "+1", "", "x", "last")],
     (["summary", "--missing-ok", "-n", "0", "file"], 0, ONE_COUNTED % b"file", b""),
     (["summary", "folder"], 1, b"", CANNOT_READ),
+    (["compare", "file", "missing"], 1, b"", CANNOT_READ),
+    (["compare", "missing", "file"], 1, b"", CANNOT_READ),
+    (["compare", "file", ""], 1, b"", CANNOT_READ),
+    (["compare", "file", "folder"], 1, b"", CANNOT_READ),
+    (["compare", "file/log", "file", "--missing-ok"], 1, b"", CANNOT_READ),
+    (["compare", "--missing-ok", "missing", "absent"], 0, COMPARED % (b"", *[NONE] * 7), b""),
+    (["compare", "--missing-ok", "missing", "file"], 0, COMPARED % (b"", b"1\t1\t0\t1", *[NONE] * 6) + b"new\t1\t0\t1\tfile\n", b""),
+    (["compare", "file", "missing", "--missing-ok"], 0, COMPARED % (b"", NONE, b"1\t-1\t1\t0", *[NONE] * 5) + b"gone\t-1\t1\t0\tfile\n", b""),
+    (["compare", "file", "missing", "--missing-ok", "-n", "0"], 0, COMPARED % (b"", NONE, b"1\t-1\t1\t0", *[NONE] * 5), b""),
+    (["compare", "file", "file"], 0, COMPARED % (b"", *[NONE] * 6, b"1\t0\t1\t1"), b""),
+    (["compare", "-n1", "--", "-file", "file"], 0, COMPARED % (b"", *[NONE] * 6, b"1\t0\t1\t1"), b""),
+    (["compare", "--lines", "9223372036854775807", "file", "file"], 0, COMPARED % (b"", *[NONE] * 6, b"1\t0\t1\t1"), b""),
+    (["compare", "-n", "9223372036854775808", "file", "file"], 1, b"", BAD_NUMBER),
+    (["compare", "--lines=-1", "missing", "file"], 1, b"", BAD_NUMBER),
+    (["compare", "-n", "01", "file", "folder"], 1, b"", BAD_NUMBER),
+    (["trace"], 0, INPUT_TRACED, b""),
+    (["picture"], 0, INPUT_PICTURED, b""),
+    (["trace", "file"], 0, FILE_TRACED, b""),
+    (["picture", "file"], 0, FILE_PICTURED, b""),
+    (["trace", "--", "-file"], 0, FILE_TRACED, b""),
+    (["picture", "--", "-file"], 0, FILE_PICTURED, b""),
+    (["trace", "missing"], 1, b"", CANNOT_READ),
+    (["picture", "missing"], 1, b"", CANNOT_READ),
+    (["trace", ""], 1, b"", CANNOT_READ),
+    (["picture", ""], 1, b"", CANNOT_READ),
+    (["trace", "missing", "--missing-ok"], 0, b"[]", b""),
+    (["picture", "missing", "--missing-ok"], 0, NOTHING_PICTURED, b""),
+    (["trace", "--missing-ok", "file"], 0, FILE_TRACED, b""),
+    (["picture", "--missing-ok", "file"], 0, FILE_PICTURED, b""),
+    (["trace", "folder"], 1, b"", CANNOT_READ),
+    (["picture", "folder"], 1, b"", CANNOT_READ),
     (["damage"], 3, b"3\tskipped\t1\t-\t-\n", b""),
     (["damage", "file"], 0, b"", b""),
     (["damage", "missing"], 1, b"", CANNOT_READ),
@@ -420,6 +500,25 @@ WORDS = [
     (["summary", "seven"], 0, ONE_SUMMED % ((b"out",) * 3), b""),
     (["summary", "eight"], 1, b"", OTHER_VERSION),
     (["summary", "script"], 1, b"", NO_LOG),
+    (["compare", "six", "seven"], 0, COMPARED % (b"not-", *[NONE] * 6, b"1\t0\t1\t1"), b""),
+    (["compare", "seven", "six"], 0, COMPARED % (b"not-", *[NONE] * 6, b"1\t0\t1\t1"), b""),
+    (["compare", "six", "six"], 0, COMPARED % (b"", *[NONE] * 6, b"1\t0\t1\t1"), b""),
+    (["compare", "seven", "seven"], 0, COMPARED % (b"", *[NONE] * 6, b"1\t0\t1\t1"), b""),
+    (["compare", "four", "six"], 0, COMPARED % (b"", b"1\t1\t0\t1", b"1\t-1\t1\t0", *[NONE] * 5) + b"new\t1\t0\t1\tout\ngone\t-1\t1\t0\ta\n", b""),
+    (["compare", "eight", "six"], 1, b"", OTHER_VERSION),
+    (["compare", "six", "eight"], 1, b"", OTHER_VERSION),
+    (["compare", "script", "six"], 1, b"", NO_LOG),
+    (["compare", "six", "script"], 1, b"", NO_LOG),
+    (["trace", "four"], 0, FOUR_TRACED, b""),
+    (["picture", "four"], 0, FOUR_PICTURED, b""),
+    (["trace", "six"], 0, NEW_TRACED, b""),
+    (["picture", "six"], 0, NEW_PICTURED, b""),
+    (["trace", "seven"], 0, NEW_TRACED, b""),
+    (["picture", "seven"], 0, NEW_PICTURED, b""),
+    (["trace", "eight"], 1, b"", OTHER_VERSION),
+    (["picture", "eight"], 1, b"", OTHER_VERSION),
+    (["trace", "script"], 1, b"", NO_LOG),
+    (["picture", "script"], 1, b"", NO_LOG),
     (["damage", "seven"], 3, b"3\tskipped\t1\t-\t-\n", b""),
     (["damage", "eight"], 1, b"", OTHER_VERSION),
     (["--version"], 0, b"nlog 0.1.0\n", b""),
@@ -499,7 +598,11 @@ WORDS = [
     (["damage", "--log-version=auto", "--missing-ok", "missing"], 0, b"", b""),
     (["doubt", "--log-version", "auto", "seven"], 3, b"missing\tout\n", b""),
     (["builds", "--log-version", "auto", "seven"], 0, NEW_BUILT, b""),
+    (["trace", "--log-version", "auto", "six"], 0, NEW_TRACED, b""),
+    (["picture", "--log-version", "auto", "six"], 0, NEW_PICTURED, b""),
     (["summary", "--log-version", "auto", "six"], 0, ONE_SUMMED % ((b"out",) * 3), b""),
+    (["compare", "--log-version", "auto", "six", "six"], 0, COMPARED % (b"", *[NONE] * 6, b"1\t0\t1\t1"), b""),
+    *[(["compare", "--log-version", version, "six", "six"], 2, b"", NO_NUMBER % version.encode()) for version in ("5", "7", "8", "")],
     (["repair", "--log-version", "auto", "eight"], 1, b"", OTHER_VERSION),
     (["apply", "--log-version", "auto", "six", "asks"], 0, b"ok\nnone\nnone\n" + NEW_SHOWN + b"end\n", b""),
     (["repair", "--log-version", "7"], 2, b"", NO_LOG_NAME.replace(b"repair <LOG>", b"repair --log-version <VERSION> <LOG>")),
@@ -536,10 +639,24 @@ WORDS = [
     (["damage", "-v", "--missing-ok", "missing"], 0, b"", b"nlog: LOG missing" + IS_MISSING),
     (["builds", "-v", "--missing-ok", "missing"], 0, b"", b"nlog: LOG missing" + IS_MISSING),
     (["summary", "-v", "--missing-ok", "missing"], 0, b"", b"nlog: LOG missing" + IS_MISSING),
+    (["compare", "-v", "--missing-ok", "missing", "file", "-n0"], 0, COMPARED % (b"", b"1\t1\t0\t1", *[NONE] * 6), b"nlog: LOG missing" + IS_MISSING),
+    (["compare", "-v", "--missing-ok", "file", "missing", "-n0"], 0, COMPARED % (b"", NONE, b"1\t-1\t1\t0", *[NONE] * 5), b"nlog: LOG missing" + IS_MISSING),
+    (["compare", "-v", "--missing-ok", "absent", "missing"], 0, COMPARED % (b"", *[NONE] * 7), b"nlog: LOG missing" + IS_MISSING),
+    (["compare", "-v", "missing", "folder"], 1, b"", CANNOT_READ + b"nlog: LOG missing: " + NO_FILE),
+    (["compare", "-v", "file", "missing"], 1, b"", CANNOT_READ + b"nlog: LOG missing: " + NO_FILE),
+    (["compare", "-v", "file", "folder"], 1, b"", CANNOT_READ + b"nlog: LOG folder: " + A_FOLDER),
+    (["compare", "-v", "eight", "missing"], 1, b"", OTHER_VERSION + b"nlog: LOG eight: version 8\n"),
+    (["compare", "-v", "six", "eight"], 1, b"", OTHER_VERSION + b"nlog: LOG eight: version 8\n"),
+    (["compare", "-v", "script", "six"], 1, b"", NO_LOG + b'nlog: LOG script: it begins with "open\\x0a"\n'),
+    (["compare", "-v", "six", "script"], 1, b"", NO_LOG + b'nlog: LOG script: it begins with "open\\x0a"\n'),
+    (["trace", "-v", "--missing-ok", "missing"], 0, b"[]", b"nlog: LOG missing" + IS_MISSING),
+    (["picture", "-v", "--missing-ok", "missing"], 0, NOTHING_PICTURED, b"nlog: LOG missing" + IS_MISSING),
     (["entries", "-v", "missing"], 1, b"", CANNOT_READ + b"nlog: LOG missing: " + NO_FILE),
     (["damage", "-v", "missing"], 1, b"", CANNOT_READ + b"nlog: LOG missing: " + NO_FILE),
     (["builds", "-v", "missing"], 1, b"", CANNOT_READ + b"nlog: LOG missing: " + NO_FILE),
     (["summary", "-v", "missing"], 1, b"", CANNOT_READ + b"nlog: LOG missing: " + NO_FILE),
+    (["trace", "-v", "missing"], 1, b"", CANNOT_READ + b"nlog: LOG missing: " + NO_FILE),
+    (["picture", "-v", "missing"], 1, b"", CANNOT_READ + b"nlog: LOG missing: " + NO_FILE),
     (["repair", "-v", "missing"], 1, b"", CANNOT_READ + b"nlog: LOG missing: " + NO_FILE),
     (["show", "-v"], 0, INPUT_SHOWN, b""),
     (["damage", "-v"], 3, b"3\tskipped\t1\t-\t-\n", b""),
@@ -550,11 +667,29 @@ WORDS = [
     (["doubt", "-v", "folder"], 1, b"", CANNOT_READ + b"nlog: LOG folder: " + A_FOLDER),
     (["doubt", "-v", "missing"], 1, b"", CANNOT_READ + b"nlog: LOG missing: " + NO_FILE),
     (["doubt", "eight", "-v"], 1, b"", OTHER_VERSION + b"nlog: LOG eight: version 8\n"),
+    (["summary", "-v", "-n", "x", "seven"], 1, b"", b"nlog: bad number\nnlog: N x: it isn't a number\n"),
+    (["compare", "-v", "-n", "x", "six", "seven"], 1, b"", b"nlog: bad number\nnlog: N x: it isn't a number\n"),
+    (["compare", "-v", "--lines=-1", "six", "missing"], 1, b"", b"nlog: bad number\nnlog: N -1: it is less than 0\n"),
+    (["summary", "-v", "-n", "", "seven"], 1, b"", b"nlog: bad number\nnlog: N : it isn't a number\n"),
+    (["summary", "-v", "--lines=007", "seven"], 1, b"", b"nlog: bad number\nnlog: N 007: a number has no zero in front\n"),
+    (["summary", "-v", "--build", "x", "seven"], 1, b"", b"nlog: bad number\nnlog: BUILD x: it isn't a number\n"),
+    (["summary", "-v", "--build=0", "missing"], 1, b"", b"nlog: bad number\nnlog: BUILD 0: it is less than 1\n"),
+    (["summary", "-v", "--build=-3", "seven"], 1, b"", b"nlog: bad number\nnlog: BUILD -3: it is less than 1\n"),
+    (["summary", "-v", "--build=00", "seven"], 1, b"", b"nlog: bad number\nnlog: BUILD 00: a number has no zero in front\n"),
+    (["summary", "-v", "--build=9223372036854775808", "-n1"], 1, b"", b"nlog: bad number\nnlog: BUILD 9223372036854775808: it isn't a number of 64 bits\n"),
+    (["summary", "-v", "--build=0", "-n", "x", "seven"], 1, b"", b"nlog: bad number\nnlog: N x: it isn't a number\n"),
+    (["summary", "-v", "--lines=-1", "seven"], 1, b"", b"nlog: bad number\nnlog: N -1: it is less than 0\n"),
+    (["summary", "-v", "--lines=-0", "seven"], 1, b"", b"nlog: bad number\nnlog: N -0: a number has no zero in front\n"),
+    (["summary", "-v", "-n", "9223372036854775808", "seven"], 1, b"", b"nlog: bad number\nnlog: N 9223372036854775808: it isn't a number of 64 bits\n"),
     (["builds", "-v", "folder"], 1, b"", CANNOT_READ + b"nlog: LOG folder: " + A_FOLDER),
     (["builds", "eight", "-v"], 1, b"", OTHER_VERSION + b"nlog: LOG eight: version 8\n"),
     (["builds", "-v"], 0, INPUT_BUILT, b""),
     (["summary", "-v", "folder"], 1, b"", CANNOT_READ + b"nlog: LOG folder: " + A_FOLDER),
     (["summary", "eight", "-v"], 1, b"", OTHER_VERSION + b"nlog: LOG eight: version 8\n"),
+    (["trace", "-v", "folder"], 1, b"", CANNOT_READ + b"nlog: LOG folder: " + A_FOLDER),
+    (["picture", "-v", "folder"], 1, b"", CANNOT_READ + b"nlog: LOG folder: " + A_FOLDER),
+    (["trace", "eight", "-v"], 1, b"", OTHER_VERSION + b"nlog: LOG eight: version 8\n"),
+    (["picture", "eight", "-v"], 1, b"", OTHER_VERSION + b"nlog: LOG eight: version 8\n"),
     (["damage", "-v", "folder"], 1, b"", CANNOT_READ + b"nlog: LOG folder: " + A_FOLDER),
     (["hash-file", "-v", "missing"], 1, b"", CANNOT_READ + b"nlog: FILE missing: " + NO_FILE),
     (["replay", "missing", "-v"], 1, b"", CANNOT_READ + b"nlog: SCRIPT missing: " + NO_FILE),
@@ -661,7 +796,7 @@ def try_refused(trials, program, room):
     write(f"{room}/negative", b"-1\ta")
     asking = [["show"], ["check"], ["show", "log"], ["check", "log"], ["record", "log", "1", "2", "3", "a", "c"], ["recompact", "log", "keep"], ["restat", "log", "negative"]]
     auto = [[*words, "--log-version=auto"] for words in asking]
-    others = [[word, *log] for log in ([], ["log"]) for word in ("entries", "damage", "doubt", "builds", "summary")] + [["repair", "log"]]
+    others = [[word, *log] for log in ([], ["log"]) for word in STREAMED] + [["repair", "log"]]
     for log, why, each in [(*it, asking + auto + others) for it in REFUSED] + [(*it, asking) for it in UNASKED]:
         write(f"{room}/log", log)
         for words in [words for words in each if "log" not in words]:
@@ -725,6 +860,113 @@ def try_doubt(trials, program, room):
         trials.want(f"doubt of a file of 1970, version {version}", asked(program, room, ["doubt", "doubts"]), (0, b"", b""))
     write(f"{room}/doubts", HEADER + b"0\t0\t-1\tof 1970\tff\n")
     trials.want("doubt of a file of 1970 behind a time of before", asked(program, room, ["doubt", "doubts"]), (3, b"newer\tof 1970\n", b""))
+    try_settling(trials, program, room)
+
+
+# What stands in FILE of `recompact --manifest`, and how it is refused, or the names that it keeps of `a`, `b: c`, ` led`, `x.o`, whose files aren't there.
+MANIFESTS = [
+    (b"a: cc\n", [b"a"]),
+    (b"a: cc", [b"a"]),
+    (b"a: phony\n\nx.o: cc_1.2-b\n", [b"a", b"x.o"]),
+    (b"b: c: phony\n led: cc\n", [b"b: c", b" led"]),
+    (b"other: cc\n", []),
+    (b"a: \n", [b"a"]),
+    (b"", b"1: there is no target"),
+    (b"\n\n", b"1"),
+    (b"a: cc\nb\n", b"2: no target, colon, space and rule"),
+    (b"a: cc\n\na:cc\n", b"3: no target, colon, space and rule"),
+    (b"a : cc d\n", b"1: no target, colon, space and rule"),
+    (b": cc\n", b"1: the name is empty"),
+    (b"a\tb: cc\n", b"1: a name has no tab"),
+    (b"a\0b: cc\n", b"1: a name has no zero byte"),
+    (b"a" * 65_537 + b": cc\n", b"1: a name has at most 65536 bytes"),
+    (b"x.o: cc\n" + b"a" * 262_140 + b": cc\n", b"2: a line has at most 262143 bytes"),
+]
+
+
+def try_settling(trials, program, room):
+    """`recompact --manifest` and `restat --files`: by files of each kind, by FILE, and what stops them. The files are those of try_doubt."""
+    lines = {name: b"0\t7\t9\t%s\tff\n" % name for name, *_ in DOUBTS}
+    for version in (5, 6, 7):
+        # What has no file stays if it is a target.
+        text = HEADER + b"0\t7\t9\tmade: here\tff\n" + b"".join(lines.values())
+        kept = HEADER + b"0\t7\t9\tmade: here\tff\n" + b"".join(it for name, it in lines.items() if (name, b"missing") not in [(row[0], row[2]) for row in DOUBTS])
+        for words, given in ((["log", "--manifest", "targets"], b""), (["--manifest=targets", "log"], b""), (["--manifest", "-", "log", "--log-version", "auto"], b"made: here: cc\n")):
+            write(f"{room}/log", as_version(text, version))
+            write(f"{room}/targets", b"made: here: cc\nunknown: phony\n")
+            trials.want(f"{words}: of version {version}", asked(program, room, ["recompact", *words], given), (0, b"", b""))
+            trials.want(f"{words}: the log of version {version}", read(f"{room}/log"), as_version(kept, version))
+        times = {name: time or 1 for name, time, *_ in DOUBTS if time is not None and b"\xff" not in name and time >= 0}
+        times[b"a link to same"] = times[b"same"]
+        left = {name: it for name, it in lines.items() if name != b"of before 1970"}
+        write(f"{room}/log", as_version(HEADER + b"".join(left.values()), version))
+        trials.want(f"restat --files: of version {version}", asked(program, room, ["restat", "log", "--files"]), (0, b"", b""))
+        wanted = HEADER + b"".join(b"0\t7\t%d\t%s\tff\n" % (times.get(name, 9), name) for name in left)
+        trials.want(f"restat --files: the log of version {version}", read(f"{room}/log"), as_version(wanted, version))
+    log = HEADER + b"0\t7\t9\tsame\tff\n0\t7\t9\tno file\tff\n0\t7\t9\tof before 1970\tff\n"
+    write(f"{room}/log", log)
+    trials.want("restat --files: of before 1970", asked(program, room, ["restat", "-v", "--files", "log"]), (1, b"", b"nlog: negative time at pair 1\nnlog: LOG log: the file of output \"of before 1970\" is from before 1970\n"))
+    trials.want("restat --files: of before 1970: the log", read(f"{room}/log"), log)
+    try_manifests(trials, program, room)
+    try_settling_stops(trials, program, room)
+
+
+def try_manifests(trials, program, room):
+    names = [b"a", b"b: c", b" led", b"x.o"]
+    log = HEADER + b"".join(b"1\t2\t3\t%s\tff\n" % it for it in names)
+    for text, wanted in MANIFESTS:
+        for manifest in ("lines", "-"):
+            what = f"--manifest {manifest} of {text[:30]}"
+            write(f"{room}/log", log)
+            write(f"{room}/lines", text)
+            end = asked(program, room, ["recompact", "-v", "log", "--manifest", manifest], text)
+            if isinstance(wanted, list):
+                trials.want(what, end, (0, b"", b""))
+                trials.want(f"{what}: the log", read(f"{room}/log"), HEADER + b"".join(b"1\t2\t3\t%s\tff\n" % it for it in names if it in wanted))
+            else:
+                said = b"nlog: bad line %s\nnlog: FILE %s: line %s\n" % (wanted.split(b":")[0], manifest.encode(), wanted)
+                trials.want(what, end, (1, b"", said))
+                trials.want(f"{what}: the log", read(f"{room}/log"), log)
+
+
+def try_settling_stops(trials, program, room):
+    """What ends the two words, what more is said of it, and that LOG is then as it was."""
+    write(f"{room}/one", b"a: cc\n")
+    torn = HEADER + b"1\t2\t3\ta\tff\nx\n1\t2\t3\tb"
+    found = (3, b"3\tskipped\t1\t-\t-\n4\ttorn\t7\t-\t-\n", b"")
+    begins = b'nlog: LOG log: it begins with "hello"\n'
+    rows = [(torn, found), (b"hello", (1, b"", NO_LOG + begins)), (b"# ninja log v8\n", (1, b"", OTHER_VERSION + b"nlog: LOG log: version 8\n"))]
+    rows.append((None, (1, b"", CANNOT_READ + b"nlog: LOG log: " + NO_FILE)))
+    for text, wanted in rows:
+        for words in (["recompact", "log", "--manifest", "one"], ["restat", "log", "--files"]):
+            if os.path.exists(f"{room}/log"):
+                os.remove(f"{room}/log")
+            if text is not None:
+                write(f"{room}/log", text)
+            trials.want(f"{words} on {text!r}", asked(program, room, [*words, "-v"]), wanted)
+            trials.want(f"{words} on {text!r}: the log", read(f"{room}/log"), text)
+            trials.check(f"{words} on {text!r}: no scratch", not os.path.exists(f"{room}/log.recompact"))
+    write(f"{room}/log", HEADER)
+    rows = [
+        (["recompact", "log", "--manifest", "missing"], (1, b"", CANNOT_READ + b"nlog: FILE missing: " + NO_FILE)),
+        (["recompact", "log", "--manifest", "a folder"], (1, b"", CANNOT_READ + b"nlog: FILE a folder: " + A_FOLDER)),
+        (["recompact", "a folder", "--manifest", "one"], (1, b"", CANNOT_READ + b"nlog: LOG a folder: " + A_FOLDER)),
+        (["restat", "a folder", "--files"], (1, b"", CANNOT_READ + b"nlog: LOG a folder: " + A_FOLDER)),
+        # Behind `--` a word is a value, and the two values are those of the form without the option.
+        (["recompact", "log", "--", "--manifest"], (1, b"", CANNOT_READ + b"nlog: KEEP --manifest: " + NO_FILE)),
+        (["restat", "--", "log", "--files"], (1, b"", CANNOT_READ + b"nlog: TIMES --files: " + NO_FILE)),
+        # What is asked for first is refused first.
+        (["recompact", "missing", "--manifest", "missing"], (1, b"", CANNOT_READ + b"nlog: FILE missing: " + NO_FILE)),
+    ]
+    for words, wanted in rows:
+        trials.want(f"{words}", asked(program, room, [words[0], "-v", *words[1:]]), wanted)
+    trials.want("the log behind them", read(f"{room}/log"), HEADER)
+    wrong = [["recompact", "log", "keep", "--manifest", "one"], ["recompact", "log", "--manifest"], ["recompact", "--manifest", "one"]]
+    wrong += [["restat", "log", "times", "--files"], ["restat", "--files"], ["restat", "log", "--files", "--files"]]
+    wrong += [["recompact", "log", "--manifest", "one", "--log-version", "8"], ["restat", "log", "--manifest", "one"], ["recompact", "log", "--files"]]
+    for words in wrong:
+        status, out, err = asked(program, room, words)
+        trials.want(f"{words}: wrong words", (status, out, err[:7]), (2, b"", b"error: "))
 
 
 def try_changes(trials, program, room):
@@ -854,7 +1096,7 @@ def try_own(trials, program, room):
 
 
 def trial(trials, program, room):
-    for part in (try_refused, try_changes, try_through, try_words, try_own):
+    for part in (try_refused, try_doubt, try_changes, try_through, try_words, try_own):
         folder = f"{room}/{part.__name__}"
         os.mkdir(folder)
         part(trials, program, folder)

@@ -24,7 +24,7 @@ from trials import main, read, run, write
 CANNOT_READ = (1, b"", b"nlog: cannot read\n")
 FOLDER_FAILED = (1, b"", b"nlog: the folder failed\n")
 DONE = (0, b"", b"")
-COMMANDS = ("show", "check", "hash", "entries", "damage", "doubt", "builds", "summary", "hash-file", "record", "recompact", "restat", "repair", "replay", "apply")
+COMMANDS = ("show", "check", "hash", "entries", "damage", "doubt", "builds", "summary", "compare", "trace", "picture", "hash-file", "record", "recompact", "restat", "repair", "replay", "apply")
 SMALL = HEADER + b"1\t2\t3\ta\taa\n4\t5\t6\tb\tbb\n"
 # By docs/FORMAT.md: the hash of the command `cc<TAB>x`.
 COMMAND, HASH = "cc\tx", 0x72274E7A30810C7B
@@ -141,6 +141,9 @@ def try_words(trials, program, room):
         ["doubt", "--", "LOG", "b"],
         ["builds", "--", "LOG", "b"],
         ["summary", "--", "LOG", "b"],
+        ["compare", "--", "LOG", "NEW", "b"],
+        ["trace", "--", "LOG", "b"],
+        ["picture", "--", "LOG", "b"],
         ["hash-file", "--", "FILE", "b"],
         ["repair", "--", "LOG", "b"],
         ["replay", "--", "SCRIPT", "b"],
@@ -258,14 +261,15 @@ def without_rights():
 RECORD = ["record", "LOG", "1", "2", "3", "new", COMMAND]
 RECOMPACT, RESTAT = ["recompact", "LOG", "KEEP"], ["restat", "LOG", "TIMES"]
 SHOW, CHECK, REPAIR, MAKE = ["show", "LOG"], ["check", "LOG"], ["repair", "LOG"], ["repair", "--missing-ok", "LOG"]
-READS = (SHOW, CHECK, ["entries", "LOG"], ["damage", "LOG"], ["doubt", "LOG"], ["builds", "LOG"], ["summary", "LOG"], ["hash-file", "LOG"])
+COMPARED = b"hashes\tcompared\n" + b"".join(b"total\t%b\t0\t0\t0\t0\n" % it for it in (b"new", b"gone", b"changed", b"slower", b"faster", b"unfinished")) + b"total\tsame\t2\t0\t2\t2\n"
+READS = (SHOW, CHECK, ["entries", "LOG"], ["damage", "LOG"], ["doubt", "LOG"], ["builds", "LOG"], ["summary", "LOG"], ["compare", "LOG", "LOG"], ["trace", "LOG"], ["picture", "LOG"], ["hash-file", "LOG"])
 WRITES = (RECORD, RECOMPACT, RESTAT, REPAIR)
 SECRETS = (["recompact", "LOG", "SECRET"], ["restat", "LOG", "SECRET"], ["replay", "SECRET"], ["hash-file", "SECRET"])
 RIGHTS = [
     *((0o700, mode, words, CANNOT_READ) for mode in (0, 0o200) for words in READS),
     *((0o700, mode, words, FOLDER_FAILED) for mode in (0, 0o200, 0o400) for words in WRITES),
     *((0o600, 0o600, words, CANNOT_READ) for words in READS),
-    *((mode, 0o600, words, FOLDER_FAILED) for mode in (0o600, 0o300) for words in WRITES),
+    *((0o600, 0o600, words, FOLDER_FAILED) for words in WRITES),
     *((0o500, 0o600, words, FOLDER_FAILED) for words in (RECOMPACT, RESTAT, REPAIR)),
     *((0o500, None, words, FOLDER_FAILED) for words in (RECORD, MAKE)),
     *((0o700, 0o600, words, CANNOT_READ) for words in SECRETS),
@@ -282,9 +286,15 @@ MAY = [
     (0o500, 0o400, ["damage", "LOG"], b"", SMALL),
     (0o500, 0o400, ["builds", "LOG"], b"1\t2\t2\t4\t2\n", SMALL),
     (0o500, 0o400, ["summary", "-n", "0", "LOG"], b"commands 2\noutputs 2\nwall 4\ntotal 2\nbusy 2\nalone 2\nparallel 0.50\nslowest 1 a\n", SMALL),
+    (0o500, 0o400, ["compare", "LOG", "LOG"], COMPARED, SMALL),
     (0o500, 0o400, ["hash-file", "LOG"], b"%x\n" % command_hash(SMALL), SMALL),
     (0o700, None, MAKE, b"", HEADER),
     (0o700, 0o600, REPAIR, b"", SMALL),
+    # A folder that may be searched and not read can't be synced.
+    (0o300, 0o600, RECORD, b"", SMALL + line_of(b"new", (1, 2, 3, HASH))),
+    (0o300, 0o600, RECOMPACT, b"", HEADER + b"4\t5\t6\tb\tbb\n"),
+    (0o300, 0o600, RESTAT, b"", HEADER + b"1\t2\t3\ta\taa\n4\t5\t7\tb\tbb\n"),
+    (0o300, 0o600, REPAIR, b"", SMALL),
 ]
 
 
@@ -294,8 +304,6 @@ def reason(room, mode, log_mode, words):
     if "SECRET" in words:
         part = {"recompact": "KEEP", "restat": "TIMES", "replay": "SCRIPT", "hash-file": "FILE"}[words[0]]
         place = f"{part} {room}/SECRET"
-    elif words in WRITES and mode == 0o300:
-        place = f"folder {folder}"
     elif words in WRITES and mode == 0o500 and log_mode is not None:
         place = f"scratch {folder}/LOG.recompact"
     else:
@@ -352,6 +360,8 @@ def try_rights(trials, program, room):
         said = wanted[2] and wanted[2] + reason(room, mode, log_mode, words)
         if wanted[0] == 0 and log_mode is None:
             said = f"nlog: LOG {room}/folder/LOG: it is missing, and was read as empty\n".encode()
+        if wanted[0] == 0 and mode == 0o300:
+            said = f"nlog: folder {room}/folder: it can't be synced, so a power cut may undo a rename: Permission denied (os error 13)\n".encode()
         got = run_without_rights(program, room, mode, log_mode, [*words, "-v"])
         trials.want(f"{what}, by -v", got, ((*wanted[:2], said), left, [] if left is None else ["LOG"]))
     return None

@@ -5,7 +5,7 @@ by which the names of a build are kept. And the completion for bash, and what in
     python3 tests/manual.py PROGRAM
 
 Wants groff, and mandoc, to format the page; each is skipped where it is missing. The commands are those that the help of the
-program lists, the messages those of the table of docs/CLI.md, and the script is that of docs/RECIPES.md. What is completed is what the
+program lists, the messages those of the table of docs/CLI.md. What is completed is what the
 help has: the commands and options, and the name of a file where the usage of a command has one.
 """
 import os
@@ -13,7 +13,6 @@ import re
 import shutil
 import sys
 
-from examples import read_page
 from trials import main, read, run, write
 
 TOP = os.path.dirname(os.path.dirname(os.path.abspath(__file__)))
@@ -47,7 +46,9 @@ def messages():
 
 # Prints what is completed of the words, of which the last one is begun.
 COMPLETE = '. "$0"; COMP_WORDS=("$@"); COMP_CWORD=$(($# - 1)); _nlog; printf "%s\\n" "${COMPREPLY[@]}"'
-FILES = {"LOG", "KEEP", "TIMES", "SCRIPT", "FILE"}
+# The options by which a command takes other values. Its own help has them in its text.
+FORMS = {"recompact": ["--manifest"], "restat": ["--files"]}
+FILES = {"LOG", "OLD", "NEW", "KEEP", "TIMES", "SCRIPT", "FILE"}
 
 
 def options_of(help_text):
@@ -71,7 +72,7 @@ def try_completion(trials, program, room, help_text, commands):
     want(["frob", ""], [])
     for name in commands:
         own = run([program, name, "--help"])[1].decode()
-        want([name, "-"], options_of(own))
+        want([name, "-"], [*options_of(own), *FORMS.get(name, [])])
         values = re.findall(r"[\[<]([A-Z]+)[\]>]", re.search(r"Usage: (.*)", own)[1].replace("[OPTIONS]", ""))
         trials.check(f"the values of {name}", values != [])
         for at, value in enumerate([*values, "none"]):
@@ -79,7 +80,7 @@ def try_completion(trials, program, room, help_text, commands):
                 want([name, *before, *["1"] * at, ""], ["a file", "b.log"] if value in FILES else [])
                 want([name, *before, *["1"] * at, "b"], ["b.log"] if value in FILES else [])
         if "--log-version" in own:
-            want([name, "--log-version", ""], ["auto"] if name in ("entries", "damage", "doubt", "builds", "summary") else ["5", "6", "7", "auto"])
+            want([name, "--log-version", ""], ["auto"] if name in ("entries", "damage", "doubt", "builds", "summary", "compare", "trace", "picture") else ["5", "6", "7", "auto"])
             want([name, "--log-version", "7", ""], ["a file", "b.log"] if values[0] in FILES else [])
             want([name, "--log-version=7", "b"], ["b.log"] if values[0] in FILES else [])
             # Behind `--` it is the first value.
@@ -178,7 +179,7 @@ def trial(trials, program, room):
     text = plain(page)
     help_text = run([program, "--help"])[1].decode()
     commands = re.findall(r"(?m)^  ([a-z-]+) ", help_text[help_text.index("Commands:") : help_text.index("Options:")])
-    trials.want("the number of commands", len(commands), 15)
+    trials.want("the number of commands", len(commands), 18)
     for name in commands:
         usage = re.search(r"Usage: (.*)", run([program, name, "--help"])[1].decode())[1]
         trials.check(f"the synopsis of {name}", re.sub("[<>]", "", usage.replace("[OPTIONS] ", "")).split(" ", 1)[1] in text, usage)
@@ -189,8 +190,8 @@ def trial(trials, program, room):
     trials.want("the number of messages", len(messages()), 12)
     for it in messages():
         trials.check(f"the message {it!r}", it in text[text.index("Each comes as") :])
-    script = read_page("docs/RECIPES.md")[0]["recompact.sh"].decode()
-    trials.check("the script of docs/RECIPES.md", f".EX\n{script}.EE\n" in literal(page))
+    for it in ("recompact LOG --manifest FILE", "restat LOG --files", "ninja -t targets all > targets && nlog recompact .ninja_log --manifest targets"):
+        trials.check(f"{it} is there", it in text)
     try_completion(trials, program, room, help_text, commands)
     try_install(trials, program, room)
 

@@ -1,24 +1,28 @@
 -- What is said behind a refusal where `--verbose` asks for it: docs/CLI.md, "Why something was refused".
-use Rattle.std.specs.Prelude.{⊤, ◌≡◌, ◌++◌, [], List, ℕ, Option, None, Some, IfSome, codes, decimal, string_bytes, Bool, true, bytes_eq, length, ◌||◌, if◌then◌else◌, FitsSigned, ℤ}
+use Rattle.std.specs.List.{flat_map}
+use Rattle.std.specs.Prelude.{⊤, ◌≡◌, ◌≢◌, ◌⊎◌, ◌++◌, IsSomeAnd, [], List, ℕ, Option, None, Some, IfSome, codes, decimal, string_bytes, Bool, true, false, length, if◌then◌else◌, FitsSigned, ℤ}
 use Rattle.std.specs.Int.{Width, w32, w64}
 use Rattle.nl_fields.specs.Digits.{IsDecimal}
 use Rattle.std.specs.Borrow.{Bor}
-use Rattle.nl_system.specs.Paths.{folder_path_of}
-use Rattle.nl_disk.specs.declared.failure.Failure.{Failure}
-use Rattle.nl_system.specs.declared.failed_call.FileRole.{FileRole}
-use Rattle.nl_system.specs.declared.failed_call.FileRole.TheVariants as file
-use Rattle.nl_texts.specs.Faults.{fault_text}
-use Rattle.nl_texts.specs.declared.fault.ToolFault.{ToolFault}
-use Rattle.nl_texts.specs.declared.fault.ToolFault.TheVariants as fault
-use Rattle.nl_words.specs.declared.command_line.Words.{Words}
-use Rattle.nl_words.specs.declared.command_line.Words.TheVariants.{Show, Check, Hash, Entries, Damage, Doubt, Builds, Summary, HashFile, Record, Recompact, Restat}
-use Rattle.nl_words.specs.declared.command_line.Words.TheVariants.{Repair, Replay, Apply}
+use Rattle.nl_os.specs.Paths.{folder_path_of}
+use Rattle.nl_os.specs.declared.failure.Failure.{Failure}
+use Rattle.nl_os.specs.declared.failed_call.FileRole.{FileRole}
+use Rattle.nl_os.specs.declared.failed_call.FileRole.TheVariants as file
+use Rattle.nl_tool_texts.specs.Faults.{fault_text}
+use Rattle.nl_tool_texts.specs.declared.fault.ToolFault.{ToolFault}
+use Rattle.nl_tool_texts.specs.declared.fault.ToolFault.TheVariants as fault
+use Rattle.nl_tool_words.specs.declared.command_line.Words.{Words}
+use Rattle.nl_tool_words.specs.declared.command_line.Words.TheVariants.{Show, Check, Hash, Entries, Damage, Doubt, Builds, Summary, Compare, Trace, Picture, HashFile, Record, Recompact, Restat}
+use Rattle.nl_tool_words.specs.declared.command_line.Words.TheVariants.{Repair, Replay, Apply, Prune, Retime}
+use Rattle.nl_versions.specs.Version.{is_version_read}
 use Rattle.nl_tool.specs.declared.reason.Place.{Place}
 use Rattle.nl_tool.specs.declared.reason.Place.TheVariants as at
 use Rattle.nl_tool.specs.declared.reason.Reason.{Reason}
-use Rattle.nl_tool.specs.declared.reason.Reason.TheVariants.{System, Full, Locked, Line, Negative, Version, Looks, Begins, Number, NoBytes, Tab, Newline, Long}
+use Rattle.nl_tool.specs.declared.reason.Reason.TheVariants.{System, Full, Locked, Unsynced, Line, Negative, Early, Version, Looks, Begins, Number, NoBytes, Tab, Newline, Long}
 use Rattle.nl_tool.specs.declared.notes.Notes.{Notes}
-use Rattle.nl_tool.specs.Looks.{look_of, look_text, start_text}
+use Rattle.nl_tool.specs.Looks.{escaped, look_of, look_text, start_text}
+use Rattle.nl_tool.specs.Reports.{IsMost, IsScope}
+use Rattle.nl_tool_report.specs.declared.scope.Scope.{Scope}
 use Rattle.nl_tool.specs.Wrong.{line_fault_text, number_fault_text}
 use Rattle.nl_tool.specs.declared.reason.Why.{Why}
 use Rattle.nl_tool.specs.declared.reason.Refusal.{Refusal}
@@ -41,20 +45,20 @@ place_text (at.Start text) = codes "START " ++ text.now
 place_text (at.End text) = codes "END " ++ text.now
 place_text (at.Mtime text) = codes "MTIME " ++ text.now
 place_text at.Name = codes "NAME"
-
--- whether a log of this version is taken where `auto` is asked for
-abbrev pub is_known : List ℕ → Bool
-is_known version = bytes_eq version (codes "4") || (bytes_eq version (codes "5") || (bytes_eq version (codes "6") || bytes_eq version (codes "7")))
+place_text (at.Count text) = codes "N " ++ text.now
+place_text (at.Build text) = codes "BUILD " ++ text.now
 
 abbrev pub reason_text : Reason → List ℕ
 reason_text (System text) = string_bytes text
 reason_text (Full text) = string_bytes text ++ codes "; LOG keeps its entries"
 reason_text (Locked text) = string_bytes text ++ codes ": an nlog, or a tool that keeps LOG"
+reason_text (Unsynced text) = codes "it can't be synced, so a power cut may undo a rename: " ++ string_bytes text
 reason_text (Line number None) = codes "line " ++ decimal number
 reason_text (Line number (Some fault)) = codes "line " ++ (decimal number ++ (codes ": " ++ line_fault_text fault))
 reason_text (Negative number) = codes "line " ++ (decimal number ++ codes ": the time stamp is negative")
+reason_text (Early text) = codes "the file of output \"" ++ (string_bytes text ++ codes "\" is from before 1970")
 reason_text (Version version) =
-    codes "version " ++ (string_bytes version ++ (if is_known (string_bytes version) then codes "; add --log-version auto" else []))
+    codes "version " ++ (string_bytes version ++ (if is_version_read (string_bytes version) then codes "; add --log-version auto" else []))
 reason_text (Looks look) = look_text look
 reason_text (Begins text) = codes "it begins with \"" ++ (string_bytes text ++ codes "\"")
 reason_text (Number fault) = number_fault_text fault
@@ -93,7 +97,10 @@ read_place (Entries log) = Some (given_or_input at.Log log)
 read_place (Damage log) = Some (given_or_input at.Log log)
 read_place (Doubt log) = Some (given_or_input at.Log log)
 read_place (Builds log) = Some (given_or_input at.Log log)
-read_place (Summary log lines) = Some (given_or_input at.Log log)
+read_place (Summary log build all lines) = Some (given_or_input at.Log log)
+read_place (Compare old new lines) = None
+read_place (Trace log) = Some (given_or_input at.Log log)
+read_place (Picture log) = Some (given_or_input at.Log log)
 read_place (HashFile file) = Some (given_or_input at.Command file)
 read_place (Replay script) = Some (given_or_input at.Script script)
 read_place (Apply log script) = Some (given_or_input at.Script script)
@@ -102,6 +109,8 @@ read_place (Restat log times) = Some (at.Times times)
 read_place (Hash command) = None
 read_place (Record log start end mtime name command) = None
 read_place (Repair log) = Some (at.Log log)
+read_place (Prune log manifest) = Some (given_or_input at.Command manifest)
+read_place (Retime log) = Some (at.Log log)
 
 -- a file of the log at a path
 abbrev pub file_place : Bor (List ℕ) → FileRole → Place
@@ -115,6 +124,8 @@ log_place (Record log start end mtime name command) file = Some (file_place log 
 log_place (Recompact log keep) file = Some (file_place log file)
 log_place (Restat log times) file = Some (file_place log file)
 log_place (Repair log) file = Some (file_place log file)
+log_place (Prune log manifest) file = Some (file_place log file)
+log_place (Retime log) file = Some (file_place log file)
 log_place (Apply log script) file = Some (file_place log file)
 log_place (Show log) file = read_place (Show log)
 log_place (Check log) file = read_place (Check log)
@@ -122,10 +133,23 @@ log_place (Entries log) file = read_place (Entries log)
 log_place (Damage log) file = read_place (Damage log)
 log_place (Doubt log) file = read_place (Doubt log)
 log_place (Builds log) file = read_place (Builds log)
-log_place (Summary log lines) file = read_place (Summary log lines)
+log_place (Summary log build all lines) file = read_place (Summary log build all lines)
+log_place (Compare old new lines) file = None
+log_place (Trace log) file = read_place (Trace log)
+log_place (Picture log) file = read_place (Picture log)
 log_place (Hash command) file = None
 log_place (HashFile path) file = None
 log_place (Replay script) file = None
+
+-- a folder can't be synced
+abbrev pub IsUnsynced : Reason → Type 0
+IsUnsynced (Unsynced text) = ⊤
+IsUnsynced _ = ⊥
+
+-- of two logs, the words that read the second of them, or the first; else the words as they are
+abbrev pub words_heard : Words → Bool → Words
+words_heard (Compare old new lines) is_second = Summary (Some (if is_second then new else old)) None false lines
+words_heard words is_second = words
 
 -- the reason is what the system said
 abbrev pub IsSystem : Reason → Type 0
@@ -166,8 +190,15 @@ IsFirstBad start end mtime (at.End text) = (text ≡ end) × ¬ IsNumber w32 end
 IsFirstBad start end mtime (at.Mtime text) = (text ≡ mtime) × ¬ IsNumber w64 mtime.now × IsNumber w32 start.now × IsNumber w32 end.now
 IsFirstBad start end mtime _ = ⊥
 
+-- a number of `summary` or `compare` that is none
+abbrev pub IsBadOption : Bool → Option (Bor (List ℕ)) → Option (Bor (List ℕ)) → Place → Type 0
+IsBadOption all build lines (at.Count text) = (lines ≡ Some text) × ((most : ℕ) → IsMost lines most → ⊥)
+IsBadOption all build lines (at.Build text) = (build ≡ Some text) × ((scope : Scope) → IsScope all build scope → ⊥)
+IsBadOption all build lines _ = ⊥
+
 abbrev pub IsBadNumberOf : Words → Why → Type 0
 IsBadNumberOf (Record log start end mtime name command) why = IsFirstBad start end mtime why.place × IsNumberFault why.reason
+IsBadNumberOf (Summary log build all lines) why = IsBadOption all build lines why.place × IsNumberFault why.reason
 IsBadNumberOf _ why = ⊥
 
 -- the reason is this byte
@@ -185,13 +216,21 @@ abbrev pub IsLine : ℕ → Reason → Type 0
 IsLine number (Line at fault) = at ≡ number
 IsLine number _ = ⊥
 
+-- it is of the file of this output, which has a name
+abbrev pub IsEarly : List ℕ → Reason → Type 0
+IsEarly name (Early text) = (name ≢ []) × (string_bytes text ≡ flat_map escaped name)
+IsEarly name _ = ⊥
+
 abbrev pub IsNegative : Reason → Type 0
 IsNegative (Negative number) = ⊤
+IsNegative (Early text) = ⊤
 IsNegative _ = ⊥
 
--- what may be said of a fault of these words, where the folder's last failure is this, and the file that was read last begins so
+-- what may be said of a fault of these words, where the folder's last failure is this, and the file that was read last begins so; what
+-- couldn't be read is the file that the words read, or the log beside it, where that failure is noted
 abbrev pub IsReasonFor : Words → ToolFault → Option Failure → List ℕ → Why → Type 0
-IsReasonFor words fault.Read failed bytes why = (read_place words ≡ Some why.place) × IsSystem why.reason
+IsReasonFor words fault.Read failed bytes why =
+    ((read_place words ≡ Some why.place) ⊎ IsSomeAnd failed (λ failure. log_place words failure.file ≡ Some why.place)) × IsSystem why.reason
 IsReasonFor words fault.Write failed bytes why = (why.place ≡ at.Output) × IsSystem why.reason
 IsReasonFor words fault.Folder failed bytes why =
     IfSome failed (λ failure. log_place words failure.file ≡ Some why.place) × IsSystem why.reason

@@ -1,17 +1,34 @@
 -- What each command prints that tells of builds.
-use Rattle.std.specs.Prelude.{◌≡◌, ℕ, ◌<◌, ◌^◌, pos, List, Option, None, Some}
+use Rattle.std.specs.Prelude.{◌≡◌, ℕ, Bool, true, false, ◌<◌, ◌^◌, pos, List, Option, None, Some}
 use Rattle.std.specs.Borrow.{Bor}
 use Rattle.nl_fields.specs.Digits.{IsDecimal}
-use Rattle.nl_report.specs.Builds.{builds_text_of}
-use Rattle.nl_report.specs.Summary.{summary_text_of}
+use Rattle.nl_tool_report.specs.Builds.{builds_text_of}
+use Rattle.nl_tool_report.specs.Summary.{summary_text_of}
+use Rattle.nl_tool_report.specs.declared.scope.Scope.{Scope}
+use Rattle.nl_tool_report.specs.declared.scope.Scope.TheVariants.{Last, Numbered, Outputs}
+use Rattle.nl_tool_trace.specs.Trace.{trace_text_of}
+use Rattle.nl_tool_picture.specs.Picture.{picture_text_of}
 use Rattle.nl_tool.specs.declared.reporting.Report.{Report}
-use Rattle.nl_tool.specs.declared.reporting.Report.TheVariants.{Builds, Summary}
+use Rattle.nl_tool.specs.declared.reporting.Report.TheVariants.{Builds, Picture, Summary, Trace}
 
 -- how many lines a list has at most: so many as is given, and ten where nothing is
 abbrev pub IsMost : Option (Bor (List ℕ)) → ℕ → Type 0
 IsMost None most = most ≡ 10
 IsMost (Some text) most = (most < 2 ^ 63) × IsDecimal (pos most) text.now
 
+-- of which build is told: of the one of a number, from 1, or of the last one where none is given
+abbrev pub IsBuild : Option (Bor (List ℕ)) → Scope → Type 0
+IsBuild None scope = scope ≡ Last
+IsBuild (Some text) (Numbered number) = (0 < number) × (number < 2 ^ 63) × IsDecimal (pos number) text.now
+IsBuild (Some text) scope = ⊥
+
+-- of what is told: of all outputs, or of a build
+abbrev pub IsScope : Bool → Option (Bor (List ℕ)) → Scope → Type 0
+IsScope true build scope = scope ≡ Outputs
+IsScope false build scope = IsBuild build scope
+
 abbrev pub report_text_of : Report → List ℕ → Option (List ℕ)
 report_text_of Builds bytes = builds_text_of bytes
-report_text_of (Summary most) bytes = summary_text_of most bytes
+report_text_of (Summary scope most) bytes = summary_text_of scope most bytes
+report_text_of Trace bytes = trace_text_of bytes
+report_text_of Picture bytes = picture_text_of bytes

@@ -1,13 +1,15 @@
 -- What is said of a number and of a line: docs/CLI.md, "Why something was refused".
 use Rattle.std.specs.Prelude.{ℕ, List, ◌++◌, codes}
 use Rattle.nl_tool.specs.declared.wrong.NumberFault.{NumberFault}
-use Rattle.nl_tool.specs.declared.wrong.NumberFault.TheVariants.{NoNumber, Spelling, Past32, Past64}
+use Rattle.nl_tool.specs.declared.wrong.NumberFault.TheVariants.{NoNumber, Spelling, Below, BelowOne, Past32, Past64}
 use Rattle.nl_tool.specs.declared.wrong.LineFault.{LineFault}
-use Rattle.nl_tool.specs.declared.wrong.LineFault.TheVariants.{NoTab, Tab, Number, NoName, Zero, LongName, LongLine, NoEvent, Values}
+use Rattle.nl_tool.specs.declared.wrong.LineFault.TheVariants.{NoTab, Tab, Number, NoName, NoRule, NoTarget, Zero, LongName, LongLine, NoEvent, Values}
 
 abbrev pub number_fault_text : NumberFault → List ℕ
 number_fault_text NoNumber = codes "it isn't a number"
 number_fault_text Spelling = codes "a number has no zero in front"
+number_fault_text Below = codes "it is less than 0"
+number_fault_text BelowOne = codes "it is less than 1"
 number_fault_text Past32 = codes "it isn't from -2147483648 to 2147483647"
 number_fault_text Past64 = codes "it isn't a number of 64 bits"
 
@@ -19,5 +21,7 @@ line_fault_text NoName = codes "the name is empty"
 line_fault_text Zero = codes "a name has no zero byte"
 line_fault_text LongName = codes "a name has at most 65536 bytes"
 line_fault_text LongLine = codes "a line has at most 262143 bytes"
+line_fault_text NoTarget = codes "there is no target"
+line_fault_text NoRule = codes "no target, colon, space and rule"
 line_fault_text NoEvent = codes "no event begins so"
 line_fault_text Values = codes "the values are wrong, or the line stands where it must not"

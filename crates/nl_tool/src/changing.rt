@@ -1,53 +1,31 @@
 //! The words that change a log, over the folder of the real file LOG.
 ghost use Rattle.std.specs.Prelude.{◌≡◌, None, Some, IfErr, OnOk};
-ghost use Rattle.nl_change.specs.Faults.{IsApplyFault, IsEntryFault, IsRecompactFault, IsRecordFault, IsRestatFault};
-ghost use Rattle.nl_change.specs.RecordWords.{GiveEntry};
+ghost use Rattle.nl_tool_change.specs.Faults.{IsApplyFault, IsEntryFault, IsRecompactFault, IsRecordFault, IsRestatFault};
+ghost use Rattle.nl_tool_change.specs.RecordWords.{GiveEntry};
 ghost use Rattle.nl_tool.specs.Faults.{IsRepairFault};
-ghost use Rattle.nl_words.specs.declared.version.AskedVersion.{AskedVersion};
+ghost use Rattle.nl_files.specs.FileFolder.{system_of};
+ghost use Rattle.nl_os.specs.OsSystem.{unsynced_of};
 
 use crate::files::{look_there, note_missing, open};
 use crate::notes::{NotedReader, NotedWriter, Notes};
-use crate::version_choice::number_of;
 use crate::waiting::Waiting;
 use crate::wrong::LineKind;
-use nl_change::{
+use nl_fields::EntryRef;
+use nl_os::{DiskFolder, SystemFile};
+use nl_tool_change::{
     AskedFolder, apply_on, entry_of, recompact_on, record_command, repair_on, restat_on,
 };
-use nl_disk::{DiskFolder, SystemFile};
-use nl_fields::EntryRef;
-use nl_texts::ToolFault;
-use nl_words::AskedVersion;
+use nl_tool_texts::ToolFault;
+use nl_versions::LogVersion;
 use std::alloc::Global;
 use std::io::{self, Read};
 use std::rt::{Clock, Files, Runtime};
-
-// A log is one of version 5, or 4, where no version is asked for.
-pub fn or_five(asked: Option<AskedVersion>) -> AskedVersion
-    ensures none { asked ≡ None → result ≡ AskedVersion.Five }
-    ensures some { (version : AskedVersion) → asked ≡ Some version → result ≡ version }
-{
-    match asked {
-        Some(asked) => asked,
-        None => AskedVersion::Five,
-    }
-}
-
-// A log is of the version that its first line names, where none is asked for.
-pub fn or_auto(asked: Option<AskedVersion>) -> AskedVersion
-    ensures none { asked ≡ None → result ≡ AskedVersion.Auto }
-    ensures some { (version : AskedVersion) → asked ≡ Some version → result ≡ version }
-{
-    match asked {
-        Some(version) => version,
-        None => AskedVersion::Auto,
-    }
-}
 
 // What is wrong with the words of an entry comes before anything is asked of the log.
 pub fn record_in<R: Files + Clock + Eprint>(
     rt: &R,
     alloc: Global,
-    asked: AskedVersion,
+    asked: Option<LogVersion>,
     log: &str,
     start: &str,
     end: &str,
@@ -64,12 +42,13 @@ where
     let entry = entry_of(start, end, mtime, name)?;
     note_missing(rt, log, notes);
     let folder = DiskFolder::new(Waiting::new(rt, log, notes.looks), alloc, log)?;
-    record_noted(alloc, asked, folder, entry, command, notes)
+    record_log(alloc, asked, folder, entry, command, notes)
 }
 
-fn record_noted<F: Files + Clock + Drop>(
+// Records an entry in the log of a folder.
+fn record_log<F: Files + Clock + Drop>(
     alloc: Global,
-    asked: AskedVersion,
+    asked: Option<LogVersion>,
     folder: DiskFolder<F>,
     entry: EntryRef<'_>,
     command: &str,
@@ -79,7 +58,6 @@ where
     F::File: SystemFile,
     ensures faults { IfErr result IsRecordFault }
 {
-    let asked = number_of(asked);
     let (folder, answer) = record_command(alloc, asked, folder, entry, command.as_bytes());
     note_folder(folder, answer, notes)
 }
@@ -87,7 +65,7 @@ where
 pub fn recompact_in<R: Files + Clock + Eprint>(
     rt: &R,
     alloc: Global,
-    asked: AskedVersion,
+    asked: Option<LogVersion>,
     log: &str,
     keep: &str,
     notes: &mut Notes,
@@ -99,7 +77,7 @@ where
     let names = open(rt, keep, notes)?;
     notes.watch(LineKind::Keep);
     note_missing(rt, log, notes);
-    recompact_noted(
+    recompact_log(
         alloc,
         asked,
         DiskFolder::new(Waiting::new(rt, log, notes.looks), alloc, log)?,
@@ -108,9 +86,10 @@ where
     )
 }
 
-fn recompact_noted<F: Files + Clock + Drop, R: Read + Drop>(
+// Drops the outputs that the names leave out from the log of a folder.
+fn recompact_log<F: Files + Clock + Drop, R: Read + Drop>(
     alloc: Global,
-    asked: AskedVersion,
+    asked: Option<LogVersion>,
     folder: DiskFolder<F>,
     names: R,
     notes: &mut Notes,
@@ -119,7 +98,6 @@ where
     F::File: SystemFile,
     ensures faults { IfErr result IsRecompactFault }
 {
-    let asked = number_of(asked);
     let names = NotedReader::new(names, &mut notes.heard);
     let (left, answer) = recompact_on(alloc, AskedFolder { asked, folder }, names);
     note_folder(left.folder, answer, notes)
@@ -128,7 +106,7 @@ where
 pub fn restat_in<R: Files + Clock + Eprint>(
     rt: &R,
     alloc: Global,
-    asked: AskedVersion,
+    asked: Option<LogVersion>,
     log: &str,
     times: &str,
     notes: &mut Notes,
@@ -140,7 +118,7 @@ where
     let pairs = open(rt, times, notes)?;
     notes.watch(LineKind::Times);
     note_missing(rt, log, notes);
-    restat_noted(
+    restat_log(
         alloc,
         asked,
         DiskFolder::new(Waiting::new(rt, log, notes.looks), alloc, log)?,
@@ -149,9 +127,10 @@ where
     )
 }
 
-fn restat_noted<F: Files + Clock + Drop, R: Read + Drop>(
+// Sets mtimes in the log of a folder.
+fn restat_log<F: Files + Clock + Drop, R: Read + Drop>(
     alloc: Global,
-    asked: AskedVersion,
+    asked: Option<LogVersion>,
     folder: DiskFolder<F>,
     pairs: R,
     notes: &mut Notes,
@@ -160,7 +139,6 @@ where
     F::File: SystemFile,
     ensures faults { IfErr result IsRestatFault }
 {
-    let asked = number_of(asked);
     let pairs = NotedReader::new(pairs, &mut notes.heard);
     let (left, answer) = restat_on(alloc, AskedFolder { asked, folder }, pairs);
     note_folder(left.folder, answer, notes)
@@ -169,7 +147,7 @@ where
 pub fn apply_in<R: Runtime>(
     rt: &R,
     alloc: Global,
-    asked: AskedVersion,
+    asked: Option<LogVersion>,
     log: &str,
     script: Option<&str>,
     notes: &mut Notes,
@@ -180,17 +158,18 @@ where
 {
     let Some(path) = script else {
         let folder = DiskFolder::new(Waiting::new(rt, log, notes.looks), alloc, log)?;
-        return apply_noted(rt, alloc, asked, folder, rt.reader(), notes);
+        return apply_from(rt, alloc, asked, folder, rt.reader(), notes);
     };
     let lines = open(rt, path, notes)?;
     let folder = DiskFolder::new(Waiting::new(rt, log, notes.looks), alloc, log)?;
-    apply_noted(rt, alloc, asked, folder, lines, notes)
+    apply_from(rt, alloc, asked, folder, lines, notes)
 }
 
-fn apply_noted<P: Print, F: Files + Clock + Drop, R: Read + Drop>(
+// Applies the lines that this reader gives.
+fn apply_from<P: Print, F: Files + Clock + Drop, R: Read + Drop>(
     rt: &P,
     alloc: Global,
-    asked: AskedVersion,
+    asked: Option<LogVersion>,
     folder: DiskFolder<F>,
     reader: R,
     notes: &mut Notes,
@@ -201,7 +180,7 @@ where
 {
     let mut out = NotedWriter::new(io::writer(rt));
     let reader = NotedReader::new(reader, &mut notes.heard);
-    let (folder, answer) = apply_on(alloc, number_of(asked), folder, reader, &mut out);
+    let (folder, answer) = apply_on(alloc, asked, folder, reader, &mut out);
     notes.written = out.failure;
     note_folder(folder, answer, notes)
 }
@@ -209,7 +188,7 @@ where
 pub fn repair_in<R: Files + Clock + Eprint>(
     rt: &R,
     alloc: Global,
-    asked: AskedVersion,
+    asked: Option<LogVersion>,
     log: &str,
     missing_ok: bool,
     notes: &mut Notes,
@@ -219,7 +198,7 @@ where
     ensures faults { IfErr result IsRepairFault }
 {
     look_there(rt, log, missing_ok, notes)?;
-    repair_noted(
+    repair_log(
         alloc,
         asked,
         DiskFolder::new(Waiting::new(rt, log, notes.looks), alloc, log)?,
@@ -227,9 +206,10 @@ where
     )
 }
 
-fn repair_noted<F: Files + Clock + Drop>(
+// Rewrites the log of a folder.
+fn repair_log<F: Files + Clock + Drop>(
     alloc: Global,
-    asked: AskedVersion,
+    asked: Option<LogVersion>,
     folder: DiskFolder<F>,
     notes: &mut Notes,
 ) -> Result<(), ToolFault>
@@ -237,7 +217,6 @@ where
     F::File: SystemFile,
     ensures faults { IfErr result IsRecordFault }
 {
-    let asked = number_of(asked);
     let (left, answer) = repair_on(alloc, AskedFolder { asked, folder });
     note_folder(left.folder, answer, notes)
 }
@@ -252,9 +231,11 @@ where
     R::File: SystemFile,
     ensures same { result ≡ answer }
     ensures kept { notes.new.folder ≡ folder.last_failure }
+    ensures unsynced { notes.new.unsynced ≡ unsynced_of (system_of folder.folder) }
 {
     let mut folder = folder;
     notes.folder = folder.last_failure();
+    notes.unsynced = folder.unsynced_folder();
     match answer {
         Err(ToolFault::OtherVersion | ToolFault::NotALog) if notes.looks => {
             notes.look_at(&mut folder);

@@ -1,18 +1,18 @@
 //! `doubt`, over LOG or standard input, and the files of the outputs, with standard output for its text.
 ghost use Rattle.std.specs.Prelude.{◌≡◌, ◌<◌, ◌↔◌, ℕ, List, None, IfErr, IfOk, IfSome, IsErrOf, length};
 ghost use Rattle.std.specs.Io.KnownBytes.{Appends};
-ghost use Rattle.nl_doubt.specs.Printing.{IsDoubtText};
-ghost use Rattle.nl_print.specs.Faults.{IsLogFault};
-ghost use Rattle.nl_print.specs.VersionOf.{as_five};
+ghost use Rattle.nl_tool_doubt.specs.Printing.{IsDoubtText};
+ghost use Rattle.nl_tool_print.specs.Faults.{IsLogFault};
+ghost use Rattle.nl_versions.specs.VersionOf.{as_five};
 ghost use Rattle.nl_table.specs.Log.{NotALog, OtherVersion, log_of};
-ghost use Rattle.nl_texts.specs.declared.fault.ToolFault.{ToolFault};
+ghost use Rattle.nl_tool_texts.specs.declared.fault.ToolFault.{ToolFault};
 ghost use Rattle.nl_tool.specs.declared.program.Verdict.{Verdict};
 
 use crate::files::open;
 use crate::notes::{NotedReader, NotedWriter, Notes};
 use crate::program::Verdict;
-use nl_doubt::{FileState, OutputFiles, doubt_to};
-use nl_texts::ToolFault;
+use nl_tool_doubt::{FileState, OutputFiles, doubt_to};
+use nl_tool_texts::ToolFault;
 use std::alloc::Global;
 use std::fs::{self, Metadata};
 use std::io::{self, ErrorKind, Read, Write};
@@ -24,8 +24,8 @@ const NANOSECONDS: i64 = 1_000_000_000;
 
 // The files of outputs, by their names from the folder in which the program runs.
 #[derive(Drop)]
-struct SystemFiles<'r, R> {
-    rt: &'r R,
+pub struct SystemFiles<'r, R> {
+    pub rt: &'r R,
 }
 
 impl<R: Files> OutputFiles for SystemFiles<'_, R> {

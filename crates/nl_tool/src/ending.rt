@@ -2,18 +2,19 @@
 ghost use Rattle.std.specs.Prelude.{◌≡◌, ◌≢◌, ◌≤◌, map, string_bytes};
 ghost use Rattle.std.specs.IoError.{error_kind};
 ghost use Rattle.std.specs.declared.io.ErrorKind.TheVariants.{OutOfMemory};
-ghost use Rattle.clap.specs.Words.{kind_of, subcommand_of};
+ghost use Rattle.clap.specs.Words.{kind_of};
 ghost use Rattle.nl_tool.specs.Ending.{status_after, IsStatusBy, IsStatusOfKind};
-ghost use Rattle.nl_words.specs.CommandLine.{fault_in, nlog};
+ghost use Rattle.nl_tool_words.specs.CommandLine.{entered_of, fault_in};
+ghost use Rattle.nl_tool_words.specs.Form.{form_of};
 
 use crate::notes::Notes;
-use crate::program::{Verdict, run_noted};
-use crate::reason::{Refusal, note_of, refusal_of};
+use crate::program::{Verdict, run_with_notes};
+use crate::reason::{Refusal, note_of, refusal_of, unsynced_note};
 use clap::Error;
 use clap::error::ErrorKind;
-use nl_disk::SystemFile;
-use nl_texts::{ToolFault, status_of};
-use nl_words::{CommandLine, read_words};
+use nl_os::SystemFile;
+use nl_tool_texts::{ToolFault, status_of};
+use nl_tool_words::{CommandLine, read_words};
 use std::alloc::Global;
 use std::rt::Runtime;
 use std::{env, io};
@@ -43,13 +44,13 @@ pub fn run_line<R: Runtime>(rt: &R, alloc: Global, line: &[String]) -> u8
 where
     R::File: SystemFile,
     ensures status { IsStatusBy (fault_in (map string_bytes line.now))
-        (subcommand_of nlog (map string_bytes line.now)) result }
+        (form_of (map string_bytes line.now)) (entered_of (map string_bytes line.now)) result }
     ensures bound { result ≤ 3 }
 {
     match read_words(alloc, line) {
         Ok(said) => {
             let mut notes = Notes::new(alloc, said.verbose);
-            let answer = run_noted(rt, alloc, &said, &mut notes);
+            let answer = run_with_notes(rt, alloc, &said, &mut notes);
             end(rt, alloc, &said, answer, &notes)
         }
         Err(error) => explain(rt, &error),
@@ -72,7 +73,7 @@ fn end(
 {
     match answer {
         Ok(Verdict::Done) => {
-            say_note(rt, line, notes);
+            say_notes(rt, alloc, line, notes);
             DONE
         }
         Ok(Verdict::Found) => FOUND,
@@ -80,10 +81,13 @@ fn end(
     }
 }
 
-// Says of a command that was done that its log was missing, where that is asked for.
-fn say_note(rt: &impl Eprint, line: &CommandLine<'_>, notes: &Notes) {
+// Says of a command that was done that its log was missing, and that its folder can't be synced, where that is asked for.
+fn say_notes(rt: &impl Eprint, alloc: Global, line: &CommandLine<'_>, notes: &Notes) {
     if let Some(missing) = note_of(line, notes) {
         let _ = eprintln!(rt; "nlog: {missing}");
+    }
+    if let Some(unsynced) = unsynced_note(alloc, line, notes) {
+        let _ = eprintln!(rt; "nlog: {unsynced}");
     }
 }
 

@@ -1,9 +1,9 @@
 //! The files that a command reads.
 ghost use Rattle.std.specs.Prelude.{◌≡◌, false, IfErr, IfOk, IsErr, IsSome};
-ghost use Rattle.nl_texts.specs.declared.fault.ToolFault.{ToolFault};
+ghost use Rattle.nl_tool_texts.specs.declared.fault.ToolFault.{ToolFault};
 
 use crate::notes::Notes;
-use nl_texts::ToolFault;
+use nl_tool_texts::ToolFault;
 use std::fs;
 use std::io::ErrorKind;
 use std::rt::Files;

@@ -3,6 +3,7 @@
 #![tactic(auto)]
 
 mod changing;
+mod comparing;
 mod doubting;
 mod ending;
 mod files;
@@ -13,6 +14,7 @@ mod printing;
 mod program;
 mod reason;
 mod reporting;
+mod settling;
 mod version_choice;
 mod waiting;
 mod watch;
@@ -20,24 +22,25 @@ mod wrong;
 
 pub use ending::{run_line, run_program};
 pub use looks::{Look, look_of, start_of};
-pub use nl_change::{
+pub use nl_os::DiskFolder;
+pub use nl_tool_change::{
     AskedFolder, FoundFolder, LogPlace, apply_on, entry_of, recompact_on, record_command,
     record_on, repair_on, restat_on,
 };
-pub use nl_disk::DiskFolder;
-pub use nl_doubt::doubt_to;
-pub use nl_lines::LogVersion;
-pub use nl_print::{
-    FirstLine, check_any, check_as, check_to, command_hash_as, damage_to, entries_to,
-    first_line_in, hash_as, hash_file_as, hash_file_to, hash_to, load_any, load_as, show_any,
-    show_as, show_to, version_of,
+pub use nl_tool_doubt::doubt_to;
+pub use nl_tool_picture::picture_to;
+pub use nl_tool_print::{
+    check_log, check_to, damage_to, entries_to, hash_for, hash_read, hash_to, load_read, show_log,
+    show_to,
 };
-pub use nl_replay::replay_to;
-pub use nl_report::{builds_to, summary_to};
-pub use nl_texts::{ToolFault, status_of};
-pub use nl_words::{AskedVersion, CommandLine, Words, read_words};
+pub use nl_tool_report::{Scope, TableAsRead, builds_to, compare_to, read_table, summary_to};
+pub use nl_tool_script::replay_to;
+pub use nl_tool_texts::{ToolFault, status_of};
+pub use nl_tool_trace::trace_to;
+pub use nl_tool_words::{AskedVersion, CommandLine, Words, read_words};
+pub use nl_versions::{FirstLine, LogVersion, command_hash_in, first_line_in, version_of};
 pub use notes::{Beginning, Heard, NotedReader, NotedWriter, Notes};
-pub use program::{Verdict, run, run_noted};
+pub use program::{Verdict, run, run_with_notes};
 pub use reason::{Missing, Place, Reason, Refusal, Why, note_of, refusal_of};
 pub use version_choice::number_of;
 pub use waiting::Waiting;

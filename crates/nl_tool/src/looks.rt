@@ -67,6 +67,17 @@ pub fn start_of(alloc: Global, bytes: &[u8]) -> Option<String>
     }
 }
 
+/// Bytes as they are said, each of them.
+pub fn escaped_of(alloc: Global, bytes: &[u8]) -> Option<String>
+    ensures value { IfSome result (λ text. string_bytes text ≡ flat_map escaped bytes.now) }
+{
+    let mut text = Vec::new(alloc);
+    match push_all(bytes, &mut text) {
+        Ok(()) => string_of(text),
+        Err(_) => None,
+    }
+}
+
 fn escaped_start(alloc: Global, bytes: &[u8]) -> Result<Vec<u8>, AllocError>
     ensures ok { IfOk result (λ text. text.items ≡ start_text bytes.now) }
 {

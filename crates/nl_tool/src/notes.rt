@@ -1,14 +1,14 @@
 //! What the system said of the calls that failed, and the first line of the log that is read: kept while a command is done, for
 //! whoever asks why it was refused.
-ghost use Rattle.std.specs.Prelude.{◌≡◌, None, Some, IfErr, false};
+ghost use Rattle.std.specs.Prelude.{◌≡◌, None, Some, IfErr, false, true};
 ghost use Rattle.std.specs.Io.{ReadsAtMost, WritesAtMost};
 ghost use Rattle.std.specs.Io.KnownBytes.{Keeps, ReadConsumes, WriteAppends};
 
 use crate::watch::Watch;
 use crate::wrong::LineKind;
-use nl_disk::Failure;
 use nl_folder::Folder;
 use nl_lines::MAX_LINE;
+use nl_os::Failure;
 use std::alloc::Global;
 use std::io::{self, Read, Write};
 
@@ -24,8 +24,14 @@ pub struct Notes {
     pub written: Option<io::Error>,
     /// The last call of the log's folder that failed.
     pub folder: Option<Failure>,
+    /// Why the log's folder isn't synced, where that isn't to be had.
+    pub unsynced: Option<io::Error>,
+    /// The output whose file has a negative time stamp by which a change was refused.
+    pub early: Vec<u8>,
     /// Whether the log was missing, and was read as one without bytes.
     pub is_missing: bool,
+    /// Whether what was heard is of the second of two logs.
+    pub is_second: bool,
     /// Whether more is to be said than the words ask for: so a log of another version is looked at once it is refused.
     pub looks: bool,
 }
@@ -34,7 +40,8 @@ impl Notes {
     /// Nothing is known yet.
     pub fn new(alloc: Global, looks: bool) -> Notes
         ensures none { (result.heard.failure ≡ None) × (result.written ≡ None)
-            × (result.folder ≡ None) × (result.is_missing ≡ false) }
+            × (result.folder ≡ None) × (result.unsynced ≡ None)
+            × (result.is_missing ≡ false) × (result.is_second ≡ false) }
         ensures looks { result.looks ≡ looks }
     {
         Notes {
@@ -48,7 +55,10 @@ impl Notes {
             },
             written: None,
             folder: None,
+            unsynced: None,
+            early: Vec::new(alloc),
             is_missing: false,
+            is_second: false,
             looks,
         }
     }
@@ -62,9 +72,22 @@ impl Notes {
         }
     }
 
+    /// What is read next is the second of two logs.
+    pub fn begin_second(&mut self)
+        ensures second { self.new.is_second ≡ true }
+        ensures anew { self.new.is_missing ≡ false }
+        ensures kept { self.new.folder ≡ self.old.folder }
+    {
+        self.is_second = true;
+        self.is_missing = false;
+        self.heard.beginning.bytes.clear();
+        self.heard.beginning.goes_on = self.looks;
+    }
+
     /// Keeps the first line of the log of a folder, in the place of what was read before.
     pub fn look_at<F: Folder>(&mut self, folder: &mut F)
         ensures kept { self.new.folder ≡ self.old.folder }
+        ensures unsynced { self.new.unsynced ≡ self.old.unsynced }
     {
         self.heard.look_at(folder);
     }

@@ -1,28 +1,24 @@
 //! The words that print, over LOG, FILE, SCRIPT or standard input, with standard output for their text.
 ghost use Rattle.std.specs.Prelude.{◌≡◌, ◌<◌, ◌↔◌, ℕ, List, IfErr, IfOk, IfSome, IsErrOf, MatchResult, length};
 ghost use Rattle.std.specs.Io.KnownBytes.{Appends};
-ghost use Rattle.nl_print.specs.Faults.{IsLogFault};
-ghost use Rattle.nl_print.specs.Output.{IsTextAsRead};
-ghost use Rattle.nl_print.specs.Streams.{IsSoFar, damage_text_of};
-ghost use Rattle.nl_print.specs.VersionOf.{as_five};
-ghost use Rattle.nl_print.specs.Versions.{log_as};
+ghost use Rattle.nl_tool_print.specs.Faults.{IsLogFault};
+ghost use Rattle.nl_tool_print.specs.Output.{IsTextAsRead};
+ghost use Rattle.nl_tool_print.specs.Streams.{IsSoFar, damage_text_of};
+ghost use Rattle.nl_versions.specs.VersionOf.{as_five};
+ghost use Rattle.nl_versions.specs.LogAs.{log_for};
 ghost use Rattle.nl_table.specs.Log.{NotALog, OtherVersion, log_of};
-ghost use Rattle.nl_texts.specs.Output.{Prints};
-ghost use Rattle.nl_texts.specs.declared.fault.ToolFault.{ToolFault};
-ghost use Rattle.nl_tool.specs.Answers.{IsAnswer, IsAnswerAs, IsAnswerOf, IsAnswerOfAny, RefusesLog, log_asked};
+ghost use Rattle.nl_tool_texts.specs.Output.{Prints};
+ghost use Rattle.nl_tool_texts.specs.declared.fault.ToolFault.{ToolFault};
+ghost use Rattle.nl_tool.specs.Answers.{IsAnswer, RefusesLog};
 ghost use Rattle.nl_tool.specs.Faults.{IsPrintingFault, IsReadingFault};
 
 use crate::files::{open, open_log};
 use crate::notes::{NotedReader, NotedWriter, Notes};
 use crate::program::Verdict;
-use nl_lines::LogVersion;
-use nl_print::{
-    check_any, check_as, check_to, damage_to, entries_to, hash_as, hash_file_as, hash_file_to,
-    hash_to, show_any, show_as, show_to,
-};
-use nl_replay::replay_to;
-use nl_texts::ToolFault;
-use nl_words::AskedVersion;
+use nl_tool_print::{check_log, damage_to, entries_to, hash_for, hash_read, show_log};
+use nl_tool_script::replay_to;
+use nl_tool_texts::ToolFault;
+use nl_versions::LogVersion;
 use std::alloc::Global;
 use std::io::{self, Read, Write};
 use std::rt::Runtime;
@@ -58,15 +54,16 @@ pub fn stream_log<R: Runtime>(
         (λ outcome. outcome ≡ Verdict.Found → streaming ≡ Streaming.Damage) }
 {
     let Some(path) = log else {
-        return stream_noted(rt, alloc, streaming, rt.reader(), notes);
+        return stream_from(rt, alloc, streaming, rt.reader(), notes);
     };
     match open_log(rt, path, missing_ok, notes)? {
-        Some(file) => stream_noted(rt, alloc, streaming, file, notes),
-        None => stream_noted(rt, alloc, streaming, io::empty(), notes),
+        Some(file) => stream_from(rt, alloc, streaming, file, notes),
+        None => stream_from(rt, alloc, streaming, io::empty(), notes),
     }
 }
 
-fn stream_noted<P: Print, R: Read + Drop>(
+// Prints of what this reader gives, to standard output, while it is read.
+fn stream_from<P: Print, R: Read + Drop>(
     rt: &P,
     alloc: Global,
     streaming: Streaming,
@@ -134,18 +131,18 @@ pub fn print_log<R: Runtime>(
     rt: &R,
     alloc: Global,
     printing: Printing<'_>,
-    version: Option<AskedVersion>,
+    asked: Option<LogVersion>,
     log: Option<&str>,
     notes: &mut Notes,
 ) -> Result<(), ToolFault>
     ensures faults { IfErr result (IsReadingFault printing.entry) }
 {
     let Some(path) = log else {
-        return print_noted(rt, alloc, printing, version, rt.reader(), notes);
+        return print_from(rt, alloc, printing, asked, rt.reader(), notes);
     };
     match open_log(rt, path, true, notes)? {
-        Some(file) => print_noted(rt, alloc, printing, version, file, notes),
-        None => print_noted(rt, alloc, printing, version, io::empty(), notes),
+        Some(file) => print_from(rt, alloc, printing, asked, file, notes),
+        None => print_from(rt, alloc, printing, asked, io::empty(), notes),
     }
 }
 
@@ -154,120 +151,58 @@ pub fn print_file<R: Runtime>(
     rt: &R,
     alloc: Global,
     printing: Printing<'_>,
-    version: Option<AskedVersion>,
+    asked: Option<LogVersion>,
     file: Option<&str>,
     notes: &mut Notes,
 ) -> Result<(), ToolFault>
     ensures faults { IfErr result (IsReadingFault printing.entry) }
 {
     let Some(path) = file else {
-        return print_noted(rt, alloc, printing, version, rt.reader(), notes);
+        return print_from(rt, alloc, printing, asked, rt.reader(), notes);
     };
     let file = open(rt, path, notes)?;
-    print_noted(rt, alloc, printing, version, file, notes)
+    print_from(rt, alloc, printing, asked, file, notes)
 }
 
-// Prints of what this reader gives.
-pub fn print_noted<P: Print, R: Read + Drop>(
+// Prints of what this reader gives, to standard output.
+pub fn print_from<P: Print, R: Read + Drop>(
     rt: &P,
     alloc: Global,
     printing: Printing<'_>,
-    version: Option<AskedVersion>,
+    asked: Option<LogVersion>,
     reader: R,
     notes: &mut Notes,
 ) -> Result<(), ToolFault>
-    ensures bytes { RefusesLog (log_asked version) (R.remaining reader) result }
+    ensures bytes { RefusesLog (log_for asked) (R.remaining reader) result }
     ensures faults { IfErr result (IsPrintingFault printing.entry) }
 {
     let mut out = NotedWriter::new(io::writer(rt));
     let reader = NotedReader::new(reader, &mut notes.heard);
-    let answer = print_to(alloc, printing, version, reader, &mut out);
+    let answer = print_to(alloc, printing, asked, reader, &mut out);
     notes.written = out.failure;
     answer
 }
 
-// Prints of what this reader gives to this writer.
+// Prints of what this reader gives to this writer: of a log of the version that is asked for, or where none is, of the one that its
+// first line names. A command has no first line, so its hash is that of version 5 then.
 fn print_to<R: Read + Drop, W: Write>(
     alloc: Global,
     printing: Printing<'_>,
-    version: Option<AskedVersion>,
+    asked: Option<LogVersion>,
     reader: R,
     writer: &mut W,
 ) -> Result<(), ToolFault>
-    ensures prints { Prints (IsAnswerAs version printing.entry (R.remaining reader))
+    ensures prints { Prints (IsAnswer asked printing.entry (R.remaining reader))
         (W.contents writer.old) (W.contents writer.new) result }
-    ensures bytes { RefusesLog (log_asked version) (R.remaining reader) result }
+    ensures bytes { RefusesLog (log_for asked) (R.remaining reader) result }
     ensures faults { IfErr result (IsPrintingFault printing.entry) }
 {
-    match version {
-        Some(AskedVersion::Five) => print_as(alloc, printing, LogVersion::Five, reader, writer),
-        Some(AskedVersion::Six) => print_as(alloc, printing, LogVersion::Six, reader, writer),
-        Some(AskedVersion::Seven) => print_as(alloc, printing, LogVersion::Seven, reader, writer),
-        Some(AskedVersion::Auto) => print_any(alloc, printing, reader, writer),
-        None => print_plain(alloc, printing, reader, writer),
-    }
-}
-
-// Prints of a log of version 4 or 5.
-fn print_plain<R: Read + Drop, W: Write>(
-    alloc: Global,
-    printing: Printing<'_>,
-    reader: R,
-    writer: &mut W,
-) -> Result<(), ToolFault>
-    ensures prints { Prints (IsAnswer printing.entry (R.remaining reader)) (W.contents writer.old)
-        (W.contents writer.new) result }
-    ensures bytes { RefusesLog log_of (R.remaining reader) result }
-    ensures faults { IfErr result (IsPrintingFault printing.entry) }
-{
+    let version = asked.unwrap_or(LogVersion::Five);
     match printing {
-        Printing::Show => show_to(alloc, reader, writer),
-        Printing::Check => check_to(alloc, reader, writer),
-        Printing::Hash(command) => hash_to(alloc, command.as_bytes(), writer),
-        Printing::HashFile => hash_file_to(alloc, reader, writer),
+        Printing::Show => show_log(alloc, asked, reader, writer),
+        Printing::Check => check_log(alloc, asked, reader, writer),
+        Printing::Hash(command) => hash_for(alloc, version, command.as_bytes(), writer),
+        Printing::HashFile => hash_read(alloc, version, reader, writer),
         Printing::Replay => replay_to(alloc, reader, writer),
-    }
-}
-
-// Prints of a log of the version.
-fn print_as<R: Read + Drop, W: Write>(
-    alloc: Global,
-    printing: Printing<'_>,
-    version: LogVersion,
-    reader: R,
-    writer: &mut W,
-) -> Result<(), ToolFault>
-    ensures prints { Prints (IsAnswerOf version printing.entry (R.remaining reader))
-        (W.contents writer.old) (W.contents writer.new) result }
-    ensures bytes { RefusesLog (log_as version) (R.remaining reader) result }
-    ensures faults { IfErr result (IsPrintingFault printing.entry) }
-{
-    match printing {
-        Printing::Show => show_as(alloc, version, reader, writer),
-        Printing::Check => check_as(alloc, version, reader, writer),
-        Printing::Hash(command) => hash_as(alloc, version, command.as_bytes(), writer),
-        Printing::HashFile => hash_file_as(alloc, version, reader, writer),
-        Printing::Replay => print_plain(alloc, printing, reader, writer),
-    }
-}
-
-// Prints of a log of whichever version its first line names.
-fn print_any<R: Read + Drop, W: Write>(
-    alloc: Global,
-    printing: Printing<'_>,
-    reader: R,
-    writer: &mut W,
-) -> Result<(), ToolFault>
-    ensures prints { Prints (IsAnswerOfAny printing.entry (R.remaining reader))
-        (W.contents writer.old) (W.contents writer.new) result }
-    ensures bytes { RefusesLog (λ bs. log_of (as_five bs)) (R.remaining reader) result }
-    ensures faults { IfErr result (IsPrintingFault printing.entry) }
-{
-    match printing {
-        Printing::Show => show_any(alloc, reader, writer),
-        Printing::Check => check_any(alloc, reader, writer),
-        Printing::Hash(_) | Printing::HashFile | Printing::Replay => {
-            print_plain(alloc, printing, reader, writer)
-        }
     }
 }

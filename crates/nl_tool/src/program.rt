@@ -2,15 +2,18 @@
 ghost use Rattle.std.specs.Prelude.{◌≡◌, IfErr, IfOk, OnOk};
 ghost use Rattle.nl_tool.specs.Faults.{CanFind, CanBeDone, IsFaultOf};
 
-use crate::changing::{apply_in, or_auto, or_five, recompact_in, record_in, repair_in, restat_in};
+use crate::changing::{apply_in, recompact_in, record_in, repair_in, restat_in};
+use crate::comparing::compare_in;
 use crate::doubting::doubt_in;
 use crate::notes::Notes;
-use crate::printing::{Printing, Streaming, print_file, print_log, print_noted, stream_log};
+use crate::printing::{Printing, Streaming, print_file, print_from, print_log, stream_log};
 use crate::reporting::{Report, report_in, summary_in};
+use crate::settling::{prune_in, retime_in};
+use crate::version_choice::{number_of, or_auto, or_five};
 use crate::wrong::LineKind;
-use nl_disk::SystemFile;
-use nl_texts::ToolFault;
-use nl_words::{CommandLine, Words};
+use nl_os::SystemFile;
+use nl_tool_texts::ToolFault;
+use nl_tool_words::{CommandLine, Words};
 use std::alloc::Global;
 use std::io;
 use std::rt::Runtime;
@@ -19,7 +22,7 @@ use std::rt::Runtime;
 #[derive(Clone, Copy, Debug, PartialEq, Eq, Drop)]
 pub enum Verdict {
     Done,
-    /// `damage` found some, or `doubt` an output.
+    /// `damage` found some, or `doubt` an output; or `recompact --manifest` or `restat --files` damage.
     Found,
 }
 
@@ -34,11 +37,11 @@ where
         (λ outcome. outcome ≡ Verdict.Found → CanFind line.now.words) }
     ensures faults { IfErr result (IsFaultOf line.now.words) }
 {
-    run_noted(rt, alloc, line, &mut Notes::new(alloc, false))
+    run_with_notes(rt, alloc, line, &mut Notes::new(alloc, false))
 }
 
 /// Does what a command line says, as `run`, and notes why what failed has failed.
-pub fn run_noted<R: Runtime>(
+pub fn run_with_notes<R: Runtime>(
     rt: &R,
     alloc: Global,
     line: &CommandLine<'_>,
@@ -51,19 +54,20 @@ where
         (λ outcome. outcome ≡ Verdict.Found → CanFind line.now.words) }
     ensures faults { IfErr result (IsFaultOf line.now.words) }
 {
-    let version = line.version;
+    let asked = number_of(or_five(line.version));
+    let asked_or_found = number_of(or_auto(line.version));
     let missing_ok = line.missing_ok;
     let done = match line.words {
-        Words::Show(log) => print_log(rt, alloc, Printing::Show, version, log, notes),
-        Words::Check(log) => print_log(rt, alloc, Printing::Check, version, log, notes),
+        Words::Show(log) => print_log(rt, alloc, Printing::Show, asked, log, notes),
+        Words::Check(log) => print_log(rt, alloc, Printing::Check, asked, log, notes),
         Words::Hash(command) => {
             let printing = Printing::Hash(command);
-            print_noted(rt, alloc, printing, version, io::empty(), notes)
+            print_from(rt, alloc, printing, asked, io::empty(), notes)
         }
-        Words::HashFile(file) => print_file(rt, alloc, Printing::HashFile, version, file, notes),
+        Words::HashFile(file) => print_file(rt, alloc, Printing::HashFile, asked, file, notes),
         Words::Replay(script) => {
             notes.watch(LineKind::Script);
-            print_file(rt, alloc, Printing::Replay, version, script, notes)
+            print_file(rt, alloc, Printing::Replay, asked, script, notes)
         }
         Words::Entries(log) => {
             return stream_log(rt, alloc, Streaming::Entries, log, missing_ok, notes);
@@ -73,7 +77,17 @@ where
         }
         Words::Doubt(log) => return doubt_in(rt, alloc, log, notes),
         Words::Builds(log) => report_in(rt, alloc, Report::Builds, log, missing_ok, notes),
-        Words::Summary { log, lines } => summary_in(rt, alloc, log, lines, missing_ok, notes),
+        Words::Summary {
+            log,
+            build,
+            all,
+            lines,
+        } => summary_in(rt, alloc, log, all, build, lines, missing_ok, notes),
+        Words::Compare { old, new, lines } => {
+            compare_in(rt, alloc, old, new, lines, missing_ok, notes)
+        }
+        Words::Trace(log) => report_in(rt, alloc, Report::Trace, log, missing_ok, notes),
+        Words::Picture(log) => report_in(rt, alloc, Report::Picture, log, missing_ok, notes),
         Words::Record {
             log,
             start,
@@ -82,25 +96,16 @@ where
             name,
             command,
         } => record_in(
-            rt,
-            alloc,
-            or_five(version),
-            log,
-            start,
-            end,
-            mtime,
-            name,
-            command,
-            notes,
+            rt, alloc, asked, log, start, end, mtime, name, command, notes,
         ),
-        Words::Recompact { log, keep } => {
-            recompact_in(rt, alloc, or_five(version), log, keep, notes)
+        Words::Recompact { log, keep } => { recompact_in(rt, alloc, asked, log, keep, notes) }
+        Words::Restat { log, times } => { restat_in(rt, alloc, asked, log, times, notes) }
+        Words::Prune { log, manifest } => {
+            return prune_in(rt, alloc, asked_or_found, log, manifest, notes);
         }
-        Words::Restat { log, times } => {
-            restat_in(rt, alloc, or_five(version), log, times, notes)
-        }
-        Words::Repair(log) => { repair_in(rt, alloc, or_auto(version), log, missing_ok, notes) }
-        Words::Apply { log, script } => apply_in(rt, alloc, or_auto(version), log, script, notes),
+        Words::Retime(log) => return retime_in(rt, alloc, asked_or_found, log, notes),
+        Words::Repair(log) => { repair_in(rt, alloc, asked_or_found, log, missing_ok, notes) }
+        Words::Apply { log, script } => apply_in(rt, alloc, asked_or_found, log, script, notes),
     };
     done?;
     Ok(Verdict::Done)

@@ -1,18 +1,21 @@
 //! Why something was refused, as it is said where `--verbose` asks for it: which file it is of, and the reason.
 ghost use Rattle.std.specs.Prelude.{◌≡◌, None, Some, IfSome, IsSome, false, true};
 ghost use Rattle.std.specs.Int.{w32, w64};
-ghost use Rattle.nl_system.specs.declared.failed_call.FileRole.{FileRole};
+ghost use Rattle.nl_os.specs.declared.failed_call.FileRole.{FileRole};
+ghost use Rattle.nl_tool_texts.specs.declared.fault.ToolFault.{ToolFault};
 ghost use Rattle.nl_tool.specs.declared.reason.Place.{Place};
 ghost use Rattle.nl_tool.specs.Looks.{look_of};
-ghost use Rattle.nl_tool.specs.Reasons.{IsBadNumberOf, IsByteAt, IsLongNameOf, IsLookAt, IsNoteFor, IsNumber, IsReasonFor, IsSystem, IsVersion, file_place, heard_of, is_known, log_place, missing_text, place_text, read_place, reason_text, refusal_text, why_text};
+ghost use Rattle.nl_tool.specs.Reasons.{IsBadNumberOf, IsBadOption, IsByteAt, IsEarly, IsFirstBad, IsLongNameOf, IsLookAt, IsNegative, IsNoteFor, IsNumber, IsNumberFault, IsReasonFor, IsSystem, IsUnsynced, IsVersion, file_place, heard_of, log_place, missing_text, place_text, read_place, reason_text, refusal_text, why_text, words_heard};
 
-use crate::looks::{Look, look_of, start_of};
+use crate::looks::{Look, escaped_of, look_of, start_of};
 use crate::notes::Notes;
-use crate::wrong::{LineFault, NumberFault, number_fault};
-use nl_disk::{Failure, FileRole, folder_part};
+use crate::reporting::{most_of, scope_of};
+use crate::wrong::{LineFault, NumberFault, build_fault, count_fault, number_fault};
 use nl_fields::{read_i32, read_i64};
-use nl_texts::ToolFault;
-use nl_words::{CommandLine, Words};
+use nl_os::{Failure, FileRole, folder_part};
+use nl_tool_texts::ToolFault;
+use nl_tool_words::{CommandLine, Words};
+use nl_versions::is_version_read;
 use std::alloc::Global;
 use std::{fmt, io, str};
 
@@ -36,6 +39,10 @@ pub enum Place<'a> {
     End(&'a str),
     Mtime(&'a str),
     Name,
+    /// How many lines a list of `summary` or `compare` has at most.
+    Count(&'a str),
+    /// Of which build `summary` tells.
+    Build(&'a str),
 }
 
 impl fmt::Display for Place<'_> {
@@ -59,6 +66,8 @@ impl fmt::Display for Place<'_> {
             Place::End(text) => write!(f, "END {text}"),
             Place::Mtime(text) => write!(f, "MTIME {text}"),
             Place::Name => write!(f, "NAME"),
+            Place::Count(text) => write!(f, "N {text}"),
+            Place::Build(text) => write!(f, "BUILD {text}"),
         }
     }
 }
@@ -69,13 +78,6 @@ const FULL: i32 = 28;
 // What is said behind a version that another choice of the command line takes.
 const KNOWN: &str = "; add --log-version auto";
 
-// Whether a log of this version is taken where `auto` is asked for.
-fn is_known(version: &str) -> bool
-    ensures { result ≡ is_known version.now }
-{
-    matches!(version, "4" | "5" | "6" | "7")
-}
-
 /// What is known of a refusal beside its fault.
 #[derive(Debug, PartialEq, Eq, Drop)]
 pub enum Reason {
@@ -85,10 +87,14 @@ pub enum Reason {
     Full(String),
     /// That a log is locked, and who may hold the lock.
     Locked(String),
+    /// What the system says of a folder that can't be synced, over which a command was done all the same.
+    Unsynced(String),
     /// The number of a bad line, from 1, and what is wrong with it, where that is known.
     Line(u64, Option<LineFault>),
     /// The number of the line with a negative time, from 1.
     Negative(u64),
+    /// The output whose file has a negative time stamp, as it is said.
+    Early(String),
     /// The version of the log, in digits.
     Version(String),
     /// What a file looks like that is no log.
@@ -111,11 +117,16 @@ impl fmt::Display for Reason {
             Reason::System(text) => write!(f, "{text}"),
             Reason::Full(text) => write!(f, "{text}; LOG keeps its entries"),
             Reason::Locked(text) => write!(f, "{text}: an nlog, or a tool that keeps LOG"),
+            Reason::Unsynced(text) => write!(
+                f,
+                "it can't be synced, so a power cut may undo a rename: {text}"
+            ),
             Reason::Line(number, None) => write!(f, "line {number}"),
             Reason::Line(number, Some(fault)) => write!(f, "line {number}: {fault}"),
             Reason::Negative(number) => write!(f, "line {number}: the time stamp is negative"),
+            Reason::Early(text) => write!(f, "the file of output \"{text}\" is from before 1970"),
             Reason::Version(version) => {
-                let way = if is_known(version) { KNOWN } else { "" };
+                let way = if is_version_read(version) { KNOWN } else { "" };
                 write!(f, "version {version}{way}")
             }
             Reason::Looks(look) => write!(f, "{look}"),
@@ -182,17 +193,37 @@ impl fmt::Display for Missing<'_> {
 /// What is said of a command that was done: that the log was missing, where the command line asks for more.
 pub fn note_of<'a>(line: &CommandLine<'a>, notes: &Notes) -> Option<Missing<'a>>
     ensures quiet { line.now.verbose ≡ false → result ≡ None }
-    ensures note { IfSome result (IsNoteFor line.now.words notes.now.is_missing) }
+    ensures note { IfSome result
+        (IsNoteFor (words_heard line.now.words notes.now.is_second) notes.now.is_missing) }
     ensures whenever { line.now.verbose ≡ true → notes.now.is_missing ≡ true
-        → IsSome (log_place line.now.words FileRole.Log) → IsSome result }
+        → IsSome (log_place (words_heard line.now.words notes.now.is_second) FileRole.Log)
+        → IsSome result }
 {
     if !line.verbose || !notes.is_missing {
         return None;
     }
-    match log_place(&line.words, FileRole::Log) {
+    match log_place(&words_heard(&line.words, notes.is_second), FileRole::Log) {
         Some(place) => Some(Missing { place }),
         None => None,
     }
+}
+
+/// What is said of a command that was done in a folder which can't be synced, where the command line asks for more.
+pub fn unsynced_note<'a>(alloc: Global, line: &CommandLine<'a>, notes: &Notes) -> Option<Why<'a>>
+    ensures quiet { line.now.verbose ≡ false → result ≡ None }
+    ensures none { notes.now.unsynced ≡ None → result ≡ None }
+    ensures note { IfSome result (λ why. (log_place line.now.words FileRole.Folder ≡ Some why.place)
+        × IsUnsynced why.reason) }
+{
+    if !line.verbose {
+        return None;
+    }
+    let error = notes.unsynced?;
+    let text = format!(in alloc; "{error}").ok()?;
+    Some(Why {
+        place: log_place(&line.words, FileRole::Folder)?,
+        reason: Reason::Unsynced(text),
+    })
 }
 
 /// What is said of a fault of a command: its reason only where the command line asks for it, and it is known.
@@ -205,14 +236,35 @@ pub fn refusal_of<'a>(
     ensures fault { result.fault ≡ fault }
     ensures quiet { line.now.verbose ≡ false → result.why ≡ None }
     ensures why { IfSome result.why
-        (IsReasonFor line.now.words fault notes.now.folder (heard_of notes.now)) }
+        (IsReasonFor (words_heard line.now.words notes.now.is_second) fault notes.now.folder
+        (heard_of notes.now)) }
 {
     let why = if line.verbose {
-        why_of(alloc, &line.words, fault, notes)
+        why_of(
+            alloc,
+            &words_heard(&line.words, notes.is_second),
+            fault,
+            notes,
+        )
     } else {
         None
     };
     Refusal { fault, why }
+}
+
+// Of two logs, the words that read the second of them, or the first; else the words as they are.
+fn words_heard<'a>(words: &Words<'a>, is_second: bool) -> Words<'a>
+    ensures { result ≡ words_heard words.now is_second }
+{
+    match *words {
+        Words::Compare { old, new, lines } => Words::Summary {
+            log: Some(if is_second { new } else { old }),
+            build: None,
+            all: false,
+            lines,
+        },
+        other => other,
+    }
 }
 
 // The reason of a fault, where it is known.
@@ -221,7 +273,7 @@ fn why_of<'a>(alloc: Global, words: &Words<'a>, fault: ToolFault, notes: &Notes)
         (IsReasonFor words.now fault notes.now.folder (heard_of notes.now)) }
 {
     match fault {
-        ToolFault::Read => said_of(alloc, read_place(words)?, notes.heard.failure?),
+        ToolFault::Read => unread_of(alloc, words, notes),
         ToolFault::Write => said_of(alloc, Place::Output, notes.written?),
         ToolFault::Folder => {
             let failure = notes.folder?;
@@ -231,10 +283,7 @@ fn why_of<'a>(alloc: Global, words: &Words<'a>, fault: ToolFault, notes: &Notes)
             place: read_place(words)?,
             reason: Reason::Line(number, notes.heard.lines.fault_at(number)),
         }),
-        ToolFault::NegativeTime(place) => Some(Why {
-            place: read_place(words)?,
-            reason: Reason::Negative(notes.heard.lines.line_of_pair(place)?),
-        }),
+        ToolFault::NegativeTime(place) => negative_why(alloc, words, place, notes),
         ToolFault::OtherVersion => version_why(alloc, words, notes),
         ToolFault::NotALog => looks_of(alloc, words, notes),
         ToolFault::BadNumber => bad_number(words),
@@ -243,6 +292,47 @@ fn why_of<'a>(alloc: Global, words: &Words<'a>, fault: ToolFault, notes: &Notes)
         ToolFault::LongName => long_name(words),
         ToolFault::Memory => None,
     }
+}
+
+// What the system said of the file that the words read, or of LOG beside it.
+fn unread_of<'a>(alloc: Global, words: &Words<'a>, notes: &Notes) -> Option<Why<'a>>
+    ensures { IfSome result
+        (IsReasonFor words.now ToolFault.Read notes.now.folder (heard_of notes.now)) }
+{
+    if let Some(error) = notes.heard.failure {
+        return said_of(alloc, read_place(words)?, error);
+    }
+    let failure = notes.folder?;
+    said_of(alloc, log_place(words, failure.file)?, failure.error)
+}
+
+// Which line has a negative time, or the file of which output.
+fn negative_why<'a>(
+    alloc: Global,
+    words: &Words<'a>,
+    place: usize,
+    notes: &Notes,
+) -> Option<Why<'a>>
+    ensures { IfSome result (λ why. (read_place words.now ≡ Some why.place)
+        × IsNegative why.reason) }
+{
+    let reason = match *words {
+        Words::Retime(_) => early_reason(alloc, notes.early.as_slice())?,
+        _ => Reason::Negative(notes.heard.lines.line_of_pair(place)?),
+    };
+    Some(Why {
+        place: read_place(words)?,
+        reason,
+    })
+}
+
+fn early_reason(alloc: Global, name: &[u8]) -> Option<Reason>
+    ensures value { IfSome result (IsEarly name.now) }
+{
+    if name.is_empty() {
+        return None;
+    }
+    Some(Reason::Early(escaped_of(alloc, name)?))
 }
 
 // What the system said of a file of the log, and what there is to say beside it.
@@ -310,15 +400,46 @@ fn is_i64(text: &str) -> bool
 fn bad_number<'a>(words: &Words<'a>) -> Option<Why<'a>>
     ensures { IfSome result (IsBadNumberOf words.now) }
 {
-    let Words::Record {
-        start,
-        end,
-        mtime,
-        ..
-    } = *words
-    else {
-        return None;
-    };
+    match *words {
+        Words::Record {
+            start,
+            end,
+            mtime,
+            ..
+        } => bad_value(start, end, mtime),
+        Words::Summary {
+            log: _,
+            build,
+            all,
+            lines,
+        } => bad_option(all, build, lines),
+        _ => None,
+    }
+}
+
+// Which of these two numbers is none, and why.
+fn bad_option<'a>(all: bool, build: Option<&'a str>, lines: Option<&'a str>) -> Option<Why<'a>>
+    ensures { IfSome result (λ why. IsBadOption all build.entry lines.entry why.place
+        × IsNumberFault why.reason) }
+{
+    match (lines, build) {
+        (Some(text), _) if most_of(lines).is_none() => Some(Why {
+            place: Place::Count(text),
+            reason: Reason::Number(count_fault(text.as_bytes())),
+        }),
+        (_, Some(text)) if scope_of(all, build).is_none() => Some(Why {
+            place: Place::Build(text),
+            reason: Reason::Number(build_fault(text.as_bytes())),
+        }),
+        _ => None,
+    }
+}
+
+// Which of the three numbers of an entry is none, and why.
+fn bad_value<'a>(start: &'a str, end: &'a str, mtime: &'a str) -> Option<Why<'a>>
+    ensures { IfSome result (λ why. IsFirstBad start.entry end.entry mtime.entry why.place
+        × IsNumberFault why.reason) }
+{
     if !is_i32(start) {
         return Some(Why {
             place: Place::Start(start),
@@ -419,11 +540,19 @@ fn read_place<'a>(words: &Words<'a>) -> Option<Place<'a>>
         | Words::Damage(Some(log))
         | Words::Doubt(Some(log))
         | Words::Builds(Some(log))
+        | Words::Trace(Some(log))
+        | Words::Picture(Some(log))
         | Words::Summary {
             log: Some(log),
+            build: _,
+            all: _,
             lines: _,
         } => Some(Place::Log(log)),
-        Words::HashFile(Some(file)) => Some(Place::Command(file)),
+        Words::HashFile(Some(file))
+        | Words::Prune {
+            log: _,
+            manifest: Some(file),
+        } => Some(Place::Command(file)),
         Words::Replay(Some(script))
         | Words::Apply {
             log: _,
@@ -437,18 +566,26 @@ fn read_place<'a>(words: &Words<'a>) -> Option<Place<'a>>
         | Words::Damage(None)
         | Words::Doubt(None)
         | Words::Builds(None)
+        | Words::Trace(None)
+        | Words::Picture(None)
         | Words::Summary {
             log: None,
+            build: _,
+            all: _,
             lines: _,
         }
         | Words::HashFile(None)
+        | Words::Prune {
+            log: _,
+            manifest: None,
+        }
         | Words::Replay(None)
         | Words::Apply {
             log: _,
             script: None,
         } => Some(Place::Input),
-        Words::Repair(log) => Some(Place::Log(log)),
-        Words::Hash(_) | Words::Record { .. } => None,
+        Words::Repair(log) | Words::Retime(log) => Some(Place::Log(log)),
+        Words::Hash(_) | Words::Record { .. } | Words::Compare { .. } => None,
     }
 }
 
@@ -460,6 +597,8 @@ fn log_place<'a>(words: &Words<'a>, file: FileRole) -> Option<Place<'a>>
         Words::Record { log, .. }
         | Words::Recompact { log, keep: _ }
         | Words::Restat { log, times: _ }
+        | Words::Prune { log, manifest: _ }
+        | Words::Retime(log)
         | Words::Repair(log)
         | Words::Apply { log, script: _ } => Some(file_place(log, file)),
         Words::Show(_)
@@ -468,8 +607,10 @@ fn log_place<'a>(words: &Words<'a>, file: FileRole) -> Option<Place<'a>>
         | Words::Damage(_)
         | Words::Doubt(_)
         | Words::Builds(_)
+        | Words::Trace(_)
+        | Words::Picture(_)
         | Words::Summary { .. } => read_place(words),
-        Words::Hash(_) | Words::HashFile(_) | Words::Replay(_) => None,
+        Words::Hash(_) | Words::HashFile(_) | Words::Replay(_) | Words::Compare { .. } => None,
     }
 }
 

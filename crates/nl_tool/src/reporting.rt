@@ -1,20 +1,23 @@
 //! The words that tell what the builds of a log did, over LOG or standard input, with standard output for their text.
 ghost use Rattle.std.specs.Prelude.{◌≡◌, ◌<◌, ◌^◌, ℕ, pos, Some, IfErr, IfSome, OnOk};
 ghost use Rattle.nl_fields.specs.Digits.{IsDecimal};
-ghost use Rattle.nl_print.specs.Faults.{IsLogFault};
-ghost use Rattle.nl_print.specs.Output.{IsTextAsRead};
-ghost use Rattle.nl_print.specs.VersionOf.{as_five};
+ghost use Rattle.nl_tool_print.specs.Faults.{IsLogFault};
+ghost use Rattle.nl_tool_print.specs.Output.{IsTextAsRead};
+ghost use Rattle.nl_versions.specs.VersionOf.{as_five};
 ghost use Rattle.nl_table.specs.Log.{log_of};
-ghost use Rattle.nl_texts.specs.Output.{Prints};
+ghost use Rattle.nl_tool_report.specs.declared.scope.Scope.{Scope};
+ghost use Rattle.nl_tool_texts.specs.Output.{Prints};
 ghost use Rattle.nl_tool.specs.Answers.{RefusesLog};
 ghost use Rattle.nl_tool.specs.Faults.{IsSummaryFault};
-ghost use Rattle.nl_tool.specs.Reports.{IsMost, report_text_of};
+ghost use Rattle.nl_tool.specs.Reports.{IsBuild, IsMost, IsScope, report_text_of};
 
 use crate::files::open_log;
 use crate::notes::{NotedReader, NotedWriter, Notes};
 use nl_fields::read_i64;
-use nl_report::{builds_to, summary_to};
-use nl_texts::ToolFault;
+use nl_tool_picture::picture_to;
+use nl_tool_report::{Scope, builds_to, summary_to};
+use nl_tool_texts::ToolFault;
+use nl_tool_trace::trace_to;
 use std::alloc::Global;
 use std::io::{self, Read, Write};
 use std::rt::Runtime;
@@ -24,29 +27,80 @@ use std::rt::Runtime;
 pub enum Report {
     Builds,
     /// With lists of so many lines at most.
-    Summary(usize),
+    Summary { scope: Scope, most: usize },
+    /// As the events of a trace.
+    Trace,
+    /// As a picture.
+    Picture,
 }
 
-// Tells of the last build, with lists of as many lines at most as the words say.
+// Tells of what the words say, with lists of as many lines at most as they say.
 pub fn summary_in<R: Runtime>(
     rt: &R,
     alloc: Global,
     log: Option<&str>,
+    all: bool,
+    build: Option<&str>,
     lines: Option<&str>,
     missing_ok: bool,
     notes: &mut Notes,
 ) -> Result<(), ToolFault>
+    ensures scope { OnOk result ((scope : Scope) × IsScope all build.entry scope) }
     ensures accepts { OnOk result ((most : ℕ) × IsMost lines.entry most) }
-    ensures faults { IfErr result (IsSummaryFault lines.entry) }
+    ensures faults { IfErr result (IsSummaryFault all build.entry lines.entry) }
 {
     let Some(most) = most_of(lines) else {
         return Err(ToolFault::BadNumber);
     };
-    report_in(rt, alloc, Report::Summary(most), log, missing_ok, notes)
+    let Some(scope) = scope_of(all, build) else {
+        return Err(ToolFault::BadNumber);
+    };
+    report_in(
+        rt,
+        alloc,
+        Report::Summary { scope, most },
+        log,
+        missing_ok,
+        notes,
+    )
+}
+
+// Of what is told.
+pub fn scope_of(all: bool, build: Option<&str>) -> Option<Scope>
+    ensures value { IfSome result (IsScope all build.entry) }
+    ensures accepts { (scope : Scope) → IsScope all build.entry scope → result ≡ Some scope }
+{
+    if all {
+        return Some(Scope::Outputs);
+    }
+    build_of(build)
+}
+
+// Of which build is told.
+fn build_of(build: Option<&str>) -> Option<Scope>
+    ensures value { IfSome result (IsBuild build.entry) }
+    ensures accepts { (scope : Scope) → IsBuild build.entry scope → result ≡ Some scope }
+{
+    match build {
+        None => Some(Scope::Last),
+        Some(text) => numbered_by(text),
+    }
+}
+
+// The build of a number of 1 up to 2^63 - 1, in its one spelling.
+fn numbered_by(text: &str) -> Option<Scope>
+    ensures value { IfSome result (IsBuild (Some text.entry)) }
+    ensures accepts { (scope : Scope) → IsBuild (Some text.entry) scope → result ≡ Some scope }
+{
+    let count = count_of(text)?;
+    if count == 0 {
+        return None;
+    }
+    Some(Scope::Numbered(count as u64))
 }
 
 // How many lines a list has at most.
-fn most_of(lines: Option<&str>) -> Option<usize>
+pub fn most_of(lines: Option<&str>) -> Option<usize>
     ensures value { IfSome result (IsMost lines.entry) }
     ensures accepts { (most : ℕ) → IsMost lines.entry most → result ≡ Some most }
 {
@@ -113,6 +167,8 @@ fn report_to<R: Read + Drop, W: Write>(
 {
     match report {
         Report::Builds => builds_to(alloc, reader, writer),
-        Report::Summary(most) => summary_to(alloc, most, reader, writer),
+        Report::Summary { scope, most } => summary_to(alloc, scope, most, reader, writer),
+        Report::Trace => trace_to(alloc, reader, writer),
+        Report::Picture => picture_to(alloc, reader, writer),
     }
 }

@@ -12,6 +12,10 @@ pub enum NumberFault {
     NoNumber,
     /// A zero in front, or `-0`.
     Spelling,
+    /// It is less than 0, where it may not be.
+    Below,
+    /// It is less than 1, where it may not be.
+    BelowOne,
     /// It is no number of 32 bits.
     Past32,
     /// It is no number of 64 bits.
@@ -25,6 +29,8 @@ impl fmt::Display for NumberFault {
         match self {
             NumberFault::NoNumber => write!(f, "it isn't a number"),
             NumberFault::Spelling => write!(f, "a number has no zero in front"),
+            NumberFault::Below => write!(f, "it is less than 0"),
+            NumberFault::BelowOne => write!(f, "it is less than 1"),
             NumberFault::Past32 => write!(f, "it isn't from -2147483648 to 2147483647"),
             NumberFault::Past64 => write!(f, "it isn't a number of 64 bits"),
         }
@@ -47,6 +53,24 @@ pub fn number_fault(text: &[u8], past: NumberFault) -> NumberFault {
     }
 }
 
+// What is wrong with a text that isn't a number of 0 up to 2^63 - 1.
+pub fn count_fault(text: &[u8]) -> NumberFault {
+    if text.starts_with(b"-") {
+        number_fault(text, NumberFault::Below)
+    } else {
+        number_fault(text, NumberFault::Past64)
+    }
+}
+
+// What is wrong with a text that isn't a number of 1 up to 2^63 - 1.
+pub fn build_fault(text: &[u8]) -> NumberFault {
+    match text {
+        b"0" => NumberFault::BelowOne,
+        [b'-', ..] => number_fault(text, NumberFault::BelowOne),
+        _ => number_fault(text, NumberFault::Past64),
+    }
+}
+
 /// What is wrong with a line.
 #[derive(Clone, Copy, Debug, PartialEq, Eq, Drop)]
 pub enum LineFault {
@@ -57,6 +81,8 @@ pub enum LineFault {
     Zero,
     LongName,
     LongLine,
+    NoTarget,
+    NoRule,
     NoEvent,
     Values,
 }
@@ -73,6 +99,8 @@ impl fmt::Display for LineFault {
             LineFault::Zero => write!(f, "a name has no zero byte"),
             LineFault::LongName => write!(f, "a name has at most 65536 bytes"),
             LineFault::LongLine => write!(f, "a line has at most 262143 bytes"),
+            LineFault::NoTarget => write!(f, "there is no target"),
+            LineFault::NoRule => write!(f, "no target, colon, space and rule"),
             LineFault::NoEvent => write!(f, "no event begins so"),
             LineFault::Values => write!(
                 f,
@@ -87,6 +115,7 @@ impl fmt::Display for LineFault {
 pub enum LineKind {
     Keep,
     Times,
+    Targets,
     Script,
 }
 
@@ -95,6 +124,7 @@ pub fn line_fault(kind: LineKind, line: &[u8]) -> Option<LineFault> {
     match kind {
         LineKind::Keep => keep_fault(line),
         LineKind::Times => times_fault(line),
+        LineKind::Targets => target_fault(line),
         LineKind::Script => script_fault(line),
     }
 }
@@ -118,6 +148,17 @@ fn times_fault(line: &[u8]) -> Option<LineFault> {
         return Some(LineFault::Number(number_fault(time, NumberFault::Past64)));
     }
     keep_fault(&line[tab + 1..])
+}
+
+fn target_fault(line: &[u8]) -> Option<LineFault> {
+    if line.is_empty() {
+        return Some(LineFault::NoTarget);
+    }
+    let space = line.iter().rposition(|byte| *byte == b' ');
+    match space.and_then(|at| line[..at].strip_suffix(b":")) {
+        Some(name) => keep_fault(name),
+        None => Some(LineFault::NoRule),
+    }
 }
 
 fn script_fault(line: &[u8]) -> Option<LineFault> {

@@ -1,4 +1,4 @@
-use Rattle.std.proofs.Common.{◌≡◌, List, ℕ, Bor, Option, Some, ap, refl, subst, sym}
+use Rattle.std.proofs.Common.{List, ℕ, Bor, Option, Some, ap, refl, subst, sym}
 use Rattle.nl_tool.specs.Reports.{IsMost}
 use Rattle.nl_tool.proofs.reporting.most_of.Goals as goal
 

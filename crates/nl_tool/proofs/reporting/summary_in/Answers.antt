@@ -1,8 +1,8 @@
-use Rattle.std.proofs.Common.{◌≡◌, List, ℕ, Bor, Option, Result, Ok, Err, inl, inr, refl}
+use Rattle.std.proofs.Common.{List, ℕ, Bool, Bor, Option, Result, Ok, Err, inl, inr, refl}
 use Rattle.std.specs.Prelude.{IfErr, OnOk}
 use Rattle.std.proofs.lemmas.Option.{none-some}
-use Rattle.nl_print.specs.Faults.{IsLogFault}
-use Rattle.nl_texts.specs.declared.fault.ToolFault.{ToolFault}
+use Rattle.nl_tool_print.specs.Faults.{IsLogFault}
+use Rattle.nl_tool_texts.specs.declared.fault.ToolFault.{ToolFault}
 use Rattle.nl_tool.specs.Faults.{IsSummaryFault}
 use Rattle.nl_tool.proofs.reporting.summary_in.Goals as goal
 
@@ -10,18 +10,28 @@ whatever : (r : Result (Unit {0}) ToolFault) (P : Type 0) → P → OnOk r P
 whatever (Ok x) P p = p
 whatever (Err e) P p = tt
 
-as_summary : (r : Result (Unit {0}) ToolFault) (lines : Option (Bor (List ℕ))) → IfErr r IsLogFault → IfErr r (IsSummaryFault lines)
-as_summary (Ok x) lines h = tt
-as_summary (Err e) lines h = inl h
+as_summary : (r : Result (Unit {0}) ToolFault) (all : Bool) (build lines : Option (Bor (List ℕ))) → IfErr r IsLogFault
+    → IfErr r (IsSummaryFault all build lines)
+as_summary (Ok x) all build lines h = tt
+as_summary (Err e) all build lines h = inl (inl h)
 
 pub returns-in_default : goal.returns-in_default
 returns-in_default g c = record {
+  scope = tt;
   accepts = tt;
-  faults = inr (refl, λ most is. none-some _ (c.in_default.ensures.accepts most is));
+  faults = inl (inr (refl, λ most is. none-some _ (c.in_default.ensures.accepts most is)));
+}
+
+pub returns-in_default-scope_of : goal.returns-in_default-scope_of
+returns-in_default-scope_of g c = record {
+  scope = tt;
+  accepts = tt;
+  faults = inr (refl, λ scope is. none-some _ (c.in_default-scope_of.ensures.accepts scope is));
 }
 
 pub returns : goal.returns
 returns g c = record {
+  scope = whatever c.report_in.result _ (c.in-Some-scope_of.scope, c.in-Some-scope_of.ensures.value);
   accepts = whatever c.report_in.result _ (c.in-Some.most, c.in-Some.ensures.value);
-  faults = as_summary c.report_in.result c.args.lines c.report_in.ensures.faults;
+  faults = as_summary c.report_in.result c.args.all c.args.build c.args.lines c.report_in.ensures.faults;
 }

@@ -1,0 +1,237 @@
+//! The words that change a log by what a build has: `recompact --manifest` and `restat --files`.
+ghost use Rattle.std.specs.Prelude.{◌≡◌, ◌≢◌, ◌⊎◌, ℕ, ℤ, [], List, Err, IfErr, IsErr, IsSomeAnd, slice_get};
+ghost use Rattle.nl_tool_change.specs.Calls.{keeping, touching};
+ghost use Rattle.nl_tool_doubt.specs.There.{AddsFor, name_by, pair_by};
+ghost use Rattle.nl_tool.specs.Faults.{IsSettlingFault, IsTargetsFault};
+ghost use Rattle.nl_tool_texts.specs.declared.fault.ToolFault.{ToolFault};
+
+use crate::changing::note_folder;
+use crate::doubting::SystemFiles;
+use crate::files::open;
+use crate::notes::{NotedReader, Notes};
+use crate::printing::{Streaming, stream_log};
+use crate::program::Verdict;
+use crate::waiting::Waiting;
+use crate::wrong::LineKind;
+use nl_fields::Name;
+use nl_os::{DiskFolder, Failure, FileRole, SystemFile};
+use nl_tool_change::{AskedFolder, LogPlace, keep_on, read_manifest, retime_on};
+use nl_tool_doubt::{OutputFiles, add_names_there, times_there};
+use nl_tool_texts::ToolFault;
+use nl_versions::LogVersion;
+use std::alloc::Global;
+use std::io::Read;
+use std::rt::{Clock, Files, Runtime};
+
+// Keeps the targets of a build and the outputs whose files are there, unless the log is damaged. The targets are read
+// whole first.
+pub fn prune_in<R: Runtime>(
+    rt: &R,
+    alloc: Global,
+    asked: Option<LogVersion>,
+    log: &str,
+    manifest: Option<&str>,
+    notes: &mut Notes,
+) -> Result<Verdict, ToolFault>
+where
+    R::File: SystemFile,
+    ensures faults { IfErr result IsSettlingFault }
+{
+    let targets = targets_in(rt, alloc, manifest, notes)?;
+    let answer = prune_log(rt, alloc, asked, log, targets, notes);
+    // Of the two files that are read, it is LOG that couldn't be.
+    if let Some(error) = notes.heard.failure {
+        notes.heard.failure = None;
+        notes.folder = Some(Failure {
+            file: FileRole::Log,
+            error,
+        });
+    }
+    answer
+}
+
+// The targets of the file at this path, or of standard input.
+fn targets_in<R: Runtime>(
+    rt: &R,
+    alloc: Global,
+    manifest: Option<&str>,
+    notes: &mut Notes,
+) -> Result<Vec<Name>, ToolFault>
+    ensures faults { IfErr result IsTargetsFault }
+{
+    match manifest {
+        None | Some("-") => targets_from(alloc, rt.reader(), notes),
+        Some(path) => {
+            let file = open(rt, path, notes)?;
+            targets_from(alloc, file, notes)
+        }
+    }
+}
+
+// What is noted of the targets is for a refusal of them alone.
+fn targets_from<R: Read + Drop>(
+    alloc: Global,
+    reader: R,
+    notes: &mut Notes,
+) -> Result<Vec<Name>, ToolFault>
+    ensures faults { IfErr result IsTargetsFault }
+{
+    let mut own = Notes::new(alloc, notes.looks);
+    own.watch(LineKind::Targets);
+    let answer = read_manifest(alloc, NotedReader::new(reader, &mut own.heard));
+    if answer.is_err() {
+        notes.heard = own.heard;
+    }
+    answer
+}
+
+fn prune_log<R: Runtime>(
+    rt: &R,
+    alloc: Global,
+    asked: Option<LogVersion>,
+    log: &str,
+    targets: Vec<Name>,
+    notes: &mut Notes,
+) -> Result<Verdict, ToolFault>
+where
+    R::File: SystemFile,
+    ensures faults { IfErr result IsSettlingFault }
+{
+    if let Verdict::Found = stream_log(rt, alloc, Streaming::Damage, Some(log), false, notes)? {
+        return Ok(Verdict::Found);
+    }
+    let file = open(rt, log, notes)?;
+    let files = SystemFiles { rt };
+    prune_over(
+        alloc,
+        asked,
+        DiskFolder::new(Waiting::new(rt, log, notes.looks), alloc, log)?,
+        targets,
+        file,
+        &files,
+        notes,
+    )?;
+    Ok(Verdict::Done)
+}
+
+fn prune_over<D: Files + Clock + Drop, R: Read + Drop, F: OutputFiles>(
+    alloc: Global,
+    asked: Option<LogVersion>,
+    folder: DiskFolder<D>,
+    targets: Vec<Name>,
+    log: R,
+    files: &F,
+    notes: &mut Notes,
+) -> Result<(), ToolFault>
+where
+    D::File: SystemFile,
+    ensures faults { IfErr result IsSettlingFault }
+{
+    let log = NotedReader::new(log, &mut notes.heard);
+    let (left, answer) = keep_there(alloc, AskedFolder { asked, folder }, targets, log, files);
+    note_folder(left.folder, answer, notes)
+}
+
+// Gives the outputs the times of their files, unless the log is damaged.
+pub fn retime_in<R: Runtime>(
+    rt: &R,
+    alloc: Global,
+    asked: Option<LogVersion>,
+    log: &str,
+    notes: &mut Notes,
+) -> Result<Verdict, ToolFault>
+where
+    R::File: SystemFile,
+    ensures faults { IfErr result IsSettlingFault }
+{
+    if let Verdict::Found = stream_log(rt, alloc, Streaming::Damage, Some(log), false, notes)? {
+        return Ok(Verdict::Found);
+    }
+    let file = open(rt, log, notes)?;
+    let files = SystemFiles { rt };
+    retime_over(
+        alloc,
+        asked,
+        DiskFolder::new(Waiting::new(rt, log, notes.looks), alloc, log)?,
+        file,
+        &files,
+        notes,
+    )?;
+    Ok(Verdict::Done)
+}
+
+fn retime_over<D: Files + Clock + Drop, R: Read + Drop, F: OutputFiles>(
+    alloc: Global,
+    asked: Option<LogVersion>,
+    folder: DiskFolder<D>,
+    log: R,
+    files: &F,
+    notes: &mut Notes,
+) -> Result<(), ToolFault>
+where
+    D::File: SystemFile,
+    ensures faults { IfErr result IsSettlingFault }
+{
+    let log = NotedReader::new(log, &mut notes.heard);
+    let place = AskedFolder { asked, folder };
+    let (left, answer) = retime_there(alloc, place, log, files, &mut notes.early);
+    note_folder(left.folder, answer, notes)
+}
+
+// Drops from the log of a place what neither is a target nor has a file, of the log that the reader gives.
+fn keep_there<P: LogPlace, R: Read + Drop, F: OutputFiles>(
+    alloc: Global,
+    place: P,
+    targets: Vec<Name>,
+    log: R,
+    files: &F,
+) -> (P, Result<(), ToolFault>)
+    ensures call { (IsErr result.1 × (result.0 ≡ place)) ⊎ ((names : List (List ℕ))
+        × AddsFor name_by (R.remaining log) (F.states files.now) targets.items names
+        × P.changes (keeping names) result.1 place result.0) }
+    ensures faults { IfErr result.1 IsSettlingFault }
+{
+    let mut names = targets;
+    match add_names_there(alloc, log, files, &mut names) {
+        Ok(()) => keep_on(alloc, place, names),
+        Err(fault) => (place, Err(fault)),
+    }
+}
+
+// Gives the outputs of the log of a place the times of their files, of the log that the reader gives.
+fn retime_there<P: LogPlace, R: Read + Drop, F: OutputFiles>(
+    alloc: Global,
+    place: P,
+    log: R,
+    files: &F,
+    early: &mut Vec<u8>,
+) -> (P, Result<(), ToolFault>)
+    ensures call { (IsErr result.1 × (result.0 ≡ place)) ⊎ ((times : List (List ℕ × ℤ))
+        × AddsFor pair_by (R.remaining log) (F.states files.now) [] times
+        × P.changes (touching times) result.1 place result.0) }
+    ensures faults { IfErr result.1 IsSettlingFault }
+{
+    match times_there(alloc, log, files) {
+        Ok(times) => {
+            let (place, answer) = retime_on(alloc, place, &times);
+            note_early(times.as_slice(), &answer, early);
+            (place, answer)
+        }
+        Err(fault) => (place, Err(fault)),
+    }
+}
+
+// Notes the output by whose time stamp a change was refused, where there is memory for it.
+fn note_early(times: &[(Name, i64)], answer: &Result<(), ToolFault>, early: &mut Vec<u8>)
+    ensures named { (i : ℕ) → answer.now ≡ Err (ToolFault.NegativeTime i)
+        → (early.new.items ≡ [])
+        ⊎ IsSomeAnd (slice_get times.now i) (λ pair. early.new.items ≡ pair.0) }
+    ensures other { ((i : ℕ) → answer.now ≢ Err (ToolFault.NegativeTime i)) → early.new.items ≡ [] }
+{
+    early.clear();
+    if let Err(ToolFault::NegativeTime(place)) = answer {
+        if let Some((name, _)) = times.get(*place) {
+            let _ = early.extend_from_slice(name.bytes());
+        }
+    }
+}

@@ -1,0 +1,2 @@
+mod JudgedLemmas
+mod ThereLemmas
