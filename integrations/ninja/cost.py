@@ -12,6 +12,9 @@ beside it.
 By the clock: COMMANDS (100) commands of 100 ms each, that all run again, by four at a time, on the disk that has the folder of temporary files;
 of the plain one, of the patched one, and of it with NINJA_LOG_SYNC=intents and =outputs, in turn.
 
+By the clock too, beside a log of 430,000 lines over 200,000 outputs (30 MB): two and four Ninjas at once in one folder, of 40 edges each, and a
+build of 50 edges of a generator, before each of which Ninja closes its log.
+
 Fails where the patched one takes more than LIMITS has times as much.
 """
 import os
@@ -22,7 +25,7 @@ import sys
 import tempfile
 import time
 
-LIMITS = {"build": 1.02, "no work": 1.02, "all again": 1.03, "a due log": None, "patched": 1.02, "intents": 1.05, "outputs": None}
+LIMITS = {"build": 1.02, "no work": 1.02, "all again": 1.03, "a due log": None, "patched": 1.02, "intents": 1.05, "outputs": None, "2 at once": 1.5, "4 at once": 1.5, "generators": 1.2}
 LOG = ".ninja_log"
 
 
@@ -112,6 +115,43 @@ def clock(costs, ninjas, room, commands, rounds):
         costs.tell(f"the clock, {commands} commands of 100 ms, {what}", what, medians["plain"], medians[what])
 
 
+def long_log(ninja, room):
+    """A log of 430,000 lines over 200,000 outputs, with the first line that this Ninja writes."""
+    lay_out(room, 1)
+    run(ninja, room)
+    with open(f"{room}/{LOG}", "rb") as it:
+        header = it.readline()
+    return header + b"".join(b"%d\t%d\t%d\tobj/dir%d/some/file%d.o\t%x\n" % (at % 1000, at % 1000 + 5, 1700000000000000000 + at, at % 200000 // 100, at % 200000, at * 40503) for at in range(430000))
+
+
+def beside_a_long_log(costs, ninjas, room, rounds):
+    text = long_log(ninjas["plain"], f"{room}/first")
+    times = {}
+    for turn in range(rounds):
+        for name in list(ninjas) if turn % 2 == 0 else list(reversed(ninjas)):
+            for what in ("2 at once", "4 at once", "generators"):
+                folder = f"{room}/{name}"
+                os.makedirs(folder)
+                with open(f"{folder}/{LOG}", "wb") as it:
+                    it.write(text)
+                    os.fsync(it.fileno())
+                count = 1 if what == "generators" else int(what[0])
+                for number in range(count):
+                    with open(f"{folder}/build{number}.ninja", "w", encoding="utf-8") as it:
+                        it.write("rule c\n  command = : > $out\n" + ("  generator = 1\n" if count == 1 else ""))
+                        it.writelines(f"build o{number}.{at}: c\n" for at in range(50 if count == 1 else 40))
+                began = time.monotonic()
+                children = [subprocess.Popen([ninjas[name], "-j2", "-f", f"build{it}.ninja"], cwd=folder, stdout=subprocess.DEVNULL) for it in range(count)]
+                statuses = [it.wait() for it in children]
+                times.setdefault((name, what), []).append(time.monotonic() - began)
+                if any(statuses):
+                    sys.exit(f"{what}: {ninjas[name]} ended with {statuses}")
+                shutil.rmtree(folder)
+    for what in ("2 at once", "4 at once", "generators"):
+        medians = {name: statistics.median(times[name, what]) * 1000 for name in ninjas}
+        costs.tell(f"the clock, {what}, a log of 30 MB", what, medians["plain"], medians["patched"])
+
+
 def main(plain, patched, edges="10000", rounds="9", commands="100"):
     room = os.path.realpath(tempfile.mkdtemp())
     costs = Costs()
@@ -119,6 +159,7 @@ def main(plain, patched, edges="10000", rounds="9", commands="100"):
     try:
         processor_time(costs, ninjas, f"{room}/time", int(edges), int(rounds))
         clock(costs, ninjas, f"{room}/clock", int(commands), min(int(rounds), 9))
+        beside_a_long_log(costs, ninjas, f"{room}/long", min(int(rounds), 5))
     finally:
         shutil.rmtree(room, ignore_errors=True)
     print(f"{costs.passed} passed, {costs.failed} failed")

@@ -15,7 +15,7 @@ A torn line is followed by a recompaction, since a build by the plain one then s
 The patched one writes intents, and so one differs from the other where a command fails, or a record is lost: faults.py shows that too. Here an
 output whose last entry is such an intent has an older entry, or none, in the other log, and no reason to be built is compared of it. Until
 it was built no file gets another time by hand, and the file whose record was cut off is removed. Where one log is due, which may be that of the
-patched one first, both are rewritten.
+patched one first, both are rewritten. An output whose line was torn may have no entry in the patched log until it is built.
 """
 import os
 import random
@@ -26,7 +26,9 @@ import sys
 import tempfile
 import time
 
-LOG = ".ninja_log"
+sys.path.insert(0, os.path.dirname(os.path.dirname(os.path.abspath(__file__))))
+from builds import LOG, tick
+
 # The outputs of one command have the same time, of which 1.11.1 records the latest. A restat within a build is of a file whose time is
 # given: whether the time of an output is the one that was recorded for it is told by the clock's ticks.
 RULES = """rule copy
@@ -222,23 +224,11 @@ def apart(one, other):
     return f"{one!r:.600}\n    and {other!r:.600}"
 
 
-def tick(folder):
-    """Waits until a file that is written now has a later time stamp than any before."""
-    path = f"{folder}/tick"
-    with open(path, "w", encoding="utf-8"):
-        begun = os.stat(path).st_mtime_ns
-    while True:
-        time.sleep(0.001)
-        with open(path, "w", encoding="utf-8") as it:
-            it.write("x")
-        if os.stat(path).st_mtime_ns > begun:
-            return
-
-
 class Differ:
     def __init__(self, ninjas, room):
         self.ninjas, self.room = ninjas, room
         self.steps = self.commands = self.intents = 0
+        self.lost = set()  # the outputs of lines that were torn
 
     @staticmethod
     def begun(sides):
@@ -256,8 +246,12 @@ class Differ:
         for it in logs:
             for name in after:
                 (it or {}).pop(name, None)
+        # What can't be trusted has no entry in the patched log until it is built.
+        self.lost = {name for name in self.lost if name not in sides[1].entries}
+        for name in self.lost:
+            (logs[0] or {}).pop(name, None)
         if answers[0] is not None:
-            answers = [(status, [it for it in said if not (it.startswith(b"ninja explain: ") and any(name in it for name in before | after))]) for status, said in answers]
+            answers = [(status, [it for it in said if not (it.startswith(b"ninja explain: ") and any(name in it for name in before | after | self.lost))]) for status, said in answers]
         for name, of_sides in (("answers", answers), ("files", [it.files() for it in sides]), ("logs", logs)):
             if of_sides[0] != of_sides[1]:
                 return f"after {what}: {name}: {apart(*of_sides)}"
@@ -266,6 +260,7 @@ class Differ:
     def project(self, random_numbers, version, folder):
         """Takes a project through its steps: what the two first differed in."""
         project = Project(random_numbers, version)
+        self.lost = set()
         sides = [Side(it, f"{folder}/{at}") for at, it in enumerate(self.ninjas)]
 
         def both(name, text):
@@ -367,6 +362,7 @@ class Differ:
                             os.remove(side.path(os.fsdecode(name)))
                     with open(side.path(LOG), "wb") as it:
                         it.write(text[: max(at, len(text) - cut)])
+                self.lost |= names
                 return run("-t", "recompact")
         elif what == "restat" and not self.begun(sides):
             # (-t cleandead removes a source that no edge takes any more, if a line of the log is of it)

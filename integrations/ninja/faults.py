@@ -9,6 +9,7 @@ are synced; logs of other versions, damaged ones and files that are no logs; nam
 locked, a build that does nothing.
 """
 import fcntl
+import itertools
 import os
 import shutil
 import signal
@@ -17,71 +18,11 @@ import sys
 import tempfile
 import time
 
-TOP = os.path.dirname(os.path.dirname(os.path.dirname(os.path.abspath(__file__))))
-sys.path.insert(0, f"{TOP}/tests")
+sys.path.insert(0, os.path.dirname(os.path.dirname(os.path.abspath(__file__))))
+from builds import LOG, Builder, echoing, entries_of, interrupted, kinds_of, long_log, making, names_in, tagged, touching, traced, with_file
 from trials import Trials, fill_up, read, write
 
-LOG = ".ninja_log"
 IDLE = "ninja: no work to do.\n"
-
-
-class Ninja:
-    """One of the two, in a folder of its own."""
-
-    def __init__(self, path, folder):
-        self.path, self.folder = path, folder
-        os.makedirs(folder, exist_ok=True)
-        os.chdir(folder)
-
-    def run(self, *words, before=(), **env):
-        """Its status, and what it says."""
-        done = subprocess.run([*before, self.path, *words], stdout=subprocess.PIPE, stderr=subprocess.STDOUT, text=True, check=False, env={**os.environ, **env})
-        return done.returncode, done.stdout
-
-
-def echoing(word):
-    write("build.ninja", f"rule c\n  command = echo {word} > out\nbuild out: c\n")
-
-
-def touching(*names):
-    write("build.ninja", "rule c\n  command = touch $out\n" + "".join(f"build {it}: c\n" for it in names))
-
-
-def making(text):
-    """A manifest of commands that `die` kills with Ninja when they have run, that `fail` fails then, and that `hang` holds before they end."""
-    more = "(test ! -e die || kill -9 $$PPID) && test ! -e fail && (test ! -e hang || (touch held; sleep 60))"
-    write("build.ninja", f"more = {more}\n{text}")
-
-
-def tagged(word):
-    making(f"rule c\n  command = echo {word} > out && $more\nbuild out: c\n")
-
-
-def entries_of(name):
-    """The lines of an output: their start, end, time stamp and hash."""
-    lines = [it.split(b"\t") for it in (read(LOG) or b"").split(b"\n")[1:-1]]
-    return [(int(it[0]), int(it[1]), int(it[2]), int(it[4], 16)) for it in lines if len(it) == 5 and it[3] == name.encode()]
-
-
-def is_intent(entry):
-    return entry[0] == entry[1] and entry[2] == 0
-
-
-def kinds_of(name):
-    """The lines of an output, as `intent` or `record`."""
-    return ["intent" if is_intent(it) else "record" for it in entries_of(name)]
-
-
-def with_file(name, call):
-    """Makes a call while a file is there."""
-    write(name, "")
-    answer = call()
-    os.remove(name)
-    return answer
-
-
-def names_in(text):
-    return [it.split(b"\t")[3] for it in (text or b"").split(b"\n")[1:-1] if it.count(b"\t") == 4]
 
 
 def try_torn(trial, ninja, header, is_plain):
@@ -128,15 +69,6 @@ def try_full_disk(trial, ninja, header, is_plain):
         os.chdir(ninja.folder)
         subprocess.run(["umount", "full"], check=False)
     return None
-
-
-def long_log(header):
-    gone = b"".join(b"1\t2\t3\tgone/obj/some/long/name/of/an/output%d.o\tabc\n" % (it % 90) for it in range(9000))
-    return header + b"1\t2\t3\ta\taa\n" + gone + b"1\t2\t3\tz\tbb\n"
-
-
-def traced(*words):
-    return ["strace", "-f", "-o", "/dev/null", *words]
 
 
 def try_read_error(trial, ninja, header, is_plain):
@@ -214,19 +146,6 @@ def try_failed(trial, ninja, header, is_plain):
     trial.want("failed: twice: no line more", len(entries_of("out")), count)
 
 
-def interrupted(ninja):
-    """Interrupts a build whose command hangs: its status."""
-    write("hang", "")
-    child = subprocess.Popen([ninja.path], stdout=subprocess.DEVNULL, stderr=subprocess.DEVNULL)
-    while not os.path.exists("held"):
-        time.sleep(0.01)
-    child.send_signal(signal.SIGINT)
-    os.remove("hang")
-    status = child.wait()
-    os.remove("held")
-    return status
-
-
 def try_interrupted(trial, ninja, header, is_plain):
     """A build that is interrupted removes the outputs that a command wrote; the others it leaves."""
     tagged("A")
@@ -287,6 +206,71 @@ def try_plain(trial, ninja, header):
     os.utime("a", (-5, -5))
     ninja.run("-t", "restat", "a")
     trial.check("plain: a time before 1970 is negative", b"\t-5000000000\ta\t" in read(LOG), repr(read(LOG)))
+
+
+def try_distrusted(trial, ninja, header):
+    """A and B by plain Ninja, of which B's line is torn; then A at once, or behind lines that plain Ninja wrote behind the torn one."""
+    plain = Builder([ninja.plain], ninja.folder)
+
+    def described(word, other="x"):
+        write("build.ninja", f"rule c\n  command = echo $word > $out\nbuild out: c\n  word = {word}\nbuild other: c\n  word = {other}\n")
+
+    def tear():
+        for it in (LOG, "out", "other"):
+            if os.path.exists(it):
+                os.remove(it)
+        for word in "AB":
+            described(word)
+            plain.run("-j1")
+        write(LOG, read(LOG)[:-6])
+
+    def tear_at_end():
+        tear()
+        described("A")
+
+    def join_its_own():
+        tear()
+        plain.run()
+        described("A")
+
+    def join_another():
+        tear()
+        described("A", "y")
+        plain.run("other")
+
+    def is_whole():
+        return read(LOG).startswith(header) and read(LOG).endswith(b"\n") and all(it.count(b"\t") == 4 for it in read(LOG).split(b"\n")[1:-1])
+
+    for name, make in (("at the end", tear_at_end), ("its own line behind it", join_its_own), ("another's behind it", join_another)):
+        make()
+        text, other = read(LOG), b"y\n" if make == join_another else b"x\n"
+        trial.want(f"distrusted: {name}: it is damaged, and B stands", (is_whole(), read("out")), (False, b"B\n"))
+        trial.check(f"distrusted: {name}: -n says so", "command line not found in log for out" in ninja.run("-n", "-d", "explain")[1])
+        trial.want(f"distrusted: {name}: the log after -n", read(LOG), text)
+        trial.want(f"distrusted: {name}: A after that", (ninja.run()[0], read("out"), read("other")), (0, b"A\n", other))
+        trial.want(f"distrusted: {name}: the log is whole, with both", (is_whole(), sorted(names_in(read(LOG)))), (True, [b"other", b"out"]))
+        trial.want(f"distrusted: {name}: then", ninja.run(), (0, IDLE))
+        for word in ("recompact", "restat"):
+            make()
+            names = [] if make == join_another else [b"other"]
+            trial.want(f"distrusted: {name}: -t {word}", (ninja.run("-t", word)[0], is_whole(), names_in(read(LOG))), (0, True, names))
+            trial.want(f"distrusted: {name}: A after -t {word}", (ninja.run()[0], read("out")), (0, b"A\n"))
+        # A kill at each call that changes the log, or makes it durable.
+        kills = 0
+        for call, when in itertools.product(["fsync", "ftruncate", "renameat", "unlinkat", "fchmod", "write"], range(1, 8)):
+            make()
+            before = traced("-P", LOG, "-P", f"{LOG}.recompact", "-P", ".", "-e", f"trace={call}", "-e", f"inject={call}:signal=SIGKILL:when={when}")
+            if ninja.run(before=before)[0] == 0:
+                continue
+            kills += 1
+            trial.want(f"distrusted: {name}: A after a kill at {call} {when}", (ninja.run()[0], read("out")), (0, b"A\n"))
+        trial.check(f"distrusted: {name}: kills", kills > 6, kills)
+    touching("out", "other")
+    ninja.run()
+    # A line that names no output.
+    write(LOG, read(LOG) + b"1\t2\t3\tnobody\n")
+    text = read(LOG)
+    trial.want("distrusted: none: there is nothing to do", (ninja.run(), read(LOG)), ((0, IDLE), text))
 
 
 def try_restat_rule(trial, ninja, header):
@@ -564,6 +548,41 @@ def try_idle(trial, ninja, header):
     os.chmod(LOG, 0o644)
 
 
+def try_calls(trial, ninja, header):
+    """An edge of many outputs is recorded by one write, and its intents by one; a build of a generator's edges reads the log once."""
+    def calls(text, before=b""):
+        write("build.ninja", text)
+        write(LOG, header + before)
+        trial.want("calls: a build", ninja.run("-j1", before=["strace", "-f", "-o", "calls", "-P", LOG, "-e", "trace=write,pread64,flock"])[0], 0)
+        found = [it.split("(")[0].split()[-1] for it in read("calls").decode().splitlines() if "(" in it]
+        return [found.count(it) for it in ("write", "pread64", "flock")]
+
+    many = " ".join(f"o{it}" for it in range(200))
+    lines = b"".join(b"1\t2\t3\to%d\taa\n" % it for it in range(200))
+    trial.want("calls: the records of 200 outputs", calls(f"rule c\n  command = : $out\nbuild {many}: c\n")[0], 1)
+    trial.want("calls: their intents and their records", calls(f"rule c\n  command = : $out\nbuild {many}: c\n", lines)[0], 2)
+    trial.want("calls: the lines", len(names_in(read(LOG))), 600)
+    long = b"".join(b"1\t2\t3\tx%d\taa\n" % it for it in range(40000))
+    rule = "rule c\n  command = touch $out\n  generator = 1\n"
+    one, ten = (calls(rule + "".join(f"build g{count}.{it}: c\n" for it in range(count)), long) for count in (1, 10))
+    trial.want("calls: reads of the log, where 1 and 10 edges of a generator run", (one[1], ten[0]), (ten[1], 10))
+    trial.want("calls: locks", (one[2], ten[2]), (4, 40))
+
+
+def try_foreseen(trial, ninja, header):
+    """How much of its time 1.13.2 takes for gone goes by the last run of each command; one that began and has no record counts nothing."""
+    if header[-2:-1] != b"7":
+        return
+    write("build.ninja", "rule c\n  command = sleep 0.2; touch $out\nbuild a: c\nbuild b: c\n")
+    for more, least, most in ((b"", 0, 5), (b"7\t7\t0\tb\tcc\n", 40, 60)):
+        for it in "ab":
+            if os.path.exists(it):
+                os.remove(it)
+        write(LOG, header + b"".join(b"0\t100000\t5\t%c\taa\n" % it for it in b"ab") + more)
+        said = ninja.run("-j1", NINJA_STATUS="[%P] ")[1]
+        trial.check(f"foreseen, behind {more!r}: the first of two", least <= int(said.split("%")[0].strip("[ ")) <= most, said)
+
+
 def try_kill_in_a_build(trial, ninja, header):
     """Killed while it builds, what it recorded stands, and no lock is left."""
     write("build.ninja", "rule c\n  command = touch $out\nrule d\n  command = kill -9 $$PPID; sleep 1\nbuild a: c\nbuild b: d a\n")
@@ -577,7 +596,7 @@ def try_kill_in_a_build(trial, ninja, header):
 
 def try_inner(trial, ninja, header):
     """A command that runs Ninja in the same folder, on another output."""
-    write("build.ninja", f"rule c\n  command = touch $out\nrule d\n  command = '{ninja.path}' c && touch $out\nbuild a: c\nbuild b: d a\nbuild c: c\nbuild e: c b\ndefault e\n")
+    write("build.ninja", f"rule c\n  command = touch $out\nrule d\n  command = '{ninja.command[0]}' c && touch $out\nbuild a: c\nbuild b: d a\nbuild c: c\nbuild e: c b\ndefault e\n")
     status, said = ninja.run()
     trial.want("a build in a build: ends", status, 0)
     trial.want("a build in a build: the log", names_in(read(LOG)), [b"a", b"c", b"b", b"e"])
@@ -588,7 +607,7 @@ def try_two(trial, ninja, header):
     """Two builds in one folder at once."""
     write("build.ninja", "rule c\n  command = touch $out\n" + "".join(f"build {side}{it}: c\n" for side in "ab" for it in range(150))
           + "".join(f"build {side}: phony " + " ".join(f"{side}{it}" for it in range(150)) + "\n" for side in "ab"))
-    both = [subprocess.Popen([ninja.path, "-j2", it], stdout=subprocess.DEVNULL) for it in "ab"]
+    both = [subprocess.Popen([*ninja.command, "-j2", it], stdout=subprocess.DEVNULL) for it in "ab"]
     trial.want("two builds at once: both end", [it.wait() for it in both], [0, 0])
     trial.want("two builds at once: the log", sorted(names_in(read(LOG))), sorted(f"{side}{it}".encode() for side in "ab" for it in range(150)))
     trial.want("two builds at once: nothing is left to do", ninja.run(), (0, IDLE))
@@ -613,14 +632,14 @@ def try_locked(trial, ninja, header):
     trial.want("once it is free: the log", names_in(read(LOG)), [b"a", b"b"])
 
 
-OTHERWISE = [try_restat_rule, try_outputs, try_generator, try_no_intent, try_due, try_syncs, try_order, try_torn_header, try_permissions, try_damaged, try_other_versions, try_no_log, try_names, try_early_time, try_idle, try_kill_in_a_build, try_inner, try_two, try_locked]
+OTHERWISE = [try_distrusted, try_restat_rule, try_outputs, try_generator, try_no_intent, try_due, try_syncs, try_order, try_torn_header, try_permissions, try_damaged, try_other_versions, try_no_log, try_names, try_early_time, try_idle, try_calls, try_foreseen, try_kill_in_a_build, try_inner, try_two, try_locked]
 
 
 def main(plain, patched):
     trial = Trials(__file__)
     room = os.path.realpath(tempfile.mkdtemp())
     try:
-        look = Ninja(plain, f"{room}/look")
+        look = Builder([plain], f"{room}/look")
         touching("a")
         look.run()
         header = read(LOG).split(b"\n")[0] + b"\n"
@@ -631,14 +650,16 @@ def main(plain, patched):
                 continue
             for which, path in (("plain", plain), ("patched", patched)):
                 before = trial.failed
-                part(trial, Ninja(path, f"{room}/{name}-{which}"), header, which == "plain")
+                part(trial, Builder([path], f"{room}/{name}-{which}"), header, which == "plain")
                 print(f"{name}: {which}: {'FAILED' if trial.failed > before else 'the fault is there' if which == 'plain' else 'the fault is gone'}")
-        try_plain(trial, Ninja(plain, f"{room}/plain"), header)
+        try_plain(trial, Builder([plain], f"{room}/plain"), header)
         for at, part in enumerate(OTHERWISE):
-            if part in (try_idle, try_syncs) and not has_strace:
+            if part in (try_distrusted, try_calls, try_idle, try_syncs) and not has_strace:
                 print(f"skipped: {part.__name__}: nothing can be traced")
                 continue
-            part(trial, Ninja(patched, f"{room}/{at}"), header)
+            ninja = Builder([patched], f"{room}/{at}")
+            ninja.plain = plain
+            part(trial, ninja, header)
     finally:
         os.chdir("/")
         shutil.rmtree(room, ignore_errors=True)
