@@ -1,6 +1,6 @@
 #!/usr/bin/env bash
 # The test command of README.md: the gate, the edits that it must refuse, and then the trials of tests/ on the program that it built.
-# Each part ends in a line 'N passed, M failed'; the last line is their sum. NLOG_NINJA_SOURCES=FOLDER tries Ninja on the library for C too.
+# Each part ends in a line 'N passed, M failed'; the last line is their sum. NLOG_NINJA_SOURCES=FOLDER tries Ninja and samurai on the library for C too.
 set -uo pipefail
 cd "$(dirname "$0")"
 
@@ -91,6 +91,13 @@ for version in 1.11.1 1.13.2; do
         echo "test.sh: skipped: integrations/ninja/try.sh $version (NLOG_NINJA_SOURCES names no folder that has ninja-$version)"
     fi
 done
+
+# And samurai, of which muon has one within.
+if [[ -n ${NLOG_NINJA_SOURCES-} && -e $NLOG_NINJA_SOURCES/muon-0.4.0 ]]; then
+    part integrations/samurai/try.sh "$NLOG_NINJA_SOURCES"
+else
+    echo "test.sh: skipped: integrations/samurai/try.sh (NLOG_NINJA_SOURCES names no folder that has muon-0.4.0)"
+fi
 
 # What it cost: the clock, and the processor time of all that it started, user and system.
 times > "$room/times"

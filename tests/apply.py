@@ -13,7 +13,8 @@ import sys
 import threading
 import time
 
-from log_format import as_version, command_hash, command_hash_v7
+from log_format import as_version, command_hash, command_hash_v7, line_of
+from log_lines import distrusted_of
 from trials import main, read, run, write
 
 BUILD = f"{os.path.dirname(os.path.dirname(os.path.abspath(__file__)))}/examples/build.py"
@@ -21,6 +22,8 @@ HEADER = b"# ninja log v5\n"
 A, B = b"1\t2\t3\ta\taa\n", b"4\t5\t6\tb\tbb\n"
 LONGEST = b"1\t2\t3\t" + b"n" * 65536 + b"\taa\n"
 KEPT = b"recompact\ta" + b"".join(b"\t" + it * 65536 for it in (b"x", b"y", b"z")) + b"\t" + b"w" * 65520
+# A line that was torn behind its name, and the next one joined to it.
+JOINED = b"7\t8\t9\ta\tc4\t5\t6\tb\tcc\n"
 LONG = b"get\t" + b"x" * 262140
 # A line of 262,143 bytes that begins a command, with one output that has an entry.
 MOST = b"begin\t7\tab\ta\tcc" + b"\tb" * 131064
@@ -77,11 +80,31 @@ TURNS = [
     # What is no moment, no hash in its one spelling, and no name.
     (HEADER + A, b"open\nbegin\nbegin\t\nbegin\t7\tab\nbegin\t7\tab\t\nbegin\t07\tab\ta\nbegin\t7\tAB\ta\nbegin\t7\t0ab\ta\nbegin\t2147483648\tab\ta\nbegin\t7\tab\ta\t\n",
      b"ok\n" + b"bad line\n" * 9, 0, b"", HEADER + A),
+    # What can't be trusted is told of a closed log alone, and nothing is changed: behind the open nothing tells of it.
+    (HEADER + A + B + b"7\t8\t9\ta", b"distrusted\ndistrusted\n", (A + b"end\n") * 2, 0, b"", HEADER + A + B + b"7\t8\t9\ta"),
+    (HEADER + A + B + b"7\t8\t9\ta", b"distrusted\nopen\ndistrusted\nget\ta\nstop\ndistrusted\nget\ta\n",
+     A + b"end\nok\nS2 AlreadyOpen\n" + A + b"ok\nend\nS1 NotOpen\n", 0, b"", HEADER + A + B),
+    # Of a joined line both outputs, in its order; none of which an entry follows, and none that has no entry.
+    (HEADER + B + A + JOINED, b"distrusted\nopen\nstop\ndistrusted\n", A + B + b"end\nok\nok\n" + A + B + b"end\n", 0, b"", HEADER + B + A + JOINED),
+    (HEADER + B + A + JOINED + A, b"distrusted\n", B + b"end\n", 0, b"", HEADER + B + A + JOINED + A),
+    (HEADER + B + JOINED, b"distrusted\n", B + b"end\n", 0, b"", HEADER + B + JOINED),
+    (HEADER + JOINED + A + B, b"distrusted\n", b"end\n", 0, b"", HEADER + JOINED + A + B),
+    # The older entry stands behind more bytes than are asked for at a time, and so does the line; the longest name.
+    (HEADER + A + B * 90000 + b"7\t8\t9\ta\tc", b"distrusted\n", A + b"end\n", 0, b"", HEADER + A + B * 90000 + b"7\t8\t9\ta\tc"),
+    (HEADER + LONGEST + LONGEST[:-3], b"distrusted\n", LONGEST + b"end\n", 0, b"", HEADER + LONGEST + LONGEST[:-3]),
+    # A whole log, none yet, one that is torn within its first line, and what is no log.
+    (HEADER + A, b"distrusted\nopen\nget\ta\n", b"end\nok\n" + A, 0, b"", HEADER + A),
+    (None, b"distrusted\n", b"end\n", 0, b"", b""),
+    (b"# ninja lo", b"distrusted\n", b"end\n", 0, b"", b"# ninja lo"),
+    (b"hello\n", b"distrusted\nopen\n", b"S5 NotALog\n" * 2, 0, b"", b"hello\n"),
+    (b"# ninja log v8\n" + A, b"distrusted\nopen\n", b"S6 OtherVersion\n" * 2, 0, b"", b"# ninja log v8\n" + A),
+    # Of version 4 the command's hash is that of its text.
+    (b"# ninja log v4\n" + A + b"7\t8\t9\ta", b"distrusted\n", b"1\t2\t3\ta\t%x\nend\n" % command_hash(b"aa"), 0, b"", b"# ninja log v4\n" + A + b"7\t8\t9\ta"),
     # A line that is cut off is not done, however it looks.
     (HEADER, b"open\nrecord\t1\t2\t3\ta\taa", b"ok\nbad line\n", 0, b"", HEADER),
     (HEADER, b"open\nget\ta", b"ok\nbad line\n", 0, b"", HEADER),
 ]
-BAD = [b"", b"opens", b"open\t", b"open\t\t", b"get", b"gets\ta", b"table\t", b"table\ta", b"sync\t", b"stop\ta", b"crash", b"writes\t1", b"fates\t1", b"tails\t1",
+BAD = [b"", b"opens", b"open\t", b"open\t\t", b"get", b"gets\ta", b"table\t", b"table\ta", b"distruste", b"distrusted\t", b"distrusted\ta", b"sync\t", b"stop\ta", b"crash", b"writes\t1", b"fates\t1", b"tails\t1",
        b"fuse\tany\t1", b"record", b"record\t1\t2\t3\ta", b"record\t01\t2\t3\ta\taa", b"record\t1\t2\t3\t\taa", b"restat\t1", b"restat\tx\ta", b"recompact\t", b" sync"]
 
 
@@ -195,6 +218,57 @@ def hashes(trials, program, room):
         trials.want(f"the hashes of a log of version {version}", apply(program, log, lines), (0, said, b""))
 
 
+def distrusts(trials, program, room):
+    """What can't be trusted of damaged logs of each version, before an open and behind it; what stands then, by the definition of it."""
+    chance, log, told, cut = random.Random(29), f"{room}/distrusted.log", 0, 0
+    for i in range(400):
+        version = 4 + i % 4
+        parts = [line_of(b"out%d" % chance.randrange(9), (chance.randrange(99), chance.randrange(99), chance.randrange(-9, 99), chance.randrange(2**64))) for _ in range(9)]
+        for at in range(len(parts)):
+            if chance.random() < 0.4:
+                low, high = sorted(chance.randrange(len(parts[at]) + 1) for _ in range(2))
+                parts[at] = chance.choice([parts[at][:high], parts[at][low:], parts[at][:low] + parts[at][high:], parts[at] + b"\n", parts[at].replace(b"\t", b"\0", 1)])
+        text = b"# ninja log v%d\n" % version + b"".join(parts)
+        write(log, text)
+        before = distrusted_of(text)
+        trials.want(f"what can't be trusted of {text!r}", apply(program, log, b"distrusted\n"), (0, before + b"end\n", b""))
+        trials.want("the log that told it", read(log), text)
+        trials.want(f"the open of {text!r}", apply(program, log, b"distrusted\nopen\nstop\n"), (0, before + b"end\nok\nok\n", b""))
+        behind = distrusted_of(read(log))
+        trials.want(f"what can't be trusted then of {text!r}", apply(program, log, b"distrusted\n"), (0, behind + b"end\n", b""))
+        told, cut = told + before.count(b"\n"), cut + (behind != before)
+    trials.check("many outputs can't be trusted", told > 100, str(told))
+    trials.check("many opens leave nothing that tells it", cut > 20, str(cut))
+
+
+def joined_writers(trials, program, room):
+    """A writer that begins no command is cut off within the last field of a line, and the line of the next one may be joined to it. A client that
+    asks and removes these files builds on none of theirs; one that doesn't ask does. Then it comes back to the commands of before."""
+    log, names = f"{room}/joined.log", [b"out%d" % i for i in range(6)]
+    for asks in (True, False):
+        stale = 0
+        for seed in range(60):
+            chance = random.Random(seed)
+            files, text = dict.fromkeys(names, "A"), HEADER + b"".join(line_of(name, (1, 2, 3, 0xA)) for name in names)
+            first, *others = chance.sample(names, 4)
+            line = line_of(first, (4, 5, 6, 0xB))
+            files[first] = "B"
+            text += line[: chance.randint(line.rindex(b"\t") + 1, len(line) - 1)]
+            for name in others[: chance.randrange(4)]:
+                files[name] = "B"
+                text += line_of(name, (7, 8, 9, 0xB))
+            write(log, text)
+            if asks:
+                *gone, end = apply(program, log, b"distrusted\n")[1].splitlines()
+                trials.want("the end of what is told", end, b"end")
+                for it in gone:
+                    del files[it.split(b"\t")[3]]
+            opened, *entries = apply(program, log, b"open\n" + b"".join(b"get\t" + it + b"\n" for it in names))[1].splitlines(True)
+            trials.want("its open", opened, b"ok\n")
+            stale += sum(files.get(name) == "B" and it == line_of(name, (1, 2, 3, 0xA)) for name, it in zip(names, entries))
+        trials.check(f"stale outputs of a client that {'asks' if asks else 'asks nothing'}", (stale == 0) == asks, str(stale))
+
+
 def asked(trials, program, room):
     """A log that is new, or has no whole first line, is made one of the version that is asked for; one of another is refused, and stays."""
     log = f"{room}/asked.log"
@@ -212,9 +286,9 @@ def asked(trials, program, room):
         for other in (4, 5, 6, 7, 8):
             if other != version and (version, other) != (5, 4):
                 held = b"# ninja log v%d\n" % other + A
-                said = b"S6 OtherVersion\n" + b"S1 NotOpen\n" * 3 + b"S6 OtherVersion\nS1 NotOpen\n"
+                said = b"S6 OtherVersion\n" + b"S1 NotOpen\n" * 3 + b"S6 OtherVersion\nS1 NotOpen\nS6 OtherVersion\n"
                 write(log, held)
-                trials.want(f"the answers over version {other} where {version} is asked for", apply(program, log, lines, f"--log-version={version}"), (0, said, b""))
+                trials.want(f"the answers over version {other} where {version} is asked for", apply(program, log, lines + b"distrusted\n", f"--log-version={version}"), (0, said, b""))
                 trials.want(f"the log of version {other} where {version} is asked for", read(log), held)
     four = b"# ninja log v4\n" + A
     for words in ([], ["--log-version=5"], ["--log-version=auto"]):
@@ -417,6 +491,8 @@ def trial(trials, program, room):
     odd_names(trials, program, room)
     versions(trials, program, room)
     hashes(trials, program, room)
+    distrusts(trials, program, room)
+    joined_writers(trials, program, room)
     asked(trials, program, room)
     reopened(trials, program, room)
     prompt(trials, program, room)

@@ -77,6 +77,8 @@ SCRIPT = [
     (b"table\n", dict, lambda table: lines_of(table) + b"end\n"),
     (b"record\t" + line_of(*Z), add(Z), lambda table: b"ok\n"),
     (b"stop\n", dict, lambda table: b"ok\n"),
+    # The open cut what was torn.
+    (b"distrusted\n", dict, lambda table: b"end\n"),
 ]
 
 
@@ -112,12 +114,13 @@ def read_answers(kind, out):
     while count < len(SCRIPT) and out.startswith(kind.answers[count]):
         out = out[len(kind.answers[count]) :]
         count += 1
-    refusals = out.split(b"\n")
+    # Where a line was refused the last one may tell what can't be trusted, as of a log that was never opened.
+    refusals = re.sub(rb"\A(S\d \w+\n(?:S\d \w+\n|ok\n)*)(?:[^\n]*\t[^\n]*\n)*end\n\Z", rb"\1", out).split(b"\n")
     if refusals.pop():
         # A kill between two writes of one answer leaves the first of its bytes.
         return count, "" if count < len(SCRIPT) and kind.answers[count].startswith(out) else f"it answered {out!r}"
     # A log that is broken is stopped all the same.
-    stopped = len(SCRIPT) - 1 - count
+    stopped = len(SCRIPT) - 2 - count
     wrong = [it for at, it in enumerate(refusals) if it not in REFUSED and not (at == stopped > 0 and it == b"ok")]
     if wrong and not (count < len(SCRIPT) and kind.answers[count].startswith(out)):
         return count, f"it answered {out!r}"
@@ -161,7 +164,8 @@ def disturbed(program, kind, room, how, call):
 def stop_syncs(trials, kind, calls):
     """What was recorded last is synced before the `stop` behind it is answered."""
     recorded = max((at for at, call in enumerate(calls) if re.match(r"write\(\d+<[^>]*/LOG>", call)), default=0)
-    answered = max((at for at, call in enumerate(calls) if call.startswith("write(1<")), default=0)
+    # Behind it comes one answer more.
+    answered = [0, 0, *(at for at, call in enumerate(calls) if call.startswith("write(1<"))][-2]
     synced = [at for at, call in enumerate(calls) if re.match(r"f(data)?sync\(\d+<[^>]*/LOG>", call)]
     trials.check(f"{kind.name}: a stop syncs before it is answered", any(recorded < at < answered for at in synced), f"{recorded}, {synced}, {answered}")
 

@@ -1,13 +1,13 @@
 #!/usr/bin/env python3
-"""Damaged and hostile logs: what `show`, `check`, `entries`, `damage`, `builds`, `summary` and `hash-file` say of each, whole and in pieces of one byte.
+"""Damaged and hostile logs: what `show`, `check`, `entries`, `damage`, `builds`, `summary`, `compare`, `trace`, `picture` and `hash-file` say of each, whole and in pieces of one byte.
 
     python3 tests/damaged.py PROGRAM
 
 Each text is read from a file, and from standard input in pieces of one byte (those of a text of more than 70,000 bytes are longer between
 its first 1,000 bytes and its last): that is one end of a pair of sockets, on which a piece is sent when the one before was read, so that no
 read gives more. The end of the text is the end of what is sent. Both ways have to give the same: literal answers,
-taken from docs/FORMAT.md and docs/CLI.md, and where each byte of a log is replaced those of `log_format`; what `entries`, `damage`, `builds`
-and `summary` print is that of `log_lines` beside. Each text is read once more as a log of version 6 or 7, its digit changed, by words that are asked for it,
+taken from docs/FORMAT.md and docs/CLI.md, and where each byte of a log is replaced those of `log_format`; what `entries`, `damage`, `builds`,
+`summary`, `trace` and `picture` print is that of `log_lines` beside. Each text is read once more as a log of version 6 or 7, its digit changed, by words that are asked for it,
 and by words that go by its first line. At last come names that collide in the table, which `bench/colliding_log.py` finds: they cost time,
 and change no answer.
 """
@@ -22,7 +22,7 @@ import termios
 import threading
 
 from log_format import Log, as_version, command_hash, reading_of
-from log_lines import builds_of, damage_of, entries_of, named_first, summary_of
+from log_lines import builds_of, compare_of, damage_of, entries_of, named_first, picture_of, summary_of, trace_of
 from trials import SECONDS, main, read, run, short, write
 
 BENCH = f"{os.path.dirname(os.path.dirname(os.path.abspath(__file__)))}/bench"
@@ -302,7 +302,7 @@ class Readings:
     """Reads texts by the program in each way."""
 
     def __init__(self, trials, program, room):
-        self.trials, self.program, self.file = trials, program, f"{room}/LOG"
+        self.trials, self.program, self.file, self.other = trials, program, f"{room}/LOG", f"{room}/OTHER"
         self.pieces = hasattr(socket, "SOCK_SEQPACKET")
         if not self.pieces:
             trials.skip("pieces of one byte", "there are no sockets of the kind SOCK_SEQPACKET here")
@@ -316,6 +316,20 @@ class Readings:
     def want(self, what, text, shown, checked):
         """Tries `show` and `check` on a text, given to what a command prints or to how it ends, and the words that keep no table."""
         self.want_each(what, text, {"show": shown, "check": checked, **answers_through(text)})
+        self.want_compared(what, text)
+
+    def want_compared(self, what, text):
+        """Tries `compare` of a log and the text, and of the text and that log; and the text as one of version 7, whose hashes are others."""
+        write(self.other, OTHER)
+        for bytes_read in (text, as_version(text, 7)):
+            write(self.file, bytes_read)
+            version = named(bytes_read)
+            seen = as_version(bytes_read, version)
+            reading = reading_of(seen)
+            for at, both in enumerate([(OTHER, seen), (seen, OTHER)]):
+                wanted = (0, compare_of(*both, version != 7), b"") if reading == "log" else (1, b"", b"nlog: " + reading.encode() + b"\n")
+                paths = (self.file, self.other) if at else (self.other, self.file)
+                self.trials.want(f"{what}, as of version {version}: compare {'to' if at else 'from'} another", run([self.program, "compare", *paths]), wanted)
 
     def want_each(self, what, text, answers):
         write(self.file, text)
@@ -399,6 +413,16 @@ def answers_of(text):
     return log.shown(), log.report()
 
 
+# A log that texts are compared with.
+OTHER = b"# ninja log v5\n1\t9\t3\tx\taa\n2\t2\t0\ty\t1\n1\t2\t3\ta\taa\n1\t5\t3\tb\tbb\n0\t7\t3\tother\tcc\n"
+
+
+def named(text):
+    """The version by which a word goes that looks at the first line."""
+    found = [version for version in (6, 7) for line in [b"# ninja log v%d\n" % version] if text.startswith(line) or text == line[:-1]]
+    return found[0] if found else 5
+
+
 def found(told):
     """How `damage` ends that prints this."""
     return (3 if told else 0, told, b"")
@@ -410,9 +434,9 @@ def answers_through(text):
     hashed = b"%x\n" % command_hash(text)
     if reading != "log":
         refusal = (1, b"", b"nlog: " + reading.encode() + b"\n")
-        return {"entries": refusal, "damage": refusal, "builds": refusal, "summary": refusal, "hash-file": hashed}
+        return {"entries": refusal, "damage": refusal, "builds": refusal, "summary": refusal, "trace": refusal, "picture": refusal, "hash-file": hashed}
     told = {"entries": entries_of(text), "damage": found(damage_of(text)), "builds": builds_of(text)}
-    return {**told, "summary": summary_of(text), "hash-file": hashed}
+    return {**told, "summary": summary_of(text), "trace": trace_of(text), "picture": picture_of(text), "hash-file": hashed}
 
 
 def try_damage(readings):

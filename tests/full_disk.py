@@ -5,8 +5,8 @@
 
 Wants the right to mount a tmpfs, at least in a name space of its own (unshare). Each command has to end with `nlog: the folder
 failed` and status 1, `check` still reads all that the log held, and once there is room the same command does its work. So
-does the repair that README.md names. And the scripts of docs/RECIPES.md and docs/DAMAGE.md, as they stand there: where the disk of their own files is
-full at first, or after some of them, the log stays as it was.
+does the repair that README.md names. So do the words that ask the files of the outputs. And the scripts of docs/DAMAGE.md, as they stand
+there: where the disk of their own files is full at first, or after some of them, the log stays as it was.
 """
 import os
 import re
@@ -88,23 +88,44 @@ REPAIRS = {
     "a log of version 4": b"# ninja log v4\n1\t2\t3\ta\tcc\tx\n4\t5\t6\tb\t\n",
 }
 
-# By docs/RECIPES.md and docs/DAMAGE.md, in a folder with the files `a` and `b`, where Ninja has an edge for `edge`: what each script leaves of a log.
+# By docs/DAMAGE.md, in a folder with the files `a` and `b`, where Ninja has an edge for `edge`: what each script leaves of a log.
 LONG = (b"n" * 3000, (1, 2, 3, 4))
 PART = b"3\t4\t2"
 JOINED = HEADER + line_of(*LONG) + line_of(b"a", (1, 2, 10, 0xAA)) + PART + line_of(b"a", (5, 6, 30, 0xBB)) + line_of(b"edge", (1, 2, 3, 4))
 WHOLE = JOINED.replace(PART, b"")
 SCRIPTS = {
-    "recompact.sh": (WHOLE, text_of({b"a": (5, 6, 30, 0xBB), b"edge": (1, 2, 3, 4)})),
-    "restat.sh": (WHOLE, text_of(dict([LONG, (b"a", (5, 6, 1_700_000_000_000_000_000, 0xBB)), (b"edge", (1, 2, 3, 4))]))),
     "mend.sh": (JOINED, text_of(dict([LONG, (b"a", (1, 2, 10, 0xAA)), (b"edge", (1, 2, 3, 4))]))),
     "forget.sh": (JOINED, text_of(dict([LONG, (b"edge", (1, 2, 3, 4))]))),
 }
 
 
+# What the words that ask the files leave of WHOLE, in such a folder.
+SETTLED = {
+    # A name that the system can't look up stays, as in Ninja.
+    "--manifest": text_of(dict([LONG, (b"a", (5, 6, 30, 0xBB)), (b"edge", (1, 2, 3, 4))])),
+    "--files": text_of(dict([LONG, (b"a", (5, 6, 1_700_000_000_000_000_000, 0xBB)), (b"edge", (1, 2, 3, 4))])),
+}
+
+
+def try_settled(trials, program, disk, room, option):
+    """A log on a full disk stays as it was, and once there is room the same command does its work."""
+    words = [program, *(["recompact", f"{disk}/LOG", option, "targets"] if option == "--manifest" else ["restat", f"{disk}/LOG", option])]
+    write(f"{room}/targets", b"target: cc\nedge: cc\n")
+    write(f"{disk}/LOG", WHOLE)
+    fill_up(f"{disk}/fill")
+    trials.want(f"{option} on a full disk: ends", run(words, cwd=room), (1, b"", FAILED))
+    trials.want(f"{option} on a full disk: the log", read(f"{disk}/LOG"), WHOLE)
+    os.remove(f"{disk}/fill")
+    trials.want(f"{option}: ends once there is room", run(words, cwd=room), (0, b"", b""))
+    trials.want(f"{option}: the log once there is room", read(f"{disk}/LOG"), SETTLED[option])
+    trials.want(f"{option}: what is there", os.listdir(disk), ["LOG"])
+    os.remove(f"{disk}/LOG")
+
+
 def try_script(trials, program, disk, room, name):
     """A script whose own files find no room, room for some of them, or for all: the log stays, or all is done."""
     start, left = SCRIPTS[name]
-    write(f"{room}/{name}", {**read_page("docs/RECIPES.md")[0], **read_page("docs/DAMAGE.md")[0]}[name])
+    write(f"{room}/{name}", read_page("docs/DAMAGE.md")[0][name])
     path = f"{room}/bin:{os.path.dirname(program)}:{os.environ.get('PATH', os.defpath)}"
     stopped = done = 0
     for pages in range(PAGES + 1):
@@ -128,6 +149,8 @@ def try_scripts(trials, program, disk, room):
     for name in ("a", "b"):
         write(f"{room}/{name}", b"")
         os.utime(f"{room}/{name}", ns=(0, 1_700_000_000_000_000_000))
+    for option in SETTLED:
+        try_settled(trials, program, disk, room, option)
     for name in SCRIPTS:
         try_script(trials, program, disk, room, name)
 

@@ -28,7 +28,7 @@ RECORD = re.compile(r"^pub record (\w+).*\n(?:    .*\n)*((?:  (?:pub|  |--).*\n)
 FIELD = re.compile(r"^  pub (\w+) :", re.MULTILINE)
 
 # The crates with relations of calls in specs/Calls, and the records there that are values and no relations.
-RELATIONS = ("nl_session", "nl_change")
+RELATIONS = ("nl_session", "nl_tool_change")
 VALUES = {"FolderView", "Meaning"}
 
 

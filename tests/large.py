@@ -21,7 +21,7 @@ from functools import partial
 from itertools import chain
 
 from log_format import HEADER, MAX_LINE, MAX_NAME, as_version, command_hash, entry_of, line_of
-from log_lines import PARTS, named_first
+from log_lines import PARTS, drawn, named_first
 from trials import SECONDS, main, run
 
 ENTRIES = 1_000_001
@@ -196,9 +196,51 @@ def listed(by_time, by_weight):
     return b"".join(b"by-%s %d %s %s\n" % it for it in rows)
 
 
+def bar(build, name, command, took, lane, began):
+    """The event that `trace` prints of a command of one output; times are in milliseconds from the first START."""
+    kept = b'"hash":"%x","outputs":["%s"]' % (command, name)
+    return b'{"args":{%s},"dur":%d,"name":"%s","ph":"X","pid":%d,"tid":%d,"ts":%d}' % (kept, took * 1000, name, build, lane, began * 1000)
+
+
+def runs(build, count, at):
+    return b'{"args":{"commands":%d},"name":"running","ph":"C","pid":%d,"ts":%d}' % (count, build, at * 1000)
+
+
+def traced(build, events):
+    """What `trace` prints of a build of these events."""
+    yield b'[{"args":{"name":"build %d"},"name":"process_name","ph":"M","pid":%d}' % (build, build)
+    for it in events:
+        yield b"," + it
+    yield b"]"
+
+
+def many_traced():
+    """Seven run at a time but in the beginning and at the end, and each has the lane of the one that has just ended."""
+    for number in range(ENTRIES):
+        yield bar(1, name_of(number), numbers_of(number)[3], 7, number % 7 + 1, number)
+        yield runs(1, min(number + 1, 7), number)
+        yield runs(1, min(7, ENTRIES - 1 - number), number + 7)
+
+
 # By docs/FORMAT.md: the hash of the command `cc<TAB>x`.
 RECORDED = line_of(b"new", (11, 12, -13, 0x72274E7A30810C7B))
 RECORD = ["--", "11", "12", "-13", "new", "cc\tx"]
+
+
+def slower_lines():
+    """The log of many entries, where each command but a third of them takes 1 or 2 ms more."""
+    for it in range(ENTRIES):
+        start, end, mtime, command = numbers_of(it)
+        yield line_of(name_of(it), (start, end + it % 3, mtime, command))
+
+
+def compared(old, *rows):
+    """What `compare` prints but for its lists, of rows with the class, the count and the sum of the differences, where each took 7 ms."""
+    counts = {kind: (count, apart) for kind, count, apart in rows}
+    yield b"hashes\tcompared\n"
+    for kind in (b"new", b"gone", b"changed", b"slower", b"faster", b"unfinished", b"same"):
+        count, apart = counts.get(kind, (0, 0))
+        yield b"total\t%s\t%d\t%d\t%d\t%d\n" % (kind, count, apart, old * count, old * count + apart)
 
 
 def try_many(trials, program, room):
@@ -220,7 +262,27 @@ def try_many(trials, program, room):
     first = [(7, weight, name_of(it)) for it, weight in enumerate(weights)]
     ends = chain.from_iterable([(7, weight, name_of(it)), (7, weight, name_of(ENTRIES - 1 - it))] for it, weight in enumerate(weights[:5]))
     counts_told = summed(ENTRIES, ENTRIES + 6, 7 * ENTRIES, ENTRIES + 6, 2, b"6.99", 7, name_of(0))
-    large.want_printed("summary", [counts_told, listed(first, ends)])
+    told = [counts_told, listed(first, ends)]
+    large.want_printed("summary", told)
+    for words, wanted in ((["--build", "1"], told), (["--build", "2"], [b"builds 1\n"]), (["--all"], told)):
+        got = streamed([program, "summary", *words, large.log])
+        trials.want(f"{large.what}: summary {' '.join(words)}", got, (0, sum_of(wanted), b""))
+    other = f"{room}/OTHER"
+    make(other, chain([HEADER], slower_lines()))
+    # Of three commands one took as long as before, one 1 ms more, and one 2 ms more: the first of these are told.
+    counts_of = [len(everything[at::3]) for at in range(3)]
+    rows = (b"slower\t2\t7\t9\t%s\n" % name_of(it) for it in range(2, 32, 3))
+    wanted = chain(compared(7, (b"slower", counts_of[1] + counts_of[2], counts_of[1] + 2 * counts_of[2]), (b"same", counts_of[0], 0)), rows)
+    trials.want(f"{large.what}: compare", streamed([program, "compare", large.log, other]), (0, sum_of(wanted), b""))
+    # And each is gone from one that is empty.
+    make(other, [HEADER])
+    rows = (b"gone\t-7\t7\t0\t%s\n" % name_of(it) for it in range(10))
+    wanted = chain(compared(7, (b"gone", ENTRIES, -7 * ENTRIES)), rows)
+    trials.want(f"{large.what}: compare to an empty log", streamed([program, "compare", large.log, other]), (0, sum_of(wanted), b""))
+    os.remove(other)
+    large.want_printed("trace", traced(1, many_traced()))
+    # Each takes less than half a pixel, so the bars are those of seven lanes and 1,440 pixels.
+    large.want_printed("picture", [drawn([(it, it + 7, None, [name_of(it)]) for it in everything], [it % 7 for it in everything])])
     large.want_more()
     with open(large.log, "ab") as it:
         it.write(b"1\t2\t3\ttorn")
@@ -380,7 +442,10 @@ def try_builds(trials, program, room):
     make(large.log, chain([HEADER], (line_of(name_of(it), (-it, ENTRIES - it, it, it % 7)) for it in range(ENTRIES))))
     large.want_sizes(large.log)
     large.want_printed("builds", (b"%d\t1\t1\t%d\t%d\n" % (it + 1, ENTRIES, ENTRIES) for it in range(ENTRIES)))
-    row = (ENTRIES, b"%d.00" % ENTRIES, name_of(ENTRIES - 1))
+    row, last = (ENTRIES, b"%d.00" % ENTRIES, name_of(ENTRIES - 1)), (ENTRIES - 1) % 7
+    only = [bar(ENTRIES, row[2], last, ENTRIES, 1, 0), runs(ENTRIES, 1, 0), runs(ENTRIES, 0, ENTRIES)]
+    large.want_printed("trace", traced(ENTRIES, only))
+    large.want_printed("picture", [drawn([(0, ENTRIES, None, [row[2]])], [0])])
     large.want_printed("summary", [summed(1, ENTRIES, ENTRIES, ENTRIES, ENTRIES, b"1.00", ENTRIES, row[2]), listed([row], [row])])
 
 

@@ -1,4 +1,8 @@
-"""What `entries`, `damage`, `builds` and `summary` print, read from docs/CLI.md and docs/FORMAT.md, and which lines are entries from `log_format`."""
+"""What `entries`, `damage`, `builds`, `summary`, `compare`, `trace` and `picture` print, read from docs/CLI.md and docs/FORMAT.md, and which lines are entries from `log_format`."""
+import bisect
+import collections
+import json
+import os
 import re
 
 from log_format import HEADER, MAX_LINE, entry_of, line_of
@@ -164,10 +168,129 @@ def ranked_of(key, rank, told, most):
     return b"".join(b"%s %d %d.%02d %s\n" % (key, time, weight // PARTS, weight * 100 // PARTS % 100, name) for time, weight, name in rows)
 
 
-def summary_of(text, most=10):
-    """What `summary` prints of a log: of its last build."""
+def lanes_of(commands):
+    """Of commands, each a START and an END, in the order of START: the lowest lane that is free as each begins."""
+    lanes, ends = [], []
+    for start, end in commands:
+        free = [lane for lane, busy in enumerate(ends) if busy <= start] + [len(ends)]
+        lanes.append(free[0])
+        ends[free[0] : free[0] + 1] = [max(start, end)]
+    return lanes
+
+
+def events_of(text):
+    """The events that `trace` tells of a log, as JSON values."""
+    builds = entries_by_build(text)
+    if not builds:
+        return []
+    commands = []
+    for name, (start, end, _, command) in builds[-1]:
+        if not commands or commands[-1][:3] != (start, end, command):
+            commands.append((start, end, command, []))
+        commands[-1][3].append(name.decode(errors="replace"))
+    commands.sort(key=lambda it: it[0])
+    began, number = commands[0][0], len(builds)
+    events = [{"name": "process_name", "ph": "M", "pid": number, "args": {"name": f"build {number}"}}]
+    for (start, end, command, names), lane in zip(commands, lanes_of([it[:2] for it in commands])):
+        known = {"hash": f"{command:x}", "outputs": names}
+        bar = {"ts": (start - began) * 1000, "dur": max(0, end - start) * 1000, "name": names[0], "args": known}
+        events.append({"ph": "X", "pid": number, "tid": lane + 1, **bar})
+        for at in (start, max(start, end)):
+            count = sum(first <= at < last for first, last, _, _ in commands)
+            events.append({"ph": "C", "pid": number, "name": "running", "ts": (at - began) * 1000, "args": {"commands": count}})
+    return events
+
+
+def trace_of(text):
+    """What `trace` prints of a log."""
+    return json.dumps(events_of(text), sort_keys=True, separators=(",", ":"), ensure_ascii=False).encode()
+
+
+def name_in_xml(name):
+    """A name in the text of a picture: what isn't UTF-8 and what XML can't have is U+FFFD, and of a long one the beginning stands."""
+
+    def shown(part):
+        text = re.sub("[\x00-\x1f\ufffe\uffff]", "\ufffd", part.decode(errors="replace"))
+        for mark, entity in (("&", "&#38;"), ("<", "&lt;"), (">", "&gt;"), ('"', "&#34;")):
+            text = text.replace(mark, entity)
+        return text.encode()
+
+    return shown(name) if len(shown(name)) <= 200 else shown(name[:40]) + b".."
+
+
+def picture_of(text):
+    """What `picture` prints of a log."""
+    builds, commands = entries_by_build(text), []
+    for name, (start, end, _, command) in builds[-1] if builds else []:
+        if not commands or commands[-1][:3] != (start, end, command):
+            commands.append((start, end, command, []))
+        commands[-1][3].append(name)
+    commands.sort(key=lambda it: it[0])
+    return drawn(commands, lanes_of([it[:2] for it in commands]))
+
+
+def drawn(commands, lanes):
+    """The picture of commands in their lanes, in tenths of a pixel: all of the build is 14,400 wide, from 600 on. A command is its START, its END,
+    anything, and its outputs."""
+    known, out, short = [], [], collections.Counter()
+    began, top = commands[0][0] if commands else 0, max(lanes, default=0)
+    wall = max([max(it[:2]) for it in commands], default=0) - began
+    for names in (it[3] for it in commands):
+        kind = os.path.splitext(b"x" + names[0].rsplit(b"/", 1)[-1])[1]
+        if kind not in known and len(known) < 9:
+            known.append(kind)
+    foot = 2000 + 160 * top
+    height = foot + 300 + 200 * (len(known) + 1)
+    out.append(
+        '<svg xmlns="http://www.w3.org/2000/svg" width="1600" height="%d" viewBox="0 0 16000 %d" font-family="sans-serif" font-size="120">\n'
+        '<rect width="100%%" height="100%%" fill="#fff"/>\n<text x="600" y="260" font-size="180">%d commands in %d.%03d s</text>\n'
+        % (height // 10, height, len(commands), wall // 1000, wall % 1000)
+    )
+    for at in range(11):
+        line = '<path stroke="#ddd" stroke-width="10" d="M%d 520V%d"/><text x="%d" y="480" text-anchor="middle">%d.%03d s</text>\n'
+        out.append(line % (600 + at * 1440, foot, 600 + at * 1440, *divmod(at * wall // 10, 1000)))
+    start_of = '<rect x="%d" y="%d" width="%d" height="140" fill="hsl(%d,50%%,60%%)"><title>'
+    for (start, end, _, names), lane in zip(commands, lanes):
+        kind = os.path.splitext(b"x" + names[0].rsplit(b"/", 1)[-1])[1]
+        place = known.index(kind) if kind in known else 9
+        x, took = 600 + (start - began) * 14400 // max(wall, 1), max(0, end - start)
+        width = took * 14400 // max(wall, 1)
+        if width < 5:
+            short[lane, x // 10, place] += 1
+            continue
+        more = " and %d more" % (len(names) - 1) if len(names) > 1 else ""
+        times = *divmod(took, 1000), *divmod(start - began, 1000)
+        end_of = "%s\n%d.%03d s from %d.%03d s</title></rect>\n" % (more, *times)
+        out += [start_of % (x, 600 + 160 * lane, width, place * 36), name_in_xml(names[0]), end_of]
+    for (lane, pixel, place), count in sorted(short.items(), reverse=True):
+        out.append((start_of + "%d short</title></rect>\n") % (pixel * 10, 600 + 160 * lane, 10, place * 36, count))
+    points, starts, ends = "", [it[0] for it in commands], sorted(max(it[:2]) for it in commands)
+    for at in range(481):
+        moment = began + at * wall // 480
+        count = bisect.bisect(starts, moment) - bisect.bisect(ends, moment)
+        points += "%d,%d " % (600 + 30 * at, foot - count * 1000 // (top + 1))
+    out.append('<polygon fill="#ccc" points="600,%d %s15000,%d"/>\n' % (foot, points, foot))
+    out.append('<text x="550" y="%d" text-anchor="end">%d</text>\n' % (foot - 900, top + 1))
+    for place, kind in enumerate([*known, None] if len(known) == 9 else known):
+        y = foot + 300 + 200 * place
+        line = '<rect x="600" y="%d" width="140" height="140" fill="hsl(%d,50%%,60%%)"/><text x="800" y="%d">'
+        name = b"others" if kind is None else name_in_xml(kind) if kind else b"no extension"
+        out += [line % (y, place * 36, y + 120), name, "</text>\n"]
+    return b"".join(it if isinstance(it, bytes) else it.encode() for it in [*out, "</svg>\n"])
+
+
+def summary_of(text, most=10, number=None, of_all=False):
+    """What `summary` prints of a log: of its last build, of that of a number, or of the last entry of each output as of one build."""
     found, count = entries_by_build(text), unfinished_of(text)
     unfinished = b"unfinished %d\n" % count if count else b""
+    if of_all:
+        # By END, then START, then the hash.
+        ended = [it for it in last_entries(text).items() if not is_intent(it)]
+        found = [sorted(ended, key=lambda it: (it[1][1], it[1][0], it[1][3]))] if ended else []
+    if number is not None:
+        if number > len(found):
+            return b"builds %d\n" % len(found) + unfinished
+        found = found[number - 1 : number]
     if not found:
         return unfinished
     commands = commands_of(found[-1])
@@ -178,3 +301,46 @@ def summary_of(text, most=10):
     counts = (len(commands), len(found[-1]), wall, total, busy, alone, parallel, *slowest_of(told))
     eight = b"commands %d\noutputs %d\nwall %d\ntotal %d\nbusy %d\nalone %d\nparallel %s\nslowest %d %s\n" % counts
     return eight + unfinished + ranked_of(b"by-time", 0, told, most) + ranked_of(b"by-weight", 1, told, most)
+
+
+CLASSES = (b"new", b"gone", b"changed", b"slower", b"faster", b"unfinished", b"same")
+
+
+def last_entries(text):
+    """The last entry of each output, in the order of first appearance."""
+    version, lines, _ = lines_of(text)
+    entries = (entry_of(line, version) for line in lines if len(line) <= MAX_LINE)
+    return dict(it for it in entries if it)
+
+
+def class_of(before, after, hashes):
+    """The class of an output by its entries in two logs, START, END, MTIME and the hash, of which one may be missing."""
+    if before is None or after is None:
+        return b"new" if before is None else b"gone"
+    if any(start == end and mtime == 0 for start, end, mtime, _ in (before, after)):
+        return b"unfinished"
+    if hashes and before[3] != after[3]:
+        return b"changed"
+    change = millis(after) - millis(before)
+    return b"slower" if change > 0 else b"faster" if change < 0 else b"same"
+
+
+def millis(entry):
+    return max(0, entry[1] - entry[0]) if entry else 0
+
+
+def compare_of(old, new, hashes=True, most=10):
+    """What `compare` prints of two logs, as version 5, whose hashes are of one kind or aren't."""
+    before, after = last_entries(old), last_entries(new)
+    rows = []
+    for name in [*before, *(it for it in after if it not in before)]:
+        times = millis(before.get(name)), millis(after.get(name))
+        rows.append((class_of(before.get(name), after.get(name), hashes), times[1] - times[0], *times, name))
+    told = [b"hashes\tcompared\n" if hashes else b"hashes\tnot-compared\n"]
+    for kind in CLASSES:
+        own = [it for it in rows if it[0] == kind]
+        told.append(b"total\t%s\t%d\t%d\t%d\t%d\n" % (kind, len(own), *(sum(it[at] for it in own) for at in (1, 2, 3))))
+    for kind in CLASSES[:-1]:
+        own = sorted((it for it in rows if it[0] == kind), key=lambda it: -abs(it[1]))
+        told += [b"%s\t%d\t%d\t%d\t%s\n" % it for it in own[:most]]
+    return b"".join(told)

@@ -7,7 +7,7 @@ the commands that read one print where a call fails.
 Wants strace, and that it may trace. Where a command is killed as a call begins, or the call fails with EIO or EINTR, for each
 call in turn, the log has to be one that the rules let it leave; later kills leave no less of the work; status 0 comes only of a
 log that is done, and never where a call on LOG met EIO; the second line of the refusal, by `--verbose`, has the file of the call
-and the error that it met; and the same command again does its work. A command that reads prints all with its own status, or a part
+and the error that it met; and the same command again does its work. A folder that can't be synced is said to be so, and is no failure. A command that reads prints all with its own status, or a part
 of it and status 1, and says which file it couldn't read or write.
 """
 import os
@@ -18,12 +18,21 @@ from concurrent.futures import ThreadPoolExecutor
 
 from changes import CASES, FAILED, RECORDED, UNREAD, try_left
 from log_format import HEADER, Log, command_hash, line_of, text_of
+from log_lines import trace_of
 from trials import main, read, run, write
 
 # How a call is disturbed. One that was interrupted may be made again.
 WAYS = {"kill": "signal=SIGKILL", "error": "error=EIO", "interrupt": "error=EINTR"}
 # What the C library says of these errors.
 SAYS = {"error": b"Input/output error (os error 5)", "interrupt": b"Interrupted system call (os error 4)"}
+# What says that a folder has no sync, with what the C library says of it; and two errors that are failures.
+NO_SYNCS = {
+    "EINVAL": b"Invalid argument (os error 22)",
+    "EROFS": b"Read-only file system (os error 30)",
+    "ENOSYS": b"Function not implemented (os error 38)",
+    "EOPNOTSUPP": b"Operation not supported (os error 95)",
+}
+FAILED_SYNCS = {"EIO": b"Input/output error (os error 5)", "ENOSPC": b"No space left on device (os error 28)"}
 # The calls that end the process: one that fails would leave it no way to end.
 ENDS = ("exit_group", "exit")
 # A look at the file of a path. With `--verbose` a command that changes a log begins with one, since it says of a log that is missing that it
@@ -192,6 +201,7 @@ READERS = {
     "doubt": (3, b"missing\ta\n"),
     "builds": (0, b"1\t2\t2\t3\t2\n"),
     "summary": (0, b"commands 2\noutputs 2\nwall 3\ntotal 2\nbusy 2\nalone 2\nparallel 0.66\nslowest 1 a\n" + b"by-time 1 1.00 a\n" * 2 + b"by-weight 1 1.00 a\n" * 2),
+    "trace": (0, trace_of(DAMAGED)),
     "hash-file": (0, b"%x\n" % command_hash(DAMAGED)),
 }
 UNWRITTEN = b"nlog: cannot write\n"
@@ -255,6 +265,27 @@ def sweep_readers(trials, program, room, pool):
     return count
 
 
+def try_folders(trials, program, room):
+    """A folder that can't be synced: the command does its work, and says so once, if asked. Any other error of that sync is a failure."""
+    for number, case in enumerate(CASES):
+        for error, said in {**NO_SYNCS, **FAILED_SYNCS}.items():
+            for asked in (["--verbose"], []):
+                here = f"{room}/{number}{error}{len(asked)}"
+                os.makedirs(here)
+                case.fill(here)
+                nlog, command, *values = case.words(program, here)
+                inject = ["-P", here, "-e", f"inject=fsync:error={error}"]
+                ended = run(["strace", "-o", f"{here}.trace", "-e", "signal=none", *inject, nlog, command, *asked, *values], cwd="/")
+                folder = f"nlog: folder {here}: ".encode()
+                what = f"{case.name}, {' '.join(asked)} in a folder whose syncs answer {error}"
+                if error in NO_SYNCS:
+                    told = note(case, here) + folder + b"it can't be synced, so a power cut may undo a rename: " + said + b"\n"
+                    trials.want(what, (ended, read(f"{here}/LOG")), ((0, b"", told if asked else b""), case.done))
+                else:
+                    told = folder + said + (b"; LOG keeps its entries" if error == "ENOSPC" else b"") + b"\n"
+                    trials.want(what, ended, (1, b"", FAILED + (told if asked else b"")))
+
+
 def trial(trials, program, room):
     if shutil.which("strace") is None:
         return trials.skip("all of it", "strace isn't there")
@@ -267,6 +298,7 @@ def trial(trials, program, room):
             count += sweep(trials, program, case, f"{room}/{number}", pool, word not in commands)
             commands.add(word)
         count += sweep_readers(trials, program, f"{room}/readers", pool)
+    try_folders(trials, program, f"{room}/folders")
     print(f"system_calls.py: {count} calls of {len(CASES) + len(READERS)} runs were disturbed, each in {len(WAYS)} ways")
     return None
 

@@ -7,12 +7,13 @@ Takes the machine's own Ninja and each FOLDER/*/ninja, with the version of the l
 What Ninja makes of a log is told by what it says of a build: `no work to do`, or why an output is to be made again; and by what
 `ninja -t recompact` keeps of the log.
 
-The scripts of docs/RECIPES.md and docs/DAMAGE.md are read from these pages and run as they stand there, beside a copy of the build that Ninja itself
-recompacts or restats. And what the pages say of Ninja is tried: what a build loses whose log is rewritten, and which time
+`recompact --manifest` and `restat --files` are run beside a copy of the build that Ninja itself recompacts or restats. The scripts of
+docs/DAMAGE.md are read from that page and run as they stand there. And what the pages say of Ninja is tried: what a build loses whose log is rewritten, and which time
 stamps it records.
 """
 import os
 import re
+import shlex
 import shutil
 import sys
 import time
@@ -22,7 +23,7 @@ from log_format import HEADER, Log, as_version, line_of
 from log_lines import damage_of, distrusted_of, plain_of
 from trials import fill_up, main, read, run, write
 
-RECIPES = {**read_page("docs/RECIPES.md")[0], **read_page("docs/DAMAGE.md")[0]}
+RECIPES = read_page("docs/DAMAGE.md")[0]
 
 MANIFEST = """rule copy
   command = cat $in > $out
@@ -80,10 +81,19 @@ class Build:
         return run([self.program, word, *option, *words], cwd=self.room)
 
     def recipe(self, name, *words, folder=None):
-        """Runs a script of docs/RECIPES.md or docs/DAMAGE.md, with the programs of this folder in place of others."""
+        """Runs a script of docs/DAMAGE.md, with the programs of this folder in place of others."""
         write(f"{self.room}/../{name}", RECIPES[name])
         path = ":".join(it for it in (folder, os.path.dirname(self.program), os.environ.get("PATH", os.defpath)) if it)
         return run(["sh", f"../{name}", *words], cwd=self.room, env={**os.environ, "PATH": path})
+
+    def prune(self, log=LOG):
+        """Recompacts the log by what Ninja builds, as docs/RECIPES.md says."""
+        ninja, nlog = shlex.quote(self.path), shlex.quote(self.program)
+        line = f"{ninja} -t targets all > targets && {nlog} recompact --manifest targets -- {log}"
+        return run(["sh", "-c", line], cwd=self.room)
+
+    def retime(self, log=LOG):
+        return run([self.program, "restat", "--files", "--", log], cwd=self.room)
 
     def mirror(self):
         """A copy of the build, for Ninja to work on."""
@@ -150,10 +160,10 @@ def try_recompact(trials, build):
 
 
 def recompact_beside(trials, build, what, kept, dropped=()):
-    """Recompacts by the script of docs/RECIPES.md, and a copy by Ninja: both keep the same entries, `kept` among them."""
+    """Recompacts by what Ninja builds, and a copy by Ninja: both keep the same entries, `kept` among them."""
     mirror = build.mirror()
     trials.want(f"{what}: Ninja recompacts", mirror.ninja("-t", "recompact")[0], 0)
-    trials.want(f"{what}: recompact.sh ends", build.recipe("recompact.sh"), (0, b"", b""))
+    trials.want(f"{what}: recompact --manifest ends", build.prune(), (0, b"", b""))
     table = build.log().table
     trials.want(f"{what}: the log is the one that Ninja makes", sorted(table.items()), sorted(mirror.log().table.items()))
     trials.check(f"{what}: what is kept", set(kept) <= set(table) and not set(dropped) & set(table), repr(sorted(table)))
@@ -163,8 +173,10 @@ def try_keep_without_manifest(trials, build):
     os.remove(f"{build.room}/build.ninja")
     before, mirror = read(f"{build.room}/{LOG}"), build.mirror()
     trials.check("no manifest: Ninja doesn't recompact", mirror.ninja("-t", "recompact")[0] not in (0, None))
-    status = build.recipe("recompact.sh")[0]
-    trials.check("no manifest: recompact.sh stops", status not in (0, None), repr(status))
+    status = build.prune()[0]
+    trials.check("no manifest: the second command isn't run", status not in (0, None), repr(status))
+    said = run(["sh", "-c", f"{shlex.quote(build.path)} -t targets all 2> /dev/null | {shlex.quote(build.program)} recompact {LOG} --manifest -"], cwd=build.room)
+    trials.want("no manifest: behind a pipe it is refused", said, (1, b"", b"nlog: bad line 1\n"))
     trials.want("no manifest: the log stays", read(f"{build.room}/{LOG}"), before)
     trials.want("no manifest: as Ninja leaves it", sorted(build.log().table), sorted(mirror.log().table))
 
@@ -203,49 +215,37 @@ def try_keep_what_left(trials, build):
 
 
 def restat_beside(trials, build, what, names):
-    """Restats by the script of docs/RECIPES.md, and a copy by Ninja: both give these names the same time stamps."""
+    """Restats by the files, and a copy by Ninja: both give these names the same time stamps."""
     mirror = build.mirror()
     trials.want(f"{what}: Ninja restats", mirror.ninja("-t", "restat")[0], 0)
-    trials.want(f"{what}: restat.sh ends", build.recipe("restat.sh"), (0, b"", b""))
+    trials.want(f"{what}: restat --files ends", build.retime(), (0, b"", b""))
     table, other = build.log().table, mirror.log().table
     trials.want(f"{what}: the time stamps", {it: table[it][2] for it in names}, {it: other[it][2] for it in names})
 
 
 def try_times(trials, build):
     text = "rule odd\n  command = cat $in > $out\nbuild -dash: odd a.c\nbuild it's$ \"so\": odd a.c\n"
-    trials.want("restat.sh: Ninja builds", build.add(text), 0)
+    trials.want("restat --files: Ninja builds", build.add(text), 0)
     os.utime(f"{build.room}/a.o", ns=(0, 1_700_000_000_000_000_007))
     os.utime(f"{build.room}/-dash", ns=(0, 1_700_000_009_000_000_000))
     # A link to an older file: Ninja takes the time stamp of that one.
     build.remove("b.o")
     os.utime(f"{build.room}/b.c", ns=(0, 1_500_000_000_000_000_000))
     os.symlink("b.c", f"{build.room}/b.o")
-    restat_beside(trials, build, "restat.sh", [*OUTPUTS, b"-dash"])
-    trials.want("restat.sh: of a link", build.log().table[b"b.o"][2], 1_500_000_000_000_000_000)
-    trials.want("restat.sh: of a name that looks like an option", build.log().table[b"-dash"][2], 1_700_000_009_000_000_000)
+    restat_beside(trials, build, "restat --files", [*OUTPUTS, b"-dash"])
+    trials.want("restat --files: of a link", build.log().table[b"b.o"][2], 1_500_000_000_000_000_000)
+    trials.want("restat --files: of a name that looks like an option", build.log().table[b"-dash"][2], 1_700_000_009_000_000_000)
     was = build.log().table[b"note"][2]
     build.remove("note")
     os.utime(f"{build.room}/app", ns=(0, 1_700_000_001_000_000_000))
-    restat_beside(trials, build, "restat.sh without a file", [b"a.o", b"app"])
-    trials.want("restat.sh without a file: its entry", build.log().table[b"note"][2], was)
+    restat_beside(trials, build, "restat --files without a file", [b"a.o", b"app"])
+    trials.want("restat --files without a file: its entry", build.log().table[b"note"][2], was)
 
 
-def try_times_that_fail(trials, build):
-    """A `stat` that tells of one file, and then fails."""
-    os.makedirs(f"{build.room}/bin")
-    write(f"{build.room}/bin/stat", b"#!/bin/sh\nprintf '1.000000000\\ta.o\\n'\nexit 1\n")
-    os.chmod(f"{build.room}/bin/stat", 0o755)
-    before = read(f"{build.room}/{LOG}")
-    status = build.recipe("restat.sh", folder=f"{build.room}/bin")[0]
-    trials.check("a stat that fails: restat.sh stops", status not in (0, None), repr(status))
-    trials.want("a stat that fails: the log stays", read(f"{build.room}/{LOG}"), before)
-    # One whose locale has a comma, unless it is told to have none.
-    write(f"{build.room}/bin/stat", b"#!/bin/sh\ntest \"${LC_ALL-}\" = C && point=. || point=,\nprintf \"1700000209${point}250000000\\ta.o\\n\"\n")
-    trials.want("a locale with a comma: restat.sh ends", build.recipe("restat.sh", folder=f"{build.room}/bin"), (0, b"", b""))
-    trials.want("a locale with a comma: the time stamp", build.log().table[b"a.o"][2], 1_700_000_209_250_000_000)
+def try_times_of_none(trials, build):
     for text in (HEADER, HEADER + b"1\t2\t3\tgone\taa\n"):
         build.write_log(text)
-        trials.want(f"a log without files, {text!r}: restat.sh ends", build.recipe("restat.sh"), (0, b"", b""))
+        trials.want(f"a log without files, {text!r}: restat --files ends", build.retime(), (0, b"", b""))
         trials.want(f"a log without files, {text!r}: the log", build.text(), text)
 
 
@@ -464,26 +464,27 @@ def try_joined_thrice(trials, build):
     trials.want("three lines in one: what is left", build.text(), HEADER + lines[0])
 
 
-def try_scripts_at_damage(trials, build):
-    """recompact.sh and restat.sh stop at a damaged log, print what `damage` tells, and leave the log."""
+def try_settling_at_damage(trials, build):
+    """`recompact --manifest` and `restat --files` stop at a damaged log, print what `damage` tells, and leave the log."""
     build.describe("n2")
     build.ninja()
     whole = build.text()
     for what, text in (("torn", whole[:-3]), ("skipped", whole + b"x\n"), ("zeros", whole + bytes(9))):
-        for name in ("recompact.sh", "restat.sh"):
+        for name, settle in (("recompact --manifest", build.prune), ("restat --files", build.retime)):
             build.write_log(text)
-            trials.want(f"a log that is {what}: {name} ends", build.recipe(name), (3, damage_of(text), b""))
+            trials.want(f"a log that is {what}: {name} ends", settle(), (3, damage_of(text), b""))
             trials.want(f"a log that is {what}: {name} leaves it", build.text(), text)
 
 
 def try_names_like_options(trials, build):
-    """The scripts on a log whose name begins with `-` do what they do on another."""
+    """The words and the scripts on a log whose name begins with `-` do what they do on another."""
     whole = build.text()
-    for name, text in (("recompact.sh", whole), ("restat.sh", whole), ("forget.sh", whole[:-3]), ("mend.sh", whole[:-3])):
+    words = {"recompact --manifest": build.prune, "restat --files": build.retime}
+    for name, text in (*((it, whole) for it in words), ("forget.sh", whole[:-3]), ("mend.sh", whole[:-3])):
         left = []
         for log in ("its.log", "-its.log", "it=s.log"):
             write(f"{build.room}/{log}", as_version(text, build.version))
-            trials.want(f"{name} of {log} ends", build.recipe(name, log), (0, b"", b""))
+            trials.want(f"{name} of {log} ends", words[name](log) if name in words else build.recipe(name, log), (0, b"", b""))
             left.append(read(f"{build.room}/{log}"))
         trials.want(f"{name}: what is left of a log whose name begins with `-`, or has a `=`", left[1:], left[:1] * 2)
 
@@ -709,7 +710,7 @@ PARTS = [
     try_keep_what_left,
     try_restat,
     try_times,
-    try_times_that_fail,
+    try_times_of_none,
     try_torn,
     try_other_command,
     try_lost_whole,
@@ -720,7 +721,7 @@ PARTS = [
     try_plain_reading,
     try_joined_anywhere,
     try_joined_thrice,
-    try_scripts_at_damage,
+    try_settling_at_damage,
     try_names_like_options,
     try_changed_in_a_build,
     try_mtime,
