@@ -3,11 +3,12 @@ ghost use Rattle.std.specs.Prelude.{◌≡◌, false, [], IfOk, IsSomeAnd, Some,
 ghost use Rattle.std.specs.Option.{ForSome};
 ghost use Rattle.nl_table.specs.History.{History};
 ghost use Rattle.nl_table.specs.Log.{history_of};
-ghost use Rattle.nl_folder.specs.DiskState.{Disk, SameState};
+ghost use Rattle.nl_folder.specs.DiskState.{Disk};
+ghost use Rattle.nl_folder.specs.FolderView.{SameState};
 ghost use Rattle.nl_session.specs.Reopening.{Moved};
 ghost use Rattle.nl_session.specs.Runs.{BeginsAt, Ran, HeadlineOn, RestsThrough, OpensAtLast, TakesMemory, faults_of, HasRisen, HadMemory, Ends};
 ghost use Rattle.nl_files.specs.Start.{IsAtStart, begun};
-ghost use Rattle.nl_files.specs.FileFolder.{system_of, state_of, failure_count};
+ghost use Rattle.nl_files.specs.FileFolder.{begun_view, system_of, state_of, failure_count};
 ghost use Rattle.nl_files.specs.MemSystem.{no_files, numbers_left};
 
 use nl_files::{CrashableSystem, FileFolder, MemSystem, Plan};
@@ -39,11 +40,7 @@ pub fn run_over_system<S: CrashableSystem + Drop>(
     ensures memory { IfOk result (λ r. HadMemory r.1.items) }
     ensures outcome { IfOk result (λ r. Ends r.2 events.now r.1.items) }
     ensures same { IfOk result (λ r. r.1.items ≡ []
-        → SameState (record {
-          disk = option_map begun (S.System.model system);
-          is_settled = false;
-          has_scratch = false;
-        }) (state_of r.0)) }
+        → SameState (begun_view (S.System.model system)) (state_of r.0)) }
     ensures untouched { IfOk result (λ r. r.1.items ≡ []
         → ¬ IsSomeAnd (slice_get events.now 0) TakesMemory → system_of r.0 ≡ system) }
 {
@@ -74,9 +71,7 @@ pub fn run_in_memory(
     ensures memory { IfOk result (λ r. HadMemory r.1.items) }
     ensures outcome { IfOk result (λ r. Ends r.2 events.now r.1.items) }
     ensures same { IfOk result (λ r. r.1.items ≡ []
-        → SameState
-        (record { disk = Some (begun no_files); is_settled = false; has_scratch = false })
-        (state_of r.0)) }
+        → SameState (begun_view (Some no_files)) (state_of r.0)) }
     ensures untouched { IfOk result
         (λ r. r.1.items ≡ [] → ¬ IsSomeAnd (slice_get events.now 0) TakesMemory
         → numbers_left (system_of r.0).plan ≡ numbers_left plan) }

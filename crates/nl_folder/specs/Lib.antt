@@ -1,6 +1,7 @@
 pub mod DiskState
 pub mod CrashImages
 pub mod Calls
+pub mod FolderView
 pub mod Fuse
 pub mod Amounts
 pub mod Choices

@@ -4,7 +4,8 @@ use Rattle.std.specs.Prelude.{Option, Result, Ok, Err, IfErr, OnOk}
 use Rattle.std.specs.Result.{IsErrAnd}
 use Rattle.nl_tool_texts.specs.declared.fault.ToolFault.{ToolFault}
 use Rattle.nl_folder.specs.declared.folder.Folder.{Ghosts}
-use Rattle.nl_tool_change.specs.Calls.{ChangesAsRead, ChangesLog, FolderView, IsUnread, Meaning, SaysAsRead, folder_view}
+use Rattle.nl_tool_change.specs.Calls.{ChangesAsRead, ChangesLog, IsUnread, Meaning, SaysAsRead}
+use Rattle.nl_folder.specs.FolderView.{FolderView, folder_view}
 use Rattle.nl_tool_change.specs.Faults.{IsChangeFault, IsFileFault}
 use Rattle.nl_tool_change.specs.Files.{FileReading}
 use Rattle.nl_tool_change.specs.Updates.{AsSaid}
@@ -35,8 +36,8 @@ module _ {T : Type 0} (reading : List ℕ → FileReading T) (meaning : List T �
     };
     unchanged = λ is. record {
       disk = ap (λ (v : FolderView). v.disk) u.stays;
-      settled = ap (λ (v : FolderView). v.settled) u.stays;
-      scratch = ap (λ (v : FolderView). v.scratch) u.stays;
+      settled = ap (λ (v : FolderView). v.is_settled) u.stays;
+      scratch = ap (λ (v : FolderView). v.has_scratch) u.stays;
     };
     count = record {
       cause = λ is. absurd (subst Refuses is u.refused);

@@ -5,7 +5,7 @@ use Rattle.std.proofs.lemmas.Bool.{cond-true, cond-false}
 use Rattle.nl_lines.specs.Source.{FailedBetween}
 use Rattle.nl_versions.specs.declared.version.LogVersion.{LogVersion}
 use Rattle.nl_versions.specs.declared.version.LogVersion.TheVariants.{Five}
-use Rattle.nl_folder.specs.DiskState.{Disk, SameState}
+use Rattle.nl_folder.specs.DiskState.{Disk}
 use Rattle.nl_versions.specs.VersionFolder.{disk_as_version, seen_as_version}
 use Rattle.nl_versions.proofs.VersionFolderLemmas.{seen-twice}
 use Rattle.nl_session.specs.declared.fault.LogFault.{LogFault}
@@ -16,8 +16,9 @@ use Rattle.nl_versions.specs.LogAs.{is_barred}
 use Rattle.nl_versions.proofs.LogAsLemmas.{log_five, seen_five}
 use Rattle.nl_tool_texts.specs.declared.fault.ToolFault.{ToolFault}
 use Rattle.nl_tool_texts.specs.declared.fault.ToolFault.TheVariants.{Folder, OtherVersion}
-use Rattle.nl_tool_change.specs.Calls.{ChangesDisk, ChangesLog, ChangesLogAs, ChangesLogFor, ChangesSeen, FolderView, IsFaultBy, IsFree, IsReason}
-use Rattle.nl_tool_change.specs.Calls.{IsVersionFor, Looks, Meaning, folder_state}
+use Rattle.nl_tool_change.specs.Calls.{ChangesDisk, ChangesLog, ChangesLogAs, ChangesLogFor, ChangesSeen, IsFaultBy, IsFree, IsReason}
+use Rattle.nl_folder.specs.FolderView.{FolderView, SameState}
+use Rattle.nl_tool_change.specs.Calls.{IsVersionFor, Looks, Meaning}
 use Rattle.nl_tool_change.specs.Faults.{IsOpenOrChangeRefusal, IsRecordFault, of_log_fault}
 use Rattle.nl_tool_change.proofs.ChangeLemmas.{found_first, ok_with}
 
@@ -46,7 +47,7 @@ module _ {m : Meaning} {old new : FolderView} where
 module _ {m : Meaning} {r : Result (Unit {0}) ToolFault} {old new : FolderView} where
   -- through a folder that sees it so, where no bytes are barred
   pub through : {from to : FolderView} (version : LogVersion) → IsFree old.disk version → from.disk ≡ seen_as_version version old.disk
-      → new.disk ≡ seen_as_version version to.disk → (IsTrue to.settled → IsTrue new.settled)
+      → new.disk ≡ seen_as_version version to.disk → (IsTrue to.is_settled → IsTrue new.is_settled)
       → from.failures ≡ old.failures → new.failures ≤ to.failures → (0 < to.failures → 0 < new.failures)
       → ChangesLog m r from to → ChangesSeen version m r old new
   through {from} {to} version free below above settled same rose risen call =
@@ -127,7 +128,7 @@ unmade_disk m old new same = record {
   untouched = λ d is none. same;
 }
 
-unlooked : (m : Meaning) (old new : FolderView) (version : LogVersion) → SameState (folder_state old) (folder_state new)
+unlooked : (m : Meaning) (old new : FolderView) (version : LogVersion) → SameState old new
     → FailedBetween old.failures new.failures → ChangesLogAs version m (Err Folder) old new
 unlooked m old new version same failed = record {
   seen = record {
@@ -162,7 +163,7 @@ version_for_disk_is None disk = version_of_disk_is None disk refl
 
 -- a log of version 4, where another is asked for
 barred_for : (asked : Option LogVersion) (m : LogVersion → Meaning) (old new : FolderView)
-    → SameState (folder_state old) (folder_state new) → IsReason asked old.disk old.failures new.failures refusal.OtherVersion
+    → SameState old new → IsReason asked old.disk old.failures new.failures refusal.OtherVersion
     → ChangesLogFor asked m (Err OtherVersion) old new
 barred_for None m old new same reason = absurd reason.1
 barred_for (Some version) m old new same reason = record {
@@ -230,6 +231,6 @@ looked_at asked m result old mid new r version is looks changes =
       version = version;
       chosen = looks.chosen;
       call = subst (λ (v : FolderView). ChangesLogAs version (m version) result v new)
-          (λ i. record { disk = looks.same.disk i; settled = looks.same.settled i; scratch = looks.same.scratch i; failures = looks.steady i })
+          (λ i. record { disk = looks.same.disk i; is_settled = looks.same.settled i; has_scratch = looks.same.scratch i; failures = looks.steady i })
           (changes (λ d at. looks.free d (sym looks.same.disk ∙ at)));
     }

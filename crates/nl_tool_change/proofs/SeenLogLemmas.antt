@@ -6,7 +6,7 @@ use Rattle.nl_lines.specs.Source.{FailedBetween}
 use Rattle.nl_versions.specs.declared.version.LogVersion.{LogVersion}
 use Rattle.nl_versions.specs.declared.version.LogVersion.TheVariants.{Five, Six, Seven}
 use Rattle.nl_table.specs.Log.{log_of}
-use Rattle.nl_folder.specs.DiskState.{Disk, SameState}
+use Rattle.nl_folder.specs.DiskState.{Disk}
 use Rattle.nl_folder.specs.declared.folder.Folder.{Ghosts}
 use Rattle.nl_versions.specs.VersionOf.{version_of}
 use Rattle.nl_versions.specs.LogAs.{is_barred, is_four}
@@ -18,7 +18,8 @@ use Rattle.nl_session.specs.declared.fault.LogFault.TheVariants as refusal
 use Rattle.nl_session.specs.declared.log.Log.{Log}
 use Rattle.nl_session.specs.declared.state.LogState.TheVariants.{Closed}
 use Rattle.nl_session.specs.LogView.{folder_of, view_of}
-use Rattle.nl_tool_change.specs.Calls.{FolderView, IsFree, IsVersionFor, Looks, folder_state, folder_view}
+use Rattle.nl_tool_change.specs.Calls.{IsFree, IsVersionFor, Looks}
+use Rattle.nl_folder.specs.FolderView.{FolderView, SameState, folder_view}
 use Rattle.nl_tool_change.specs.Distrusts.{Distrusts}
 use Rattle.nl_tool_change.specs.Seen.{Begins, HandsBack, Seen}
 use Rattle.nl_tool_change.specs.Applying.{IsSeenAnew, IsTold, IsTurnedAway}
@@ -52,7 +53,7 @@ barred_four Five bytes other = absurd (other refl)
 barred_four Six bytes other = refl
 barred_four Seven bytes other = refl
 
-module _ {E : Type 0} (old new : FolderView) (r : Result FirstLine E) (same : SameState (folder_state old) (folder_state new))
+module _ {E : Type 0} (old new : FolderView) (r : Result FirstLine E) (same : SameState old new)
     (rises : old.failures ≤ new.failures) (steady : OnOk r (new.failures ≡ old.failures)) where
   fine : (line : FirstLine) → r ≡ Ok line → new.failures ≡ old.failures
   fine line is = subst (λ (found : Result FirstLine E). OnOk found (new.failures ≡ old.failures)) is steady

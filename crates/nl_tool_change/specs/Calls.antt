@@ -14,7 +14,8 @@ use Rattle.nl_table.specs.Log as log_reading
 use Rattle.nl_table.specs.LogText.{text_of}
 use Rattle.nl_table.specs.LogUser.{forget_dead}
 use Rattle.nl_table.specs.Table.{touched_table}
-use Rattle.nl_folder.specs.DiskState.{Disk, FolderState, SameState}
+use Rattle.nl_folder.specs.DiskState.{Disk}
+use Rattle.nl_folder.specs.FolderView.{FolderView, SameState, folder_view}
 use Rattle.nl_versions.specs.VersionFolder.{seen_as_version}
 use Rattle.nl_folder.specs.declared.folder.Folder.{Ghosts}
 use Rattle.nl_session.specs.declared.fault.LogFault.{LogFault}
@@ -35,27 +36,6 @@ use Rattle.nl_tool_change.specs.Faults.{IsChangeFault, IsChangeRefusal, IsFileFa
 use Rattle.nl_tool_change.specs.Files.{BadAt, FileReading}
 use Rattle.nl_tool_change.specs.Updates.{AsSaid, Changes, HasTable, IsOpenLeft, IsRepaired, IsUnmade, IsUpdated, UpdateLeaves, OfAllFound}
 use Rattle.nl_tool_change.specs.Updates.{StaysRepaired, dead_but, none_dead}
-
--- ---- what is seen
-
--- what contracts see of a folder
-pub record FolderView : Type 0 where
-  pub disk : Option Disk
-  pub settled : Bool
-  pub scratch : Bool
-  pub failures : ℕ
-
-abbrev pub folder_view : {F : Type 0} → Ghosts F → F → FolderView
-folder_view g folder =
-    record { disk = g.disk folder; settled = g.is_settled folder; scratch = g.has_scratch folder; failures = g.failures folder }
-
--- what contracts see of the folder of a log
-abbrev pub log_folder : LogView → FolderView
-log_folder v = record { disk = v.disk; settled = v.settled; scratch = v.scratch; failures = v.failures }
-
--- what is seen beside the count
-abbrev pub folder_state : FolderView → FolderState
-folder_state v = record { disk = v.disk; is_settled = v.settled; has_scratch = v.scratch }
 
 -- ---- what is asked
 
@@ -99,14 +79,14 @@ IsFaultBy m fault = IsRecordFault fault
 -- an open log is changed
 pub record Makes (m : Meaning) (result : Result (Unit {0}) LogFault) (old new : LogView) : Type 0 where
   pub stays_open : OnOk result (new.mode ≡ LogState.Open)
-  pub contents : (d : Disk) → old.disk ≡ Some d → OnOk result (IsSomeAnd new.disk (λ e. e.visible ≡ m.bytes old.table d.visible))
+  pub contents : (d : Disk) → old.folder.disk ≡ Some d → OnOk result (IsSomeAnd new.folder.disk (λ e. e.visible ≡ m.bytes old.table d.visible))
   pub refusals : IfErr result IsChangeRefusal
   pub negative_time : (index : ℕ) → IsErrOf result (refusal.NegativeTime index) → IsFirstNegative m.times index
   pub accepts : OnOk result ((index : ℕ) → ¬ IsFirstNegative m.times index)
-  pub scratch : OnOk result ((new.scratch ≡ old.scratch) ⊎ (new.scratch ≡ false))
-  pub unchanged : ¬ IsErrOf result refusal.Fault → OnErr result (new.disk ≡ old.disk)
+  pub scratch : OnOk result ((new.folder.has_scratch ≡ old.folder.has_scratch) ⊎ (new.folder.has_scratch ≡ false))
+  pub unchanged : ¬ IsErrOf result refusal.Fault → OnErr result (new.folder.disk ≡ old.folder.disk)
   pub count : log.IsCounted result old new
-  pub goes : (s : State) → StandsAt old s → Changes (m.update (all_of s)) result s new.disk new.settled new.mode new.table
+  pub goes : (s : State) → StandsAt old s → Changes (m.update (all_of s)) result s new.folder.disk new.folder.is_settled new.mode new.table
 
 -- ---- the log of a folder
 
@@ -135,10 +115,10 @@ pub record IsCounted (result : Result (Unit {0}) ToolFault) (before after : ℕ)
 -- before
 pub record ChangesLog (m : Meaning) (result : Result (Unit {0}) ToolFault) (old new : FolderView) : Type 0 where
   pub disk : ChangesDisk m result old.disk new.disk
-  pub settled : OnOk result (IsTrue new.settled)
-  pub scratch : OnOk result ((new.scratch ≡ old.scratch) ⊎ (new.scratch ≡ false))
+  pub settled : OnOk result (IsTrue new.is_settled)
+  pub scratch : OnOk result ((new.has_scratch ≡ old.has_scratch) ⊎ (new.has_scratch ≡ false))
   pub bytes : RefusesBytes log_of result old.disk
-  pub unchanged : IsErrAnd result IsNoLogFault → SameState (folder_state old) (folder_state new)
+  pub unchanged : IsErrAnd result IsNoLogFault → SameState old new
   pub count : IsCounted result old.failures new.failures
   pub refusals : IfErr result IsChangeFault
 
@@ -146,7 +126,7 @@ pub record ChangesLog (m : Meaning) (result : Result (Unit {0}) ToolFault) (old 
 -- every exit
 pub record ChangesSeen (version : LogVersion) (m : Meaning) (result : Result (Unit {0}) ToolFault) (old new : FolderView) : Type 0 where
   pub disk : ChangesDisk m result (seen_as_version version old.disk) (seen_as_version version new.disk)
-  pub settled : OnOk result (IsTrue new.settled)
+  pub settled : OnOk result (IsTrue new.is_settled)
   pub barred : (d : Disk) → old.disk ≡ Some d → IsTrue (is_barred version d.visible) → IsErr result × (new.disk ≡ old.disk)
   pub bytes : RefusesBytes (log_as version) result old.disk
   pub unchanged : IsErrAnd result IsNoLogFault → new.disk ≡ old.disk
@@ -178,7 +158,7 @@ IsReason asked disk before after _ = ⊥
 
 -- a folder was looked at for the version of its log, and stays as it is
 pub record Looks (asked : Option LogVersion) (old new : FolderView) (result : Result LogVersion LogFault) : Type 0 where
-  pub same : SameState (folder_state old) (folder_state new)
+  pub same : SameState old new
   pub rises : old.failures ≤ new.failures
   pub steady : OnOk result (new.failures ≡ old.failures)
   pub chosen : IfOk result (IsVersionFor asked old.disk)
@@ -219,8 +199,8 @@ pub record SaysAsRead {T : Type 0} (reading : List ℕ → FileReading T) (meani
       → (IsErr result × (new ≡ old)) ⊎ AsSaid reading known (λ parts. UpdateLeaves (meaning parts).update start result new.disk)
   pub contents : (d : Disk) → old.disk ≡ Some d
       → OnOk result (AsSaid reading known (λ parts. IsUpdated (meaning parts).bytes d.visible new.disk))
-  pub settled : OnOk result (IsTrue new.settled)
-  pub scratch : OnOk result ((new.scratch ≡ old.scratch) ⊎ (new.scratch ≡ false))
+  pub settled : OnOk result (IsTrue new.is_settled)
+  pub scratch : OnOk result ((new.has_scratch ≡ old.has_scratch) ⊎ (new.has_scratch ≡ false))
   pub accepts : OnOk result (AsSaid reading known (λ parts. (index : ℕ) → ¬ IsFirstNegative (meaning parts).times index))
   pub said : (IsErr result × (new ≡ old)) ⊎ AsSaid reading known (λ parts. Unit {0})
   pub read : IsErrOf result Read → new ≡ old
@@ -232,7 +212,7 @@ pub record SaysAsRead {T : Type 0} (reading : List ℕ → FileReading T) (meani
   pub unmade : (d : Disk) → old.disk ≡ Some d → ¬ IsErrOf result Folder → OnErr result (IsUnmade d new.disk)
   pub untouched : (d : Disk) → old.disk ≡ Some d → ¬ IsLog d.visible → new.disk ≡ old.disk
   pub bytes : RefusesBytes log_of result old.disk
-  pub unchanged : IsErrAnd result IsNoLogFault → SameState (folder_state old) (folder_state new)
+  pub unchanged : IsErrAnd result IsNoLogFault → SameState old new
   pub count : IsCounted result old.failures new.failures
 
 -- a repair: whatever is found has the table that was found before; on Ok the log is the text of that, which a repair leaves as it is

@@ -4,13 +4,13 @@ use Rattle.nl_fields.specs.declared.entry.Entry.{Entry}
 use Rattle.nl_lines.specs.Source.{FailedBetween}
 use Rattle.nl_table.specs.History.{logged, table}
 use Rattle.nl_table.specs.Log.{Log, NotALog, OtherVersion}
-use Rattle.nl_folder.specs.DiskState.{Disk, SameState}
+use Rattle.nl_folder.specs.DiskState.{Disk}
 use Rattle.nl_versions.specs.LogAs.{log_for}
 use Rattle.nl_versions.specs.declared.version.LogVersion.{LogVersion}
 use Rattle.nl_distrust.specs.Distrusted.{distrusted_in}
 use Rattle.nl_session.specs.declared.fault.LogFault.{LogFault}
 use Rattle.nl_session.specs.declared.fault.LogFault.TheVariants as refusal
-use Rattle.nl_tool_change.specs.Calls.{FolderView, folder_state}
+use Rattle.nl_folder.specs.FolderView.{FolderView, SameState}
 
 -- the bytes are a log, where one of a version may be asked for, and these are the entries of its table that can't be trusted
 pub record AreDistrusted (asked : Option LogVersion) (bytes : List ℕ) (es : List Entry) : Type 0 where
@@ -30,7 +30,7 @@ IsUntold asked disk before after _ = ⊥
 
 -- the log of a folder was read, which stays as it is
 pub record Distrusts (asked : Option LogVersion) (old new : FolderView) (result : Result (List Entry) LogFault) : Type 0 where
-  pub same : SameState (folder_state old) (folder_state new)
+  pub same : SameState old new
   pub rises : old.failures ≤ new.failures
   pub found : IfOk result (λ es. (d : Disk) → old.disk ≡ Some d → AreDistrusted asked d.visible es)
   pub refusals : IfErr result (IsUntold asked old.disk old.failures new.failures)

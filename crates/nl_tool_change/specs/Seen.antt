@@ -8,7 +8,7 @@ use Rattle.nl_session.specs.declared.state.LogState.TheVariants.{Closed}
 use Rattle.nl_session.specs.LogView.{LogView, view_of}
 use Rattle.nl_tool_change.specs.declared.seen.AnyLog.{AnyLog}
 use Rattle.nl_tool_change.specs.declared.seen.AnyLog.TheVariants.{OfFive, OfSix, OfSeven}
-use Rattle.nl_tool_change.specs.Calls.{FolderView, log_folder}
+use Rattle.nl_folder.specs.FolderView.{FolderView}
 
 -- the version, and what is seen as of it
 pub record Seen : Type 0 where
@@ -24,16 +24,16 @@ seen_of (OfSeven log) = record { version = Seven; view = view_of log }
 -- isn't 5
 pub record Begins (found : FolderView) (seen : Seen) : Type 0 where
   pub closed : seen.view.mode ≡ Closed
-  pub disk : seen.view.disk ≡ seen_as_version seen.version found.disk
-  pub failures : seen.view.failures ≡ found.failures
-  pub five : seen.version ≡ Five → log_folder seen.view ≡ found
-  pub other : (seen.version ≡ Five → ⊥) → (seen.view.settled ≡ false) × (seen.view.scratch ≡ false)
+  pub disk : seen.view.folder.disk ≡ seen_as_version seen.version found.disk
+  pub failures : seen.view.folder.failures ≡ found.failures
+  pub five : seen.version ≡ Five → seen.view.folder ≡ found
+  pub other : (seen.version ≡ Five → ⊥) → (seen.view.folder.is_settled ≡ false) × (seen.view.folder.has_scratch ≡ false)
 
 -- the folder below a log, as it is handed back
 pub record HandsBack (seen : Seen) (left : FolderView) : Type 0 where
-  pub disk : left.disk ≡ seen_as_version seen.version seen.view.disk
-  pub settled : IsTrue seen.view.settled → IsTrue left.settled
-  pub scratch : IsTrue seen.view.scratch → IsTrue left.scratch
-  pub failed : left.failures ≤ seen.view.failures
-  pub cause : 0 < seen.view.failures → 0 < left.failures
-  pub five : seen.version ≡ Five → left ≡ log_folder seen.view
+  pub disk : left.disk ≡ seen_as_version seen.version seen.view.folder.disk
+  pub settled : IsTrue seen.view.folder.is_settled → IsTrue left.is_settled
+  pub scratch : IsTrue seen.view.folder.has_scratch → IsTrue left.has_scratch
+  pub failed : left.failures ≤ seen.view.folder.failures
+  pub cause : 0 < seen.view.folder.failures → 0 < left.failures
+  pub five : seen.version ≡ Five → left ≡ seen.view.folder

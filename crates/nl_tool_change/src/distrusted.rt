@@ -4,7 +4,7 @@ ghost use Rattle.nl_lines.specs.Source.{FailedBetween};
 ghost use Rattle.nl_table.specs.Log.{NotALog, OtherVersion};
 ghost use Rattle.nl_versions.specs.LogAs.{log_for};
 ghost use Rattle.nl_session.specs.declared.fault.LogFault.{LogFault};
-ghost use Rattle.nl_tool_change.specs.Calls.{folder_view};
+ghost use Rattle.nl_folder.specs.FolderView.{folder_view};
 ghost use Rattle.nl_tool_change.specs.Distrusts.{AreDistrusted, Distrusts};
 
 use nl_distrust::distrusted;

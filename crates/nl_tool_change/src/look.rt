@@ -4,7 +4,8 @@
 //! version 4 too, and write it anew as one of the version: so where 6 or 7 is asked for, a log of version 4 is of another.
 ghost use Rattle.std.specs.Prelude.{◌≢◌, None, Some};
 ghost use Rattle.nl_versions.specs.declared.version.LogVersion.{LogVersion};
-ghost use Rattle.nl_tool_change.specs.Calls.{Looks, folder_view};
+ghost use Rattle.nl_tool_change.specs.Calls.{Looks};
+ghost use Rattle.nl_folder.specs.FolderView.{folder_view};
 
 use nl_folder::Folder;
 use nl_session::LogFault;

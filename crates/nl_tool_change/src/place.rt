@@ -2,7 +2,8 @@
 ghost use Rattle.std.specs.Prelude.{◌≡◌, Result, IfErr};
 ghost use Rattle.nl_versions.specs.VersionFolder.{seen_as_version};
 ghost use Rattle.nl_tool_texts.specs.declared.fault.ToolFault.{ToolFault};
-ghost use Rattle.nl_tool_change.specs.Calls.{ChangesLog, ChangesLogAs, ChangesLogFor, ChangesSeen, IsFaultBy, IsFree, Meaning, Repairs, RepairsFor, folder_view, keeping_all};
+ghost use Rattle.nl_tool_change.specs.Calls.{ChangesLog, ChangesLogAs, ChangesLogFor, ChangesSeen, IsFaultBy, IsFree, Meaning, Repairs, RepairsFor, keeping_all};
+ghost use Rattle.nl_folder.specs.FolderView.{folder_view};
 
 use crate::change::{Change, change_log};
 use crate::log_fault::of_log_fault;

@@ -1,7 +1,6 @@
 //! The command `replay`.
 ghost use Rattle.std.specs.Prelude.{◌≡◌, [], true, false, Some, IfErr, IfOk};
-ghost use Rattle.nl_folder.specs.DiskState.{durable_disk, empty_file};
-ghost use Rattle.nl_folder.specs.MemFolder.{mem_state_of, failure_count, choices_of};
+ghost use Rattle.nl_folder.specs.MemFolder.{durable_view, mem_view_of, failure_count, choices_of};
 ghost use Rattle.nl_tool_script.specs.Faults.{IsReplayFault};
 ghost use Rattle.nl_tool_texts.specs.Output.{Prints};
 ghost use Rattle.nl_tool_script.specs.Replay.{IsReplayOf, IsReplayText, printed, reply_words, told_by};
@@ -32,12 +31,7 @@ pub fn replay_to<R: Read + Drop, W: Write>(
 
 // A folder in memory whose log is empty, which is told what the script sets, and the events.
 fn set_up(alloc: Global, script: Script) -> (MemFolder, Vec<Event>)
-    ensures state { mem_state_of result.0
-        ≡ record {
-          disk = Some (durable_disk [] empty_file);
-          is_settled = true;
-          has_scratch = false;
-        } }
+    ensures state { mem_view_of result.0 ≡ durable_view [] }
     ensures failures { failure_count result.0 ≡ 0 }
     ensures choices { choices_of result.0 ≡ told_by script }
     ensures events { result.1.items ≡ script.events.items }

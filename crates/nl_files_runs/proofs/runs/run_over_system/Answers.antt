@@ -1,6 +1,7 @@
 use Rattle.std.proofs.Common.{ℕ, sym, ap, subst, ◌∙◌}
 use Rattle.std.specs.Prelude.{Option, zip}
-use Rattle.nl_folder.specs.DiskState.{Disk, FolderState, SameState}
+use Rattle.nl_folder.specs.DiskState.{Disk}
+use Rattle.nl_folder.specs.FolderView.{FolderView, SameState}
 use Rattle.nl_session.specs.Reopening.{Moved}
 use Rattle.nl_session.specs.Runs.{BeginsAt, OpensAtLast, RestsThrough, HasRisen, faults_of}
 use Rattle.nl_files.specs.FileFolder.{system_of, state_of, failure_count}
@@ -9,28 +10,28 @@ use Rattle.nl_files_runs.proofs.runs.run_over_system.Goals as goal
 pub returns-clause-headline : goal.returns-clause-headline
 returns-clause-headline g c = λ start begins.
     c.run_events.ensures.headline start
-    (subst (λ (it : Option Disk). BeginsAt start it) (sym (ap (λ (it : FolderState). it.disk) c.in_ok-folder.ensures.state)) begins)
+    (subst (λ (it : Option Disk). BeginsAt start it) (sym (ap (λ (it : FolderView). it.disk) c.in_ok-folder.ensures.state)) begins)
 
 pub returns-clause-run : goal.returns-clause-run
 returns-clause-run g c = λ start begins.
     c.run_events.ensures.run start
-    (subst (λ (it : Option Disk). BeginsAt start it) (sym (ap (λ (it : FolderState). it.disk) c.in_ok-folder.ensures.state)) begins)
+    (subst (λ (it : Option Disk). BeginsAt start it) (sym (ap (λ (it : FolderView). it.disk) c.in_ok-folder.ensures.state)) begins)
 
 pub returns-clause-reopens : goal.returns-clause-reopens
 returns-clause-reopens g c =
     subst (λ (it : Option Disk). OpensAtLast (zip c.args.events.now c.run_events.result.1.items) it (state_of c.run_events.result.0).disk)
-    (ap (λ (it : FolderState). it.disk) c.in_ok-folder.ensures.state) c.run_events.ensures.reopens
+    (ap (λ (it : FolderView). it.disk) c.in_ok-folder.ensures.state) c.run_events.ensures.reopens
 
 pub returns-clause-disks : goal.returns-clause-disks
 returns-clause-disks g c = λ d is.
-    let same = ap (λ (it : FolderState). it.disk) c.in_ok-folder.ensures.state in
+    let same = ap (λ (it : FolderView). it.disk) c.in_ok-folder.ensures.state in
     subst (λ (it : Option Disk). Moved it (zip c.args.events.now c.run_events.result.1.items) (state_of c.run_events.result.0).disk) same
     (c.run_events.ensures.disks d (same ∙ is))
 
 pub returns-clause-rests : goal.returns-clause-rests
 returns-clause-rests g c =
     subst (λ (it : Option Disk). RestsThrough c.args.events.now it (state_of c.run_events.result.0).disk)
-    (ap (λ (it : FolderState). it.disk) c.in_ok-folder.ensures.state) c.run_events.ensures.rests
+    (ap (λ (it : FolderView). it.disk) c.in_ok-folder.ensures.state) c.run_events.ensures.rests
 
 pub returns-clause-failures : goal.returns-clause-failures
 returns-clause-failures g c =
@@ -48,7 +49,7 @@ returns-clause-outcome g c = c.run_events.ensures.outcome
 
 pub returns-clause-same : goal.returns-clause-same
 returns-clause-same g c = λ none.
-    subst (λ (it : FolderState). SameState it (state_of c.run_events.result.0)) c.in_ok-folder.ensures.state
+    subst (λ (it : FolderView). SameState it (state_of c.run_events.result.0)) c.in_ok-folder.ensures.state
     (c.run_events.ensures.same none)
 
 pub returns-clause-untouched : goal.returns-clause-untouched

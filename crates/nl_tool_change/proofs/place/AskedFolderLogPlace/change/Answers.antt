@@ -1,6 +1,7 @@
 use Rattle.std.proofs.Common.{Err, subst, sym}
 use Rattle.nl_tool_texts.specs.declared.fault.ToolFault.{ToolFault}
-use Rattle.nl_tool_change.specs.Calls.{ChangesLogFor, IsFaultBy, folder_view}
+use Rattle.nl_tool_change.specs.Calls.{ChangesLogFor, IsFaultBy}
+use Rattle.nl_folder.specs.FolderView.{folder_view}
 use Rattle.nl_tool_change.proofs.RepairLemmas.{repairs_for}
 use Rattle.nl_tool_change.proofs.SeenLemmas.{looked_at, reason_by, reason_fault, turned_back}
 use Rattle.nl_tool_change.proofs.place.AskedFolderLogPlace.change.Goals as goal
