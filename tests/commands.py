@@ -206,7 +206,7 @@ ONE_COUNTED = b"commands 1\noutputs 1\nwall 1\ntotal 1\nbusy 1\nalone 1\nparalle
 # What `compare` prints but for its lists: whether hashes were compared, and of each class the count, the difference and both times.
 COMPARED = b"hashes\t%bcompared\n" + b"".join(b"total\t%b\t%%b\n" % it for it in (b"new", b"gone", b"changed", b"slower", b"faster", b"unfinished", b"same"))
 NONE = b"0\t0\t0\t0"
-ONE_SUMMED = ONE_COUNTED + b"by-time 1 1.00 %b\nby-weight 1 1.00 %b\n"
+ONE_SUMMED = ONE_COUNTED + b"by-time 1 1.00 %b\nby-weight 1 1.00 %b\nkinds-by-time 1 1 1.00 (none)\nkinds-by-weight 1 1 1.00 (none)\n"
 # It begins 0 ms behind the first START, and nothing runs once it has ended.
 ONE_TRACED = (
     b'[{"args":{"name":"build 1"},"name":"process_name","ph":"M","pid":1},'

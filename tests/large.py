@@ -18,10 +18,10 @@ import sys
 import tempfile
 import threading
 from functools import partial
-from itertools import chain
+from itertools import accumulate, chain
 
 from log_format import HEADER, MAX_LINE, MAX_NAME, as_version, command_hash, entry_of, line_of
-from log_lines import PARTS, drawn, named_first
+from log_lines import PARTS, drawn, kinds_of, named_first, ranked_kinds
 from trials import SECONDS, main, run
 
 ENTRIES = 1_000_001
@@ -196,6 +196,11 @@ def listed(by_time, by_weight):
     return b"".join(b"by-%s %d %s %s\n" % it for it in rows)
 
 
+def kind_listed(*numbers):
+    """The lists behind these of one kind, with its commands, their milliseconds and the weighted ones."""
+    return b"".join(b"kinds-by-%s %d %d %d.00 .o\n" % (key, *numbers) for key in (b"time", b"weight"))
+
+
 def bar(build, name, command, took, lane, began):
     """The event that `trace` prints of a command of one output; times are in milliseconds from the first START."""
     kept = b'"hash":"%x","outputs":["%s"]' % (command, name)
@@ -262,7 +267,7 @@ def try_many(trials, program, room):
     first = [(7, weight, name_of(it)) for it, weight in enumerate(weights)]
     ends = chain.from_iterable([(7, weight, name_of(it)), (7, weight, name_of(ENTRIES - 1 - it))] for it, weight in enumerate(weights[:5]))
     counts_told = summed(ENTRIES, ENTRIES + 6, 7 * ENTRIES, ENTRIES + 6, 2, b"6.99", 7, name_of(0))
-    told = [counts_told, listed(first, ends)]
+    told = [counts_told, listed(first, ends), kind_listed(ENTRIES, 7 * ENTRIES, ENTRIES + 6)]
     large.want_printed("summary", told)
     for words, wanted in ((["--build", "1"], told), (["--build", "2"], [b"builds 1\n"]), (["--all"], told)):
         got = streamed([program, "summary", *words, large.log])
@@ -383,12 +388,15 @@ def try_long(trials, program, room):
     large.want_printed("builds", [b"1\t%d\t%d\t%d\t%d\n" % (1_600, 1_600, 2 * 1_599, 1_599 * 1_600)])
     # The last runs 2 x 1,599 ms, and the one before it 2 x 1,598 of these.
     entries = [entry_of(line[:-1], 5) for line in long_lines(random.Random(SEED))]
-    slowest = [(it[0], it[1][1]) for it in entries if it][:-11:-1]
+    ends = [(it[0], it[1][1]) for it in entries if it]
+    slowest = ends[:-11:-1]
     counts_told = summed(1_600, 2 * 1_599, 1_599 * 1_600, 2 * 1_599, 2, b"800.00", 2 * 1_599, slowest[0][0])
     # In the milliseconds from t before 0 to t + 1 behind it those run that end later: the one that ends at 1,599 alone in the last.
-    parts = {end: 2 * sum(PARTS // (1_599 - t) for t in range(end)) * 100 // PARTS for _, end in slowest}
-    rows = [(2 * end, b"%d.%02d" % divmod(parts[end], 100), name) for name, end in slowest]
-    large.want_printed("summary", [counts_told, listed(rows, rows)])
+    parts = [2 * it for it in accumulate((PARTS // (1_599 - t) for t in range(1_599)), initial=0)]
+    rows = [(2 * end, b"%d.%02d" % divmod(parts[end] * 100 // PARTS, 100), name) for name, end in slowest]
+    kinds = kinds_of("extension", [(2 * end, parts[end], name) for name, end in ends])
+    kinds_told = ranked_kinds(b"kinds-by-time", 1, kinds, 10) + ranked_kinds(b"kinds-by-weight", 2, kinds, 10)
+    large.want_printed("summary", [counts_told, listed(rows, rows), kinds_told])
     large.want_log(["repair", large.log], log_of_table(table))
     large.want_log(["record", large.log, *RECORD], chain(log_of_table(table), [RECORDED]))
     table[b"new"] = 11, 12, -13, 0x72274E7A30810C7B
@@ -446,7 +454,7 @@ def try_builds(trials, program, room):
     only = [bar(ENTRIES, row[2], last, ENTRIES, 1, 0), runs(ENTRIES, 1, 0), runs(ENTRIES, 0, ENTRIES)]
     large.want_printed("trace", traced(ENTRIES, only))
     large.want_printed("picture", [drawn([(0, ENTRIES, None, [row[2]])], [0])])
-    large.want_printed("summary", [summed(1, ENTRIES, ENTRIES, ENTRIES, ENTRIES, b"1.00", ENTRIES, row[2]), listed([row], [row])])
+    large.want_printed("summary", [summed(1, ENTRIES, ENTRIES, ENTRIES, ENTRIES, b"1.00", ENTRIES, row[2]), listed([row], [row]), kind_listed(1, ENTRIES, ENTRIES)])
 
 
 def try_hash(trials, program, room):

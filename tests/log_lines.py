@@ -168,6 +168,32 @@ def ranked_of(key, rank, told, most):
     return b"".join(b"%s %d %d.%02d %s\n" % (key, time, weight // PARTS, weight * 100 // PARTS % 100, name) for time, weight, name in rows)
 
 
+def kind_of(rule, name):
+    """The kind of an output: its extension with its dot, its folder, or the first of its folders."""
+    if rule == "folder":
+        return name[: name.rfind(b"/") + 1]
+    if rule == "top":
+        return name[: name.find(b"/") + 1]
+    # A dot at the beginning counts, too.
+    return os.path.splitext(b"x" + name.rsplit(b"/", 1)[-1])[1]
+
+
+def kinds_of(rule, told):
+    """The kinds of commands in the order of first appearance, each with the count of its commands, their times and their weights."""
+    kinds = {}
+    for time, weight, name in told:
+        kind = kind_of(rule, name)
+        kinds[kind] = [it + more for it, more in zip(kinds.get(kind, (0, 0, 0)), (1, time, weight))]
+    return kinds
+
+
+def ranked_kinds(key, rank, kinds, most):
+    """The lines of so many kinds at most, the largest sum first; those of one sum stay in their order."""
+    rows = sorted(kinds.items(), key=lambda it: -it[1][rank])[:most]
+    told = ((key, count, time, weight // PARTS, weight * 100 // PARTS % 100, kind or b"(none)") for kind, (count, time, weight) in rows)
+    return b"".join(b"%s %d %d %d.%02d %s\n" % it for it in told)
+
+
 def lanes_of(commands):
     """Of commands, each a START and an END, in the order of START: the lowest lane that is free as each begins."""
     lanes, ends = [], []
@@ -279,7 +305,7 @@ def drawn(commands, lanes):
     return b"".join(it if isinstance(it, bytes) else it.encode() for it in [*out, "</svg>\n"])
 
 
-def summary_of(text, most=10, number=None, of_all=False):
+def summary_of(text, most=10, number=None, of_all=False, rule="extension"):
     """What `summary` prints of a log: of its last build, of that of a number, or of the last entry of each output as of one build."""
     found, count = entries_by_build(text), unfinished_of(text)
     unfinished = b"unfinished %d\n" % count if count else b""
@@ -300,7 +326,9 @@ def summary_of(text, most=10, number=None, of_all=False):
     told = told_commands(found[-1])
     counts = (len(commands), len(found[-1]), wall, total, busy, alone, parallel, *slowest_of(told))
     eight = b"commands %d\noutputs %d\nwall %d\ntotal %d\nbusy %d\nalone %d\nparallel %s\nslowest %d %s\n" % counts
-    return eight + unfinished + ranked_of(b"by-time", 0, told, most) + ranked_of(b"by-weight", 1, told, most)
+    slowest = ranked_of(b"by-time", 0, told, most) + ranked_of(b"by-weight", 1, told, most)
+    kinds = kinds_of(rule, told)
+    return eight + unfinished + slowest + ranked_kinds(b"kinds-by-time", 1, kinds, most) + ranked_kinds(b"kinds-by-weight", 2, kinds, most)
 
 
 CLASSES = (b"new", b"gone", b"changed", b"slower", b"faster", b"unfinished", b"same")

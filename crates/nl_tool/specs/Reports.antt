@@ -29,6 +29,6 @@ IsScope false build scope = IsBuild build scope
 
 abbrev pub report_text_of : Report → List ℕ → Option (List ℕ)
 report_text_of Builds bytes = builds_text_of bytes
-report_text_of (Summary scope most) bytes = summary_text_of scope most bytes
+report_text_of (Summary scope lists) bytes = summary_text_of scope lists bytes
 report_text_of Trace bytes = trace_text_of bytes
 report_text_of Picture bytes = picture_text_of bytes

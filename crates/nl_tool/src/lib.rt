@@ -33,7 +33,9 @@ pub use nl_tool_print::{
     check_log, check_to, damage_to, entries_to, hash_for, hash_read, hash_to, load_read, show_log,
     show_to,
 };
-pub use nl_tool_report::{Scope, TableAsRead, builds_to, compare_to, read_table, summary_to};
+pub use nl_tool_report::{
+    KindRule, Lists, Scope, TableAsRead, builds_to, compare_to, read_table, summary_to,
+};
 pub use nl_tool_script::replay_to;
 pub use nl_tool_texts::{ToolFault, status_of};
 pub use nl_tool_trace::trace_to;

@@ -15,7 +15,7 @@ use crate::files::open_log;
 use crate::notes::{NotedReader, NotedWriter, Notes};
 use nl_fields::read_i64;
 use nl_tool_picture::picture_to;
-use nl_tool_report::{Scope, builds_to, summary_to};
+use nl_tool_report::{KindRule, Lists, Scope, builds_to, summary_to};
 use nl_tool_texts::ToolFault;
 use nl_tool_trace::trace_to;
 use std::alloc::Global;
@@ -26,8 +26,7 @@ use std::rt::Runtime;
 #[derive(Clone, Copy, Drop)]
 pub enum Report {
     Builds,
-    /// With lists of so many lines at most.
-    Summary { scope: Scope, most: usize },
+    Summary { scope: Scope, lists: Lists },
     /// As the events of a trace.
     Trace,
     /// As a picture.
@@ -58,7 +57,13 @@ pub fn summary_in<R: Runtime>(
     report_in(
         rt,
         alloc,
-        Report::Summary { scope, most },
+        Report::Summary {
+            scope,
+            lists: Lists {
+                most,
+                rule: KindRule::Extension,
+            },
+        },
         log,
         missing_ok,
         notes,
@@ -167,7 +172,7 @@ fn report_to<R: Read + Drop, W: Write>(
 {
     match report {
         Report::Builds => builds_to(alloc, reader, writer),
-        Report::Summary { scope, most } => summary_to(alloc, scope, most, reader, writer),
+        Report::Summary { scope, lists } => summary_to(alloc, scope, lists, reader, writer),
         Report::Trace => trace_to(alloc, reader, writer),
         Report::Picture => picture_to(alloc, reader, writer),
     }

@@ -11,7 +11,7 @@ use Rattle.nl_tool_report.specs.Compare.{Compared, class_lines, cost, fresh, lac
 use Rattle.nl_tool_report.specs.ComparedRows.{compared_of, compared_rows, cost_of}
 use Rattle.nl_tool_report.specs.Slowest.{falling}
 use Rattle.nl_tool_report.proofs.FallingLemmas.{map-falling}
-use Rattle.nl_tool_report.proofs.SlowestLemmas.{map-take, take_least}
+use Rattle.nl_tool_report.proofs.ListedLemmas.{map-take, take_least}
 use Rattle.nl_tool_report.specs.declared.class.Class.{Class}
 use Rattle.nl_tool_report.specs.declared.compared.ComparedRow.{ComparedRow}
 

@@ -8,7 +8,10 @@ mod LeftOverLemmas
 mod LastBuildLemmas
 pub mod IntentLemmas
 pub mod FallingLemmas
+mod ListedLemmas
 mod SlowestLemmas
+mod KindLemmas
+mod KindSumLemmas
 mod SummaryLemmas
 mod FirstBuildLemmas
 mod EndingLemmas

@@ -8,6 +8,7 @@ pub mod Sweep
 pub mod FirstBuilds
 pub mod Fraction
 pub mod Slowest
+pub mod Kinds
 pub mod Outputs
 pub mod Summary
 pub mod Compare
@@ -15,3 +16,4 @@ pub mod ComparedRows
 pub mod SweepSteps
 pub mod Shares
 pub mod EndingSteps
+pub mod KindSteps

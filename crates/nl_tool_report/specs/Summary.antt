@@ -10,9 +10,11 @@ use Rattle.nl_tool_report.specs.Intents.{recorded, unfinished}
 use Rattle.nl_tool_report.specs.Outputs.{outputs}
 use Rattle.nl_tool_report.specs.Fraction.{ratio}
 use Rattle.nl_tool_report.specs.LastBuild.{slowest_of, spans_of}
-use Rattle.nl_tool_report.specs.Slowest.{slowest_lists, told_commands}
+use Rattle.nl_tool_report.specs.Slowest.{told_commands}
+use Rattle.nl_tool_report.specs.Kinds.{command_lists}
 use Rattle.nl_tool_report.specs.Sweep.{alone_time, busy_time}
 use Rattle.nl_tool_report.specs.declared.builds.Build.{Build}
+use Rattle.nl_tool_report.specs.declared.lists.Lists.{Lists}
 use Rattle.nl_tool_report.specs.declared.scope.Scope.{Scope}
 use Rattle.nl_tool_report.specs.declared.scope.Scope.TheVariants.{Last, Numbered, Outputs}
 
@@ -41,29 +43,29 @@ build_summary b = summary_lines (build_of b) (busy_time (spans_of (items b))) (a
 abbrev pub unfinished_line : ℕ → List ℕ
 unfinished_line count = if count == 0 then [] else codes "unfinished " ++ decimal count ++ codes "\n"
 
--- and behind these the lists of the slowest commands, each of so many lines at most
-abbrev pub build_told : ℕ → ℕ → Run Entry → List ℕ
-build_told most count b = build_summary b ++ unfinished_line count ++ slowest_lists most (told_commands (items b))
+-- and behind these the lists of the slowest commands and of kinds
+abbrev pub build_told : Lists → ℕ → Run Entry → List ℕ
+build_told lists count b = build_summary b ++ unfinished_line count ++ command_lists lists (told_commands (items b))
 
 -- that of the last build
-abbrev pub last_summary : ℕ → ℕ → List (Run Entry) → List ℕ
-last_summary most count [] = unfinished_line count
-last_summary most count (b ∷ []) = build_told most count b
-last_summary most count (b ∷ c ∷ bs) = last_summary most count (c ∷ bs)
+abbrev pub last_summary : Lists → ℕ → List (Run Entry) → List ℕ
+last_summary lists count [] = unfinished_line count
+last_summary lists count (b ∷ []) = build_told lists count b
+last_summary lists count (b ∷ c ∷ bs) = last_summary lists count (c ∷ bs)
 
 -- said where there are fewer builds than were asked for: how many there are
 abbrev pub fewer_line : ℕ → List ℕ
 fewer_line count = codes "builds " ++ decimal count ++ codes "\n"
 
 -- that of the build of a number, from 1: of the last of so many first ones
-abbrev pub numbered_summary : ℕ → ℕ → ℕ → List (Run Entry) → List ℕ
-numbered_summary number most count bs = if nat_lt (length bs) number then fewer_line (length bs) ++ unfinished_line count
-    else last_summary most count (take number bs)
+abbrev pub numbered_summary : ℕ → Lists → ℕ → List (Run Entry) → List ℕ
+numbered_summary number lists count bs = if nat_lt (length bs) number then fewer_line (length bs) ++ unfinished_line count
+    else last_summary lists count (take number bs)
 
-abbrev pub asked_summary : Scope → ℕ → ℕ → List (Run Entry) → List ℕ
-asked_summary Last most count bs = last_summary most count bs
-asked_summary (Numbered number) most count bs = numbered_summary number most count bs
-asked_summary Outputs most count bs = last_summary most count bs
+abbrev pub asked_summary : Scope → Lists → ℕ → List (Run Entry) → List ℕ
+asked_summary Last lists count bs = last_summary lists count bs
+asked_summary (Numbered number) lists count bs = numbered_summary number lists count bs
+asked_summary Outputs lists count bs = last_summary lists count bs
 
 -- the entries that are told of: those that are no intents, or of the last entries of outputs those, in the order in which they ended
 abbrev pub told_entries : Scope → List Entry → List Entry
@@ -72,8 +74,8 @@ told_entries (Numbered number) entries = recorded entries
 told_entries Outputs entries = outputs entries
 
 -- the text of `summary`
-abbrev pub summary_text : Scope → ℕ → List Entry → List ℕ
-summary_text scope most entries = asked_summary scope most (unfinished entries) (builds (told_entries scope entries))
+abbrev pub summary_text : Scope → Lists → List Entry → List ℕ
+summary_text scope lists entries = asked_summary scope lists (unfinished entries) (builds (told_entries scope entries))
 
-abbrev pub summary_text_of : Scope → ℕ → List ℕ → Option (List ℕ)
-summary_text_of scope most bytes = report_of (summary_text scope most) (log_of (as_five bytes))
+abbrev pub summary_text_of : Scope → Lists → List ℕ → Option (List ℕ)
+summary_text_of scope lists bytes = report_of (summary_text scope lists) (log_of (as_five bytes))

@@ -6,12 +6,15 @@ ghost use Rattle.std.specs.List.Sorted.{IsPermutation};
 ghost use Rattle.nl_fields.specs.declared.entry.Entry.{Entry};
 ghost use Rattle.nl_tool_report.specs.Runs.{items, joined_runs};
 ghost use Rattle.nl_tool_report.specs.Commands.{commands, time_of};
-ghost use Rattle.nl_tool_report.specs.Builds.{builds};
+ghost use Rattle.nl_tool_report.specs.Builds.{builds, total_time};
 ghost use Rattle.nl_table.specs.Table.{entry_names};
 ghost use Rattle.nl_tool_report.specs.Compare.{Compared, classes, compared, is_of, lacking, of_class};
-ghost use Rattle.nl_tool_report.specs.Slowest.{Told, falling, ranked};
+ghost use Rattle.nl_tool_report.specs.Kinds.{KindTold, kinds, named_kind, of_kind};
+ghost use Rattle.nl_tool_report.specs.LastBuild.{spans_of};
+ghost use Rattle.nl_tool_report.specs.Slowest.{Told, falling, ranked, told_commands};
 ghost use Rattle.nl_tool_report.specs.Outputs.{by_end};
 ghost use Rattle.nl_tool_report.specs.Sweep.{busy_time, left_over, parts, weight};
+ghost use Rattle.nl_tool_report.specs.declared.kind.KindRule.{KindRule};
 ghost use Rattle.nl_tool_report.specs.declared.span.Span.{Span};
 
 /// The outputs of the commands, in order, are the entries of the log, each once.
@@ -51,6 +54,42 @@ pub fn the_slowest_come_first()
         → rank (slice_index_or (falling rank ts) j d) ≤ rank (slice_index_or (falling rank ts) i d) }
     ensures alike { (rank : Told → ℕ) (v : ℕ) (ts : List Told)
         → ranked rank v (falling rank ts) ≡ ranked rank v ts }
+{}
+
+/// The same of kinds, by their sums.
+pub fn the_largest_kinds_come_first()
+    ensures each { (rank : KindTold → ℕ) (ks : List KindTold) → IsPermutation ks (falling rank ks) }
+    ensures order { (rank : KindTold → ℕ) (ks : List KindTold) (i j : ℕ) (d : KindTold) → i ≤ j
+        → j < length (falling rank ks)
+        → rank (slice_index_or (falling rank ks) j d) ≤ rank (slice_index_or (falling rank ks) i d) }
+    ensures alike { (rank : KindTold → ℕ) (v : ℕ) (ks : List KindTold)
+        → ranked rank v (falling rank ks) ≡ ranked rank v ks }
+{}
+
+/// Each kind is told once, with the sums of its own commands.
+pub fn each_kind_is_its_commands()
+    ensures once { (rule : KindRule) (kind : List ℕ) (ts : List Told)
+        → length (named_kind kind (kinds rule ts)) ≤ 1 }
+    ensures commands { (rule : KindRule) (kind : List ℕ) (ts : List Told)
+        → sum_by (λ k. k.commands) (named_kind kind (kinds rule ts)) ≡ length (of_kind rule kind ts) }
+    ensures times { (rule : KindRule) (kind : List ℕ) (ts : List Told)
+        → sum_by (λ k. k.time) (named_kind kind (kinds rule ts))
+        ≡ sum_by (λ t. t.time) (of_kind rule kind ts) }
+    ensures weights { (rule : KindRule) (kind : List ℕ) (ts : List Told)
+        → sum_by (λ k. k.weight) (named_kind kind (kinds rule ts))
+        ≡ sum_by (λ t. t.weight) (of_kind rule kind ts) }
+{}
+
+/// The commands of all kinds are those of the build, and their times add up to the sum of its commands' times. Their weighted
+/// times, and what is left over, add up to the time in which one command at least runs.
+pub fn kinds_add_up()
+    ensures commands { (rule : KindRule) (es : List Entry)
+        → sum_by (λ k. k.commands) (kinds rule (told_commands es)) ≡ length (commands es) }
+    ensures times { (rule : KindRule) (es : List Entry)
+        → sum_by (λ k. k.time) (kinds rule (told_commands es)) ≡ total_time es }
+    ensures weights { (rule : KindRule) (es : List Entry)
+        → sum_by (λ k. k.weight) (kinds rule (told_commands es)) + left_over (spans_of es)
+        ≡ parts * busy_time (spans_of es) }
 {}
 
 /// The outputs that are compared are those of the old log, in its order, and then those that the new one alone has.

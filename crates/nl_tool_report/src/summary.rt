@@ -11,9 +11,10 @@ ghost use Rattle.nl_tool_print.specs.Faults.{IsLogFault};
 ghost use Rattle.nl_tool_print.specs.Output.{IsTextAsRead};
 ghost use Rattle.nl_versions.specs.VersionOf.{as_five};
 ghost use Rattle.nl_tool_report.specs.Builds.{builds};
+ghost use Rattle.nl_tool_report.specs.Kinds.{command_lists};
 ghost use Rattle.nl_tool_report.specs.LastBuild.{named, outputs_of, spans_of};
 ghost use Rattle.nl_tool_report.specs.Shares.{AreSharesOf};
-ghost use Rattle.nl_tool_report.specs.Slowest.{slowest_lists, told_commands};
+ghost use Rattle.nl_tool_report.specs.Slowest.{told_commands};
 ghost use Rattle.nl_tool_report.specs.Summary.{asked_summary, fewer_line, last_summary, numbered_summary, slowest_line, summary_lines, summary_text_of, told_entries, unfinished_line};
 
 use crate::builds::{Build, builds_in};
@@ -22,7 +23,9 @@ use crate::entry_text::read_entries;
 use crate::first_builds::first_builds;
 use crate::fraction::ratio;
 use crate::intents::{unfinished_in, without_intents};
+use crate::kinds::append_kind_lists;
 use crate::last_commands::{LastBuild, last_build};
+use crate::lists::Lists;
 use crate::scope::Scope;
 use crate::shares::Shares;
 use crate::slowest::{append_slowest_lists, rows_of};
@@ -36,16 +39,16 @@ use std::io::{Read, Write};
 /// first START to its last END, the sum of the commands' times, the milliseconds in which one command at least ran and those in
 /// which one alone did, how many ran at a time in the mean, and the slowest command. Behind them it says how many outputs wait for
 /// a command that didn't end, where one does. Then it writes so many lines at most of the slowest commands by time, and as many by
-/// weighted time. If there is no build of the number that is asked for, it writes how many builds there are. The last entries of all
-/// outputs are told as one build. An intent is no command.
+/// weighted time, and the same of the kinds of commands. If there is no build of the number that is asked for, it writes how many
+/// builds there are. The last entries of all outputs are told as one build. An intent is no command.
 pub fn summary_to<R: Read + Drop, W: Write>(
     alloc: Global,
     scope: Scope,
-    most: usize,
+    lists: Lists,
     reader: R,
     writer: &mut W,
 ) -> Result<(), ToolFault>
-    ensures prints { Prints (IsTextAsRead (summary_text_of scope most) (R.remaining reader)) (W.contents writer.old)
+    ensures prints { Prints (IsTextAsRead (summary_text_of scope lists) (R.remaining reader)) (W.contents writer.old)
         (W.contents writer.new) result }
     ensures not_a_log { IsErrOf result ToolFault.NotALog
         → IfSome (R.remaining reader) (λ bs. log_of (as_five bs) ≡ NotALog) }
@@ -56,7 +59,7 @@ pub fn summary_to<R: Read + Drop, W: Write>(
     let text = read_entries(alloc, reader)?;
     let count = unfinished_in(alloc, text.as_slice())?;
     let told = told_lines(alloc, scope, text)?;
-    let lines = asked_lines(alloc, scope, most, count, told.as_slice())?;
+    let lines = asked_lines(alloc, scope, lists, count, told.as_slice())?;
     write_out(lines.as_slice(), writer)
 }
 
@@ -75,16 +78,16 @@ fn told_lines(alloc: Global, scope: Scope, text: Vec<u8>) -> Result<Vec<u8>, All
 fn asked_lines(
     alloc: Global,
     scope: Scope,
-    most: usize,
+    lists: Lists,
     count: u64,
     text: &[u8],
 ) -> Result<Vec<u8>, AllocError>
     ensures value { (es : List Entry) → All IsEntry es → text.now ≡ lines_of_entries es
-        → IfOk result (λ lines. lines.items ≡ asked_summary scope most count (builds es)) }
+        → IfOk result (λ lines. lines.items ≡ asked_summary scope lists count (builds es)) }
 {
     match scope {
-        Scope::Last | Scope::Outputs => last_build_lines(alloc, most, count, text),
-        Scope::Numbered(number) => numbered_lines(alloc, number, most, count, text),
+        Scope::Last | Scope::Outputs => last_build_lines(alloc, lists, count, text),
+        Scope::Numbered(number) => numbered_lines(alloc, number, lists, count, text),
     }
 }
 
@@ -92,15 +95,15 @@ fn asked_lines(
 fn numbered_lines(
     alloc: Global,
     number: u64,
-    most: usize,
+    lists: Lists,
     count: u64,
     text: &[u8],
 ) -> Result<Vec<u8>, AllocError>
     ensures value { (es : List Entry) → All IsEntry es → text.now ≡ lines_of_entries es
-        → IfOk result (λ lines. lines.items ≡ numbered_summary number most count (builds es)) }
+        → IfOk result (λ lines. lines.items ≡ numbered_summary number lists count (builds es)) }
 {
     match first_builds(text, number) {
-        Some(front) => last_build_lines(alloc, most, count, front),
+        Some(front) => last_build_lines(alloc, lists, count, front),
         None => fewer_lines(alloc, count, text),
     }
 }
@@ -122,12 +125,12 @@ fn fewer_lines(alloc: Global, count: u64, text: &[u8]) -> Result<Vec<u8>, AllocE
 // What is told of the last build.
 fn last_build_lines(
     alloc: Global,
-    most: usize,
+    lists: Lists,
     count: u64,
     text: &[u8],
 ) -> Result<Vec<u8>, AllocError>
     ensures value { (es : List Entry) → All IsEntry es → text.now ≡ lines_of_entries es
-        → IfOk result (λ lines. lines.items ≡ last_summary most count (builds es)) }
+        → IfOk result (λ lines. lines.items ≡ last_summary lists count (builds es)) }
 {
     let mut found = builds_in(alloc, text)?;
     let Some(build) = found.pop() else {
@@ -138,7 +141,7 @@ fn last_build_lines(
     let mut lines = summary_lines(alloc, &build, shares.busy(), shares.alone())?;
     append_slowest(alloc, &ran.slowest, &mut lines)?;
     append_unfinished(alloc, count, &mut lines)?;
-    append_lists(alloc, most, &ran, &shares, &mut lines)?;
+    append_lists(alloc, lists, &ran, &shares, &mut lines)?;
     Ok(lines)
 }
 
@@ -163,10 +166,10 @@ fn append_unfinished(alloc: Global, count: u64, lines: &mut Vec<u8>) -> Result<(
     Ok(())
 }
 
-// The lists of the slowest commands, each of so many lines at most.
+// The lists of the slowest commands and of kinds.
 fn append_lists(
     alloc: Global,
-    most: usize,
+    lists: Lists,
     ran: &LastBuild<'_>,
     shares: &Shares,
     lines: &mut Vec<u8>,
@@ -175,9 +178,9 @@ fn append_lists(
     requires alike { length ran.now.commands.items ≡ length ran.now.outputs.items }
     ensures items { (es : List Entry) → ran.now.commands.items ≡ spans_of es
         → named ran.now.outputs.items ≡ outputs_of es
-        → OnOk result (lines.new.items ≡ lines.old.items ++ slowest_lists most (told_commands es)) }
+        → OnOk result (lines.new.items ≡ lines.old.items ++ command_lists lists (told_commands es)) }
 {
-    if most == 0 {
+    if lists.most == 0 {
         return Ok(());
     }
     let rows = rows_of(
@@ -186,7 +189,8 @@ fn append_lists(
         ran.outputs.as_slice(),
         shares,
     )?;
-    append_slowest_lists(alloc, most, rows.as_slice(), lines)
+    append_slowest_lists(alloc, lists.most, rows.as_slice(), lines)?;
+    append_kind_lists(alloc, lists, rows.as_slice(), lines)
 }
 
 // The command that took the longest, if there is one.

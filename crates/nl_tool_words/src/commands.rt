@@ -337,6 +337,14 @@ TIME      how long the command took, in milliseconds
 WEIGHTED  the same, where a millisecond in which k commands ran counts 1/k; rounded down
 OUTPUT    its first output
 
+Two lists of the kinds of commands follow, with the largest sums first: KEY, COUNT, TIME, WEIGHTED and
+KIND.
+
+KEY       `kinds-by-time` or `kinds-by-weight`; equal ones stand as their first commands in LOG
+COUNT     how many commands are of the kind
+TIME      the sum of their times, and WEIGHTED that of their weighted times
+KIND      the extension of the first output, with its dot; `(none)` where there is none
+
 Commands and builds are those of `builds`. Where LOG has no entry, nothing is printed. Where it has
 fewer builds than BUILD, a line `builds` tells how many it has, in the place of all but `unfinished`.
 With `--all`, each START and END counts from the beginning of its own build.",
