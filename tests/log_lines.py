@@ -258,13 +258,14 @@ def picture_of(text):
 def drawn(commands, lanes):
     """The picture of commands in their lanes, in tenths of a pixel: all of the build is 14,400 wide, from 600 on. A command is its START, its END,
     anything, and its outputs."""
-    known, out, short = [], [], collections.Counter()
+    times, out, short = {}, [], collections.Counter()
     began, top = commands[0][0] if commands else 0, max(lanes, default=0)
     wall = max([max(it[:2]) for it in commands], default=0) - began
-    for names in (it[3] for it in commands):
-        kind = os.path.splitext(b"x" + names[0].rsplit(b"/", 1)[-1])[1]
-        if kind not in known and len(known) < 9:
-            known.append(kind)
+    for start, end, _, names in commands:
+        kind = kind_of("extension", names[0])
+        times[kind] = times.get(kind, 0) + max(0, end - start)
+    # The nine that took the longest; equal ones stand in the order of first appearance.
+    known = sorted(times, key=lambda it: -times[it])[:9]
     foot = 2000 + 160 * top
     height = foot + 300 + 200 * (len(known) + 1)
     out.append(
@@ -277,7 +278,7 @@ def drawn(commands, lanes):
         out.append(line % (600 + at * 1440, foot, 600 + at * 1440, *divmod(at * wall // 10, 1000)))
     start_of = '<rect x="%d" y="%d" width="%d" height="140" fill="hsl(%d,50%%,60%%)"><title>'
     for (start, end, _, names), lane in zip(commands, lanes):
-        kind = os.path.splitext(b"x" + names[0].rsplit(b"/", 1)[-1])[1]
+        kind = kind_of("extension", names[0])
         place = known.index(kind) if kind in known else 9
         x, took = 600 + (start - began) * 14400 // max(wall, 1), max(0, end - start)
         width = took * 14400 // max(wall, 1)

@@ -3,3 +3,4 @@ mod BarLemmas
 mod CurveLemmas
 mod MarkLemmas
 mod EscapeLemmas
+mod KindLemmas

@@ -1,10 +1,13 @@
-//! The kinds of commands, by the ends of their outputs' names.
-ghost use Rattle.std.specs.Prelude.{◌≡◌, ◌<◌, drop, length, map, IfOk, OnOk};
+//! The kinds of commands, by the extensions of their first outputs.
+ghost use Rattle.std.specs.Prelude.{◌≡◌, map, IfOk};
+ghost use Rattle.nl_tool_report.specs.KindSteps.{kind_row};
 ghost use Rattle.nl_tool_report.specs.LastBuild.{named};
+ghost use Rattle.nl_tool_report.specs.Slowest.{told_row};
 ghost use Rattle.nl_tool_trace.specs.Events.{first_output};
 ghost use Rattle.nl_tool_trace.specs.Jobs.{job};
-ghost use Rattle.nl_tool_picture.specs.Kinds.{kind_behind, kind_of, kind_of_job, kinds, place_of, with_kind};
+ghost use Rattle.nl_tool_picture.specs.Kinds.{first_names, kind_of_job, kinds, place_of, told_job};
 
+use nl_tool_report::{KindRow, KindRule, Rank, Row, falling_kinds, kind_of};
 use nl_tool_trace::Command;
 use std::alloc::{AllocError, Global};
 
@@ -21,36 +24,11 @@ pub(crate) fn first_output<'a>(command: &Command<'a>) -> &'a [u8]
     }
 }
 
-// The extension of a name, with its dot.
-fn kind_of(name: &[u8]) -> &[u8]
-    ensures value { result.now ≡ kind_of name.now }
-{
-    let mut found: &[u8] = b"";
-    for i in 0..name.len() {
-        found = step(found, &name[i..]);
-    }
-    found
-}
-
-// What is found of a name, the rest of which begins with this byte.
-fn step<'a>(found: &'a [u8], rest: &'a [u8]) -> &'a [u8]
-    requires some { 0 < length rest.now }
-    ensures value { kind_behind result.now (drop 1 rest.now) ≡ kind_behind found.now rest.now }
-{
-    if rest[0] == b'/' {
-        return b"";
-    }
-    if rest[0] == b'.' {
-        return rest;
-    }
-    found
-}
-
 /// Where the kind of a command stands among others, behind them if it is none of them.
 pub(crate) fn place_of(command: &Command<'_>, kinds: &[&[u8]]) -> u64
     ensures value { result ≡ place_of (kind_of_job (job command.now)) (named kinds.now) }
 {
-    place_in(kind_of(first_output(command)), kinds) as u64
+    place_in(kind_of(KindRule::Extension, first_output(command)), kinds) as u64
 }
 
 fn place_in(kind: &[u8], kinds: &[&[u8]]) -> usize
@@ -64,28 +42,44 @@ fn place_in(kind: &[u8], kinds: &[&[u8]]) -> usize
     kinds.len()
 }
 
-/// The kinds of commands in the order in which they come.
+/// The kinds of commands that took the longest, the longest first.
 pub(crate) fn kinds_of<'a>(
     alloc: Global,
     commands: &[Command<'a>],
 ) -> Result<Vec<&'a [u8]>, AllocError>
     ensures value { IfOk result (λ ks. named ks.items ≡ kinds (map job commands.now)) }
 {
-    let mut kinds = Vec::new(alloc);
-    for command in commands {
-        add(kind_of(first_output(command)), &mut kinds)?;
-    }
-    Ok(kinds)
+    let rows = rows_of(alloc, commands)?;
+    let found = nl_tool_report::kinds_of(alloc, KindRule::Extension, rows.as_slice())?;
+    let sorted = falling_kinds(alloc, Rank::Time, found.as_slice())?;
+    names_of(alloc, sorted.as_slice())
 }
 
-fn add<'a>(kind: &'a [u8], kinds: &mut Vec<&'a [u8]>) -> Result<(), AllocError>
-    ensures items { OnOk result (named kinds.new.items ≡ with_kind (named kinds.old.items) kind.now) }
+// The commands, as they count for their kinds.
+fn rows_of<'a>(alloc: Global, commands: &[Command<'a>]) -> Result<Vec<Row<'a>>, AllocError>
+    ensures value { IfOk result
+        (λ rows. map told_row rows.items ≡ map told_job (map job commands.now)) }
 {
-    if place_in(kind, kinds.as_slice()) < kinds.len() {
-        return Ok(());
+    let mut rows = Vec::new(alloc);
+    for command in commands {
+        rows.push(Row {
+            time: command.span.time(),
+            weight: 0,
+            output: first_output(command),
+        })?;
     }
-    if kinds.len() < TOLD {
-        kinds.push(kind)?;
+    Ok(rows)
+}
+
+// The names of so many kinds at most as are told apart.
+fn names_of<'a>(alloc: Global, kinds: &[KindRow<'a>]) -> Result<Vec<&'a [u8]>, AllocError>
+    ensures value { IfOk result
+        (λ names. named names.items ≡ first_names (map kind_row kinds.now)) }
+{
+    let count = TOLD.min(kinds.len());
+    let mut names = Vec::new(alloc);
+    for i in 0..count {
+        names.push(kinds[i].kind)?;
     }
-    Ok(())
+    Ok(names)
 }

@@ -8,7 +8,7 @@ mod LeftOverLemmas
 mod LastBuildLemmas
 pub mod IntentLemmas
 pub mod FallingLemmas
-mod ListedLemmas
+pub mod ListedLemmas
 mod SlowestLemmas
 mod KindLemmas
 mod KindSumLemmas

@@ -428,8 +428,9 @@ One SVG file, which each browser shows:
 Each command is a bar in a lane, and no lane has two commands at one time. Hold the mouse over a bar:
 it tells the first output, how many more there are, how long the command took, and when it began, in
 seconds from the first START of the build. The colour is that of the kind, which is the extension of
-the first output: nine kinds are told apart, and the legend names them. What is narrower than half a
-pixel has one bar together with its neighbours of the same lane, pixel and kind.
+the first output: the nine kinds that took the longest are told apart, and the legend names them.
+What is narrower than half a pixel has one bar together with its neighbours of the same lane, pixel
+and kind.
 
 Below the lanes is the curve of how many commands ran. Commands and builds are those of `builds`. A
 byte that isn't UTF-8, and a control character, is shown as U+FFFD.",
