@@ -64,6 +64,7 @@ ROWS = [
     (["summary", "--build", "1", "LOG"], TORN, ROOMY, None, TORN),
     (["summary", "--build", "0", "LOG"], TORN, ROOMY, None, TORN),
     (["summary", "--all", "LOG"], TORN, ROOMY, None, TORN),
+    (["summary", "--kind", "top", "LOG"], TORN, ROOMY, None, TORN),
     (["compare", "LOG", "LOG"], TORN, ROOMY, None, TORN),
     (["compare", "LOG", "LOG"], NO_LOG, ROOMY, None, NO_LOG),
     (["compare", "LOG", "MISSING"], TORN, ROOMY, None, TORN),

@@ -207,6 +207,18 @@ ONE_COUNTED = b"commands 1\noutputs 1\nwall 1\ntotal 1\nbusy 1\nalone 1\nparalle
 COMPARED = b"hashes\t%bcompared\n" + b"".join(b"total\t%b\t%%b\n" % it for it in (b"new", b"gone", b"changed", b"slower", b"faster", b"unfinished", b"same"))
 NONE = b"0\t0\t0\t0"
 ONE_SUMMED = ONE_COUNTED + b"by-time 1 1.00 %b\nby-weight 1 1.00 %b\nkinds-by-time 1 1 1.00 (none)\nkinds-by-weight 1 1 1.00 (none)\n"
+# Three commands, one after another, and what `summary` prints of them: of 1 ms, 2 ms and 4 ms, in folders of each depth.
+NESTED = b"# ninja log v7\n0\t1\t1\ta.o\t1\n1\t3\t1\tlib/b.o\t2\n3\t7\t1\tlib/x/c\t3\n"
+KINDS_COUNTED = (
+    b"commands 3\noutputs 3\nwall 7\ntotal 7\nbusy 7\nalone 7\nparallel 1.00\nslowest 4 lib/x/c\n"
+    b"by-time 4 4.00 lib/x/c\nby-time 2 2.00 lib/b.o\nby-time 1 1.00 a.o\n"
+    b"by-weight 4 4.00 lib/x/c\nby-weight 2 2.00 lib/b.o\nby-weight 1 1.00 a.o\n"
+)
+KINDS_RANKED = {
+    "extension": b"".join(b"kinds-by-%b 1 4 4.00 (none)\nkinds-by-%b 2 3 3.00 .o\n" % (it, it) for it in (b"time", b"weight")),
+    "folder": b"".join(b"kinds-by-%b 1 4 4.00 lib/x/\nkinds-by-%b 1 2 2.00 lib/\nkinds-by-%b 1 1 1.00 (none)\n" % (it, it, it) for it in (b"time", b"weight")),
+    "top": b"".join(b"kinds-by-%b 2 6 6.00 lib/\nkinds-by-%b 1 1 1.00 (none)\n" % (it, it) for it in (b"time", b"weight")),
+}
 # It begins 0 ms behind the first START, and nothing runs once it has ended.
 ONE_TRACED = (
     b'[{"args":{"name":"build 1"},"name":"process_name","ph":"M","pid":1},'
@@ -307,6 +319,8 @@ TWO_VERBOSE = TWO_VERSIONS.replace(b"--log-version <VERSION>", b"--verbose")
 # Of the option by which a log may be missing, as a command says which doesn't have it.
 NO_MISSING = NO_OPTION.replace(b"--log-version", b"--missing-ok")
 TWO_BUILDS = TWO_VERSIONS.replace(b"--log-version <VERSION>", b"--build <BUILD>").replace(b"nlog show", b"nlog summary")
+TWO_KINDS = TWO_VERSIONS.replace(b"--log-version <VERSION>", b"--kind <RULE>").replace(b"nlog show", b"nlog summary")
+NO_KIND = b"error: invalid value '%b' for '--kind <RULE>': it is extension, folder or top\n\nUsage: nlog [COMMAND]\n" + MORE
 TWO_SCOPES = b"error: the argument '--build <BUILD>' cannot be used with '--all'\n\nUsage: nlog [COMMAND]\n" + MORE
 TWO_MISSING = TWO_VERSIONS.replace(b"--log-version <VERSION>", b"--missing-ok").replace(b"nlog show", b"nlog entries")
 # What a log that is missing was, with `--verbose`.
@@ -322,7 +336,7 @@ Usage: nlog --version
 # Logs of versions that are long, by their names.
 LONG_VERSIONS = {"digits18": b"8" * 18, "digits19": b"9" * 19, "digits500": b"1" * 500, "digits": b"7" * 262_130}
 
-# Words, where INPUT is standard input and `file` is FILE, `four`, `six` and `seven` FOUR, SIX and SEVEN, `eight` a log of version 8; the status and both outputs.
+# Words, where INPUT is standard input and `file` is FILE, `four`, `six`, `seven` and `nested` FOUR, SIX, SEVEN and NESTED, `eight` a log of version 8; the status and both outputs.
 WORDS = [
     ([], 0, INPUT_SHOWN, b""),
     (["show"], 0, INPUT_SHOWN, b""),
@@ -402,6 +416,14 @@ WORDS = [
     (["summary", "--all", "--build", "x", "missing"], 2, b"", TWO_SCOPES),
     (["summary", "--build=1", "file", "--all"], 2, b"", TWO_SCOPES),
     (["summary", "--all", "-n", "x", "file"], 1, b"", BAD_NUMBER),
+    *[(["summary", f"--kind={rule}", "-n9", "nested"], 0, KINDS_COUNTED + ranked, b"") for rule, ranked in KINDS_RANKED.items()],
+    (["summary", "-n9", "nested"], 0, KINDS_COUNTED + KINDS_RANKED["extension"], b""),
+    (["summary", "nested", "--kind", "top", "--all", "-n", "9"], 0, KINDS_COUNTED + KINDS_RANKED["top"], b""),
+    *[(["summary", "--kind", rule, "missing"], 2, b"", NO_KIND % rule.encode()) for rule in ("", "Folder", "exts", "x", "folder,top")],
+    (["summary", "--kind", "x", "--all", "--build=1", "file"], 2, b"", TWO_SCOPES),
+    (["summary", "--kind", "x", "-n", "x", "file"], 2, b"", NO_KIND % b"x"),
+    (["summary", "--kind", "top", "file", "--kind=top"], 2, b"", TWO_KINDS),
+    (["summary", "file", "--kind"], 2, b"", NO_VERSION.replace(b"--log-version <VERSION>", b"--kind <RULE>")),
     (["summary", "--build", "1", "file", "--build=1"], 2, b"", TWO_BUILDS),
     (["summary", "file", "--build"], 2, b"", NO_VERSION.replace(b"--log-version <VERSION>", b"--build <BUILD>")),
     (["summary", "--build", "9223372036854775808"], 1, b"", BAD_NUMBER),
@@ -1043,6 +1065,7 @@ def try_words(trials, program, room):
     write(f"{room}/-file", FILE)
     write(f"{room}/six", SIX)
     write(f"{room}/seven", SEVEN)
+    write(f"{room}/nested", NESTED)
     write(f"{room}/four", FOUR)
     write(f"{room}/eight", b"# ninja log v8\n")
     write(f"{room}/header", b"# ninja log v9\n")

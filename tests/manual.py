@@ -85,6 +85,11 @@ def try_completion(trials, program, room, help_text, commands):
             want([name, "--log-version=7", "b"], ["b.log"] if values[0] in FILES else [])
             # Behind `--` it is the first value.
             want([name, "--", "--log-version", ""], ["a file", "b.log"] if values[1:2] and values[1] in FILES else [])
+        if "--kind" in own:
+            want([name, "--kind", ""], ["extension", "folder", "top"])
+            want([name, "--kind", "f"], ["folder"])
+            want([name, "--kind", "top", "b"], ["b.log"])
+            want([name, "--", "--kind", ""], [])
 
 
 def try_library_page(trials):

@@ -245,6 +245,9 @@ def try_builds(trials, program, room):
                 trials.want(f"{kind}, version {version}: summary of build {number}", got, (0, summary_of(text, 2, number), b""))
             got = run([program, "summary", "-n", "3", "--all", f"{room}/LOG"])
             trials.want(f"{kind}, version {version}: summary of all outputs", got, (0, summary_of(text, 3, of_all=True), b""))
+            for rule in ("extension", "folder", "top"):
+                got = run([program, "summary", f"--kind={rule}", f"{room}/LOG"])
+                trials.want(f"{kind}, version {version}: its kinds by {rule}", got, (0, summary_of(text, rule=rule), b""))
             status, out, err = run([program, "trace", f"{room}/LOG"])
             trials.want(f"{kind}, version {version}: trace", (status, out, err), (0, trace_of(text), b""))
             trials.want(f"{kind}, version {version}: its lanes", lanes_that_fail(json.loads(out.decode())), [])

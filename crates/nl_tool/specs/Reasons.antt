@@ -97,7 +97,7 @@ read_place (Entries log) = Some (given_or_input at.Log log)
 read_place (Damage log) = Some (given_or_input at.Log log)
 read_place (Doubt log) = Some (given_or_input at.Log log)
 read_place (Builds log) = Some (given_or_input at.Log log)
-read_place (Summary log build all lines) = Some (given_or_input at.Log log)
+read_place (Summary log build all kind lines) = Some (given_or_input at.Log log)
 read_place (Compare old new lines) = None
 read_place (Trace log) = Some (given_or_input at.Log log)
 read_place (Picture log) = Some (given_or_input at.Log log)
@@ -133,7 +133,7 @@ log_place (Entries log) file = read_place (Entries log)
 log_place (Damage log) file = read_place (Damage log)
 log_place (Doubt log) file = read_place (Doubt log)
 log_place (Builds log) file = read_place (Builds log)
-log_place (Summary log build all lines) file = read_place (Summary log build all lines)
+log_place (Summary log build all kind lines) file = read_place (Summary log build all kind lines)
 log_place (Compare old new lines) file = None
 log_place (Trace log) file = read_place (Trace log)
 log_place (Picture log) file = read_place (Picture log)
@@ -148,7 +148,7 @@ IsUnsynced _ = ⊥
 
 -- of two logs, the words that read the second of them, or the first; else the words as they are
 abbrev pub words_heard : Words → Bool → Words
-words_heard (Compare old new lines) is_second = Summary (Some (if is_second then new else old)) None false lines
+words_heard (Compare old new lines) is_second = Summary (Some (if is_second then new else old)) None false None lines
 words_heard words is_second = words
 
 -- the reason is what the system said
@@ -198,7 +198,7 @@ IsBadOption all build lines _ = ⊥
 
 abbrev pub IsBadNumberOf : Words → Why → Type 0
 IsBadNumberOf (Record log start end mtime name command) why = IsFirstBad start end mtime why.place × IsNumberFault why.reason
-IsBadNumberOf (Summary log build all lines) why = IsBadOption all build lines why.place × IsNumberFault why.reason
+IsBadNumberOf (Summary log build all kind lines) why = IsBadOption all build lines why.place × IsNumberFault why.reason
 IsBadNumberOf _ why = ⊥
 
 -- the reason is this byte

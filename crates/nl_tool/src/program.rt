@@ -81,8 +81,9 @@ where
             log,
             build,
             all,
+            kind,
             lines,
-        } => summary_in(rt, alloc, log, all, build, lines, missing_ok, notes),
+        } => summary_in(rt, alloc, log, all, build, kind, lines, missing_ok, notes),
         Words::Compare { old, new, lines } => {
             compare_in(rt, alloc, old, new, lines, missing_ok, notes)
         }

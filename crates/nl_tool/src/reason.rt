@@ -261,6 +261,7 @@ fn words_heard<'a>(words: &Words<'a>, is_second: bool) -> Words<'a>
             log: Some(if is_second { new } else { old }),
             build: None,
             all: false,
+            kind: None,
             lines,
         },
         other => other,
@@ -411,6 +412,7 @@ fn bad_number<'a>(words: &Words<'a>) -> Option<Why<'a>>
             log: _,
             build,
             all,
+            kind: _,
             lines,
         } => bad_option(all, build, lines),
         _ => None,
@@ -546,6 +548,7 @@ fn read_place<'a>(words: &Words<'a>) -> Option<Place<'a>>
             log: Some(log),
             build: _,
             all: _,
+            kind: _,
             lines: _,
         } => Some(Place::Log(log)),
         Words::HashFile(Some(file))
@@ -572,6 +575,7 @@ fn read_place<'a>(words: &Words<'a>) -> Option<Place<'a>>
             log: None,
             build: _,
             all: _,
+            kind: _,
             lines: _,
         }
         | Words::HashFile(None)

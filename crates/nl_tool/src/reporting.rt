@@ -9,7 +9,7 @@ ghost use Rattle.nl_tool_report.specs.declared.scope.Scope.{Scope};
 ghost use Rattle.nl_tool_texts.specs.Output.{Prints};
 ghost use Rattle.nl_tool.specs.Answers.{RefusesLog};
 ghost use Rattle.nl_tool.specs.Faults.{IsSummaryFault};
-ghost use Rattle.nl_tool.specs.Reports.{IsBuild, IsMost, IsScope, report_text_of};
+ghost use Rattle.nl_tool.specs.Reports.{IsBuild, IsMost, IsScope, report_text_of, rule_of};
 
 use crate::files::open_log;
 use crate::notes::{NotedReader, NotedWriter, Notes};
@@ -40,6 +40,7 @@ pub fn summary_in<R: Runtime>(
     log: Option<&str>,
     all: bool,
     build: Option<&str>,
+    kind: Option<&str>,
     lines: Option<&str>,
     missing_ok: bool,
     notes: &mut Notes,
@@ -54,16 +55,14 @@ pub fn summary_in<R: Runtime>(
     let Some(scope) = scope_of(all, build) else {
         return Err(ToolFault::BadNumber);
     };
+    let lists = Lists {
+        most,
+        rule: rule_of(kind),
+    };
     report_in(
         rt,
         alloc,
-        Report::Summary {
-            scope,
-            lists: Lists {
-                most,
-                rule: KindRule::Extension,
-            },
-        },
+        Report::Summary { scope, lists },
         log,
         missing_ok,
         notes,
@@ -102,6 +101,26 @@ fn numbered_by(text: &str) -> Option<Scope>
         return None;
     }
     Some(Scope::Numbered(count as u64))
+}
+
+// The rule by which kinds are told apart, by its word.
+pub fn rule_of(kind: Option<&str>) -> KindRule
+    ensures value { result ≡ rule_of kind.entry }
+{
+    match kind {
+        None => KindRule::Extension,
+        Some(text) => rule_by(text),
+    }
+}
+
+fn rule_by(text: &str) -> KindRule
+    ensures value { result ≡ rule_of (Some text.entry) }
+{
+    match text {
+        "folder" => KindRule::Folder,
+        "top" => KindRule::Top,
+        _ => KindRule::Extension,
+    }
 }
 
 // How many lines a list has at most.

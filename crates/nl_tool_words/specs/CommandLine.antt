@@ -46,6 +46,14 @@ build_id = codes "build"
 abbrev pub build_rule : Rule
 build_rule = record (new_rule build_id) { long = Some build_id; value_names = 1 }
 
+-- the name of the option for the rule by which kinds are told apart
+abbrev pub kind_id : Text
+kind_id = codes "kind"
+
+-- the option: it has one value
+abbrev pub kind_rule : Rule
+kind_rule = record (new_rule kind_id) { long = Some kind_id; value_names = 1 }
+
 -- the name of the flag for the last entries of all outputs
 abbrev pub all_id : Text
 all_id = codes "all"
@@ -113,7 +121,7 @@ abbrev pub builds : App
 builds = with_any_log (new_app (codes "builds"))
 
 abbrev pub summary : App
-summary = with_rule (with_rule (with_rule (with_any_log (new_app (codes "summary"))) build_rule) all_rule) lines_rule
+summary = with_rule (with_rule (with_rule (with_rule (with_any_log (new_app (codes "summary"))) build_rule) all_rule) kind_rule) lines_rule
 
 -- two logs, which have to be there
 abbrev pub compare : App
@@ -286,8 +294,9 @@ IsSaid (Entries log) (Some p) = (p.0 ≡ codes "entries") × IsGiven (codes "LOG
 IsSaid (Damage log) (Some p) = (p.0 ≡ codes "damage") × IsGiven (codes "LOG") p.1 log
 IsSaid (Doubt log) (Some p) = (p.0 ≡ codes "doubt") × IsGiven (codes "LOG") p.1 log
 IsSaid (Builds log) (Some p) = (p.0 ≡ codes "builds") × IsGiven (codes "LOG") p.1 log
-IsSaid (Summary log build all lines) (Some p) = (p.0 ≡ codes "summary")
-    × IsGiven (codes "LOG") p.1 log × IsGiven build_id p.1 build × (all ≡ is_set_in all_id p.1) × IsGiven lines_id p.1 lines
+IsSaid (Summary log build all kind lines) (Some p) = (p.0 ≡ codes "summary")
+    × IsGiven (codes "LOG") p.1 log × IsGiven build_id p.1 build × (all ≡ is_set_in all_id p.1)
+    × IsGiven kind_id p.1 kind × IsGiven lines_id p.1 lines
 IsSaid (Compare old new lines) (Some p) = (p.0 ≡ codes "compare")
     × IsThere (codes "OLD") p.1 old × IsThere (codes "NEW") p.1 new × IsGiven lines_id p.1 lines
 IsSaid (Trace log) (Some p) = (p.0 ≡ codes "trace") × IsGiven (codes "LOG") p.1 log
@@ -384,7 +393,23 @@ asks_both entered = is_flagged all_id entered && is_some (option_and_then (λ p.
 abbrev pub scope_fault : Option (Text × List Row) → Kinds
 scope_fault entered = if asks_both entered then ArgumentConflict ∷ [] else []
 
+-- the rules for kinds
+abbrev pub is_kind_text : Text → Bool
+is_kind_text text = bytes_eq text (codes "extension") || (bytes_eq text (codes "folder") || bytes_eq text (codes "top"))
+
+-- the rule that is asked for, where the command that was entered was given one
+abbrev pub asked_kind : Option (Text × List Row) → Option Text
+asked_kind entered = option_and_then (λ p. first_of kind_id p.1) entered
+
+-- the kind of error of a rule that there isn't
+abbrev pub kind_fault : Option (Text × List Row) → Kinds
+kind_fault entered = if option_map_or is_kind_text (asked_kind entered) true then [] else InvalidValue ∷ []
+
+-- that of the choices of `summary`: of two that don't go together, and then of a rule
+abbrev pub choice_fault : Option (Text × List Row) → Kinds
+choice_fault entered = or_else (scope_fault entered) (kind_fault entered)
+
 -- the kinds of error that the words may give: those of clap's definition, and where these are none, that of the version, and then that of
--- two options that don't go together
+-- the choices
 abbrev pub fault_in : List Text → Kinds
-fault_in words = or_else (or_else (fault_of (app_for (form_of words)) words) (version_fault (entered_of words))) (scope_fault (entered_of words))
+fault_in words = or_else (or_else (fault_of (app_for (form_of words)) words) (version_fault (entered_of words))) (choice_fault (entered_of words))

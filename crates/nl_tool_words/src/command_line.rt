@@ -1,7 +1,7 @@
 //! The command that a command line names, and the values that it gives.
-ghost use Rattle.std.specs.Prelude.{◌≡◌, codes, is_some, map, string_bytes, true, IfErr, IfOk};
+ghost use Rattle.std.specs.Prelude.{◌≡◌, codes, is_some, map, option_map, string_bytes, true, IfErr, IfOk};
 ghost use Rattle.clap.specs.Words.{first_of, found_of, kind_of, rows_of, subcommand_rows_of, FailsBy};
-ghost use Rattle.nl_tool_words.specs.CommandLine.{allows_missing, asked_text, asks_reason, entered_of, fault_in, asks_both, is_flagged, is_set_in, required_of, scope_fault, version_fault};
+ghost use Rattle.nl_tool_words.specs.CommandLine.{allows_missing, asked_text, asks_reason, entered_of, fault_in, asked_kind, asks_both, choice_fault, is_flagged, is_kind_text, is_set_in, kind_fault, required_of, scope_fault, version_fault};
 ghost use Rattle.nl_tool_words.specs.CommandLine.{HasEach, HasLog, IsAsked, IsComplete, IsCompleteBy, IsGiven, IsPrunedBy, IsRetimedBy, IsSaid, IsSaidBy, IsThere};
 ghost use Rattle.nl_tool_words.specs.Form.{form_of};
 
@@ -28,6 +28,8 @@ pub enum Words<'a> {
         build: Option<&'a str>,
         /// Whether it is of all outputs, and not of a build.
         all: bool,
+        /// The rule by which kinds are told apart: `extension`, `folder` or `top`.
+        kind: Option<&'a str>,
         lines: Option<&'a str>,
     },
     Compare {
@@ -99,7 +101,7 @@ pub fn read_words<'a>(alloc: Global, words: &'a [String]) -> Result<CommandLine<
     let form = form_of(words);
     let matches = command_for(alloc, form)?.try_get_matches_from(words)?;
     let version = version_in(alloc, &matches)?;
-    one_scope(alloc, &matches)?;
+    known_choices(alloc, &matches)?;
     Ok(CommandLine {
         words: words_by(form, &matches),
         version,
@@ -158,6 +160,58 @@ fn version_in<'a>(alloc: Global, matches: &ArgMatches<'a>) -> Result<Option<Aske
         Some(version) => Ok(Some(version)),
         None => Err(no_version(alloc, name, text)?),
     }
+}
+
+// Refuses choices of `summary` that can't be met.
+fn known_choices(alloc: Global, matches: &ArgMatches<'_>) -> Result<(), Error>
+    ensures accepts { FailsBy (choice_fault (subcommand_rows_of matches.now)) result }
+{
+    one_scope(alloc, matches)?;
+    known_kind(alloc, matches)
+}
+
+// Refuses a rule for kinds that there isn't.
+fn known_kind(alloc: Global, matches: &ArgMatches<'_>) -> Result<(), Error>
+    ensures accepts { FailsBy (kind_fault (subcommand_rows_of matches.now)) result }
+{
+    let Some(text) = asked_kind(matches) else {
+        return Ok(());
+    };
+    if is_kind(text) {
+        return Ok(());
+    }
+    Err(no_kind(alloc, text)?)
+}
+
+// The rule for kinds that is asked for.
+fn asked_kind<'a>(matches: &ArgMatches<'a>) -> Option<&'a str>
+    ensures value { option_map (λ text. text.now) result ≡ asked_kind (subcommand_rows_of matches.now) }
+{
+    let Some((_, inner)) = matches.subcommand() else {
+        return None;
+    };
+    optional(inner, "kind")
+}
+
+fn is_kind(text: &str) -> bool
+    ensures { result ≡ is_kind_text text.now }
+{
+    matches!(text, "extension" | "folder" | "top")
+}
+
+// What is said of such a rule.
+fn no_kind(alloc: Global, text: &str) -> Result<Error, Error>
+    ensures value { IfOk result (λ e. kind_of e ≡ ErrorKind.InvalidValue) }
+    ensures memory { IfErr result (λ e. kind_of e ≡ ErrorKind.OutOfMemory) }
+{
+    let message = kind_text(alloc, text)?;
+    let error = nlog_command(alloc)?.error(ErrorKind::InvalidValue, message.as_str())?;
+    Ok(error)
+}
+
+// The text for such a rule.
+fn kind_text(alloc: Global, text: &str) -> Result<String, AllocError> {
+    format!(in alloc; "invalid value '{text}' for '--kind <RULE>': it is extension, folder or top")
 }
 
 // Refuses both a build and all outputs.
@@ -288,6 +342,7 @@ fn summary_words<'a>(inner: &ArgMatches<'a>) -> Words<'a>
         log: optional(inner, "LOG"),
         build: optional(inner, "build"),
         all: is_set(inner, "all"),
+        kind: optional(inner, "kind"),
         lines: optional(inner, "lines"),
     }
 }

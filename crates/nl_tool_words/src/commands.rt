@@ -2,7 +2,7 @@
 ghost use Rattle.std.specs.Prelude.{◌≡◌, IfOk, false};
 ghost use Rattle.clap.specs.Words.{app_of, with_rule};
 ghost use Rattle.clap.specs.declared.builder.command.Command.TheViews.{out-Command};
-ghost use Rattle.nl_tool_words.specs.CommandLine.{all_rule, apply, build_rule, builds, check, compare, damage, doubt, entries, files_rule, hash, hash_file, lines_rule, manifest_rule, missing_rule, positional, pruning, recompact};
+ghost use Rattle.nl_tool_words.specs.CommandLine.{all_rule, apply, build_rule, builds, check, compare, damage, doubt, entries, files_rule, hash, hash_file, kind_rule, lines_rule, manifest_rule, missing_rule, positional, pruning, recompact};
 ghost use Rattle.nl_tool_words.specs.CommandLine.{picture, record_line, record_values, repair, replay, restat, retiming, show, summary, trace, version_rule, with_any_log};
 
 use clap::{Arg, ArgAction, Command};
@@ -27,6 +27,9 @@ const LOG_VERSION: &str =
 
 const HASH_VERSION: &str =
     "5, 6 or 7: the version of the logs that hold the hash; auto: 5, as where it is left out";
+
+const KIND: &str =
+    "What a kind is told by: extension, folder or top, the first folder; extension where it is left out";
 
 const LINES: &str = "How many lines each list has at most: 10 where it is left out; 0 for none";
 
@@ -93,6 +96,16 @@ fn with_build<'a>(alloc: Global, command: Command<'a>) -> Result<Command<'a>, Al
 {
     let option = Arg::new(alloc, "build").long("build");
     command.arg(option.value_name("BUILD").help(BUILD))
+}
+
+// The command with the option for the rule by which kinds are told apart.
+fn with_kind<'a>(alloc: Global, command: Command<'a>) -> Result<Command<'a>, AllocError>
+    ensures shape { IfOk result (λ c. app_of c ≡ with_rule (app_of command.entry) kind_rule) }
+    ensures local { IfOk result
+        (λ c. (out-Command c).has_globals ≡ (out-Command command.entry).has_globals) }
+{
+    let option = Arg::new(alloc, "kind").long("kind");
+    command.arg(option.value_name("RULE").help(KIND))
 }
 
 // The command with the flag for all outputs.
@@ -343,7 +356,8 @@ KIND.
 KEY       `kinds-by-time` or `kinds-by-weight`; equal ones stand as their first commands in LOG
 COUNT     how many commands are of the kind
 TIME      the sum of their times, and WEIGHTED that of their weighted times
-KIND      the extension of the first output, with its dot; `(none)` where there is none
+KIND      of the first output the extension with its dot, or by RULE the folder, or the first folder, with
+          the `/` behind it; `(none)` where there is none
 
 Commands and builds are those of `builds`. Where LOG has no entry, nothing is printed. Where it has
 fewer builds than BUILD, a line `builds` tells how many it has, in the place of all but `unfinished`.
@@ -352,6 +366,7 @@ With `--all`, each START and END counts from the beginning of its own build.",
     let command = with_any_log(alloc, command)?;
     let command = with_build(alloc, command)?;
     let command = with_all(alloc, command)?;
+    let command = with_kind(alloc, command)?;
     with_lines(alloc, command, LINES)
 }
 

@@ -9,7 +9,8 @@ returns-clause-shape c =
     let one = log_added _ _ _ c.in_ok-command.ensures.shape made in
     let two = with_one _ _ _ _ c.in_ok-command-2.ensures.shape one in
     let three = with_one _ _ _ _ c.in_ok-command-3.ensures.shape two in
-    IfOk-weaker c.with_lines.result _ _ (λ r h. with_one _ _ _ _ h three) c.with_lines.ensures.shape
+    let four = with_one _ _ _ _ c.in_ok-command-4.ensures.shape three in
+    IfOk-weaker c.with_lines.result _ _ (λ r h. with_one _ _ _ _ h four) c.with_lines.ensures.shape
 
 pub returns-clause-local : goal.returns-clause-local
 returns-clause-local c =
@@ -17,4 +18,5 @@ returns-clause-local c =
     let one = c.in_ok-command.ensures.local ∙ made in
     let two = c.in_ok-command-2.ensures.local ∙ one in
     let three = c.in_ok-command-3.ensures.local ∙ two in
-    IfOk-weaker c.with_lines.result _ _ (λ r h. h ∙ three) c.with_lines.ensures.local
+    let four = c.in_ok-command-4.ensures.local ∙ three in
+    IfOk-weaker c.with_lines.result _ _ (λ r h. h ∙ four) c.with_lines.ensures.local
