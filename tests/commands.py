@@ -200,7 +200,7 @@ NOTHING_CHECKED = b"version 5\ntotal 0\nunique 0\nskipped 0\ntorn 0\ndue no\n"
 SIX, SEVEN = (b"# ninja log v%d\n1\t2\t3\tout\t8072fc2ac19230e4\nx\n" % it for it in (6, 7))
 FOUR, FOUR_SHOWN = b"# ninja log v4\n1\t2\t3\ta\tcc\tx\n", b"1\t2\t3\ta\t72274e7a30810c7b\n"
 # Each has one command of one output, which took 1 ms.
-FILE_BUILT = INPUT_BUILT = FOUR_BUILT = NEW_BUILT = b"1\t1\t1\t1\t1\n"
+FILE_BUILT = INPUT_BUILT = FOUR_BUILT = NEW_BUILT = b"1\t1\t1\t1\t1\tsure\n"
 BAD_NUMBER = b"nlog: bad number\n"
 ONE_COUNTED = b"commands 1\noutputs 1\nwall 1\ntotal 1\nbusy 1\nalone 1\nparallel 1.00\nslowest 1 %b\n"
 # What `compare` prints but for its lists: whether hashes were compared, and of each class the count, the difference and both times.
@@ -221,7 +221,7 @@ KINDS_RANKED = {
 }
 # It begins 0 ms behind the first START, and nothing runs once it has ended.
 ONE_TRACED = (
-    b'[{"args":{"name":"build 1"},"name":"process_name","ph":"M","pid":1},'
+    b'[{"args":{"name":"build 1","rewritten":false},"name":"process_name","ph":"M","pid":1},'
     b'{"args":{"hash":"%b","outputs":["%b"]},"dur":1000,"name":"%b","ph":"X","pid":1,"tid":1,"ts":0},'
     b'{"args":{"commands":1},"name":"running","ph":"C","pid":1,"ts":0},{"args":{"commands":0},"name":"running","ph":"C","pid":1,"ts":1000}]'
 )

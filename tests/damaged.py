@@ -22,7 +22,7 @@ import termios
 import threading
 
 from log_format import Log, as_version, command_hash, reading_of
-from log_lines import builds_of, compare_of, damage_of, entries_of, named_first, picture_of, summary_of, trace_of
+from log_lines import builds_of, compare_of, damage_of, entries_of, named_first, picture_of, said_of, summary_of, trace_of
 from trials import SECONDS, main, read, run, short, write
 
 BENCH = f"{os.path.dirname(os.path.dirname(os.path.abspath(__file__)))}/bench"
@@ -334,10 +334,11 @@ class Readings:
     def want_each(self, what, text, answers):
         write(self.file, text)
         for word, wanted in answers.items():
-            wanted = wanted if isinstance(wanted, tuple) else (0, wanted, b"")
-            self.trials.want(f"{what}: {word}", run([self.program, word, self.file]), wanted)
+            place = b"LOG %s" % self.file.encode()
+            self.trials.want(f"{what}: {word}", run([self.program, word, self.file]), told_at(word, wanted, text, place))
             if self.pieces:
-                self.trials.want(f"{what}: {word} in pieces", run_in_pieces([self.program, word], text), wanted)
+                got = run_in_pieces([self.program, word], text)
+                self.trials.want(f"{what}: {word} in pieces", got, told_at(word, wanted, text, b"standard input"))
         self.want_as(what, text, answers)
 
     def want_as(self, what, text, answers):
@@ -357,17 +358,21 @@ class Readings:
         # The words that go by the first line, which has the digit.
         if not text.startswith(HEADERS[5][:-1]):
             return
+        through = answers_through(text, version)
         for word, wanted in answers.items():
             if word == "hash-file":
                 continue
-            wanted = wanted if isinstance(wanted, tuple) else (0, wanted, b"")
+            wanted = through[word] if word in ("builds", "summary", "trace", "picture") else wanted
+            place = b"LOG %s" % self.file.encode()
+            in_pieces = told_at(word, wanted, text, b"standard input", version)
+            wanted = told_at(word, wanted, text, place, version)
             words = [self.program, word]
             if word in ("show", "check"):
                 words.append("--log-version=auto")
-                wanted = (wanted[0], wanted[1].replace(b"version 5\n", b"version %d\n" % version), wanted[2])
+                wanted = in_pieces = (wanted[0], wanted[1].replace(b"version 5\n", b"version %d\n" % version), wanted[2])
             self.trials.want(f"{what}, of version {version}: {word}", run([*words, self.file]), wanted)
             if self.pieces:
-                self.trials.want(f"{what}, of version {version}: {word} in pieces", run_in_pieces(words, as_version(text, version)), wanted)
+                self.trials.want(f"{what}, of version {version}: {word} in pieces", run_in_pieces(words, as_version(text, version)), in_pieces)
 
 
 def try_kinds(readings):
@@ -428,15 +433,23 @@ def found(told):
     return (3 if told else 0, told, b"")
 
 
-def answers_through(text):
-    """What the words have to answer that go through a text and keep no table of it."""
+def answers_through(text, version=None):
+    """What the words have to answer that go through a text and keep no table of it, where it is one of version 5 or, with its digit, of this one."""
     reading = reading_of(text)
     hashed = b"%x\n" % command_hash(text)
     if reading != "log":
         refusal = (1, b"", b"nlog: " + reading.encode() + b"\n")
         return {"entries": refusal, "damage": refusal, "builds": refusal, "summary": refusal, "trace": refusal, "picture": refusal, "hash-file": hashed}
-    told = {"entries": entries_of(text), "damage": found(damage_of(text)), "builds": builds_of(text)}
-    return {**told, "summary": summary_of(text), "trace": trace_of(text), "picture": picture_of(text), "hash-file": hashed}
+    told = {"entries": entries_of(text), "damage": found(damage_of(text)), "builds": builds_of(text, version)}
+    reports = {"summary": summary_of(text, version=version), "trace": trace_of(text, version), "picture": picture_of(text, version)}
+    return {**told, **reports, "hash-file": hashed}
+
+
+def told_at(word, wanted, text, place, version=None):
+    """How a word ends of a log that stands there, by what it prints or how it ends."""
+    if isinstance(wanted, tuple):
+        return wanted
+    return 0, wanted, said_of(text, place, version) if word in ("builds", "summary") else b""
 
 
 def try_damage(readings):

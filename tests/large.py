@@ -213,7 +213,7 @@ def runs(build, count, at):
 
 def traced(build, events):
     """What `trace` prints of a build of these events."""
-    yield b'[{"args":{"name":"build %d"},"name":"process_name","ph":"M","pid":%d}' % (build, build)
+    yield b'[{"args":{"name":"build %d","rewritten":false},"name":"process_name","ph":"M","pid":%d}' % (build, build)
     for it in events:
         yield b"," + it
     yield b"]"
@@ -259,7 +259,7 @@ def try_many(trials, program, room):
     large.want_printed("check", [report(*counts)])
     large.want_held("entries", lines(everything))
     large.want_held("damage", [])
-    large.want_printed("builds", [b"1\t%d\t%d\t%d\t%d\n" % (ENTRIES, ENTRIES, ENTRIES + 6, 7 * ENTRIES)])
+    large.want_printed("builds", [b"1\t%d\t%d\t%d\t%d\tsure\n" % (ENTRIES, ENTRIES, ENTRIES + 6, 7 * ENTRIES)])
     large.want_printed("doubt", (b"missing\t%s\n" % name_of(it) for it in everything), 3)
     # A command runs 7 ms, and one begins in each: so one alone runs in the first and the last of them.
     # Of the first and the last the time counts 1 + 1/2 + .. + 1/7, of the next ones 1/2 + .. + 1/7 + 1/7, and so on; all take 7 ms.
@@ -351,7 +351,7 @@ def long_lines(chance):
             yield b"1\t2\t3\t%s\tf\n" % (b"x" * (MAX_NAME + 1))
         if at % 40 == 33:
             yield b"y" * (MAX_LINE + 1 + at) + b"\n"
-        yield line_of(long_name(chance.randrange(400)), (-at, at, (at + 1) * 2**40, at * 2**50))
+        yield line_of(long_name(chance.randrange(400)), (-at, at, 2**60 + at, at * 2**50))
 
 
 def log_of_table(table):
@@ -385,7 +385,7 @@ def try_long(trials, program, room):
     large.want_held("entries", (line for line in long_lines(random.Random(SEED)) if entry_of(line[:-1], 5)))
     large.want_held("damage", damaged, 3)
     # Each command has a hash of its own, and runs from before 0 as long behind it.
-    large.want_printed("builds", [b"1\t%d\t%d\t%d\t%d\n" % (1_600, 1_600, 2 * 1_599, 1_599 * 1_600)])
+    large.want_printed("builds", [b"1\t%d\t%d\t%d\t%d\tsure\n" % (1_600, 1_600, 2 * 1_599, 1_599 * 1_600)])
     # The last runs 2 x 1,599 ms, and the one before it 2 x 1,598 of these.
     entries = [entry_of(line[:-1], 5) for line in long_lines(random.Random(SEED))]
     ends = [(it[0], it[1][1]) for it in entries if it]
@@ -449,7 +449,7 @@ def try_builds(trials, program, room):
     large = Large(trials, program, room, f"a log of {ENTRIES:,} builds")
     make(large.log, chain([HEADER], (line_of(name_of(it), (-it, ENTRIES - it, it, it % 7)) for it in range(ENTRIES))))
     large.want_sizes(large.log)
-    large.want_printed("builds", (b"%d\t1\t1\t%d\t%d\n" % (it + 1, ENTRIES, ENTRIES) for it in range(ENTRIES)))
+    large.want_printed("builds", (b"%d\t1\t1\t%d\t%d\tsure\n" % (it + 1, ENTRIES, ENTRIES) for it in range(ENTRIES)))
     row, last = (ENTRIES, b"%d.00" % ENTRIES, name_of(ENTRIES - 1)), (ENTRIES - 1) % 7
     only = [bar(ENTRIES, row[2], last, ENTRIES, 1, 0), runs(ENTRIES, 1, 0), runs(ENTRIES, 0, ENTRIES)]
     large.want_printed("trace", traced(ENTRIES, only))

@@ -284,7 +284,7 @@ MAY = [
     (0o700, 0o600, RESTAT, b"", HEADER + b"1\t2\t3\ta\taa\n4\t5\t7\tb\tbb\n"),
     (0o500, 0o400, ["entries", "LOG"], SMALL[len(HEADER) :], SMALL),
     (0o500, 0o400, ["damage", "LOG"], b"", SMALL),
-    (0o500, 0o400, ["builds", "LOG"], b"1\t2\t2\t4\t2\n", SMALL),
+    (0o500, 0o400, ["builds", "LOG"], b"1\t2\t2\t4\t2\tsure\n", SMALL),
     (0o500, 0o400, ["summary", "-n", "0", "LOG"], b"commands 2\noutputs 2\nwall 4\ntotal 2\nbusy 2\nalone 2\nparallel 0.50\nslowest 1 a\n", SMALL),
     (0o500, 0o400, ["compare", "LOG", "LOG"], COMPARED, SMALL),
     (0o500, 0o400, ["hash-file", "LOG"], b"%x\n" % command_hash(SMALL), SMALL),

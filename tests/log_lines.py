@@ -9,6 +9,8 @@ from log_format import HEADER, MAX_LINE, entry_of, line_of
 
 # A millisecond has so many parts, which each number up to 22 divides.
 PARTS = 232_792_560
+# A millisecond, and by how much the clocks of a file system and of a build may differ, in nanoseconds.
+MILLI, SLACK = 1_000_000, 20_000_000
 
 
 def lines_of(text):
@@ -99,17 +101,45 @@ def unfinished_of(text):
     return sum(is_intent(it) for it in last.items())
 
 
-def entries_by_build(text):
-    """The entries of each build that a log still tells, each with its name and four numbers: a build begins where END falls."""
+def began_by(version, entry, earliest):
+    """When the build of an entry began, in nanoseconds: by MTIME less START in a log of version 6 or 7, less END in one of version 5. None where
+    MTIME is 0, or of more than 20 ms before the build can have begun."""
+    start, end, mtime, _ = entry[1]
+    if version == 4 or mtime <= 0 or earliest is not None and mtime < earliest - SLACK:
+        return None
+    return mtime - (end if version == 5 else start) * MILLI
+
+
+def entries_by_build(text, version=None):
+    """The entries of each build that a log still tells, each with its name and four numbers."""
+    return [entries for entries, _ in builds_in(text, version)]
+
+
+def builds_in(text, as_of=None):
+    """The builds of a log (docs/NINJA_TIMES.md, "Where builds border"): the entries of each, and whether the border before it is sure. `as_of`: the
+    version of the log, where it is told as one of version 5."""
     version, lines, _ = lines_of(text)
-    found = []
-    for entry in filter(None, (entry_of(line, version) for line in lines)):
+    found, sure, base, earliest = [], [], None, None
+    entries = [it for it in (entry_of(line, version) for line in lines) if it]
+    version = as_of if as_of and version == 5 else version
+    for entry in entries:
         if is_intent(entry):
             continue
-        if not found or entry[1][1] < found[-1][-1][1][1]:
+        (start, end, _, command), began = entry[1], began_by(version, entry, earliest)
+        last_start, last_end, _, last_command = found[-1][-1][1] if found else (None,) * 4
+        rises = found and None not in (base, began) and began - base > max(SLACK, last_end * MILLI - SLACK)
+        if not found or end < last_end or rises and (start, end, command) != (last_start, last_end, last_command):
+            if base is not None:
+                earliest = base + last_end * MILLI
+            sure.append(not found or end < last_end or version > 5)
             found.append([])
+            base = began_by(version, entry, earliest)
+        elif base is None:
+            base = began
+        elif began is not None:
+            base = (max if version == 5 else min)(base, began)
         found[-1].append(entry)
-    return found
+    return list(zip(found, sure))
 
 
 def commands_of(entries):
@@ -127,12 +157,27 @@ def total_of(commands):
     return sum(max(0, end - start) for start, end, _ in commands)
 
 
-def builds_of(text):
+def is_anew(text, version=None):
+    """Whether a log was written anew: a build began more than 20 ms before the one that it follows, each by the latest of its entries."""
+    seen = lines_of(text)[0]
+    version = version if version and seen == 5 else seen
+    began = [[began_by(version, entry, None) for entry in entries] for entries in entries_by_build(text, version)]
+    latest = [max((it for it in those if it is not None), default=None) for those in began]
+    return any(None not in both and both[1] < both[0] - SLACK for both in zip(latest, latest[1:]))
+
+
+def said_of(text, place, version=None):
+    """What `builds` and `summary` say on standard error of a log that stands there."""
+    return b"nlog: %s: it was written anew, so its lines don't tell its builds\n" % place if is_anew(text, version) else b""
+
+
+def builds_of(text, version=None):
     """What `builds` prints of a log."""
-    told = []
-    for number, entries in enumerate(entries_by_build(text), 1):
+    told, builds = [], builds_in(text, version)
+    for number, (entries, is_sure) in enumerate(builds, 1):
         commands = commands_of(entries)
-        told.append(b"%d\t%d\t%d\t%d\t%d\n" % (number, len(commands), len(entries), wall_of(commands), total_of(commands)))
+        word = b"sure" if is_sure and all(behind for _, behind in builds[number : number + 1]) else b"unsure"
+        told.append(b"%d\t%d\t%d\t%d\t%d\t%s\n" % (number, len(commands), len(entries), wall_of(commands), total_of(commands), word))
     return b"".join(told)
 
 
@@ -204,9 +249,9 @@ def lanes_of(commands):
     return lanes
 
 
-def events_of(text):
+def events_of(text, version=None):
     """The events that `trace` tells of a log, as JSON values."""
-    builds = entries_by_build(text)
+    builds = entries_by_build(text, version)
     if not builds:
         return []
     commands = []
@@ -216,7 +261,7 @@ def events_of(text):
         commands[-1][3].append(name.decode(errors="replace"))
     commands.sort(key=lambda it: it[0])
     began, number = commands[0][0], len(builds)
-    events = [{"name": "process_name", "ph": "M", "pid": number, "args": {"name": f"build {number}"}}]
+    events = [{"name": "process_name", "ph": "M", "pid": number, "args": {"name": f"build {number}", "rewritten": is_anew(text, version)}}]
     for (start, end, command, names), lane in zip(commands, lanes_of([it[:2] for it in commands])):
         known = {"hash": f"{command:x}", "outputs": names}
         bar = {"ts": (start - began) * 1000, "dur": max(0, end - start) * 1000, "name": names[0], "args": known}
@@ -227,9 +272,9 @@ def events_of(text):
     return events
 
 
-def trace_of(text):
+def trace_of(text, version=None):
     """What `trace` prints of a log."""
-    return json.dumps(events_of(text), sort_keys=True, separators=(",", ":"), ensure_ascii=False).encode()
+    return json.dumps(events_of(text, version), sort_keys=True, separators=(",", ":"), ensure_ascii=False).encode()
 
 
 def name_in_xml(name):
@@ -244,9 +289,9 @@ def name_in_xml(name):
     return shown(name) if len(shown(name)) <= 200 else shown(name[:40]) + b".."
 
 
-def picture_of(text):
+def picture_of(text, version=None):
     """What `picture` prints of a log."""
-    builds, commands = entries_by_build(text), []
+    builds, commands = entries_by_build(text, version), []
     for name, (start, end, _, command) in builds[-1] if builds else []:
         if not commands or commands[-1][:3] != (start, end, command):
             commands.append((start, end, command, []))
@@ -306,9 +351,9 @@ def drawn(commands, lanes):
     return b"".join(it if isinstance(it, bytes) else it.encode() for it in [*out, "</svg>\n"])
 
 
-def summary_of(text, most=10, number=None, of_all=False, rule="extension"):
+def summary_of(text, most=10, number=None, of_all=False, rule="extension", version=None):
     """What `summary` prints of a log: of its last build, of that of a number, or of the last entry of each output as of one build."""
-    found, count = entries_by_build(text), unfinished_of(text)
+    found, count = entries_by_build(text, version), unfinished_of(text)
     unfinished = b"unfinished %d\n" % count if count else b""
     if of_all:
         # By END, then START, then the hash.

@@ -24,7 +24,7 @@ import xml.etree.ElementTree as ElementTree
 
 from examples import read_page
 from log_format import HEADER, Log, as_version, line_of
-from log_lines import builds_of, compare_of, entries_of, picture_of, summary_of, trace_of
+from log_lines import builds_of, compare_of, entries_of, picture_of, said_of, summary_of, trace_of
 from trials import main, read, run, write
 
 AWKS = {"mawk": ["mawk"], "gawk": ["gawk"], "busybox": ["busybox", "awk"], "original-awk": ["original-awk"]}
@@ -46,8 +46,9 @@ def odd_log():
     lines = [line_of(b"earlier", (0, 9_000, NANO, 1)), line_of(NAMES[0], (9_000, 9_001, NANO, 2))]
     for number, name in enumerate(NAMES):
         end = number * 10
-        # Commands of one time and hash are two, where their stamps are.
-        lines.append(line_of(name, (max(0, end - 35), end, NANO + number * 1_000_000_007, 0x100000 + number)))
+        # Commands of one time and hash are two, where their stamps are. By MTIME all are of one build.
+        start = max(0, end - 35)
+        lines.append(line_of(name, (start, end, NANO + start * 1_000_000 + number * 7, 0x100000 + number)))
     return HEADER + b"".join(lines)
 
 
@@ -62,6 +63,10 @@ LOGS = {
     + b"-2147483648\t-7\t-1700000000000000000\tleast\t0\n-7\t-5\t-1\tx\t1e5\n9\t-5\t12345678901\tback\t1e5\n"
     + b"0\t2147483647\t9223372036854775807\tlast\tffffffffffffffff\n1\t2147483647\t0\tnone\t2\n2\t2147483647\t999999999\tearly\t3\n",
     "version 4": b"# ninja log v4\n1\t2\t3\ta\tcc\tx\n0\t1\t1700000000000000000\tb\t\n",
+    # In the last line END rises, and MTIME is of 100 seconds later.
+    "a later build": HEADER + line_of(b"c", (0, 90, NANO - 1_000_000_000, 3)) + line_of(b"a", (0, 40, NANO, 1)) + line_of(b"b", (5, 45, NANO, 2)) + line_of(b"a", (5, 50, NANO + 100_000_000_000, 1)),
+    # By the order of its lines the second build began 100 seconds before the first.
+    "written anew": HEADER + line_of(b"a", (5, 55, NANO + 100_000_000_000, 1)) + line_of(b"b", (10, 50, NANO, 2)),
     "many builds": HEADER + b"".join(line_of(b"o%d" % (it % 7), (it % 10, it % 10 + 5, NANO + it, it)) for it in range(995)),
 }
 # What `builds` has to print of each, by hand.
@@ -69,33 +74,44 @@ BUILT = {
     "no bytes": b"",
     "a header": b"",
     # A command of no time at its end, four of 10, 20 and 30 ms that begin at 0, and the others of 35 ms each.
-    "odd names": b"1\t2\t2\t9001\t9001\n2\t%d\t%d\t%d\t%d\n" % (len(NAMES), len(NAMES), 10 * len(NAMES) - 10, 60 + 35 * (len(NAMES) - 4)),
-    "several outputs": b"1\t1\t1\t9\t9\n2\t6\t6\t9\t21\n",
-    "odd numbers": b"1\t6\t6\t4294967295\t8589934581\n",
-    "version 4": b"1\t1\t1\t1\t1\n2\t1\t1\t1\t1\n",
-    "many builds": b"".join(b"%d\t10\t10\t14\t50\n" % it for it in range(1, 100)) + b"100\t5\t5\t9\t25\n",
+    "odd names": b"1\t2\t2\t9001\t9001\tsure\n2\t%d\t%d\t%d\t%d\tsure\n" % (len(NAMES), len(NAMES), 10 * len(NAMES) - 10, 60 + 35 * (len(NAMES) - 4)),
+    "several outputs": b"1\t1\t1\t9\t9\tsure\n2\t6\t6\t9\t21\tsure\n",
+    # By MTIME another build begins at its fourth.
+    "odd numbers": b"1\t3\t3\t2147483643\t2147483643\tsure\n2\t3\t3\t2147483647\t6442450938\tsure\n",
+    "version 4": b"1\t1\t1\t1\t1\tsure\n2\t1\t1\t1\t1\tsure\n",
+    "a later build": b"1\t1\t1\t90\t90\tsure\n2\t2\t2\t45\t80\tsure\n3\t1\t1\t45\t45\tsure\n",
+    "written anew": b"1\t1\t1\t50\t50\tsure\n2\t1\t1\t40\t40\tsure\n",
+    "many builds": b"".join(b"%d\t10\t10\t14\t50\tsure\n" % it for it in range(1, 100)) + b"100\t5\t5\t9\t25\tsure\n",
 }
+# Of which of these builds a border isn't sure in a log of version 5, by their numbers: END doesn't fall there.
+UNSURE = {"odd numbers": (1, 2), "a later build": (2, 3)}
+# Which of them can't have been written by builds.
+ANEW = {"written anew"}
 # What `summary` has to print of each, by hand: commands, outputs, wall, total, busy, alone, parallel, slowest. Of `odd names` the script works it out.
 SUMMED = {
     "no bytes": None,
     "a header": None,
     # Its last build: 0 to 5 three commands of two hashes run, from 3 four, and from 5 to 9 one.
     "several outputs": (6, 6, 9, 21, 9, 4, b"2.33", 5, b"x"),
-    # Nothing runs from -5 to 0, and three at most at a time. Twice the wall is 9 ms more than the total.
-    "odd numbers": (6, 6, 4294967295, 8589934581, 4294967290, 2147483644, b"1.99", 2147483647, b"last"),
+    # Its last build: 0 to 1 one runs, 1 to 2 two, and then three. Three times the wall is 3 ms more than the total.
+    "odd numbers": (3, 3, 2147483647, 6442450938, 2147483647, 1, b"2.99", 2147483647, b"last"),
     "version 4": (1, 1, 1, 1, 1, 1, b"1.00", 1, b"b"),
+    "a later build": (1, 1, 45, 45, 45, 45, b"1.00", 45, b"a"),
+    "written anew": (1, 1, 40, 40, 40, 40, b"1.00", 40, b"b"),
     # Five, from 0 to 9, each a millisecond behind the other and 5 ms long: 0 to 1 and 8 to 9 one runs.
     "many builds": (5, 5, 9, 25, 9, 2, b"2.77", 5, b"o3"),
 }
 # How many bars `picture` has to draw of each, by hand, and how many for commands that are too short: those of no time, or of less than half a
-# pixel of 1,440. Two of `odd numbers` are, a pixel apart.
+# pixel of 1,440.
 DRAWN = {
     "no bytes": (0, []),
     "a header": (0, []),
     "odd names": (len(NAMES) - 1, [1]),
     "several outputs": (5, [1]),
-    "odd numbers": (4, [1, 1]),
+    "odd numbers": (3, []),
     "version 4": (1, []),
+    "a later build": (1, []),
+    "written anew": (1, []),
     "many builds": (5, []),
 }
 BROWSERS = ("chromium", "chromium-browser", "google-chrome")
@@ -231,30 +247,43 @@ class Reports:
         self.want(f"{name} of files that are limited: stopped, but not always", 0 < stopped < 29, True)
 
 
+def built_of(kind, version):
+    """What `builds` has to print of a log of this version, by hand."""
+    lines = BUILT[kind].splitlines(keepends=True)
+    for number in UNSURE.get(kind, ()) if version == 5 else ():
+        lines[number - 1] = lines[number - 1].replace(b"sure", b"unsure")
+    return b"".join(lines)
+
+
 def try_builds(trials, program, room):
     """What `builds` and `summary` print, by hand, of each version, and what `trace` and `picture` do of each and `compare` of each two logs."""
     trials.want("the logs of which builds are told", set(BUILT), set(LOGS))
     for kind, text in LOGS.items():
-        trials.want(f"{kind}: builds by docs/FORMAT.md", builds_of(text), BUILT[kind])
         for version in (5, 6, 7):
             write(f"{room}/LOG", as_version(text, version))
-            trials.want(f"{kind}, version {version}: builds", run([program, "builds", f"{room}/LOG"]), (0, BUILT[kind], b""))
-            trials.want(f"{kind}, version {version}: summary", run([program, "summary", f"{room}/LOG"]), (0, summary_of(text), b""))
+            said = b"nlog: LOG %s/LOG: it was written anew, so its lines don't tell its builds\n" % room.encode() if kind in ANEW else b""
+            trials.want(f"{kind}, version {version}: what is said by docs/NINJA_TIMES.md", said_of(text, b"LOG %s/LOG" % room.encode(), version), said)
+            trials.want(f"{kind}, version {version}: builds by docs/FORMAT.md", builds_of(as_version(text, version)), built_of(kind, version))
+            trials.want(f"{kind}, version {version}: builds", run([program, "builds", f"{room}/LOG"]), (0, built_of(kind, version), said))
+            wanted = (0, summary_of(text, version=version), said)
+            trials.want(f"{kind}, version {version}: summary", run([program, "summary", f"{room}/LOG"]), wanted)
             for number in range(1, 5):
                 got = run([program, "summary", "-n", "2", "--build", str(number), f"{room}/LOG"])
-                trials.want(f"{kind}, version {version}: summary of build {number}", got, (0, summary_of(text, 2, number), b""))
+                trials.want(f"{kind}, version {version}: summary of build {number}", got, (0, summary_of(text, 2, number, version=version), said))
             got = run([program, "summary", "-n", "3", "--all", f"{room}/LOG"])
             trials.want(f"{kind}, version {version}: summary of all outputs", got, (0, summary_of(text, 3, of_all=True), b""))
             for rule in ("extension", "folder", "top"):
                 got = run([program, "summary", f"--kind={rule}", f"{room}/LOG"])
-                trials.want(f"{kind}, version {version}: its kinds by {rule}", got, (0, summary_of(text, rule=rule), b""))
+                trials.want(f"{kind}, version {version}: its kinds by {rule}", got, (0, summary_of(text, rule=rule, version=version), said))
             status, out, err = run([program, "trace", f"{room}/LOG"])
-            trials.want(f"{kind}, version {version}: trace", (status, out, err), (0, trace_of(text), b""))
-            trials.want(f"{kind}, version {version}: its lanes", lanes_that_fail(json.loads(out.decode())), [])
+            trials.want(f"{kind}, version {version}: trace", (status, out, err), (0, trace_of(text, version), b""))
+            told = json.loads(out.decode())
+            trials.want(f"{kind}, version {version}: whether it is said to be rewritten", [it["args"]["rewritten"] for it in told[:1]], [kind in ANEW] * len(told[:1]))
+            trials.want(f"{kind}, version {version}: its lanes", lanes_that_fail(told), [])
             status, out, err = run([program, "picture", f"{room}/LOG"])
-            trials.want(f"{kind}, version {version}: picture", (status, out, err), (0, picture_of(text), b""))
+            trials.want(f"{kind}, version {version}: picture", (status, out, err), (0, picture_of(text, version), b""))
             want_drawn(trials, f"{kind}, version {version}: its picture", out, *DRAWN[kind])
-            trials.want(f"{kind}, version {version}: its numbers", run([program, "summary", "-n", "0", f"{room}/LOG"]), (0, summary_of(text, 0), b""))
+            trials.want(f"{kind}, version {version}: its numbers", run([program, "summary", "-n", "0", f"{room}/LOG"]), (0, summary_of(text, 0, version=version), said))
     for (kind, old), (other, new) in itertools.product(LOGS.items(), repeat=2):
         # Of each two one is of version 5, 6 or 7 by turns.
         versions = 5 + len(kind) % 3, 5 + len(other) % 3

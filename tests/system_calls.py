@@ -199,7 +199,7 @@ READERS = {
     "entries": (0, b"1\t2\t10\ta\taa\n3\t4\t20\ta\tbb\n"),
     "damage": (3, b"3\tskipped\t1\t-\t-\n5\ttorn\t3\t-\t-\n"),
     "doubt": (3, b"missing\ta\n"),
-    "builds": (0, b"1\t2\t2\t3\t2\n"),
+    "builds": (0, b"1\t2\t2\t3\t2\tsure\n"),
     "summary": (0, b"commands 2\noutputs 2\nwall 3\ntotal 2\nbusy 2\nalone 2\nparallel 0.66\nslowest 1 a\n" + b"by-time 1 1.00 a\n" * 2 + b"by-weight 1 1.00 a\n" * 2 + b"kinds-by-time 2 2 2.00 (none)\nkinds-by-weight 2 2 2.00 (none)\n"),
     "trace": (0, trace_of(DAMAGED)),
     "hash-file": (0, b"%x\n" % command_hash(DAMAGED)),

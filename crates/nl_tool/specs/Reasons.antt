@@ -83,6 +83,10 @@ refusal_text refusal = fault_text refusal.fault ++ behind refusal.why
 abbrev pub missing_text : Place → List ℕ
 missing_text place = place_text place ++ codes ": it is missing, and was read as empty"
 
+-- what is said behind a command that was done by the builds of a log whose lines can't be those of builds
+abbrev pub anew_text : Place → List ℕ
+anew_text place = place_text place ++ codes ": it was written anew, so its lines don't tell its builds"
+
 -- ---- of which file it is
 
 -- the file that the words have read or looked for, or standard input

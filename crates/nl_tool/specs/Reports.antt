@@ -2,14 +2,17 @@
 use Rattle.std.specs.Prelude.{◌≡◌, ℕ, Bool, true, false, ◌<◌, ◌^◌, pos, List, Option, None, Some, bytes_eq, codes, if◌then◌else◌}
 use Rattle.std.specs.Borrow.{Bor}
 use Rattle.nl_fields.specs.Digits.{IsDecimal}
-use Rattle.nl_tool_report.specs.Builds.{builds_text_of}
-use Rattle.nl_tool_report.specs.Summary.{summary_text_of}
+use Rattle.nl_fields.specs.declared.entry.Entry.{Entry}
+use Rattle.nl_tool_report.specs.Anew.{builds_anew}
+use Rattle.nl_tool_report.specs.Builds.{builds_text}
+use Rattle.nl_tool_report.specs.Summary.{summary_anew, summary_text}
+use Rattle.nl_tool_report.specs.declared.clock.Stamps.{Stamps}
 use Rattle.nl_tool_report.specs.declared.kind.KindRule.{KindRule}
 use Rattle.nl_tool_report.specs.declared.kind.KindRule.TheVariants.{Extension, Folder, Top}
 use Rattle.nl_tool_report.specs.declared.scope.Scope.{Scope}
 use Rattle.nl_tool_report.specs.declared.scope.Scope.TheVariants.{Last, Numbered, Outputs}
-use Rattle.nl_tool_trace.specs.Trace.{trace_text_of}
-use Rattle.nl_tool_picture.specs.Picture.{picture_text_of}
+use Rattle.nl_tool_trace.specs.Trace.{trace_text}
+use Rattle.nl_tool_picture.specs.Picture.{picture_text}
 use Rattle.nl_tool.specs.declared.reporting.Report.{Report}
 use Rattle.nl_tool.specs.declared.reporting.Report.TheVariants.{Builds, Picture, Summary, Trace}
 
@@ -34,8 +37,16 @@ abbrev pub rule_of : Option (Bor (List ℕ)) → KindRule
 rule_of None = Extension
 rule_of (Some text) = if bytes_eq text.now (codes "folder") then Folder else (if bytes_eq text.now (codes "top") then Top else Extension)
 
-abbrev pub report_text_of : Report → List ℕ → Option (List ℕ)
-report_text_of Builds bytes = builds_text_of bytes
-report_text_of (Summary scope lists) bytes = summary_text_of scope lists bytes
-report_text_of Trace bytes = trace_text_of bytes
-report_text_of Picture bytes = picture_text_of bytes
+-- whether it is said of a log that it was written anew; of a trace and a picture nothing is
+abbrev pub report_anew : Report → Stamps → List Entry → Bool
+report_anew Builds stamps entries = builds_anew stamps entries
+report_anew (Summary scope lists) stamps entries = summary_anew scope stamps entries
+report_anew Trace stamps entries = false
+report_anew Picture stamps entries = false
+
+-- of the entries of a log, by what MTIME is in it
+abbrev pub report_text : Report → Stamps → List Entry → List ℕ
+report_text Builds stamps entries = builds_text stamps entries
+report_text (Summary scope lists) stamps entries = summary_text scope lists stamps entries
+report_text Trace stamps entries = trace_text stamps entries
+report_text Picture stamps entries = picture_text stamps entries

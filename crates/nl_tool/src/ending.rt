@@ -9,7 +9,7 @@ ghost use Rattle.nl_tool_words.specs.Form.{form_of};
 
 use crate::notes::Notes;
 use crate::program::{Verdict, run_with_notes};
-use crate::reason::{Refusal, note_of, refusal_of, unsynced_note};
+use crate::reason::{Refusal, anew_note, note_of, refusal_of, unsynced_note};
 use clap::Error;
 use clap::error::ErrorKind;
 use nl_os::SystemFile;
@@ -81,8 +81,12 @@ fn end(
     }
 }
 
-// Says of a command that was done that its log was missing, and that its folder can't be synced, where that is asked for.
+// Says of a command that was done that its log was missing, and that its folder can't be synced, where that is asked for; and
+// that the log was written anew by whose builds it went.
 fn say_notes(rt: &impl Eprint, alloc: Global, line: &CommandLine<'_>, notes: &Notes) {
+    if let Some(log) = anew_note(line, notes) {
+        let _ = eprintln!(rt; "nlog: {log}");
+    }
     if let Some(missing) = note_of(line, notes) {
         let _ = eprintln!(rt; "nlog: {missing}");
     }

@@ -32,6 +32,8 @@ pub struct Notes {
     pub is_missing: bool,
     /// Whether what was heard is of the second of two logs.
     pub is_second: bool,
+    /// Whether the log was written anew, so that its lines don't tell its builds.
+    pub is_anew: bool,
     /// Whether more is to be said than the words ask for: so a log of another version is looked at once it is refused.
     pub looks: bool,
 }
@@ -41,7 +43,8 @@ impl Notes {
     pub fn new(alloc: Global, looks: bool) -> Notes
         ensures none { (result.heard.failure ≡ None) × (result.written ≡ None)
             × (result.folder ≡ None) × (result.unsynced ≡ None)
-            × (result.is_missing ≡ false) × (result.is_second ≡ false) }
+            × (result.is_missing ≡ false) × (result.is_second ≡ false)
+            × (result.is_anew ≡ false) }
         ensures looks { result.looks ≡ looks }
     {
         Notes {
@@ -59,6 +62,7 @@ impl Notes {
             early: Vec::new(alloc),
             is_missing: false,
             is_second: false,
+            is_anew: false,
             looks,
         }
     }

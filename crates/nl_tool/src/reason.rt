@@ -5,7 +5,7 @@ ghost use Rattle.nl_os.specs.declared.failed_call.FileRole.{FileRole};
 ghost use Rattle.nl_tool_texts.specs.declared.fault.ToolFault.{ToolFault};
 ghost use Rattle.nl_tool.specs.declared.reason.Place.{Place};
 ghost use Rattle.nl_tool.specs.Looks.{look_of};
-ghost use Rattle.nl_tool.specs.Reasons.{IsBadNumberOf, IsBadOption, IsByteAt, IsEarly, IsFirstBad, IsLongNameOf, IsLookAt, IsNegative, IsNoteFor, IsNumber, IsNumberFault, IsReasonFor, IsSystem, IsUnsynced, IsVersion, file_place, heard_of, log_place, missing_text, place_text, read_place, reason_text, refusal_text, why_text, words_heard};
+ghost use Rattle.nl_tool.specs.Reasons.{IsBadNumberOf, IsBadOption, IsByteAt, IsEarly, IsFirstBad, IsLongNameOf, IsLookAt, IsNegative, IsNoteFor, IsNumber, IsNumberFault, IsReasonFor, IsSystem, IsUnsynced, IsVersion, anew_text, file_place, heard_of, log_place, missing_text, place_text, read_place, reason_text, refusal_text, why_text, words_heard};
 
 use crate::looks::{Look, escaped_of, look_of, start_of};
 use crate::notes::Notes;
@@ -204,6 +204,41 @@ pub fn note_of<'a>(line: &CommandLine<'a>, notes: &Notes) -> Option<Missing<'a>>
     }
     match log_place(&words_heard(&line.words, notes.is_second), FileRole::Log) {
         Some(place) => Some(Missing { place }),
+        None => None,
+    }
+}
+
+/// That the log was written anew over which a command was done.
+#[derive(Clone, Copy, Drop)]
+pub struct WrittenAnew<'a> {
+    pub place: Place<'a>,
+}
+
+impl fmt::Display for WrittenAnew<'_> {
+    ghost output = { λ log. Some (anew_text log.place) };
+
+    fn fmt<W: fmt::Write>(&self, f: &mut fmt::Formatter<W>) -> fmt::Result {
+        let WrittenAnew { place } = self;
+        write!(
+            f,
+            "{place}: it was written anew, so its lines don't tell its builds"
+        )
+    }
+}
+
+/// What is said of a command that was done: that the log was written anew by whose builds it went.
+pub fn anew_note<'a>(line: &CommandLine<'a>, notes: &Notes) -> Option<WrittenAnew<'a>>
+    ensures none { notes.now.is_anew ≡ false → result ≡ None }
+    ensures note { IfSome result
+        (λ log. log_place line.now.words FileRole.Log ≡ Some log.place) }
+    ensures whenever { notes.now.is_anew ≡ true → IsSome (log_place line.now.words FileRole.Log)
+        → IsSome result }
+{
+    if !notes.is_anew {
+        return None;
+    }
+    match log_place(&line.words, FileRole::Log) {
+        Some(place) => Some(WrittenAnew { place }),
         None => None,
     }
 }

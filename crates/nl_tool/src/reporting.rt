@@ -2,14 +2,15 @@
 ghost use Rattle.std.specs.Prelude.{◌≡◌, ◌<◌, ◌^◌, ℕ, pos, Some, IfErr, IfSome, OnOk};
 ghost use Rattle.nl_fields.specs.Digits.{IsDecimal};
 ghost use Rattle.nl_tool_print.specs.Faults.{IsLogFault};
-ghost use Rattle.nl_tool_print.specs.Output.{IsTextAsRead};
 ghost use Rattle.nl_versions.specs.VersionOf.{as_five};
 ghost use Rattle.nl_table.specs.Log.{log_of};
+ghost use Rattle.nl_tool_report.specs.Anew.{IsSaidAsRead};
+ghost use Rattle.nl_tool_report.specs.Builds.{IsReportAsRead};
 ghost use Rattle.nl_tool_report.specs.declared.scope.Scope.{Scope};
 ghost use Rattle.nl_tool_texts.specs.Output.{Prints};
 ghost use Rattle.nl_tool.specs.Answers.{RefusesLog};
 ghost use Rattle.nl_tool.specs.Faults.{IsSummaryFault};
-ghost use Rattle.nl_tool.specs.Reports.{IsBuild, IsMost, IsScope, report_text_of, rule_of};
+ghost use Rattle.nl_tool.specs.Reports.{IsBuild, IsMost, IsScope, report_anew, report_text, rule_of};
 
 use crate::files::open_log;
 use crate::notes::{NotedReader, NotedWriter, Notes};
@@ -154,6 +155,7 @@ pub fn report_in<R: Runtime>(
     ensures faults { IfErr result IsLogFault }
 {
     let mut out = NotedWriter::new(io::writer(rt));
+    let mut anew = false;
     let file = match log {
         Some(path) => open_log(rt, path, missing_ok, notes)?,
         None => None,
@@ -164,35 +166,48 @@ pub fn report_in<R: Runtime>(
             report,
             NotedReader::new(file, &mut notes.heard),
             &mut out,
+            &mut anew,
         ),
-        None if log.is_some() => report_to(alloc, report, io::empty(), &mut out),
+        None if log.is_some() => report_to(alloc, report, io::empty(), &mut out, &mut anew),
         None => report_to(
             alloc,
             report,
             NotedReader::new(rt.reader(), &mut notes.heard),
             &mut out,
+            &mut anew,
         ),
     };
     notes.written = out.failure;
+    notes.is_anew = anew;
     answer
 }
 
-// Tells it of the log that the reader gives.
+// Tells it of the log that the reader gives, and whether that was written anew.
 fn report_to<R: Read + Drop, W: Write>(
     alloc: Global,
     report: Report,
     reader: R,
     writer: &mut W,
+    anew: &mut bool,
 ) -> Result<(), ToolFault>
-    ensures prints { Prints (IsTextAsRead (report_text_of report) (R.remaining reader))
+    ensures prints { Prints (IsReportAsRead (report_text report) (R.remaining reader))
         (W.contents writer.old) (W.contents writer.new) result }
+    ensures anew { OnOk result (IsSaidAsRead (report_anew report) (R.remaining reader) anew.new) }
     ensures bytes { RefusesLog (λ bs. log_of (as_five bs)) (R.remaining reader) result }
     ensures faults { IfErr result IsLogFault }
 {
     match report {
-        Report::Builds => builds_to(alloc, reader, writer),
-        Report::Summary { scope, lists } => summary_to(alloc, scope, lists, reader, writer),
-        Report::Trace => trace_to(alloc, reader, writer),
-        Report::Picture => picture_to(alloc, reader, writer),
+        Report::Builds => builds_to(alloc, reader, writer, anew),
+        Report::Summary { scope, lists } => {
+            summary_to(alloc, scope, lists, reader, writer, anew)
+        }
+        Report::Trace => {
+            *anew = false;
+            trace_to(alloc, reader, writer)
+        }
+        Report::Picture => {
+            *anew = false;
+            picture_to(alloc, reader, writer)
+        }
     }
 }

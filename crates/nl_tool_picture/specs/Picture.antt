@@ -1,11 +1,10 @@
 -- The text of `picture`: the last build as SVG.
-use Rattle.std.specs.Prelude.{ℕ, ◌+◌, ◌*◌, ◌/◌, nat_lt, List, [], ◌∷◌, ◌++◌, length, Option, codes, decimal, if◌then◌else◌}
+use Rattle.std.specs.Prelude.{ℕ, ◌+◌, ◌*◌, ◌/◌, nat_lt, List, [], ◌∷◌, ◌++◌, length, codes, decimal, if◌then◌else◌}
 use Rattle.std.specs.List.{flat_map, zip}
 use Rattle.nl_fields.specs.declared.entry.Entry.{Entry}
-use Rattle.nl_table.specs.Log.{log_of}
-use Rattle.nl_versions.specs.VersionOf.{as_five}
 use Rattle.nl_tool_report.specs.Intents.{recorded}
-use Rattle.nl_tool_report.specs.Builds.{builds, report_of}
+use Rattle.nl_tool_report.specs.Builds.{builds}
+use Rattle.nl_tool_report.specs.declared.clock.Stamps.{Stamps}
 use Rattle.nl_tool_report.specs.declared.span.Span.{Span}
 use Rattle.nl_tool_trace.specs.Jobs.{Job, by_start, last_jobs}
 use Rattle.nl_tool_trace.specs.Lanes.{lanes}
@@ -54,8 +53,5 @@ abbrev pub picture : List Job → List ℕ
 picture js = parts (frame_of (spans js) (lanes (spans js))) (kinds js) (zip js (lanes (spans js))) (spans js)
 
 -- of the last build
-abbrev pub picture_text : List Entry → List ℕ
-picture_text entries = picture (by_start (last_jobs (builds (recorded entries))))
-
-abbrev pub picture_text_of : List ℕ → Option (List ℕ)
-picture_text_of bytes = report_of picture_text (log_of (as_five bytes))
+abbrev pub picture_text : Stamps → List Entry → List ℕ
+picture_text stamps entries = picture (by_start (last_jobs (builds stamps (recorded entries))))

@@ -8,16 +8,15 @@ ghost use Rattle.nl_table.specs.LogText.{lines_of_entries};
 ghost use Rattle.nl_tool_texts.specs.Output.{Prints};
 ghost use Rattle.nl_tool_texts.specs.declared.fault.ToolFault.{ToolFault};
 ghost use Rattle.nl_tool_print.specs.Faults.{IsLogFault};
-ghost use Rattle.nl_tool_print.specs.Output.{IsTextAsRead};
 ghost use Rattle.nl_versions.specs.VersionOf.{as_five};
-ghost use Rattle.nl_tool_report.specs.Builds.{builds};
+ghost use Rattle.nl_tool_report.specs.Builds.{IsReportAsRead, builds};
 ghost use Rattle.nl_tool_report.specs.Commands.{IsEarly};
 ghost use Rattle.nl_tool_report.specs.LastBuild.{named};
 ghost use Rattle.nl_tool_report.specs.declared.span.Span.{Span};
 ghost use Rattle.nl_tool_trace.specs.Jobs.{by_start, job, last_jobs};
 ghost use Rattle.nl_tool_trace.specs.Running.{AreMoments};
 ghost use Rattle.nl_tool_picture.specs.Frame.{IsFrame, seconds};
-ghost use Rattle.nl_tool_picture.specs.Picture.{head, kind_label, legend_from, legend_line, parts, picture, picture_text_of};
+ghost use Rattle.nl_tool_picture.specs.Picture.{head, kind_label, legend_from, legend_line, parts, picture, picture_text};
 
 use crate::bars::{append_bars, marks_of};
 use crate::curve::{append_curve, append_ticks};
@@ -25,7 +24,7 @@ use crate::escape::{append, append_label};
 use crate::frame::{Frame, seconds};
 use crate::kinds::kinds_of;
 use crate::marks::append_joined_bars;
-use nl_tool_report::{Span, read_entries, without_intents};
+use nl_tool_report::{EntriesAsRead, Span, Stamps, read_entries, without_intents};
 use nl_tool_texts::{ToolFault, write_out};
 use nl_tool_trace::{Command, Moments, lanes_of, last_commands};
 use std::alloc::{AllocError, Global};
@@ -39,7 +38,7 @@ pub fn picture_to<R: Read + Drop, W: Write>(
     reader: R,
     writer: &mut W,
 ) -> Result<(), ToolFault>
-    ensures prints { Prints (IsTextAsRead picture_text_of (R.remaining reader)) (W.contents writer.old)
+    ensures prints { Prints (IsReportAsRead picture_text (R.remaining reader)) (W.contents writer.old)
         (W.contents writer.new) result }
     ensures not_a_log { IsErrOf result ToolFault.NotALog
         → IfSome (R.remaining reader) (λ bs. log_of (as_five bs) ≡ NotALog) }
@@ -47,18 +46,18 @@ pub fn picture_to<R: Read + Drop, W: Write>(
         → IfSome (R.remaining reader) (λ bs. log_of (as_five bs) ≡ OtherVersion) }
     ensures faults { IfErr result IsLogFault }
 {
-    let text = read_entries(alloc, reader)?;
+    let EntriesAsRead { stamps, text } = read_entries(alloc, reader)?;
     let recorded = without_intents(alloc, text)?;
-    let picture = last_build_picture(alloc, recorded.as_slice())?;
+    let picture = last_build_picture(alloc, stamps, recorded.as_slice())?;
     write_out(picture.as_slice(), writer)
 }
 
 // A picture of the last build.
-fn last_build_picture(alloc: Global, text: &[u8]) -> Result<Vec<u8>, AllocError>
+fn last_build_picture(alloc: Global, stamps: Stamps, text: &[u8]) -> Result<Vec<u8>, AllocError>
     ensures value { (es : List Entry) → All IsEntry es → text.now ≡ lines_of_entries es
-        → IfOk result (λ out. out.items ≡ picture (by_start (last_jobs (builds es)))) }
+        → IfOk result (λ out. out.items ≡ picture (by_start (last_jobs (builds stamps es)))) }
 {
-    let commands = last_commands(alloc, text)?;
+    let commands = last_commands(alloc, stamps, text)?;
     picture_of(alloc, commands.as_slice())
 }
 

@@ -4,13 +4,14 @@ ghost use Rattle.nl_lines.specs.Split.{with_newline};
 ghost use Rattle.nl_table.specs.Log.{entry_on, log_of, NotALog, OtherVersion};
 ghost use Rattle.nl_tool_texts.specs.declared.fault.ToolFault.{ToolFault};
 ghost use Rattle.nl_tool_print.specs.Faults.{IsLogFault};
-ghost use Rattle.nl_tool_print.specs.Streams.{Streams, entry_text, entries_text_of};
+ghost use Rattle.nl_tool_print.specs.Streams.{IsFirstLine, Streams, entry_text, entries_text_of};
 ghost use Rattle.nl_versions.specs.VersionOf.{as_five};
 
-use crate::stream::{LineText, stream_to};
+use crate::stream::{LineText, stream_named};
 use nl_fields::append_entry;
 use nl_table::{OLDEST_VERSION, read_line};
 use nl_tool_texts::ToolFault;
+use nl_versions::{FirstLine, LogVersion};
 use std::alloc::{AllocError, Global};
 use std::io::{Read, Write};
 
@@ -85,7 +86,30 @@ pub fn entries_to<R: Read + Drop, W: Write>(
         → IfSome (R.remaining reader) (λ bs. log_of (as_five bs) ≡ OtherVersion) }
     ensures faults { IfErr result IsLogFault }
 {
-    match stream_to(alloc, &EntryLines, reader, writer) {
+    let mut first = FirstLine {
+        version: LogVersion::Five,
+        is_four: false,
+    };
+    entries_named(alloc, reader, writer, &mut first)
+}
+
+/// Does what `entries_to` does, and tells what the first line of the log names.
+pub fn entries_named<R: Read + Drop, W: Write>(
+    alloc: Global,
+    reader: R,
+    writer: &mut W,
+    first: &mut FirstLine,
+) -> Result<(), ToolFault>
+    ensures streams { Streams (λ bs. entries_text_of (as_five bs)) (R.remaining reader)
+        (W.contents writer.old) (W.contents writer.new) result }
+    ensures version { OnOk result (IsFirstLine (R.remaining reader) first.new) }
+    ensures not_a_log { IsErrOf result ToolFault.NotALog
+        → IfSome (R.remaining reader) (λ bs. log_of (as_five bs) ≡ NotALog) }
+    ensures other_version { IsErrOf result ToolFault.OtherVersion
+        → IfSome (R.remaining reader) (λ bs. log_of (as_five bs) ≡ OtherVersion) }
+    ensures faults { IfErr result IsLogFault }
+{
+    match stream_named(alloc, &EntryLines, reader, writer, first) {
         Ok(_) => Ok(()),
         Err(fault) => Err(fault),
     }

@@ -13,7 +13,7 @@ mod stream;
 
 pub use check::{check_log, check_to};
 pub use damage::damage_to;
-pub use entries::entries_to;
+pub use entries::{entries_named, entries_to};
 pub use hash::{hash_for, hash_to};
 pub use hash_file::hash_read;
 pub use loading::load_read;

@@ -7,14 +7,18 @@ use Rattle.std.proofs.lemmas.Bool.Decides.{nat_tests}
 use Rattle.std.proofs.lemmas.List.{map-append}
 use Rattle.std.proofs.lemmas.List.Sums.{fold_push, sum_by_push}
 use Rattle.nl_fields.specs.declared.entry.Entry.{Entry}
-use Rattle.nl_tool_report.specs.Runs.{Run, items, one, longer, placed}
+use Rattle.nl_tool_report.specs.Runs.{Run, added, items, one, longer, placed}
 use Rattle.nl_tool_report.specs.Commands.{commands, falls_after, is_other_command, is_same_command, span_of, time_of, time_of_command}
-use Rattle.nl_tool_report.specs.Builds.{build_of, builds, first_start, is_border, last_end, total_time}
+use Rattle.nl_tool_report.specs.Builds.{build_of, builds, builds_from, first_start, last_end, total_time}
+use Rattle.nl_tool_report.specs.Clock.{is_border, new_clock, next}
+use Rattle.nl_tool_report.specs.declared.clock.Clock.{Clock}
+use Rattle.nl_tool_report.specs.declared.clock.Stamps.{Stamps}
 use Rattle.nl_tool_report.specs.BuildSteps.{AreHeld, HasLast, IsCurrent}
 use Rattle.nl_tool_report.specs.declared.builds.Build.{Build}
 use Rattle.nl_tool_report.specs.declared.builds.Current.{Current}
 use Rattle.nl_tool_report.specs.declared.span.Span.{Span}
-use Rattle.nl_tool_report.proofs.RunLemmas.{placed-along, placed-apart, placed-behind, runs-push, runs_end}
+use Rattle.nl_tool_report.proofs.ClockLemmas.{Knows, border_is_other_by, next_knows, nothing_known}
+use Rattle.nl_tool_report.proofs.RunLemmas.{added-along, added-apart, placed-along, placed-apart, placed-behind, runs-push, runs_end}
 
 -- ---- the numbers of a build
 
@@ -210,90 +214,82 @@ abbrev commands_in : Run Entry → List (Run Entry)
 commands_in b = commands (items b)
 
 -- each build has a command
-begins : (b : Run Entry) → (first : Run Entry) × (more : List (Run Entry)) × (commands_in b ≡ first ∷ more)
-begins b = let ends = runs_end is_other_command b in go ends.0 ends.1 ends.2
+first_command : (b : Run Entry) → (first : Run Entry) × (more : List (Run Entry)) × (commands_in b ≡ first ∷ more)
+first_command b = let ends = runs_end is_other_command b in go ends.0 ends.1 ends.2
   where
     go : (before : List (Run Entry)) (c : Run Entry) → commands_in b ≡ before ++ c ∷ []
         → (first : Run Entry) × (more : List (Run Entry)) × (commands_in b ≡ first ∷ more)
     go [] c is = (c, [], is)
     go (first ∷ before) c is = (first, before ++ c ∷ [], is)
 
--- an entry more begins a command in the builds where it does so in the log
-commands-placed : (bs : List (Run Entry)) (e : Entry)
-    → flat_map commands_in (placed is_border bs e) ≡ placed is_other_command (flat_map commands_in bs) e
-commands-placed [] e = refl
-commands-placed (b ∷ []) e = go (is_border b.last e) refl
-  where
-    go : (falls : Bool) → is_border b.last e ≡ falls
-        → flat_map commands_in (if falls then b ∷ one e ∷ [] else longer b e ∷ []) ≡ placed is_other_command (commands_in b ++ []) e
-    go true falls =
-        let ends = runs_end is_other_command b in
-        let apart : is_other_command ends.1.last e ≡ true = ap (λ (l : Entry). is_other_command l e) ends.3
-        ∙ border_is_other (span_of b.last) (span_of e) falls in
-        sym (ap (λ (cs : List (Run Entry)). placed is_other_command cs e) (append-nil (commands_in b) ∙ ends.2)
-        ∙ placed-apart is_other_command ends.0 ends.1 e apart ∙ ap (λ (cs : List (Run Entry)). cs ++ one e ∷ []) (sym ends.2))
-    go false falls =
-        append-nil (commands_in (longer b e)) ∙ runs-push is_other_command (items b) e
-        ∙ ap (λ (cs : List (Run Entry)). placed is_other_command cs e) (sym (append-nil (commands_in b)))
-commands-placed (b ∷ c ∷ more) e =
-    let first = begins c in
+-- an entry more begins a command in the builds where it does so in the log, if no command goes on in another build
+commands-added : (begins : Bool) (bs : List (Run Entry)) (e : Entry)
+    → ((before : List (Run Entry)) (b : Run Entry) → bs ≡ before ++ b ∷ [] → begins ≡ true → is_other_command b.last e ≡ true)
+    → flat_map commands_in (added begins bs e) ≡ placed is_other_command (flat_map commands_in bs) e
+commands-added begins [] e parts = refl
+commands-added true (b ∷ []) e parts =
+    let ends = runs_end is_other_command b in
+    let apart : is_other_command ends.1.last e ≡ true = ap (λ (l : Entry). is_other_command l e) ends.3 ∙ parts [] b refl refl in
+    sym (ap (λ (cs : List (Run Entry)). placed is_other_command cs e) (append-nil (commands_in b) ∙ ends.2)
+    ∙ placed-apart is_other_command ends.0 ends.1 e apart ∙ ap (λ (cs : List (Run Entry)). cs ++ one e ∷ []) (sym ends.2))
+commands-added false (b ∷ []) e parts =
+    append-nil (commands_in (longer b e)) ∙ runs-push is_other_command (items b) e
+    ∙ ap (λ (cs : List (Run Entry)). placed is_other_command cs e) (sym (append-nil (commands_in b)))
+commands-added begins (b ∷ c ∷ more) e parts =
+    let first = first_command c in
     let behind : flat_map commands_in (c ∷ more) ≡ first.0 ∷ (first.1 ++ flat_map commands_in more) =
     ap (λ (cs : List (Run Entry)). cs ++ flat_map commands_in more) first.2 in
-    ap (λ (cs : List (Run Entry)). commands_in b ++ cs) (commands-placed (c ∷ more) e
+    ap (λ (cs : List (Run Entry)). commands_in b ++ cs) (commands-added begins (c ∷ more) e
+    (λ before d is. parts (b ∷ before) d (ap (λ (l : List (Run Entry)). b ∷ l) is))
     ∙ ap (λ (cs : List (Run Entry)). placed is_other_command cs e) behind)
     ∙ sym (ap (λ (cs : List (Run Entry)). placed is_other_command (commands_in b ++ cs) e) behind
     ∙ placed-behind is_other_command (commands_in b) first.0 (first.1 ++ flat_map commands_in more) e)
 
-commands-fold : (bs : List (Run Entry)) (es : List Entry)
-    → flat_map commands_in (fold (placed is_border) bs es) ≡ fold (placed is_other_command) (flat_map commands_in bs) es
-commands-fold bs [] = refl
-commands-fold bs (e ∷ es) =
-    commands-fold (placed is_border bs e) es
-    ∙ ap (λ (cs : List (Run Entry)). fold (placed is_other_command) cs es) (commands-placed bs e)
+commands-from : (c : Clock) (bs : List (Run Entry)) (es : List Entry) → Knows c bs
+    → flat_map commands_in (builds_from c bs es) ≡ fold (placed is_other_command) (flat_map commands_in bs) es
+commands-from c bs [] knows = refl
+commands-from c bs (e ∷ es) knows =
+    commands-from (next c e) (added (is_border c e) bs e) es (next_knows c bs e)
+    ∙ ap (λ (cs : List (Run Entry)). fold (placed is_other_command) cs es) (commands-added (is_border c e) bs e
+    (λ before b is border. border_is_other_by c b.last e (border_is_other (span_of b.last) (span_of e)) (knows before b is) border))
 
 -- the commands of all builds are those of the log, each once
-pub commands-builds : (es : List Entry) → flat_map (λ b. commands (items b)) (builds es) ≡ commands es
-commands-builds es = commands-fold [] es
+pub commands-builds : (stamps : Stamps) (es : List Entry) → flat_map (λ b. commands (items b)) (builds stamps es) ≡ commands es
+commands-builds stamps es = commands-from (new_clock stamps) [] es (nothing_known stamps)
 
 -- ---- steps
 
--- an entry more, where END falls and where it doesn't
-pub held_first : (rs : List (Run Entry)) (done : List Build) (e : Entry) (current : Current) → AreHeld rs done None
-    → IsCurrent (one e) current → HasLast (placed is_border rs e) done current
-held_first rs done e current none is = record {
+-- an entry more, where it begins another build and where it doesn't
+pub held_first : (begins : Bool) (rs : List (Run Entry)) (done : List Build) (e : Entry) (current : Current) → AreHeld rs done None
+    → IsCurrent (one e) current → HasLast (added begins rs e) done current
+held_first begins rs done e current none is = record {
   before = [];
   last = one e;
-  is = ap (λ (l : List (Run Entry)). placed is_border l e) none.0;
+  is = ap (λ (l : List (Run Entry)). added begins l e) none.0;
   done_is = none.1;
   at_hand = is;
 }
 
-pub held_apart : (rs : List (Run Entry)) (done : List Build) (old : Current) (e : Entry) (new : Current) → HasLast rs done old
-    → falls_after old.last (span_of e) ≡ true → IsCurrent (one e) new
-    → HasLast (placed is_border rs e) (done ++ old.build ∷ []) new
-held_apart rs done old e new held falls is =
-    let apart : is_border held.last.last e ≡ true = ap (λ (s : Span). falls_after s (span_of e)) (sym held.at_hand.last) ∙ falls in
-    record {
-      before = held.before ++ held.last ∷ [];
-      last = one e;
-      is = ap (λ (l : List (Run Entry)). placed is_border l e) held.is ∙ placed-apart is_border held.before held.last e apart;
-      done_is = ap (λ (l : List Build). l ++ old.build ∷ []) held.done_is
-          ∙ ap (λ (b : Build). map build_of held.before ++ b ∷ []) held.at_hand.build ∙ sym (map-append build_of held.before (held.last ∷ []));
-      at_hand = is;
-    }
+pub held_apart : (begins : Bool) (rs : List (Run Entry)) (done : List Build) (old : Current) (e : Entry) (new : Current) → HasLast rs done old
+    → begins ≡ true → IsCurrent (one e) new → HasLast (added begins rs e) (done ++ old.build ∷ []) new
+held_apart begins rs done old e new held apart is = record {
+  before = held.before ++ held.last ∷ [];
+  last = one e;
+  is = (λ i. added (apart i) (held.is i) e) ∙ added-apart held.before held.last e;
+  done_is = ap (λ (l : List Build). l ++ old.build ∷ []) held.done_is
+      ∙ ap (λ (b : Build). map build_of held.before ++ b ∷ []) held.at_hand.build ∙ sym (map-append build_of held.before (held.last ∷ []));
+  at_hand = is;
+}
 
-pub held_along : (rs : List (Run Entry)) (done : List Build) (old : Current) (e : Entry) (new : Current) → HasLast rs done old
-    → falls_after old.last (span_of e) ≡ false → ((r : Run Entry) → IsCurrent r old → IsCurrent (longer r e) new)
-    → HasLast (placed is_border rs e) done new
-held_along rs done old e new held falls is =
-    let along : is_border held.last.last e ≡ false = ap (λ (s : Span). falls_after s (span_of e)) (sym held.at_hand.last) ∙ falls in
-    record {
-      before = held.before;
-      last = longer held.last e;
-      is = ap (λ (l : List (Run Entry)). placed is_border l e) held.is ∙ placed-along is_border held.before held.last e along;
-      done_is = held.done_is;
-      at_hand = is held.last held.at_hand;
-    }
+pub held_along : (begins : Bool) (rs : List (Run Entry)) (done : List Build) (old : Current) (e : Entry) (new : Current) → HasLast rs done old
+    → begins ≡ false → ((r : Run Entry) → IsCurrent r old → IsCurrent (longer r e) new) → HasLast (added begins rs e) done new
+held_along begins rs done old e new held along is = record {
+  before = held.before;
+  last = longer held.last e;
+  is = (λ i. added (along i) (held.is i) e) ∙ added-along held.before held.last e;
+  done_is = held.done_is;
+  at_hand = is held.last held.at_hand;
+}
 
 -- all builds are done with the last
 pub all_held : (rs : List (Run Entry)) (done : List Build) (current : Current) → HasLast rs done current

@@ -16,17 +16,19 @@ use Rattle.nl_tool_report.specs.EndingSteps.{Ended, ended_line, ended_lines, end
 use Rattle.nl_tool_report.specs.Outputs.{by_end, end_number, end_rank}
 use Rattle.nl_tool_report.specs.Slowest.{falling}
 use Rattle.nl_tool_report.specs.declared.ending.Ending.{Ending}
-use Rattle.nl_tool_report.specs.Builds.{builds, is_border}
-use Rattle.nl_tool_report.specs.Commands.{IsEarly, moment, span_of}
+use Rattle.nl_tool_report.specs.Builds.{builds}
+use Rattle.nl_tool_report.specs.Commands.{IsEarly, ends_before, moment, span_of}
 use Rattle.nl_tool_report.specs.Runs.{Run, longer, one, placed, runs}
 use Rattle.nl_tool_report.specs.Intents.{recorded}
 use Rattle.nl_tool_report.specs.Summary.{told_entries}
+use Rattle.nl_tool_report.specs.declared.clock.Stamps.TheVariants.{Unknown}
 use Rattle.nl_tool_report.specs.declared.scope.Scope.{Scope}
 use Rattle.nl_tool_report.specs.declared.scope.Scope.TheVariants.{Last, Numbered, Outputs}
 use Rattle.nl_tool_report.specs.declared.span.Span.{Span}
 use Rattle.nl_tool_report.proofs.FallingLemmas.{Falls, falling_falls, falling_moves, map-falling}
 use Rattle.nl_tool_report.proofs.IntentLemmas.{recorded_valid}
 use Rattle.nl_tool_report.proofs.RunLemmas.{placed-along}
+use Rattle.nl_tool_report.proofs.ClockLemmas.{blind_builds}
 
 abbrev rank_ended : Ended → ℕ
 rank_ended r = r.rank
@@ -108,11 +110,11 @@ ends_later : (s t : Span) → IsEarly s → IsEarly t → s.hash < 2 ^ 64 → t.
 ends_later s t a b c d order = omega (arith, order, a.began, a.ended, b.began, b.ended, c, d)
 
 -- END doesn't fall where the rank doesn't rise
-stays : (x y : Entry) → IsEntry x → IsEntry y → end_rank y ≤ end_rank x → is_border x y ≡ false
+stays : (x y : Entry) → IsEntry x → IsEntry y → end_rank y ≤ end_rank x → ends_before x y ≡ false
 stays x y a b order =
     le-ltb (span_of y).ended (span_of x).ended (ends_later (span_of x) (span_of y) (early x a) (early y b) a.hash b.hash order)
 
-along_of : (x : Entry) (ys : List Entry) → All IsEntry (x ∷ ys) → Falls end_rank (x ∷ ys) → AllAlong is_border x ys
+along_of : (x : Entry) (ys : List Entry) → All IsEntry (x ∷ ys) → Falls end_rank (x ∷ ys) → AllAlong ends_before x ys
 along_of x [] valid falls = tt
 along_of x (y ∷ ys) valid falls =
     let rest = All-tail IsEntry x (y ∷ ys) valid in (
@@ -123,10 +125,11 @@ along_of x (y ∷ ys) valid falls =
 ended_valid : (es : List Entry) → All IsEntry es → All IsEntry (by_end es)
 ended_valid es valid = All-permutation IsEntry es (by_end es) (falling_moves end_rank es) valid
 
-pub one_build : (es : List Entry) → All IsEntry es → length (builds (by_end es)) ≤ 1
+pub one_build : (es : List Entry) → All IsEntry es → length (builds Unknown (by_end es)) ≤ 1
 one_build es valid =
-    at_most_one is_border (by_end es) (λ x ys is. along_of x ys (subst (All IsEntry) is (ended_valid es valid))
-    (subst (Falls end_rank) is (falling_falls end_rank es)))
+    subst (λ (rs : List (Run Entry)). length rs ≤ 1) (sym (blind_builds (by_end es)))
+    (at_most_one ends_before (by_end es) (λ x ys is. along_of x ys (subst (All IsEntry) is (ended_valid es valid))
+    (subst (Falls end_rank) is (falling_falls end_rank es))))
 
 pub told_valid : (scope : Scope) (es : List Entry) → All IsEntry es → All IsEntry (told_entries scope es)
 told_valid Last es valid = recorded_valid es valid

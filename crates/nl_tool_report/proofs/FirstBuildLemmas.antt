@@ -1,5 +1,5 @@
 -- The first builds of a log, entry by entry.
-use Rattle.std.proofs.Common.{◌≡◌, ◌∙◌, ℕ, zero, suc, ◌+◌, ◌-◌, ◌<◌, ◌≤◌, Bool, true, false, List, [], ◌∷◌, ◌++◌, Option, None, Some, length, take, length-append, arith, ap, refl, subst, sym, true≢false}
+use Rattle.std.proofs.Common.{◌≡◌, ◌∙◌, ℕ, zero, suc, ◌+◌, ◌-◌, ◌<◌, ◌≤◌, Bool, true, false, List, [], ◌∷◌, ◌++◌, Some, append_assoc, length, take, length-append, arith, ap, refl, subst, sym, true≢false}
 use Rattle.std.specs.Prelude.{All}
 use Rattle.std.specs.List.{fold}
 use Rattle.std.proofs.lemmas.List.{take_all}
@@ -11,106 +11,89 @@ use Rattle.nl_fields.specs.EntryLine.{IsEntry, entry_of, line_of}
 use Rattle.nl_fields.proofs.LineOfLemmas.{entry_of-line_of}
 use Rattle.nl_table.specs.LogText.{lines_of_entries}
 use Rattle.nl_table.proofs.LogLemmas.{plain_line}
-use Rattle.nl_tool_report.specs.Builds.{builds, is_border}
-use Rattle.nl_tool_report.specs.Commands.{falls_after, span_of}
-use Rattle.nl_tool_report.specs.FirstBuilds.{AreCounted, AreFirst, EndsIn, begins_build}
-use Rattle.nl_tool_report.specs.Runs.{Run, longer, one, placed}
-use Rattle.nl_tool_report.specs.declared.span.Span.{Span}
+use Rattle.nl_tool_report.specs.Builds.{builds, builds_from}
+use Rattle.nl_tool_report.specs.Clock.{clock_of, is_border, new_clock, next}
+use Rattle.nl_tool_report.specs.FirstBuilds.{AreFirst}
+use Rattle.nl_tool_report.specs.Runs.{Run, added, one}
+use Rattle.nl_tool_report.specs.declared.clock.Clock.{Clock}
+use Rattle.nl_tool_report.specs.declared.clock.Stamps.{Stamps}
 use Rattle.nl_tool_report.proofs.IntentLemmas.{lines-append}
-use Rattle.nl_tool_report.proofs.RunLemmas.{placed-along, placed-apart, placed-behind, placed_ends}
+use Rattle.nl_tool_report.proofs.ClockLemmas.{builds-append, builds-push, clock-push, from_behind}
 use Rattle.nl_tool_report.proofs.TextLemmas.{Passed, SplitsOff, entries_behind, lines-cons}
 
 -- ---- one entry more
 
--- the last of the builds ends as is known
-border_known : (rs : List (Run Entry)) (s : Span) (ends : EndsIn rs s) (e : Entry) (b : Bool) → falls_after s (span_of e) ≡ b
-    → is_border ends.build.last e ≡ b
-border_known rs s ends e b falls = ap (λ (t : Span). falls_after t (span_of e)) (sym ends.last_is) ∙ falls
-
-along : (rs : List (Run Entry)) (s : Span) (e : Entry) → EndsIn rs s → falls_after s (span_of e) ≡ false
-    → EndsIn (placed is_border rs e) (span_of e) × (length (placed is_border rs e) ≡ length rs)
-along rs s e ends stays =
-    let is = ap (λ (l : List (Run Entry)). placed is_border l e) ends.is
-    ∙ placed-along is_border ends.before ends.build e (border_known rs s ends e false stays) in (
-      record { before = ends.before; build = longer ends.build e; is = is; last_is = refl },
-      omega (
-        arith,
-        ap length is,
-        ap length ends.is,
-        length-append ends.before (longer ends.build e ∷ []),
-        length-append ends.before (ends.build ∷ []),
-      ),
-    )
-
-apart : (rs : List (Run Entry)) (s : Span) (e : Entry) → EndsIn rs s → falls_after s (span_of e) ≡ true
-    → placed is_border rs e ≡ rs ++ one e ∷ []
-apart rs s e ends falls =
-    ap (λ (l : List (Run Entry)). placed is_border l e) ends.is
-    ∙ placed-apart is_border ends.before ends.build e (border_known rs s ends e true falls)
-    ∙ ap (λ (l : List (Run Entry)). l ++ one e ∷ []) (sym ends.is)
+-- the builds of these entries are counted, and the clock is that of the last of them
+pub record AreCounted (stamps : Stamps) (front : List Entry) (count : ℕ) (clock : Clock) : Type 0 where
+  pub clock_is : clock ≡ clock_of stamps front
+  pub count_is : count ≡ length (builds stamps front)
 
 -- an entry that begins a build is placed behind all builds
-pub begun : (rs : List (Run Entry)) (count : ℕ) (last : Option Span) (e : Entry) → AreCounted rs count last → begins_build last e ≡ true
-    → placed is_border rs e ≡ rs ++ one e ∷ []
-begun rs count None e counted begins =
-    ap (λ (l : List (Run Entry)). placed is_border l e) counted.0 ∙ ap (λ (l : List (Run Entry)). l ++ one e ∷ []) (sym counted.0)
-begun rs count (Some s) e counted begins = apart rs s e counted.0 begins
+added_more : (rs : List (Run Entry)) (e : Entry) → added true rs e ≡ rs ++ one e ∷ []
+added_more [] e = refl
+added_more (r ∷ []) e = refl
+added_more (r ∷ s ∷ more) e = ap (λ (l : List (Run Entry)). r ∷ l) (added_more (s ∷ more) e)
 
-pub counted_begun : (rs : List (Run Entry)) (count : ℕ) (last now : Option Span) (e : Entry) → AreCounted rs count last
-    → begins_build last e ≡ true → now ≡ Some (span_of e) → AreCounted (placed is_border rs e) (count + 1) now
-counted_begun rs count last now e counted begins known =
-    subst (AreCounted (placed is_border rs e) (count + 1)) (sym known) (
-      record { before = rs; build = one e; is = begun rs count last e counted begins; last_is = refl },
-      omega (arith, ap length (begun rs count last e counted begins), length-append rs (one e ∷ []), so_many rs count last counted),
-    )
+added_within : (r : Run Entry) (more : List (Run Entry)) (e : Entry) → length (added false (r ∷ more) e) ≡ length (r ∷ more)
+added_within r [] e = refl
+added_within r (s ∷ more) e = let rest = added_within s more e in omega (arith, rest)
+
+pub begun : (stamps : Stamps) (front : List Entry) (clock : Clock) (e : Entry) → clock ≡ clock_of stamps front
+    → is_border clock e ≡ true → builds stamps (front ++ e ∷ []) ≡ builds stamps front ++ one e ∷ []
+begun stamps front clock e is border =
+    builds-push stamps front e
+    ∙ ap (λ (b : Bool). added b (builds stamps front) e) (ap (λ (c : Clock). is_border c e) (sym is) ∙ border)
+    ∙ added_more (builds stamps front) e
+
+pub counted_begun : (stamps : Stamps) (front : List Entry) (count : ℕ) (was now : Clock) (e : Entry) → AreCounted stamps front count was
+    → is_border was e ≡ true → now ≡ next was e → AreCounted stamps (front ++ e ∷ []) (count + 1) now
+counted_begun stamps front count was now e counted border moves = record {
+  clock_is = moves ∙ ap (λ (c : Clock). next c e) counted.clock_is ∙ sym (clock-push stamps front e);
+  count_is = omega (
+    arith,
+    counted.count_is,
+    ap length (begun stamps front was e counted.clock_is border),
+    length-append (builds stamps front) (one e ∷ []),
+  );
+}
+
+-- the builds of some entries, of which the first begins one
+some_built : (stamps : Stamps) (x : Entry) (xs : List Entry)
+    → (r : Run Entry) × (more : List (Run Entry)) × (builds stamps (x ∷ xs) ≡ r ∷ more)
+some_built stamps x xs =
+    let behind = from_behind (next (new_clock stamps) x) [] (one x) [] xs in
+    go behind.0 behind.1 behind.2
   where
-    so_many : (rs : List (Run Entry)) (count : ℕ) (last : Option Span) → AreCounted rs count last → count ≡ length rs
-    so_many rs count None counted = counted.1 ∙ sym (ap length counted.0)
-    so_many rs count (Some s) counted = counted.1
+    go : (rest : List (Run Entry)) → builds stamps (x ∷ xs) ≡ rest → 1 ≤ length rest
+        → (r : Run Entry) × (more : List (Run Entry)) × (builds stamps (x ∷ xs) ≡ r ∷ more)
+    go [] is some = absurd (omega (arith, some))
+    go (r ∷ more) is some = (r, more, is)
 
-pub counted_along : (rs : List (Run Entry)) (count : ℕ) (last now : Option Span) (e : Entry) → AreCounted rs count last
-    → begins_build last e ≡ false → now ≡ Some (span_of e) → AreCounted (placed is_border rs e) count now
-counted_along rs count None now e counted begins known = absurd (true≢false begins)
-counted_along rs count (Some s) now e counted begins known =
-    let more = along rs s e counted.0 begins in
-    subst (AreCounted (placed is_border rs e) count) (sym known) (more.0, counted.1 ∙ sym more.1)
+within : (stamps : Stamps) (front : List Entry) (e : Entry) → is_border (clock_of stamps front) e ≡ false
+    → length (added false (builds stamps front) e) ≡ length (builds stamps front)
+within stamps [] e stays = absurd (true≢false stays)
+within stamps (x ∷ xs) e stays =
+    let some = some_built stamps x xs in
+    ap (λ (l : List (Run Entry)). length (added false l e)) some.2 ∙ added_within some.0 some.1 e ∙ sym (ap length some.2)
 
-pub counted_of : (rs : List (Run Entry)) (count : ℕ) (last : Option Span) → AreCounted rs count last → count ≡ length rs
-counted_of rs count None counted = counted.1 ∙ sym (ap length counted.0)
-counted_of rs count (Some s) counted = counted.1
-
--- ---- the builds before one
-
--- where there are builds, there are with an entry more
-placed_some : (r : Run Entry) (more : List (Run Entry)) (x : Entry)
-    → (d : Run Entry) × (rest : List (Run Entry)) × (placed is_border (r ∷ more) x ≡ d ∷ rest)
-placed_some r more x =
-    go (placed_ends is_border (r ∷ more) x)
-  where
-    go : (before : List (Run Entry)) × (s : Run Entry) × (placed is_border (r ∷ more) x ≡ before ++ s ∷ []) × (s.last ≡ x)
-        → (d : Run Entry) × (rest : List (Run Entry)) × (placed is_border (r ∷ more) x ≡ d ∷ rest)
-    go ([], s, is, ends) = (s, [], is)
-    go (d ∷ before, s, is, ends) = (d, before ++ s ∷ [], is)
-
-fold_behind : (front : List (Run Entry)) (r : Run Entry) (more : List (Run Entry)) (xs : List Entry)
-    → (rest : List (Run Entry)) × (fold (placed is_border) (front ++ r ∷ more) xs ≡ front ++ rest) × (1 ≤ length rest)
-fold_behind front r more [] = (r ∷ more, refl, omega arith)
-fold_behind front r more (x ∷ xs) =
-    let next = placed_some r more x in
-    let later = fold_behind front next.0 next.1 xs in (
-      later.0,
-      ap (λ (l : List (Run Entry)). fold (placed is_border) l xs)
-          (placed-behind is_border front r more x ∙ ap (λ (l : List (Run Entry)). front ++ l) next.2) ∙ later.1,
-      later.2,
-    )
+pub counted_along : (stamps : Stamps) (front : List Entry) (count : ℕ) (was now : Clock) (e : Entry) → AreCounted stamps front count was
+    → is_border was e ≡ false → now ≡ next was e → AreCounted stamps (front ++ e ∷ []) count now
+counted_along stamps front count was now e counted stays moves =
+    let same : is_border (clock_of stamps front) e ≡ false = ap (λ (c : Clock). is_border c e) (sym counted.clock_is) ∙ stays in
+    record {
+      clock_is = moves ∙ ap (λ (c : Clock). next c e) counted.clock_is ∙ sym (clock-push stamps front e);
+      count_is = counted.count_is ∙ sym (within stamps front e same)
+          ∙ ap (λ (b : Bool). length (added b (builds stamps front) e)) (sym same) ∙ ap length (sym (builds-push stamps front e));
+    }
 
 -- the builds of a front, where the next entry begins one
-front_builds : (front later : List Entry) (e : Entry) → placed is_border (builds front) e ≡ builds front ++ one e ∷ []
-    → (rest : List (Run Entry)) × (builds (front ++ e ∷ later) ≡ builds front ++ rest)
-front_builds front later e apart =
-    let behind = fold_behind (builds front) (one e) [] later in (
+front_builds : (stamps : Stamps) (front later : List Entry) (e : Entry) → builds stamps (front ++ e ∷ []) ≡ builds stamps front ++ one e ∷ []
+    → (rest : List (Run Entry)) × (builds stamps (front ++ e ∷ later) ≡ builds stamps front ++ rest)
+front_builds stamps front later e apart =
+    let behind = from_behind (clock_of stamps (front ++ e ∷ [])) (builds stamps front) (one e) [] later in (
       behind.0,
-      fold-append (placed is_border) [] front (e ∷ later) ∙ ap (λ (l : List (Run Entry)). fold (placed is_border) l later) apart ∙ behind.1,
+      ap (builds stamps) (sym (append_assoc front (e ∷ []) later)) ∙ builds-append stamps (front ++ e ∷ []) later
+          ∙ ap (λ (l : List (Run Entry)). builds_from (clock_of stamps (front ++ e ∷ [])) l later) apart ∙ behind.1,
     )
 
 front_valid : (front later : List Entry) → All IsEntry (front ++ later) → All IsEntry front
@@ -124,45 +107,45 @@ front_valid (e ∷ front) later all =
 
 -- ---- where it stops
 
-module _ (es : List Entry) (text old line rest : List ℕ) (number count : ℕ) (last : Option Span) (valid : All IsEntry es)
+module _ (stamps : Stamps) (es : List Entry) (text old line rest : List ℕ) (number count : ℕ) (clock : Clock) (valid : All IsEntry es)
     (is : text ≡ lines_of_entries es) (splits : SplitsOff old line rest) (shorter : length rest < length old)
-    (begins : (e : Entry) → entry_of line ≡ Some e → begins_build last e ≡ true) (enough : count ≡ number) where
-  stopped_at : (front later : List Entry) → es ≡ front ++ later → old ≡ lines_of_entries later → AreCounted (builds front) count last
-      → AreFirst number (builds es) (take (length text - length old) text) × (number ≤ length (builds es))
+    (begins : (e : Entry) → entry_of line ≡ Some e → is_border clock e ≡ true) (enough : count ≡ number) where
+  stopped_at : (front later : List Entry) → es ≡ front ++ later → old ≡ lines_of_entries later → AreCounted stamps front count clock
+      → AreFirst stamps number (builds stamps es) (take (length text - length old) text) × (number ≤ length (builds stamps es))
   stopped_at front [] all none counted = absurd (omega (arith, shorter, ap length none))
   stopped_at front (e ∷ later) all some counted =
       let behind : All IsEntry (e ∷ later) = entries_behind front (e ∷ later) (subst (All IsEntry) all valid) in
       let entry : IsEntry e = All-head IsEntry e later behind in
       let split = splits (line_of e) (lines_of_entries later) (plain_line e entry) (some ∙ lines-cons e later) in
       let read : entry_of line ≡ Some e = ap entry_of split.0 ∙ entry_of-line_of e entry in
-      let more = front_builds front later e (begun (builds front) count last e counted (begins e read)) in
-      let so_many : number ≡ length (builds front) = sym enough ∙ counted_of (builds front) count last counted in
+      let more = front_builds stamps front later e (begun stamps front clock e counted.clock_is (begins e read)) in
+      let so_many : number ≡ length (builds stamps front) = sym enough ∙ counted.count_is in
       let whole : text ≡ lines_of_entries front ++ old = is ∙ ap lines_of_entries all ∙ lines-append front (e ∷ later)
       ∙ ap (λ (l : List ℕ). lines_of_entries front ++ l) (sym some) in
       let size : length text - length old ≡ length (lines_of_entries front) =
       omega (arith, ap length whole, length-append (lines_of_entries front) old) in
-      let builds_are : builds es ≡ builds front ++ more.0 = ap builds all ∙ more.1 in (
+      let builds_are : builds stamps es ≡ builds stamps front ++ more.0 = ap (builds stamps) all ∙ more.1 in (
         record {
           entries = front;
           valid = front_valid front (e ∷ later) (subst (All IsEntry) all valid);
           text_is = ap (λ (n : ℕ). take n text) size ∙ ap (take (length (lines_of_entries front))) whole
               ∙ take-append_seam (lines_of_entries front) old;
-          builds_are = sym (ap (take number) builds_are ∙ ap (λ (n : ℕ). take n (builds front ++ more.0)) so_many
-              ∙ take-append_seam (builds front) more.0);
+          builds_are = sym (ap (take number) builds_are ∙ ap (λ (n : ℕ). take n (builds stamps front ++ more.0)) so_many
+              ∙ take-append_seam (builds stamps front) more.0);
         },
-        omega (arith, so_many, ap length builds_are, length-append (builds front) more.0),
+        omega (arith, so_many, ap length builds_are, length-append (builds stamps front) more.0),
       )
 
-  pub stopped : Passed es old (λ front. AreCounted (builds front) count last)
-      → AreFirst number (builds es) (take (length text - length old) text) × (number ≤ length (builds es))
+  pub stopped : Passed es old (λ front. AreCounted stamps front count clock)
+      → AreFirst stamps number (builds stamps es) (take (length text - length old) text) × (number ≤ length (builds stamps es))
   stopped before = stopped_at before.front before.later before.is before.rest_is before.held
 
 -- ---- where all is gone over
 
-pub all_counted : (es : List Entry) (text : List ℕ) (number count : ℕ) (last : Option Span) → All IsEntry es → text ≡ lines_of_entries es
-    → AreCounted (builds es) count last → count ≤ number → number ≤ count → AreFirst number (builds es) text × (number ≤ length (builds es))
-all_counted es text number count last valid is counted most least =
-    let so_many : length (builds es) ≤ number = omega (arith, counted_of (builds es) count last counted, most) in (
-      record { entries = es; valid = valid; text_is = is; builds_are = sym (take_all number (builds es) so_many) },
-      omega (arith, counted_of (builds es) count last counted, least),
+pub all_counted : (stamps : Stamps) (es : List Entry) (text : List ℕ) (number count : ℕ) (clock : Clock) → All IsEntry es → text ≡ lines_of_entries es
+    → AreCounted stamps es count clock → count ≤ number → number ≤ count → AreFirst stamps number (builds stamps es) text × (number ≤ length (builds stamps es))
+all_counted stamps es text number count clock valid is counted most least =
+    let so_many : length (builds stamps es) ≤ number = omega (arith, counted.count_is, most) in (
+      record { entries = es; valid = valid; text_is = is; builds_are = sym (take_all number (builds stamps es) so_many) },
+      omega (arith, counted.count_is, least),
     )

@@ -1,19 +1,18 @@
 -- The commands of the last build, entry by entry.
-use Rattle.std.proofs.Common.{ℕ, Bor, ◌≡◌, ◌∙◌, true, false, not, List, [], ◌∷◌, ◌++◌, map, Option, None, Result, Ok, Err, refl, subst, sym, ap, arith}
+use Rattle.std.proofs.Common.{ℕ, Bool, Bor, ◌≡◌, ◌∙◌, true, false, not, List, [], ◌∷◌, ◌++◌, map, Option, None, Result, Ok, Err, refl, subst, sym, ap, arith}
 use Rattle.std.specs.Prelude.{OnOk}
 use Rattle.std.specs.declared.alloc.AllocError.{AllocError}
 use Rattle.std.proofs.lemmas.Bool.Decides.{nat_tests}
 use Rattle.std.proofs.lemmas.List.{map-append}
 use Rattle.nl_fields.specs.declared.entry.Entry.{Entry}
-use Rattle.nl_tool_report.specs.Runs.{Run, first_in, first_of, items, longer, one, placed}
-use Rattle.nl_tool_report.specs.Commands.{commands, falls_after, is_other_command, is_same_command, span_of}
-use Rattle.nl_tool_report.specs.Builds.{is_border}
+use Rattle.nl_tool_report.specs.Runs.{Run, first_in, first_of, items, longer, one, added}
+use Rattle.nl_tool_report.specs.Commands.{commands, is_other_command, is_same_command, span_of}
 use Rattle.std.specs.List.{fold}
 use Rattle.std.proofs.lemmas.List.Sums.{fold_push}
 use Rattle.nl_tool_report.specs.LastBuild.{AreLast, HasLastOf, firsts_of, named, slower_of, span_of_command, spans_of}
 use Rattle.nl_tool_report.specs.declared.span.Span.{Span}
 use Rattle.nl_tool_report.proofs.BuildLemmas.{commands_other, commands_same}
-use Rattle.nl_tool_report.proofs.RunLemmas.{placed-along, placed-apart}
+use Rattle.nl_tool_report.proofs.RunLemmas.{added-along, added-apart}
 
 -- an entry that is of the last command
 same_span : (a b : Span) → is_same_command a b ≡ true → b ≡ a
@@ -45,14 +44,14 @@ module _ (r : Run Entry) (e : Entry) where
   pub firsts_other : is_other_command r.last e ≡ true → firsts_of (items (longer r e)) ≡ firsts_of (items r) ++ e ∷ []
   firsts_other other = ap (map first_of) (commands_other r e other) ∙ map-append first_of (commands (items r)) (one e ∷ [])
 
-module _ (rs : List (Run Entry)) (found : List Span) (outputs outputs' : List (Bor (List ℕ))) (slowest : Option Entry) (span : Span) (e : Entry)
+module _ (begins : Bool) (rs : List (Run Entry)) (found : List Span) (outputs outputs' : List (Bor (List ℕ))) (slowest : Option Entry) (span : Span) (e : Entry)
     (is : span ≡ span_of e) where
   pub last_first : AreLast rs found outputs slowest None → named outputs' ≡ named outputs ++ e.name ∷ []
-      → HasLastOf (placed is_border rs e) (found ++ span ∷ []) outputs' (slower_of None e) span
+      → HasLastOf (added begins rs e) (found ++ span ∷ []) outputs' (slower_of None e) span
   last_first none more = record {
     before = [];
     build = one e;
-    is = ap (λ (l : List (Run Entry)). placed is_border l e) none.0;
+    is = ap (λ (l : List (Run Entry)). added begins l e) none.0;
     found_is = ap (λ (l : List Span). l ++ span ∷ []) none.1 ∙ ap (λ (s : Span). s ∷ []) is;
     outputs_are = more ∙ ap (λ (l : List (Bor (List ℕ))). named l ++ e.name ∷ []) none.2;
     slowest_is = refl;
@@ -60,30 +59,25 @@ module _ (rs : List (Run Entry)) (found : List Span) (outputs outputs' : List (B
   }
 
   module _ (last : Span) (old : HasLastOf rs found outputs slowest last) where
-    falls : falls_after last span ≡ is_border old.build.last e
-    falls = ap (λ (s : Span). falls_after s span) old.last_is ∙ ap (falls_after (span_of old.build.last)) is
-
-    pub last_apart : falls_after last span ≡ true → named outputs' ≡ e.name ∷ []
-        → HasLastOf (placed is_border rs e) ([] ++ span ∷ []) outputs' (slower_of None e) span
+    pub last_apart : begins ≡ true → named outputs' ≡ e.name ∷ []
+        → HasLastOf (added begins rs e) ([] ++ span ∷ []) outputs' (slower_of None e) span
     last_apart test more = record {
       before = old.before ++ old.build ∷ [];
       build = one e;
-      is = ap (λ (l : List (Run Entry)). placed is_border l e) old.is
-          ∙ placed-apart is_border old.before old.build e (sym falls ∙ test);
+      is = (λ i. added (test i) (old.is i) e) ∙ added-apart old.before old.build e;
       found_is = ap (λ (s : Span). s ∷ []) is;
       outputs_are = more;
       slowest_is = refl;
       last_is = is;
     }
 
-    along : falls_after last span ≡ false → placed is_border rs e ≡ old.before ++ longer old.build e ∷ []
-    along test = ap (λ (l : List (Run Entry)). placed is_border l e) old.is
-        ∙ placed-along is_border old.before old.build e (sym falls ∙ test)
+    along : begins ≡ false → added begins rs e ≡ old.before ++ longer old.build e ∷ []
+    along test = (λ i. added (test i) (old.is i) e) ∙ added-along old.before old.build e
 
     same : is_same_command last span ≡ is_same_command (span_of old.build.last) (span_of e)
     same = ap (λ (s : Span). is_same_command s span) old.last_is ∙ ap (is_same_command (span_of old.build.last)) is
 
-    pub last_same : falls_after last span ≡ false → is_same_command last span ≡ true → HasLastOf (placed is_border rs e) found outputs slowest span
+    pub last_same : begins ≡ false → is_same_command last span ≡ true → HasLastOf (added begins rs e) found outputs slowest span
     last_same test of_it =
         let one_command = commands_same old.build e (ap not (sym same ∙ of_it)) in
         let firsts = firsts_same old.build e (ap not (sym same ∙ of_it)) in
@@ -103,9 +97,9 @@ module _ (rs : List (Run Entry)) (found : List Span) (outputs outputs' : List (B
           last_is = is;
         }
 
-    pub last_other : falls_after last span ≡ false → is_same_command last span ≡ false
+    pub last_other : begins ≡ false → is_same_command last span ≡ false
         → named outputs' ≡ named outputs ++ e.name ∷ []
-        → HasLastOf (placed is_border rs e) (found ++ span ∷ []) outputs' (slower_of slowest e) span
+        → HasLastOf (added begins rs e) (found ++ span ∷ []) outputs' (slower_of slowest e) span
     last_other test another more = record {
       before = old.before;
       build = longer old.build e;

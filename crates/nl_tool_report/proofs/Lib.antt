@@ -1,6 +1,9 @@
 pub mod RunLemmas
+pub mod ClockLemmas
+mod BorderLemmas
 pub mod BuildLemmas
 pub mod TextLemmas
+mod AnewLemmas
 mod SweepLemmas
 mod SweepStepLemmas
 mod SharesLemmas

@@ -4,7 +4,7 @@ use Rattle.std.specs.Prelude.{if◌then◌else◌}
 use Rattle.std.specs.List.{fold}
 use Rattle.std.proofs.lemmas.Bool.{cond-false, cond-true}
 use Rattle.std.proofs.lemmas.List.Sums.{fold_push}
-use Rattle.nl_tool_report.specs.Runs.{Run, items, one, longer, placed, runs, joined_runs}
+use Rattle.nl_tool_report.specs.Runs.{Run, added, items, one, longer, placed, runs, joined_runs}
 
 module _ {A : Type 0} (parts : A → A → Bool) where
   -- an element that is parted from the last begins a run
@@ -73,3 +73,49 @@ module _ {A : Type 0} (parts : A → A → Bool) where
   runs_end r =
       let ends = placed_ends (runs parts r.before) r.last in
       (ends.0, ends.1, runs-push r.before r.last ∙ ends.2, ends.3)
+
+-- ---- an element more, where it is said whether it begins a run
+
+module _ {A : Type 0} where
+  pub added-apart : (before : List (Run A)) (r : Run A) (x : A) → added true (before ++ r ∷ []) x ≡ (before ++ r ∷ []) ++ one x ∷ []
+  added-apart [] r x = refl
+  added-apart (d ∷ []) r x = refl
+  added-apart (d ∷ e ∷ before) r x = ap (λ (l : List (Run A)). d ∷ l) (added-apart (e ∷ before) r x)
+
+  pub added-along : (before : List (Run A)) (r : Run A) (x : A) → added false (before ++ r ∷ []) x ≡ before ++ longer r x ∷ []
+  added-along [] r x = refl
+  added-along (d ∷ []) r x = refl
+  added-along (d ∷ e ∷ before) r x = ap (λ (l : List (Run A)). d ∷ l) (added-along (e ∷ before) r x)
+
+  pub added-behind : (begins : Bool) (front : List (Run A)) (r : Run A) (more : List (Run A)) (x : A)
+      → added begins (front ++ r ∷ more) x ≡ front ++ added begins (r ∷ more) x
+  added-behind begins [] r more x = refl
+  added-behind begins (d ∷ []) r more x = refl
+  added-behind begins (d ∷ e ∷ front) r more x = ap (λ (l : List (Run A)). d ∷ l) (added-behind begins (e ∷ front) r more x)
+
+  pub added_ends : (begins : Bool) (rs : List (Run A)) (x : A)
+      → (before : List (Run A)) × (r : Run A) × (added begins rs x ≡ before ++ r ∷ []) × (r.last ≡ x)
+  added_ends begins [] x = ([], one x, refl, refl)
+  added_ends true (r ∷ []) x = (r ∷ [], one x, refl, refl)
+  added_ends false (r ∷ []) x = ([], longer r x, refl, refl)
+  added_ends begins (r ∷ s ∷ more) x =
+      let rest = added_ends begins (s ∷ more) x in
+      (r ∷ rest.0, rest.1, ap (λ (l : List (Run A)). r ∷ l) rest.2, rest.3)
+
+  pub joined-added : (begins : Bool) (rs : List (Run A)) (x : A) → joined_runs (added begins rs x) ≡ joined_runs rs ++ x ∷ []
+  joined-added begins [] x = refl
+  joined-added true (r ∷ []) x = ap (λ (l : List A). l ++ x ∷ []) (sym (append-nil (items r)))
+  joined-added false (r ∷ []) x =
+      append-nil (items r ++ x ∷ []) ∙ ap (λ (l : List A). l ++ x ∷ []) (sym (append-nil (items r)))
+  joined-added begins (r ∷ s ∷ more) x =
+      ap (λ (l : List A). items r ++ l) (joined-added begins (s ∷ more) x)
+      ∙ sym (append_assoc (items r) (joined_runs (s ∷ more)) (x ∷ []))
+
+  -- where a test of the last element says it
+  pub added-placed : (parts : A → A → Bool) (begins : Bool) (rs : List (Run A)) (x : A)
+      → ((before : List (Run A)) (r : Run A) → rs ≡ before ++ r ∷ [] → begins ≡ parts r.last x) → added begins rs x ≡ placed parts rs x
+  added-placed parts begins [] x says = refl
+  added-placed parts begins (r ∷ []) x says = ap (λ (b : Bool). if b then r ∷ one x ∷ [] else longer r x ∷ []) (says [] r refl)
+  added-placed parts begins (r ∷ s ∷ more) x says =
+      ap (λ (l : List (Run A)). r ∷ l) (added-placed parts begins (s ∷ more) x
+      (λ before t is. says (r ∷ before) t (ap (λ (l : List (Run A)). r ∷ l) is)))

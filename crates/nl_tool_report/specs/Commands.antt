@@ -41,3 +41,6 @@ time_of_command c = time_of (span_of c.last)
 -- END falls from the first to the second
 abbrev pub falls_after : Span → Span → Bool
 falls_after a b = nat_lt b.ended a.ended
+
+abbrev pub ends_before : Entry → Entry → Bool
+ends_before a b = falls_after (span_of a) (span_of b)

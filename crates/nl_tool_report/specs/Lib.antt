@@ -1,7 +1,10 @@
 pub mod Runs
 pub mod Commands
 pub mod Intents
+pub mod Clock
+pub mod Borders
 pub mod Builds
+pub mod Anew
 pub mod BuildSteps
 pub mod LastBuild
 pub mod Sweep

@@ -32,6 +32,12 @@ placed parts [] x = one x ∷ []
 placed parts (r ∷ []) x = if parts r.last x then r ∷ one x ∷ [] else longer r x ∷ []
 placed parts (r ∷ s ∷ more) x = r ∷ placed parts (s ∷ more) x
 
+-- an element more: it begins a run where that is said, and else is of the last run
+abbrev pub added : {A : Type 0} → Bool → List (Run A) → A → List (Run A)
+added begins [] x = one x ∷ []
+added begins (r ∷ []) x = if begins then r ∷ one x ∷ [] else longer r x ∷ []
+added begins (r ∷ s ∷ more) x = r ∷ added begins (s ∷ more) x
+
 -- the runs of a list, in order
 abbrev pub runs : {A : Type 0} → (A → A → Bool) → List A → List (Run A)
 runs parts xs = fold (placed parts) [] xs

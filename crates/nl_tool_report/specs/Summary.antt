@@ -1,10 +1,9 @@
 -- The text of `summary`.
-use Rattle.std.specs.Prelude.{ℕ, ◌-◌, ◌==◌, List, [], ◌∷◌, ◌++◌, length, nat_lt, take, Option, None, Some, codes, decimal, if◌then◌else◌}
+use Rattle.std.specs.Prelude.{ℕ, Bool, ◌-◌, ◌==◌, List, [], ◌∷◌, ◌++◌, length, nat_lt, take, Option, None, Some, codes, decimal, if◌then◌else◌}
 use Rattle.nl_fields.specs.declared.entry.Entry.{Entry}
-use Rattle.nl_table.specs.Log.{log_of}
-use Rattle.nl_versions.specs.VersionOf.{as_five}
 use Rattle.nl_tool_report.specs.Runs.{Run, items}
-use Rattle.nl_tool_report.specs.Builds.{build_of, builds, report_of}
+use Rattle.nl_tool_report.specs.Anew.{is_anew}
+use Rattle.nl_tool_report.specs.Builds.{build_of, builds}
 use Rattle.nl_tool_report.specs.Commands.{span_of, time_of}
 use Rattle.nl_tool_report.specs.Intents.{recorded, unfinished}
 use Rattle.nl_tool_report.specs.Outputs.{outputs}
@@ -14,6 +13,8 @@ use Rattle.nl_tool_report.specs.Slowest.{told_commands}
 use Rattle.nl_tool_report.specs.Kinds.{command_lists}
 use Rattle.nl_tool_report.specs.Sweep.{alone_time, busy_time}
 use Rattle.nl_tool_report.specs.declared.builds.Build.{Build}
+use Rattle.nl_tool_report.specs.declared.clock.Stamps.{Stamps}
+use Rattle.nl_tool_report.specs.declared.clock.Stamps.TheVariants.{Unknown}
 use Rattle.nl_tool_report.specs.declared.lists.Lists.{Lists}
 use Rattle.nl_tool_report.specs.declared.scope.Scope.{Scope}
 use Rattle.nl_tool_report.specs.declared.scope.Scope.TheVariants.{Last, Numbered, Outputs}
@@ -73,9 +74,17 @@ told_entries Last entries = recorded entries
 told_entries (Numbered number) entries = recorded entries
 told_entries Outputs entries = outputs entries
 
--- the text of `summary`
-abbrev pub summary_text : Scope → Lists → List Entry → List ℕ
-summary_text scope lists entries = asked_summary scope lists (unfinished entries) (builds (told_entries scope entries))
+-- what MTIME tells of their builds: nothing of the last entries, which are told as one
+abbrev pub told_stamps : Scope → Stamps → Stamps
+told_stamps Last stamps = stamps
+told_stamps (Numbered number) stamps = stamps
+told_stamps Outputs stamps = Unknown
 
-abbrev pub summary_text_of : Scope → Lists → List ℕ → Option (List ℕ)
-summary_text_of scope lists bytes = report_of (summary_text scope lists) (log_of (as_five bytes))
+-- whether they can't stand as builds wrote them; of the last entries that isn't asked
+abbrev pub summary_anew : Scope → Stamps → List Entry → Bool
+summary_anew scope stamps entries = is_anew (told_stamps scope stamps) (told_entries scope entries)
+
+-- the text of `summary`
+abbrev pub summary_text : Scope → Lists → Stamps → List Entry → List ℕ
+summary_text scope lists stamps entries =
+    asked_summary scope lists (unfinished entries) (builds (told_stamps scope stamps) (told_entries scope entries))

@@ -8,14 +8,18 @@ ghost use Rattle.nl_table.specs.LogText.{lines_of_entries};
 ghost use Rattle.nl_tool_texts.specs.Output.{Prints};
 ghost use Rattle.nl_tool_texts.specs.declared.fault.ToolFault.{ToolFault};
 ghost use Rattle.nl_tool_print.specs.Faults.{IsLogFault};
-ghost use Rattle.nl_tool_print.specs.Output.{IsTextAsRead};
 ghost use Rattle.nl_versions.specs.VersionOf.{as_five};
-ghost use Rattle.nl_tool_report.specs.Runs.{Run, longer, one, placed};
+ghost use Rattle.nl_tool_report.specs.Runs.{Run, added, longer, one};
 ghost use Rattle.nl_tool_report.specs.Commands.{IsEarly, span_of};
-ghost use Rattle.nl_tool_report.specs.Builds.{build_line, build_of, builds, builds_text_of, is_border, lines_from};
+ghost use Rattle.nl_tool_report.specs.Builds.{IsReportAsRead, build_line, build_of, builds, builds_text, lines_from, sure_word};
+ghost use Rattle.nl_tool_report.specs.Anew.{IsSaidAsRead, builds_anew};
+ghost use Rattle.nl_tool_report.specs.Clock.{is_border, next};
 ghost use Rattle.nl_tool_report.specs.BuildSteps.{AreHeld, IsBounded, IsCurrent, IsBoundedIf, outputs_in};
 
-use crate::entry_text::{read_entries, split_line};
+use crate::anew::is_anew;
+use crate::borders::{are_sure, borders_in};
+use crate::clock::{Clock, Stamps};
+use crate::entry_text::{EntriesAsRead, read_entries, split_line};
 use crate::intents::without_intents;
 use crate::span::Span;
 use nl_fields::read_entry;
@@ -102,15 +106,16 @@ impl Current {
 }
 
 /// The numbers of each build that these lines of entries tell, in order.
-pub fn builds_in(alloc: Global, text: &[u8]) -> Result<Vec<Build>, AllocError>
+pub fn builds_in(alloc: Global, stamps: Stamps, text: &[u8]) -> Result<Vec<Build>, AllocError>
     ensures value { (es : List Entry) → All IsEntry es → text.now ≡ lines_of_entries es
-        → IfOk result (λ found. found.items ≡ map build_of (builds es)) }
+        → IfOk result (λ found. found.items ≡ map build_of (builds stamps es)) }
 {
     let mut done = Vec::new(alloc);
+    let mut clock = Clock::new(stamps);
     let mut current: Option<Current> = None;
     let mut rest = text;
     'entries: while let Some((line, later)) = split_line(rest) {
-        take_line(line, &mut done, &mut current)?;
+        take_line(line, &mut clock, &mut done, &mut current)?;
         rest = later;
     }
     finish(done, current)
@@ -119,6 +124,7 @@ pub fn builds_in(alloc: Global, text: &[u8]) -> Result<Vec<Build>, AllocError>
 // Takes the entry of a line in.
 fn take_line(
     line: &[u8],
+    clock: &mut Clock,
     done: &mut Vec<Build>,
     current: &mut Option<Current>,
 ) -> Result<(), AllocError>
@@ -126,32 +132,39 @@ fn take_line(
     requires bound { IsBoundedIf current.old }
     ensures ok { (rs : List (Run Entry)) (e : Entry) → entry_of line.now ≡ Some e
         → AreHeld rs done.old.items current.old
-        → OnOk result (AreHeld (placed is_border rs e) done.new.items current.new) }
+        → OnOk result (AreHeld (added (is_border clock.old e) rs e) done.new.items current.new) }
+    ensures clock { (e : Entry) → entry_of line.now ≡ Some e → clock.new ≡ next clock.old e }
     ensures bound { OnOk result (IsBoundedIf current.new) }
     ensures count { OnOk result (outputs_in current.new ≤ outputs_in current.old + 1) }
 {
     let Some(entry) = read_entry(line) else {
         return Ok(());
     };
-    *current = Some(place(Span::of(&entry), done, *current)?);
+    let begins = clock.take(&entry);
+    *current = Some(place(begins, Span::of(&entry), done, *current)?);
     Ok(())
 }
 
 // The last build with an entry more, or one that the entry begins, where the one before it is done.
-fn place(span: Span, done: &mut Vec<Build>, current: Option<Current>) -> Result<Current, AllocError>
+fn place(
+    begins: bool,
+    span: Span,
+    done: &mut Vec<Build>,
+    current: Option<Current>,
+) -> Result<Current, AllocError>
     requires room { outputs_in current < 2 ^ 63 }
     requires bound { IsBoundedIf current }
     requires early { IsEarly span }
     ensures ok { (rs : List (Run Entry)) (e : Entry) → span ≡ span_of e
         → AreHeld rs done.old.items current
-        → IfOk result (λ now. AreHeld (placed is_border rs e) done.new.items (Some now)) }
+        → IfOk result (λ now. AreHeld (added begins rs e) done.new.items (Some now)) }
     ensures bound { IfOk result (λ now. IsBounded now.build) }
     ensures count { IfOk result (λ now. now.build.outputs ≤ outputs_in current + 1) }
 {
     let Some(before) = current else {
         return Ok(Current::one(span));
     };
-    if span.falls_after(&before.last) {
+    if begins {
         done.push(before.build)?;
         return Ok(Current::one(span));
     }
@@ -171,36 +184,42 @@ fn finish(done: Vec<Build>, current: Option<Current>) -> Result<Vec<Build>, Allo
 }
 
 /// Writes a line for each build that the log which the reader gives still tells: its number, how many commands and outputs,
-/// the milliseconds from the first START to the last END, and the sum of the commands' times. An intent is no command.
+/// the milliseconds from the first START to the last END, the sum of the commands' times, and whether both its borders are sure. An
+/// intent is no command. Tells whether these can't be builds, since the log was written anew.
 pub fn builds_to<R: Read + Drop, W: Write>(
     alloc: Global,
     reader: R,
     writer: &mut W,
+    anew: &mut bool,
 ) -> Result<(), ToolFault>
-    ensures prints { Prints (IsTextAsRead builds_text_of (R.remaining reader)) (W.contents writer.old)
+    ensures prints { Prints (IsReportAsRead builds_text (R.remaining reader)) (W.contents writer.old)
         (W.contents writer.new) result }
+    ensures anew { OnOk result (IsSaidAsRead builds_anew (R.remaining reader) anew.new) }
     ensures not_a_log { IsErrOf result ToolFault.NotALog
         → IfSome (R.remaining reader) (λ bs. log_of (as_five bs) ≡ NotALog) }
     ensures other_version { IsErrOf result ToolFault.OtherVersion
         → IfSome (R.remaining reader) (λ bs. log_of (as_five bs) ≡ OtherVersion) }
     ensures faults { IfErr result IsLogFault }
 {
-    let text = read_entries(alloc, reader)?;
+    let EntriesAsRead { stamps, text } = read_entries(alloc, reader)?;
     let recorded = without_intents(alloc, text)?;
-    let found = builds_in(alloc, recorded.as_slice())?;
-    let lines = text_of(alloc, found.as_slice())?;
+    let found = builds_in(alloc, stamps, recorded.as_slice())?;
+    let sure = borders_in(alloc, stamps, recorded.as_slice())?;
+    let lines = text_of(alloc, found.as_slice(), sure.as_slice())?;
+    *anew = is_anew(alloc, stamps, recorded.as_slice())?;
     write_out(lines.as_slice(), writer)
 }
 
 // The line of each build.
-fn text_of(alloc: Global, found: &[Build]) -> Result<Vec<u8>, AllocError>
-    ensures value { IfOk result (λ text. text.items ≡ lines_from 1 found.now) }
+fn text_of(alloc: Global, found: &[Build], sure: &[bool]) -> Result<Vec<u8>, AllocError>
+    ensures value { IfOk result (λ text. text.items ≡ lines_from 1 sure.now found.now) }
 {
     let mut text = Vec::new(alloc);
     let mut number: u64 = 0;
     for build in found {
+        let is_sure = are_sure(sure, number as usize);
         number += 1;
-        append_build(alloc, number, build, &mut text)?;
+        append_build(alloc, number, is_sure, build, &mut text)?;
     }
     Ok(text)
 }
@@ -208,10 +227,11 @@ fn text_of(alloc: Global, found: &[Build]) -> Result<Vec<u8>, AllocError>
 fn append_build(
     alloc: Global,
     number: u64,
+    is_sure: bool,
     build: &Build,
     out: &mut Vec<u8>,
 ) -> Result<(), AllocError>
-    ensures items { OnOk result (out.new.items ≡ out.old.items ++ build_line number build.now) }
+    ensures items { OnOk result (out.new.items ≡ out.old.items ++ build_line number is_sure build.now) }
 {
     let Build {
         commands,
@@ -221,7 +241,14 @@ fn append_build(
         total,
     } = build;
     let wall = ended.saturating_sub(*began);
-    let line = format!(in alloc; "{number}\t{commands}\t{outputs}\t{wall}\t{total}\n")?;
+    let word = sure_word(is_sure);
+    let line = format!(in alloc; "{number}\t{commands}\t{outputs}\t{wall}\t{total}\t{word}\n")?;
     out.extend_from_slice(line.as_bytes())?;
     Ok(())
+}
+
+fn sure_word(is_sure: bool) -> &'static str
+    ensures { result.now ≡ sure_word is_sure }
+{
+    if is_sure { "sure" } else { "unsure" }
 }

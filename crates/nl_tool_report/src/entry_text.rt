@@ -7,18 +7,29 @@ ghost use Rattle.nl_tool_print.specs.Faults.{IsLogFault};
 ghost use Rattle.nl_tool_print.specs.Output.{IsTextAsRead};
 ghost use Rattle.nl_tool_print.specs.Streams.{entries_text_of};
 ghost use Rattle.nl_versions.specs.VersionOf.{as_five};
+ghost use Rattle.nl_tool_report.specs.Clock.{stamps_of};
 
+use crate::clock::Stamps;
 use memchr::memchr;
-use nl_tool_print::entries_to;
+use nl_tool_print::entries_named;
 use nl_tool_texts::ToolFault;
+use nl_versions::{FirstLine, LogVersion};
 use std::alloc::Global;
 use std::io::Read;
 
-/// The line of each entry of the log that the reader gives, of whichever version its first line names, older ones
-/// included, in the order of the file.
-pub fn read_entries<R: Read + Drop>(alloc: Global, reader: R) -> Result<Vec<u8>, ToolFault>
-    ensures value { IfOk result (λ text. IsTextAsRead (λ bs. entries_text_of (as_five bs))
-        (R.remaining reader) text.items) }
+/// What is read of a log: what MTIME is in it, and the line of each entry, older ones included, in the order of the file.
+#[derive(Drop)]
+pub struct EntriesAsRead {
+    pub stamps: Stamps,
+    pub text: Vec<u8>,
+}
+
+/// Reads the entries of the log that the reader gives, of whichever version its first line names.
+pub fn read_entries<R: Read + Drop>(alloc: Global, reader: R) -> Result<EntriesAsRead, ToolFault>
+    ensures value { IfOk result (λ read. IsTextAsRead (λ bs. entries_text_of (as_five bs))
+        (R.remaining reader) read.text.items) }
+    ensures version { IfOk result
+        (λ read. IfSome (R.remaining reader) (λ bs. read.stamps ≡ stamps_of bs)) }
     ensures not_a_log { IsErrOf result ToolFault.NotALog
         → IfSome (R.remaining reader) (λ bs. log_of (as_five bs) ≡ NotALog) }
     ensures other_version { IsErrOf result ToolFault.OtherVersion
@@ -27,8 +38,15 @@ pub fn read_entries<R: Read + Drop>(alloc: Global, reader: R) -> Result<Vec<u8>,
     ensures write { IsErrOf result ToolFault.Write → ⊥ }
 {
     let mut text = Vec::new(alloc);
-    match entries_to(alloc, reader, &mut text) {
-        Ok(()) => Ok(text),
+    let mut first = FirstLine {
+        version: LogVersion::Five,
+        is_four: false,
+    };
+    match entries_named(alloc, reader, &mut text, &mut first) {
+        Ok(()) => Ok(EntriesAsRead {
+            stamps: Stamps::of(first),
+            text,
+        }),
         // The writer is memory, so a write that fails found no room there.
         Err(ToolFault::Write) => Err(ToolFault::Memory),
         Err(fault) => Err(fault),

@@ -4,11 +4,13 @@ ghost use Rattle.std.specs.List.{All};
 ghost use Rattle.nl_fields.specs.EntryLine.{IsEntry, entry_of};
 ghost use Rattle.nl_fields.specs.declared.entry.Entry.{Entry};
 ghost use Rattle.nl_table.specs.LogText.{lines_of_entries};
-ghost use Rattle.nl_tool_report.specs.Runs.{Run, placed};
-ghost use Rattle.nl_tool_report.specs.Builds.{builds, is_border};
+ghost use Rattle.nl_tool_report.specs.Runs.{Run, added};
+ghost use Rattle.nl_tool_report.specs.Builds.{builds};
+ghost use Rattle.nl_tool_report.specs.Clock.{is_border, next};
 ghost use Rattle.nl_tool_report.specs.Commands.{IsEarly, span_of};
 ghost use Rattle.nl_tool_report.specs.LastBuild.{AreLast, is_slower, named, slower_of};
 
+use crate::clock::{Clock, Stamps};
 use crate::entry_text::split_line;
 use crate::span::Span;
 use nl_fields::{Entry, EntryRef, read_entry};
@@ -25,9 +27,13 @@ pub struct LastBuild<'a> {
 }
 
 /// The commands of the last build that these lines of entries tell, in order.
-pub fn last_build<'a>(alloc: Global, text: &'a [u8]) -> Result<LastBuild<'a>, AllocError>
+pub fn last_build<'a>(
+    alloc: Global,
+    stamps: Stamps,
+    text: &'a [u8],
+) -> Result<LastBuild<'a>, AllocError>
     ensures value { (es : List Entry) → All IsEntry es → text.now ≡ lines_of_entries es
-        → IfOk result (λ found. AreLast (builds es) found.commands.items found.outputs.items found.slowest
+        → IfOk result (λ found. AreLast (builds stamps es) found.commands.items found.outputs.items found.slowest
         found.last) }
     ensures alike { IfOk result (λ found. length found.commands.items ≡ length found.outputs.items) }
     ensures early { IfOk result (λ found. All IsEarly found.commands.items) }
@@ -38,22 +44,29 @@ pub fn last_build<'a>(alloc: Global, text: &'a [u8]) -> Result<LastBuild<'a>, Al
         slowest: None,
         last: None,
     };
+    let mut clock = Clock::new(stamps);
     let mut rest = text;
     'entries: while let Some((line, later)) = split_line(rest) {
-        take_line(alloc, line, &mut found)?;
+        take_line(alloc, line, &mut clock, &mut found)?;
         rest = later;
     }
     Ok(found)
 }
 
 // Takes the entry of a line in.
-fn take_line<'a>(alloc: Global, line: &'a [u8], found: &mut LastBuild<'a>) -> Result<(), AllocError>
+fn take_line<'a>(
+    alloc: Global,
+    line: &'a [u8],
+    clock: &mut Clock,
+    found: &mut LastBuild<'a>,
+) -> Result<(), AllocError>
     requires early { All IsEarly found.old.commands.items }
     requires alike { length found.old.commands.items ≡ length found.old.outputs.items }
     ensures ok { (rs : List (Run Entry)) (e : Entry) → entry_of line.now ≡ Some e
         → AreLast rs found.old.commands.items found.old.outputs.items found.old.slowest found.old.last
-        → OnOk result (AreLast (placed is_border rs e) found.new.commands.items
+        → OnOk result (AreLast (added (is_border clock.old e) rs e) found.new.commands.items
         found.new.outputs.items found.new.slowest found.new.last) }
+    ensures clock { (e : Entry) → entry_of line.now ≡ Some e → clock.new ≡ next clock.old e }
     ensures early { OnOk result (All IsEarly found.new.commands.items) }
     ensures alike { OnOk result
         (length found.new.commands.items ≡ length found.new.outputs.items) }
@@ -61,10 +74,12 @@ fn take_line<'a>(alloc: Global, line: &'a [u8], found: &mut LastBuild<'a>) -> Re
     let Some(entry) = read_entry(line) else {
         return Ok(());
     };
+    let begins = clock.take(&entry);
     let span = Span::of(&entry);
     let last = found.last;
     add(
         alloc,
+        begins,
         &entry,
         span,
         last,
@@ -79,6 +94,7 @@ fn take_line<'a>(alloc: Global, line: &'a [u8], found: &mut LastBuild<'a>) -> Re
 // An entry begins a build, or a command, or is one more output of the last command.
 fn add<'a>(
     alloc: Global,
+    begins: bool,
     entry: &EntryRef<'a>,
     span: Span,
     last: Option<Span>,
@@ -90,7 +106,7 @@ fn add<'a>(
     requires alike { length commands.old.items ≡ length outputs.old.items }
     ensures ok { (rs : List (Run Entry)) → span ≡ span_of entry.now
         → AreLast rs commands.old.items outputs.old.items slowest.old last
-        → OnOk result (AreLast (placed is_border rs entry.now) commands.new.items outputs.new.items
+        → OnOk result (AreLast (added begins rs entry.now) commands.new.items outputs.new.items
         slowest.new (Some span)) }
     ensures early { OnOk result (All IsEarly commands.new.items) }
     ensures alike { OnOk result (length commands.new.items ≡ length outputs.new.items) }
@@ -99,7 +115,7 @@ fn add<'a>(
         *slowest = None;
         return begin(alloc, entry, span, commands, outputs, slowest);
     };
-    if span.falls_after(&before) {
+    if begins {
         commands.clear();
         outputs.clear();
         *slowest = None;

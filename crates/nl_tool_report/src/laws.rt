@@ -1,12 +1,17 @@
 //! Laws of commands, builds, weighted times and of two logs compared, each the contract of a function that does nothing.
-ghost use Rattle.std.specs.Prelude.{◌≡◌, ◌+◌, ◌++◌, ◌*◌, ◌<◌, ◌≤◌, ℕ, Bool, List, count_by, length, map, slice_index_or};
+ghost use Rattle.std.specs.Prelude.{◌≡◌, ◌+◌, ◌++◌, ◌*◌, ◌<◌, ◌≤◌, ℕ, Bool, List, Some, count_by, length, map, slice_index_or, true};
 ghost use Rattle.std.specs.List.{All, flat_map, sum_by};
 ghost use Rattle.nl_fields.specs.EntryLine.{IsEntry};
 ghost use Rattle.std.specs.List.Sorted.{IsPermutation};
 ghost use Rattle.nl_fields.specs.declared.entry.Entry.{Entry};
-ghost use Rattle.nl_tool_report.specs.Runs.{items, joined_runs};
-ghost use Rattle.nl_tool_report.specs.Commands.{commands, time_of};
+ghost use Rattle.nl_tool_report.specs.Runs.{items, joined_runs, runs};
+ghost use Rattle.nl_tool_report.specs.Commands.{commands, ends_before, falls_after, span_of, time_of};
+ghost use Rattle.nl_tool_report.specs.Borders.{borders};
 ghost use Rattle.nl_tool_report.specs.Builds.{builds, total_time};
+ghost use Rattle.nl_tool_report.specs.Clock.{is_border};
+ghost use Rattle.nl_tool_report.specs.declared.clock.Clock.{Clock};
+ghost use Rattle.nl_tool_report.specs.declared.clock.Stamps.{Stamps};
+ghost use Rattle.nl_tool_report.specs.declared.clock.Stamps.TheVariants.{Unknown};
 ghost use Rattle.nl_table.specs.Table.{entry_names};
 ghost use Rattle.nl_tool_report.specs.Compare.{Compared, classes, compared, is_of, lacking, of_class};
 ghost use Rattle.nl_tool_report.specs.Kinds.{KindTold, kinds, named_kind, of_kind};
@@ -24,15 +29,27 @@ pub fn commands_are_the_entries()
 
 /// The builds, in order, are the entries of the log, each once; and their commands are those of the log.
 pub fn builds_are_the_log()
-    ensures entries { (es : List Entry) → joined_runs (builds es) ≡ es }
-    ensures commands { (es : List Entry)
-        → flat_map (λ b. commands (items b)) (builds es) ≡ commands es }
+    ensures entries { (stamps : Stamps) (es : List Entry) → joined_runs (builds stamps es) ≡ es }
+    ensures commands { (stamps : Stamps) (es : List Entry)
+        → flat_map (λ b. commands (items b)) (builds stamps es) ≡ commands es }
+{}
+
+/// It is known of each build whether the border before it is sure.
+pub fn each_build_has_a_border()
+    ensures { (stamps : Stamps) (es : List Entry) → length (borders stamps es) ≡ length (builds stamps es) }
+{}
+
+/// Another build begins where END falls, whatever MTIME says; and if that isn't known, nowhere else.
+pub fn a_falling_end_is_a_border()
+    ensures falls { (c : Clock) (last : Span) (e : Entry) → c.last ≡ Some last
+        → falls_after last (span_of e) ≡ true → is_border c e ≡ true }
+    ensures alone { (es : List Entry) → builds Unknown es ≡ runs ends_before es }
 {}
 
 /// The last entries of outputs, in the order in which their commands ended, are those entries, each once, and of one build at most.
 pub fn the_outputs_are_one_build()
     ensures each { (es : List Entry) → IsPermutation es (by_end es) }
-    ensures one { (es : List Entry) → All IsEntry es → length (builds (by_end es)) ≤ 1 }
+    ensures one { (es : List Entry) → All IsEntry es → length (builds Unknown (by_end es)) ≤ 1 }
 {}
 
 /// The weighted times of commands, and what is left over, add up to the time in which one command at least runs.

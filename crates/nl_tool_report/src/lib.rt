@@ -1,8 +1,11 @@
 //! What the builds of a log did, as numbers, over any reader and writer.
 #![tactic(auto)]
 
+mod anew;
+mod borders;
 mod builds;
 mod class;
+mod clock;
 mod compare;
 mod compared;
 mod ending;
@@ -22,12 +25,14 @@ mod span;
 mod summary;
 mod sweep;
 
+pub use anew::is_anew;
 pub use builds::{Build, builds_in, builds_to};
 pub use class::Class;
+pub use clock::{Clock, Origin, Past, Stamps};
 pub use compare::{TableAsRead, compare_to, read_table};
 pub use compared::{ComparedRow, Times};
 pub use ending::Ending;
-pub use entry_text::{read_entries, split_line};
+pub use entry_text::{EntriesAsRead, read_entries, split_line};
 pub use intents::without_intents;
 pub use kind::{KindRule, kind_of};
 pub use kinds::{KindRow, KindSums, falling_kinds, kinds_of};

@@ -8,18 +8,20 @@ ghost use Rattle.nl_table.specs.LogText.{lines_of_entries};
 ghost use Rattle.nl_tool_texts.specs.Output.{Prints};
 ghost use Rattle.nl_tool_texts.specs.declared.fault.ToolFault.{ToolFault};
 ghost use Rattle.nl_tool_print.specs.Faults.{IsLogFault};
-ghost use Rattle.nl_tool_print.specs.Output.{IsTextAsRead};
 ghost use Rattle.nl_versions.specs.VersionOf.{as_five};
-ghost use Rattle.nl_tool_report.specs.Builds.{builds};
+ghost use Rattle.nl_tool_report.specs.Anew.{IsSaidAsRead};
+ghost use Rattle.nl_tool_report.specs.Builds.{IsReportAsRead, builds};
 ghost use Rattle.nl_tool_report.specs.Kinds.{command_lists};
 ghost use Rattle.nl_tool_report.specs.LastBuild.{named, outputs_of, spans_of};
 ghost use Rattle.nl_tool_report.specs.Shares.{AreSharesOf};
 ghost use Rattle.nl_tool_report.specs.Slowest.{told_commands};
-ghost use Rattle.nl_tool_report.specs.Summary.{asked_summary, fewer_line, last_summary, numbered_summary, slowest_line, summary_lines, summary_text_of, told_entries, unfinished_line};
+ghost use Rattle.nl_tool_report.specs.Summary.{asked_summary, fewer_line, last_summary, numbered_summary, slowest_line, summary_anew, summary_lines, summary_text, told_entries, told_stamps, unfinished_line};
 
+use crate::anew::is_anew;
 use crate::builds::{Build, builds_in};
+use crate::clock::Stamps;
 use crate::ending::outputs_in;
-use crate::entry_text::read_entries;
+use crate::entry_text::{EntriesAsRead, read_entries};
 use crate::first_builds::first_builds;
 use crate::fraction::ratio;
 use crate::intents::{unfinished_in, without_intents};
@@ -39,27 +41,32 @@ use std::io::{Read, Write};
 /// first START to its last END, the sum of the commands' times, the milliseconds in which one command at least ran and those in
 /// which one alone did, how many ran at a time in the mean, and the slowest command. Behind them it says how many outputs wait for
 /// a command that didn't end, where one does. Then it writes so many lines at most of the slowest commands by time, and as many by
-/// weighted time, and the same of the kinds of commands. If there is no build of the number that is asked for, it writes how many
-/// builds there are. The last entries of all outputs are told as one build. An intent is no command.
+/// weighted time. If there is no build of the number that is asked for, it writes how many builds there are. The last entries of all
+/// outputs are told as one build. An intent is no command. Tells whether the builds can't be ones, since the log was written anew;
+/// of the last entries that isn't asked.
 pub fn summary_to<R: Read + Drop, W: Write>(
     alloc: Global,
     scope: Scope,
     lists: Lists,
     reader: R,
     writer: &mut W,
+    anew: &mut bool,
 ) -> Result<(), ToolFault>
-    ensures prints { Prints (IsTextAsRead (summary_text_of scope lists) (R.remaining reader)) (W.contents writer.old)
+    ensures prints { Prints (IsReportAsRead (summary_text scope lists) (R.remaining reader)) (W.contents writer.old)
         (W.contents writer.new) result }
+    ensures anew { OnOk result (IsSaidAsRead (summary_anew scope) (R.remaining reader) anew.new) }
     ensures not_a_log { IsErrOf result ToolFault.NotALog
         → IfSome (R.remaining reader) (λ bs. log_of (as_five bs) ≡ NotALog) }
     ensures other_version { IsErrOf result ToolFault.OtherVersion
         → IfSome (R.remaining reader) (λ bs. log_of (as_five bs) ≡ OtherVersion) }
     ensures faults { IfErr result IsLogFault }
 {
-    let text = read_entries(alloc, reader)?;
+    let EntriesAsRead { stamps, text } = read_entries(alloc, reader)?;
     let count = unfinished_in(alloc, text.as_slice())?;
     let told = told_lines(alloc, scope, text)?;
-    let lines = asked_lines(alloc, scope, lists, count, told.as_slice())?;
+    let of_told = told_stamps(scope, stamps);
+    let lines = asked_lines(alloc, scope, lists, of_told, count, told.as_slice())?;
+    *anew = is_anew(alloc, of_told, told.as_slice())?;
     write_out(lines.as_slice(), writer)
 }
 
@@ -74,20 +81,31 @@ fn told_lines(alloc: Global, scope: Scope, text: Vec<u8>) -> Result<Vec<u8>, All
     }
 }
 
+// What MTIME tells of their builds.
+fn told_stamps(scope: Scope, stamps: Stamps) -> Stamps
+    ensures { result ≡ told_stamps scope stamps }
+{
+    match scope {
+        Scope::Last | Scope::Numbered(_) => stamps,
+        Scope::Outputs => Stamps::Unknown,
+    }
+}
+
 // What is told of the build that is asked for.
 fn asked_lines(
     alloc: Global,
     scope: Scope,
     lists: Lists,
+    stamps: Stamps,
     count: u64,
     text: &[u8],
 ) -> Result<Vec<u8>, AllocError>
     ensures value { (es : List Entry) → All IsEntry es → text.now ≡ lines_of_entries es
-        → IfOk result (λ lines. lines.items ≡ asked_summary scope lists count (builds es)) }
+        → IfOk result (λ lines. lines.items ≡ asked_summary scope lists count (builds stamps es)) }
 {
     match scope {
-        Scope::Last | Scope::Outputs => last_build_lines(alloc, lists, count, text),
-        Scope::Numbered(number) => numbered_lines(alloc, number, lists, count, text),
+        Scope::Last | Scope::Outputs => last_build_lines(alloc, lists, stamps, count, text),
+        Scope::Numbered(number) => numbered_lines(alloc, number, lists, stamps, count, text),
     }
 }
 
@@ -96,25 +114,31 @@ fn numbered_lines(
     alloc: Global,
     number: u64,
     lists: Lists,
+    stamps: Stamps,
     count: u64,
     text: &[u8],
 ) -> Result<Vec<u8>, AllocError>
     ensures value { (es : List Entry) → All IsEntry es → text.now ≡ lines_of_entries es
-        → IfOk result (λ lines. lines.items ≡ numbered_summary number lists count (builds es)) }
+        → IfOk result (λ lines. lines.items ≡ numbered_summary number lists count (builds stamps es)) }
 {
-    match first_builds(text, number) {
-        Some(front) => last_build_lines(alloc, lists, count, front),
-        None => fewer_lines(alloc, count, text),
+    match first_builds(stamps, text, number) {
+        Some(front) => last_build_lines(alloc, lists, stamps, count, front),
+        None => fewer_lines(alloc, stamps, count, text),
     }
 }
 
 // How many builds there are, where they are fewer than were asked for.
-fn fewer_lines(alloc: Global, count: u64, text: &[u8]) -> Result<Vec<u8>, AllocError>
+fn fewer_lines(
+    alloc: Global,
+    stamps: Stamps,
+    count: u64,
+    text: &[u8],
+) -> Result<Vec<u8>, AllocError>
     ensures value { (es : List Entry) → All IsEntry es → text.now ≡ lines_of_entries es
         → IfOk result
-        (λ lines. lines.items ≡ fewer_line (length (builds es)) ++ unfinished_line count) }
+        (λ lines. lines.items ≡ fewer_line (length (builds stamps es)) ++ unfinished_line count) }
 {
-    let so_many = builds_in(alloc, text)?.len();
+    let so_many = builds_in(alloc, stamps, text)?.len();
     let line = format!(in alloc; "builds {so_many}\n")?;
     let mut lines = Vec::new(alloc);
     lines.extend_from_slice(line.as_bytes())?;
@@ -126,17 +150,18 @@ fn fewer_lines(alloc: Global, count: u64, text: &[u8]) -> Result<Vec<u8>, AllocE
 fn last_build_lines(
     alloc: Global,
     lists: Lists,
+    stamps: Stamps,
     count: u64,
     text: &[u8],
 ) -> Result<Vec<u8>, AllocError>
     ensures value { (es : List Entry) → All IsEntry es → text.now ≡ lines_of_entries es
-        → IfOk result (λ lines. lines.items ≡ last_summary lists count (builds es)) }
+        → IfOk result (λ lines. lines.items ≡ last_summary lists count (builds stamps es)) }
 {
-    let mut found = builds_in(alloc, text)?;
+    let mut found = builds_in(alloc, stamps, text)?;
     let Some(build) = found.pop() else {
         return unfinished_alone(alloc, count);
     };
-    let ran = last_build(alloc, text)?;
+    let ran = last_build(alloc, stamps, text)?;
     let shares = Shares::of(alloc, ran.commands.as_slice())?;
     let mut lines = summary_lines(alloc, &build, shares.busy(), shares.alone())?;
     append_slowest(alloc, &ran.slowest, &mut lines)?;

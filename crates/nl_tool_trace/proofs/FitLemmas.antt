@@ -1,5 +1,5 @@
 -- The events of a log's trace have numbers that JSON's readers take exactly.
-use Rattle.std.proofs.Common.{◌≡◌, ℕ, ℤ, pos, negsuc, ◌+◌, ◌<◌, ◌≤◌, ◌^◌, List, [], ◌∷◌, ◌++◌, FitsSigned, w32, not, length, map, refl, sym, ap, subst, arith, inl, inr, length-append}
+use Rattle.std.proofs.Common.{◌≡◌, ℕ, ℤ, Bool, pos, negsuc, ◌+◌, ◌<◌, ◌≤◌, ◌^◌, List, [], ◌∷◌, ◌++◌, FitsSigned, w32, not, length, map, refl, sym, ap, subst, arith, inl, inr, length-append}
 use Rattle.std.specs.List.{All, flat_map, zip}
 use Rattle.std.proofs.lemmas.List.{get_or_default, length-map}
 use Rattle.std.proofs.lemmas.List.Elements.{All-cons, All-head, All-tail}
@@ -9,7 +9,10 @@ use Rattle.nl_fields.specs.declared.entry.Entry.{Entry}
 use Rattle.nl_fields.specs.EntryLine.{IsEntry}
 use Rattle.nl_tool_report.specs.Runs.{Run, items, joined_runs}
 use Rattle.nl_tool_report.specs.Intents.{is_intent, recorded}
-use Rattle.nl_tool_report.specs.Builds.{builds, first_start, is_border}
+use Rattle.nl_tool_report.specs.Anew.{builds_anew}
+use Rattle.nl_tool_report.specs.Builds.{builds, first_start}
+use Rattle.nl_tool_report.specs.declared.clock.Stamps.{Stamps}
+use Rattle.nl_tool_report.proofs.ClockLemmas.{joined-builds}
 use Rattle.nl_tool_report.specs.Commands.{IsEarly, commands, is_other_command, moment, span_of}
 use Rattle.nl_tool_report.specs.Shares.{closed_of}
 use Rattle.nl_tool_report.specs.Sweep.{runs_at}
@@ -119,9 +122,10 @@ jobs_fit build began js build_fits few early =
     events_fit build began (spans js) build_fits (omega (arith, count, few)) js (lanes (spans js)) early
     (lanes_low (spans js) (omega (arith, count, few)))
 
-last_fit : (rs : List (Run Entry)) → All IsEntry (joined_runs rs) → length (joined_runs rs) < 2 ^ 63 → All IsEvent (last_events rs)
-last_fit [] valid few = λ k d within. absurd (omega (arith, within))
-last_fit (b ∷ rs) valid few =
+last_fit : (anew : Bool) (rs : List (Run Entry)) → All IsEntry (joined_runs rs) → length (joined_runs rs) < 2 ^ 63
+    → All IsEvent (last_events anew rs)
+last_fit anew [] valid few = λ k d within. absurd (omega (arith, within))
+last_fit anew (b ∷ rs) valid few =
     let build = length (b ∷ rs) in
     let es = items (last_in b rs) in
     let parts : joined_runs (commands es) ≡ es = joined-runs is_other_command es in
@@ -129,13 +133,13 @@ last_fit (b ∷ rs) valid few =
     let moved = falling_moves lead (jobs es) in
     let count : length (by_start (jobs es)) ≡ length (jobs es) = length_permutation (jobs es) (by_start (jobs es)) moved in
     let short : length (jobs es) ≤ length es = omega (arith, length-map (commands es) job_of, runs_few (commands es), ap length parts) in
-    let named : NamesBuild (build_event build) = record { build = build; build_fits = omega (arith, runs_few (b ∷ rs), few); is = refl } in
-    All-cons IsEvent (build_event build) (job_events build (first_start es) (by_start (jobs es))) (inl named)
+    let named : NamesBuild (build_event build anew) = record { build = build; anew = anew; build_fits = omega (arith, runs_few (b ∷ rs), few); is = refl } in
+    All-cons IsEvent (build_event build anew) (job_events build (first_start es) (by_start (jobs es))) (inl named)
     (jobs_fit build (first_start es) (by_start (jobs es)) (omega (arith, runs_few (b ∷ rs), few)) (omega (arith, count, short, last_short b rs, few))
     (All-permutation (λ (j : Job). IsEarly j.span) (jobs es) (by_start (jobs es)) moved early))
 
-pub trace_fits : (es : List Entry) → All IsEntry es → length es < 2 ^ 63 → All IsEvent (trace_events es)
-trace_fits es valid few =
-    let parts : joined_runs (builds (recorded es)) ≡ recorded es = joined-runs is_border (recorded es) in
-    last_fit (builds (recorded es)) (subst (All IsEntry) (sym parts) (recorded_valid es valid))
+pub trace_fits : (stamps : Stamps) (es : List Entry) → All IsEntry es → length es < 2 ^ 63 → All IsEvent (trace_events stamps es)
+trace_fits stamps es valid few =
+    let parts : joined_runs (builds stamps (recorded es)) ≡ recorded es = joined-builds stamps (recorded es) in
+    last_fit (builds_anew stamps es) (builds stamps (recorded es)) (subst (All IsEntry) (sym parts) (recorded_valid es valid))
     (omega (arith, ap length parts, recorded_few es, few))

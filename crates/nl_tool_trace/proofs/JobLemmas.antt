@@ -1,16 +1,15 @@
 -- The commands of the last build with their outputs, entry by entry.
-use Rattle.std.proofs.Common.{ℕ, ◌≡◌, ◌∙◌, true, false, not, List, [], ◌∷◌, ◌++◌, map, Result, Ok, Err, refl, sym, ap, arith}
+use Rattle.std.proofs.Common.{ℕ, ◌≡◌, ◌∙◌, Bool, true, false, not, List, [], ◌∷◌, ◌++◌, map, Result, Ok, Err, refl, sym, ap, arith}
 use Rattle.std.specs.Prelude.{IfOk}
 use Rattle.std.specs.declared.alloc.AllocError.{AllocError}
 use Rattle.std.proofs.lemmas.Bool.Decides.{nat_tests}
 use Rattle.std.proofs.lemmas.List.{map-append, same_from_push}
 use Rattle.nl_fields.specs.declared.entry.Entry.{Entry}
-use Rattle.nl_tool_report.specs.Runs.{Run, items, longer, one, placed}
-use Rattle.nl_tool_report.specs.Builds.{is_border}
-use Rattle.nl_tool_report.specs.Commands.{commands, falls_after, is_same_command, span_of}
+use Rattle.nl_tool_report.specs.Runs.{Run, added, items, longer, one}
+use Rattle.nl_tool_report.specs.Commands.{commands, is_same_command, span_of}
 use Rattle.nl_tool_report.specs.declared.span.Span.{Span}
 use Rattle.nl_tool_report.proofs.BuildLemmas.{commands_other, commands_same}
-use Rattle.nl_tool_report.proofs.RunLemmas.{placed-along, placed-apart}
+use Rattle.nl_tool_report.proofs.RunLemmas.{added-along, added-apart}
 use Rattle.nl_tool_trace.specs.declared.commands.Command.{Command}
 use Rattle.nl_tool_trace.specs.Jobs.{HasJobs, Job, job, job_of, jobs, last_in, last_jobs}
 
@@ -22,43 +21,38 @@ same_span a b same =
     let hash : b.hash ≡ a.hash = grind (arith, nat_tests) in
     λ i. record { began = began i; ended = ended i; hash = hash i }
 
-module _ (rs : List (Run Entry)) (new : Job) (e : Entry) (span : Span) (spans : span ≡ span_of e) (now_is : new.span ≡ span_of e) where
+module _ (begins : Bool) (rs : List (Run Entry)) (new : Job) (e : Entry) (span : Span) (spans : span ≡ span_of e) (now_is : new.span ≡ span_of e) where
   begun : new.outputs ≡ e.name ∷ [] → new ≡ job_of (one e)
   begun outputs i = record { span = now_is i; outputs = outputs i }
 
-  pub jobs_first : (done : List Job) → rs ≡ [] → done ≡ [] → new.outputs ≡ e.name ∷ [] → HasJobs (placed is_border rs e) done new
+  pub jobs_first : (done : List Job) → rs ≡ [] → done ≡ [] → new.outputs ≡ e.name ∷ [] → HasJobs (added begins rs e) done new
   jobs_first done none nothing outputs = record {
     before = [];
     build = one e;
-    is = ap (λ (l : List (Run Entry)). placed is_border l e) none;
+    is = ap (λ (l : List (Run Entry)). added begins l e) none;
     jobs_are = ap (λ (l : List Job). l ++ new ∷ []) nothing ∙ ap (λ (j : Job). j ∷ []) (begun outputs);
     span_is = now_is;
   }
 
   module _ (done : List Job) (last : Job) (old : HasJobs rs done last) where
-    falls : falls_after last.span span ≡ is_border old.build.last e
-    falls = ap (λ (s : Span). falls_after s span) old.span_is ∙ ap (falls_after (span_of old.build.last)) spans
-
-    pub jobs_apart : (now : List Job) → now ≡ [] → falls_after last.span span ≡ true → new.outputs ≡ e.name ∷ []
-        → HasJobs (placed is_border rs e) now new
+    pub jobs_apart : (now : List Job) → now ≡ [] → begins ≡ true → new.outputs ≡ e.name ∷ []
+        → HasJobs (added begins rs e) now new
     jobs_apart now nothing test outputs = record {
       before = old.before ++ old.build ∷ [];
       build = one e;
-      is = ap (λ (l : List (Run Entry)). placed is_border l e) old.is
-          ∙ placed-apart is_border old.before old.build e (sym falls ∙ test);
+      is = (λ i. added (test i) (old.is i) e) ∙ added-apart old.before old.build e;
       jobs_are = ap (λ (l : List Job). l ++ new ∷ []) nothing ∙ ap (λ (j : Job). j ∷ []) (begun outputs);
       span_is = now_is;
     }
 
-    along : falls_after last.span span ≡ false → placed is_border rs e ≡ old.before ++ longer old.build e ∷ []
-    along test = ap (λ (l : List (Run Entry)). placed is_border l e) old.is
-        ∙ placed-along is_border old.before old.build e (sym falls ∙ test)
+    along : begins ≡ false → added begins rs e ≡ old.before ++ longer old.build e ∷ []
+    along test = (λ i. added (test i) (old.is i) e) ∙ added-along old.before old.build e
 
     same : is_same_command last.span span ≡ is_same_command (span_of old.build.last) (span_of e)
     same = ap (λ (s : Span). is_same_command s span) old.span_is ∙ ap (is_same_command (span_of old.build.last)) spans
 
-    pub jobs_same : falls_after last.span span ≡ false → is_same_command last.span span ≡ true
-        → new.outputs ≡ last.outputs ++ e.name ∷ [] → HasJobs (placed is_border rs e) done new
+    pub jobs_same : begins ≡ false → is_same_command last.span span ≡ true
+        → new.outputs ≡ last.outputs ++ e.name ∷ [] → HasJobs (added begins rs e) done new
     jobs_same test of_it outputs =
         let one_command = commands_same old.build e (ap not (sym same ∙ of_it)) in
         let both = same_from_push done (map job_of one_command.0) last (job_of one_command.1)
@@ -75,8 +69,8 @@ module _ (rs : List (Run Entry)) (new : Job) (e : Entry) (span : Span) (spans : 
           span_is = now_is;
         }
 
-    pub jobs_other : (now : List Job) → now ≡ done ++ last ∷ [] → falls_after last.span span ≡ false
-        → is_same_command last.span span ≡ false → new.outputs ≡ e.name ∷ [] → HasJobs (placed is_border rs e) now new
+    pub jobs_other : (now : List Job) → now ≡ done ++ last ∷ [] → begins ≡ false
+        → is_same_command last.span span ≡ false → new.outputs ≡ e.name ∷ [] → HasJobs (added begins rs e) now new
     jobs_other now more test another outputs = record {
       before = old.before;
       build = longer old.build e;

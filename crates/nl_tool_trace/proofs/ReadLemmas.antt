@@ -44,7 +44,7 @@ names_read (n ∷ names) = ap (option_map (item (shown n))) (names_read names)
 
 build_reads : (d : Data) → NamesBuild d → ReadsBack d
 build_reads d of_build = subst ReadsBack (sym of_build.is) (record {
-  numbers = ((tt, tt), (tt, (tt, (IsNumber-decimal of_build.build of_build.build_fits, tt))));
+  numbers = ((tt, (tt, tt)), (tt, (tt, (IsNumber-decimal of_build.build of_build.build_fits, tt))));
   shallow = omega arith;
   is = rw (number_of-decimal of_build.build of_build.build_fits) refl;
 })

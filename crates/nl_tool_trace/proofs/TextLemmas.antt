@@ -1,5 +1,5 @@
 -- The text of a trace, event by event.
-use Rattle.std.proofs.Common.{◌≡◌, ◌∙◌, ℕ, ◌+◌, ◌<◌, ◌≤◌, false, List, [], ◌∷◌, ◌++◌, true, length, get_or, map, take, refl, sym, ap, arith, append_assoc, append-nil, length-append}
+use Rattle.std.proofs.Common.{◌≡◌, ◌∙◌, ℕ, Bool, ◌+◌, ◌<◌, ◌≤◌, false, List, [], ◌∷◌, ◌++◌, true, length, get_or, map, take, refl, sym, ap, arith, append_assoc, append-nil, length-append}
 use Rattle.std.specs.List.{flat_map, zip}
 use Rattle.std.proofs.lemmas.Grind.{flat_map-append}
 use Rattle.std.proofs.lemmas.List.{get_or-map, length-map, take_all, take_more}
@@ -26,8 +26,8 @@ names_have_none : (names : List (List ℕ)) → items_have_float (items_of (map 
 names_have_none [] = refl
 names_have_none (n ∷ names) = names_have_none names
 
-pub build_has_none : (build : ℕ) → has_float (build_event build) ≡ false
-build_has_none build = refl
+pub build_has_none : (build : ℕ) (anew : Bool) → has_float (build_event build anew) ≡ false
+build_has_none build anew = refl
 
 pub command_has_none : (build began lane : ℕ) (j : Job) → has_float (command_event build began lane j) ≡ false
 command_has_none build began lane j = rw (names_have_none j.outputs) refl
@@ -79,15 +79,15 @@ told_more build began js found i lane j front old new there lane_there job_is la
     ∙ flat_map-append (λ (d : Data). 44 ∷ event_text d) (flat_map events (take i both)) (events (j, lane))))
 
 -- all of them
-pub told_all : (build began : ℕ) (js : List Job) (found : List ℕ) (i : ℕ) → found ≡ lanes (spans js) → length js ≤ i
-    → ((91 ∷ event_text (build_event build)) ++ told_to build began js found i) ++ 93 ∷ []
-    ≡ array_text (build_event build ∷ job_events build began js)
-told_all build began js found i is all =
+pub told_all : (build : ℕ) (anew : Bool) (began : ℕ) (js : List Job) (found : List ℕ) (i : ℕ) → found ≡ lanes (spans js) → length js ≤ i
+    → ((91 ∷ event_text (build_event build anew)) ++ told_to build began js found i) ++ 93 ∷ []
+    ≡ array_text (build_event build anew ∷ job_events build began js)
+told_all build anew began js found i is all =
     let long : length (zip js found) ≤ i = omega (arith, all, length-zip js found) in
     let events = events_of build began (spans js) in
-    ap (λ (l : List (Job × ℕ)). ((91 ∷ event_text (build_event build)) ++ behind_commas (flat_map events l)) ++ 93 ∷ []) (take_all i (zip js found) long)
-    ∙ ap (λ (l : List ℕ). ((91 ∷ event_text (build_event build)) ++ behind_commas (flat_map events (zip js l))) ++ 93 ∷ []) is
-    ∙ sym (array_is (build_event build) (job_events build began js))
+    ap (λ (l : List (Job × ℕ)). ((91 ∷ event_text (build_event build anew)) ++ behind_commas (flat_map events l)) ++ 93 ∷ []) (take_all i (zip js found) long)
+    ∙ ap (λ (l : List ℕ). ((91 ∷ event_text (build_event build anew)) ++ behind_commas (flat_map events (zip js l))) ++ 93 ∷ []) is
+    ∙ sym (array_is (build_event build anew) (job_events build began js))
 
 -- ---- the last build
 
@@ -98,15 +98,15 @@ last_built r [] (x ∷ before) b is = absurd (omega (arith, ap length is, length
 last_built r (s ∷ rs) [] b is = absurd (omega (arith, ap length is))
 last_built r (s ∷ rs) (x ∷ before) b is = last_built s rs before b (cc is)
 
-pub last_told : (rs : List (Run Entry)) (before : List Build) (b : Build) → map build_of rs ≡ before ++ b ∷ []
-    → last_events rs ≡ build_event (length rs) ∷ job_events (length rs) b.began (by_start (last_jobs rs))
-last_told [] before b is = absurd (omega (arith, ap length is, length-append before (b ∷ [])))
-last_told (r ∷ rs) before b is =
-    ap (λ (c : Build). build_event (length (r ∷ rs)) ∷ job_events (length (r ∷ rs)) c.began (by_start (last_jobs (r ∷ rs)))) (last_built r rs before b is)
+pub last_told : (anew : Bool) (rs : List (Run Entry)) (before : List Build) (b : Build) → map build_of rs ≡ before ++ b ∷ []
+    → last_events anew rs ≡ build_event (length rs) anew ∷ job_events (length rs) b.began (by_start (last_jobs rs))
+last_told anew [] before b is = absurd (omega (arith, ap length is, length-append before (b ∷ [])))
+last_told anew (r ∷ rs) before b is =
+    ap (λ (c : Build). build_event (length (r ∷ rs)) anew ∷ job_events (length (r ∷ rs)) c.began (by_start (last_jobs (r ∷ rs)))) (last_built r rs before b is)
 
-pub none_told : (rs : List (Run Entry)) → length (map build_of rs) ≡ 0 → last_events rs ≡ []
-none_told [] none = refl
-none_told (r ∷ rs) none = absurd (omega (arith, none))
+pub none_told : (anew : Bool) (rs : List (Run Entry)) → length (map build_of rs) ≡ 0 → last_events anew rs ≡ []
+none_told anew [] none = refl
+none_told anew (r ∷ rs) none = absurd (omega (arith, none))
 
 pub jobs_length : (ks : List Command) → length (spans (map job ks)) ≡ length ks
 jobs_length ks = length-map (map job ks) (λ (j : Job). j.span) ∙ length-map ks job

@@ -1,7 +1,7 @@
 -- The events of a trace, as JSON values (docs/CLI.md, "`trace`"). Members stand in the order of their keys.
-use Rattle.std.specs.Prelude.{ℕ, ◌+◌, ◌-◌, ◌*◌, List, [], ◌∷◌, ◌++◌, map, codes, decimal}
+use Rattle.std.specs.Prelude.{ℕ, Bool, ◌+◌, ◌-◌, ◌*◌, List, [], ◌∷◌, ◌++◌, map, codes, decimal}
 use Rattle.std.specs.Str.Lossy.{utf8_lossy}
-use Rattle.serde_json.specs.Data.{Data, array, member, no_members, number, object, string, unsigned}
+use Rattle.serde_json.specs.Data.{Data, array, boolean, member, no_members, number, object, string, unsigned}
 use Rattle.serde_json.specs.View.{items_of}
 use Rattle.nl_fields.specs.Digits.{digits_of}
 use Rattle.nl_tool_report.specs.Commands.{time_of}
@@ -27,10 +27,12 @@ abbrev pub first_output : List (List ℕ) → List ℕ
 first_output [] = []
 first_output (o ∷ os) = o
 
--- the name of a build
-abbrev pub build_event : ℕ → Data
-build_event build = object
-    (member (codes "args") (object (member (codes "name") (text (codes "build " ++ decimal build)) no_members))
+-- the name of a build, and whether its log was written anew
+abbrev pub build_event : ℕ → Bool → Data
+build_event build anew = object
+    (member (codes "args") (object
+    (member (codes "name") (text (codes "build " ++ decimal build))
+    (member (codes "rewritten") (boolean anew) no_members)))
     (member (codes "name") (text (codes "process_name"))
     (member (codes "ph") (text (codes "M"))
     (member (codes "pid") (whole build) no_members))))

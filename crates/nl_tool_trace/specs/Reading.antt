@@ -1,5 +1,5 @@
 -- Events whose numbers JSON's readers take exactly.
-use Rattle.std.specs.Prelude.{◌≡◌, ◌⊎◌, ℕ, ◌+◌, ◌-◌, ◌<◌, ◌^◌, List}
+use Rattle.std.specs.Prelude.{◌≡◌, ◌⊎◌, ℕ, ◌+◌, ◌-◌, ◌<◌, ◌^◌, Bool, List}
 use Rattle.serde_json.specs.Data.{Data}
 use Rattle.nl_tool_report.specs.Commands.{time_of}
 use Rattle.nl_tool_report.specs.Sweep.{running}
@@ -10,8 +10,9 @@ use Rattle.nl_tool_trace.specs.Jobs.{Job}
 -- the name of a build
 pub record NamesBuild (d : Data) : Type 0 where
   pub build : ℕ
+  pub anew : Bool
   pub build_fits : build < 2 ^ 64
-  pub is : d ≡ build_event build
+  pub is : d ≡ build_event build anew
 
 -- a command
 pub record TellsCommand (d : Data) : Type 0 where

@@ -4,13 +4,14 @@ ghost use Rattle.std.specs.List.{All};
 ghost use Rattle.nl_fields.specs.EntryLine.{IsEntry, entry_of};
 ghost use Rattle.nl_fields.specs.declared.entry.Entry.{Entry};
 ghost use Rattle.nl_table.specs.LogText.{lines_of_entries};
-ghost use Rattle.nl_tool_report.specs.Runs.{Run, placed};
-ghost use Rattle.nl_tool_report.specs.Builds.{builds, is_border};
+ghost use Rattle.nl_tool_report.specs.Runs.{Run, added};
+ghost use Rattle.nl_tool_report.specs.Builds.{builds};
+ghost use Rattle.nl_tool_report.specs.Clock.{is_border, next};
 ghost use Rattle.nl_tool_report.specs.Commands.{IsEarly, span_of};
 ghost use Rattle.nl_tool_trace.specs.Jobs.{HasJobs, HoldsJobs, by_start, job, last_jobs};
 
 use nl_fields::{EntryRef, read_entry};
-use nl_tool_report::{Span, split_line};
+use nl_tool_report::{Clock, Span, Stamps, split_line};
 use std::alloc::{AllocError, Global};
 
 /// When a command ran, and its outputs.
@@ -37,26 +38,35 @@ impl<'a> Command<'a> {
 
 /// The commands of the last build that these lines of entries tell, in the order of START, and those of one START in the
 /// order of the log.
-pub fn last_commands<'a>(alloc: Global, text: &'a [u8]) -> Result<Vec<Command<'a>>, AllocError>
+pub fn last_commands<'a>(
+    alloc: Global,
+    stamps: Stamps,
+    text: &'a [u8],
+) -> Result<Vec<Command<'a>>, AllocError>
     ensures value { (es : List Entry) → All IsEntry es → text.now ≡ lines_of_entries es
-        → IfOk result (λ found. map job found.items ≡ by_start (last_jobs (builds es))) }
+        → IfOk result (λ found. map job found.items ≡ by_start (last_jobs (builds stamps es))) }
     ensures bound { IfOk result (λ found. All (λ k. IsEarly k.span) found.items) }
 {
-    let found = commands_in(alloc, text)?;
+    let found = commands_in(alloc, stamps, text)?;
     sorted_by_start(found)
 }
 
 // Those commands in the order of the log.
-fn commands_in<'a>(alloc: Global, text: &'a [u8]) -> Result<Vec<Command<'a>>, AllocError>
+fn commands_in<'a>(
+    alloc: Global,
+    stamps: Stamps,
+    text: &'a [u8],
+) -> Result<Vec<Command<'a>>, AllocError>
     ensures value { (es : List Entry) → All IsEntry es → text.now ≡ lines_of_entries es
-        → IfOk result (λ found. map job found.items ≡ last_jobs (builds es)) }
+        → IfOk result (λ found. map job found.items ≡ last_jobs (builds stamps es)) }
     ensures early { IfOk result (λ found. All (λ k. IsEarly k.span) found.items) }
 {
     let mut done = Vec::new(alloc);
     let mut current: Option<Command<'a>> = None;
+    let mut clock = Clock::new(stamps);
     let mut rest = text;
     'entries: while let Some((line, later)) = split_line(rest) {
-        take_line(alloc, line, &mut done, &mut current)?;
+        take_line(alloc, line, &mut clock, &mut done, &mut current)?;
         rest = later;
     }
     finish(done, current)
@@ -80,34 +90,38 @@ fn sorted_by_start<'a>(commands: Vec<Command<'a>>) -> Result<Vec<Command<'a>>, A
 fn take_line<'a>(
     alloc: Global,
     line: &'a [u8],
+    clock: &mut Clock,
     done: &mut Vec<Command<'a>>,
     current: &mut Option<Command<'a>>,
 ) -> Result<(), AllocError>
     requires early { All (λ k. IsEarly k.span) done.old.items × IfSome current.old (λ k. IsEarly k.span) }
     ensures ok { (rs : List (Run Entry)) (e : Entry) → entry_of line.now ≡ Some e
         → HoldsJobs rs (map job done.old.items) current.old
-        → OnOk result (HoldsJobs (placed is_border rs e) (map job done.new.items) current.new) }
+        → OnOk result (HoldsJobs (added (is_border clock.old e) rs e) (map job done.new.items) current.new) }
+    ensures clock { (e : Entry) → entry_of line.now ≡ Some e → clock.new ≡ next clock.old e }
     ensures early { OnOk result
         (All (λ k. IsEarly k.span) done.new.items × IfSome current.new (λ k. IsEarly k.span)) }
 {
     let Some(entry) = read_entry(line) else {
         return Ok(());
     };
+    let begins = clock.take(&entry);
     let before = current.take();
-    *current = Some(place(alloc, &entry, done, before)?);
+    *current = Some(place(alloc, begins, &entry, done, before)?);
     Ok(())
 }
 
 // An entry begins a build, or a command, or is one more output of the last command.
 fn place<'a>(
     alloc: Global,
+    begins: bool,
     entry: &EntryRef<'a>,
     done: &mut Vec<Command<'a>>,
     current: Option<Command<'a>>,
 ) -> Result<Command<'a>, AllocError>
     requires early { All (λ k. IsEarly k.span) done.old.items × IfSome current (λ k. IsEarly k.span) }
     ensures ok { (rs : List (Run Entry)) → HoldsJobs rs (map job done.old.items) current.entry
-        → IfOk result (λ now. HasJobs (placed is_border rs entry.now) (map job done.new.items) (job now)) }
+        → IfOk result (λ now. HasJobs (added begins rs entry.now) (map job done.new.items) (job now)) }
     ensures early { OnOk result (All (λ k. IsEarly k.span) done.new.items) }
     ensures now { IfOk result (λ now. IsEarly now.span) }
 {
@@ -115,7 +129,7 @@ fn place<'a>(
     let Some(before) = current else {
         return Command::of(alloc, span, entry.name());
     };
-    if span.falls_after(&before.span) {
+    if begins {
         done.clear();
         return Command::of(alloc, span, entry.name());
     }

@@ -17,12 +17,17 @@ use nl_fields::append_hex64;
 use serde_json::{Value, json};
 use std::alloc::{AllocError, Global};
 
-// Names a build.
-pub(crate) fn build_value(alloc: Global, build: u64) -> Result<Value, AllocError>
-    ensures value { IfOk result (λ v. view v ≡ build_event build) }
+// Names a build, and says whether its log was written anew.
+pub(crate) fn build_value(alloc: Global, build: u64, anew: bool) -> Result<Value, AllocError>
+    ensures value { IfOk result (λ v. view v ≡ build_event build anew) }
 {
     let name = format!(in alloc; "build {build}")?;
-    json!(in alloc; {"args": {"name": name}, "name": "process_name", "ph": "M", "pid": build})
+    json!(in alloc; {
+        "args": {"name": name, "rewritten": anew},
+        "name": "process_name",
+        "ph": "M",
+        "pid": build
+    })
 }
 
 // A command in a lane.

@@ -7,6 +7,7 @@ ghost use Rattle.serde_json.specs.View.{items_of};
 ghost use Rattle.nl_fields.specs.EntryLine.{IsEntry};
 ghost use Rattle.nl_fields.specs.declared.entry.Entry.{Entry};
 ghost use Rattle.nl_tool_report.specs.Sweep.{runs_at};
+ghost use Rattle.nl_tool_report.specs.declared.clock.Stamps.{Stamps};
 ghost use Rattle.nl_tool_report.specs.declared.span.Span.{Span};
 ghost use Rattle.nl_tool_trace.specs.Lanes.{Begin, lanes};
 ghost use Rattle.nl_tool_trace.specs.Reading.{IsEvent};
@@ -34,6 +35,6 @@ pub fn an_array_reads_as_its_events()
 
 /// So is the text of a log's trace that of its events.
 pub fn a_trace_reads_as_its_events()
-    ensures { (es : List Entry) → All IsEntry es → length es < 2 ^ 63
-        → read (trace_text es) ≡ Some (array (items_of (trace_events es))) }
+    ensures { (stamps : Stamps) (es : List Entry) → All IsEntry es → length es < 2 ^ 63
+        → read (trace_text stamps es) ≡ Some (array (items_of (trace_events stamps es))) }
 {}

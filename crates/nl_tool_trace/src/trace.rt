@@ -10,23 +10,24 @@ ghost use Rattle.nl_table.specs.LogText.{lines_of_entries};
 ghost use Rattle.nl_tool_texts.specs.Output.{Prints};
 ghost use Rattle.nl_tool_texts.specs.declared.fault.ToolFault.{ToolFault};
 ghost use Rattle.nl_tool_print.specs.Faults.{IsLogFault};
-ghost use Rattle.nl_tool_print.specs.Output.{IsTextAsRead};
 ghost use Rattle.nl_versions.specs.VersionOf.{as_five};
-ghost use Rattle.nl_tool_report.specs.Builds.{builds};
+ghost use Rattle.nl_tool_report.specs.Builds.{IsReportAsRead, builds};
 ghost use Rattle.nl_tool_report.specs.Commands.{IsEarly};
 ghost use Rattle.nl_tool_report.specs.declared.span.Span.{Span};
 ghost use Rattle.nl_tool_trace.specs.Jobs.{job};
 ghost use Rattle.nl_tool_trace.specs.Events.{build_event, command_event, running_event};
 ghost use Rattle.nl_tool_trace.specs.Lanes.{lanes};
 ghost use Rattle.nl_tool_trace.specs.Running.{AreMoments};
-ghost use Rattle.nl_tool_trace.specs.Trace.{array_text, event_text, events_of, job_events, last_events, spans, trace_text_of};
+ghost use Rattle.nl_tool_trace.specs.Trace.{array_text, event_text, events_of, job_events, last_events, spans, trace_text};
 ghost use Rattle.nl_tool_trace.specs.TraceSteps.{behind_commas, told_to};
 
 use crate::commands::{Command, last_commands};
 use crate::events::{append_value, build_value, command_value, running_value};
 use crate::lanes::lanes_of;
 use crate::running::Moments;
-use nl_tool_report::{Span, builds_in, read_entries, without_intents};
+use nl_tool_report::{
+    EntriesAsRead, Span, Stamps, builds_in, is_anew, read_entries, without_intents,
+};
 use nl_tool_texts::{ToolFault, write_out};
 use serde_json::Value;
 use std::alloc::{AllocError, Global};
@@ -40,7 +41,7 @@ pub fn trace_to<R: Read + Drop, W: Write>(
     reader: R,
     writer: &mut W,
 ) -> Result<(), ToolFault>
-    ensures prints { Prints (IsTextAsRead trace_text_of (R.remaining reader)) (W.contents writer.old)
+    ensures prints { Prints (IsReportAsRead trace_text (R.remaining reader)) (W.contents writer.old)
         (W.contents writer.new) result }
     ensures not_a_log { IsErrOf result ToolFault.NotALog
         → IfSome (R.remaining reader) (λ bs. log_of (as_five bs) ≡ NotALog) }
@@ -48,24 +49,30 @@ pub fn trace_to<R: Read + Drop, W: Write>(
         → IfSome (R.remaining reader) (λ bs. log_of (as_five bs) ≡ OtherVersion) }
     ensures faults { IfErr result IsLogFault }
 {
-    let text = read_entries(alloc, reader)?;
+    let EntriesAsRead { stamps, text } = read_entries(alloc, reader)?;
     let recorded = without_intents(alloc, text)?;
-    let events = last_build_text(alloc, recorded.as_slice())?;
+    let anew = is_anew(alloc, stamps, recorded.as_slice())?;
+    let events = last_build_text(alloc, stamps, anew, recorded.as_slice())?;
     write_out(events.as_slice(), writer)
 }
 
 // The events of the last build.
-fn last_build_text(alloc: Global, text: &[u8]) -> Result<Vec<u8>, AllocError>
+fn last_build_text(
+    alloc: Global,
+    stamps: Stamps,
+    anew: bool,
+    text: &[u8],
+) -> Result<Vec<u8>, AllocError>
     ensures value { (es : List Entry) → All IsEntry es → text.now ≡ lines_of_entries es
-        → IfOk result (λ out. out.items ≡ array_text (last_events (builds es))) }
+        → IfOk result (λ out. out.items ≡ array_text (last_events anew (builds stamps es))) }
 {
-    let mut found = builds_in(alloc, text)?;
+    let mut found = builds_in(alloc, stamps, text)?;
     let count = found.len() as u64;
     let Some(last) = found.pop() else {
         return nothing(alloc);
     };
-    let commands = last_commands(alloc, text)?;
-    events_text(alloc, count, last.began, commands.as_slice())
+    let commands = last_commands(alloc, stamps, text)?;
+    events_text(alloc, count, anew, last.began, commands.as_slice())
 }
 
 // What is told where there is no build.
@@ -80,19 +87,20 @@ fn nothing(alloc: Global) -> Result<Vec<u8>, AllocError>
 fn events_text(
     alloc: Global,
     build: u64,
+    anew: bool,
     began: u64,
     commands: &[Command<'_>],
 ) -> Result<Vec<u8>, AllocError>
     requires early { All (λ k. IsEarly k.span) commands.now }
     ensures value { IfOk result (λ out. out.items
-        ≡ array_text (build_event build ∷ job_events build began (map job commands.now))) }
+        ≡ array_text (build_event build anew ∷ job_events build began (map job commands.now))) }
 {
     let ran = spans_of(alloc, commands)?;
     let found = lanes_of(alloc, ran.as_slice())?;
     let moments = Moments::of(alloc, ran.as_slice())?;
     let mut out = Vec::new(alloc);
     out.push(b'[')?;
-    append_build(alloc, build, &mut out)?;
+    append_build(alloc, build, anew, &mut out)?;
     append_commands(
         alloc,
         build,
@@ -134,10 +142,11 @@ fn spans_of(alloc: Global, commands: &[Command<'_>]) -> Result<Vec<Span>, AllocE
     commands.iter().map(|command| command.span).collect(alloc)
 }
 
-fn append_build(alloc: Global, build: u64, out: &mut Vec<u8>) -> Result<(), AllocError>
-    ensures items { OnOk result (out.new.items ≡ out.old.items ++ event_text (build_event build)) }
+fn append_build(alloc: Global, build: u64, anew: bool, out: &mut Vec<u8>) -> Result<(), AllocError>
+    ensures items { OnOk result
+        (out.new.items ≡ out.old.items ++ event_text (build_event build anew)) }
 {
-    let value = build_value(alloc, build)?;
+    let value = build_value(alloc, build, anew)?;
     append_value(alloc, &value, out)
 }
 

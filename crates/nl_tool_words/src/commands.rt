@@ -304,8 +304,8 @@ pub fn builds_command<'a>(alloc: Global) -> Result<Command<'a>, AllocError>
         .about("Prints a line for each build that a log still tells: what it ran, and how long")
         .after_help(
             "\
-One line for each, the oldest first: NUMBER, COMMANDS, OUTPUTS, WALL and TOTAL with a tab between
-neighbours.
+One line for each, the oldest first: NUMBER, COMMANDS, OUTPUTS, WALL, TOTAL and BORDERS with a tab
+between neighbours.
 
 NUMBER    its number, from 1
 COMMANDS  how many commands ended in it; neighbours with one START, END and HASH are of one, and an
@@ -313,10 +313,12 @@ COMMANDS  how many commands ended in it; neighbours with one START, END and HASH
 OUTPUTS   how many outputs these made
 WALL      milliseconds from the first START to the last END
 TOTAL     the sum of the commands' times, in milliseconds; TOTAL / WALL ran at a time
+BORDERS   `sure`, or `unsure` if LOG may border the build elsewhere
 
-A build begins where END falls. So two builds are one line if the second's first command took longer
-than the whole first build, and a log that was rewritten doesn't tell its builds any more. The last
-build is told by
+A build begins where END falls, or where MTIME says that the build of an entry began behind the one
+so far. In a log of version 5 the second isn't sure, and in one of version 4 END alone tells. A log
+that was rewritten doesn't tell its builds any more; if it can be told, standard error says so. The
+last build is told by
 
   nlog builds .ninja_log | tail -n 1",
         );
@@ -416,7 +418,8 @@ A JSON array of events in Chrome's format, which https://ui.perfetto.dev and chr
 
   nlog trace .ninja_log > trace.json
 
-\"ph\":\"M\"  the build: \"pid\" is its number, as `builds` has it
+\"ph\":\"M\"  the build: \"pid\" is its number, as `builds` has it; behind \"args\" \"rewritten\": whether LOG was
+          written anew, so that it doesn't tell its builds
 \"ph\":\"X\"  a command: \"tid\" is its lane, \"ts\" when it began, in microseconds from the first START of
           the build, \"dur\" how long it took, \"name\" its first output; behind \"args\" all outputs, and HASH
 \"ph\":\"C\"  how many commands run at \"ts\": for each command as it begins, and as it has ended

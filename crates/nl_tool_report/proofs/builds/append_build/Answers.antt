@@ -6,10 +6,10 @@ pub returns : goal.returns
 returns c =
     let old = c.args.out.now.items in
     let b = c.args.build.now in
-    let line : c.as_bytes.result.now ≡ told_line c.args.number b.commands b.outputs c.saturating_sub-wall.result b.total =
+    let line : c.as_bytes.result.now ≡ told_line c.args.number b.commands b.outputs c.saturating_sub-wall.result b.total c.sure_word-word.result.now =
     c.as_bytes.ensures.value ∙ c.in_ok-line.ensures.ok ∙ simp append_assoc in
     record {
       items = c.in_ok-extend_from_slice.ensures.items
-          ∙ ap (λ (l : List ℕ). old ++ l) (line ∙ ap (λ (wall : ℕ). told_line c.args.number b.commands b.outputs wall b.total)
-          c.saturating_sub-wall.ensures);
+          ∙ ap (λ (l : List ℕ). old ++ l) (line ∙ (λ i. told_line c.args.number b.commands b.outputs
+          (c.saturating_sub-wall.ensures i) b.total (c.sure_word-word.ensures i)));
     }

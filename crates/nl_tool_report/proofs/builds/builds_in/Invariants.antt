@@ -10,7 +10,7 @@ use Rattle.nl_tool_report.proofs.builds.builds_in.Given as goal
 
 abbrev pub invariant-entries : goal.invariant-entries
 invariant-entries l = record {
-  held : (es : List Entry) → All IsEntry es → l.fn.text ≡ lines_of_entries es → HoldsBefore es l.rest (λ (rs : List (Run Entry)). AreHeld rs l.done.items l.current);
+  held : (es : List Entry) → All IsEntry es → l.fn.text ≡ lines_of_entries es → HoldsBefore l.fn.stamps l.clock es l.rest (λ (rs : List (Run Entry)). AreHeld rs l.done.items l.current);
   bound : IsBoundedIf l.current;
   count : outputs_in l.current + length l.rest ≤ length l.fn.text;
 }

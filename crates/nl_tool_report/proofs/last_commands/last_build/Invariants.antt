@@ -12,7 +12,7 @@ use Rattle.nl_tool_report.proofs.last_commands.last_build.Given as goal
 abbrev pub invariant-entries : goal.invariant-entries
 invariant-entries l = record {
   held : (es : List Entry) → All IsEntry es → l.fn.text ≡ lines_of_entries es
-      → HoldsBefore es l.rest (λ (rs : List (Run Entry)). AreLast rs l.found.commands.items l.found.outputs.items l.found.slowest l.found.last);
+      → HoldsBefore l.fn.stamps l.clock es l.rest (λ (rs : List (Run Entry)). AreLast rs l.found.commands.items l.found.outputs.items l.found.slowest l.found.last);
   early : All IsEarly l.found.commands.items;
   alike : length l.found.commands.items ≡ length l.found.outputs.items;
 }

@@ -10,7 +10,7 @@ returns-in_default c = record {
   value = λ es valid is.
       let empty : length c.in_ok-found.found.items ≡ 0 = omega (arith, c.in_ok-found.found.ok, c.in_default.ensures.cases.0) in
       IfOk-weaker c.unfinished_alone.result _ _ (λ lines h. h
-      ∙ sym (none_told c.args.lists c.args.count (builds es) (ap length (sym (c.in_ok-found.ensures.value es valid is)) ∙ empty)))
+      ∙ sym (none_told c.args.lists c.args.count (builds c.args.stamps es) (ap length (sym (c.in_ok-found.ensures.value es valid is)) ∙ empty)))
       c.unfinished_alone.ensures.value;
 }
 
@@ -25,7 +25,7 @@ returns c = record {
   value = λ es valid is.
       let shares = c.in_ok-shares.ensures.value in
       let ran = c.as_slice.ensures.value in
-      last_is_told c.args.lists c.args.count (builds es) c.pop.new.self.items c.in-Some.build c.in_ok-ran.ran.commands.items c.in_ok-ran.ran.outputs.items
+      last_is_told c.args.lists c.args.count (builds c.args.stamps es) c.pop.new.self.items c.in-Some.build c.in_ok-ran.ran.commands.items c.in_ok-ran.ran.outputs.items
       c.in_ok-ran.ran.slowest c.in_ok-ran.ran.last c.busy.result c.alone.result c.append_slowest.new.lines.items
       c.append_unfinished.new.lines.items c.append_lists.new.lines.items
       (sym (c.in_ok-found.ensures.value es valid is) ∙ c.in-Some.ensures.items) (c.in_ok-ran.ensures.value es valid is)

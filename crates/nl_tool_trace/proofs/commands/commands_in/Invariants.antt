@@ -13,7 +13,7 @@ use Rattle.nl_tool_trace.proofs.commands.commands_in.Given as goal
 abbrev pub invariant-entries : goal.invariant-entries
 invariant-entries l = record {
   held : (es : List Entry) → All IsEntry es → l.fn.text ≡ lines_of_entries es
-      → HoldsBefore es l.rest (λ (rs : List (Run Entry)). HoldsJobs rs (map job l.done.items) l.current);
+      → HoldsBefore l.fn.stamps l.clock es l.rest (λ (rs : List (Run Entry)). HoldsJobs rs (map job l.done.items) l.current);
   early : All (λ k. IsEarly k.span) l.done.items × IfSome l.current (λ k. IsEarly k.span);
 }
 

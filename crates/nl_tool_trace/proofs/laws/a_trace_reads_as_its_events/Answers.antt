@@ -4,4 +4,4 @@ use Rattle.nl_tool_trace.proofs.ReadLemmas.{reads_as}
 use Rattle.nl_tool_trace.proofs.laws.a_trace_reads_as_its_events.Goals as goal
 
 pub returns : goal.returns
-returns c = λ es valid few. reads_as (trace_events es) (trace_fits es valid few)
+returns c = λ stamps es valid few. reads_as (trace_events stamps es) (trace_fits stamps es valid few)

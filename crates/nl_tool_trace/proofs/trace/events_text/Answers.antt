@@ -31,7 +31,7 @@ returns c =
       value = c.in_ok-push-2.ensures.items
           ∙ ap (λ (l : List ℕ). l ++ 93 ∷ []) (c.in_ok-append_commands.ensures.items
           ∙ ap (λ (l : List ℕ). l ++ told_to c.args.build c.args.began js ls (length ks)) (c.in_ok-append_build.ensures.items
-          ∙ ap (λ (l : List ℕ). l ++ event_text (build_event c.args.build)) (c.in_ok-push.ensures.items
+          ∙ ap (λ (l : List ℕ). l ++ event_text (build_event c.args.build c.args.anew)) (c.in_ok-push.ensures.items
           ∙ ap (λ (l : List ℕ). l ++ 91 ∷ []) c.new-out.ensures.items)))
-          ∙ told_all c.args.build c.args.began js ls (length ks) is (omega (arith, length-map ks job));
+          ∙ told_all c.args.build c.args.anew c.args.began js ls (length ks) is (omega (arith, length-map ks job));
     }

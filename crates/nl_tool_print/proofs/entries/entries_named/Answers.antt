@@ -1,5 +1,5 @@
 use Rattle.nl_tool_print.proofs.EntryLemmas.{all_listed, some_listed}
-use Rattle.nl_tool_print.proofs.entries.entries_to.Goals as goal
+use Rattle.nl_tool_print.proofs.entries.entries_named.Goals as goal
 
 pub returns-in-Ok-clause-streams : goal.returns-in-Ok-clause-streams
 returns-in-Ok-clause-streams g c = all_listed _ _ _ _ c.in-Ok.ensures.finds

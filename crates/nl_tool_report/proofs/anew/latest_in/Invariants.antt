@@ -1,0 +1,18 @@
+use Rattle.std.proofs.Common.{◌≡◌, List, length, map}
+use Rattle.std.specs.List.{All}
+use Rattle.nl_fields.specs.EntryLine.{IsEntry}
+use Rattle.nl_fields.specs.declared.entry.Entry.{Entry}
+use Rattle.nl_table.specs.LogText.{lines_of_entries}
+use Rattle.nl_tool_report.specs.Anew.{latest}
+use Rattle.nl_tool_report.specs.Runs.{Run}
+use Rattle.nl_tool_report.proofs.TextLemmas.{HoldsBefore}
+use Rattle.nl_tool_report.proofs.anew.latest_in.Given as goal
+
+abbrev pub invariant-entries : goal.invariant-entries
+invariant-entries l = record {
+  held : (es : List Entry) → All IsEntry es → l.fn.text ≡ lines_of_entries es
+      → HoldsBefore l.fn.stamps l.clock es l.rest (λ (rs : List (Run Entry)). l.found.items ≡ map (latest l.fn.stamps) rs);
+}
+
+abbrev pub decreases-entries : goal.decreases-entries
+decreases-entries l = length l.rest
