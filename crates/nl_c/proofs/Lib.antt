@@ -1,10 +1,12 @@
 mod BoxedLog
 mod ChangeLemmas
 mod EndsLemmas
+mod FaultLemmas
 mod JoinLemmas
 mod KeptValues
 mod LogDrop
 mod RecordLemmas
 mod RewritingLemmas
+mod RoomLemmas
 mod ToldLemmas
 mod WholeLemmas

@@ -4,9 +4,12 @@ pub mod LoadedLogs
 pub mod Changes
 pub mod Ends
 pub mod Honest
+pub mod Room
+pub mod TextFolder
 pub mod Written
 pub mod Carried
 pub mod CarriedLogs
+pub mod Faults
 pub mod Held
 pub mod Answers
 pub mod Kept

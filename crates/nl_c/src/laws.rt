@@ -11,6 +11,7 @@ ghost use Rattle.nl_session.specs.Opened.{opened_bytes, IsTableOf};
 ghost use Rattle.nl_folder.specs.CrashImages.{IsDisk, IsImage};
 ghost use Rattle.nl_folder.specs.DiskState.{Disk};
 ghost use Rattle.nl_c.specs.Changes.{IsOpenText, StepsLeave, replace, steps_of};
+ghost use Rattle.nl_c.specs.Faults.{WholeFaults, LightFaults};
 
 /// A rewriting puts a new file in the place of the log. Wherever its steps end, and the power then fails, what is found could be found
 /// before, or is the text, whatever text that is.
@@ -34,4 +35,11 @@ pub fn appended_lines_are_recorded()
     ensures opened { (dead : List ℕ → Bool) (text : List ℕ) → IsOpenText text
         → IsSomeAnd (history_of text) (λ h. is_history_due h ≡ false)
         → opened_bytes dead text ≡ text }
+{}
+
+/// A call of a log that is written answers a fault only where there is no room. In memory there is none behind its text, or behind what is
+/// to take that one's place. Where it is carried there is none behind the bytes that wait, or its folder was asked for what it doesn't keep.
+pub fn a_fault_is_want_of_room()
+    ensures whole { WholeFaults }
+    ensures light { LightFaults }
 {}

@@ -13,5 +13,7 @@ mod laws;
 mod loaded_log;
 mod look_up;
 mod marks;
+mod room;
 mod status;
+mod text_folder;
 mod written_log;
