@@ -1,4 +1,4 @@
-"""What `entries`, `damage`, `builds`, `summary`, `compare`, `trace` and `picture` print, read from docs/CLI.md and docs/FORMAT.md, and which lines are entries from `log_format`."""
+"""What `entries`, `damage`, `builds`, `summary`, `compare`, `trace` and `picture` print, and what a graph says, read from docs/CLI.md and docs/FORMAT.md, and which lines are entries from `log_format`."""
 import bisect
 import collections
 import json
@@ -129,9 +129,13 @@ def builds_in(text, as_of=None):
         last_start, last_end, _, last_command = found[-1][-1][1] if found else (None,) * 4
         rises = found and None not in (base, began) and began - base > max(SLACK, last_end * MILLI - SLACK)
         if not found or end < last_end or rises and (start, end, command) != (last_start, last_end, last_command):
+            before = base
             if base is not None:
                 earliest = base + last_end * MILLI
-            sure.append(not found or end < last_end or version > 5)
+            # It is sure by MTIME in a log of version 6 or 7 alone, if MTIME less END is behind too.
+            ended = entry[1][2] - end * MILLI if version > 5 and entry[1][2] > 0 else None
+            is_behind = None not in (before, ended) and ended - before > max(SLACK, last_end * MILLI - SLACK)
+            sure.append(not found or end < last_end or is_behind)
             found.append([])
             base = began_by(version, entry, earliest)
         elif base is None:
@@ -210,7 +214,7 @@ def slowest_of(told):
 def ranked_of(key, rank, told, most):
     """The lines of so many commands at most, the highest rank first; those of one rank stay in their order."""
     rows = sorted(told, key=lambda it: -it[rank])[:most]
-    return b"".join(b"%s %d %d.%02d %s\n" % (key, time, weight // PARTS, weight * 100 // PARTS % 100, name) for time, weight, name in rows)
+    return b"".join(b"%s\t%d\t%d.%02d\t%s\n" % (key, time, weight // PARTS, weight * 100 // PARTS % 100, name) for time, weight, name in rows)
 
 
 def kind_of(rule, name):
@@ -236,7 +240,7 @@ def ranked_kinds(key, rank, kinds, most):
     """The lines of so many kinds at most, the largest sum first; those of one sum stay in their order."""
     rows = sorted(kinds.items(), key=lambda it: -it[1][rank])[:most]
     told = ((key, count, time, weight // PARTS, weight * 100 // PARTS % 100, kind or b"(none)") for kind, (count, time, weight) in rows)
-    return b"".join(b"%s %d %d %d.%02d %s\n" % it for it in told)
+    return b"".join(b"%s\t%d\t%d\t%d.%02d\t%s\n" % it for it in told)
 
 
 def lanes_of(commands):
@@ -289,14 +293,20 @@ def name_in_xml(name):
     return shown(name) if len(shown(name)) <= 200 else shown(name[:40]) + b".."
 
 
-def picture_of(text, version=None):
-    """What `picture` prints of a log."""
-    builds, commands = entries_by_build(text, version), []
-    for name, (start, end, _, command) in builds[-1] if builds else []:
+def jobs_of(entries):
+    """Each command of some entries in the order of START: its START, its END, its hash, and its outputs."""
+    commands = []
+    for name, (start, end, _, command) in entries:
         if not commands or commands[-1][:3] != (start, end, command):
             commands.append((start, end, command, []))
         commands[-1][3].append(name)
-    commands.sort(key=lambda it: it[0])
+    return sorted(commands, key=lambda it: it[0])
+
+
+def picture_of(text, version=None):
+    """What `picture` prints of a log."""
+    builds = entries_by_build(text, version)
+    commands = jobs_of(builds[-1] if builds else [])
     return drawn(commands, lanes_of([it[:2] for it in commands]))
 
 
@@ -351,17 +361,22 @@ def drawn(commands, lanes):
     return b"".join(it if isinstance(it, bytes) else it.encode() for it in [*out, "</svg>\n"])
 
 
+def asked_builds(text, of_all, version):
+    """The entries of each build, or the last one of each output as of one build."""
+    if not of_all:
+        return entries_by_build(text, version)
+    # By END, then START, then the hash.
+    ended = [it for it in last_entries(text).items() if not is_intent(it)]
+    return [sorted(ended, key=lambda it: (it[1][1], it[1][0], it[1][3]))] if ended else []
+
+
 def summary_of(text, most=10, number=None, of_all=False, rule="extension", version=None):
     """What `summary` prints of a log: of its last build, of that of a number, or of the last entry of each output as of one build."""
-    found, count = entries_by_build(text, version), unfinished_of(text)
-    unfinished = b"unfinished %d\n" % count if count else b""
-    if of_all:
-        # By END, then START, then the hash.
-        ended = [it for it in last_entries(text).items() if not is_intent(it)]
-        found = [sorted(ended, key=lambda it: (it[1][1], it[1][0], it[1][3]))] if ended else []
+    found, count = asked_builds(text, of_all, version), unfinished_of(text)
+    unfinished = b"unfinished\t%d\n" % count if count else b""
     if number is not None:
         if number > len(found):
-            return b"builds %d\n" % len(found) + unfinished
+            return b"builds\t%d\n" % len(found) + unfinished
         found = found[number - 1 : number]
     if not found:
         return unfinished
@@ -371,10 +386,99 @@ def summary_of(text, most=10, number=None, of_all=False, rule="extension", versi
     parallel = b"%d.%02d" % divmod(total * 100 // wall, 100) if wall else b"0.00"
     told = told_commands(found[-1])
     counts = (len(commands), len(found[-1]), wall, total, busy, alone, parallel, *slowest_of(told))
-    eight = b"commands %d\noutputs %d\nwall %d\ntotal %d\nbusy %d\nalone %d\nparallel %s\nslowest %d %s\n" % counts
+    eight = b"commands\t%d\noutputs\t%d\nwall\t%d\ntotal\t%d\nbusy\t%d\nalone\t%d\nparallel\t%s\nslowest\t%d\t%s\n" % counts
     slowest = ranked_of(b"by-time", 0, told, most) + ranked_of(b"by-weight", 1, told, most)
     kinds = kinds_of(rule, told)
     return eight + unfinished + slowest + ranked_kinds(b"kinds-by-time", 1, kinds, most) + ranked_kinds(b"kinds-by-weight", 2, kinds, most)
+
+
+def graph_line(line):
+    """What a line of a graph says: a node's ID and its name, or the IDs of an edge's ends, each as a tuple; or None where it is bad."""
+    parts = line.split(b'"', 2)
+    if len(parts) < 3 or parts[0]:
+        return () if line.startswith((b"rankdir=", b"node [", b"edge [")) else None
+    own, rest = parts[1:]
+    if rest.startswith(b' [label="'):
+        label = rest[len(b' [label="') :]
+        if label.endswith(b'"]'):
+            return "node", own, label[:-2]
+        return () if label.endswith(b'", shape=ellipse]') else None
+    ends = rest[len(b' -> "') :].split(b'"', 1) if rest.startswith(b' -> "') else ()
+    if len(ends) < 2 or ends[1] and not (ends[1].startswith(b" [") and ends[1].endswith(b"]")):
+        return None
+    return "edge", own, ends[0]
+
+
+def graph_of(text):
+    """The last name of each node of a graph and the ends of its edges, each with its line; or the number of the first bad line."""
+    lines = text.split(b"\n")
+    lines = lines if lines[-1] else lines[:-1]
+    names, edges = {}, []
+    if lines[:1] != [b"digraph ninja {"]:
+        return 1
+    for number, line in enumerate(lines[1:], 2):
+        if line == b"}":
+            return next((it for it, more in enumerate(lines[number:], number + 1) if more), (names, edges))
+        said = graph_line(line)
+        if said is None:
+            return number
+        if said[:1] == ("node",):
+            names[said[1]] = said[2]
+        elif said:
+            edges.append((*said[1:], number))
+    return len(lines) + 1
+
+
+def lines_of_cycles(edges):
+    """The lines of the edges from whose end a way leads back to where they begin."""
+    ways = collections.defaultdict(set)
+    for start, end, _ in edges:
+        ways[start].add(end)
+
+    def reached(start):
+        seen, left = {start}, [start]
+        while left:
+            more = ways[left.pop()] - seen
+            seen |= more
+            left += more
+        return seen
+
+    return [line for start, end, line in edges if start in reached(end)]
+
+
+def bad_graph_lines(text):
+    """The lines of a graph of which one is told as bad: the first bad one, or else those of cycles; none where the graph is read."""
+    graph = graph_of(text)
+    return [graph] if isinstance(graph, int) else lines_of_cycles(graph[1])
+
+
+def paths_of(graph, text, number=None, of_all=False, version=None):
+    """What `summary` may print of the critical path of a build by the text of a graph without a cycle: that of each path than which none is longer."""
+    builds = asked_builds(text, of_all, version)
+    builds = builds if number is None else builds[:number] if number <= len(builds) else []
+    if not builds:
+        return {b""}
+    ran = {name: (start, end) for start, end, _, names in jobs_of(builds[-1]) for name in names}
+    names, edges = graph_of(graph)
+    ways = collections.defaultdict(set)
+    for start, end, _ in edges:
+        ways[start].add(end)
+    found = {}
+
+    def longest(own):
+        """How long the longest paths from a node on are, and what is told of each of them."""
+        if own not in found:
+            start, end = ran.get(names.get(own), (0, 0))
+            time = max(0, end - start)
+            line = (b"on-path\t%d\t%d\t%d\t%s\n" % (time, start, end, names[own]),) if time else ()
+            later = [longest(it) for it in ways.get(own, ())] or [(0, {()})]
+            most = max(length for length, _ in later)
+            found[own] = time + most, {line + it for length, told in later if length == most for it in told}
+        return found[own]
+
+    all_found = [longest(it) for it in [*names, *(it for edge in edges for it in edge[:2])]] or [(0, {()})]
+    most = max(length for length, _ in all_found)
+    return {b"critical-path\t%d\n" % most + b"".join(it) for length, told in all_found if length == most for it in told}
 
 
 CLASSES = (b"new", b"gone", b"changed", b"slower", b"faster", b"unfinished", b"same")

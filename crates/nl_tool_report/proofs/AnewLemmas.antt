@@ -1,11 +1,10 @@
 -- When builds began by their entries, build by build.
-use Rattle.std.proofs.Common.{◌≡◌, ◌∙◌, Bool, true, false, List, [], ◌∷◌, ◌++◌, Option, None, Some, map, refl, sym, ap}
-use Rattle.std.specs.Prelude.{if◌then◌else◌}
+use Rattle.std.proofs.Common.{◌≡◌, ◌∙◌, Bool, true, false, List, [], ◌∷◌, ◌++◌, Option, None, map, refl, sym, ap}
 use Rattle.std.proofs.lemmas.List.Sums.{fold_push}
 use Rattle.nl_fields.specs.declared.entry.Entry.{Entry}
 use Rattle.nl_tool_report.specs.Anew.{joined, later_of, latest}
 use Rattle.nl_tool_report.specs.Clock.{origin_of}
-use Rattle.nl_tool_report.specs.Runs.{Run, added, items, longer, one}
+use Rattle.nl_tool_report.specs.Runs.{Run, added, items, longer}
 use Rattle.nl_tool_report.specs.declared.clock.Origin.{Origin}
 use Rattle.nl_tool_report.specs.declared.clock.Stamps.{Stamps}
 

@@ -1,13 +1,12 @@
 -- Whether the borders of builds are sure, entry by entry.
-use Rattle.std.proofs.Common.{◌≡◌, ◌∙◌, ℕ, ◌+◌, Bool, true, false, List, [], ◌∷◌, ◌++◌, Option, None, Some, length, length-append, refl, sym, ap, arith, append-nil}
+use Rattle.std.proofs.Common.{◌≡◌, ◌∙◌, ◌+◌, Bool, true, false, List, [], ◌∷◌, ◌++◌, Option, None, length, length-append, refl, sym, ap, arith}
 use Rattle.std.specs.Prelude.{if◌then◌else◌}
 use Rattle.std.specs.List.{fold}
 use Rattle.nl_fields.specs.declared.entry.Entry.{Entry}
 use Rattle.nl_tool_report.specs.Borders.{border_of, borders, borders_from, is_sure}
 use Rattle.nl_tool_report.specs.Builds.{builds, builds_from}
-use Rattle.nl_tool_report.specs.Clock.{begun, clock_of, going, is_border, is_border_by, new_clock, next, told_by}
-use Rattle.nl_tool_report.specs.Commands.{span_of}
-use Rattle.nl_tool_report.specs.Runs.{Run, added, longer, one}
+use Rattle.nl_tool_report.specs.Clock.{clock_of, is_border, is_border_by, new_clock, next, told_by}
+use Rattle.nl_tool_report.specs.Runs.{Run, added}
 use Rattle.nl_tool_report.specs.declared.clock.Clock.{Clock}
 use Rattle.nl_tool_report.specs.declared.clock.Stamps.{Stamps}
 use Rattle.nl_tool_report.specs.declared.span.Span.{Span}

@@ -1,7 +1,6 @@
 -- The numbers of a build, entry by entry, and the commands of all builds.
 use Rattle.std.proofs.Common.{◌≡◌, ◌∙◌, ℕ, ◌+◌, ◌<◌, ◌^◌, min, max, Bool, true, false, not, List, [], ◌∷◌, ◌++◌, length, map, None}
 use Rattle.std.proofs.Common.{refl, sym, ap, arith, append-nil, length-append}
-use Rattle.std.specs.Prelude.{if◌then◌else◌}
 use Rattle.std.specs.List.{flat_map, fold, sum_by}
 use Rattle.std.proofs.lemmas.Bool.Decides.{nat_tests}
 use Rattle.std.proofs.lemmas.List.{map-append}

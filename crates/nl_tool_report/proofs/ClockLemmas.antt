@@ -1,12 +1,12 @@
 -- Where builds begin, entry by entry.
-use Rattle.std.proofs.Common.{◌≡◌, ◌∙◌, ℕ, ◌+◌, ◌≤◌, ◌&&◌, ◌||◌, Bool, true, false, not, List, [], ◌∷◌, ◌++◌, Option, None, Some, length, length-append, pos, refl, sym, ap, subst, arith, append-nil, append_assoc}
+use Rattle.std.proofs.Common.{◌≡◌, ◌∙◌, ◌≤◌, ◌&&◌, ◌||◌, Bool, true, false, not, List, [], ◌∷◌, ◌++◌, Option, None, Some, length, pos, refl, sym, ap, arith, append-nil, append_assoc}
 use Rattle.std.specs.Prelude.{if◌then◌else◌, int_lt}
 use Rattle.std.specs.List.{fold}
 use Rattle.std.proofs.lemmas.List.{same_from_push}
-use Rattle.std.proofs.lemmas.List.Sums.{fold-append, fold_push}
+use Rattle.std.proofs.lemmas.List.Sums.{fold_push}
 use Rattle.nl_fields.specs.declared.entry.Entry.{Entry}
 use Rattle.nl_tool_report.specs.Runs.{Run, added, joined_runs, longer, one, placed, runs}
-use Rattle.nl_tool_report.specs.Clock.{begun, better_of, clock_of, going, if_behind, is_border, is_border_by, new_clock, next, origin_of, past_of, rises, told_by}
+use Rattle.nl_tool_report.specs.Clock.{begun, better_of, clock_of, going, if_behind, is_border, is_border_by, new_clock, next, past_of, rises, told_by}
 use Rattle.nl_tool_report.specs.Commands.{ends_before, falls_after, is_other_command, is_same_command, span_of}
 use Rattle.nl_tool_report.specs.Builds.{builds, builds_from}
 use Rattle.nl_tool_report.specs.declared.clock.Clock.{Clock}
@@ -15,7 +15,7 @@ use Rattle.nl_tool_report.specs.declared.clock.Past.{Past}
 use Rattle.nl_tool_report.specs.declared.clock.Stamps.{Stamps}
 use Rattle.nl_tool_report.specs.declared.clock.Stamps.TheVariants.{Unknown}
 use Rattle.nl_tool_report.specs.declared.span.Span.{Span}
-use Rattle.nl_tool_report.proofs.RunLemmas.{added-apart, added-behind, added-placed, added_ends, joined-added}
+use Rattle.nl_tool_report.proofs.RunLemmas.{added-behind, added-placed, added_ends, joined-added}
 
 -- ---- builds, entry by entry
 

@@ -1,10 +1,8 @@
 -- The first builds of a log, entry by entry.
 use Rattle.std.proofs.Common.{◌≡◌, ◌∙◌, ℕ, zero, suc, ◌+◌, ◌-◌, ◌<◌, ◌≤◌, Bool, true, false, List, [], ◌∷◌, ◌++◌, Some, append_assoc, length, take, length-append, arith, ap, refl, subst, sym, true≢false}
 use Rattle.std.specs.Prelude.{All}
-use Rattle.std.specs.List.{fold}
 use Rattle.std.proofs.lemmas.List.{take_all}
 use Rattle.std.proofs.lemmas.List.Elements.{All-head, All-nil, All-tail}
-use Rattle.std.proofs.lemmas.List.Sums.{fold-append}
 use lib.Seq.{take-append_seam}
 use Rattle.nl_fields.specs.declared.entry.Entry.{Entry}
 use Rattle.nl_fields.specs.EntryLine.{IsEntry, entry_of, line_of}

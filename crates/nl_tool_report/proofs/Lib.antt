@@ -12,11 +12,12 @@ mod LastBuildLemmas
 pub mod IntentLemmas
 pub mod FallingLemmas
 pub mod ListedLemmas
+mod DistinctLemmas
 mod SlowestLemmas
 mod KindLemmas
 mod KindSumLemmas
 mod SummaryLemmas
 mod FirstBuildLemmas
-mod EndingLemmas
+pub mod EndingLemmas
 mod CompareLemmas
 mod ClassLemmas

@@ -73,24 +73,24 @@ ratio_told n d e text some same is =
     other = elim (eqb_tells d 0) [ inl h ↦ absurd (some h.1) | inr h ↦ h.0 ]
 
 -- the line of what didn't end
-pub unfinished_told : (count : ℕ) (line : List ℕ) → (count ≡ 0 → ⊥) → line ≡ codes "unfinished " ++ decimal count ++ codes "\n"
+pub unfinished_told : (count : ℕ) (line : List ℕ) → (count ≡ 0 → ⊥) → line ≡ codes "unfinished\t" ++ decimal count ++ codes "\n"
     → line ≡ unfinished_line count
-unfinished_told count line some is = is ∙ sym (cond-false (count == 0) [] (codes "unfinished " ++ decimal count ++ codes "\n") other)
+unfinished_told count line some is = is ∙ sym (cond-false (count == 0) [] (codes "unfinished\t" ++ decimal count ++ codes "\n") other)
   where
     other : (count == 0) ≡ false
     other = elim (eqb_tells count 0) [ inl h ↦ absurd (some h.1) | inr h ↦ h.0 ]
 
 -- the line of the slowest command, part by part
 pub slowest_told : (old start name begun named all : List ℕ) (slowest : Option Entry) (first : Entry) (time : ℕ) → slowest ≡ Some first
-    → time ≡ time_of (span_of first) → name ≡ first.name → start ≡ codes "slowest " ++ decimal time ++ codes " "
+    → time ≡ time_of (span_of first) → name ≡ first.name → start ≡ codes "slowest\t" ++ decimal time ++ codes "\t"
     → begun ≡ old ++ start → named ≡ begun ++ name → all ≡ named ++ 10 ∷ [] → all ≡ old ++ slowest_line slowest
 slowest_told old start name begun named all slowest first time some time_is name_is start_is begun_is named_is all_is =
     all_is ∙ ap (λ (l : List ℕ). l ++ 10 ∷ []) (named_is ∙ ap (λ (l : List ℕ). l ++ name) begun_is)
     ∙ append_assoc (old ++ start) name (10 ∷ []) ∙ append_assoc old start (name ++ 10 ∷ [])
     ∙ ap (λ (l : List ℕ). old ++ l) (line ∙ ap slowest_line (sym some))
   where
-    parts : start ++ (name ++ 10 ∷ []) ≡ (codes "slowest " ++ decimal (time_of (span_of first)) ++ codes " ") ++ (first.name ++ 10 ∷ [])
-    parts = λ i. (start_is ∙ ap (λ (t : ℕ). codes "slowest " ++ decimal t ++ codes " ") time_is) i ++ (name_is i ++ 10 ∷ [])
+    parts : start ++ (name ++ 10 ∷ []) ≡ (codes "slowest\t" ++ decimal (time_of (span_of first)) ++ codes "\t") ++ (first.name ++ 10 ∷ [])
+    parts = λ i. (start_is ∙ ap (λ (t : ℕ). codes "slowest\t" ++ decimal t ++ codes "\t") time_is) i ++ (name_is i ++ 10 ∷ [])
 
     line : start ++ (name ++ 10 ∷ []) ≡ slowest_line (Some first)
     line = parts ∙ simp append_assoc

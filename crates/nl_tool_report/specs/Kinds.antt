@@ -76,8 +76,8 @@ kind_rank Time k = k.time
 kind_rank Weight k = k.weight
 
 abbrev pub kind_key : Rank → List ℕ
-kind_key Time = codes "kinds-by-time "
-kind_key Weight = codes "kinds-by-weight "
+kind_key Time = codes "kinds-by-time\t"
+kind_key Weight = codes "kinds-by-weight\t"
 
 -- how a kind is shown
 abbrev pub kind_name : List ℕ → List ℕ
@@ -86,7 +86,7 @@ kind_name (c ∷ cs) = c ∷ cs
 
 -- a line: a key, how many commands, their milliseconds, the weighted ones with two digits, rounded down, and the kind
 abbrev pub kind_line : Rank → KindTold → List ℕ
-kind_line rank k = kind_key rank ++ decimal k.commands ++ codes " " ++ decimal k.time ++ codes " " ++ ratio k.weight parts ++ codes " "
+kind_line rank k = kind_key rank ++ decimal k.commands ++ codes "\t" ++ decimal k.time ++ codes "\t" ++ ratio k.weight parts ++ codes "\t"
     ++ kind_name k.kind ++ codes "\n"
 
 -- the lines of so many kinds at most, the highest rank first

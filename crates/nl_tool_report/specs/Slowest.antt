@@ -48,12 +48,12 @@ rank_told Time t = t.time
 rank_told Weight t = t.weight
 
 abbrev pub rank_key : Rank → List ℕ
-rank_key Time = codes "by-time "
-rank_key Weight = codes "by-weight "
+rank_key Time = codes "by-time\t"
+rank_key Weight = codes "by-weight\t"
 
 -- a line: a key, the milliseconds, the weighted ones with two digits, rounded down, and the first output
 abbrev pub ranked_line : Rank → Told → List ℕ
-ranked_line rank t = rank_key rank ++ decimal t.time ++ codes " " ++ ratio t.weight parts ++ codes " " ++ t.output ++ codes "\n"
+ranked_line rank t = rank_key rank ++ decimal t.time ++ codes "\t" ++ ratio t.weight parts ++ codes "\t" ++ t.output ++ codes "\n"
 
 -- the lines of so many commands at most, the highest rank first
 abbrev pub ranked_lines : Rank → ℕ → List Told → List ℕ

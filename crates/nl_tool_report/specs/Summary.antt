@@ -21,9 +21,9 @@ use Rattle.nl_tool_report.specs.declared.scope.Scope.TheVariants.{Last, Numbered
 
 -- seven lines, each a key and a value
 abbrev pub told_lines : ℕ → ℕ → ℕ → ℕ → ℕ → ℕ → List ℕ → List ℕ
-told_lines commands outputs wall total busy alone parallel = codes "commands " ++ decimal commands ++ codes "\noutputs " ++ decimal outputs
-    ++ codes "\nwall " ++ decimal wall ++ codes "\ntotal " ++ decimal total ++ codes "\nbusy " ++ decimal busy
-    ++ codes "\nalone " ++ decimal alone ++ codes "\nparallel " ++ parallel ++ codes "\n"
+told_lines commands outputs wall total busy alone parallel = codes "commands\t" ++ decimal commands ++ codes "\noutputs\t" ++ decimal outputs
+    ++ codes "\nwall\t" ++ decimal wall ++ codes "\ntotal\t" ++ decimal total ++ codes "\nbusy\t" ++ decimal busy
+    ++ codes "\nalone\t" ++ decimal alone ++ codes "\nparallel\t" ++ parallel ++ codes "\n"
 
 -- of a build: its commands and outputs, the milliseconds from the first START to the last END, the sum of the commands' times, the
 -- milliseconds in which one command at least ran, and one alone, and how many ran at a time in the mean
@@ -33,7 +33,7 @@ summary_lines b busy alone = told_lines b.commands b.outputs (b.ended - b.began)
 -- the command that took the longest, by its milliseconds and its first output
 abbrev pub slowest_line : Option Entry → List ℕ
 slowest_line None = []
-slowest_line (Some e) = codes "slowest " ++ decimal (time_of (span_of e)) ++ codes " " ++ e.name ++ codes "\n"
+slowest_line (Some e) = codes "slowest\t" ++ decimal (time_of (span_of e)) ++ codes "\t" ++ e.name ++ codes "\n"
 
 -- the eight lines of a build
 abbrev pub build_summary : Run Entry → List ℕ
@@ -42,7 +42,7 @@ build_summary b = summary_lines (build_of b) (busy_time (spans_of (items b))) (a
 
 -- how many outputs wait for a command that didn't end, where one does
 abbrev pub unfinished_line : ℕ → List ℕ
-unfinished_line count = if count == 0 then [] else codes "unfinished " ++ decimal count ++ codes "\n"
+unfinished_line count = if count == 0 then [] else codes "unfinished\t" ++ decimal count ++ codes "\n"
 
 -- and behind these the lists of the slowest commands and of kinds
 abbrev pub build_told : Lists → ℕ → Run Entry → List ℕ
@@ -56,7 +56,7 @@ last_summary lists count (b ∷ c ∷ bs) = last_summary lists count (c ∷ bs)
 
 -- said where there are fewer builds than were asked for: how many there are
 abbrev pub fewer_line : ℕ → List ℕ
-fewer_line count = codes "builds " ++ decimal count ++ codes "\n"
+fewer_line count = codes "builds\t" ++ decimal count ++ codes "\n"
 
 -- that of the build of a number, from 1: of the last of so many first ones
 abbrev pub numbered_summary : ℕ → Lists → ℕ → List (Run Entry) → List ℕ

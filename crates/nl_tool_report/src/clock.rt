@@ -167,7 +167,10 @@ impl Clock {
         };
         match self.stamps {
             Stamps::Unknown | Stamps::OfEnd => Span::of(entry).falls_after(&last),
-            Stamps::OfStart => true,
+            Stamps::OfStart => {
+                Span::of(entry).falls_after(&last)
+                    || rises(last.ended, self.base, origin_of(Stamps::OfEnd, entry))
+            }
         }
     }
 

@@ -10,8 +10,8 @@ ghost use Rattle.nl_tool_report.specs.FirstBuilds.{AreFirst};
 use crate::clock::{Clock, Stamps};
 use crate::entry_text::split_line;
 
-// Of these lines of entries those of the first builds, so many of them, if there are.
-pub(crate) fn first_builds(stamps: Stamps, text: &[u8], number: u64) -> Option<&[u8]>
+/// Of these lines of entries those of the first builds, so many of them, if there are.
+pub fn first_builds(stamps: Stamps, text: &[u8], number: u64) -> Option<&[u8]>
     ensures none { (es : List Entry) → All IsEntry es → text.now ≡ lines_of_entries es → result ≡ None
         → length (builds stamps es) < number }
     ensures some { (es : List Entry) → All IsEntry es → text.now ≡ lines_of_entries es

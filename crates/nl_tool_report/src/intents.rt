@@ -13,7 +13,7 @@ use nl_table::Table;
 use std::alloc::{AllocError, Global};
 
 /// How many outputs have an intent for their last entry, where the text has the lines of all entries.
-pub(crate) fn unfinished_in(alloc: Global, text: &[u8]) -> Result<u64, AllocError>
+pub fn unfinished_in(alloc: Global, text: &[u8]) -> Result<u64, AllocError>
     ensures value { (es : List Entry) → All IsEntry es → text.now ≡ lines_of_entries es
         → IfOk result (λ count. count ≡ unfinished es) }
 {

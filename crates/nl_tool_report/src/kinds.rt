@@ -177,7 +177,7 @@ fn append_kind(
     } = row.sums;
     let key = kind_key_of(rank);
     let weighted = ratio(alloc, weight, PARTS)?;
-    let start = format!(in alloc; "{key}{commands} {time} {weighted} ")?;
+    let start = format!(in alloc; "{key}{commands}\t{time}\t{weighted}\t")?;
     lines.extend_from_slice(start.as_bytes())?;
     lines.extend_from_slice(name_of(row.kind))?;
     lines.push(b'\n')?;
@@ -189,8 +189,8 @@ fn kind_key_of(rank: Rank) -> &'static str
     ensures { result.now ≡ kind_key rank }
 {
     match rank {
-        Rank::Time => "kinds-by-time ",
-        Rank::Weight => "kinds-by-weight ",
+        Rank::Time => "kinds-by-time\t",
+        Rank::Weight => "kinds-by-weight\t",
     }
 }
 

@@ -12,7 +12,7 @@ ghost use Rattle.nl_tool_report.specs.Clock.{is_border};
 ghost use Rattle.nl_tool_report.specs.declared.clock.Clock.{Clock};
 ghost use Rattle.nl_tool_report.specs.declared.clock.Stamps.{Stamps};
 ghost use Rattle.nl_tool_report.specs.declared.clock.Stamps.TheVariants.{Unknown};
-ghost use Rattle.nl_table.specs.Table.{entry_names};
+ghost use Rattle.nl_table.specs.Table.{AreDistinct, IsTable, entry_names};
 ghost use Rattle.nl_tool_report.specs.Compare.{Compared, classes, compared, is_of, lacking, of_class};
 ghost use Rattle.nl_tool_report.specs.Kinds.{KindTold, kinds, named_kind, of_kind};
 ghost use Rattle.nl_tool_report.specs.LastBuild.{spans_of};
@@ -114,6 +114,12 @@ pub fn each_output_is_compared()
     ensures { (hashes : Bool) (old new : List Entry)
         → map (λ (c : Compared). c.output) (compared hashes old new)
         ≡ entry_names old ++ entry_names (lacking old new) }
+{}
+
+/// No output is compared twice, where each log has one entry for each of its outputs, as a table has.
+pub fn no_output_is_compared_twice()
+    ensures { (hashes : Bool) (old new : List Entry) → IsTable old → IsTable new
+        → AreDistinct (map (λ (c : Compared). c.output) (compared hashes old new)) }
 {}
 
 /// Each output is in one class; so the totals of all classes add up to those of all outputs, whatever is summed.

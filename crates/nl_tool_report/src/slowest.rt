@@ -124,7 +124,7 @@ fn append_row(
     } = row;
     let key = key_of(rank);
     let weighted = ratio(alloc, u128::from(*weight), PARTS)?;
-    let start = format!(in alloc; "{key}{time} {weighted} ")?;
+    let start = format!(in alloc; "{key}{time}\t{weighted}\t")?;
     lines.extend_from_slice(start.as_bytes())?;
     lines.extend_from_slice(output)?;
     lines.push(b'\n')?;
@@ -136,7 +136,7 @@ fn key_of(rank: Rank) -> &'static str
     ensures { result.now ≡ rank_key rank }
 {
     match rank {
-        Rank::Time => "by-time ",
-        Rank::Weight => "by-weight ",
+        Rank::Time => "by-time\t",
+        Rank::Weight => "by-weight\t",
     }
 }

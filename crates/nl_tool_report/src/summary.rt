@@ -70,8 +70,8 @@ pub fn summary_to<R: Read + Drop, W: Write>(
     write_out(lines.as_slice(), writer)
 }
 
-// Of these lines of entries those that are told of.
-fn told_lines(alloc: Global, scope: Scope, text: Vec<u8>) -> Result<Vec<u8>, AllocError>
+/// Of these lines of entries those that are told of.
+pub fn told_lines(alloc: Global, scope: Scope, text: Vec<u8>) -> Result<Vec<u8>, AllocError>
     ensures value { (es : List Entry) → All IsEntry es → text.items ≡ lines_of_entries es
         → IfOk result (λ told. told.items ≡ lines_of_entries (told_entries scope es)) }
 {
@@ -81,8 +81,8 @@ fn told_lines(alloc: Global, scope: Scope, text: Vec<u8>) -> Result<Vec<u8>, All
     }
 }
 
-// What MTIME tells of their builds.
-fn told_stamps(scope: Scope, stamps: Stamps) -> Stamps
+/// What MTIME tells of their builds.
+pub fn told_stamps(scope: Scope, stamps: Stamps) -> Stamps
     ensures { result ≡ told_stamps scope stamps }
 {
     match scope {
@@ -91,8 +91,8 @@ fn told_stamps(scope: Scope, stamps: Stamps) -> Stamps
     }
 }
 
-// What is told of the build that is asked for.
-fn asked_lines(
+/// What is told of the build that is asked for, where so many outputs wait for a command that didn't end.
+pub fn asked_lines(
     alloc: Global,
     scope: Scope,
     lists: Lists,
@@ -139,7 +139,7 @@ fn fewer_lines(
         (λ lines. lines.items ≡ fewer_line (length (builds stamps es)) ++ unfinished_line count) }
 {
     let so_many = builds_in(alloc, stamps, text)?.len();
-    let line = format!(in alloc; "builds {so_many}\n")?;
+    let line = format!(in alloc; "builds\t{so_many}\n")?;
     let mut lines = Vec::new(alloc);
     lines.extend_from_slice(line.as_bytes())?;
     append_unfinished(alloc, count, &mut lines)?;
@@ -186,7 +186,7 @@ fn append_unfinished(alloc: Global, count: u64, lines: &mut Vec<u8>) -> Result<(
     if count == 0 {
         return Ok(());
     }
-    let line = format!(in alloc; "unfinished {count}\n")?;
+    let line = format!(in alloc; "unfinished\t{count}\n")?;
     lines.extend_from_slice(line.as_bytes())?;
     Ok(())
 }
@@ -230,7 +230,7 @@ fn append_slowest(
         return Ok(());
     };
     let time = Span::of(&first.view()).time();
-    let start = format!(in alloc; "slowest {time} ")?;
+    let start = format!(in alloc; "slowest\t{time}\t")?;
     lines.extend_from_slice(start.as_bytes())?;
     lines.extend_from_slice(first.name.bytes())?;
     lines.push(b'\n')?;
@@ -250,7 +250,7 @@ fn summary_lines(alloc: Global, build: &Build, busy: u64, alone: u64) -> Result<
     let wall = ended.saturating_sub(*began);
     let parallel = ratio(alloc, *total, wall)?;
     let text = format!(in alloc;
-        "commands {commands}\noutputs {outputs}\nwall {wall}\ntotal {total}\nbusy {busy}\nalone {alone}\nparallel {parallel}\n"
+        "commands\t{commands}\noutputs\t{outputs}\nwall\t{wall}\ntotal\t{total}\nbusy\t{busy}\nalone\t{alone}\nparallel\t{parallel}\n"
     )?;
     let mut lines = Vec::new(alloc);
     lines.extend_from_slice(text.as_bytes())?;

@@ -1,9 +1,7 @@
-use Rattle.std.proofs.Common.{◌≡◌, ◌∙◌, ◌++◌, ◌∷◌, [], Bool, List, Option, Some, true, ap, sym}
+use Rattle.std.proofs.Common.{◌≡◌, ◌∙◌, true, ap, sym}
 use Rattle.std.proofs.lemmas.Result.{on_ok_weaker}
-use Rattle.nl_fields.specs.declared.entry.Entry.{Entry}
 use Rattle.nl_tool_report.specs.Anew.{joined}
 use Rattle.nl_tool_report.specs.Clock.{is_border, origin_of}
-use Rattle.nl_tool_report.specs.declared.clock.Origin.{Origin}
 use Rattle.nl_tool_report.proofs.AnewLemmas.{joined-begun}
 use Rattle.nl_tool_report.proofs.anew.take_line.Goals as goal
 

@@ -1,5 +1,3 @@
-use Rattle.std.proofs.Common.{List}
-use Rattle.nl_fields.specs.declared.entry.Entry.{Entry}
 use Rattle.nl_tool_report.proofs.BorderLemmas.{AreFound, found_more}
 use Rattle.nl_tool_report.proofs.TextLemmas.{passed_all, passed_line}
 use Rattle.nl_tool_report.proofs.borders.borders_in.Goals as goal

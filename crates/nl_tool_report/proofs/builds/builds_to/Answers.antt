@@ -1,4 +1,4 @@
-use Rattle.std.proofs.Common.{◌∙◌, ap}
+use Rattle.std.proofs.Common.{◌∙◌}
 use Rattle.nl_tool_print.proofs.VersionLemmas.{prints_text}
 use Rattle.nl_tool_report.specs.Builds.{IsReportAsRead, builds_text, lines_from}
 use Rattle.nl_tool_report.specs.Anew.{IsSaidAsRead, builds_anew}

@@ -1,4 +1,3 @@
-use Rattle.std.proofs.Common.{sym}
 use Rattle.nl_tool_report.proofs.BuildLemmas.{held_along, held_apart, held_first}
 use Rattle.nl_tool_report.proofs.builds.place.Goals as goal
 

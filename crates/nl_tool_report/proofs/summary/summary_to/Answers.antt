@@ -1,8 +1,8 @@
-use Rattle.std.proofs.Common.{◌∙◌, ℕ, ap}
+use Rattle.std.proofs.Common.{◌∙◌, ap}
 use Rattle.nl_tool_print.proofs.VersionLemmas.{prints_text}
 use Rattle.nl_tool_report.specs.Anew.{IsSaidAsRead, is_anew}
 use Rattle.nl_tool_report.specs.Builds.{IsReportAsRead, builds}
-use Rattle.nl_tool_report.specs.Summary.{asked_summary, summary_anew, summary_text, told_entries, told_stamps}
+use Rattle.nl_tool_report.specs.Summary.{asked_summary, summary_anew, summary_text, told_entries}
 use Rattle.nl_tool_report.specs.declared.clock.Stamps.{Stamps}
 use Rattle.nl_tool_report.proofs.EndingLemmas.{told_valid}
 use Rattle.nl_tool_report.proofs.TextLemmas.{report_told, said_told, said_written}
