@@ -1,10 +1,10 @@
 -- The kinds of commands, as they are found.
-use Rattle.std.proofs.Common.{◌≡◌, ◌∙◌, ℕ, ◌+◌, ◌<◌, Bor, List, [], ◌∷◌, ◌++◌, length, get_or, map, take, min, refl, sym, ap, arith}
+use Rattle.std.proofs.Common.{◌≡◌, ◌∙◌, ℕ, ◌+◌, ◌<◌, Bor, List, [], ◌∷◌, ◌++◌, length, get_or, map, take, min, refl, sym, ap}
 use Rattle.std.proofs.lemmas.List.{map-append, take_more}
 use Rattle.nl_tool_report.specs.KindSteps.{kind_rank_of, kind_row}
 use Rattle.nl_tool_report.specs.Kinds.{KindTold, kind_rank, kinds as kinds_by}
 use Rattle.nl_tool_report.specs.LastBuild.{named}
-use Rattle.nl_tool_report.specs.Slowest.{Told, falling, told_row}
+use Rattle.nl_tool_report.specs.Slowest.{falling, told_row}
 use Rattle.nl_tool_report.specs.declared.kind.KindRule.TheVariants.{Extension}
 use Rattle.nl_tool_report.specs.declared.kinds.KindRow.{KindRow}
 use Rattle.nl_tool_report.specs.declared.slowest.Rank.TheVariants.{Time}

@@ -1,6 +1,9 @@
 mod TextLemmas
 mod BarLemmas
 mod CurveLemmas
+mod PartLemmas
 mod MarkLemmas
 mod EscapeLemmas
 mod KindLemmas
+mod SizeLemmas
+mod LogLemmas

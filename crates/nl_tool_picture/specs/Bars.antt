@@ -26,7 +26,7 @@ more_outputs n = if n == 0 then [] else codes " and " ++ decimal n ++ codes " mo
 abbrev pub times_text : List ℕ → List ℕ → List ℕ
 times_text time start = codes "\n" ++ time ++ codes " s from " ++ start ++ codes " s</title></rect>\n"
 
--- a title: the outputs, and the times
+-- a title: the first output and how many more, and the times
 abbrev pub title : Frame → Job → List ℕ
 title f j = label (first_output j.outputs) ++ more_outputs (length j.outputs - 1)
     ++ times_text (seconds (time_of j.span)) (seconds (j.span.began - f.began))

@@ -26,7 +26,7 @@ shown name = escaped (utf8_lossy name)
 abbrev pub label : List ℕ → List ℕ
 label name = if nat_le (length (shown name)) 200 then shown name else shown (take 40 name) ++ codes ".."
 
--- a byte that is no control character and none of `<`, `>`, `"`; and one that isn't `&` either
+-- a byte that is no control character below 32 and none of `<`, `>`, `"`; and one that isn't `&` either
 abbrev pub IsQuiet : ℕ → Type 0
 IsQuiet c = (32 ≤ c) × ((c ≢ 60) × ((c ≢ 62) × (c ≢ 34)))
 

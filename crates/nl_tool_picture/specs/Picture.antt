@@ -43,12 +43,18 @@ abbrev pub legend_from : Frame → ℕ → List (List ℕ) → List ℕ
 legend_from f place [] = if nat_lt place 9 then [] else legend_line f place (codes "others")
 legend_from f place (k ∷ ks) = legend_line f place (kind_label k) ++ legend_from f (place + 1) ks
 
--- a picture by its parts: the beginning, the axis, the bars, those of short commands, the curve, the legend, the end
-abbrev pub parts : Frame → List (List ℕ) → List (Job × ℕ) → List Span → List ℕ
-parts f ks pairs cs = head f (length ks) (length cs) ++ ticks f 11 ++ flat_map (bar f ks) pairs
-    ++ joined_bars (flat_map (marks f ks) pairs) ++ curve f cs ++ legend_from f 0 ks ++ codes "</svg>\n"
+-- the bars: those of commands, and those of short ones together
+abbrev pub bars : Frame → List (List ℕ) → List (Job × ℕ) → List ℕ
+bars f ks pairs = flat_map (bar f ks) pairs ++ joined_bars (flat_map (marks f ks) pairs)
 
--- of commands in the order of START, each in its lane
+-- a picture by its parts: the beginning, the axis, the bars, the curve, the legend, the end
+abbrev pub parts : Frame → List (List ℕ) → List (Job × ℕ) → List Span → List ℕ
+parts f ks pairs cs = head f (length ks) (length cs) ++ ticks f 11 ++ bars f ks pairs ++ curve f cs ++ legend_from f 0 ks ++ codes "</svg>\n"
+
+-- of commands in the order of START, each in its lane: their bars, and all
+abbrev pub bars_of : List Job → List ℕ
+bars_of js = bars (frame_of (spans js) (lanes (spans js))) (kinds js) (zip js (lanes (spans js)))
+
 abbrev pub picture : List Job → List ℕ
 picture js = parts (frame_of (spans js) (lanes (spans js))) (kinds js) (zip js (lanes (spans js))) (spans js)
 

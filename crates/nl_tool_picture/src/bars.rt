@@ -1,6 +1,8 @@
 //! The bars of commands.
-ghost use Rattle.std.specs.Prelude.{◌≡◌, ◌<◌, ◌++◌, length, map, IfOk, OnOk};
+ghost use Rattle.std.specs.Prelude.{◌≡◌, ◌<◌, ◌++◌, length, map, IfErr, IfOk, OnErr, OnOk};
 ghost use Rattle.std.specs.List.{All, flat_map, zip};
+ghost use Rattle.nl_tool_print.specs.Output.{HoldsAllBut};
+ghost use Rattle.nl_tool_trace.specs.Pieces.{AppendsSomeOf, IsPieceFault};
 ghost use Rattle.nl_tool_report.specs.Commands.{IsEarly};
 ghost use Rattle.nl_tool_report.specs.LastBuild.{named};
 ghost use Rattle.nl_tool_trace.specs.Jobs.{job};
@@ -11,30 +13,59 @@ use crate::escape::{append, append_label};
 use crate::frame::{Frame, seconds};
 use crate::kinds::{first_output, place_of};
 use crate::marks::{Mark, append_rect};
-use nl_tool_trace::Command;
+use nl_tool_texts::ToolFault;
+use nl_tool_trace::{Command, write_full};
 use std::alloc::{AllocError, Global};
+use std::io::Write;
 
 // A narrower bar is none of its own.
 const NARROW: u64 = 5;
 
-/// Appends the bars of commands that have these lanes.
-pub(crate) fn append_bars(
+/// Writes the bars of commands that have these lanes behind what is held, and holds what is no piece yet.
+pub(crate) fn write_bars<W: Write>(
     alloc: Global,
     frame: &Frame,
     kinds: &[&[u8]],
     commands: &[Command<'_>],
     lanes: &[u64],
-    out: &mut Vec<u8>,
-) -> Result<(), AllocError>
+    held: &mut Vec<u8>,
+    writer: &mut W,
+) -> Result<(), ToolFault>
     requires early { All (λ k. IsEarly k.span) commands.now }
     requires lanes { length lanes.now ≡ length commands.now }
-    ensures items { OnOk result (out.new.items ≡ out.old.items
-        ++ flat_map (bar frame.now (named kinds.now)) (zip (map job commands.now) lanes.now)) }
+    ensures few { length held.old.items < 16384 → OnOk result (length held.new.items < 16384) }
+    ensures moved { OnOk result (HoldsAllBut (W.contents writer.old) (W.contents writer.new) (held.old.items
+        ++ flat_map (bar frame.now (named kinds.now)) (zip (map job commands.now) lanes.now)) held.new.items) }
+    ensures part { OnErr result
+        (AppendsSomeOf (W.contents writer.old) (W.contents writer.new) (held.old.items
+        ++ flat_map (bar frame.now (named kinds.now)) (zip (map job commands.now) lanes.now))) }
+    ensures faults { IfErr result IsPieceFault }
 {
     for i in 0..commands.len() {
-        append_bar(alloc, frame, kinds, &commands[i], lanes[i], out)?;
+        write_bar(alloc, frame, kinds, &commands[i], lanes[i], held, writer)?;
     }
     Ok(())
+}
+
+fn write_bar<W: Write>(
+    alloc: Global,
+    frame: &Frame,
+    kinds: &[&[u8]],
+    command: &Command<'_>,
+    lane: u64,
+    held: &mut Vec<u8>,
+    writer: &mut W,
+) -> Result<(), ToolFault>
+    requires early { IsEarly command.now.span }
+    ensures few { OnOk result (length held.new.items < 16384) }
+    ensures moved { OnOk result (HoldsAllBut (W.contents writer.old) (W.contents writer.new)
+        (held.old.items ++ bar frame.now (named kinds.now) (job command.now, lane)) held.new.items) }
+    ensures part { OnErr result (AppendsSomeOf (W.contents writer.old) (W.contents writer.new)
+        (held.old.items ++ bar frame.now (named kinds.now) (job command.now, lane))) }
+    ensures faults { IfErr result IsPieceFault }
+{
+    append_bar(alloc, frame, kinds, command, lane, held)?;
+    write_full(held, writer)
 }
 
 fn append_bar(

@@ -1,11 +1,16 @@
 //! Commands that are too short for a bar of their own.
-ghost use Rattle.std.specs.Prelude.{◌≡◌, ◌+◌, ◌<◌, ◌≤◌, ◌^◌, ◌∷◌, ◌++◌, IfOk, OnOk};
+ghost use Rattle.std.specs.Prelude.{◌≡◌, ◌+◌, ◌<◌, ◌≤◌, ◌^◌, ◌∷◌, ◌++◌, length, IfErr, IfOk, OnErr, OnOk};
+ghost use Rattle.nl_tool_print.specs.Output.{HoldsAllBut};
+ghost use Rattle.nl_tool_trace.specs.Pieces.{AppendsSomeOf, IsPieceFault};
 ghost use Rattle.nl_tool_report.specs.Slowest.{falling};
 ghost use Rattle.nl_tool_picture.specs.Bars.{is_alike, is_last, joined, joined_bar, joined_bars, rank_of, rect};
 
 use crate::escape::append;
 use crate::frame::y_at;
+use nl_tool_texts::ToolFault;
+use nl_tool_trace::write_full;
 use std::alloc::{AllocError, Global};
+use std::io::Write;
 
 /// Where a short command stands: its lane, the pixel, and the place of its kind.
 #[derive(Clone, Copy, Drop)]
@@ -23,16 +28,23 @@ impl Mark {
     }
 }
 
-/// Appends the bars of short commands, one for all of a lane, a pixel and a kind.
-pub(crate) fn append_joined_bars(
+/// Writes the bars of short commands behind what is held, one for all of a lane, a pixel and a kind, and holds what is no
+/// piece yet.
+pub(crate) fn write_joined_bars<W: Write>(
     alloc: Global,
     marks: Vec<Mark>,
-    out: &mut Vec<u8>,
-) -> Result<(), AllocError>
-    ensures items { OnOk result (out.new.items ≡ out.old.items ++ joined_bars marks.items) }
+    held: &mut Vec<u8>,
+    writer: &mut W,
+) -> Result<(), ToolFault>
+    ensures few { length held.old.items < 16384 → OnOk result (length held.new.items < 16384) }
+    ensures moved { OnOk result (HoldsAllBut (W.contents writer.old) (W.contents writer.new)
+        (held.old.items ++ joined_bars marks.items) held.new.items) }
+    ensures part { OnErr result (AppendsSomeOf (W.contents writer.old) (W.contents writer.new)
+        (held.old.items ++ joined_bars marks.items)) }
+    ensures faults { IfErr result IsPieceFault }
 {
     let sorted = falling(marks)?;
-    append_joined(alloc, sorted.as_slice(), out)
+    write_joined(alloc, sorted.as_slice(), held, writer)
 }
 
 fn falling(marks: Vec<Mark>) -> Result<Vec<Mark>, AllocError>
@@ -47,14 +59,47 @@ fn falling(marks: Vec<Mark>) -> Result<Vec<Mark>, AllocError>
     Ok(sorted)
 }
 
-fn append_joined(alloc: Global, marks: &[Mark], out: &mut Vec<u8>) -> Result<(), AllocError>
-    ensures items { OnOk result (out.new.items ≡ out.old.items ++ joined 0 marks.now) }
+fn write_joined<W: Write>(
+    alloc: Global,
+    marks: &[Mark],
+    held: &mut Vec<u8>,
+    writer: &mut W,
+) -> Result<(), ToolFault>
+    ensures few { length held.old.items < 16384 → OnOk result (length held.new.items < 16384) }
+    ensures moved { OnOk result (HoldsAllBut (W.contents writer.old) (W.contents writer.new)
+        (held.old.items ++ joined 0 marks.now) held.new.items) }
+    ensures part { OnErr result (AppendsSomeOf (W.contents writer.old) (W.contents writer.new)
+        (held.old.items ++ joined 0 marks.now)) }
+    ensures faults { IfErr result IsPieceFault }
 {
     let mut count: u64 = 0;
     for i in 0..marks.len() {
-        count = append_mark(alloc, count, &marks[i], &marks[i + 1..], out)?;
+        count = write_mark(alloc, count, &marks[i], &marks[i + 1..], held, writer)?;
     }
     Ok(())
+}
+
+// Answers how many alike stand before what follows a mark. If it is the last of these, it writes their bar.
+fn write_mark<W: Write>(
+    alloc: Global,
+    count: u64,
+    mark: &Mark,
+    rest: &[Mark],
+    held: &mut Vec<u8>,
+    writer: &mut W,
+) -> Result<u64, ToolFault>
+    requires few { count < 2 ^ 63 }
+    ensures few { OnOk result (length held.new.items < 16384) }
+    ensures count { IfOk result (λ now. now ≤ count + 1) }
+    ensures moved { IfOk result (λ now. HoldsAllBut (W.contents writer.old) (W.contents writer.new)
+        (held.old.items ++ joined count (mark.now ∷ rest.now)) (held.new.items ++ joined now rest.now)) }
+    ensures part { OnErr result (AppendsSomeOf (W.contents writer.old) (W.contents writer.new)
+        (held.old.items ++ joined count (mark.now ∷ rest.now))) }
+    ensures faults { IfErr result IsPieceFault }
+{
+    let now = append_mark(alloc, count, mark, rest, held)?;
+    write_full(held, writer)?;
+    Ok(now)
 }
 
 // How many alike stand before what follows a mark. If it is the last of these, it appends their bar.

@@ -21,7 +21,7 @@ use Rattle.nl_tool_report.proofs.FallingLemmas.{falling_moves}
 use Rattle.nl_tool_report.proofs.IntentLemmas.{recorded_valid}
 use Rattle.nl_tool_report.proofs.RunLemmas.{joined-runs}
 use Rattle.nl_tool_trace.specs.Events.{build_event, command_event, running_event}
-use Rattle.nl_tool_trace.specs.Jobs.{Job, by_start, job_of, jobs, last_in, lead}
+use Rattle.nl_tool_trace.specs.Jobs.{Job, by_start, job_of, jobs, last_in, last_jobs, lead}
 use Rattle.nl_tool_trace.specs.Lanes.{lanes}
 use Rattle.nl_tool_trace.specs.Reading.{IsEvent, NamesBuild, TellsCommand, TellsRunning}
 use Rattle.nl_tool_trace.specs.Trace.{events_of, job_events, last_events, spans, trace_events}
@@ -143,3 +143,54 @@ trace_fits stamps es valid few =
     let parts : joined_runs (builds stamps (recorded es)) ≡ recorded es = joined-builds stamps (recorded es) in
     last_fit (builds_anew stamps es) (builds stamps (recorded es)) (subst (All IsEntry) (sym parts) (recorded_valid es valid))
     (omega (arith, ap length parts, recorded_few es, few))
+
+-- ---- the commands of the last build of a log
+
+-- some commands: how many, when they ran, and how many outputs each has
+pub record JobsFit (js : List Job) : Type 0 where
+  pub few : length js < 2 ^ 63
+  pub early : All (λ (j : Job). IsEarly j.span) js
+  pub small : All (λ (j : Job). length j.outputs < 2 ^ 63) js
+
+jobs_small : (rs : List (Run Entry)) → length (joined_runs rs) < 2 ^ 63 → All (λ (j : Job). length j.outputs < 2 ^ 63) (map job_of rs)
+jobs_small [] few = λ k d within. absurd (omega (arith, within))
+jobs_small (r ∷ rs) few =
+    let both = length-append (items r) (joined_runs rs) in
+    All-cons (λ (j : Job). length j.outputs < 2 ^ 63) (job_of r) (map job_of rs)
+    (omega (arith, few, both, length-map (items r) (λ (e : Entry). e.name))) (jobs_small rs (omega (arith, few, both)))
+
+sorted_fit : (js : List Job) → JobsFit js → JobsFit (by_start js)
+sorted_fit js fit =
+    let moved = falling_moves lead js in
+    record {
+      few = omega (arith, fit.few, length_permutation js (by_start js) moved);
+      early = All-permutation (λ (j : Job). IsEarly j.span) js (by_start js) moved fit.early;
+      small = All-permutation (λ (j : Job). length j.outputs < 2 ^ 63) js (by_start js) moved fit.small;
+    }
+
+last_jobs_fit : (rs : List (Run Entry)) → All IsEntry (joined_runs rs) → length (joined_runs rs) < 2 ^ 63 → JobsFit (last_jobs rs)
+last_jobs_fit [] valid few = record {
+  few = omega arith;
+  early = λ k d within. absurd (omega (arith, within));
+  small = λ k d within. absurd (omega (arith, within));
+}
+last_jobs_fit (b ∷ rs) valid few =
+    let es = items (last_in b rs) in
+    let parts : joined_runs (commands es) ≡ es = joined-runs is_other_command es in
+    record {
+      few = omega (arith, length-map (commands es) job_of, runs_few (commands es), ap length parts, last_short b rs, few);
+      early = jobs_early (commands es) (subst (All IsEntry) (sym parts) (last_valid b rs valid));
+      small = jobs_small (commands es) (omega (arith, ap length parts, last_short b rs, few));
+    }
+
+pub jobs_told : (stamps : Stamps) (es : List Entry) → All IsEntry es → length es < 2 ^ 63
+    → JobsFit (by_start (last_jobs (builds stamps (recorded es))))
+jobs_told stamps es valid few =
+    let parts : joined_runs (builds stamps (recorded es)) ≡ recorded es = joined-builds stamps (recorded es) in
+    sorted_fit (last_jobs (builds stamps (recorded es))) (last_jobs_fit (builds stamps (recorded es))
+    (subst (All IsEntry) (sym parts) (recorded_valid es valid)) (omega (arith, ap length parts, recorded_few es, few)))
+
+pub lanes_few : (cs : List Span) → length cs < 2 ^ 63 → All (λ (l : ℕ). l < 2 ^ 63) (lanes cs)
+lanes_few cs few = λ k d within.
+    let there : k < length cs = omega (arith, within, lanes_length cs []) in
+    omega (arith, lane_below cs [] k there, get_or_default (lanes cs) k d 0 within, there, few)

@@ -1,8 +1,10 @@
+pub mod WritingLemmas
 pub mod LaneLemmas
+pub mod PieceLemmas
 mod LaneLawLemmas
 mod JobLemmas
 mod RunningLemmas
 mod TextLemmas
 mod EventLemmas
 mod ReadLemmas
-mod FitLemmas
+pub mod FitLemmas

@@ -1,14 +1,15 @@
 -- The text of a trace, event by event.
-use Rattle.std.proofs.Common.{◌≡◌, ◌∙◌, ℕ, Bool, ◌+◌, ◌<◌, ◌≤◌, false, List, [], ◌∷◌, ◌++◌, true, length, get_or, map, take, refl, sym, ap, arith, append_assoc, append-nil, length-append}
+use Rattle.std.proofs.Common.{◌≡◌, ◌∙◌, ℕ, Bool, ◌+◌, ◌<◌, ◌≤◌, false, List, [], ◌∷◌, ◌++◌, true, length, get_or, map, drop, Option, refl, sym, ap, arith, append_assoc, append-nil, length-append}
 use Rattle.std.specs.List.{flat_map, zip}
 use Rattle.std.proofs.lemmas.Grind.{flat_map-append}
-use Rattle.std.proofs.lemmas.List.{get_or-map, length-map, take_all, take_more}
+use Rattle.std.proofs.lemmas.List.{length-map}
 use Rattle.std.proofs.lemmas.Simd.{map-map}
-use Rattle.std.proofs.lemmas.Slice.Zip.{get_or-zip, length-zip}
 use Rattle.serde_json.specs.Data.{Data}
 use Rattle.serde_json.specs.View.{items_of}
 use Rattle.serde_json.specs.Written.{compact_text, has_float, items_have_float, items_text}
 use Rattle.nl_fields.specs.declared.entry.Entry.{Entry}
+use Rattle.nl_tool_texts.specs.Output.{AppendsPrefixOf}
+use Rattle.nl_tool_trace.proofs.WritingLemmas.{all_held, is_part}
 use Rattle.nl_tool_report.specs.Runs.{Run}
 use Rattle.nl_tool_report.specs.Builds.{build_of}
 use Rattle.nl_tool_report.specs.declared.builds.Build.{Build}
@@ -18,7 +19,8 @@ use Rattle.nl_tool_trace.specs.Jobs.{Job, by_start, job, last_in, last_jobs}
 use Rattle.nl_tool_trace.specs.declared.commands.Command.{Command}
 use Rattle.nl_tool_trace.specs.Lanes.{lanes}
 use Rattle.nl_tool_trace.specs.Trace.{array_text, event_text, events_of, job_events, last_events, spans}
-use Rattle.nl_tool_trace.specs.TraceSteps.{behind_commas, told_to}
+use Rattle.nl_tool_trace.proofs.PieceLemmas.{pair_next, pairs_over}
+use Rattle.nl_tool_trace.specs.TraceSteps.{behind_commas, told_from}
 
 -- ---- no event has a float
 
@@ -60,33 +62,35 @@ three_more old first second new a b c one two three =
     ∙ append_assoc (old ++ a) b c ∙ append_assoc old a (b ++ c)
     ∙ ap (λ (l : List ℕ). old ++ (a ++ (b ++ l))) (sym (append-nil c))
 
--- ---- the events of one command more
+-- it isn't empty, so nothing of it is a part
+array_some : (ds : List Data) → 0 < length (array_text ds)
+array_some [] = omega (arith, ap length (sym none_is))
+array_some (d ∷ ds) = omega (arith, ap length (array_is d ds), length-append ((91 ∷ event_text d) ++ behind_commas ds) (93 ∷ []))
 
-pub told_more : (build began : ℕ) (js : List Job) (found : List ℕ) (i lane : ℕ) (j : Job) (front old new : List ℕ) → i < length js → i < length found
-    → get_or js i j ≡ j → get_or found i lane ≡ lane → old ≡ front ++ told_to build began js found i
-    → new ≡ old ++ behind_commas (events_of build began (spans js) (j, lane)) → new ≡ front ++ told_to build began js found (i + 1)
-told_more build began js found i lane j front old new there lane_there job_is lane_is before more =
-    let events = events_of build began (spans js) in
-    let both = zip js found in
-    let place : get_or both i (j, lane) ≡ (j, lane) = get_or-zip js found i (j, lane) there lane_there ∙ (λ k. (job_is k, lane_is k)) in
-    let within : i < length both = omega (arith, there, lane_there, length-zip js found) in
-    let grown : flat_map events (take (i + 1) both) ≡ flat_map events (take i both) ++ events (j, lane) =
-    ap (flat_map events) (take_more both i (j, lane) within) ∙ flat_map-append events (take i both) (get_or both i (j, lane) ∷ [])
-    ∙ ap (λ (l : List Data). flat_map events (take i both) ++ l) (append-nil (events (get_or both i (j, lane))) ∙ ap events place) in
-    more ∙ ap (λ (l : List ℕ). l ++ behind_commas (events (j, lane))) before
-    ∙ append_assoc front (told_to build began js found i) (behind_commas (events (j, lane)))
-    ∙ ap (λ (l : List ℕ). front ++ l) (sym (ap behind_commas grown
-    ∙ flat_map-append (λ (d : Data). 44 ∷ event_text d) (flat_map events (take i both)) (events (j, lane))))
+pub none_written : (known : Option (List ℕ)) (ds : List Data) → AppendsPrefixOf known known (array_text ds)
+none_written known ds = is_part known known (array_text ds) (array_text ds) (array_some ds) (all_held known (array_text ds))
 
--- all of them
-pub told_all : (build : ℕ) (anew : Bool) (began : ℕ) (js : List Job) (found : List ℕ) (i : ℕ) → found ≡ lanes (spans js) → length js ≤ i
-    → ((91 ∷ event_text (build_event build anew)) ++ told_to build began js found i) ++ 93 ∷ []
-    ≡ array_text (build_event build anew ∷ job_events build began js)
-told_all build anew began js found i is all =
-    let long : length (zip js found) ≤ i = omega (arith, all, length-zip js found) in
+-- ---- the events of the commands from one on
+
+pub told_next : (build began : ℕ) (ks : List Command) (found : List ℕ) (i lane : ℕ) (k : Command) → i < length ks → i < length found
+    → k ≡ get_or ks i k → lane ≡ get_or found i lane
+    → told_from build began (map job ks) found i
+    ≡ behind_commas (events_of build began (spans (map job ks)) (job k, lane)) ++ told_from build began (map job ks) found (i + 1)
+told_next build began ks found i lane k there lane_there is lane_is =
+    let events = events_of build began (spans (map job ks)) in
+    ap behind_commas (pair_next events ks found i lane k there lane_there is lane_is)
+    ∙ flat_map-append (λ (d : Data). 44 ∷ event_text d) (events (job k, lane)) (flat_map events (drop (i + 1) (zip (map job ks) found)))
+
+pub told_over : (build began : ℕ) (ks : List Command) (found : List ℕ) (i : ℕ) → length ks ≤ i → told_from build began (map job ks) found i ≡ []
+told_over build began ks found i all = ap behind_commas (pairs_over (events_of build began (spans (map job ks))) ks found i all)
+
+-- an array by its beginning, the events of all commands, and its end
+pub told_all : (build : ℕ) (anew : Bool) (began : ℕ) (js : List Job) (found start : List ℕ) → found ≡ lanes (spans js)
+    → start ≡ 91 ∷ event_text (build_event build anew)
+    → (start ++ told_from build began js found 0) ++ 93 ∷ [] ≡ array_text (build_event build anew ∷ job_events build began js)
+told_all build anew began js found start is begins =
     let events = events_of build began (spans js) in
-    ap (λ (l : List (Job × ℕ)). ((91 ∷ event_text (build_event build anew)) ++ behind_commas (flat_map events l)) ++ 93 ∷ []) (take_all i (zip js found) long)
-    ∙ ap (λ (l : List ℕ). ((91 ∷ event_text (build_event build anew)) ++ behind_commas (flat_map events (zip js l))) ++ 93 ∷ []) is
+    (λ n. (begins n ++ behind_commas (flat_map events (zip js (is n)))) ++ 93 ∷ [])
     ∙ sym (array_is (build_event build anew) (job_events build began js))
 
 -- ---- the last build
@@ -110,15 +114,6 @@ none_told anew (r ∷ rs) none = absurd (omega (arith, none))
 
 pub jobs_length : (ks : List Command) → length (spans (map job ks)) ≡ length ks
 jobs_length ks = length-map (map job ks) (λ (j : Job). j.span) ∙ length-map ks job
-
--- the same of commands as they are held
-pub told_step : (build began : ℕ) (ks : List Command) (found : List ℕ) (i lane : ℕ) (k : Command) (front old new : List ℕ) → i < length ks
-    → i < length found → k ≡ get_or ks i k → lane ≡ get_or found i lane → old ≡ front ++ told_to build began (map job ks) found i
-    → new ≡ old ++ behind_commas (events_of build began (spans (map job ks)) (job k, lane))
-    → new ≡ front ++ told_to build began (map job ks) found (i + 1)
-told_step build began ks found i lane k front old new there lane_there is lane_is before more =
-    told_more build began (map job ks) found i lane (job k) front old new (omega (arith, there, length-map ks job)) lane_there
-    (get_or-map job ks i k (job k) there ∙ ap job (sym is)) (sym lane_is) before more
 
 pub spans_same : (ks : List Command) → map (λ k. k.span) ks ≡ spans (map job ks)
 spans_same ks = sym (map-map (λ (j : Job). j.span) job ks)

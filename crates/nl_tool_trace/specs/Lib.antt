@@ -1,3 +1,4 @@
+pub mod Pieces
 pub mod Lanes
 pub mod Running
 pub mod Jobs

@@ -21,7 +21,8 @@ pub fn no_lane_holds_two_at_once()
 {}
 
 /// A command gets a new lane only if so many others run as it begins: its lane's number is at most that of the commands
-/// before it that run then. So no other choice of lanes has fewer.
+/// before it that run then. So no other choice of lanes has fewer, but for a command that
+/// took no time: it runs at no moment, and may take one lane more.
 pub fn lanes_are_few()
     ensures { (cs : List Span) (i : ℕ) (d : Span) → Begin cs → i < length cs → slice_index (lanes cs) i
         ≤ count_by (runs_at (slice_index_or cs i d).began) (take i cs) }

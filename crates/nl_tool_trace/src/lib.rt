@@ -5,10 +5,12 @@ mod commands;
 mod events;
 mod lanes;
 pub mod laws;
+mod pieces;
 mod running;
 mod trace;
 
 pub use commands::{Command, last_commands};
 pub use lanes::lanes_of;
+pub use pieces::write_full;
 pub use running::Moments;
 pub use trace::trace_to;

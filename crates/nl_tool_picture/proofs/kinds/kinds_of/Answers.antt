@@ -1,4 +1,4 @@
-use Rattle.std.proofs.Common.{◌≡◌, ◌∙◌, List, ap, map}
+use Rattle.std.proofs.Common.{◌∙◌, List, ap, map}
 use Rattle.std.proofs.lemmas.Result.{IfOk-weaker}
 use Rattle.nl_tool_report.specs.KindSteps.{kind_rank_of, kind_row}
 use Rattle.nl_tool_report.specs.Kinds.{kinds as kinds_by}

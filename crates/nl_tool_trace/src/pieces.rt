@@ -1,0 +1,29 @@
+//! A text that is written piece by piece, as it is made.
+ghost use Rattle.std.specs.Prelude.{◌≡◌, ◌<◌, length, IfErr, OnErr, OnOk};
+ghost use Rattle.nl_tool_print.specs.Output.{HoldsAllBut};
+ghost use Rattle.nl_tool_texts.specs.Output.{AppendsPrefixOf};
+ghost use Rattle.nl_tool_texts.specs.declared.fault.ToolFault.{ToolFault};
+
+use nl_tool_texts::{ToolFault, write_out};
+use std::io::Write;
+
+// So many bytes are a piece.
+const FULL: usize = 16_384;
+
+/// Writes what is held, if that is a piece or more.
+pub fn write_full<W: Write>(held: &mut Vec<u8>, writer: &mut W) -> Result<(), ToolFault>
+    ensures waits { length held.old.items < 16384 → held.new.items ≡ held.old.items }
+    ensures few { OnOk result (length held.new.items < 16384) }
+    ensures moved { OnOk result (HoldsAllBut (W.contents writer.old)
+        (W.contents writer.new) held.old.items held.new.items) }
+    ensures prefix { OnErr result
+        (AppendsPrefixOf (W.contents writer.old) (W.contents writer.new) held.old.items) }
+    ensures faults { IfErr result (λ e. e ≡ ToolFault.Write) }
+{
+    if held.len() < FULL {
+        return Ok(());
+    }
+    write_out(held.as_slice(), writer)?;
+    held.clear();
+    Ok(())
+}
