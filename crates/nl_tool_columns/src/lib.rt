@@ -1,0 +1,7 @@
+//! A text whose fields tabs part, in columns for a reader at a terminal.
+#![tactic(auto)]
+
+mod columns;
+pub mod laws;
+
+pub use columns::{Column, columns_to, in_columns};
