@@ -1,0 +1,4 @@
+mod PathLemmas
+mod WeightLemmas
+mod LineLemmas
+mod CriticalLemmas

@@ -1,0 +1,12 @@
+pub mod GraphLine
+pub mod Steps
+pub mod Paths
+pub mod Cycles
+pub mod Bounds
+pub mod Seen
+pub mod GraphText
+pub mod Weights
+pub mod Held
+pub mod Shown
+pub mod Critical
+pub mod Asked
