@@ -78,7 +78,7 @@ fi
 # Those that take the longest begin first.
 parts < <(
     printf 'python3 tests/%s.py\n' library growths refusals
-    for trial in stops crash_states large system_calls short_writes fuzz commands apply apply_calls begun_builds scripts limits clib manual damaged closed_streams real_disks full_disk two_writers between reports release with_ninja; do
+    for trial in stops crash_states large terminal system_calls short_writes fuzz commands apply apply_calls begun_builds scripts limits clib manual damaged closed_streams real_disks full_disk two_writers between reports release with_ninja; do
         echo "python3 tests/$trial.py crates/nlog/out/nlog"
     done
 )

@@ -36,6 +36,13 @@ _nlog() {
                 mapfile -t COMPREPLY < <(compgen -W 'extension folder top' -- "$word")
                 return
             fi
+        elif [[ ! $dashes && ${COMP_WORDS[1]} == summary && ${COMP_WORDS[at]} == --graph ]]; then
+            [[ ${COMP_WORDS[at + 1]} == '=' ]] && at=$((at + 1))
+            if ((++at >= COMP_CWORD)); then
+                compopt -o filenames 2> /dev/null
+                mapfile -t COMPREPLY < <(compgen -f -- "$word")
+                return
+            fi
         elif [[ ! $dashes && ${COMP_WORDS[1]} =~ ^(summary|compare)$ && ${COMP_WORDS[at]} =~ ^(--build|--lines|-n)$ ]]; then
             [[ ${COMP_WORDS[at + 1]} == '=' ]] && at=$((at + 1))
             ((++at >= COMP_CWORD)) && return
@@ -46,9 +53,10 @@ _nlog() {
     if [[ ! $dashes && $word == -* ]]; then
         case ${COMP_WORDS[1]} in
             replay) mapfile -t COMPREPLY < <(compgen -W '--verbose -v --help -h' -- "$word") ;;
-            entries | damage | builds | trace | picture | repair) mapfile -t COMPREPLY < <(compgen -W '--log-version --missing-ok --verbose -v --help -h' -- "$word") ;;
-            summary) mapfile -t COMPREPLY < <(compgen -W '--log-version --missing-ok --build --all --kind --lines -n --verbose -v --help -h' -- "$word") ;;
-            compare) mapfile -t COMPREPLY < <(compgen -W '--log-version --missing-ok --lines -n --verbose -v --help -h' -- "$word") ;;
+            builds) mapfile -t COMPREPLY < <(compgen -W '--log-version --missing-ok --tabs --verbose -v --help -h' -- "$word") ;;
+            entries | damage | trace | picture | repair) mapfile -t COMPREPLY < <(compgen -W '--log-version --missing-ok --verbose -v --help -h' -- "$word") ;;
+            summary) mapfile -t COMPREPLY < <(compgen -W '--log-version --missing-ok --build --all --kind --lines -n --graph --tabs --verbose -v --help -h' -- "$word") ;;
+            compare) mapfile -t COMPREPLY < <(compgen -W '--log-version --missing-ok --lines -n --tabs --verbose -v --help -h' -- "$word") ;;
             recompact) mapfile -t COMPREPLY < <(compgen -W '--log-version --manifest --verbose -v --help -h' -- "$word") ;;
             restat) mapfile -t COMPREPLY < <(compgen -W '--log-version --files --verbose -v --help -h' -- "$word") ;;
             *) mapfile -t COMPREPLY < <(compgen -W '--log-version --verbose -v --help -h' -- "$word") ;;

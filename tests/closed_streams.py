@@ -65,6 +65,9 @@ ROWS = [
     (["summary", "--build", "0", "LOG"], TORN, ROOMY, None, TORN),
     (["summary", "--all", "LOG"], TORN, ROOMY, None, TORN),
     (["summary", "--kind", "top", "LOG"], TORN, ROOMY, None, TORN),
+    (["summary", "--graph", "GRAPH", "LOG"], TORN, ROOMY, None, TORN),
+    (["summary", "--graph", "LOG", "LOG"], TORN, ROOMY, None, TORN),
+    (["summary", "--graph", "GRAPH", "LOG"], NO_LOG, ROOMY, None, NO_LOG),
     (["compare", "LOG", "LOG"], TORN, ROOMY, None, TORN),
     (["compare", "LOG", "LOG"], NO_LOG, ROOMY, None, NO_LOG),
     (["compare", "LOG", "MISSING"], TORN, ROOMY, None, TORN),
@@ -79,7 +82,7 @@ ROWS = [
     (["apply", "LOG", "ASKS"], TORN, ROOMY, None, LOG),
     (["apply", "LOG", "ASKS"], NO_LOG, ROOMY, None, NO_LOG),
 ]
-FILES = {"ASKS": b"open\nget\ta\nbad\ntable\nsync\n", "KEEP": b"b\n", "BAD": b"a\tb\n", "TIMES": b"7\ta\n", "NEGATIVE": b"-7\ta\n"}
+FILES = {"ASKS": b"open\nget\ta\nbad\ntable\nsync\n", "KEEP": b"b\n", "BAD": b"a\tb\n", "TIMES": b"7\ta\n", "NEGATIVE": b"-7\ta\n", "GRAPH": b"digraph ninja {\n}\n"}
 
 
 def fill(room, log):

@@ -202,22 +202,22 @@ FOUR, FOUR_SHOWN = b"# ninja log v4\n1\t2\t3\ta\tcc\tx\n", b"1\t2\t3\ta\t72274e7
 # Each has one command of one output, which took 1 ms.
 FILE_BUILT = INPUT_BUILT = FOUR_BUILT = NEW_BUILT = b"1\t1\t1\t1\t1\tsure\n"
 BAD_NUMBER = b"nlog: bad number\n"
-ONE_COUNTED = b"commands 1\noutputs 1\nwall 1\ntotal 1\nbusy 1\nalone 1\nparallel 1.00\nslowest 1 %b\n"
+ONE_COUNTED = b"commands\t1\noutputs\t1\nwall\t1\ntotal\t1\nbusy\t1\nalone\t1\nparallel\t1.00\nslowest\t1\t%b\n"
 # What `compare` prints but for its lists: whether hashes were compared, and of each class the count, the difference and both times.
 COMPARED = b"hashes\t%bcompared\n" + b"".join(b"total\t%b\t%%b\n" % it for it in (b"new", b"gone", b"changed", b"slower", b"faster", b"unfinished", b"same"))
 NONE = b"0\t0\t0\t0"
-ONE_SUMMED = ONE_COUNTED + b"by-time 1 1.00 %b\nby-weight 1 1.00 %b\nkinds-by-time 1 1 1.00 (none)\nkinds-by-weight 1 1 1.00 (none)\n"
+ONE_SUMMED = ONE_COUNTED + b"by-time\t1\t1.00\t%b\nby-weight\t1\t1.00\t%b\nkinds-by-time\t1\t1\t1.00\t(none)\nkinds-by-weight\t1\t1\t1.00\t(none)\n"
 # Three commands, one after another, and what `summary` prints of them: of 1 ms, 2 ms and 4 ms, in folders of each depth.
 NESTED = b"# ninja log v7\n0\t1\t1\ta.o\t1\n1\t3\t1\tlib/b.o\t2\n3\t7\t1\tlib/x/c\t3\n"
 KINDS_COUNTED = (
-    b"commands 3\noutputs 3\nwall 7\ntotal 7\nbusy 7\nalone 7\nparallel 1.00\nslowest 4 lib/x/c\n"
-    b"by-time 4 4.00 lib/x/c\nby-time 2 2.00 lib/b.o\nby-time 1 1.00 a.o\n"
-    b"by-weight 4 4.00 lib/x/c\nby-weight 2 2.00 lib/b.o\nby-weight 1 1.00 a.o\n"
+    b"commands\t3\noutputs\t3\nwall\t7\ntotal\t7\nbusy\t7\nalone\t7\nparallel\t1.00\nslowest\t4\tlib/x/c\n"
+    b"by-time\t4\t4.00\tlib/x/c\nby-time\t2\t2.00\tlib/b.o\nby-time\t1\t1.00\ta.o\n"
+    b"by-weight\t4\t4.00\tlib/x/c\nby-weight\t2\t2.00\tlib/b.o\nby-weight\t1\t1.00\ta.o\n"
 )
 KINDS_RANKED = {
-    "extension": b"".join(b"kinds-by-%b 1 4 4.00 (none)\nkinds-by-%b 2 3 3.00 .o\n" % (it, it) for it in (b"time", b"weight")),
-    "folder": b"".join(b"kinds-by-%b 1 4 4.00 lib/x/\nkinds-by-%b 1 2 2.00 lib/\nkinds-by-%b 1 1 1.00 (none)\n" % (it, it, it) for it in (b"time", b"weight")),
-    "top": b"".join(b"kinds-by-%b 2 6 6.00 lib/\nkinds-by-%b 1 1 1.00 (none)\n" % (it, it) for it in (b"time", b"weight")),
+    "extension": b"".join(b"kinds-by-%b\t1\t4\t4.00\t(none)\nkinds-by-%b\t2\t3\t3.00\t.o\n" % (it, it) for it in (b"time", b"weight")),
+    "folder": b"".join(b"kinds-by-%b\t1\t4\t4.00\tlib/x/\nkinds-by-%b\t1\t2\t2.00\tlib/\nkinds-by-%b\t1\t1\t1.00\t(none)\n" % (it, it, it) for it in (b"time", b"weight")),
+    "top": b"".join(b"kinds-by-%b\t2\t6\t6.00\tlib/\nkinds-by-%b\t1\t1\t1.00\t(none)\n" % (it, it) for it in (b"time", b"weight")),
 }
 # It begins 0 ms behind the first START, and nothing runs once it has ended.
 ONE_TRACED = (
@@ -321,6 +321,8 @@ NO_MISSING = NO_OPTION.replace(b"--log-version", b"--missing-ok")
 TWO_BUILDS = TWO_VERSIONS.replace(b"--log-version <VERSION>", b"--build <BUILD>").replace(b"nlog show", b"nlog summary")
 TWO_KINDS = TWO_VERSIONS.replace(b"--log-version <VERSION>", b"--kind <RULE>").replace(b"nlog show", b"nlog summary")
 NO_KIND = b"error: invalid value '%b' for '--kind <RULE>': it is extension, folder or top\n\nUsage: nlog [COMMAND]\n" + MORE
+TWO_GRAPHS = TWO_BUILDS.replace(b"--build <BUILD>", b"--graph <FILE>")
+NO_GRAPH = NO_VERSION.replace(b"--log-version <VERSION>", b"--graph <FILE>")
 TWO_SCOPES = b"error: the argument '--build <BUILD>' cannot be used with '--all'\n\nUsage: nlog [COMMAND]\n" + MORE
 TWO_MISSING = TWO_VERSIONS.replace(b"--log-version <VERSION>", b"--missing-ok").replace(b"nlog show", b"nlog entries")
 # What a log that is missing was, with `--verbose`.
@@ -406,9 +408,9 @@ WORDS = [
     (["summary", "missing"], 1, b"", CANNOT_READ),
     (["summary", "--missing-ok", "missing"], 0, b"", b""),
     (["summary", "--build", "1", "file"], 0, ONE_SUMMED % ((b"file",) * 3), b""),
-    (["summary", "--build=2", "file"], 0, b"builds 1\n", b""),
-    (["summary", "file", "-n0", "--build", "9223372036854775807"], 0, b"builds 1\n", b""),
-    (["summary", "--missing-ok", "missing", "--build", "1"], 0, b"builds 0\n", b""),
+    (["summary", "--build=2", "file"], 0, b"builds\t1\n", b""),
+    (["summary", "file", "-n0", "--build", "9223372036854775807"], 0, b"builds\t1\n", b""),
+    (["summary", "--missing-ok", "missing", "--build", "1"], 0, b"builds\t0\n", b""),
     (["summary", "--all", "file"], 0, ONE_SUMMED % ((b"file",) * 3), b""),
     (["summary", "file", "--all", "-n", "0"], 0, ONE_COUNTED % b"file", b""),
     (["summary", "--missing-ok", "missing", "--all"], 0, b"", b""),
@@ -429,6 +431,17 @@ WORDS = [
     (["summary", "--build", "9223372036854775808"], 1, b"", BAD_NUMBER),
     *[(["summary", f"--build={number}"], 1, b"", BAD_NUMBER) for number in ("0", "-1", "01", "+1", "", "x", "last")],
     (["summary", "--missing-ok", "-n", "0", "file"], 0, ONE_COUNTED % b"file", b""),
+    # The numbers are looked at first, then the graph, then LOG. No graph is taken from standard input.
+    (["summary", "--graph"], 2, b"", NO_GRAPH),
+    (["summary", "--graph", "file", "--graph=file"], 2, b"", TWO_GRAPHS),
+    (["summary", "--graph", "missing", "missing"], 1, b"", CANNOT_READ),
+    (["summary", "--graph=", "file"], 1, b"", CANNOT_READ),
+    (["summary", "--graph", "-", "file"], 1, b"", CANNOT_READ),
+    (["summary", "--graph", "folder", "--missing-ok", "missing"], 1, b"", CANNOT_READ),
+    (["summary", "--graph", "file", "missing"], 1, b"", b"nlog: bad line 1\n"),
+    (["summary", "--graph", "missing", "-n", "x", "file"], 1, b"", BAD_NUMBER),
+    (["summary", "--graph", "missing", "--build=0", "file"], 1, b"", BAD_NUMBER),
+    (["summary", "--all", "--build", "1", "--graph", "missing"], 2, b"", TWO_SCOPES),
     (["summary", "folder"], 1, b"", CANNOT_READ),
     (["compare", "file", "missing"], 1, b"", CANNOT_READ),
     (["compare", "missing", "file"], 1, b"", CANNOT_READ),
@@ -703,6 +716,10 @@ WORDS = [
     (["summary", "-v", "--lines=-1", "seven"], 1, b"", b"nlog: bad number\nnlog: N -1: it is less than 0\n"),
     (["summary", "-v", "--lines=-0", "seven"], 1, b"", b"nlog: bad number\nnlog: N -0: a number has no zero in front\n"),
     (["summary", "-v", "-n", "9223372036854775808", "seven"], 1, b"", b"nlog: bad number\nnlog: N 9223372036854775808: it isn't a number of 64 bits\n"),
+    (["summary", "-v", "--graph", "missing", "folder"], 1, b"", CANNOT_READ + b"nlog: FILE missing: " + NO_FILE),
+    (["summary", "-v", "--graph=folder", "file"], 1, b"", CANNOT_READ + b"nlog: FILE folder: " + A_FOLDER),
+    (["summary", "-v", "--graph", "file", "missing"], 1, b"", b"nlog: bad line 1\nnlog: FILE file: line 1\n"),
+    (["summary", "-v", "--graph", "missing", "-n", "x", "seven"], 1, b"", b"nlog: bad number\nnlog: N x: it isn't a number\n"),
     (["builds", "-v", "folder"], 1, b"", CANNOT_READ + b"nlog: LOG folder: " + A_FOLDER),
     (["builds", "eight", "-v"], 1, b"", OTHER_VERSION + b"nlog: LOG eight: version 8\n"),
     (["builds", "-v"], 0, INPUT_BUILT, b""),

@@ -22,7 +22,7 @@ import termios
 import threading
 
 from log_format import Log, as_version, command_hash, reading_of
-from log_lines import builds_of, compare_of, damage_of, entries_of, named_first, picture_of, said_of, summary_of, trace_of
+from log_lines import bad_graph_lines, builds_of, compare_of, damage_of, entries_of, named_first, paths_of, picture_of, said_of, summary_of, trace_of
 from trials import SECONDS, main, read, run, short, write
 
 BENCH = f"{os.path.dirname(os.path.dirname(os.path.abspath(__file__)))}/bench"
@@ -516,6 +516,51 @@ def try_refused(readings):
             readings.want(f"a log behind {short(text)}", text + LOG, wanted, wanted)
 
 
+# Of the form that Ninja prints: `b` needs `a` and `c`, which one command makes of `src`; and the log of its build.
+GRAPH = b'''digraph ninja {
+rankdir="LR"
+node [fontsize=10, shape=box, height=0.25]
+edge [fontsize=10]
+"0x1" [label="b"]
+"0x2" [label="link", shape=ellipse]
+"0x2" -> "0x1"
+"0x3" -> "0x2" [arrowhead=none]
+"0x4" -> "0x2" [arrowhead=none style=dotted]
+"0x3" [label="a"]
+"0x5" [label="cc", shape=ellipse]
+"0x5" -> "0x3"
+"0x5" -> "0x4"
+"0x6" -> "0x5" [arrowhead=none]
+"0x6" [label="src"]
+"0x4" [label="c"]
+}
+'''
+GRAPHED = b"# ninja log v7\n0\t40\t1\ta\tcc\n0\t40\t1\tc\tcc\n40\t60\t1\tb\tdd\n"
+
+
+def try_graphs(trials, program, room):
+    graph, log = f"{room}/GRAPH", f"{room}/LOG"
+    write(log, GRAPHED)
+    eight = summary_of(as_version(GRAPHED, 7), 0, version=7)
+    texts = [GRAPH[:size] for size in range(len(GRAPH))]
+    texts += [GRAPH[:at] + byte + GRAPH[at + 1 :] for at in range(len(GRAPH)) for byte in (b"\n", b"\0", b'"', b"2")]
+    texts += [GRAPH[:at] + GRAPH[at + 1 :] for at in range(len(GRAPH))]
+    # An ID and a name of many bytes, a line of as many, and one without an end.
+    long = b"x" * 1_000_000
+    texts += [GRAPH.replace(b"0x3", long), GRAPH.replace(b'"a"', b'"%s"' % long), GRAPH.replace(b"node [", b"node [" + long), GRAPH.replace(b"}\n", long)]
+    for text in texts:
+        write(graph, text)
+        bad = bad_graph_lines(text)
+        paths = [] if bad else paths_of(text, as_version(GRAPHED, 7), version=7)
+        wanted = [(1, b"", b"nlog: bad line %d\n" % it) for it in bad] or [(0, eight + it, b"") for it in paths]
+        got = run([program, "summary", "-n0", "--graph", graph, log])
+        trials.check(f"the graph {short(text)}", got in wanted, f"{short(got)} in place of {short(wanted[0])}")
+    write(graph, GRAPH)
+    path = b"critical-path\t60\non-path\t40\t0\t40\t%s\non-path\t20\t40\t60\tb\n"
+    in_pieces = run_in_pieces([program, "summary", "-n0", "--graph", graph], GRAPHED)
+    trials.check("a graph, and a log in pieces", in_pieces in [(0, eight + path % it, b"") for it in (b"a", b"c")], in_pieces)
+
+
 def seconds_of(words):
     """How a program ends, and how long the processors took."""
     before = resource.getrusage(resource.RUSAGE_CHILDREN)
@@ -572,6 +617,7 @@ def trial(trials, program, room):
     try_replaced(readings)
     try_lines(readings)
     try_refused(readings)
+    try_graphs(trials, program, room)
     try_colliding(trials, program, room)
 
 

@@ -3,10 +3,11 @@
 
     python3 tests/large.py PROGRAM
 
-One log has 1,000,001 entries of as many outputs; the second has names of up to 65,536 bytes, lines that are no entries, too long ones among
+One log has 1,000,001 entries of as many outputs, and a graph of as many nodes; the second has names of up to 65,536 bytes, lines that are no entries, too long ones among
 them, and a torn line, and is due to be recompacted; the third has lines that were written behind torn ones; the fourth has 1,000,001 builds. The files are made line by line
 by a rule, and what is wanted is computed from that rule, or from `log_format`, a line at a time; it is compared by its length and its hash,
-so that no more of it is held in memory. `entries` and `damage` may take no more memory than for a small log.
+so that no more of it is held in memory. `entries` and `damage` may take no more memory than for a small log, and `trace` and `picture` no
+more than the commands take of a log whose texts are long; these end soon where nobody reads on.
 """
 import hashlib
 import os
@@ -33,6 +34,8 @@ LARGE = 80_000_000
 PIECE = 1 << 20
 # How many kilobytes the words may take that keep no table: libraries, stack and all. The logs have 15 times as many.
 SMALL = 6_000
+# Commands at one time, how many kilobytes these take, and how many bytes of their text are read at least.
+WIDE, SPARE, READ = 200_000, 100_000, 1_000
 # What the files of one part take at once.
 ROOM = 600_000_000
 
@@ -93,9 +96,25 @@ def streamed(words, piped=None):
     return status, printed, said
 
 
-def held(words):
-    """A command that may take no more memory than `SMALL`."""
-    return ["sh", "-c", 'ulimit -v "$0" && exec "$@"', str(SMALL), *words]
+def held(words, most=SMALL):
+    """A command that may take no more kilobytes of memory."""
+    return ["sh", "-c", 'ulimit -v "$0" && exec "$@"', str(most), *words]
+
+
+def left_early(words, most):
+    """Runs a program whose output is closed once so many bytes were read: its status, standard error, what was read, and its seconds of
+    processors."""
+    with subprocess.Popen(words, stdin=subprocess.DEVNULL, stdout=subprocess.PIPE, stderr=subprocess.PIPE, bufsize=0) as child:
+        pieces, count = [], 0
+        while count < most and (piece := child.stdout.read(min(PIECE, most - count))):
+            pieces.append(piece)
+            count += len(piece)
+        got = b"".join(pieces)
+        child.stdout.close()
+        said = child.stderr.read()
+        _, status, used = os.wait4(child.pid, 0)
+        child.returncode = os.waitstatus_to_exitcode(status)
+    return child.returncode, said, got, used.ru_utime + used.ru_stime
 
 
 class Large:
@@ -187,18 +206,18 @@ def report(version, total, unique, skipped, torn, due):
 
 def summed(commands, *counts):
     """What `summary` prints of a build whose commands have one output each."""
-    return b"commands %d\noutputs %d\nwall %d\ntotal %d\nbusy %d\nalone %d\nparallel %s\nslowest %d %s\n" % (commands, commands, *counts)
+    return b"commands\t%d\noutputs\t%d\nwall\t%d\ntotal\t%d\nbusy\t%d\nalone\t%d\nparallel\t%s\nslowest\t%d\t%s\n" % (commands, commands, *counts)
 
 
 def listed(by_time, by_weight):
     """The lists behind that: of each command its milliseconds, its weighted ones as a text, and its output."""
     rows = [(b"time", *it) for it in by_time] + [(b"weight", *it) for it in by_weight]
-    return b"".join(b"by-%s %d %s %s\n" % it for it in rows)
+    return b"".join(b"by-%s\t%d\t%s\t%s\n" % it for it in rows)
 
 
 def kind_listed(*numbers):
     """The lists behind these of one kind, with its commands, their milliseconds and the weighted ones."""
-    return b"".join(b"kinds-by-%s %d %d %d.00 .o\n" % (key, *numbers) for key in (b"time", b"weight"))
+    return b"".join(b"kinds-by-%s\t%d\t%d\t%d.00\t.o\n" % (key, *numbers) for key in (b"time", b"weight"))
 
 
 def bar(build, name, command, took, lane, began):
@@ -225,6 +244,25 @@ def many_traced():
         yield bar(1, name_of(number), numbers_of(number)[3], 7, number % 7 + 1, number)
         yield runs(1, min(number + 1, 7), number)
         yield runs(1, min(7, ENTRIES - 1 - number), number + 7)
+
+
+def graph_lines():
+    """The graph of a build in which each command needs the one that ends as it begins: seven paths side by side, of which the first is the
+    longest, as the second begins only with its second command. Ninja prints a graph from the end of each path on."""
+    yield b"digraph ninja {\n"
+    for number in reversed(range(ENTRIES)):
+        yield b'"0x%x" [label="%s"]\n' % (number, name_of(number))
+        if number > 6 and number != 8:
+            yield b'"0x%x" -> "0x%x" [label=" cc"]\n' % (number - 7, number)
+    yield b"}\n"
+
+
+def path_lines():
+    """The critical path by this graph."""
+    ran = range(0, ENTRIES, 7)
+    yield b"critical-path\t%d\n" % (7 * len(ran))
+    for number in ran:
+        yield b"on-path\t7\t%d\t%d\t%s\n" % (number, number + 7, name_of(number))
 
 
 # By docs/FORMAT.md: the hash of the command `cc<TAB>x`.
@@ -269,10 +307,15 @@ def try_many(trials, program, room):
     counts_told = summed(ENTRIES, ENTRIES + 6, 7 * ENTRIES, ENTRIES + 6, 2, b"6.99", 7, name_of(0))
     told = [counts_told, listed(first, ends), kind_listed(ENTRIES, 7 * ENTRIES, ENTRIES + 6)]
     large.want_printed("summary", told)
-    for words, wanted in ((["--build", "1"], told), (["--build", "2"], [b"builds 1\n"]), (["--all"], told)):
+    for words, wanted in ((["--build", "1"], told), (["--build", "2"], [b"builds\t1\n"]), (["--all"], told)):
         got = streamed([program, "summary", *words, large.log])
         trials.want(f"{large.what}: summary {' '.join(words)}", got, (0, sum_of(wanted), b""))
     other = f"{room}/OTHER"
+    make(other, graph_lines())
+    large.want_sizes(other)
+    words = ["summary", "--graph", other]
+    trials.want(f"{large.what}: a graph", streamed([program, *words, large.log]), (0, sum_of(chain(told, path_lines())), b""))
+    trials.want(f"{large.what}: a graph, and no log", streamed([program, *words, os.devnull]), (0, sum_of([]), b""))
     make(other, chain([HEADER], slower_lines()))
     # Of three commands one took as long as before, one 1 ms more, and one 2 ms more: the first of these are told.
     counts_of = [len(everything[at::3]) for at in range(3)]
@@ -457,6 +500,36 @@ def try_builds(trials, program, room):
     large.want_printed("summary", [summed(1, ENTRIES, ENTRIES, ENTRIES, ENTRIES, b"1.00", ENTRIES, row[2]), listed([row], [row]), kind_listed(1, ENTRIES, ENTRIES)])
 
 
+def wide_name(number):
+    """A name of which most bytes take three in a picture, and six in JSON."""
+    return b"\1" * 60 + b"%07d" % number
+
+
+def wide_traced():
+    for number in range(WIDE):
+        yield bar(1, wide_name(number).replace(b"\1", b"\\u0001"), number, 1000, number + 1, 0)
+        yield runs(1, WIDE, 0)
+        yield runs(1, 0, 1000)
+
+
+def try_wide(trials, program, room):
+    """Commands that all run at one time, so that each has a bar of its own. The texts are written as they are made: beside the commands there is
+    no room for either, and where nobody reads on, the program ends before it has made most of it."""
+    large = Large(trials, program, room, f"a log of {WIDE:,} commands at one time")
+    make(large.log, chain([HEADER], (line_of(wide_name(it), (0, 1000, 1_700_000_000_000_000_000 + it, it)) for it in range(WIDE))))
+    pictured = drawn([(0, 1000, it, [wide_name(it)]) for it in range(WIDE)], range(WIDE))
+    for word, pieces in ("trace", list(traced(1, wide_traced()))), ("picture", [pictured]):
+        size, wanted = sum(map(len, pieces)), sum_of(pieces)
+        trials.check(f"{large.what}: the text of {word} is half as long as what it may take", size > SPARE * 500, f"{size} bytes")
+        ended = streamed(held([program, word, large.log], SPARE))
+        trials.want(f"{large.what}: {word} in the memory of its commands", ended, (0, wanted, b""))
+        _, _, _, whole = left_early([program, word, large.log], size)
+        status, said, got, taken = left_early([program, word, large.log], READ)
+        begun = b"".join(pieces[:READ])[:READ]
+        trials.want(f"{large.what}: {word} whose output is closed", (status, said, got), (1, b"nlog: cannot write\n", begun))
+        trials.check(f"{large.what}: {word} whose output is closed ends early", taken < whole * 2 / 3, f"{taken:.2f} of {whole:.2f} s")
+
+
 def try_hash(trials, program, room):
     """A command of zeros: by docs/FORMAT.md each group of eight leaves the value but for the factor, and the rest of three does too."""
     size, factor, word = 100_000_003, 0xC6A4A7935BD1E995, 2**64
@@ -474,7 +547,7 @@ def trial(trials, program, room):
         roomy = [it for it in (room, other) if shutil.disk_usage(it).free > ROOM]
         if not roomy:
             return trials.skip("all of it", f"there is no room for files of {ROOM:,} bytes")
-        for part in try_many, try_script, try_long, try_damaged, try_builds, try_hash:
+        for part in try_many, try_script, try_long, try_damaged, try_builds, try_wide, try_hash:
             part(trials, program, roomy[0])
             for it in os.listdir(roomy[0]):
                 os.remove(f"{roomy[0]}/{it}")

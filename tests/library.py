@@ -19,9 +19,9 @@ from trials import Trials, read, run, usage, write
 TOP = os.path.dirname(os.path.dirname(os.path.abspath(__file__)))
 LIBRARY = f"{TOP}/tests/library"
 # `growths.py` runs those of `growths`.
-PARTS = ["fields", "lines", "table", "folder", "files", "system", "session", "words", "disk", "program", "report", "trace", "picture", "doubt", "distrust"]
+PARTS = ["fields", "lines", "table", "folder", "files", "system", "session", "words", "disk", "program", "report", "trace", "picture", "graph", "doubt", "distrust"]
 CRATE = "nl_library_tests"
-USES = "nl_fields nl_lines nl_table nl_folder nl_versions nl_files nl_session nl_tool_words nl_os nl_tool_script nl_tool_print nl_tool_report nl_tool_trace nl_tool_picture nl_tool_doubt nl_distrust nl_tool_change nl_tool clap"
+USES = "nl_fields nl_lines nl_table nl_folder nl_versions nl_files nl_session nl_tool_words nl_os nl_tool_script nl_tool_print nl_tool_report nl_tool_trace nl_tool_picture nl_tool_graph nl_tool_columns nl_tool_doubt nl_distrust nl_tool_change nl_tool clap"
 # How long a test may run, and all of them with what they are built in.
 SECONDS, ALL_SECONDS = 300, 1800
 TEST = r"(?m)^#\[test\]\nfn (\w+)"

@@ -112,13 +112,14 @@ def try_bad_lines(trials, program, room):
     log, file = f"{room}/LOG", f"{room}/FILE"
     write(log, SMALL)
     rows = (
-        ("replay", [file], b"open\n", b"opened\n"),
-        ("recompact", [log, file], b"a\n", b"a\tb\n"),
-        ("restat", [log, file], b"7\ta\n", b"07\ta\n"),
+        ("replay", [file], [], b"open\n", b"opened\n"),
+        ("recompact", [log, file], [], b"a\n", b"a\tb\n"),
+        ("restat", [log, file], [], b"7\ta\n", b"07\ta\n"),
+        ("summary", [log, "--graph", file], [b"digraph ninja {\n"], b'"a" [label="b"]\n', b'"a" [label="b"] \n'),
     )
-    for word, words, good, bad in rows:
+    for word, words, first, good, bad in rows:
         for number in (1, 2, 255, 256, 257, 1001, 65_535, 65_536, 65_537, 70_001):
-            write(file, good * (number - 1) + bad + good + bad)
+            write(file, b"".join([*first, *[good] * number][: number - 1]) + bad + good + bad)
             trials.want(f"{word}: a bad line {number}", run([program, word, *words]), (1, b"", b"nlog: bad line %d\n" % number))
     trials.want("bad lines: the log", read(log), SMALL)
 
@@ -264,7 +265,7 @@ SHOW, CHECK, REPAIR, MAKE = ["show", "LOG"], ["check", "LOG"], ["repair", "LOG"]
 COMPARED = b"hashes\tcompared\n" + b"".join(b"total\t%b\t0\t0\t0\t0\n" % it for it in (b"new", b"gone", b"changed", b"slower", b"faster", b"unfinished")) + b"total\tsame\t2\t0\t2\t2\n"
 READS = (SHOW, CHECK, ["entries", "LOG"], ["damage", "LOG"], ["doubt", "LOG"], ["builds", "LOG"], ["summary", "LOG"], ["compare", "LOG", "LOG"], ["trace", "LOG"], ["picture", "LOG"], ["hash-file", "LOG"])
 WRITES = (RECORD, RECOMPACT, RESTAT, REPAIR)
-SECRETS = (["recompact", "LOG", "SECRET"], ["restat", "LOG", "SECRET"], ["replay", "SECRET"], ["hash-file", "SECRET"])
+SECRETS = (["recompact", "LOG", "SECRET"], ["restat", "LOG", "SECRET"], ["replay", "SECRET"], ["hash-file", "SECRET"], ["summary", "--graph", "SECRET", "LOG"])
 RIGHTS = [
     *((0o700, mode, words, CANNOT_READ) for mode in (0, 0o200) for words in READS),
     *((0o700, mode, words, FOLDER_FAILED) for mode in (0, 0o200, 0o400) for words in WRITES),
@@ -285,7 +286,7 @@ MAY = [
     (0o500, 0o400, ["entries", "LOG"], SMALL[len(HEADER) :], SMALL),
     (0o500, 0o400, ["damage", "LOG"], b"", SMALL),
     (0o500, 0o400, ["builds", "LOG"], b"1\t2\t2\t4\t2\tsure\n", SMALL),
-    (0o500, 0o400, ["summary", "-n", "0", "LOG"], b"commands 2\noutputs 2\nwall 4\ntotal 2\nbusy 2\nalone 2\nparallel 0.50\nslowest 1 a\n", SMALL),
+    (0o500, 0o400, ["summary", "-n", "0", "LOG"], b"commands\t2\noutputs\t2\nwall\t4\ntotal\t2\nbusy\t2\nalone\t2\nparallel\t0.50\nslowest\t1\ta\n", SMALL),
     (0o500, 0o400, ["compare", "LOG", "LOG"], COMPARED, SMALL),
     (0o500, 0o400, ["hash-file", "LOG"], b"%x\n" % command_hash(SMALL), SMALL),
     (0o700, None, MAKE, b"", HEADER),
@@ -302,7 +303,7 @@ def reason(room, mode, log_mode, words):
     """What is said, by `--verbose`, of a file that may not be opened: which it is."""
     folder = f"{room}/folder"
     if "SECRET" in words:
-        part = {"recompact": "KEEP", "restat": "TIMES", "replay": "SCRIPT", "hash-file": "FILE"}[words[0]]
+        part = {"recompact": "KEEP", "restat": "TIMES", "replay": "SCRIPT", "hash-file": "FILE", "summary": "FILE"}[words[0]]
         place = f"{part} {room}/SECRET"
     elif words in WRITES and mode == 0o500 and log_mode is not None:
         place = f"scratch {folder}/LOG.recompact"

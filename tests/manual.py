@@ -53,7 +53,8 @@ FILES = {"LOG", "OLD", "NEW", "KEEP", "TIMES", "SCRIPT", "FILE"}
 
 def options_of(help_text):
     """The options of a help, long and short."""
-    return re.findall(r"(?<![\w-])--?[A-Za-z]+(?:-[a-z]+)*", help_text[help_text.index("Options:") :].split("\n\n")[0])
+    found = re.findall(r"(?m)^ +(-[A-Za-z])?(?:, )? *(--[a-z]+(?:-[a-z]+)*)", help_text[help_text.index("Options:") :].split("\n\n")[0])
+    return [it for both in found for it in both if it]
 
 
 def try_completion(trials, program, room, help_text, commands):
@@ -90,6 +91,11 @@ def try_completion(trials, program, room, help_text, commands):
             want([name, "--kind", "f"], ["folder"])
             want([name, "--kind", "top", "b"], ["b.log"])
             want([name, "--", "--kind", ""], [])
+        if "--graph" in own:
+            want([name, "--graph", ""], ["a file", "b.log"])
+            want([name, "--graph=", ""], ["a file", "b.log"])
+            want([name, "--graph", "b.log", "b"], ["b.log"])
+            want([name, "--", "--graph", ""], [])
 
 
 def try_library_page(trials):

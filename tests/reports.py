@@ -116,7 +116,7 @@ DRAWN = {
 }
 BROWSERS = ("chromium", "chromium-browser", "google-chrome")
 SVG = "{http://www.w3.org/2000/svg}"
-KEYS = b"commands %d\noutputs %d\nwall %d\ntotal %d\nbusy %d\nalone %d\nparallel %s\nslowest %d %s\n"
+KEYS = b"commands\t%d\noutputs\t%d\nwall\t%d\ntotal\t%d\nbusy\t%d\nalone\t%d\nparallel\t%s\nslowest\t%d\t%s\n"
 # Two logs, by the lines that differ: hashes that an awk may take for one number, names that are numbers.
 OLD = HEADER + b"0\t5\t1\ta\t1e5\n0\t5\t1\tb\t100\n0\t5\t1\tc\tab\n0\t5\t1\t1e5\t7\n0\t5\t1\tgone\t0\n"
 NEW = HEADER + b"0\t7\t1\ta\t100000\n0\t7\t1\tb\t100\n-4\t7\t9\tc\tac\n0\t7\t1\t100000\t7\n0\t0\t1\tnew\t0\n"
@@ -384,6 +384,88 @@ def try_ninja(trials, program, room):
     return trials.want("a real build: its outputs", told, sorted([("two.a", "two.b"), *((f"out{it}",) for it in range(30))]))
 
 
+# A graph in which `b` needs `a`, and the log of its build.
+GRAPH = b'digraph ninja {\nrankdir="LR"\nnode [fontsize=10]\nedge [fontsize=10]\n"1" [label="b"]\n"2" -> "1" [label=" cc"]\n"2" [label="a"]\n}\n'
+GRAPHED = b"# ninja log v7\n0\t40\t1\ta\tcc\n40\t60\t1\tb\tdd\n"
+ON_PATH = b"critical-path\t60\non-path\t40\t0\t40\ta\non-path\t20\t40\t60\tb\n"
+
+
+def try_graphs(trials, program, room):
+    """What `summary --graph` prints, by hand, and of graphs that are broken."""
+    eight = summary_of(GRAPHED, 0)
+    rows = {
+        "a graph": (GRAPH, eight + ON_PATH, 0),
+        "a graph with empty lines behind it": (GRAPH + b"\n\n", eight + ON_PATH, 0),
+        "a graph without its last newline": (GRAPH[:-1], eight + ON_PATH, 0),
+        "nodes without names": (b'digraph ninja {\n"1" -> "2"\n"3" [label="cc", shape=ellipse]\n}\n', eight + b"critical-path\t0\n", 0),
+        "nodes that the log lacks": (GRAPH.replace(b'"a"', b'"c"').replace(b'"b"', b'"d"'), eight + b"critical-path\t0\n", 0),
+        "a name anew": (GRAPH.replace(b"}\n", b'"2" [label="x"]\n}\n'), eight + b"critical-path\t20\non-path\t20\t40\t60\tb\n", 0),
+        "an empty file": (b"", b"", 1),
+        "a log": (GRAPHED, b"", 1),
+        "a graph without its end": (GRAPH[:-2], b"", 8),
+        "a torn line": (GRAPH[: GRAPH.index(b" cc")], b"", 6),
+        "a torn name": (GRAPH[: GRAPH.index(b'"a"') + 2], b"", 7),
+        "a text behind the end": (GRAPH + b"x", b"", 9),
+        "carriage returns": (GRAPH.replace(b"\n", b"\r\n"), b"", 1),
+        "a cycle": (GRAPH.replace(b"}\n", b'"1" -> "2"\n}\n'), b"", None),
+    }
+    write(f"{room}/LOG", GRAPHED)
+    for what, (text, out, line) in rows.items():
+        write(f"{room}/GRAPH", text)
+        got = run([program, "summary", "-n", "0", "--graph", f"{room}/GRAPH", f"{room}/LOG"])
+        if line is None:
+            # One of the two lines of the cycle is told.
+            trials.check(what, got in [(1, b"", b"nlog: bad line %d\n" % it) for it in (6, 8)], got)
+        else:
+            trials.want(what, got, (1, b"", b"nlog: bad line %d\n" % line) if line else (0, out, b""))
+    write(f"{room}/GRAPH", GRAPH)
+    piped = run(["bash", "-c", f"'{program}' summary -n 0 --graph <(cat '{room}/GRAPH') '{room}/LOG'"])
+    trials.want("a graph by a pipe", piped, (0, eight + ON_PATH, b""))
+    # A path of 100,000 commands, whose edges come in the order of Ninja, from the end on.
+    count = 100_000
+    edges = b"".join(b'"%d" [label="%d"]\n"%d" -> "%d" [label=" cc"]\n' % (it, it, it - 1, it) for it in range(count, 0, -1))
+    write(f"{room}/GRAPH", b"digraph ninja {\n" + edges + b"}\n")
+    write(f"{room}/LOG", b"# ninja log v7\n" + b"".join(b"%d\t%d\t1\t%d\t%x\n" % (it, it + 1, it, it) for it in range(1, count + 1)))
+    status, out, err = run([program, "summary", "-n", "0", "--graph", f"{room}/GRAPH", f"{room}/LOG"])
+    wanted = b"critical-path\t100000\n" + b"".join(b"on-path\t1\t%d\t%d\t%d\n" % (it, it + 1, it) for it in range(1, count + 1))
+    return trials.want("a path of 100,000 commands", (status, out[out.find(b"critical-path"):], err), (0, wanted, b""))
+
+
+def try_ninja_graph(trials, program, room):
+    """The critical path of a real build, by the graph that Ninja prints of it."""
+    if shutil.which("ninja") is None:
+        return trials.skip("the critical path of a real build", "Ninja isn't there")
+    os.makedirs(f"{room}/graphed")
+    # Outputs, inputs, implicit ones, those for the order alone, and how long the command takes.
+    builds = [
+        ("gen", "src", "", "", 3),
+        ('a$ "b"', "src", "head", "gen", 5),
+        ("two.a two.b", 'a$ "b"', "", "", 2),
+        ("lone", "src", "", "", 4),
+    ]
+    lines = ["rule wait", "  command = sleep 0.0$time && touch $out"]
+    for outs, ins, implicit, order, time in builds:
+        lines += [f"build {outs}: wait {ins} | {implicit} || {order}", f"  time = {time}"]
+    lines += ["build all: phony two.a lone", "default all", ""]
+    write(f"{room}/graphed/build.ninja", "\n".join(lines).encode())
+    for name in ("src", "head"):
+        write(f"{room}/graphed/{name}", b"")
+    trials.want("a real build with a graph", run(["ninja", "-j4"], cwd=f"{room}/graphed")[0], 0)
+    status, graph, _ = run(["ninja", "-t", "graph"], cwd=f"{room}/graphed")
+    trials.want("the graph of a real build", status, 0)
+    write(f"{room}/graphed/GRAPH", graph)
+    log = f"{room}/graphed/.ninja_log"
+    ran = {fields[3]: (int(fields[0]), int(fields[1])) for fields in (line.split(b"\t") for line in read(log).splitlines()[1:])}
+    # By the manifest, and not by the graph: there are two ways to the targets.
+    paths = [[b"gen", b'a "b"', b"two.a"], [b"lone"]]
+    path = max(paths, key=lambda names: sum(ran[it][1] - ran[it][0] for it in names))
+    length = sum(ran[it][1] - ran[it][0] for it in path)
+    wanted = b"critical-path\t%d\n" % length
+    wanted += b"".join(b"on-path\t%d\t%d\t%d\t%b\n" % (ran[it][1] - ran[it][0], *ran[it], it) for it in path)
+    got = run([program, "summary", "--graph", f"{room}/graphed/GRAPH", log])
+    return trials.want("the critical path of a real build", got, (0, summary_of(read(log)) + wanted, b""))
+
+
 def limit(most):
     def begin():
         signal.signal(signal.SIGXFSZ, signal.SIG_IGN)
@@ -398,6 +480,8 @@ def trial(trials, program, room):
         return trials.skip("all of it", "iconv or GNU's date isn't there")
     try_builds(trials, program, room)
     try_ninja(trials, program, room)
+    try_graphs(trials, program, room)
+    try_ninja_graph(trials, program, room)
     try_many(trials, program, room)
     try_browser(trials, program, room)
     for awk, words in AWKS.items():

@@ -200,7 +200,7 @@ READERS = {
     "damage": (3, b"3\tskipped\t1\t-\t-\n5\ttorn\t3\t-\t-\n"),
     "doubt": (3, b"missing\ta\n"),
     "builds": (0, b"1\t2\t2\t3\t2\tsure\n"),
-    "summary": (0, b"commands 2\noutputs 2\nwall 3\ntotal 2\nbusy 2\nalone 2\nparallel 0.66\nslowest 1 a\n" + b"by-time 1 1.00 a\n" * 2 + b"by-weight 1 1.00 a\n" * 2 + b"kinds-by-time 2 2 2.00 (none)\nkinds-by-weight 2 2 2.00 (none)\n"),
+    "summary": (0, b"commands\t2\noutputs\t2\nwall\t3\ntotal\t2\nbusy\t2\nalone\t2\nparallel\t0.66\nslowest\t1\ta\n" + b"by-time\t1\t1.00\ta\n" * 2 + b"by-weight\t1\t1.00\ta\n" * 2 + b"kinds-by-time\t2\t2\t2.00\t(none)\nkinds-by-weight\t2\t2\t2.00\t(none)\n"),
     "trace": (0, trace_of(DAMAGED)),
     "hash-file": (0, b"%x\n" % command_hash(DAMAGED)),
 }

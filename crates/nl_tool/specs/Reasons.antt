@@ -12,7 +12,7 @@ use Rattle.nl_tool_texts.specs.Faults.{fault_text}
 use Rattle.nl_tool_texts.specs.declared.fault.ToolFault.{ToolFault}
 use Rattle.nl_tool_texts.specs.declared.fault.ToolFault.TheVariants as fault
 use Rattle.nl_tool_words.specs.declared.command_line.Words.{Words}
-use Rattle.nl_tool_words.specs.declared.command_line.Words.TheVariants.{Show, Check, Hash, Entries, Damage, Doubt, Builds, Summary, Compare, Trace, Picture, HashFile, Record, Recompact, Restat}
+use Rattle.nl_tool_words.specs.declared.command_line.Words.TheVariants.{Show, Check, Hash, Entries, Damage, Doubt, Builds, Summary, Critical, Compare, Trace, Picture, HashFile, Record, Recompact, Restat}
 use Rattle.nl_tool_words.specs.declared.command_line.Words.TheVariants.{Repair, Replay, Apply, Prune, Retime}
 use Rattle.nl_versions.specs.Version.{is_version_read}
 use Rattle.nl_tool.specs.declared.reason.Place.{Place}
@@ -102,6 +102,7 @@ read_place (Damage log) = Some (given_or_input at.Log log)
 read_place (Doubt log) = Some (given_or_input at.Log log)
 read_place (Builds log) = Some (given_or_input at.Log log)
 read_place (Summary log build all kind lines) = Some (given_or_input at.Log log)
+read_place (Critical log build all kind lines graph) = Some (given_or_input at.Log log)
 read_place (Compare old new lines) = None
 read_place (Trace log) = Some (given_or_input at.Log log)
 read_place (Picture log) = Some (given_or_input at.Log log)
@@ -138,6 +139,7 @@ log_place (Damage log) file = read_place (Damage log)
 log_place (Doubt log) file = read_place (Doubt log)
 log_place (Builds log) file = read_place (Builds log)
 log_place (Summary log build all kind lines) file = read_place (Summary log build all kind lines)
+log_place (Critical log build all kind lines graph) file = read_place (Critical log build all kind lines graph)
 log_place (Compare old new lines) file = None
 log_place (Trace log) file = read_place (Trace log)
 log_place (Picture log) file = read_place (Picture log)
@@ -150,9 +152,11 @@ abbrev pub IsUnsynced : Reason → Type 0
 IsUnsynced (Unsynced text) = ⊤
 IsUnsynced _ = ⊥
 
--- of two logs, the words that read the second of them, or the first; else the words as they are
+-- of two logs, the words that read the second of them, or the first; of a log and a graph, the words that read the log, or a file; else
+-- the words as they are
 abbrev pub words_heard : Words → Bool → Words
 words_heard (Compare old new lines) is_second = Summary (Some (if is_second then new else old)) None false None lines
+words_heard (Critical log build all kind lines graph) is_second = if is_second then HashFile (Some graph) else Summary log build all kind lines
 words_heard words is_second = words
 
 -- the reason is what the system said

@@ -1,8 +1,11 @@
 -- What each command prints that tells of builds.
-use Rattle.std.specs.Prelude.{◌≡◌, ℕ, Bool, true, false, ◌<◌, ◌^◌, pos, List, Option, None, Some, bytes_eq, codes, if◌then◌else◌}
+use Rattle.std.specs.Prelude.{◌≡◌, ℕ, Bool, true, false, ◌<◌, ◌^◌, pos, List, Option, None, Some, Result, bytes_eq, codes, if◌then◌else◌}
 use Rattle.std.specs.Borrow.{Bor}
 use Rattle.nl_fields.specs.Digits.{IsDecimal}
 use Rattle.nl_fields.specs.declared.entry.Entry.{Entry}
+use Rattle.nl_tool_texts.specs.Output.{Prints}
+use Rattle.nl_tool_trace.specs.Pieces.{PrintsInPieces}
+use Rattle.nl_tool_texts.specs.declared.fault.ToolFault.{ToolFault}
 use Rattle.nl_tool_report.specs.Anew.{builds_anew}
 use Rattle.nl_tool_report.specs.Builds.{builds_text}
 use Rattle.nl_tool_report.specs.Summary.{summary_anew, summary_text}
@@ -11,6 +14,7 @@ use Rattle.nl_tool_report.specs.declared.kind.KindRule.{KindRule}
 use Rattle.nl_tool_report.specs.declared.kind.KindRule.TheVariants.{Extension, Folder, Top}
 use Rattle.nl_tool_report.specs.declared.scope.Scope.{Scope}
 use Rattle.nl_tool_report.specs.declared.scope.Scope.TheVariants.{Last, Numbered, Outputs}
+use Rattle.nl_tool_columns.specs.Columns.{in_columns}
 use Rattle.nl_tool_trace.specs.Trace.{trace_text}
 use Rattle.nl_tool_picture.specs.Picture.{picture_text}
 use Rattle.nl_tool.specs.declared.reporting.Report.{Report}
@@ -50,3 +54,20 @@ report_text Builds stamps entries = builds_text stamps entries
 report_text (Summary scope lists) stamps entries = summary_text scope lists stamps entries
 report_text Trace stamps entries = trace_text stamps entries
 report_text Picture stamps entries = picture_text stamps entries
+
+-- how a report is written: a trace and a picture piece by piece
+abbrev pub PrintsReport : Report → (List ℕ → Type 0) → Option (List ℕ) → Option (List ℕ) → Result (Unit {0}) ToolFault → Type 0
+PrintsReport Builds IsText old new result = Prints IsText old new result
+PrintsReport (Summary scope lists) IsText old new result = Prints IsText old new result
+PrintsReport Trace IsText old new result = PrintsInPieces IsText old new result
+PrintsReport Picture IsText old new result = PrintsInPieces IsText old new result
+
+-- a text as it is, or one in columns
+abbrev pub IsLaidOut : Bool → (List ℕ → Type 0) → List ℕ → Type 0
+IsLaidOut false IsText text = IsText text
+IsLaidOut true IsText text = (told : List ℕ) × IsText told × (text ≡ in_columns told)
+
+-- the same of a report that is laid out: columns stand in memory until they are written
+abbrev pub PrintsAs : Bool → Report → (List ℕ → Type 0) → Option (List ℕ) → Option (List ℕ) → Result (Unit {0}) ToolFault → Type 0
+PrintsAs false report IsText old new result = PrintsReport report IsText old new result
+PrintsAs true report IsText old new result = Prints (IsLaidOut true IsText) old new result

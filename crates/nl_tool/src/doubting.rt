@@ -11,6 +11,7 @@ ghost use Rattle.nl_tool.specs.declared.program.Verdict.{Verdict};
 use crate::files::open;
 use crate::notes::{NotedReader, NotedWriter, Notes};
 use crate::program::Verdict;
+use crate::progress::Telling;
 use nl_tool_doubt::{FileState, OutputFiles, doubt_to};
 use nl_tool_texts::ToolFault;
 use std::alloc::Global;
@@ -69,19 +70,20 @@ pub fn doubt_in<R: Runtime>(
 {
     let mut out = NotedWriter::new(io::writer(rt));
     let files = SystemFiles { rt };
+    let tells = notes.screen.errors;
     let answer = match log {
         Some(path) => {
             let file = open(rt, path, notes)?;
             tell_doubts(
                 alloc,
-                NotedReader::new(file, &mut notes.heard),
+                NotedReader::new(Telling::new(rt, tells, file), &mut notes.heard),
                 &files,
                 &mut out,
             )
         }
         None => tell_doubts(
             alloc,
-            NotedReader::new(rt.reader(), &mut notes.heard),
+            NotedReader::new(Telling::new(rt, tells, rt.reader()), &mut notes.heard),
             &files,
             &mut out,
         ),

@@ -10,6 +10,7 @@ ghost use Rattle.nl_tool_words.specs.Form.{form_of};
 use crate::notes::Notes;
 use crate::program::{Verdict, run_with_notes};
 use crate::reason::{Refusal, anew_note, note_of, refusal_of, unsynced_note};
+use crate::screen::Screen;
 use clap::Error;
 use clap::error::ErrorKind;
 use nl_os::SystemFile;
@@ -26,13 +27,13 @@ const WRONG_WORDS: u8 = 2;
 const FOUND: u8 = 3;
 
 /// The whole program: reads the words that it was given, does what they say, and answers the status to end with.
-pub fn run_program<R: Runtime + AllocGlobal>(rt: &R) -> u8
+pub fn run_program<R: Runtime + AllocGlobal>(rt: &R, screen: Screen) -> u8
 where
     R::File: SystemFile,
     ensures status { result ≤ 3 }
 {
     match given_words(rt) {
-        Ok(line) => run_line(rt, rt.alloc(), line.as_slice()),
+        Ok(line) => run_line(rt, rt.alloc(), line.as_slice(), screen),
         Err(error) => refuse_line(rt, &error),
     }
 }
@@ -40,7 +41,7 @@ where
 /// Does what a command line says, of which the first word is the program's name, and answers the status to end with.
 ///
 /// The text of a command, help and the version go to standard output; why something was refused goes to standard error.
-pub fn run_line<R: Runtime>(rt: &R, alloc: Global, line: &[String]) -> u8
+pub fn run_line<R: Runtime>(rt: &R, alloc: Global, line: &[String], screen: Screen) -> u8
 where
     R::File: SystemFile,
     ensures status { IsStatusBy (fault_in (map string_bytes line.now))
@@ -49,7 +50,7 @@ where
 {
     match read_words(alloc, line) {
         Ok(said) => {
-            let mut notes = Notes::new(alloc, said.verbose);
+            let mut notes = Notes::new(alloc, said.verbose, screen);
             let answer = run_with_notes(rt, alloc, &said, &mut notes);
             end(rt, alloc, &said, answer, &notes)
         }

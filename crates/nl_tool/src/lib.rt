@@ -4,6 +4,7 @@
 
 mod changing;
 mod comparing;
+mod critical;
 mod doubting;
 mod ending;
 mod files;
@@ -12,8 +13,10 @@ mod looks;
 mod notes;
 mod printing;
 mod program;
+mod progress;
 mod reason;
 mod reporting;
+mod screen;
 mod settling;
 mod version_choice;
 mod waiting;
@@ -27,6 +30,7 @@ pub use nl_tool_change::{
     AskedFolder, FoundFolder, LogPlace, apply_on, entry_of, recompact_on, record_command,
     record_on, repair_on, restat_on,
 };
+pub use nl_tool_columns::columns_to;
 pub use nl_tool_doubt::doubt_to;
 pub use nl_tool_picture::picture_to;
 pub use nl_tool_print::{
@@ -43,7 +47,9 @@ pub use nl_tool_words::{AskedVersion, CommandLine, Words, read_words};
 pub use nl_versions::{FirstLine, LogVersion, command_hash_in, first_line_in, version_of};
 pub use notes::{Beginning, Heard, NotedReader, NotedWriter, Notes};
 pub use program::{Verdict, run, run_with_notes};
+pub use progress::Telling;
 pub use reason::{Missing, Place, Reason, Refusal, Why, note_of, refusal_of};
+pub use screen::{NO_SCREEN, Screen};
 pub use version_choice::number_of;
 pub use waiting::Waiting;
 pub use watch::Watch;

@@ -4,6 +4,7 @@ ghost use Rattle.std.specs.Prelude.{◌≡◌, None, Some, IfErr, false, true};
 ghost use Rattle.std.specs.Io.{ReadsAtMost, WritesAtMost};
 ghost use Rattle.std.specs.Io.KnownBytes.{Keeps, ReadConsumes, WriteAppends};
 
+use crate::screen::Screen;
 use crate::watch::Watch;
 use crate::wrong::LineKind;
 use nl_folder::Folder;
@@ -36,16 +37,19 @@ pub struct Notes {
     pub is_anew: bool,
     /// Whether more is to be said than the words ask for: so a log of another version is looked at once it is refused.
     pub looks: bool,
+    /// Which streams are terminals.
+    pub screen: Screen,
 }
 
 impl Notes {
     /// Nothing is known yet.
-    pub fn new(alloc: Global, looks: bool) -> Notes
+    pub fn new(alloc: Global, looks: bool, screen: Screen) -> Notes
         ensures none { (result.heard.failure ≡ None) × (result.written ≡ None)
             × (result.folder ≡ None) × (result.unsynced ≡ None)
             × (result.is_missing ≡ false) × (result.is_second ≡ false)
             × (result.is_anew ≡ false) }
         ensures looks { result.looks ≡ looks }
+        ensures screen { result.screen ≡ screen }
     {
         Notes {
             heard: Heard {
@@ -64,6 +68,7 @@ impl Notes {
             is_second: false,
             is_anew: false,
             looks,
+            screen,
         }
     }
 

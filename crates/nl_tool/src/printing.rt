@@ -15,13 +15,14 @@ ghost use Rattle.nl_tool.specs.Faults.{IsPrintingFault, IsReadingFault};
 use crate::files::{open, open_log};
 use crate::notes::{NotedReader, NotedWriter, Notes};
 use crate::program::Verdict;
+use crate::progress::Telling;
 use nl_tool_print::{check_log, damage_to, entries_to, hash_for, hash_read, show_log};
 use nl_tool_script::replay_to;
 use nl_tool_texts::ToolFault;
 use nl_versions::LogVersion;
 use std::alloc::Global;
 use std::io::{self, Read, Write};
-use std::rt::Runtime;
+use std::rt::{Clock, Runtime};
 
 /// What prints a text when all is read.
 #[derive(Clone, Copy, Drop)]
@@ -165,7 +166,7 @@ pub fn print_file<R: Runtime>(
 }
 
 // Prints of what this reader gives, to standard output.
-pub fn print_from<P: Print, R: Read + Drop>(
+pub fn print_from<P: Print + Eprint + Clock, R: Read + Drop>(
     rt: &P,
     alloc: Global,
     printing: Printing<'_>,
@@ -177,6 +178,7 @@ pub fn print_from<P: Print, R: Read + Drop>(
     ensures faults { IfErr result (IsPrintingFault printing.entry) }
 {
     let mut out = NotedWriter::new(io::writer(rt));
+    let reader = Telling::new(rt, notes.screen.errors, reader);
     let reader = NotedReader::new(reader, &mut notes.heard);
     let answer = print_to(alloc, printing, asked, reader, &mut out);
     notes.written = out.failure;

@@ -1,13 +1,15 @@
 //! What the program does once its words are read.
-ghost use Rattle.std.specs.Prelude.{◌≡◌, IfErr, IfOk, OnOk};
+ghost use Rattle.std.specs.Prelude.{◌≡◌, ◌&&◌, not, IfErr, IfOk, OnOk};
 ghost use Rattle.nl_tool.specs.Faults.{CanFind, CanBeDone, IsFaultOf};
 
 use crate::changing::{apply_in, recompact_in, record_in, repair_in, restat_in};
 use crate::comparing::compare_in;
+use crate::critical::critical_in;
 use crate::doubting::doubt_in;
 use crate::notes::Notes;
 use crate::printing::{Printing, Streaming, print_file, print_from, print_log, stream_log};
 use crate::reporting::{Report, report_in, summary_in};
+use crate::screen::NO_SCREEN;
 use crate::settling::{prune_in, retime_in};
 use crate::version_choice::{number_of, or_auto, or_five};
 use crate::wrong::LineKind;
@@ -37,7 +39,7 @@ where
         (λ outcome. outcome ≡ Verdict.Found → CanFind line.now.words) }
     ensures faults { IfErr result (IsFaultOf line.now.words) }
 {
-    run_with_notes(rt, alloc, line, &mut Notes::new(alloc, false))
+    run_with_notes(rt, alloc, line, &mut Notes::new(alloc, false, NO_SCREEN))
 }
 
 /// Does what a command line says, as `run`, and notes why what failed has failed.
@@ -57,6 +59,7 @@ where
     let asked = number_of(or_five(line.version));
     let asked_or_found = number_of(or_auto(line.version));
     let missing_ok = line.missing_ok;
+    let columns = wants_columns(notes, line);
     let done = match line.words {
         Words::Show(log) => print_log(rt, alloc, Printing::Show, asked, log, notes),
         Words::Check(log) => print_log(rt, alloc, Printing::Check, asked, log, notes),
@@ -76,19 +79,34 @@ where
             return stream_log(rt, alloc, Streaming::Damage, log, missing_ok, notes);
         }
         Words::Doubt(log) => return doubt_in(rt, alloc, log, notes),
-        Words::Builds(log) => report_in(rt, alloc, Report::Builds, log, missing_ok, notes),
+        Words::Builds(log) => report_in(rt, alloc, columns, Report::Builds, log, missing_ok, notes),
         Words::Summary {
             log,
             build,
             all,
             kind,
             lines,
-        } => summary_in(rt, alloc, log, all, build, kind, lines, missing_ok, notes),
-        Words::Compare { old, new, lines } => {
-            compare_in(rt, alloc, old, new, lines, missing_ok, notes)
+        } => summary_in(
+            rt, alloc, columns, log, all, build, kind, lines, missing_ok, notes,
+        ),
+        Words::Critical {
+            log,
+            build,
+            all,
+            kind,
+            lines,
+            graph,
+        } => {
+            critical_in(
+                rt, alloc, columns, log, all, build, kind, lines, graph, missing_ok, notes,
+            )?;
+            return Ok(Verdict::Done);
         }
-        Words::Trace(log) => report_in(rt, alloc, Report::Trace, log, missing_ok, notes),
-        Words::Picture(log) => report_in(rt, alloc, Report::Picture, log, missing_ok, notes),
+        Words::Compare { old, new, lines } => {
+            compare_in(rt, alloc, columns, old, new, lines, missing_ok, notes)
+        }
+        Words::Trace(log) => report_in(rt, alloc, false, Report::Trace, log, missing_ok, notes),
+        Words::Picture(log) => report_in(rt, alloc, false, Report::Picture, log, missing_ok, notes),
         Words::Record {
             log,
             start,
@@ -110,4 +128,11 @@ where
     };
     done?;
     Ok(Verdict::Done)
+}
+
+// Whether what stands in fields is put in columns.
+fn wants_columns(notes: &Notes, line: &CommandLine<'_>) -> bool
+    ensures { result ≡ (notes.now.screen.output && not line.now.tabs) }
+{
+    notes.screen.output && !line.tabs
 }

@@ -287,7 +287,8 @@ pub fn refusal_of<'a>(
     Refusal { fault, why }
 }
 
-// Of two logs, the words that read the second of them, or the first; else the words as they are.
+// Of two logs, the words that read the second of them, or the first; of a log and a graph, the words that read the log, or a file;
+// else the words as they are.
 fn words_heard<'a>(words: &Words<'a>, is_second: bool) -> Words<'a>
     ensures { result ≡ words_heard words.now is_second }
 {
@@ -299,6 +300,25 @@ fn words_heard<'a>(words: &Words<'a>, is_second: bool) -> Words<'a>
             kind: None,
             lines,
         },
+        Words::Critical {
+            log,
+            build,
+            all,
+            kind,
+            lines,
+            graph,
+        } => {
+            if is_second {
+                return Words::HashFile(Some(graph));
+            }
+            Words::Summary {
+                log,
+                build,
+                all,
+                kind,
+                lines,
+            }
+        }
         other => other,
     }
 }
@@ -585,6 +605,14 @@ fn read_place<'a>(words: &Words<'a>) -> Option<Place<'a>>
             all: _,
             kind: _,
             lines: _,
+        }
+        | Words::Critical {
+            log: Some(log),
+            build: _,
+            all: _,
+            kind: _,
+            lines: _,
+            graph: _,
         } => Some(Place::Log(log)),
         Words::HashFile(Some(file))
         | Words::Prune {
@@ -612,6 +640,14 @@ fn read_place<'a>(words: &Words<'a>) -> Option<Place<'a>>
             all: _,
             kind: _,
             lines: _,
+        }
+        | Words::Critical {
+            log: None,
+            build: _,
+            all: _,
+            kind: _,
+            lines: _,
+            graph: _,
         }
         | Words::HashFile(None)
         | Words::Prune {
@@ -648,7 +684,8 @@ fn log_place<'a>(words: &Words<'a>, file: FileRole) -> Option<Place<'a>>
         | Words::Builds(_)
         | Words::Trace(_)
         | Words::Picture(_)
-        | Words::Summary { .. } => read_place(words),
+        | Words::Summary { .. }
+        | Words::Critical { .. } => read_place(words),
         Words::Hash(_) | Words::HashFile(_) | Words::Replay(_) | Words::Compare { .. } => None,
     }
 }

@@ -7,14 +7,15 @@ ghost use Rattle.nl_table.specs.Log.{log_of};
 ghost use Rattle.nl_tool_report.specs.Anew.{IsSaidAsRead};
 ghost use Rattle.nl_tool_report.specs.Builds.{IsReportAsRead};
 ghost use Rattle.nl_tool_report.specs.declared.scope.Scope.{Scope};
-ghost use Rattle.nl_tool_texts.specs.Output.{Prints};
 ghost use Rattle.nl_tool.specs.Answers.{RefusesLog};
 ghost use Rattle.nl_tool.specs.Faults.{IsSummaryFault};
-ghost use Rattle.nl_tool.specs.Reports.{IsBuild, IsMost, IsScope, report_anew, report_text, rule_of};
+ghost use Rattle.nl_tool.specs.Reports.{IsBuild, IsMost, IsScope, PrintsAs, PrintsReport, report_anew, report_text, rule_of};
 
 use crate::files::open_log;
 use crate::notes::{NotedReader, NotedWriter, Notes};
+use crate::progress::Telling;
 use nl_fields::read_i64;
+use nl_tool_columns::columns_to;
 use nl_tool_picture::picture_to;
 use nl_tool_report::{KindRule, Lists, Scope, builds_to, summary_to};
 use nl_tool_texts::ToolFault;
@@ -38,6 +39,7 @@ pub enum Report {
 pub fn summary_in<R: Runtime>(
     rt: &R,
     alloc: Global,
+    columns: bool,
     log: Option<&str>,
     all: bool,
     build: Option<&str>,
@@ -63,6 +65,7 @@ pub fn summary_in<R: Runtime>(
     report_in(
         rt,
         alloc,
+        columns,
         Report::Summary { scope, lists },
         log,
         missing_ok,
@@ -143,10 +146,11 @@ fn count_of(text: &str) -> Option<usize>
     usize::try_from(read_i64(text.as_bytes())?).ok()
 }
 
-// Tells it of the log at this path, or of standard input.
+// Tells it of the log at this path, or of standard input, in columns where they are wanted.
 pub fn report_in<R: Runtime>(
     rt: &R,
     alloc: Global,
+    columns: bool,
     report: Report,
     log: Option<&str>,
     missing_ok: bool,
@@ -156,23 +160,28 @@ pub fn report_in<R: Runtime>(
 {
     let mut out = NotedWriter::new(io::writer(rt));
     let mut anew = false;
+    let tells = notes.screen.errors;
     let file = match log {
         Some(path) => open_log(rt, path, missing_ok, notes)?,
         None => None,
     };
     let answer = match file {
-        Some(file) => report_to(
+        Some(file) => report_as(
             alloc,
+            columns,
             report,
-            NotedReader::new(file, &mut notes.heard),
+            NotedReader::new(Telling::new(rt, tells, file), &mut notes.heard),
             &mut out,
             &mut anew,
         ),
-        None if log.is_some() => report_to(alloc, report, io::empty(), &mut out, &mut anew),
-        None => report_to(
+        None if log.is_some() => {
+            report_as(alloc, columns, report, io::empty(), &mut out, &mut anew)
+        }
+        None => report_as(
             alloc,
+            columns,
             report,
-            NotedReader::new(rt.reader(), &mut notes.heard),
+            NotedReader::new(Telling::new(rt, tells, rt.reader()), &mut notes.heard),
             &mut out,
             &mut anew,
         ),
@@ -180,6 +189,34 @@ pub fn report_in<R: Runtime>(
     notes.written = out.failure;
     notes.is_anew = anew;
     answer
+}
+
+// Tells it of the log that the reader gives, in columns where they are wanted, and whether that was written anew.
+fn report_as<R: Read + Drop, W: Write>(
+    alloc: Global,
+    columns: bool,
+    report: Report,
+    reader: R,
+    writer: &mut W,
+    anew: &mut bool,
+) -> Result<(), ToolFault>
+    ensures prints { PrintsAs columns report
+        (IsReportAsRead (report_text report) (R.remaining reader)) (W.contents writer.old)
+        (W.contents writer.new) result }
+    ensures anew { OnOk result (IsSaidAsRead (report_anew report) (R.remaining reader) anew.new) }
+    ensures bytes { RefusesLog (λ bs. log_of (as_five bs)) (R.remaining reader) result }
+    ensures faults { IfErr result IsLogFault }
+{
+    if !columns {
+        return report_to(alloc, report, reader, writer, anew);
+    }
+    let mut text = Vec::new(alloc);
+    match report_to(alloc, report, reader, &mut text, anew) {
+        Ok(()) => columns_to(alloc, text.as_slice(), writer),
+        // The writer is memory, so a write that fails found no room there.
+        Err(ToolFault::Write) => Err(ToolFault::Memory),
+        Err(fault) => Err(fault),
+    }
 }
 
 // Tells it of the log that the reader gives, and whether that was written anew.
@@ -190,7 +227,7 @@ fn report_to<R: Read + Drop, W: Write>(
     writer: &mut W,
     anew: &mut bool,
 ) -> Result<(), ToolFault>
-    ensures prints { Prints (IsReportAsRead (report_text report) (R.remaining reader))
+    ensures prints { PrintsReport report (IsReportAsRead (report_text report) (R.remaining reader))
         (W.contents writer.old) (W.contents writer.new) result }
     ensures anew { OnOk result (IsSaidAsRead (report_anew report) (R.remaining reader) anew.new) }
     ensures bytes { RefusesLog (λ bs. log_of (as_five bs)) (R.remaining reader) result }

@@ -76,7 +76,7 @@ fn targets_from<R: Read + Drop>(
 ) -> Result<Vec<Name>, ToolFault>
     ensures faults { IfErr result IsTargetsFault }
 {
-    let mut own = Notes::new(alloc, notes.looks);
+    let mut own = Notes::new(alloc, notes.looks, notes.screen);
     own.watch(LineKind::Targets);
     let answer = read_manifest(alloc, NotedReader::new(reader, &mut own.heard));
     if answer.is_err() {

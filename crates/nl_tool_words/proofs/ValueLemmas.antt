@@ -12,8 +12,8 @@ use Rattle.clap.specs.declared.parser.matches.ArgMatches.{ArgMatches}
 use Rattle.clap.specs.declared.parser.matches.ArgMatches.TheViews.{out-ArgMatches, out-SubCommand}
 use Rattle.clap.specs.declared.parser.matches.SubCommand.{SubCommand}
 use Rattle.nl_tool_words.specs.declared.command_line.Words.{Words}
-use Rattle.nl_tool_words.specs.CommandLine.{all_id, all_rule, build_id, build_rule, kind_id, kind_rule, files_id, files_rule, manifest_id, manifest_rule}
-use Rattle.nl_tool_words.specs.CommandLine.{HasEach, IsSaid, IsComplete, lines_id, lines_rule, missing_id, missing_rule, required_of, verbose_id}
+use Rattle.nl_tool_words.specs.CommandLine.{all_id, all_rule, build_id, build_rule, kind_id, kind_rule, files_id, files_rule, graph_id, graph_rule, manifest_id, manifest_rule}
+use Rattle.nl_tool_words.specs.CommandLine.{HasEach, IsSaid, IsComplete, lines_id, lines_rule, missing_id, missing_rule, required_of, tabs_id, tabs_rule, verbose_id}
 use Rattle.nl_tool_words.specs.CommandLine.{verbose_rule}
 use Rattle.nl_tool_words.specs.CommandLine.{version_id, version_rule}
 
@@ -72,6 +72,14 @@ build_told new long named told name value text e f g is id =
     ap rule_of g ∙ (ap rule_of f ∙ ap (λ (a : Rule). record a { value_names = 1 }) (ap rule_of e
     ∙ ap₂ (λ (a : Rule) (t : Text). record a { long = Some t }) is id))
 
+-- the option for a graph, by how it is put together
+pub graph_told : (new long named told : Arg) (name value text : Bor Text)
+    → long ≡ record new { long = Some name } → named ≡ record long { val_names = One value } → told ≡ record named { help = Some text }
+    → rule_of new ≡ new_rule graph_id → name.now ≡ graph_id → rule_of told ≡ graph_rule
+graph_told new long named told name value text e f g is id =
+    ap rule_of g ∙ (ap rule_of f ∙ ap (λ (a : Rule). record a { value_names = 1 }) (ap rule_of e
+    ∙ ap₂ (λ (a : Rule) (t : Text). record a { long = Some t }) is id))
+
 -- the option for kinds, by how it is put together
 pub kind_told : (new long named told : Arg) (name value text : Bor Text)
     → long ≡ record new { long = Some name } → named ≡ record long { val_names = One value } → told ≡ record named { help = Some text }
@@ -105,6 +113,15 @@ pub missing_told : (new long flag told : Arg) (name text : Bor Text)
     → long ≡ record new { long = Some name } → flag ≡ record long { action = Some SetTrue } → told ≡ record flag { help = Some text }
     → rule_of new ≡ new_rule missing_id → name.now ≡ missing_id → rule_of told ≡ missing_rule
 missing_told new long flag told name text e f g is id =
+    ap rule_of g ∙ (ap rule_of f ∙ ap (λ (a : Rule). record a { action = Some SetTrue })
+    (ap rule_of e ∙ ap₂ (λ (a : Rule) (t : Text). record a { long = Some t }) is id))
+
+-- the flag for tabs, by how it is put together
+pub tabs_told : (new long flag told : Arg) (name text : Bor Text)
+    → long ≡ record new { long = Some name } → flag ≡ record long { action = Some SetTrue }
+    → told ≡ record flag { help = Some text }
+    → rule_of new ≡ new_rule tabs_id → name.now ≡ tabs_id → rule_of told ≡ tabs_rule
+tabs_told new long flag told name text e f g is id =
     ap rule_of g ∙ (ap rule_of f ∙ ap (λ (a : Rule). record a { action = Some SetTrue })
     (ap rule_of e ∙ ap₂ (λ (a : Rule) (t : Text). record a { long = Some t }) is id))
 

@@ -14,7 +14,7 @@ use Rattle.nl_tool_words.specs.declared.form.Form.TheVariants as form
 use Rattle.nl_tool_words.specs.declared.version.AskedVersion.{AskedVersion}
 use Rattle.nl_tool_words.specs.declared.version.AskedVersion.TheVariants.{Auto, Five, Six, Seven}
 use Rattle.nl_tool_words.specs.declared.command_line.Words.{Words}
-use Rattle.nl_tool_words.specs.declared.command_line.Words.TheVariants.{Show, Check, Hash, Entries, Damage, Doubt, Builds, Summary, Compare, Trace, Picture, HashFile, Record, Recompact, Restat}
+use Rattle.nl_tool_words.specs.declared.command_line.Words.TheVariants.{Show, Check, Hash, Entries, Damage, Doubt, Builds, Summary, Critical, Compare, Trace, Picture, HashFile, Record, Recompact, Restat}
 use Rattle.nl_tool_words.specs.declared.command_line.Words.TheVariants.{Repair, Replay, Apply, Prune, Retime}
 use Rattle.std.specs.Borrow.{Bor}
 
@@ -54,6 +54,14 @@ kind_id = codes "kind"
 abbrev pub kind_rule : Rule
 kind_rule = record (new_rule kind_id) { long = Some kind_id; value_names = 1 }
 
+-- the name of the option for the graph of a build
+abbrev pub graph_id : Text
+graph_id = codes "graph"
+
+-- the option: it has one value
+abbrev pub graph_rule : Rule
+graph_rule = record (new_rule graph_id) { long = Some graph_id; value_names = 1 }
+
 -- the name of the flag for the last entries of all outputs
 abbrev pub all_id : Text
 all_id = codes "all"
@@ -75,6 +83,13 @@ missing_id = codes "missing-ok"
 
 abbrev pub missing_rule : Rule
 missing_rule = record (new_rule missing_id) { long = Some missing_id; action = Some SetTrue }
+
+-- the name of the flag by which tabs stand between fields at a terminal too
+abbrev pub tabs_id : Text
+tabs_id = codes "tabs"
+
+abbrev pub tabs_rule : Rule
+tabs_rule = record (new_rule tabs_id) { long = Some tabs_id; action = Some SetTrue }
 
 -- the name of the option for the targets of a build
 abbrev pub manifest_id : Text
@@ -118,19 +133,22 @@ abbrev pub doubt : App
 doubt = with_rule (with_rule (new_app (codes "doubt")) (positional (codes "LOG") false)) version_rule
 
 abbrev pub builds : App
-builds = with_any_log (new_app (codes "builds"))
+builds = with_rule (with_any_log (new_app (codes "builds"))) tabs_rule
 
 abbrev pub summary : App
-summary = with_rule (with_rule (with_rule (with_rule (with_any_log (new_app (codes "summary"))) build_rule) all_rule) kind_rule) lines_rule
+summary = with_rule
+    (with_rule (with_rule (with_rule (with_rule (with_rule (with_any_log (new_app (codes "summary"))) build_rule) all_rule) kind_rule) lines_rule) graph_rule)
+    tabs_rule
 
 -- two logs, which have to be there
 abbrev pub compare : App
-compare = with_rule (with_rule (with_rule (with_rule (with_rule (new_app (codes "compare"))
+compare = with_rule (with_rule (with_rule (with_rule (with_rule (with_rule (new_app (codes "compare"))
     (positional (codes "OLD") true))
     (positional (codes "NEW") true))
     version_rule)
     missing_rule)
-    lines_rule
+    lines_rule)
+    tabs_rule
 
 abbrev pub trace : App
 trace = with_any_log (new_app (codes "trace"))
@@ -296,7 +314,10 @@ IsSaid (Doubt log) (Some p) = (p.0 ≡ codes "doubt") × IsGiven (codes "LOG") p
 IsSaid (Builds log) (Some p) = (p.0 ≡ codes "builds") × IsGiven (codes "LOG") p.1 log
 IsSaid (Summary log build all kind lines) (Some p) = (p.0 ≡ codes "summary")
     × IsGiven (codes "LOG") p.1 log × IsGiven build_id p.1 build × (all ≡ is_set_in all_id p.1)
-    × IsGiven kind_id p.1 kind × IsGiven lines_id p.1 lines
+    × IsGiven kind_id p.1 kind × IsGiven lines_id p.1 lines × IsGiven graph_id p.1 None
+IsSaid (Critical log build all kind lines graph) (Some p) = (p.0 ≡ codes "summary")
+    × IsGiven (codes "LOG") p.1 log × IsGiven build_id p.1 build × (all ≡ is_set_in all_id p.1)
+    × IsGiven kind_id p.1 kind × IsGiven lines_id p.1 lines × IsThere graph_id p.1 graph
 IsSaid (Compare old new lines) (Some p) = (p.0 ≡ codes "compare")
     × IsThere (codes "OLD") p.1 old × IsThere (codes "NEW") p.1 new × IsGiven lines_id p.1 lines
 IsSaid (Trace log) (Some p) = (p.0 ≡ codes "trace") × IsGiven (codes "LOG") p.1 log
@@ -379,6 +400,10 @@ asks_reason entered = is_flagged verbose_id entered
 -- whether a log may be missing
 abbrev pub allows_missing : Option (Text × List Row) → Bool
 allows_missing entered = is_flagged missing_id entered
+
+-- whether tabs stand between fields at a terminal too
+abbrev pub asks_tabs : Option (Text × List Row) → Bool
+asks_tabs entered = is_flagged tabs_id entered
 
 -- the kind of error of a version that the command which was entered doesn't take
 abbrev pub version_fault : Option (Text × List Row) → Kinds

@@ -1,7 +1,7 @@
 //! The command that a command line names, and the values that it gives.
 ghost use Rattle.std.specs.Prelude.{◌≡◌, codes, is_some, map, option_map, string_bytes, true, IfErr, IfOk};
 ghost use Rattle.clap.specs.Words.{first_of, found_of, kind_of, rows_of, subcommand_rows_of, FailsBy};
-ghost use Rattle.nl_tool_words.specs.CommandLine.{allows_missing, asked_text, asks_reason, entered_of, fault_in, asked_kind, asks_both, choice_fault, is_flagged, is_kind_text, is_set_in, kind_fault, required_of, scope_fault, version_fault};
+ghost use Rattle.nl_tool_words.specs.CommandLine.{allows_missing, asked_text, asks_reason, asks_tabs, entered_of, fault_in, asked_kind, asks_both, choice_fault, is_flagged, is_kind_text, is_set_in, kind_fault, required_of, scope_fault, version_fault};
 ghost use Rattle.nl_tool_words.specs.CommandLine.{HasEach, HasLog, IsAsked, IsComplete, IsCompleteBy, IsGiven, IsPrunedBy, IsRetimedBy, IsSaid, IsSaidBy, IsThere};
 ghost use Rattle.nl_tool_words.specs.Form.{form_of};
 
@@ -31,6 +31,15 @@ pub enum Words<'a> {
         /// The rule by which kinds are told apart: `extension`, `folder` or `top`.
         kind: Option<&'a str>,
         lines: Option<&'a str>,
+    },
+    /// `summary` with the critical path by a graph.
+    Critical {
+        log: Option<&'a str>,
+        build: Option<&'a str>,
+        all: bool,
+        kind: Option<&'a str>,
+        lines: Option<&'a str>,
+        graph: &'a str,
     },
     Compare {
         old: &'a str,
@@ -81,6 +90,8 @@ pub struct CommandLine<'a> {
     pub verbose: bool,
     /// Whether a log that is missing is taken for an empty one, by the words that else refuse it.
     pub missing_ok: bool,
+    /// Whether tabs stand between fields at a terminal too.
+    pub tabs: bool,
 }
 
 /// Reads a command line, of which the first word is the program's name.
@@ -96,6 +107,8 @@ pub fn read_words<'a>(alloc: Global, words: &'a [String]) -> Result<CommandLine<
         line.verbose ≡ asks_reason (entered_of (map string_bytes words.entry.now))) }
     ensures missing_ok { IfOk result (λ line.
         line.missing_ok ≡ allows_missing (entered_of (map string_bytes words.entry.now))) }
+    ensures tabs { IfOk result (λ line.
+        line.tabs ≡ asks_tabs (entered_of (map string_bytes words.entry.now))) }
     ensures accepts { FailsBy (fault_in (map string_bytes words.entry.now)) result }
 {
     let form = form_of(words);
@@ -107,6 +120,7 @@ pub fn read_words<'a>(alloc: Global, words: &'a [String]) -> Result<CommandLine<
         version,
         verbose: is_verbose(&matches),
         missing_ok: is_missing_ok(&matches),
+        tabs: has_tabs(&matches),
     })
 }
 
@@ -122,6 +136,13 @@ fn is_missing_ok(matches: &ArgMatches<'_>) -> bool
     ensures { result ≡ allows_missing (subcommand_rows_of matches.now) }
 {
     is_flagged(matches, "missing-ok")
+}
+
+// Whether tabs stand between fields at a terminal too.
+fn has_tabs(matches: &ArgMatches<'_>) -> bool
+    ensures { result ≡ asks_tabs (subcommand_rows_of matches.now) }
+{
+    is_flagged(matches, "tabs")
 }
 
 // Whether the command that was entered was given the flag of this name.
@@ -338,12 +359,27 @@ fn hash_words<'a>(inner: &ArgMatches<'a>) -> Words<'a>
 fn summary_words<'a>(inner: &ArgMatches<'a>) -> Words<'a>
     ensures value { IsSaid result (Some (codes "summary", rows_of (found_of inner.now))) }
 {
-    Words::Summary {
-        log: optional(inner, "LOG"),
-        build: optional(inner, "build"),
-        all: is_set(inner, "all"),
-        kind: optional(inner, "kind"),
-        lines: optional(inner, "lines"),
+    let log = optional(inner, "LOG");
+    let build = optional(inner, "build");
+    let all = is_set(inner, "all");
+    let kind = optional(inner, "kind");
+    let lines = optional(inner, "lines");
+    match optional(inner, "graph") {
+        Some(graph) => Words::Critical {
+            log,
+            build,
+            all,
+            kind,
+            lines,
+            graph,
+        },
+        None => Words::Summary {
+            log,
+            build,
+            all,
+            kind,
+            lines,
+        },
     }
 }
 

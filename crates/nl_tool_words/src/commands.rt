@@ -2,8 +2,8 @@
 ghost use Rattle.std.specs.Prelude.{◌≡◌, IfOk, false};
 ghost use Rattle.clap.specs.Words.{app_of, with_rule};
 ghost use Rattle.clap.specs.declared.builder.command.Command.TheViews.{out-Command};
-ghost use Rattle.nl_tool_words.specs.CommandLine.{all_rule, apply, build_rule, builds, check, compare, damage, doubt, entries, files_rule, hash, hash_file, kind_rule, lines_rule, manifest_rule, missing_rule, positional, pruning, recompact};
-ghost use Rattle.nl_tool_words.specs.CommandLine.{picture, record_line, record_values, repair, replay, restat, retiming, show, summary, trace, version_rule, with_any_log};
+ghost use Rattle.nl_tool_words.specs.CommandLine.{all_rule, apply, build_rule, builds, check, compare, damage, doubt, entries, files_rule, graph_rule, hash, hash_file, kind_rule, lines_rule, manifest_rule, missing_rule, positional, pruning, recompact};
+ghost use Rattle.nl_tool_words.specs.CommandLine.{picture, record_line, record_values, repair, replay, restat, retiming, show, summary, tabs_rule, trace, version_rule, with_any_log};
 
 use clap::{Arg, ArgAction, Command};
 use std::alloc::{AllocError, Global};
@@ -35,6 +35,8 @@ const LINES: &str = "How many lines each list has at most: 10 where it is left o
 
 const BUILD: &str =
     "The number of a build, as `builds` tells it; the last build where it is left out";
+
+const GRAPH: &str = "What `ninja -t graph` prints: the critical path is told too";
 
 const AUTO_VERSION: &str =
     "auto alone: the version is the one that LOG's first line names, as where it is left out";
@@ -108,6 +110,16 @@ fn with_kind<'a>(alloc: Global, command: Command<'a>) -> Result<Command<'a>, All
     command.arg(option.value_name("RULE").help(KIND))
 }
 
+// The command with the option for the graph of a build.
+fn with_graph<'a>(alloc: Global, command: Command<'a>) -> Result<Command<'a>, AllocError>
+    ensures shape { IfOk result (λ c. app_of c ≡ with_rule (app_of command.entry) graph_rule) }
+    ensures local { IfOk result
+        (λ c. (out-Command c).has_globals ≡ (out-Command command.entry).has_globals) }
+{
+    let option = Arg::new(alloc, "graph").long("graph");
+    command.arg(option.value_name("FILE").help(GRAPH))
+}
+
 // The command with the flag for all outputs.
 fn with_all<'a>(alloc: Global, command: Command<'a>) -> Result<Command<'a>, AllocError>
     ensures shape { IfOk result (λ c. app_of c ≡ with_rule (app_of command.entry) all_rule) }
@@ -128,6 +140,17 @@ fn with_missing_ok<'a>(alloc: Global, command: Command<'a>) -> Result<Command<'a
     let flag = Arg::new(alloc, "missing-ok").long("missing-ok");
     let flag = flag.action(ArgAction::SetTrue);
     command.arg(flag.help("Takes a LOG that is missing for an empty one"))
+}
+
+// The command with the flag by which tabs stand between fields at a terminal too.
+fn with_tabs<'a>(alloc: Global, command: Command<'a>) -> Result<Command<'a>, AllocError>
+    ensures shape { IfOk result (λ c. app_of c ≡ with_rule (app_of command.entry) tabs_rule) }
+    ensures local { IfOk result
+        (λ c. (out-Command c).has_globals ≡ (out-Command command.entry).has_globals) }
+{
+    let flag = Arg::new(alloc, "tabs").long("tabs");
+    let flag = flag.action(ArgAction::SetTrue);
+    command.arg(flag.help("Puts a tab between fields at a terminal too, in place of columns"))
 }
 
 // The command with the option for the targets of a build.
@@ -322,7 +345,8 @@ last build is told by
 
   nlog builds .ninja_log | tail -n 1",
         );
-    with_any_log(alloc, command)
+    let command = with_any_log(alloc, command)?;
+    with_tabs(alloc, command)
 }
 
 pub fn summary_command<'a>(alloc: Global) -> Result<Command<'a>, AllocError>
@@ -333,6 +357,8 @@ pub fn summary_command<'a>(alloc: Global) -> Result<Command<'a>, AllocError>
         .about("Prints how long a build took, how much ran at a time, and its slowest commands")
         .after_help(
             "\
+A line for each of these, its name and what it is with a tab between them:
+
 commands  how many commands ended in it
 outputs   how many outputs these made
 wall      milliseconds from the first START to the last END
@@ -345,7 +371,7 @@ slowest   the command that took the longest: its milliseconds, and its first out
 A line `unfinished` tells how many outputs wait for a command that didn't end, where one does.
 
 Two lists of commands follow: those that took the longest, and those with the longest weighted time.
-One line for each: KEY, TIME, WEIGHTED and OUTPUT with a space between neighbours.
+One line for each: KEY, TIME, WEIGHTED and OUTPUT.
 
 KEY       `by-time` or `by-weight`: what the list goes by; equal ones stand as in LOG
 TIME      how long the command took, in milliseconds
@@ -363,13 +389,19 @@ KIND      of the first output the extension with its dot, or by RULE the folder,
 
 Commands and builds are those of `builds`. Where LOG has no entry, nothing is printed. Where it has
 fewer builds than BUILD, a line `builds` tells how many it has, in the place of all but `unfinished`.
-With `--all`, each START and END counts from the beginning of its own build.",
+With `--all`, each START and END counts from the beginning of its own build.
+
+With `--graph`, a line `critical-path` tells how long the commands of a longest path took together, in
+milliseconds. A line for each of them follows, in order, if it took any time: `on-path`, TIME, START, END
+and OUTPUT.",
         );
     let command = with_any_log(alloc, command)?;
     let command = with_build(alloc, command)?;
     let command = with_all(alloc, command)?;
     let command = with_kind(alloc, command)?;
-    with_lines(alloc, command, LINES)
+    let command = with_lines(alloc, command, LINES)?;
+    let command = with_graph(alloc, command)?;
+    with_tabs(alloc, command)
 }
 
 pub fn compare_command<'a>(alloc: Global) -> Result<Command<'a>, AllocError>
@@ -401,7 +433,8 @@ with several outputs counts once for each.",
     let command = with_value(alloc, command, "NEW", true, NEW)?;
     let command = with_version(alloc, command, AUTO_VERSION)?;
     let command = with_missing_ok(alloc, command)?;
-    with_lines(alloc, command, LINES)
+    let command = with_lines(alloc, command, LINES)?;
+    with_tabs(alloc, command)
 }
 
 pub fn trace_command<'a>(alloc: Global) -> Result<Command<'a>, AllocError>
@@ -451,7 +484,7 @@ What is narrower than half a pixel has one bar together with its neighbours of t
 and kind.
 
 Below the lanes is the curve of how many commands ran. Commands and builds are those of `builds`. A
-byte that isn't UTF-8, and a control character, is shown as U+FFFD.",
+byte that isn't UTF-8, and what XML can't have, is shown as U+FFFD.",
         );
     with_any_log(alloc, command)
 }

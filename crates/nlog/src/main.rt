@@ -1,9 +1,14 @@
 //! `nlog`, a reader and keeper of build logs.
 #![tactic(auto)]
 
-use nl_tool::run_program;
+use nl_tool::{Screen, run_program};
+use std::io::IsTerminal;
 use std::process::ExitCode;
 
 fn main(rt: HostRuntime) -> ExitCode {
-    ExitCode::from(run_program(&rt))
+    let screen = Screen {
+        output: rt.stdout().is_terminal(),
+        errors: rt.stderr().is_terminal(),
+    };
+    ExitCode::from(run_program(&rt, screen))
 }

@@ -1,12 +1,11 @@
 use Rattle.std.proofs.Common.{◌≡◌, List, ℕ, Option, None, Some, Result, Ok, Err, refl, sym, subst}
 use Rattle.std.specs.Prelude.{false, OnOk}
 use Rattle.nl_table.specs.Log.{LogReading, Log, NotALog, OtherVersion, log_of}
-use Rattle.nl_tool_texts.specs.Output.{Prints}
 use Rattle.nl_tool_texts.specs.declared.fault.ToolFault.{ToolFault}
 use Rattle.nl_versions.specs.VersionOf.{as_five}
 use Rattle.nl_tool_report.specs.Anew.{IsSaidAsRead, said_of}
 use Rattle.nl_tool_report.specs.Builds.{IsReportAsRead}
-use Rattle.nl_tool.specs.Reports.{report_anew, report_text}
+use Rattle.nl_tool.specs.Reports.{PrintsReport, report_anew, report_text}
 use Rattle.nl_tool.specs.declared.reporting.Report.{Report}
 use Rattle.nl_tool.proofs.reporting.report_to.Goals as goal
 
@@ -25,7 +24,7 @@ whatever (Ok x) P p = p
 whatever (Err e) P p = tt
 
 pub returns-in-Builds-clause-prints : goal.returns-in-Builds-clause-prints
-returns-in-Builds-clause-prints g c = subst (λ (r : Report). Prints (IsReportAsRead (report_text r) (g.R.Read.remaining c.args.reader))
+returns-in-Builds-clause-prints g c = subst (λ (r : Report). PrintsReport r (IsReportAsRead (report_text r) (g.R.Read.remaining c.args.reader))
     (g.W.Write.contents c.args.writer.now) (g.W.Write.contents c.builds_to.new.writer) c.builds_to.result)
     (sym c.in-Builds.is) c.builds_to.ensures.prints
 
@@ -35,7 +34,7 @@ returns-in-Builds-clause-anew g c = subst (λ (r : Report). OnOk c.builds_to.res
     (sym c.in-Builds.is) c.builds_to.ensures.anew
 
 pub returns-in-Summary-clause-prints : goal.returns-in-Summary-clause-prints
-returns-in-Summary-clause-prints g c = subst (λ (r : Report). Prints (IsReportAsRead (report_text r) (g.R.Read.remaining c.args.reader))
+returns-in-Summary-clause-prints g c = subst (λ (r : Report). PrintsReport r (IsReportAsRead (report_text r) (g.R.Read.remaining c.args.reader))
     (g.W.Write.contents c.args.writer.now) (g.W.Write.contents c.summary_to.new.writer) c.summary_to.result)
     (sym c.in-Summary.is) c.summary_to.ensures.prints
 
@@ -45,7 +44,7 @@ returns-in-Summary-clause-anew g c = subst (λ (r : Report). OnOk c.summary_to.r
     (sym c.in-Summary.is) c.summary_to.ensures.anew
 
 pub returns-in-Trace-clause-prints : goal.returns-in-Trace-clause-prints
-returns-in-Trace-clause-prints g c = subst (λ (r : Report). Prints (IsReportAsRead (report_text r) (g.R.Read.remaining c.args.reader))
+returns-in-Trace-clause-prints g c = subst (λ (r : Report). PrintsReport r (IsReportAsRead (report_text r) (g.R.Read.remaining c.args.reader))
     (g.W.Write.contents c.args.writer.now) (g.W.Write.contents c.trace_to.new.writer) c.trace_to.result)
     (sym c.in-Trace.is) c.trace_to.ensures.prints
 
@@ -55,7 +54,7 @@ returns-in-Trace-clause-anew g c = subst (λ (r : Report). OnOk c.trace_to.resul
     (whatever c.trace_to.result _ (never_said (g.R.Read.remaining c.args.reader)))
 
 pub returns-in-Picture-clause-prints : goal.returns-in-Picture-clause-prints
-returns-in-Picture-clause-prints g c = subst (λ (r : Report). Prints (IsReportAsRead (report_text r) (g.R.Read.remaining c.args.reader))
+returns-in-Picture-clause-prints g c = subst (λ (r : Report). PrintsReport r (IsReportAsRead (report_text r) (g.R.Read.remaining c.args.reader))
     (g.W.Write.contents c.args.writer.now) (g.W.Write.contents c.picture_to.new.writer) c.picture_to.result)
     (sym c.in-Picture.is) c.picture_to.ensures.prints
 

@@ -2,7 +2,7 @@ use Rattle.std.proofs.Common.{◌≡◌, ◌∙◌, List, Option, ap, map, strin
 use Rattle.clap.specs.Words.{App, HasKind, Row, Text, app_of, fault_of, is_simple, is_simple_and_free, subcommand_of}
 use Rattle.nl_tool_words.proofs.DefinitionLemmas.{fails_on, form_is_free, form_is_simple, form_whole}
 use Rattle.nl_tool_words.proofs.AskedLemmas.{first_kind, no_kind, second_kind}
-use Rattle.nl_tool_words.specs.CommandLine.{IsAsked, IsCompleteBy, IsSaidBy, allows_missing, app_for, asked_text, asks_reason, entered_of, fault_in}
+use Rattle.nl_tool_words.specs.CommandLine.{IsAsked, IsCompleteBy, IsSaidBy, allows_missing, app_for, asked_text, asks_reason, asks_tabs, entered_of, fault_in}
 use Rattle.nl_tool_words.specs.CommandLine.{choice_fault, version_fault}
 use Rattle.nl_tool_words.specs.Form.{form_of}
 use Rattle.nl_tool_words.proofs.command_line.read_words.Goals as goal
@@ -104,3 +104,11 @@ returns-clause-missing_ok c =
     let is_app : app_of c.in_ok-command_for.field-0 ≡ app_for f = c.in_ok-command_for.ensures ∙ ap app_for c.form_of-form.ensures.value in
     let e = (c.in_ok-matches.ensures.matches (ap is_simple is_app ∙ form_is_simple f)).1 ∙ ap (λ (a : App). subcommand_of a words) is_app in
     c.is_missing_ok.ensures ∙ ap allows_missing e
+
+pub returns-clause-tabs : goal.returns-clause-tabs
+returns-clause-tabs c =
+    let words = map string_bytes c.args.words.now in
+    let f = form_of words in
+    let is_app : app_of c.in_ok-command_for.field-0 ≡ app_for f = c.in_ok-command_for.ensures ∙ ap app_for c.form_of-form.ensures.value in
+    let e = (c.in_ok-matches.ensures.matches (ap is_simple is_app ∙ form_is_simple f)).1 ∙ ap (λ (a : App). subcommand_of a words) is_app in
+    c.has_tabs.ensures ∙ ap asks_tabs e

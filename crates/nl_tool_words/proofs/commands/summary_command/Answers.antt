@@ -10,7 +10,9 @@ returns-clause-shape c =
     let two = with_one _ _ _ _ c.in_ok-command-2.ensures.shape one in
     let three = with_one _ _ _ _ c.in_ok-command-3.ensures.shape two in
     let four = with_one _ _ _ _ c.in_ok-command-4.ensures.shape three in
-    IfOk-weaker c.with_lines.result _ _ (λ r h. with_one _ _ _ _ h four) c.with_lines.ensures.shape
+    let five = with_one _ _ _ _ c.in_ok-command-5.ensures.shape four in
+    let six = with_one _ _ _ _ c.in_ok-command-6.ensures.shape five in
+    IfOk-weaker c.with_tabs.result _ _ (λ r h. with_one _ _ _ _ h six) c.with_tabs.ensures.shape
 
 pub returns-clause-local : goal.returns-clause-local
 returns-clause-local c =
@@ -19,4 +21,6 @@ returns-clause-local c =
     let two = c.in_ok-command-2.ensures.local ∙ one in
     let three = c.in_ok-command-3.ensures.local ∙ two in
     let four = c.in_ok-command-4.ensures.local ∙ three in
-    IfOk-weaker c.with_lines.result _ _ (λ r h. h ∙ four) c.with_lines.ensures.local
+    let five = c.in_ok-command-5.ensures.local ∙ four in
+    let six = c.in_ok-command-6.ensures.local ∙ five in
+    IfOk-weaker c.with_tabs.result _ _ (λ r h. h ∙ six) c.with_tabs.ensures.local

@@ -1,0 +1,16 @@
+//! Which of the standard streams a person looks at.
+
+/// Which of the standard streams are terminals.
+#[derive(Clone, Copy, Debug, PartialEq, Eq, Drop)]
+pub struct Screen {
+    /// Standard output is: what stands in fields is put in columns.
+    pub output: bool,
+    /// Standard error is: it is told how far a log is read, where that takes long.
+    pub errors: bool,
+}
+
+/// Neither is a terminal.
+pub const NO_SCREEN: Screen = Screen {
+    output: false,
+    errors: false,
+};

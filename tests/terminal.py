@@ -1,0 +1,171 @@
+#!/usr/bin/env python3
+"""Tries what the program prints at a terminal: columns in place of tabs, and how far a log is read where that takes long.
+
+    python3 tests/terminal.py PROGRAM
+
+A pseudoterminal stands for standard output, or for standard error. What is wanted is laid out by hand, or by `columns_of`
+here: fields that tabs part, where the lines with as many fields share their columns.
+"""
+import os
+import pty
+import subprocess
+import sys
+import tempfile
+import time
+
+from trials import main, run
+
+LOG = (
+    b"# ninja log v7\n0\t40\t1\tb.o\tbb\n10\t50\t1\ta.o\taa\n10\t50\t1\ta.d\taa\n50\t70\t1\tapp\tcc\n5\t65\t2\tlib/\xc3\xa4 b.o\tbd\n"
+)
+EARLIER = b"# ninja log v7\n0\t45\t1\tb.o\tbb\n0\t50\t1\ta.o\taa\n0\t5\t1\told.o\tee\n"
+
+BUILDS = b"1  3  4  70  100  sure\n2  1  1  60   60  sure\n"
+SUMMARY = (
+    b"commands     1\noutputs      1\nwall        60\ntotal       60\nbusy        60\nalone       60\nparallel  1.00\n"
+    b"slowest  60  lib/\xc3\xa4 b.o\n"
+    b"by-time    60  60.00  lib/\xc3\xa4 b.o\nby-weight  60  60.00  lib/\xc3\xa4 b.o\n"
+    b"kinds-by-time    1  60  60.00  .o\nkinds-by-weight  1  60  60.00  .o\n"
+)
+# One build, of which the first output is the slowest: its name has three characters, of five bytes.
+WIDE = b"# ninja log v7\n0\t9\t1\t\xe2\x82\xac.o\tbb\n0\t9\t1\tlonger.o\tcc\n"
+WIDE_BY_TIME = b"by-time    9  4.50  \xe2\x82\xac.o\nby-time    9  4.50  longer.o\n"
+# Of the outputs of both, `b.o` took 5 ms less, and `a.o` 10 ms.
+COMPARED = (
+    b"hashes  compared\n"
+    b"total  new         3  120   0  120\n"
+    b"total  gone        1   -5   5    0\n"
+    b"total  changed     0    0   0    0\n"
+    b"total  slower      0    0   0    0\n"
+    b"total  faster      2  -15  95   80\n"
+    b"total  unfinished  0    0   0    0\n"
+    b"total  same        0    0   0    0\n"
+    b"new      60   0  60  lib/\xc3\xa4 b.o\n"
+    b"new      40   0  40  a.d\n"
+    b"new      20   0  20  app\n"
+    b"gone     -5   5   0  old.o\n"
+    b"faster  -10  50  40  a.o\n"
+    b"faster   -5  45  40  b.o\n"
+)
+
+
+def width(field):
+    """How many characters of UTF-8 a field has."""
+    return sum(not 128 <= byte < 192 for byte in field)
+
+
+def columns_of(text):
+    rows = [line.split(b"\t") for line in text.split(b"\n")]
+    laid = []
+    for row in rows:
+        cells = []
+        for at, field in enumerate(row):
+            column = [it[at] for it in rows if len(it) == len(row)]
+            spaces = b" " * (max(map(width, column)) - width(field))
+            is_last = at == len(row) - 1
+            if all(set(it) <= set(b"0123456789-.") for it in column):
+                cells.append(spaces + field + (b"" if is_last else b"  "))
+            else:
+                cells.append(field + (b"" if is_last else spaces + b"  "))
+        laid.append(b"".join(cells))
+    return b"\n".join(laid)
+
+
+def read_all(end):
+    """What was written to a terminal, until nobody has it open; its line ends are those of the program."""
+    found = b""
+    while True:
+        try:
+            more = os.read(end, 65536)
+        except OSError:
+            more = b""
+        if not more:
+            os.close(end)
+            return found.replace(b"\r\n", b"\n")
+        found += more
+
+
+def at_terminal(words, is_output, text=b"", pause=0.0):
+    """Runs a program with a terminal for standard output, or for standard error: its status, and what it wrote to each. Standard input has two
+    halves of the text, with a pause between them."""
+    ours, theirs = pty.openpty()
+    other = tempfile.TemporaryFile()
+    streams = {"stdout": theirs, "stderr": other} if is_output else {"stdout": other, "stderr": theirs}
+    ran = subprocess.Popen(words, stdin=subprocess.PIPE, **streams)
+    os.close(theirs)
+    half = len(text) // 2
+    ran.stdin.write(text[:half])
+    ran.stdin.flush()
+    time.sleep(pause)
+    ran.stdin.write(text[half:])
+    ran.stdin.close()
+    shown, status = read_all(ours), ran.wait()
+    other.seek(0)
+    return (status, shown, other.read()) if is_output else (status, other.read(), shown)
+
+
+def try_columns(trials, program, log, earlier):
+    wide = [program, "summary", "-n", "2"]
+    cases = (
+        ("builds", [program, "builds", log], BUILDS),
+        ("summary", [program, "summary", log], SUMMARY),
+        ("summary of a name of several bytes a character", wide, None),
+        ("compare", [program, "compare", earlier, log], COMPARED),
+        ("compare, with the totals alone", [program, "compare", "-n", "0", earlier, log], None),
+        ("summary of no log", [program, "summary", os.devnull], None),
+    )
+    for what, words, by_hand in cases:
+        given = WIDE if words is wide else b""
+        piped = run(words, stdin=None, input=given)
+        status, shown, said = at_terminal(words, True, given)
+        trials.want(f"{what}: at a terminal", (status, shown, said), (piped[0], columns_of(piped[1]), piped[2]))
+        if by_hand is not None:
+            trials.want(f"{what}: by hand", shown, by_hand)
+        if words is wide:
+            trials.check(f"{what}: by hand", WIDE_BY_TIME in shown, repr(shown))
+        trials.want(f"{what}: with --tabs", at_terminal([*words, "--tabs"], True, given), piped)
+        trials.want(f"{what}: with --tabs, to a pipe", run([*words, "--tabs"], stdin=None, input=given), piped)
+    # What isn't in fields, or is for programs, is as it is everywhere.
+    for word in ("show", "check", "entries", "damage", "trace", "picture"):
+        words = [program, word, "--log-version", "auto", log]
+        piped = run(words)
+        trials.want(f"{word}: at a terminal", at_terminal(words, True), piped)
+        trials.want(f"{word}: with --tabs", run([*words, "--tabs"])[0], 2)
+
+
+def try_progress(trials, program):
+    """A log that comes in two halves is told of where the second one comes late."""
+    text = b"# ninja log v5\n" + b"".join(b"%d\t%d\t1\tout%d\t%x\n" % (at, at + 1, at, at) for at in range(100_000))
+    for word in ("show", "check", "builds", "summary", "trace", "picture", "doubt"):
+        words = [program, word]
+        wanted = run(words, stdin=None, input=text)
+        status, printed, said = at_terminal(words, False, text, 2.3)
+        trials.want(f"{word}: a log that comes late", (status, printed), wanted[:2])
+        lines = said.split(b"\r")
+        trials.check(f"{word}: how much is read", lines[0].startswith(b"nlog: ") and lines[0].endswith(b" MB read"), repr(said))
+        trials.check(f"{word}: no more than the text", int(lines[0].split(b" ")[1]) <= len(text) // 1_000_000, repr(said))
+        trials.want(f"{word}: the line is taken away", (said.endswith(b"\r"), lines[-2].strip()), (True, b""))
+    for words, why in ((["show"], "at once"), (["builds"], "at once")):
+        trials.want(f"{words[0]}: a log that comes {why}", at_terminal([program, *words], False, text)[2], b"")
+    # Where standard error is no terminal, nothing is told.
+    ran = subprocess.Popen([program, "check"], stdin=subprocess.PIPE, stdout=subprocess.PIPE, stderr=subprocess.PIPE)
+    ran.stdin.write(text[:1000])
+    ran.stdin.flush()
+    time.sleep(2.3)
+    trials.want("check: standard error is a pipe", ran.communicate(text[1000:])[1], b"")
+
+
+def trial(trials, program, room):
+    if sys.platform != "linux":
+        trials.skip("all", "pseudoterminals are those of Linux")
+        return
+    log, earlier = f"{room}/log", f"{room}/earlier"
+    for path, text in ((log, LOG), (earlier, EARLIER)):
+        with open(path, "wb") as file:
+            file.write(text)
+    try_columns(trials, program, log, earlier)
+    try_progress(trials, program)
+
+
+if __name__ == "__main__":
+    sys.exit(main(__file__, trial))
