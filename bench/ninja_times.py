@@ -173,20 +173,21 @@ def measure_borders(all_builds):
 # ---- Logs that were written anew ----
 
 
-def falls_back(entries, at, slack):
-    """How many builds by the rule there are, and how many of them must have begun before the one that they follow."""
+def falls_back(entries, at, which, slack):
+    """How many builds by the rule there are, and how many of them must have begun before the one that they follow, by the least or the greatest of the
+    moments that their entries tell."""
     borders, bases = rises(at)(entries, slack), [None]
     for it in entries:
         if it.to in borders:
             bases.append(None)
         key = told(it, at, None, slack)
         if key is not None:
-            bases[-1] = key if bases[-1] is None else (max if at == "end" else min)(bases[-1], key)
+            bases[-1] = key if bases[-1] is None else which(bases[-1], key)
     return len(bases), sum(None not in it and it[1] < it[0] - slack for it in zip(bases, bases[1:]))
 
 
 def measure_rewritten(all_builds, slack=20):
-    head("Ninja", "Log", "lines", "END falls", "builds by MTIME less END, of them before the one before", "by MTIME less START, of them before it")
+    head("Ninja", "Log", "lines", "END falls", "builds by MTIME less END, of them before the one before", "by MTIME less START, of them before it", "the latest by START before that of it")
     for version, many in all_builds.items():
         for builds in many:
             text = builds.log()
@@ -198,7 +199,7 @@ def measure_rewritten(all_builds, slack=20):
             if recompacted.returncode:
                 sys.exit(f"ninja_times.py: ninja -t recompact: {recompacted.stderr.decode()}")
             for what, entries in (("as it was written", entries_of(text)), ("recompacted by Ninja", anew), ("in the order of first appearance", list(last.values()))):
-                told_by = [" / ".join(map(str, falls_back(entries, at, slack * MS))) for at in ("end", "start")]
+                told_by = [" / ".join(map(str, falls_back(entries, at, which, slack * MS))) for at, which in (("end", max), ("start", min), ("start", max))]
                 row(version, what, len(entries), len(end_falls(entries, 0)), *told_by)
 
 
