@@ -29,6 +29,9 @@ EVENTS = ["open", "record c", "sync", "record d", "sync", "recompact", "record e
 # Those whose `ok` acknowledges all that was recorded.
 KEEPERS = {"open", "sync", "recompact", "restat", "close"}
 RANDOM = 300
+# What an open cuts away, and how long somebody makes the log behind that: no byte, one, and about the digit of its version.
+TORN = b"9\t9\t9\tto"
+SHORT = (0, 1, 13, 14, 15)
 
 
 def text_of(entries, version):
@@ -100,7 +103,8 @@ class Others:
         if os.path.exists(self.log):
             os.rename(self.log, self.away)
             os.rename(self.away, self.log)
-        return False
+        # (a change of its names changes the file's time, which counts)
+        return True
 
     def replaces(self):
         return self.put(text_of(OTHER, self.version))
@@ -121,7 +125,7 @@ class Others:
             if os.path.exists(self.away):
                 os.remove(self.away)
             os.link(self.log, self.away)
-        return False
+        return True
 
     def appends(self, text=None):
         if not os.path.exists(self.log):
@@ -348,10 +352,33 @@ def anew(trials, program, speaker, room):
         trials.check(f"apply, a log of version 7, somebody {action.replace('_', ' ')} behind a close", wrong is None, short(wrong))
 
 
+def shortened(trials, speaker, room):
+    """Nothing is acknowledged of a log that somebody made shorter behind an open which cut a torn line away, whatever the log's version."""
+    for version in (5, 6, 7):
+        for length in SHORT:
+            for keeper in ("sync", "close", "recompact"):
+                folder = f"{room}/{version}-{length}-{keeper}"
+                os.makedirs(folder)
+                write(f"{folder}/{LOG}", text_of(BEFORE, version) + TORN)
+                apply = speaker(folder)
+                is_open = apply.ask("open")
+                os.truncate(f"{folder}/{LOG}", length)
+                apply.ask("record", b"c", (1, 2, 3, 4))
+                is_kept = apply.ask(keeper)
+                about = f"{keeper} of a log of version {version} that has {length} bytes behind the cut of its torn line"
+                trials.want(f"apply, {about}: whether it opens, and is acknowledged", (is_open, is_kept), (True, False))
+                again = apply.ask("close"), apply.ask("open"), apply.ask("record", b"c", (1, 2, 3, 4)), apply.ask("sync")
+                text = read(f"{folder}/{LOG}")
+                is_there = not again[-1] or (table_of(text) or {}).get(b"c") == (1, 2, 3, 4)
+                trials.check(f"apply, {about}: what is acknowledged behind a new open", is_there, f"{again}, {text!r}")
+                apply.end()
+
+
 def trial(trials, program, room):
     def speaker(folder):
         return Apply([program, "apply", LOG], folder)
 
+    shortened(trials, speaker, f"{room}/shortened")
     tries(trials, program, speaker, f"{room}/apply", "apply")
     anew(trials, program, speaker, f"{room}/anew")
 
