@@ -8,13 +8,12 @@ its first 1,000 bytes and its last): that is one end of a pair of sockets, on wh
 read gives more. The end of the text is the end of what is sent. Both ways have to give the same: literal answers,
 taken from docs/FORMAT.md and docs/CLI.md, and where each byte of a log is replaced those of `log_format`; what `entries`, `damage`, `builds`,
 `summary`, `trace` and `picture` print is that of `log_lines` beside. Each text is read once more as a log of version 6 or 7, its digit changed, by words that are asked for it,
-and by words that go by its first line. At last come names that collide in the table, which `bench/colliding_log.py` finds: they cost time,
-and change no answer.
+and by words that go by its first line. At last come names that collide in a table without a secret, which `bench/colliding_log.py` finds: they change no
+answer, and cost no word more time than as many others.
 """
 import fcntl
 import itertools
 import os
-import resource
 import socket
 import subprocess
 import sys
@@ -23,7 +22,7 @@ import threading
 
 from log_format import Log, as_version, command_hash, reading_of
 from log_lines import bad_graph_lines, builds_of, compare_of, damage_of, entries_of, named_first, paths_of, picture_of, said_of, summary_of, trace_of
-from trials import SECONDS, main, read, run, short, write
+from trials import SECONDS, main, read, run, seconds_of, short, write
 
 BENCH = f"{os.path.dirname(os.path.dirname(os.path.abspath(__file__)))}/bench"
 NO_LOG = (1, b"", b"nlog: not a ninja log\n")
@@ -561,14 +560,6 @@ def try_graphs(trials, program, room):
     trials.check("a graph, and a log in pieces", in_pieces in [(0, eight + path % it, b"") for it in (b"a", b"c")], in_pieces)
 
 
-def seconds_of(words):
-    """How a program ends, and how long the processors took."""
-    before = resource.getrusage(resource.RUSAGE_CHILDREN)
-    ended = run(words)
-    after = resource.getrusage(resource.RUSAGE_CHILDREN)
-    return ended, after.ru_utime + after.ru_stime - before.ru_utime - before.ru_stime
-
-
 def try_colliding(trials, program, room):
     """6,000 names of one hash: 5,000 in a log of 8,000 entries, the first 3,000 twice, and 1,000 that it lacks."""
     status, made, _ = run([sys.executable, f"{BENCH}/colliding_log.py", "--names", "6000"])
@@ -582,13 +573,8 @@ def try_colliding(trials, program, room):
     table = last + once[3000:]
     shown, checked = b"".join(table), counts(5, 8000, 5000, 0, 0, NOT_DUE)
     write(log, text)
-    ended, taken = seconds_of([program, "show", log])
-    trials.want("colliding names: show", ended, (0, shown, b""))
+    trials.want("colliding names: show", run([program, "show", log]), (0, shown, b""))
     trials.want("colliding names: check", run([program, "check", log]), (0, checked, b""))
-    write(log, HEADERS[5] + b"".join(b"1\t2\t3\tother%07d\ta\n" % number for number in range(8000)))
-    other = seconds_of([program, "show", log])[1]
-    print(f"damaged.py: 5,000 names of one hash took {taken:.3f} s, 8,000 others {other:.3f} s")
-    trials.check("names collide in the program too, since they take it longer", taken > 3 * other, f"{taken:.3f} s, others {other:.3f} s")
     # Which names KEEP has, and which lines are left.
     for what, kept, left in (
         ("all and those that the log lacks", names, table),
@@ -608,6 +594,51 @@ def try_colliding(trials, program, room):
     trials.want("colliding names: the log after restat", read(log), HEADERS[5] + b"".join(wanted))
 
 
+# A hostile log has so many bytes, and a word takes so many times as long on it as on another, and so many seconds more, at most.
+HOSTILE, TIMES_AS_LONG, SECONDS_MORE = 5_000_000, 3, 0.3
+
+
+def seconds_by_word(program, room, names):
+    """How long each word takes that reads a log, of one whose outputs have these names: its words, status, and seconds."""
+    log, other, keep, times, targets, graph, script = (f"{room}/{it}" for it in ("LOG", "OTHER", "KEEP", "TIMES", "TARGETS", "GRAPH", "SCRIPT"))
+    text = HEADERS[5] + b"".join(b"%d\t%d\t3\t%s\ta\n" % (at % 9, at % 9 + 1, name) for at, name in enumerate(names))
+    # The text ends in half a line, which may be about each output.
+    torn = text + b"1\t2\t3\t" + names[0]
+    for path, lines in ((keep, names), (times, [b"7\t" + it for it in names]), (targets, [it + b": cc" for it in names])):
+        write(path, b"".join(it + b"\n" for it in lines))
+    write(graph, b'digraph ninja {\nedge [fontsize=10]\n' + b"".join(b'"%s" [label="%s"]\n"%s" -> "all"\n' % (it, it, it) for it in names) + b"}\n")
+    write(script, b"distrusted\nopen\n" + b"".join(b"get\t%s\n" % it for it in names[::50]) + b"begin\t1\taa\t%s\nrecompact\nstop\n" % b"\t".join(names[:10_000]))
+    write(other, text)
+    reads = [["show"], ["check"], ["entries"], ["damage"], ["doubt"], ["builds"], ["summary"], ["summary", "--kind", "folder"], ["summary", "--all"]]
+    reads += [["summary", "--graph", graph], ["compare", other], ["trace"], ["picture"]]
+    changes = [(["record"], ["1", "2", "3", "new", "cc"]), (["recompact"], [keep]), (["restat"], [times]), (["repair"], []), (["apply"], [script])]
+    changes += [(["recompact", "--manifest", targets], []), (["restat", "--files"], [])]
+    for before, behind in [*((it, []) for it in reads), *changes]:
+        # Of damage these two tell alone, and `apply` says what can't be trusted.
+        write(log, torn if before == ["apply"] else text)
+        (status, _, _), seconds = seconds_of([program, *before, log, *behind], 6)
+        yield " ".join(os.path.basename(it) for it in before), status, seconds
+
+
+def try_hostile(trials, program, room):
+    """Logs of 5 MB whose names have one hash in a table without a secret, short and long, beside logs whose names haven't."""
+    for front in ("", "a folder whose name is long, so that it is hashed in many steps/and/another/"):
+        count = HOSTILE // (len(front) + 25)
+        status, made, _ = run([sys.executable, f"{BENCH}/colliding_log.py", "--names", str(count), "--front", front])
+        names = [line.split(b"\t")[3] for line in made.split(b"\n")[1:-1]]
+        if not trials.check(f"{count} names that collide", status == 0 and len(set(names)) == count, f"status {status}"):
+            return
+        hostile = list(seconds_by_word(program, room, names))
+        # The last byte of each is another.
+        others = list(seconds_by_word(program, room, [it[:-1] + b"x" for it in names]))
+        for (word, status, seconds), (_, as_well, usual) in zip(hostile, others):
+            most = TIMES_AS_LONG * usual + SECONDS_MORE
+            trials.want(f"{word}, of {count} names that collide: the status", (status, as_well), (as_well, as_well))
+            trials.check(f"{word}, of {count} names that collide", seconds <= most, f"{seconds:.2f} s, others {usual:.2f} s")
+        word, _, seconds = max(hostile, key=lambda it: it[2])
+        print(f"damaged.py: of {count} names that collide `{word}` took longest, {seconds:.2f} s")
+
+
 def trial(trials, program, room):
     readings = Readings(trials, program, room)
     try_kinds(readings)
@@ -619,6 +650,7 @@ def trial(trials, program, room):
     try_refused(readings)
     try_graphs(trials, program, room)
     try_colliding(trials, program, room)
+    try_hostile(trials, program, room)
 
 
 if __name__ == "__main__":

@@ -20,4 +20,5 @@ pub use events::{Event, Outcome, Reply, run_events};
 pub use fault::LogFault;
 pub use intent::{intent_hash, is_intent};
 pub use log::Log;
+pub use restat::first_negative;
 pub use state::LogState;

@@ -2,6 +2,7 @@ pub mod History
 pub mod Order
 pub mod Table
 pub mod Keys
+pub mod Hash
 pub mod Due
 pub mod LogUser
 pub mod Log

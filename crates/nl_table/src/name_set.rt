@@ -1,9 +1,11 @@
 //! Sets of names.
-ghost use Rattle.std.specs.Prelude.{◌≡◌, ℕ, List, not, IfOk};
+ghost use Rattle.std.specs.Prelude.{◌≡◌, ℕ, List, [], not, IfOk, OnOk};
 ghost use Rattle.nl_table.specs.History.{holds};
+ghost use Rattle.nl_table.specs.Table.{with_name};
 
 use crate::log_user::LogUser;
 use crate::output_key::{NameKey, OutputKey};
+use crate::secret::Secret;
 use indexmap::IndexSet;
 use nl_fields::Name;
 use std::alloc::{AllocError, Global};
@@ -12,7 +14,7 @@ use std::marker::Model;
 /// Names, each of which is found in constant time. As a log's user it calls dead what it doesn't hold.
 #[derive(Drop)]
 pub struct NameSet {
-    names: IndexSet<OutputKey>,
+    names: IndexSet<OutputKey, Secret>,
 }
 
 impl Model for NameSet {
@@ -25,17 +27,35 @@ impl Model for NameSet {
 }
 
 impl NameSet {
-    /// The set of these names. It takes the memory of an index over them.
-    pub fn of(alloc: Global, names: Vec<Name>) -> Result<NameSet, AllocError>
+    /// A set without names, which are hashed under a secret. It takes no memory.
+    pub fn new(alloc: Global, secret: Secret) -> NameSet
+        ensures empty { result ≡ [] }
+    {
+        NameSet {
+            names: IndexSet::with_hasher(alloc, secret),
+        }
+    }
+
+    /// The set of these names, which are hashed under a secret. It takes the memory of an index over them.
+    pub fn of(alloc: Global, secret: Secret, names: Vec<Name>) -> Result<NameSet, AllocError>
         ensures { IfOk result (λ set. (name : List ℕ) → holds set name ≡ holds names.items name) }
     {
-        let mut set = IndexSet::new(alloc);
+        let mut set = IndexSet::with_hasher(alloc, secret);
         set.reserve(names.len())?;
         // There is room for all, so no insertion can fail.
         for name in names {
             set.insert(OutputKey { name }).unwrap();
         }
         Ok(NameSet { names: set })
+    }
+
+    /// Takes a copy of a name in, and tells whether it was not among them before.
+    pub fn add(&mut self, name: &Name) -> Result<bool, AllocError>
+        ensures ok { OnOk result (self.new ≡ with_name self.old name.now) }
+        ensures some { IfOk result (λ is_new. is_new ≡ not (holds self.old name.now)) }
+    {
+        let name = name.copy(*self.names.allocator())?;
+        Ok(self.names.insert(OutputKey { name })?)
     }
 
     /// Whether the name of these bytes is among them.

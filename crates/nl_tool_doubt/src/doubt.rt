@@ -11,7 +11,7 @@ ghost use Rattle.nl_tool_doubt.specs.Text.{doubt_line, word_of};
 
 use crate::files::OutputFiles;
 use crate::judge::{Doubt, doubt_of};
-use nl_table::Table;
+use nl_table::{Secret, Table};
 use nl_tool_print::load_read;
 use nl_tool_texts::{ToolFault, write_out};
 use nl_versions::LogVersion;
@@ -20,9 +20,10 @@ use std::io::{Read, Write};
 
 /// Asks for the file of each output of the log that the reader gives, of whichever version its first line names, and
 /// writes a line for each that speaks against its entry, or that can't be compared with it. Answers whether there was
-/// one.
+/// one. Names are hashed under a secret.
 pub fn doubt_to<R: Read + Drop, F: OutputFiles, W: Write>(
     alloc: Global,
+    secret: Secret,
     reader: R,
     files: &F,
     writer: &mut W,
@@ -36,7 +37,7 @@ pub fn doubt_to<R: Read + Drop, F: OutputFiles, W: Write>(
         → IfSome (R.remaining reader) (λ bs. log_of (as_five bs) ≡ OtherVersion) }
     ensures faults { IfErr result IsLogFault }
 {
-    let (version, loaded) = load_read(alloc, None, reader)?;
+    let (version, loaded) = load_read(alloc, secret, None, reader)?;
     let mut text = Vec::new(alloc);
     judge_all(version, &loaded.table, files, &mut text)?;
     write_found(text.as_slice(), writer)

@@ -8,7 +8,7 @@ ghost use Rattle.nl_tool_doubt.specs.There.{AddsAlong, AddsFor, name_by, pair_by
 
 use crate::files::{FileState, OutputFiles};
 use nl_fields::{Entry, EntryRef, Name};
-use nl_table::Table;
+use nl_table::{Secret, Table};
 use nl_tool_print::load_read;
 use nl_tool_texts::ToolFault;
 use std::alloc::{AllocError, Global};
@@ -18,6 +18,7 @@ use std::io::Read;
 /// the names of those whose file isn't missing, in the order of first appearance.
 pub fn add_names_there<R: Read + Drop, F: OutputFiles>(
     alloc: Global,
+    secret: Secret,
     reader: R,
     files: &F,
     names: &mut Vec<Name>,
@@ -30,7 +31,7 @@ pub fn add_names_there<R: Read + Drop, F: OutputFiles>(
         → IfSome (R.remaining reader) (λ bs. log_of (as_five bs) ≡ OtherVersion) }
     ensures faults { IfErr result IsLogFault }
 {
-    let (_, loaded) = load_read(alloc, None, reader)?;
+    let (_, loaded) = load_read(alloc, secret, None, reader)?;
     add_names(alloc, &loaded.table, files, names)?;
     Ok(())
 }
@@ -39,6 +40,7 @@ pub fn add_names_there<R: Read + Drop, F: OutputFiles>(
 /// the time of each that has one, in the order of first appearance.
 pub fn times_there<R: Read + Drop, F: OutputFiles>(
     alloc: Global,
+    secret: Secret,
     reader: R,
     files: &F,
 ) -> Result<Vec<(Name, i64)>, ToolFault>
@@ -50,7 +52,7 @@ pub fn times_there<R: Read + Drop, F: OutputFiles>(
         → IfSome (R.remaining reader) (λ bs. log_of (as_five bs) ≡ OtherVersion) }
     ensures faults { IfErr result IsLogFault }
 {
-    let (_, loaded) = load_read(alloc, None, reader)?;
+    let (_, loaded) = load_read(alloc, secret, None, reader)?;
     let mut times = Vec::new(alloc);
     add_times(alloc, &loaded.table, files, &mut times)?;
     Ok(times)

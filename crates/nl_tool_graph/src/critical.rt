@@ -39,7 +39,7 @@ fn path_lines<'a>(
 ) -> Result<Vec<u8>, AllocError>
     ensures value { IfOk result (λ lines. IsPathText (seen graph.now) (map job commands.now) lines.items) }
 {
-    let weights = Weights::of(alloc, graph.nodes.as_slice(), commands)?;
+    let weights = Weights::of(alloc, graph.secret, graph.nodes.as_slice(), commands)?;
     let path = graph.critical_path(alloc, &weights)?;
     let CriticalPath { length, ids } = path;
     let head = format!(in alloc; "critical-path\t{length}\n")?;

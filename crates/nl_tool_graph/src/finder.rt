@@ -2,6 +2,7 @@
 use crate::graph::GraphEdge;
 use crate::key::Key;
 use indexmap::IndexMap;
+use nl_table::Secret;
 use std::alloc::{AllocError, Global};
 
 // No place.
@@ -45,7 +46,7 @@ pub(crate) fn set(places: &mut [usize], index: usize, place: usize) {
 
 /// The place of a number, which is taken in if it is new.
 pub(crate) fn place_of<'a>(
-    ids: &mut IndexMap<Key<'a>, usize>,
+    ids: &mut IndexMap<Key<'a>, usize, Secret>,
     id: &'a [u8],
 ) -> Result<usize, AllocError> {
     let key = Key { bytes: id };
@@ -60,7 +61,7 @@ pub(crate) fn place_of<'a>(
 pub(crate) fn ends_of<'a>(
     alloc: Global,
     edges: &[GraphEdge<'a>],
-    ids: &mut IndexMap<Key<'a>, usize>,
+    ids: &mut IndexMap<Key<'a>, usize, Secret>,
 ) -> Result<Vec<Ends>, AllocError> {
     let mut ends = Vec::new(alloc);
     for edge in edges {
@@ -72,8 +73,12 @@ pub(crate) fn ends_of<'a>(
 }
 
 /// An order of all edges, or a cycle.
-pub(crate) fn order_of(alloc: Global, edges: &[GraphEdge<'_>]) -> Result<Order, AllocError> {
-    let mut ids = IndexMap::new(alloc);
+pub(crate) fn order_of(
+    alloc: Global,
+    secret: Secret,
+    edges: &[GraphEdge<'_>],
+) -> Result<Order, AllocError> {
+    let mut ids = IndexMap::with_hasher(alloc, secret);
     let ends = ends_of(alloc, edges, &mut ids)?;
     let mut links = Links::of(alloc, ends.as_slice(), ids.len())?;
     let order = links.order(alloc, ends.as_slice())?;

@@ -3,6 +3,8 @@ ghost use Rattle.std.specs.Prelude.{IfSome, map};
 ghost use Rattle.std.specs.List.{Contains};
 ghost use Rattle.nl_tool_graph.specs.Seen.{edge_seen};
 
+use nl_table::Secret;
+
 /// A node, by its number, with its name.
 #[derive(Clone, Copy, Drop)]
 pub struct GraphNode<'a> {
@@ -25,6 +27,8 @@ pub struct NinjaGraph<'a> {
     pub edges: Vec<GraphEdge<'a>>,
     /// The places of the edges in the order in which a path may take them: a hint, of which nothing is known.
     pub order: Vec<usize>,
+    /// The secret under which numbers and names are hashed.
+    pub secret: Secret,
 }
 
 /// The edge at a place.

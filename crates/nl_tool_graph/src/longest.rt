@@ -15,6 +15,7 @@ use crate::graph::{GraphEdge, GraphNode, NinjaGraph, edge_at};
 use crate::key::Key;
 use crate::weights::Weights;
 use indexmap::IndexMap;
+use nl_table::Secret;
 use std::alloc::{AllocError, Global};
 
 /// A longest path of a graph: how long it is, and its numbers.
@@ -27,7 +28,7 @@ pub struct CriticalPath<'a> {
 // How far it is from each number on, its own weight included.
 #[derive(Drop)]
 pub(crate) struct Reaches<'a> {
-    ids: IndexMap<Key<'a>, usize>,
+    ids: IndexMap<Key<'a>, usize, Secret>,
     far: Vec<u64>,
 }
 
@@ -213,7 +214,7 @@ impl<'a> Guess<'a> {
         graph: &NinjaGraph<'a>,
         weights: &Weights<'a, '_>,
     ) -> Result<Guess<'a>, AllocError> {
-        let mut ids = IndexMap::new(alloc);
+        let mut ids = IndexMap::with_hasher(alloc, graph.secret);
         for node in &graph.nodes {
             place_of(&mut ids, node.id)?;
         }
@@ -237,7 +238,7 @@ impl<'a> Guess<'a> {
 // The weight of each number.
 fn weights_of<'a>(
     alloc: Global,
-    ids: &IndexMap<Key<'a>, usize>,
+    ids: &IndexMap<Key<'a>, usize, Secret>,
     weights: &Weights<'a, '_>,
 ) -> Result<Vec<u64>, AllocError> {
     let mut found = Vec::new(alloc);

@@ -12,6 +12,7 @@ use crate::finder::{Order, order_of};
 use crate::graph::{GraphEdge, GraphNode, NinjaGraph, edge_at};
 use crate::line::{Line, read_line};
 use memchr::memchr;
+use nl_table::{NO_SECRET, Secret};
 use nl_tool_texts::ToolFault;
 use std::alloc::{AllocError, Global};
 use std::io::Read;
@@ -38,16 +39,21 @@ pub fn read_bytes<R: Read + Drop>(alloc: Global, reader: R) -> Result<Vec<u8>, T
     Err(ToolFault::Read)
 }
 
-/// The graph that a text says. It is refused at its first line that is none of such a text, and, if there is none, at a line
+/// The graph that a text says, whose numbers and names are hashed under a secret. It is refused at its first line that is none of such a text, and, if there is none, at a line
 /// whose edge is of a cycle.
-pub fn read_graph<'a>(alloc: Global, text: &'a [u8]) -> Result<NinjaGraph<'a>, ToolFault>
+pub fn read_graph<'a>(
+    alloc: Global,
+    secret: Secret,
+    text: &'a [u8],
+) -> Result<NinjaGraph<'a>, ToolFault>
     ensures value { IfOk result (λ g. graph_of text.now ≡ IsGraph (seen g)) }
     ensures told_line { (line : ℕ) → IsErrOf result (ToolFault.BadLine line)
         → IsRefusedAt (graph_of text.now) line }
     ensures faults { IfErr result IsGraphFault }
 {
     let mut graph = lines_in(alloc, text)?;
-    match order_of(alloc, graph.edges.as_slice())? {
+    graph.secret = secret;
+    match order_of(alloc, secret, graph.edges.as_slice())? {
         Order::Found(order) => {
             graph.order = order;
             Ok(graph)
@@ -118,6 +124,7 @@ fn lines_behind<'a>(alloc: Global, text: Option<&'a [u8]>) -> Result<NinjaGraph<
                 nodes,
                 edges,
                 order: Vec::new(alloc),
+                secret: NO_SECRET,
             });
         }
         if let Err(fault) = take_line(number, line, &mut nodes, &mut edges) {

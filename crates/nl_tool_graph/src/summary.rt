@@ -51,8 +51,8 @@ pub fn critical_summary_to<R: Read + Drop, W: Write>(
     ensures faults { IfErr result IsLogFault }
 {
     let EntriesAsRead { stamps, text } = read_entries(alloc, reader)?;
-    let count = unfinished_in(alloc, text.as_slice())?;
-    let told = told_lines(alloc, scope, text)?;
+    let count = unfinished_in(alloc, lists.secret, text.as_slice())?;
+    let told = told_lines(alloc, lists.secret, scope, text)?;
     let of_told = told_stamps(scope, stamps);
     let lines = all_lines(alloc, scope, lists, of_told, count, graph, told.as_slice())?;
     *anew = is_anew(alloc, of_told, told.as_slice())?;

@@ -11,6 +11,7 @@ ghost use Rattle.nl_tool_graph.specs.Held.{AreWeights, HoldNames, HoldSpans, ran
 use crate::graph::GraphNode;
 use crate::key::{Key, Sought};
 use indexmap::IndexMap;
+use nl_table::Secret;
 use nl_tool_report::Span;
 use nl_tool_trace::Command;
 use std::alloc::{AllocError, Global};
@@ -25,21 +26,22 @@ pub struct Ran<'a> {
 /// The names of nodes, and when the command of each output ran.
 #[derive(Drop)]
 pub struct Weights<'a, 'l> {
-    names: IndexMap<Key<'a>, &'a [u8]>,
-    spans: IndexMap<Key<'l>, Span>,
+    names: IndexMap<Key<'a>, &'a [u8], Secret>,
+    spans: IndexMap<Key<'l>, Span, Secret>,
 }
 
 impl<'a, 'l> Weights<'a, 'l> {
     /// Those of a graph's nodes by the commands of a build.
     pub fn of(
         alloc: Global,
+        secret: Secret,
         nodes: &[GraphNode<'a>],
         commands: &[Command<'l>],
     ) -> Result<Weights<'a, 'l>, AllocError>
         ensures value { IfOk result (AreWeights (map node_seen nodes.now) (map job commands.now)) }
     {
-        let names = names_in(alloc, nodes)?;
-        let spans = spans_in(alloc, commands)?;
+        let names = names_in(alloc, secret, nodes)?;
+        let spans = spans_in(alloc, secret, commands)?;
         Ok(Weights { names, spans })
     }
 
@@ -101,11 +103,12 @@ impl<'a, 'l> Weights<'a, 'l> {
 // The name of each node, the last one if it has several.
 fn names_in<'a>(
     alloc: Global,
+    secret: Secret,
     nodes: &[GraphNode<'a>],
-) -> Result<IndexMap<Key<'a>, &'a [u8]>, AllocError>
+) -> Result<IndexMap<Key<'a>, &'a [u8], Secret>, AllocError>
     ensures value { IfOk result (λ m. HoldNames (names_of (map node_seen nodes.now)) m.entries) }
 {
-    let mut names = IndexMap::new(alloc);
+    let mut names = IndexMap::with_hasher(alloc, secret);
     for node in nodes {
         put_name(node, &mut names)?;
     }
@@ -114,7 +117,7 @@ fn names_in<'a>(
 
 fn put_name<'a>(
     node: &GraphNode<'a>,
-    names: &mut IndexMap<Key<'a>, &'a [u8]>,
+    names: &mut IndexMap<Key<'a>, &'a [u8], Secret>,
 ) -> Result<(), AllocError>
     ensures ok { (ps : List (List ℕ × List ℕ)) → HoldNames ps names.old.entries
         → OnOk result (HoldNames (ps ++ names_of (node_seen node.now ∷ [])) names.new.entries) }
@@ -127,11 +130,12 @@ fn put_name<'a>(
 // When the command of each output ran, the last one if there are several.
 fn spans_in<'a>(
     alloc: Global,
+    secret: Secret,
     commands: &[Command<'a>],
-) -> Result<IndexMap<Key<'a>, Span>, AllocError>
+) -> Result<IndexMap<Key<'a>, Span, Secret>, AllocError>
     ensures value { IfOk result (λ m. HoldSpans (outputs_ran (map job commands.now)) m.entries) }
 {
-    let mut spans = IndexMap::new(alloc);
+    let mut spans = IndexMap::with_hasher(alloc, secret);
     for command in commands {
         put_outputs(command.span, command.outputs.as_slice(), &mut spans)?;
     }
@@ -141,7 +145,7 @@ fn spans_in<'a>(
 fn put_outputs<'a>(
     span: Span,
     outputs: &[&'a [u8]],
-    spans: &mut IndexMap<Key<'a>, Span>,
+    spans: &mut IndexMap<Key<'a>, Span, Secret>,
 ) -> Result<(), AllocError>
     ensures ok { (ps : List (List ℕ × Span)) → HoldSpans ps spans.old.entries
         → OnOk result (HoldSpans (ps ++ outputs_of_job (record { span = span; outputs = named outputs.now })) spans.new.entries) }
@@ -155,7 +159,7 @@ fn put_outputs<'a>(
 fn put_span<'a>(
     output: &'a [u8],
     span: Span,
-    spans: &mut IndexMap<Key<'a>, Span>,
+    spans: &mut IndexMap<Key<'a>, Span, Secret>,
 ) -> Result<(), AllocError>
     ensures ok { (ps : List (List ℕ × Span)) → HoldSpans ps spans.old.entries
         → OnOk result (HoldSpans (ps ++ (output.now, span) ∷ []) spans.new.entries) }

@@ -7,6 +7,7 @@ ghost use Rattle.nl_tool_trace.specs.Events.{first_output};
 ghost use Rattle.nl_tool_trace.specs.Jobs.{job};
 ghost use Rattle.nl_tool_picture.specs.Kinds.{first_names, kind_of_job, kinds, place_of, told_job};
 
+use nl_table::Secret;
 use nl_tool_report::{KindRow, KindRule, Rank, Row, falling_kinds, kind_of};
 use nl_tool_trace::Command;
 use std::alloc::{AllocError, Global};
@@ -45,12 +46,13 @@ fn place_in(kind: &[u8], kinds: &[&[u8]]) -> usize
 /// The kinds of commands that took the longest, the longest first.
 pub(crate) fn kinds_of<'a>(
     alloc: Global,
+    secret: Secret,
     commands: &[Command<'a>],
 ) -> Result<Vec<&'a [u8]>, AllocError>
     ensures value { IfOk result (λ ks. named ks.items ≡ kinds (map job commands.now)) }
 {
     let rows = rows_of(alloc, commands)?;
-    let found = nl_tool_report::kinds_of(alloc, KindRule::Extension, rows.as_slice())?;
+    let found = nl_tool_report::kinds_of(alloc, secret, KindRule::Extension, rows.as_slice())?;
     let sorted = falling_kinds(alloc, Rank::Time, found.as_slice())?;
     names_of(alloc, sorted.as_slice())
 }

@@ -27,6 +27,7 @@ use crate::escape::{append, append_label};
 use crate::frame::{Frame, seconds};
 use crate::kinds::kinds_of;
 use crate::marks::write_joined_bars;
+use nl_table::Secret;
 use nl_tool_report::{EntriesAsRead, Span, Stamps, read_entries, without_intents};
 use nl_tool_texts::{ToolFault, write_out};
 use nl_tool_trace::{Command, Moments, lanes_of, last_commands};
@@ -37,9 +38,10 @@ use std::io::{Read, Write};
 /// other runs as it does, with its first output, how many more it has, and its time
 /// as a title. Commands that are too short for a bar have one together,
 /// by lane, pixel and kind. Below is the curve of how many run, and the colour of each kind. An intent is no command. The
-/// text is written as it is made, so a part of it may stand where memory is refused.
+/// text is written as it is made, so a part of it may stand where memory is refused. Kinds are hashed under a secret.
 pub fn picture_to<R: Read + Drop, W: Write>(
     alloc: Global,
+    secret: Secret,
     reader: R,
     writer: &mut W,
 ) -> Result<(), ToolFault>
@@ -53,12 +55,13 @@ pub fn picture_to<R: Read + Drop, W: Write>(
 {
     let EntriesAsRead { stamps, text } = read_entries(alloc, reader)?;
     let recorded = without_intents(alloc, text)?;
-    write_last_build(alloc, stamps, recorded.as_slice(), writer)
+    write_last_build(alloc, secret, stamps, recorded.as_slice(), writer)
 }
 
 // Writes a picture of the last build.
 fn write_last_build<W: Write>(
     alloc: Global,
+    secret: Secret,
     stamps: Stamps,
     text: &[u8],
     writer: &mut W,
@@ -72,12 +75,13 @@ fn write_last_build<W: Write>(
     ensures faults { IfErr result IsPieceFault }
 {
     let commands = last_commands(alloc, stamps, text)?;
-    write_picture(alloc, commands.as_slice(), writer)
+    write_picture(alloc, secret, commands.as_slice(), writer)
 }
 
 // Writes a picture of commands in the order of START.
 fn write_picture<W: Write>(
     alloc: Global,
+    secret: Secret,
     commands: &[Command<'_>],
     writer: &mut W,
 ) -> Result<(), ToolFault>
@@ -94,7 +98,7 @@ fn write_picture<W: Write>(
     let lanes = found.as_slice();
     let frame = Frame::of(spans, lanes);
     let moments = Moments::of(alloc, spans)?;
-    let kinds = kinds_of(alloc, commands)?;
+    let kinds = kinds_of(alloc, secret, commands)?;
     draw(
         alloc,
         &frame,

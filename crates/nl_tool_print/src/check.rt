@@ -9,7 +9,7 @@ ghost use Rattle.nl_tool_print.specs.Versions.{IsReportFor};
 ghost use Rattle.nl_tool_texts.specs.declared.fault.ToolFault.{ToolFault};
 
 use crate::loading::load_read;
-use nl_table::{Loaded, is_due};
+use nl_table::{Loaded, NO_SECRET, Secret, is_due};
 use nl_tool_texts::{ToolFault, write_out};
 use nl_versions::LogVersion;
 use std::alloc::{AllocError, Global};
@@ -30,13 +30,14 @@ pub fn check_to<R: Read + Drop, W: Write>(
         → IfSome (R.remaining reader) (λ bs. log_of bs ≡ OtherVersion) }
     ensures faults { IfErr result IsLogFault }
 {
-    check_log(alloc, Some(LogVersion::Five), reader, writer)
+    check_log(alloc, NO_SECRET, Some(LogVersion::Five), reader, writer)
 }
 
 /// Writes the six lines on a log of the version that is asked for, or where none is, of the one that its first line names: its
-/// number is the first line.
+/// number is the first line. Names are hashed under a secret.
 pub fn check_log<R: Read + Drop, W: Write>(
     alloc: Global,
+    secret: Secret,
     asked: Option<LogVersion>,
     reader: R,
     writer: &mut W,
@@ -49,7 +50,7 @@ pub fn check_log<R: Read + Drop, W: Write>(
         → IfSome (R.remaining reader) (λ bs. log_for asked bs ≡ OtherVersion) }
     ensures faults { IfErr result IsLogFault }
 {
-    let (version, mut loaded) = load_read(alloc, asked, reader)?;
+    let (version, mut loaded) = load_read(alloc, secret, asked, reader)?;
     loaded.version = version.number(loaded.version);
     let report = report_text(alloc, &loaded)?;
     write_out(report.as_bytes(), writer)

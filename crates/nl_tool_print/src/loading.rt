@@ -7,16 +7,17 @@ ghost use Rattle.nl_tool_texts.specs.declared.fault.ToolFault.{ToolFault};
 ghost use Rattle.nl_tool_print.specs.Faults.{IsLogFault};
 
 use nl_lines::ReadSource;
-use nl_table::Loaded;
+use nl_table::{Loaded, Secret};
 use nl_tool_texts::ToolFault;
 use nl_versions::{LogVersion, load_seen};
 use std::alloc::Global;
 use std::io::Read;
 
 /// The table and the counts of the bytes that the reader has left, and the version as one of which they are taken: the one that
-/// is asked for, or where none is, the one that their first line names.
+/// is asked for, or where none is, the one that their first line names. Names are hashed under a secret.
 pub fn load_read<R: Read + Drop>(
     alloc: Global,
+    secret: Secret,
     asked: Option<LogVersion>,
     reader: R,
 ) -> Result<(LogVersion, Loaded), ToolFault>
@@ -28,5 +29,5 @@ pub fn load_read<R: Read + Drop>(
     ensures faults { IfErr result IsLogFault }
     ensures write { IsErrOf result ToolFault.Write → ⊥ }
 {
-    Ok(load_seen(alloc, asked, ReadSource::new(reader))?)
+    Ok(load_seen(alloc, secret, asked, ReadSource::new(reader))?)
 }

@@ -13,7 +13,7 @@ ghost use Rattle.nl_tool_texts.specs.declared.fault.ToolFault.{ToolFault};
 
 use crate::loading::load_read;
 use nl_fields::{MAX_ENTRY_LINE, append_entry};
-use nl_table::Table;
+use nl_table::{NO_SECRET, Secret, Table};
 use nl_tool_texts::{ToolFault, write_out};
 use nl_versions::LogVersion;
 use std::alloc::Global;
@@ -36,13 +36,14 @@ pub fn show_to<R: Read + Drop, W: Write>(
         → IfSome (R.remaining reader) (λ bs. log_of bs ≡ OtherVersion) }
     ensures faults { IfErr result IsLogFault }
 {
-    show_log(alloc, Some(LogVersion::Five), reader, writer)
+    show_log(alloc, NO_SECRET, Some(LogVersion::Five), reader, writer)
 }
 
 /// Writes the last entry of each output of a log of the version that is asked for, or where none is, of the one that its first
-/// line names, a line each.
+/// line names, a line each. Names are hashed under a secret.
 pub fn show_log<R: Read + Drop, W: Write>(
     alloc: Global,
+    secret: Secret,
     asked: Option<LogVersion>,
     reader: R,
     writer: &mut W,
@@ -55,7 +56,7 @@ pub fn show_log<R: Read + Drop, W: Write>(
         → IfSome (R.remaining reader) (λ bs. log_for asked bs ≡ OtherVersion) }
     ensures faults { IfErr result IsLogFault }
 {
-    let (_, loaded) = load_read(alloc, asked, reader)?;
+    let (_, loaded) = load_read(alloc, secret, asked, reader)?;
     // All that the output takes is taken before the first write, so what can fail from here on is a write.
     let mut piece = Vec::with_capacity(alloc, PIECE)?;
     write_lines(&loaded.table, &mut piece, writer)

@@ -11,7 +11,7 @@ ghost use Rattle.nl_tool_report.specs.ComparedRows.{compared_of, compared_rows};
 
 use crate::class::{Class, class_text};
 use crate::compared::{ComparedRow, falling_by_cost, of_class, rows_of, times_of};
-use nl_table::Table;
+use nl_table::{Secret, Table};
 use nl_tool_print::load_read;
 use nl_tool_texts::{ToolFault, write_out};
 use nl_versions::LogVersion;
@@ -25,8 +25,12 @@ pub struct TableAsRead {
     pub table: Table,
 }
 
-/// Reads a log that is compared, of whichever version its first line names.
-pub fn read_table<R: Read + Drop>(alloc: Global, reader: R) -> Result<TableAsRead, ToolFault>
+/// Reads a log that is compared, of whichever version its first line names. Its names are hashed under a secret.
+pub fn read_table<R: Read + Drop>(
+    alloc: Global,
+    secret: Secret,
+    reader: R,
+) -> Result<TableAsRead, ToolFault>
     ensures value { IfOk result
         (λ read. IsTableAsRead (R.remaining reader) read.version read.table) }
     ensures not_a_log { IsErrOf result ToolFault.NotALog
@@ -35,7 +39,7 @@ pub fn read_table<R: Read + Drop>(alloc: Global, reader: R) -> Result<TableAsRea
         → IfSome (R.remaining reader) (λ bs. log_of (as_five bs) ≡ OtherVersion) }
     ensures faults { IfErr result IsLogFault }
 {
-    let (version, loaded) = load_read(alloc, None, reader)?;
+    let (version, loaded) = load_read(alloc, secret, None, reader)?;
     Ok(TableAsRead {
         version,
         table: loaded.table,

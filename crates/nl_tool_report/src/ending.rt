@@ -13,7 +13,7 @@ use crate::entry_text::split_line;
 use crate::intents::{last_entries, without_intents};
 use crate::span::Span;
 use nl_fields::{append_entry, read_entry};
-use nl_table::Table;
+use nl_table::{Secret, Table};
 use std::alloc::{AllocError, Global};
 
 /// The line of an entry, which ranks the higher, the earlier its command ended.
@@ -24,11 +24,11 @@ pub struct Ending<'a> {
 }
 
 // Of these lines of entries the last one of each output whose command ended, in the order in which the commands ended.
-pub(crate) fn outputs_in(alloc: Global, text: &[u8]) -> Result<Vec<u8>, AllocError>
+pub(crate) fn outputs_in(alloc: Global, secret: Secret, text: &[u8]) -> Result<Vec<u8>, AllocError>
     ensures value { (es : List Entry) → All IsEntry es → text.now ≡ lines_of_entries es
         → IfOk result (λ lines. lines.items ≡ lines_of_entries (outputs es)) }
 {
-    let table = last_entries(alloc, text)?;
+    let table = last_entries(alloc, secret, text)?;
     let lines = table_lines(alloc, &table)?;
     let kept = without_intents(alloc, lines)?;
     lines_by_end(alloc, kept.as_slice())

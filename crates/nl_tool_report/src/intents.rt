@@ -9,16 +9,16 @@ ghost use Rattle.nl_tool_report.specs.Intents.{is_intent, recorded, unfinished};
 
 use crate::entry_text::split_line;
 use nl_fields::{EntryRef, read_entry};
-use nl_table::Table;
+use nl_table::{Secret, Table};
 use std::alloc::{AllocError, Global};
 
 /// How many outputs have an intent for their last entry, where the text has the lines of all entries.
-pub fn unfinished_in(alloc: Global, text: &[u8]) -> Result<u64, AllocError>
+pub fn unfinished_in(alloc: Global, secret: Secret, text: &[u8]) -> Result<u64, AllocError>
     ensures value { (es : List Entry) → All IsEntry es → text.now ≡ lines_of_entries es
         → IfOk result (λ count. count ≡ unfinished es) }
 {
     if has_intent(text) {
-        let table = last_entries(alloc, text)?;
+        let table = last_entries(alloc, secret, text)?;
         return Ok(count_intents(&table));
     }
     Ok(0)
@@ -92,11 +92,11 @@ fn append_recorded(line: &[u8], kept: &mut Vec<u8>) -> Result<(), AllocError>
 }
 
 // The last entry of each output.
-pub(crate) fn last_entries(alloc: Global, text: &[u8]) -> Result<Table, AllocError>
+pub(crate) fn last_entries(alloc: Global, secret: Secret, text: &[u8]) -> Result<Table, AllocError>
     ensures value { (es : List Entry) → All IsEntry es → text.now ≡ lines_of_entries es
         → IfOk result (λ table. table ≡ all_entered_table es []) }
 {
-    let mut table = Table::new(alloc);
+    let mut table = Table::with_secret(alloc, secret);
     let mut rest = text;
     'entries: while let Some((line, later)) = split_line(rest) {
         enter_line(line, &mut table)?;

@@ -11,6 +11,7 @@ use crate::lists::Lists;
 use crate::slowest::{Rank, Row};
 use crate::sweep::PARTS;
 use indexmap::IndexMap;
+use nl_table::Secret;
 use std::alloc::{AllocError, Global};
 
 /// How many commands there are, the sum of their milliseconds, and that of their weighted times, in parts of a millisecond.
@@ -38,7 +39,7 @@ pub(crate) fn append_kind_lists(
     ensures items { OnOk result (lines.new.items
         ≡ lines.old.items ++ kind_lists lists.most (kinds lists.rule (map told_row rows.now))) }
 {
-    let found = kinds_of(alloc, lists.rule, rows)?;
+    let found = kinds_of(alloc, lists.secret, lists.rule, rows)?;
     append_kinds(alloc, lists.most, Rank::Time, found.as_slice(), lines)?;
     append_kinds(alloc, lists.most, Rank::Weight, found.as_slice(), lines)
 }
@@ -65,13 +66,14 @@ fn append_kinds(
 /// The kinds of these commands, in the order in which they first appear.
 pub fn kinds_of<'a>(
     alloc: Global,
+    secret: Secret,
     rule: KindRule,
     rows: &[Row<'a>],
 ) -> Result<Vec<KindRow<'a>>, AllocError>
     ensures value { IfOk result
         (λ found. map kind_row found.items ≡ kinds rule (map told_row rows.now)) }
 {
-    let mut sums = IndexMap::new(alloc);
+    let mut sums = IndexMap::with_hasher(alloc, secret);
     for row in rows {
         count_row(kind_of(rule, row.output), row, &mut sums)?;
     }
@@ -82,7 +84,7 @@ pub fn kinds_of<'a>(
 fn count_row<'a>(
     kind: &'a [u8],
     row: &Row<'_>,
-    sums: &mut IndexMap<&'a [u8], KindSums>,
+    sums: &mut IndexMap<&'a [u8], KindSums, Secret>,
 ) -> Result<(), AllocError>
     requires few { (n : ℕ) × ((n < 2 ^ 63) × AreSumsOf n sums.old.entries) }
     ensures value { OnOk result
@@ -100,7 +102,7 @@ fn count_row<'a>(
 }
 
 // The sums of a kind so far.
-fn sums_at(kind: &[u8], sums: &IndexMap<&[u8], KindSums>) -> KindSums
+fn sums_at(kind: &[u8], sums: &IndexMap<&[u8], KindSums, Secret>) -> KindSums
     ensures value { result ≡ sums_in sums.now.entries kind.now }
 {
     match sums.get(kind) {
@@ -115,7 +117,7 @@ fn sums_at(kind: &[u8], sums: &IndexMap<&[u8], KindSums>) -> KindSums
 
 fn rows_in<'a>(
     alloc: Global,
-    sums: &IndexMap<&'a [u8], KindSums>,
+    sums: &IndexMap<&'a [u8], KindSums, Secret>,
 ) -> Result<Vec<KindRow<'a>>, AllocError>
     ensures value { IfOk result (λ found. map kind_row found.items ≡ map kind_pair sums.now.entries) }
 {

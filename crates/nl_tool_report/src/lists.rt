@@ -1,5 +1,6 @@
 //! Which lists `summary` has.
 use crate::kind::KindRule;
+use nl_table::Secret;
 
 /// The lists of the slowest commands and of kinds.
 #[derive(Clone, Copy, Drop)]
@@ -8,4 +9,6 @@ pub struct Lists {
     pub most: usize,
     /// By what outputs are told apart into kinds.
     pub rule: KindRule,
+    /// The secret under which kinds and outputs are hashed.
+    pub secret: Secret,
 }

@@ -33,6 +33,7 @@ use crate::shares::Shares;
 use crate::slowest::{append_slowest_lists, rows_of};
 use crate::span::Span;
 use nl_fields::Entry;
+use nl_table::Secret;
 use nl_tool_texts::{ToolFault, write_out};
 use std::alloc::{AllocError, Global};
 use std::io::{Read, Write};
@@ -62,8 +63,8 @@ pub fn summary_to<R: Read + Drop, W: Write>(
     ensures faults { IfErr result IsLogFault }
 {
     let EntriesAsRead { stamps, text } = read_entries(alloc, reader)?;
-    let count = unfinished_in(alloc, text.as_slice())?;
-    let told = told_lines(alloc, scope, text)?;
+    let count = unfinished_in(alloc, lists.secret, text.as_slice())?;
+    let told = told_lines(alloc, lists.secret, scope, text)?;
     let of_told = told_stamps(scope, stamps);
     let lines = asked_lines(alloc, scope, lists, of_told, count, told.as_slice())?;
     *anew = is_anew(alloc, of_told, told.as_slice())?;
@@ -71,13 +72,18 @@ pub fn summary_to<R: Read + Drop, W: Write>(
 }
 
 /// Of these lines of entries those that are told of.
-pub fn told_lines(alloc: Global, scope: Scope, text: Vec<u8>) -> Result<Vec<u8>, AllocError>
+pub fn told_lines(
+    alloc: Global,
+    secret: Secret,
+    scope: Scope,
+    text: Vec<u8>,
+) -> Result<Vec<u8>, AllocError>
     ensures value { (es : List Entry) → All IsEntry es → text.items ≡ lines_of_entries es
         → IfOk result (λ told. told.items ≡ lines_of_entries (told_entries scope es)) }
 {
     match scope {
         Scope::Last | Scope::Numbered(_) => without_intents(alloc, text),
-        Scope::Outputs => outputs_in(alloc, text.as_slice()),
+        Scope::Outputs => outputs_in(alloc, secret, text.as_slice()),
     }
 }
 
