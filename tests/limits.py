@@ -242,6 +242,22 @@ def try_modes(trials, program, room):
             what = f"{words[0]} of a {'missing LOG' if start is None else f'LOG of mode {mode:03o}'} under the mask {mask:03o}: mode"
             trials.want(what, oct(mode_of(log)), oct(wanted))
             os.remove(log)
+    # With whose rights a file is run isn't kept.
+    for mode in (0o4777, 0o2755, 0o1666, 0o7640):
+        for words in (["recompact", "LOG", "KEEP"], ["restat", "LOG", "TIMES"], repair):
+            write(f"{room}/LOG", SMALL)
+            os.chmod(f"{room}/LOG", mode)
+            trials.want(f"{words[0]} of a LOG of mode {mode:04o}", run([program, *words], cwd=room), DONE)
+            trials.want(f"{words[0]} of a LOG of mode {mode:04o}: mode", oct(mode_of(f"{room}/LOG")), oct(mode & 0o777))
+    # An access control list can't be seen: its mask stands where the group's rights do.
+    lost = b"nlog: LOG LOG: it keeps no access control list; if it had one, its group has the rights of the mask\n"
+    for mode, said in ((0o640, lost), (0o664, lost), (0o644, b""), (0o600, b""), (0o604, b"")):
+        for words, verbose in ((repair, True), (repair, False), (record, True)):
+            write(f"{room}/LOG", SMALL)
+            os.chmod(f"{room}/LOG", mode)
+            wanted = (0, b"", said if verbose and words is repair else b"")
+            asked = [words[0], "-v", *words[1:]] if verbose else words
+            trials.want(f"{' '.join(asked[:2])} of a LOG of mode {mode:04o}", run([program, *asked], cwd=room), wanted)
     # A scratch that a crash left is emptied.
     for words, left in (["recompact", "LOG", "KEEP"], HEADER + b"4\t5\t6\tb\tbb\n"), (repair, SMALL):
         write(f"{room}/LOG", SMALL)
@@ -256,6 +272,87 @@ def without_rights():
         os.setgroups([])
         os.setgid(NOBODY)
         os.setuid(NOBODY)
+
+
+# The owner, the group and the mode of LOG; the user who rewrites it, and the groups of that; and what LOG then has. The owner stays where the
+# user is root, and the group where the user is in it. Else nobody may do more: who was in the old group may be one of the others now, and the
+# other way round, and the old owner may be either.
+OTHER, SHARED = 65_533, 65_532
+OWNERS = [
+    ((NOBODY, NOBODY, 0o4777), (0, [0]), (NOBODY, NOBODY, 0o777)),
+    ((NOBODY, SHARED, 0o640), (0, [0]), (NOBODY, SHARED, 0o640)),
+    ((0, SHARED, 0o600), (0, [0]), (0, SHARED, 0o600)),
+    ((OTHER, OTHER, 0o666), (NOBODY, [NOBODY]), (NOBODY, NOBODY, 0o666)),
+    ((OTHER, OTHER, 0o6777), (NOBODY, [NOBODY]), (NOBODY, NOBODY, 0o777)),
+    ((OTHER, OTHER, 0o646), (NOBODY, [NOBODY]), (NOBODY, NOBODY, 0o644)),
+    ((OTHER, OTHER, 0o606), (NOBODY, [NOBODY]), (NOBODY, NOBODY, 0o600)),
+    ((OTHER, OTHER, 0o466), (NOBODY, [NOBODY]), (NOBODY, NOBODY, 0o444)),
+    ((OTHER, SHARED, 0o660), (NOBODY, [NOBODY, SHARED]), (NOBODY, SHARED, 0o660)),
+    ((OTHER, SHARED, 0o664), (NOBODY, [SHARED]), (NOBODY, SHARED, 0o664)),
+    ((OTHER, SHARED, 0o460), (NOBODY, [NOBODY, SHARED]), (NOBODY, SHARED, 0o440)),
+    ((NOBODY, OTHER, 0o640), (NOBODY, [NOBODY]), (NOBODY, NOBODY, 0o600)),
+    ((NOBODY, OTHER, 0o644), (NOBODY, [NOBODY]), (NOBODY, NOBODY, 0o644)),
+    ((NOBODY, OTHER, 0o604), (NOBODY, [NOBODY]), (NOBODY, NOBODY, 0o600)),
+    ((NOBODY, SHARED, 0o640), (NOBODY, [NOBODY, SHARED]), (NOBODY, SHARED, 0o640)),
+]
+
+
+def try_owners(trials, program, room):
+    """Whose a rewritten LOG is, and what others may do then."""
+    if os.geteuid() != 0:
+        return trials.skip("LOGs of other users", "it is not run by root")
+    for path in os.path.dirname(program), os.path.dirname(room), room:
+        os.chmod(path, 0o755)
+    folder = f"{room}/folder"
+    os.mkdir(folder)
+    os.chmod(folder, 0o777)
+    for (owner, group, mode), (user, groups), wanted in OWNERS:
+        log = f"{folder}/LOG"
+        write(log, SMALL)
+        os.chown(log, owner, group)
+        os.chmod(log, mode)
+
+        def become(user=user, groups=groups):
+            os.setgroups(groups)
+            os.setgid(groups[0])
+            os.setuid(user)
+
+        what = f"user {user} of {groups} repairs a LOG of {owner}, {group}, {mode:04o}"
+        trials.want(what, run([program, "repair", log], cwd="/", preexec_fn=become), DONE)
+        now = os.stat(log)
+        trials.want(f"{what}: LOG's then", (now.st_uid, now.st_gid, oct(mode_of(log))), (*wanted[:2], oct(wanted[2])))
+        os.remove(log)
+    return None
+
+
+def try_watched(trials, program, room):
+    """Nobody who may not open LOG may open its copy while it is written: one of the user's own group tries all the while."""
+    if os.geteuid() != 0:
+        return trials.skip("a copy that another user watches", "it is not run by root")
+    log = f"{room}/LOG"
+    for path in os.path.dirname(room), room:
+        os.chmod(path, 0o755)
+    write(log, HEADER + b"".join(line_of(b"%d" % it, (1, 2, 3, it)) for it in range(20_000)))
+    os.chown(log, 0, SHARED)
+    os.chmod(log, 0o640)
+    with subprocess.Popen([program, "repair", log]) as repair:
+        watcher = os.fork()
+        if watcher == 0:
+            os.setgroups([0])
+            os.setuid(NOBODY)
+            while os.getppid() != 1:
+                try:
+                    os.close(os.open(f"{log}.recompact", os.O_RDONLY))
+                    os._exit(1)
+                except FileNotFoundError:
+                    pass
+                except PermissionError:
+                    # (it is there, and is kept from others)
+                    continue
+    os.kill(watcher, signal.SIGTERM)
+    trials.want("a copy that another user watches: the repair", repair.returncode, 0)
+    trials.want("a copy that another user watches: it was opened", os.waitpid(watcher, 0)[1], signal.SIGTERM)
+    return None
 
 
 # The mode of the folder, that of LOG in it, or None where LOG is missing, the words, and how they end.
@@ -387,7 +484,7 @@ def try_file_size(trials, program, room):
 
 
 def trial(trials, program, room):
-    for number, part in enumerate((try_names, try_scripts, try_bad_lines, try_words, try_full_output, try_dash, try_modes, try_rights, try_file_size)):
+    for number, part in enumerate((try_names, try_scripts, try_bad_lines, try_words, try_full_output, try_dash, try_modes, try_owners, try_watched, try_rights, try_file_size)):
         os.mkdir(f"{room}/{number}")
         part(trials, program, f"{room}/{number}")
 

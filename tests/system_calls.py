@@ -35,11 +35,17 @@ NO_SYNCS = {
 FAILED_SYNCS = {"EIO": b"Input/output error (os error 5)", "ENOSPC": b"No space left on device (os error 28)"}
 # The calls that end the process: one that fails would leave it no way to end.
 ENDS = ("exit_group", "exit")
+# Calls that the work is done without, where one fails.
+LET_GO = ("close", "execve", "fchown", "flistxattr", "fremovexattr")
 # A look at the file of a path. With `--verbose` a command that changes a log begins with one, since it says of a log that is missing that it
 # is; where that look fails, nothing is said.
 LOOKS = ("stat", "newfstatat", "statx")
 LOOKS_FIRST = True
 CALL = re.compile(r"(\w+)\((.*?)\) += (\S+)")
+# The mode of a new file here, which each LOG has; a scratch has it once it is whole.
+MASK = os.umask(0o022)
+os.umask(MASK)
+NEW_MODE = 0o666 & ~MASK
 
 
 def lines_of(log):
@@ -49,11 +55,12 @@ def lines_of(log):
 def effects_wanted(case):
     """What the command does to the files and the folder, in order, by docs/DISK_MODEL.md and docs/ARCHITECTURE.md."""
     log = Log(case.start or b"")
-    sync = ["sync folder", "sync LOG", "look LOG"]
+    sync = ["sync LOG", "sync folder", "look LOG"]
 
     def rewrite(text):
         write = f"write LOG.recompact {sum(len(it) for it in lines_of(Log(text)))}"
-        return ["look LOG", "make LOG.recompact", "lock LOG.recompact", write, "sync LOG.recompact", "look LOG", "rename", *sync]
+        mode = [f"mode LOG.recompact {NEW_MODE:#o}".replace("0o", "0")] * (NEW_MODE != 0o600)
+        return ["look LOG", "make LOG.recompact 0600", "lock LOG.recompact", write, *mode, "sync LOG.recompact", "look LOG", "rename", *sync]
 
     # (a look that finds no file has no effect)
     wanted = ["make LOG"] if case.start is None else ["look LOG"]
@@ -86,6 +93,8 @@ def effect(call, room, is_missing):
         return f"sync {file}"
     if name in ("write", "pwrite64", "writev"):
         return f"write {file} {answer}"
+    if name == "fchmod":
+        return f"mode {file} {words.split(', ')[-1]}"
     if name == "ftruncate":
         return f"cut {file} {words.split(', ')[-1]}"
     if name.startswith("rename"):
@@ -96,7 +105,7 @@ def effect(call, room, is_missing):
         return "look LOG"
     if name == "openat" and "O_CREAT" in words:
         made = re.search(r'"([^"]*)"', words)[1]
-        return f"make {made}" if "O_EXCL" in words or is_missing else None
+        return f"make {made} {words.split(', ')[-1]}" if "O_EXCL" in words else f"make {made}" if is_missing else None
     return name if name in ("unlink", "unlinkat", "truncate", "link") else None
 
 
@@ -158,7 +167,7 @@ class Sweep:
         if how != "kill" and is_first_look:
             if (status, err) != (0, b""):
                 wrong.append(f"status {status} with {err!r} after a look that failed")
-        elif how != "kill" and "ROOM" in line and word not in ("close", "execve") and (how == "error" or status != 0):
+        elif how != "kill" and "ROOM" in line and word not in LET_GO and (how == "error" or status != 0):
             text = (UNREAD if re.search(r"ROOM/(KEEP|TIMES)", line) else FAILED) + reason(line, room, how)
             if (status, err) != (1, text):
                 wrong.append(f"status {status} with {err!r} in place of 1 with {text!r}")

@@ -13,6 +13,7 @@ import fcntl
 import os
 import random
 import shutil
+import signal
 import subprocess
 import sys
 import time
@@ -108,6 +109,23 @@ def try_busy(trials, program, room):
     trials.want("a log that is changed meanwhile is waited for", ended, (b"", b"", 0))
     trials.want("and it is said once", (*told.communicate(timeout=SECONDS), told.returncode), (b"", WAITING, 0))
     trials.want("and all stand", set(Log(read(f"{room}/LOG")).table), {b"a", b"b", b"second", b"told", b"third", b"fourth"})
+
+
+def try_stopped(trials, program, room):
+    """A wait goes by the clock: one that is stopped meanwhile, or has no processor, isn't longer for that."""
+    fill(room, START)
+    with open(f"{room}/LOG", "rb") as held:
+        fcntl.flock(held, fcntl.LOCK_EX)
+        second = begin([program, "record", "-v", *SECOND["record"][0][1:]], room)
+        trials.want("a wait that is stopped: it waits", second.stderr.readline(), WAITING)
+        second.send_signal(signal.SIGSTOP)
+        time.sleep(12)
+        second.send_signal(signal.SIGCONT)
+        at = time.monotonic()
+        out, err = second.communicate(timeout=SECONDS)
+        trials.want("a wait that is stopped: is refused", (out, err[: len(FAILED)], second.returncode), (b"", FAILED, 1))
+        # (what is left by a count of pauses is 9 seconds)
+        trials.check("a wait that is stopped: after 10 seconds of the clock", time.monotonic() - at < 6, f"{time.monotonic() - at:.1f} s later")
 
 
 def always_busy(program, room):
@@ -304,6 +322,7 @@ def try_all(trials, program, room):
     for number, what in enumerate(SECOND):
         try_both(trials, program, f"{room}/{number}", what)
     try_held(trials, program, f"{room}/held")
+    try_stopped(trials, program, f"{room}/stopped")
     try_busy(trials, program, f"{room}/busy")
     for number, (what, line) in enumerate((what, line) for what in MOVED for line in (b"sync", b"recompact\ta\tb\tfirst\tsecond", b"restat\t9\ta")):
         try_moved(trials, program, f"{room}/moved{number}", what, line)

@@ -1,5 +1,6 @@
 pub mod FailedCall
 pub mod FileId
+pub mod Rights
 pub mod Paths
 pub mod OsSystem
 pub mod Failure

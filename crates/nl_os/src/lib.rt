@@ -8,6 +8,7 @@ mod file_id;
 mod os_system;
 mod paths;
 mod renewal;
+mod rights;
 mod system_file;
 mod wait;
 

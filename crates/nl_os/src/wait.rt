@@ -1,5 +1,5 @@
 //! How long a lock is waited for, and how often it is asked for.
-ghost use Rattle.std.specs.Prelude.{◌≡◌, ◌≢◌, ◌≤◌, ◌<◌, ◌+◌, ◌⊎◌, IfSome, None, Some};
+ghost use Rattle.std.specs.Prelude.{◌≡◌, ◌≢◌, ◌≤◌, ◌<◌, ◌+◌, ◌-◌, ◌⊎◌, IfSome, None, Some};
 
 use crate::file_id::FileId;
 use std::fs::Metadata;
@@ -37,55 +37,58 @@ impl Sign {
     }
 }
 
-/// The wait for one lock, in milliseconds.
+/// The wait for one lock, which begins where it is found held for the first time.
 #[derive(Drop)]
 pub struct Wait {
     sign: Option<Sign>,
-    // Since the log was seen to change, and in all.
-    still: u64,
-    all: u64,
+    // The moments in milliseconds at which it began, and at which the log was seen to have this sign.
+    began: u64,
+    since: u64,
     // How long is waited next.
     pause: u64,
     ghost some: { 0 < pause },
     ghost short: { pause ≤ 20 },
-    ghost still_fits: { still ≤ 10000 },
-    ghost all_fits: { all ≤ 60000 },
 }
 
 impl Wait {
     pub fn new() -> Wait
-        ensures start { (result.sign ≡ None) × (result.still ≡ 0) × (result.all ≡ 0) }
+        ensures start { result.sign ≡ None }
     {
         Wait {
             sign: None,
-            still: 0,
-            all: 0,
+            began: 0,
+            since: 0,
             pause: 1,
         }
     }
 
-    /// How long to wait before the lock is asked for again, where the log has this sign. None once it was the same for 10 seconds, or
-    /// after a minute.
-    pub fn pause(&mut self, sign: Sign) -> Option<u64>
-        ensures some { IfSome result (λ n. (0 < n) × (n ≤ 20)) }
-        ensures counted { IfSome result (λ n. (self.new.all ≡ self.old.all + n)
-            × (self.new.sign ≡ Some sign)
-            × (self.old.sign ≡ Some sign → self.new.still ≡ self.old.still + n)
-            × (self.old.sign ≢ Some sign → self.new.still ≡ n)) }
+    /// How long to wait before the lock is asked for again, in milliseconds, where the log has this sign at this moment. None once it
+    /// was the same for 10 seconds, or after a minute.
+    pub fn pause(&mut self, sign: Sign, now: u64) -> Option<u64>
+        ensures begins { self.old.sign ≡ None → self.new.began ≡ now }
+        ensures goes_on { self.old.sign ≢ None → self.new.began ≡ self.old.began }
+        ensures changed { self.old.sign ≢ Some sign → self.new.since ≡ now }
+        ensures same_since { self.old.sign ≡ Some sign → self.new.since ≡ self.old.since }
+        ensures sign { self.new.sign ≡ Some sign }
+        ensures some { IfSome result (λ n. (0 < n) × (n ≤ 20)
+            × (now - self.new.since + n ≤ 10000) × (now - self.new.began + n ≤ 60000)) }
         ensures none { result ≡ None
-            → ((self.old.sign ≡ Some sign) × (self.old.still ≡ 10000)) ⊎ (self.old.all ≡ 60000) }
+            → (10000 ≤ now - self.new.since) ⊎ (60000 ≤ now - self.new.began) }
     {
+        if self.sign.is_none() {
+            self.began = now;
+        }
         if self.sign != Some(sign) {
             self.sign = Some(sign);
-            self.still = 0;
+            self.since = now;
             self.pause = 1;
         }
-        let pause = self.pause.min(STILL - self.still).min(ALL - self.all);
+        let still = STILL.saturating_sub(now.saturating_sub(self.since));
+        let all = ALL.saturating_sub(now.saturating_sub(self.began));
+        let pause = self.pause.min(still).min(all);
         if pause == 0 {
             return None;
         }
-        self.still += pause;
-        self.all += pause;
         self.pause = (self.pause * 2).min(LONGEST_PAUSE);
         Some(pause)
     }

@@ -1,0 +1,116 @@
+//! Who may read and write a log, and what of that a new file in its place keeps.
+ghost use Rattle.std.specs.Prelude.{◌≡◌, ◌≤◌, false, true};
+ghost use Rattle.nl_os.specs.Rights.{IsWithin};
+
+use std::fs::Metadata;
+use std::os::unix::fs::MetadataExt;
+
+/// The owner of a file, its group, and what they and all others may do.
+#[derive(Clone, Copy, Debug, PartialEq, Eq, Drop)]
+pub struct Rights {
+    pub owner: u32,
+    pub group: u32,
+    pub mode: Mode,
+}
+
+/// What the owner of a file, its group and all others may do, three bits each. With whose rights it runs is left out: no log is run.
+#[derive(Clone, Copy, Debug, PartialEq, Eq, Drop)]
+pub struct Mode {
+    owner: u32,
+    group: u32,
+    others: u32,
+}
+
+impl Rights {
+    pub fn of(metadata: &Metadata) -> Rights {
+        Rights {
+            owner: metadata.uid(),
+            group: metadata.gid(),
+            mode: Mode::of(metadata.mode()),
+        }
+    }
+}
+
+impl Mode {
+    fn of(bits: u32) -> Mode
+        ensures alone { (result.owner ≤ 7) × (result.group ≤ 7) × (result.others ≤ 7) }
+    {
+        Mode {
+            owner: bits >> 6 & 7,
+            group: bits >> 3 & 7,
+            others: bits & 7,
+        }
+    }
+
+    pub fn bits(self) -> u32 {
+        self.owner << 6 | self.group << 3 | self.others
+    }
+
+    /// Whether the group may do what the others may not.
+    pub fn is_group_apart(self) -> bool {
+        self.group & self.others != self.group
+    }
+
+    /// The mode of a new file in the place of one of this mode. Nobody may do more: who was in the old group may be one of the others
+    /// now, and the other way round, and the old owner may be either.
+    pub fn kept(self, is_owner_kept: bool, is_group_kept: bool) -> Mode
+        ensures same { is_owner_kept ≡ true → is_group_kept ≡ true → result ≡ self }
+        ensures owner { result.owner ≡ self.owner }
+        ensures group { IsWithin result.group self.group }
+        ensures others { IsWithin result.others self.others }
+        ensures left_group { is_group_kept ≡ false → IsWithin result.others self.group }
+        ensures joined_group { is_group_kept ≡ false → IsWithin result.group self.others }
+        ensures old_owner { is_owner_kept ≡ false
+            → IsWithin result.group self.owner × IsWithin result.others self.owner }
+    {
+        let of_group = self.for_group(is_group_kept);
+        of_group.for_owner(is_owner_kept)
+    }
+
+    // The mode of a file of the same owner, and of this group or another.
+    fn for_group(self, is_kept: bool) -> Mode
+        ensures same { is_kept ≡ true → result ≡ self }
+        ensures owner { result.owner ≡ self.owner }
+        ensures group { IsWithin result.group self.group }
+        ensures others { IsWithin result.others self.others }
+        ensures left_group { is_kept ≡ false → IsWithin result.others self.group }
+        ensures joined_group { is_kept ≡ false → IsWithin result.group self.others }
+    {
+        if is_kept {
+            return self;
+        }
+        let both = common(self.group, self.others);
+        Mode {
+            owner: self.owner,
+            group: both,
+            others: both,
+        }
+    }
+
+    // The mode of a file of this owner or another.
+    fn for_owner(self, is_kept: bool) -> Mode
+        ensures same { is_kept ≡ true → result ≡ self }
+        ensures owner { result.owner ≡ self.owner }
+        ensures group { IsWithin result.group self.group }
+        ensures others { IsWithin result.others self.others }
+        ensures old_owner { is_kept ≡ false
+            → IsWithin result.group self.owner × IsWithin result.others self.owner }
+    {
+        if is_kept {
+            return self;
+        }
+        Mode {
+            owner: self.owner,
+            group: common(self.group, self.owner),
+            others: common(self.others, self.owner),
+        }
+    }
+}
+
+// What both of two may do.
+fn common(one: u32, other: u32) -> u32
+    ensures one { IsWithin result one }
+    ensures other { IsWithin result other }
+{
+    one & other
+}

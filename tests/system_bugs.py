@@ -1,0 +1,195 @@
+#!/usr/bin/env python3
+"""Plants bugs in `OsSystem` that the prover lets through, since nothing is proved of what the system does, and wants each to be seen by a
+test of tests/library/system.
+
+    python3 tests/system_bugs.py
+
+All of them are put into one copy of the crates, each behind the question whether the file `planted/NUMBER` is there. It is built once, by
+`rt try`, and there is one test for each bug, which makes its file and then calls the tests of tests/library/system. Such a test has to fail;
+without a bug each test has to pass. The gate doesn't run this: it runs those tests alone. It takes some minutes, wants `rt`, and no proof.
+"""
+import os
+import re
+import shutil
+import sys
+import tempfile
+
+from library import ALL_SECONDS, CRATE, LIBRARY, TEST, crates
+from trials import Trials, read, run, write
+
+USES = "nl_lines nl_folder nl_files nl_tool_texts nl_os"
+SOURCE = "nl_os/src/os_system.rt"
+# A text that stands once in the source, the part of it in whose place the bugs are, and for each bug what it is and its code.
+SITES = [
+    ("let answer = file.file.sync_all();", "file.file.sync_all()", {
+        "a file is not synced": "Ok(())",
+        "a file is synced without its length": "file.file.sync_data()",
+        "a file is synced twice": "{ let _ = file.file.sync_all(); file.file.sync_all() }",
+        "a scratch gets its rights behind its sync": "{ let answer = file.file.sync_all(); if let Some(rights) = file.rights { self.give_rights(&file.file, rights)?; file.rights = None; } answer }",
+    }),
+    ("let answer = folder.sync_all();", "folder.sync_all()", {"the folder is not synced": "Ok(())"}),
+    ("self.folder = Some(folder);", "self.folder = Some(folder);", {"the folder is opened for each sync": "drop(folder);"}),
+    ("match self.lock(file, FileRole::Log)? {", "self.lock(file, FileRole::Log)?", {"the log is not locked": "Lock::None"}),
+    ("Lock::Taken => self.hold_shown(file, id),", "self.hold_shown(file, id)", {
+        "a lock is taken, and the name not looked at": "{ let lock = self.note_lock(file, id, FileRole::Log)?; self.locks.clear(); self.hold(Some(lock))?; Ok(Some(changed)) }",
+        "a lock is let go of at once": "Ok(Some(changed))",
+    }),
+    ("Lock::Held => Ok(None),", "Ok(None)", {"a log that another has locked is taken": "Ok(Some(changed))"}),
+    ("if FileId::of(&found) != id {", "FileId::of(&found) != id", {"a file that has lost the name is locked": "false"}),
+    ("self.locks.clear();\n        self.hold(Some(lock))?;", "self.locks.clear();", {"the lock of a file that has lost the name is kept": ""}),
+    ("self.hold(Some(lock))?;\n        Ok(Some(", "self.hold(Some(lock))?;", {"the handle of a lock is closed": "{ drop(lock); self.hold(None)?; }"}),
+    ("self.hold(lock)?;\n        let mut file", "self.hold(lock)?;", {"a log that was made is not locked": "drop(lock);"}),
+    ("self.scratch_lock = self.lock_new(&file, id, FileRole::Scratch)?;", "self.lock_new(&file, id, FileRole::Scratch)?", {
+        "a scratch is not locked": "None",
+        "the lock of a scratch is let go of": "{ drop(self.lock_new(&file, id, FileRole::Scratch)?); None }",
+    }),
+    ("self.scratch_lock = None;\n        self.remove_scratch", "self.scratch_lock = None;", {"the lock of an old scratch is kept": ""}),
+    ("self.remove_scratch()?;", "self.remove_scratch()?;", {"an old scratch is not removed": ""}),
+    ("match self.rt.remove_file(&self.paths.scratch) {", "self.rt.remove_file(&self.paths.scratch)", {"the log is removed": "self.rt.remove_file(&self.paths.log)"}),
+    ("Err(error) if error.kind() == ErrorKind::NotFound => Ok(()),", "error.kind() == ErrorKind::NotFound", {"a missing scratch is a failure": "false"}),
+    ("let lock = self.scratch_lock.take();\n        let held", "self.scratch_lock.take()", {
+        "the lock of the new log is forgotten": "{ self.scratch_lock = None; None }",
+        "the lock of a scratch is forgotten if its rename failed": "if answer.is_ok() { self.scratch_lock.take() } else { self.scratch_lock = None; None }",
+    }),
+    ("if answer.is_ok() {\n            self.locks.clear();", "answer.is_ok()", {
+        "the lock of the log is forgotten if a rename failed": "true",
+        "the lock of the old log is kept behind a rename": "false",
+    }),
+    ("self.rt.rename(&self.paths.scratch, &self.paths.log)", "self.rt.rename(&self.paths.scratch, &self.paths.log)", {
+        "the log is renamed to the scratch": "self.rt.rename(&self.paths.log, &self.paths.scratch)",
+        "no rename is made": "Ok(())",
+    }),
+    (".create_new(true)", ".create_new(true)", {"whatever has the name of the scratch is opened": ".create_new(!IS).create(IS)"}),
+    (".mode(if is_own { OWN_MODE } else { NEW_MODE }),", "if is_own { OWN_MODE } else { NEW_MODE }", {"anyone may open a scratch": "NEW_MODE"}),
+    ("if let Some(rights) = file.rights {", "file.rights", {"a scratch keeps the rights of its own": "None", "a scratch gets its rights behind its sync": "None"}),
+    ("self.give_rights(&file.file, rights)?;", "self.give_rights(&file.file, rights)?;", {"a scratch keeps its mode if that can't be set": "{ let _ = self.give_rights(&file.file, rights); }"}),
+    ("file.rights = None;", "file.rights = None;", {"each sync of a scratch sets its mode": ""}),
+    ("let id = FileId::of(&self.stat(&file, FileRole::Scratch)?);", "FileId::of(&self.stat(&file, FileRole::Scratch)?)", {
+        "a scratch gets its rights before it is whole": "{ let id = FileId::of(&self.stat(&file, FileRole::Scratch)?); if let Some(rights) = rights { self.give_rights(&file, rights)?; } id }",
+    }),
+    ("if self.locks.is_empty() ||", "self.locks.is_empty()", {"a copy gets the rights of another file": "true"}),
+    ("        if self.is_begun {", "self.is_begun", {"a log that was removed is made again": "false", "a missing log is not made": "true"}),
+    ("OpenOptions::new().read(true).append(true).create(true),", ".append(true)", {"a log is not appended to": ".append(!IS).write(IS)"}),
+    (".create(true),", ".create(true)", {"a log is emptied": ".create(true).append(!IS).write(IS).truncate(IS)"}),
+    ("Err(error) if error.kind() == ErrorKind::NotFound => Ok(None),\n            Err(error) => Err(self.fail(SystemCall::Open", "error.kind() == ErrorKind::NotFound", {
+        "a log that is gone is a failure": "false",
+        "a log that can't be opened is gone": "true",
+    }),
+    *((f"self.denial(file.role) {{\n            return Err(self.fail(SystemCall::{call},", "self.denial(file.role)", {f"a log that may only be read is asked for a {call.lower()}": "None"}) for call in ("Write", "Cut", "Sync")),
+    ("if shown == Some(file.id) && is_as_left {", "shown == Some(file.id) && is_as_left", {"a look finds no other file": "true", "a look finds no change": "shown == Some(file.id)"}),
+    ("let answer = file.cut_as_read(len);", "file.cut_as_read(len)", {"a log is cut that another changed": "file.file.set_len(len)"}),
+    ("file.changed = None;\n        file.len", "file.changed = None;", {"a cut is taken for that of another": ""}),
+    ("file.len = if answer.is_ok() { Some(len) } else { None };", "file.len = if answer.is_ok() { Some(len) } else { None };", {"a log is longer than it was cut to": ""}),
+    ("errno: error.raw_os_error(),", "error.raw_os_error()", {"the number of an error is lost": "None"}),
+    ("let answer = file.file.read_at(buf, at);", "file.file.read_at(buf, at)", {"a read begins at the first byte": "file.file.read_at(buf, 0)"}),
+    ("file.note_read(at, count, buf.len());", "file.note_read(at, count, buf.len());", {"the end of a log is forgotten": ""}),
+    ("let answer = write_some(&mut file.file, bytes);", "write_some(&mut file.file, bytes)", {"bytes are added twice": "{ let _ = write_some(&mut file.file, bytes); write_some(&mut file.file, bytes) }"}),
+    ("file.note_added(answer.ok());", "file.note_added(answer.ok());", {"an append is taken for that of another": ""}),
+    ("self.is_begun = true;", "self.is_begun = true;", {"each open makes a missing log": ""}),
+    ("if file.descriptor() > LAST_STREAM {", "file.descriptor() > LAST_STREAM", {"a file has the descriptor of a standard stream": "true"}),
+    ("OpenOptions::new().read(true), &self.paths.folder);", "&self.paths.folder", {"the log is synced as its folder": "&self.paths.log"}),
+    ("if kind != ErrorKind::PermissionDenied && kind", "kind != ErrorKind::PermissionDenied", {"a log that can't be opened is opened for reading": "false"}),
+    ("if self.sync_file(file).is_err() {", "self.sync_file(file)", {"the look comes before the sync": "{ let _ = self.look(file); self.sync_file(file) }"}),
+    ("let answer = self.look(file);\n        file.changed", "self.look(file)", {"the look comes before the sync": "Ok(())"}),
+    ("let Some(pause) = wait.pause(Sign::of(&metadata), now) else {", "wait.pause(Sign::of(&metadata), now)", {
+        "a wait has no end": "{ let _ = wait.pause(Sign::of(&metadata), now); Some(1) }",
+        "no lock is waited for": "{ let _ = wait.pause(Sign::of(&metadata), now); None }",
+    }),
+    ("thread::sleep(&self.rt, Duration::from_millis(pause));", "thread::sleep(&self.rt, Duration::from_millis(pause));", {"a wait has no pauses": ""}),
+    ("if error.kind() == ErrorKind::Unsupported\n", "error.kind() == ErrorKind::Unsupported", {"no lock can fail": "true", "a system call that is missing is a failure": "false"}),
+    ("|| error.raw_os_error() == Some(NO_LOCKS)", "error.raw_os_error() == Some(NO_LOCKS)", {"a file system without locks is a failure": "false"}),
+]
+# What is left of a call of a runtime of the tests that asks for a bug.
+ASKS = ("    fn metadata(&self, path: &str) -> io::Result<Metadata> {\n", '        if path.starts_with("planted/") {\n            return self.rt.metadata(path);\n        }\n')
+
+
+def planted(source):
+    """The source with all bugs, and the name of each, whose place in the list is its number."""
+    names, spans = [], []
+    for text, part, bugs in SITES:
+        assert source.count(text) == 1 and part in text, f"{source.count(text)} times in {SOURCE}: {text}"
+        code = f"{{ {part} }}"
+        for name, bug in bugs.items():
+            names += [name] * (name not in names)
+            # (one function has the runtime alone)
+            runtime = "rt" if "LAST_STREAM" in text else "self.rt"
+            asks = f'{runtime}.metadata("planted/{names.index(name)}").is_ok()'
+            # A word of a chain is no value by itself.
+            code = bug.replace("IS", asks) if part.startswith(".") else f"if {asks} {{ {bug} }} else {code}"
+        code = code if part[0] == "." or part[-1] == ";" else f"({code})"
+        start = source.index(text) + text.index(part)
+        spans.append((start, start + len(part), code))
+    for start, end, code in sorted(spans, reverse=True):
+        source = source[:start] + code + source[end:]
+    return source, names
+
+
+def without_asserts(text):
+    """A module whose assertions are errors, since no function but a test itself may abort."""
+    while (start := text.find("assert!(rt;")) >= 0:
+        depth, comma, at = 1, None, start + len("assert!(rt;")
+        while depth:
+            literal = re.compile(r'b?"(?:[^"\\\\]|\\\\.)*"').match(text, at)
+            at = literal.end() if literal else at + 1
+            mark = "" if literal else text[at - 1]
+            depth += (mark in "([{" and mark != "") - (mark in ")]}" and mark != "")
+            if mark == "," and depth == 1 and comma is None:
+                comma = at - 1
+        holds = text[start + len("assert!(rt;") : comma or at - 1].strip()
+        text = f'{text[:start]}if !({holds}) {{ return Err("it is seen".into()); }}{text[at:].removeprefix(",").removeprefix(";")}'
+    return text
+
+
+def bug_tests(names, bodies, texts):
+    """A test for each bug, and one without, of which each calls all the others, once what another left is removed."""
+    folders = {"planted", *re.findall(r'"(\w+)/', texts), *re.findall(r'create_dir\(&rt, "(\w+)"', texts)}
+    files = {f"{it}{end}" for it in re.findall(r'"([\w.]+\.(?:log|new))"', texts) for end in ("", ".recompact")}
+    begins = [f'    let _ = fs::remove_dir_all(&rt, "{it}");' for it in sorted(folders)]
+    begins += [f'    let _ = fs::remove_file(&rt, "{it}");' for it in sorted(files)]
+    calls = [f"    super::{it}(rt.clone()?)?;" for it in bodies]
+    lines = ["use std::fs;", "use std::test::Fail;", "fn all(rt: HostRuntime, bug: &str) -> Result<(), Fail> {", *begins]
+    lines += ['    fs::create_dir(&rt, "planted")?;', '    fs::write(&rt, bug, "")?;', *calls, "    Ok(())", "}"]
+    for name in ["none", *map(str, range(len(names)))]:
+        lines += ["#[test]", f"fn bug_{name}(rt: HostRuntime) -> Result<(), Fail> {{", f'    all(rt, "planted/{name}")', "}"]
+    return "\n".join(lines) + "\n"
+
+
+def lay_out(room):
+    """Makes the crate of the tests, with the bugs below it: the names of the bugs, and the folder of the crate."""
+    src, bodies, texts = crates(room, CRATE, USES), [], ""
+    source, names = planted(read(f"{room}/crates/{SOURCE}").decode())
+    write(f"{room}/crates/{SOURCE}", source.encode())
+    os.mkdir(f"{src}/system")
+    root = read(f"{LIBRARY}/system.rattle").decode()
+    for module in re.findall(r"(?m)^mod (\w+);$", root):
+        text = read(f"{LIBRARY}/system/{module}.rattle").decode()
+        texts += text
+        bodies += [f"{module}::{it}" for it in re.findall(TEST, text)]
+        text = without_asserts(text.replace(ASKS[0], "".join(ASKS)).replace("#[test]\nfn ", "pub fn "))
+        write(f"{src}/system/{module}.rt", text.encode())
+    write(f"{src}/system/bugs.rt", bug_tests(names, bodies, texts).encode())
+    write(f"{src}/system.rt", f"{root}mod bugs;\n".encode())
+    write(f"{src}/lib.rt", b"#![tactic(auto)]\n\n#[cfg(test)]\nmod system;\n")
+    return names, os.path.dirname(src)
+
+
+def main():
+    trials = Trials(__file__)
+    if shutil.which("rt") is None:
+        trials.skip("the bugs", "rt isn't there")
+        return trials.end()
+    with tempfile.TemporaryDirectory() as room:
+        names, folder = lay_out(room)
+        _, out, err = run(["rt", "try", "--test", "--seconds", "300"], cwd=folder, timeout=ALL_SECONDS)
+    text = (out + err).decode(errors="replace")
+    ends = dict(re.findall(r"(?m)^test system::bugs::bug_(\w+) \.\.\. (\w+)$", text))
+    if not trials.want("without a bug", ends.get("none"), "ok"):
+        print(text[-3000:])
+        return trials.end()
+    for number, name in enumerate(names):
+        trials.want(name, ends.get(str(number)), "FAILED")
+    return trials.end()
+
+
+if __name__ == "__main__":
+    sys.exit(main())
