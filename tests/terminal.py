@@ -29,6 +29,18 @@ SUMMARY = (
 )
 # One build, of which the first output is the slowest: its name has three characters, of five bytes.
 WIDE = b"# ninja log v7\n0\t9\t1\t\xe2\x82\xac.o\tbb\n0\t9\t1\tlonger.o\tcc\n"
+# Names that a terminal would obey: an escape sequence, each control character of one byte that a name may have, a carriage return and
+# a backspace over what stands before, one of two bytes; and what stays as it is: umlauts, a backslash, bytes that are no UTF-8.
+CONTROLS = bytes(it for it in range(1, 32) if it not in (9, 10)) + b"\x7f"
+HOSTILE = [b"\x1b[2J\x1b]0;owned\x07.o", b"safe\r\x08\x08evil.o", b"one" + CONTROLS + b".o", b"csi \xc2\x9b2J.o", "äß€.o".encode(), b"a\\b\x80\x9b\xff.o"]
+HOSTILE_SHOWN = [
+    b"\\x1b[2J\\x1b]0;owned\\x07.o",
+    b"safe\\x0d\\x08\\x08evil.o",
+    b"one" + b"".join(b"\\x%02x" % it for it in CONTROLS) + b".o",
+    b"csi \xc2\\x9b2J.o",
+    "äß€.o".encode(),
+    b"a\\b\x80\x9b\xff.o",
+]
 WIDE_BY_TIME = b"by-time    9  4.50  \xe2\x82\xac.o\nby-time    9  4.50  longer.o\n"
 # Of the outputs of both, `b.o` took 5 ms less, and `a.o` 10 ms.
 COMPARED = (
@@ -133,6 +145,25 @@ def try_columns(trials, program, log, earlier):
         trials.want(f"{word}: with --tabs", run([*words, "--tabs"])[0], 2)
 
 
+def try_controls(trials, program, room):
+    """A name's control characters are shown by their numbers at a terminal, and stay as they are in a pipe."""
+    log, earlier = f"{room}/hostile", f"{room}/tame"
+    for path, lines in ((log, [b"0\t%d\t1\t%s\t%x\n" % (4 + at, name, at) for at, name in enumerate(HOSTILE)]), (earlier, [])):
+        with open(path, "wb") as file:
+            file.write(b"# ninja log v7\n" + b"".join(lines))
+    for words in (["summary", log], ["summary", "--kind", "folder", log], ["compare", earlier, log], ["builds", log]):
+        piped = run([program, *words])
+        status, shown, said = at_terminal([program, *words], True)
+        what = f"{words[0]} of names that a terminal would obey"
+        wanted = piped[1]
+        for name, by_number in zip(HOSTILE, HOSTILE_SHOWN):
+            trials.check(f"{what}: in a pipe as it is", words[0] == "builds" or name in piped[1], repr(name))
+            wanted = wanted.replace(name, by_number)
+        trials.want(f"{what}: at a terminal", (status, shown, said), (piped[0], columns_of(wanted), piped[2]))
+        trials.check(f"{what}: no control character", not any(it < 32 and it != 10 or it == 127 for it in shown), repr(shown))
+        trials.want(f"{what}: with --tabs", at_terminal([program, *words, "--tabs"], True)[1], piped[1])
+
+
 def try_progress(trials, program):
     """A log that comes in two halves is told of where the second one comes late."""
     text = b"# ninja log v5\n" + b"".join(b"%d\t%d\t1\tout%d\t%x\n" % (at, at + 1, at, at) for at in range(100_000))
@@ -164,6 +195,7 @@ def trial(trials, program, room):
         with open(path, "wb") as file:
             file.write(text)
     try_columns(trials, program, log, earlier)
+    try_controls(trials, program, room)
     try_progress(trials, program)
 
 

@@ -1,8 +1,39 @@
 -- A text whose fields tabs part, in columns (docs/CLI.md, "At a terminal").
-use Rattle.std.specs.Prelude.{ℕ, zero, suc, ◌+◌, ◌-◌, ◌==◌, ◌&&◌, ◌||◌, nat_le, nat_lt, not, max, Bool, true, false, List, [], ◌∷◌, ◌++◌, length, get_or, slice_get, replicate, count_by, if◌then◌else◌}
+use Rattle.std.specs.Prelude.{ℕ, zero, suc, ◌+◌, ◌-◌, ◌/◌, ◌%◌, ◌≡◌, ⊤, ◌==◌, ◌&&◌, ◌||◌, nat_le, nat_lt, not, max, Bool, true, false, List, [], ◌∷◌, ◌++◌, length, get_or, slice_get, replicate, count_by, if◌then◌else◌}
 use Rattle.std.specs.List.{list_all, slice_split}
 use Rattle.std.specs.Option.{unwrap_or}
+use Rattle.nl_fields.specs.Digits.{digit_of}
 use Rattle.nl_tool_columns.specs.declared.columns.Column.{Column}
+
+-- ---- what a terminal shows
+
+-- a byte that a terminal of UTF-8 takes for a control character, behind another byte; tabs and newlines part the text
+abbrev pub is_control : ℕ → ℕ → Bool
+is_control before b =
+    (nat_lt b 32 && (not (b == 9) && not (b == 10))) || (b == 127 || (before == 194 && (nat_le 128 b && nat_lt b 160)))
+
+-- a byte by its number in hexadecimal
+abbrev pub by_number : ℕ → List ℕ
+by_number b = 92 ∷ 120 ∷ digit_of (b / 16) ∷ digit_of (b % 16) ∷ []
+
+-- a control character so, and another byte as it is
+abbrev pub shown_byte : ℕ → ℕ → List ℕ
+shown_byte before b = if is_control before b then by_number b else b ∷ []
+
+-- the bytes that stand behind another byte
+abbrev pub shown_behind : ℕ → List ℕ → List ℕ
+shown_behind before [] = []
+shown_behind before (b ∷ text) = shown_byte before b ++ shown_behind b text
+
+abbrev pub shown : List ℕ → List ℕ
+shown text = shown_behind 0 text
+
+-- behind a byte, a text has no control character but tabs and newlines
+abbrev pub IsQuiet : ℕ → List ℕ → Type 0
+IsQuiet before [] = ⊤
+IsQuiet before (b ∷ text) = (is_control before b ≡ false) × IsQuiet b text
+
+-- ---- lines and fields
 
 abbrev pub lines_of : List ℕ → List (List ℕ)
 lines_of text = slice_split (λ b. b == 10) text
@@ -106,5 +137,9 @@ abbrev pub rows_up_to : ℕ → List (List ℕ) → List ℕ
 rows_up_to zero lines = []
 rows_up_to (suc k) lines = rows_up_to k lines ++ newline_before k ++ row_of lines (get_or lines k [])
 
+abbrev pub laid_out : List ℕ → List ℕ
+laid_out text = rows_up_to (length (lines_of text)) (lines_of text)
+
+-- as a terminal shows it
 abbrev pub in_columns : List ℕ → List ℕ
-in_columns text = rows_up_to (length (lines_of text)) (lines_of text)
+in_columns text = laid_out (shown text)

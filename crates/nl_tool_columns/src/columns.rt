@@ -4,6 +4,7 @@ ghost use Rattle.nl_tool_texts.specs.Output.{Prints};
 ghost use Rattle.nl_tool_texts.specs.declared.fault.ToolFault.{ToolFault};
 ghost use Rattle.nl_tool_columns.specs.Columns.{are_figures, begins_one, cell, cells, columns, column, field_at, fields_of, in_columns, is_figure, is_number, lines_of, room, row_of, rows_up_to, spaces, widened, width};
 
+use crate::shown::shown;
 use nl_tool_texts::{ToolFault, write_out};
 use std::alloc::{AllocError, Global};
 use std::io::Write;
@@ -17,14 +18,15 @@ pub struct Column {
     pub is_number: bool,
 }
 
-/// The text with its fields in columns. Tabs part the fields of a line. Lines with as many fields share their columns, wherever
+/// The text with its fields in columns, and its control characters by their numbers. Tabs part the fields of a line. Lines with as many fields share their columns, wherever
 /// they stand. Two spaces part columns, and one in which each field is a number is set to the right.
 ///
-/// It takes the memory of what it answers, and 16 bytes for each line.
+/// It takes the memory of what it answers and of the text, and 16 bytes for each line.
 pub fn in_columns(alloc: Global, text: &[u8]) -> Result<Vec<u8>, AllocError>
     ensures value { IfOk result (λ out. out.items ≡ in_columns text.now) }
 {
-    let lines = lines_of(alloc, text)?;
+    let text = shown(alloc, text)?;
+    let lines = lines_of(alloc, text.as_slice())?;
     let mut found = Vec::new(alloc);
     let mut out = Vec::new(alloc);
     for i in 0..lines.len() {

@@ -1,6 +1,6 @@
-//! A law of columns, the contract of a function that does nothing.
+//! Laws of columns, each the contract of a function that does nothing.
 ghost use Rattle.std.specs.Prelude.{◌≡◌, ◌+◌, ◌++◌, ◌∷◌, ℕ, List, false, length};
-ghost use Rattle.nl_tool_columns.specs.Columns.{cell, column, field_at, fields_of, room, width};
+ghost use Rattle.nl_tool_columns.specs.Columns.{IsQuiet, cell, column, field_at, fields_of, room, shown, width};
 
 /// Columns line up: in each line of a text with as many fields, a cell that others follow is as wide as the widest field of its
 /// column, and two characters more.
@@ -9,4 +9,10 @@ pub fn columns_line_up()
         → width (cell false
         (column (length (fields_of line)) place (before ++ line ∷ later) room) (field_at line place))
         ≡ (column (length (fields_of line)) place (before ++ line ∷ later) room).width + 2 }
+{}
+
+/// No name makes a terminal do anything: what is laid out has no control character, of one byte or of two, but tabs and
+/// newlines.
+pub fn nothing_is_obeyed()
+    ensures { (text : List ℕ) → IsQuiet 0 (shown text) }
 {}

@@ -3,5 +3,7 @@
 
 mod columns;
 pub mod laws;
+mod shown;
 
 pub use columns::{Column, columns_to, in_columns};
+pub use shown::append_number;
