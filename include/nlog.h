@@ -10,7 +10,9 @@
  *   the file. It is C code, lib/nlog_writer.c, which is tested and not proved.
  *
  * Status: each call answers one, and no call prints, aborts, sets a signal's
- *   handler or has global state. Unless a call says more, any status but
+ *   handler or has global state, but for two random numbers. The first call
+ *   that makes a log takes them from getrandom. Names are hashed under them, so
+ *   no names make a log slow. Unless a call says more, any status but
  *   NLOG_OK leaves the handle as it was. It leaves each thing that the call
  *   would have filled as it was, too.
  * Pointers: none may be NULL, but one to 0 bytes, an nlog_writer, and what a
@@ -370,20 +372,27 @@ nlog_status nlog_clear_marks(nlog *log);
  *   has to be below 256 and not close-on-exec, and the system Linux with /proc.
  *   Who else was started with it isn't kept out.
  * Signals: a call goes on if a signal interrupts it. But a wait for a lock ends
- *   if a handler runs, or if SIGINT, SIGTERM or SIGHUP is blocked and pending.
- *   The call then answers NLOG_LOCKED with EINTR, and may be made again. A
- *   process that has a limit on the length of files (RLIMIT_FSIZE) must ignore
- *   SIGXFSZ, or it is ended by it.
+ *   if a handler runs in its thread, or if SIGINT, SIGTERM or SIGHUP is blocked
+ *   and pending. The call then answers NLOG_LOCKED with EINTR, and may be made
+ *   again. The system gives a signal to any thread that doesn't block it. So
+ *   block it in all other threads, or the wait may go on. A process that has a
+ *   limit on the length of files (RLIMIT_FSIZE) must ignore SIGXFSZ, or it is
+ *   ended by it.
  * Threads and processes: each call may block as long as the disk does.
  *   Descriptors are close-on-exec, and none is a standard stream's.
  * Files: the scratch of a rewriting is the path with `.recompact` behind it. A
  *   failure may leave it there, and the next rewriting takes it away. If that
  *   is too long a name, the open is refused, by ENAMETOOLONG. A rewritten log
- *   is a new file, with the permissions of the one before and the owner of a
- *   new one. If the path is a symbolic link, it stands in the place of that.
- *   Other names of a file stay those of the old one. nlog_writer_open looks the
- *   path up. The folder that it names then is held open until the close,
- *   wherever it is moved to.
+ *   is a new file. If the path is a symbolic link, it stands in the place of
+ *   that. Other names of a file stay those of the old one. nlog_writer_open
+ *   looks the path up. The folder that it names then is held open until the
+ *   close, wherever it is moved to.
+ * Rights: a rewritten log has the owner, group, permissions and ACL of the
+ *   one before, as far as the process may give them. It has its security.*
+ *   attributes too. Setuid, setgid, the sticky bit, capabilities and all other
+ *   attributes go. Nobody but the owner of the new file may do with it what he
+ *   might not do with the old one (docs/LIBRARY.md). The scratch has mode 0600
+ *   until all of it is written.
  * Syncs: a log is synced by its folder, and then by its file. A sync of the
  *   folder may answer EINVAL, ENOSYS, ENOTSUP or EROFS. Then the file system
  *   has none, and the call goes on without. So it does if the folder may be
@@ -450,10 +459,11 @@ nlog_status nlog_writer_open(nlog_writer *writer);
  * The first call that changes the log locks it. Then it does what an open owes:
  * it syncs, and repairs or rewrites. So does nlog_writer_open, which does no
  * more than that. If the file is the one that was read, nothing of it is read
- * again but the end of its last line. If it only grew by lines of entries,
- * these are read. If it is another, or was written in any other way, it is read
- * anew. It is known by its device, its inode, its length, the time of its last
- * write and its last 128 bytes. A log that is due is rewritten without what is
+ * again but its last 1024 bytes. If it only grew by lines of entries, these are
+ * read. If it is another, or was written in any other way, it is read anew. So
+ * it is if over 512 of these bytes are of a torn line. It is known by its
+ * device, its inode, its length, the times of its last write and its last
+ * change, and these bytes. A log that is due is rewritten without what is
  * marked dead by then.
  * NLOG_OK: the log was read. A close of it is answered NLOG_OK, and does
  * nothing to any file.
@@ -504,11 +514,12 @@ nlog_status nlog_writer_set_shared(nlog_writer *writer, bool is_shared);
  * NLOG_ALREADY_OPEN: the writer has to be closed; also of a broken one. */
 nlog_status nlog_writer_set_wary(nlog_writer *writer, bool is_wary);
 
-/* How long a lock is waited for from now on, in milliseconds: 10,000 at first,
- * and with 0 it is asked for once. A signal ends the wait (see "Signals"). It
- * is asked for again each millisecond at first, and each 20 by and by. Whoever
- * asks first behind an unlock has it. There is no queue, so among many that
- * wait one may wait long. */
+/* How long a lock is waited for from now on, in milliseconds of
+ * CLOCK_MONOTONIC. It is 10,000 at first, and with 0 the lock is asked for
+ * once. A signal ends the wait (see "Signals"). It is asked for again each
+ * millisecond at first, and each 20 by and by. Whoever asks first behind an
+ * unlock has it. There is no queue, so among many that wait one may wait
+ * long. */
 nlog_status nlog_writer_set_wait(nlog_writer *writer, uint32_t milliseconds);
 
 /* Whether an open, or an open to read, succeeded that no close followed, and

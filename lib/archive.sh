@@ -37,10 +37,10 @@ fi
 
 room=$(mktemp -d)
 trap 'rm -rf "$room"' EXIT
-# The proved calls that only read are called by lib/nlog_reads.c, which has their names.
-objcopy --redefine-syms="$top/lib/nlog_reads.names" "$top/crates/nl_c/out/libnl_c.a" "$room/proved.a"
+# The proved calls that only read, and those that make a log, are called by lib/nlog_reads.c and lib/nlog_secret.c, which have their names.
+objcopy --redefine-syms="$top/lib/proved.names" "$top/crates/nl_c/out/libnl_c.a" "$room/proved.a"
 (cd "$room" && ar x proved.a && rm proved.a && ar x "$heap")
-for part in nlog_writer nlog_reads nlog_damage nlog_status; do
+for part in nlog_writer nlog_rights nlog_reads nlog_secret nlog_damage nlog_status; do
     $cc -std=c11 -Wall -Wextra -O2 -fPIC -I "$top/include" -c "$top/lib/$part.c" -o "$room/$part.o"
 done
 

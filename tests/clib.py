@@ -8,8 +8,9 @@ the format says of each log from log_format.py. tests/clib/tool.c has the comman
 program's system calls, of writes that are cut, of a full disk, of what a crash leaves, and of `apply` are made of the library too, by the
 same rules. Writers run at once, one beside PROGRAM too, and are killed.
 
-Parts of it are clib_looks.py (a log that is opened to read), clib_wary.py (a writer that drops what can't be trusted), clib_systems.py (what a
-file system can't do, and what is done to a log), clib_steps.py (the steps of a change) and clib_packages.py (how the library is taken).
+Parts of it are clib_looks.py (a log that is opened to read), clib_wary.py (a writer that drops what can't be trusted), clib_rights.py (who may
+read and write a log that is rewritten), clib_systems.py (what a file system can't do, and what is done to a log), clib_steps.py (the steps of a
+change) and clib_packages.py (how the library is taken).
 
 Wants `rt` and `cc`; a C++ compiler, AddressSanitizer, ThreadSanitizer, valgrind, ctypes, strace, rustc, cmake, pkg-config, and the right to mount
 a tmpfs, where they are there.
@@ -34,6 +35,7 @@ import apply_calls
 import between
 import clib_looks
 import clib_packages
+import clib_rights
 import clib_steps
 import clib_systems
 import clib_wary
@@ -61,14 +63,15 @@ def build(trials, room):
     if not trials.check("lib/archive.sh makes the archive", ran[0] == 0, (ran[1] or b"")[-800:].decode(errors="replace")):
         return made
     kit = os.path.dirname(os.path.dirname(os.path.realpath(shutil.which("rt"))))
-    run(["objcopy", f"--redefine-syms={TOP}/lib/nlog_reads.names", f"{TOP}/crates/nl_c/out/libnl_c.a", f"{room}/proved.a"])
-    parts = [*(f"{TOP}/lib/{it}.c" for it in ("nlog_writer", "nlog_reads", "nlog_damage", "nlog_status")), f"{room}/proved.a", f"{kit}/c/liblibc_c.a"]
+    run(["objcopy", f"--redefine-syms={TOP}/lib/proved.names", f"{TOP}/crates/nl_c/out/libnl_c.a", f"{room}/proved.a"])
+    parts = [*(f"{TOP}/lib/{it}.c" for it in ("nlog_writer", "nlog_rights", "nlog_reads", "nlog_secret", "nlog_damage", "nlog_status")), f"{room}/proved.a", f"{kit}/c/liblibc_c.a"]
     ways = [
         ("C11", ["cc", "-std=c11", "-O2", *STRICT, DRIVER, archive]),
         ("C++17", ["c++", "-x", "c++", "-std=c++17", *STRICT, DRIVER, "-x", "none", archive]),
         ("sanitized", ["cc", "-std=c11", "-g", *SANITIZED, *STRICT, DRIVER, *parts]),
         ("refused", ["cc", "-std=c11", "-DREFUSES", "-Wl,--wrap=malloc,--wrap=realloc,--wrap=calloc", *STRICT, DRIVER, archive]),
         ("steps", ["cc", "-std=c11", "-O2", "-DRECORDS", f"-Wl,{','.join(f'--wrap={it}' for it in RECORDED)}", *STRICT, DRIVER, archive]),
+        ("timeless", ["cc", "-std=c11", "-O2", "-DTIMELESS", "-Wl,--wrap=fstat64,--wrap=fstatat64", *STRICT, DRIVER, archive]),
         ("tool", ["cc", "-std=c11", "-O2", *STRICT, TOOL, archive]),
         ("sharer", ["cc", "-std=c11", "-g", *SANITIZED, *STRICT, SHARER, *parts] if sanitizes(room) else ["cc", "-std=c11", *STRICT, SHARER, archive]),
         ("readers", ["cc", "-std=c11", "-g", *STRICT, READERS, "-pthread", archive]),
@@ -342,6 +345,40 @@ def by_ctypes(trials, made, room):
     library.nlog_writer_free(ctypes.byref(writer))
     trials.want("ctypes: the writer is gone", writer.value, None)
     trials.want("ctypes: the log", read(path), HEADER + A + B)
+    by_hostile_names(trials, library, path)
+
+
+def by_hostile_names(trials, library, path):
+    """10,000 names that have one hash in a table without a secret (bench/colliding_log.py), and as many others: each call that loads a log."""
+    size, change = ctypes.c_size_t, ctypes.c_uint32()
+    colliding = [b"%08d" % it + (0x9E3779B97F4A7C15).to_bytes(8, "little") for it in range(10_000)]
+
+    def by_writer():
+        writer = ctypes.c_void_p()
+        library.nlog_writer_new(ctypes.byref(writer), path.encode(), ctypes.c_uint32(0))
+        status = library.nlog_writer_open(writer)
+        library.nlog_writer_free(ctypes.byref(writer))
+        return status
+
+    def in_memory(log, text):
+        return library.nlog_new(log) or library.nlog_open(log, text, size(len(text)), ctypes.c_uint32(0), ctypes.byref(change))
+
+    calls = {
+        "nlog_load": lambda log, text: library.nlog_load(log, text, size(len(text))),
+        "nlog_load_distrusted": lambda log, text: library.nlog_load_distrusted(log, text, size(len(text))),
+        "nlog_open": in_memory,
+        "nlog_writer_open": lambda log, text: by_writer(),
+    }
+    for name, call in calls.items():
+        taken = []
+        for names in (colliding, [it[:-1] + b"x" for it in colliding]):
+            text = HEADER + b"".join(line_of(it, (1, 2, 3, 0xAA)) for it in names)
+            write(path, text)
+            log, before = Handle(), time.process_time()
+            trials.want(f"{name} of 10,000 names", call(ctypes.byref(log), text), 0)
+            taken.append(time.process_time() - before)
+            library.nlog_free(ctypes.byref(log))
+        trials.check(f"{name} of 10,000 names that collide", taken[0] <= 5 * taken[1] + 0.1, f"{taken[0]:.3f} s, others {taken[1]:.3f} s")
 
 
 def header(trials):
@@ -548,32 +585,9 @@ def turns(trials, made, room):
             finally:
                 os.umask(before)
             trials.want(f"the log {path}", read(log), HEADER + A)
-    modes(trials, made, room)
     for way, driver in drivers(made):
         run([*driver, "closed", log, f"{room}/closed.txt"])
         trials.want(f"{way}: closed streams", read(f"{room}/closed.txt"), b"NLOG_OK NLOG_OK NLOG_OK NLOG_OK NLOG_OK 0 0\n")
-
-
-def modes(trials, made, room):
-    """The permissions of a log, which a rewriting keeps: of a due log, of a recompaction, and as they are by then."""
-    log, before = f"{room}/turns/modes", os.umask(0o022)
-    try:
-        for mode in (0o600, 0o640, 0o644, 0o664, 0o666, 0o755):
-            for text, lines in ((HEADER + A * 101 + B, ["open", "rewrote", "close"]), (HEADER + A, ["open", "recompact", "close"])):
-                write(log, text)
-                os.chmod(log, mode)
-                said = asked([made["C11"]], "write", log, 0, lines)[1]
-                trials.want(f"a log of mode {mode:o}, {lines}", said, ["OK", "OK 1" if "rewrote" in lines else "OK", "OK"])
-                trials.want(f"its mode behind {lines}", oct(os.stat(log).st_mode & 0o7777), oct(mode))
-        writer = subprocess.Popen([made["C11"], "write", log, "0"], stdin=subprocess.PIPE, stdout=subprocess.PIPE)
-        trials.want("a log that gets another mode", answers_of(writer, "open"), "OK")
-        os.chmod(log, 0o620)
-        trials.want("and is rewritten", answers_of(writer, "recompact"), "OK")
-        trials.want("it has that mode", oct(os.stat(log).st_mode & 0o7777), oct(0o620))
-        writer.communicate()
-    finally:
-        os.umask(before)
-    os.remove(log)
 
 
 def failing(trials, made, room):
@@ -821,6 +835,16 @@ def readers(trials, made, room):
         write(log, text)
         trials.want(f"{name}: four threads", run([*words, log, times], timeout=600), (0, b"0 wrong answers\n", b""))
         trials.want(f"{name}: the log", read(log), text)
+    # A signal that the other thread blocks ends a wait, whichever thread is the first.
+    with open(log, "rb") as held:
+        fcntl.flock(held, fcntl.LOCK_EX)
+        for name, words, _ in ways[:2]:
+            waiting = subprocess.Popen([*words, log, "0"], stdout=subprocess.PIPE)
+            trials.want(f"{name}: one thread waits for a lock", waiting.stdout.readline(), b"it waits\n")
+            while waiting.poll() is None:
+                waiting.send_signal(signal.SIGUSR1)
+                time.sleep(0.05)
+            trials.want(f"{name}: and a signal ends that", waiting.communicate()[0], b"NLOG_LOCKED EINTR\n")
 
 
 # ---- Locks, and processes at once ----
@@ -833,9 +857,9 @@ def locks(trials, made, program, room):
     write(log, HEADER + B)
     with open(log, "rb") as held:
         fcntl.flock(held, fcntl.LOCK_EX)
-        begun = time.monotonic()
-        trials.want("a log that stays locked", asked([made["C11"]], "write", log, 0, lines)[1], ["LOCKED EWOULDBLOCK flock log", "NOT_OPEN", "NOT_OPEN"])
-        trials.check("it waits for 10 seconds", 9.9 < time.monotonic() - begun < 20, time.monotonic() - begun)
+        said = asked([made["C11"]], "write", log, 0, ["open", "took", *lines[1:]])[1]
+        trials.want("a log that stays locked", [said[0], *said[2:]], ["LOCKED EWOULDBLOCK flock log", "NOT_OPEN", "NOT_OPEN"])
+        took(trials, "it waits for 10 seconds", said[1], 10000)
         trials.want("the log stays", read(log), HEADER + B)
         for is_replaced in (False, True):
             fcntl.flock(held, fcntl.LOCK_EX)
@@ -907,6 +931,11 @@ def forks(trials, made, room):
             trials.want(f"{what}the parent goes on", (said, read(log)), (["OK", "OK"], HEADER + A + B))
 
 
+def took(trials, what, said, least):
+    """A wait took so many milliseconds by the driver's own clock, and what the machine kept it waiting once."""
+    trials.check(what, least <= int(said.split()[1]) < least + 3000, said)
+
+
 def waits(trials, made, room):
     """How long a lock is waited for, which the caller says; and a close of a shared log that another has: nothing is done, and it can be closed
     again."""
@@ -914,11 +943,11 @@ def waits(trials, made, room):
     with open(log, "ab") as held:
         for way, driver in drivers(made):
             write(log, HEADER + A)
-            for wait, least, most in ((0, 0, 3), (25, 0.025, 3), (700, 0.7, 5)):
+            for wait in (0, 25, 700):
                 fcntl.flock(held, fcntl.LOCK_EX)
-                begun = time.monotonic()
-                trials.want(f"{way}: an open that waits {wait} ms", asked(driver, "write", log, 0, [f"wait {wait}", "open"])[1], ["OK", said])
-                trials.check(f"{way}: it waits {wait} ms", least <= time.monotonic() - begun < most, time.monotonic() - begun)
+                *answers, time_taken = asked(driver, "write", log, 0, [f"wait {wait}", "open", "took"])[1]
+                trials.want(f"{way}: an open that waits {wait} ms", answers, ["OK", said])
+                took(trials, f"{way}: it waits {wait} ms", time_taken, wait)
                 fcntl.flock(held, fcntl.LOCK_UN)
             writer = subprocess.Popen([*driver, "write", log, "0"], stdin=subprocess.PIPE, stdout=subprocess.PIPE)
             begun = [answers_of(writer, it) for it in ("shared", "open", f"record 4 5 6 bb {hexed(b'b')}", "wait 60")]
@@ -960,9 +989,9 @@ def lives_on(trials, made, room):
             first = subprocess.Popen([*driver, "write", log, "0"], stdin=subprocess.PIPE, stdout=subprocess.PIPE)
             what = f"{way}, a child that outlives {lines}"
             trials.want(what, [answers_of(first, it) for it in ("open", "keep-child", *lines)], ["OK"] * (2 + len(lines)))
-            begun = time.monotonic()
-            trials.want(f"{what}: the next open", asked([made["C11"]], "write", log, 0, ["open", "close"])[1], ["OK", "OK"])
-            trials.check(f"{what}: it waits for nothing", time.monotonic() - begun < 5, time.monotonic() - begun)
+            said = asked([made["C11"]], "write", log, 0, ["open", "took", "close"])[1]
+            trials.want(f"{what}: the next open", [said[0], said[2]], ["OK", "OK"])
+            took(trials, f"{what}: it waits for nothing", said[1], 0)
             first.communicate()
 
 
@@ -1277,12 +1306,24 @@ def joins(trials, made, room):
     trials.want("but by an open", [answers_of(writer, it) for it in ("open", "rewrote", "close")], ["OK", "OK 1", "OK"])
     writer.communicate()
     trials.want("the log at last", read(log), HEADER + A + B)
-    # A lock is asked for often at first, for those that take turns.
-    with open(log, "rb") as held:
-        fcntl.flock(held, fcntl.LOCK_EX)
-        asked(["strace", "-o", f"{room}/TRACE", "-e", "trace=flock", made["C11"]], "write", log, 0, ["wait 100", "open"])
-    times = len(re.findall(rb"(?m)^flock\(.*LOCK_EX", read(f"{room}/TRACE")))
-    trials.check("how often a lock is asked for in 100 ms", 25 < times < 80, str(times))
+
+
+def pauses(trials, made, room):
+    """A lock is asked for often at first, for those that take turns; and the wait ends by the clock, also where a pause takes longer than it was to."""
+    log = f"{room}/pauses.log"
+    write(log, HEADER)
+    for wait, late in ((100, 0), (500, 0), (500, 50), (500, 700)):
+        with open(log, "rb") as held:
+            fcntl.flock(held, fcntl.LOCK_EX)
+            words = ["strace", "-ttt", "-o", f"{room}/TRACE", "-e", "trace=flock,ppoll", "-e", f"inject=ppoll:delay_exit={late * 1000}", made["C11"]]
+            trials.want(f"a wait of {wait} ms, each pause {late} late", asked(words, "write", log, 0, [f"wait {wait}", "open"])[1], ["OK", "LOCKED EWOULDBLOCK flock log"])
+        found = [(float(at) * 1000, int(ns or 0) / 1e6) for at, ns in re.findall(r"(?m)^([\d.]+) (?:flock|ppoll).*?(?:tv_nsec=(\d+)|$)", read(f"{room}/TRACE").decode())]
+        asked_for = [it for it in found if it[1] > 0]
+        about = f"the pauses of a wait of {wait} ms, each {late} late"
+        trials.check(f"{about}: one of a millisecond, and no longer ones than 20", asked_for[0][1] == 1 and all(0 < it <= 20 for _, it in asked_for), asked_for)
+        trials.check(f"{about}: longer by and by", all(pause <= 1 + (at - found[0][0]) / 16 for at, pause in asked_for), asked_for)
+        trials.check(f"{about}: no more than the wait", sum(pause + late for _, pause in asked_for[:-1]) <= wait, asked_for)
+        trials.want(f"{about}: a lock is asked for before and behind each", len(found), 2 * len(asked_for) + 1)
 
 
 def signals(trials, made, room):
@@ -1300,11 +1341,10 @@ def signals(trials, made, room):
     write(log, HEADER)
     with open(log, "rb") as held:
         fcntl.flock(held, fcntl.LOCK_EX)
-        begun = time.monotonic()
         driver = ["strace", "-o", f"{room}/TRACE", "-e", "trace=flock", "-e", "inject=flock:error=EINTR:when=2+3", made["C11"]]
-        said = asked(driver, "write", log, 0, ["open"])[1]
-        trials.want("flocks that are interrupted", said, ["LOCKED EWOULDBLOCK flock log"])
-        trials.check("10 seconds pass all the same", 9.9 < time.monotonic() - begun < 25, time.monotonic() - begun)
+        said = asked(driver, "write", log, 0, ["open", "took"])[1]
+        trials.want("flocks that are interrupted", said[:1], ["LOCKED EWOULDBLOCK flock log"])
+        took(trials, "10 seconds pass all the same", said[1], 10000)
 
 
 def replaced(trials, made, room):
@@ -1363,8 +1403,12 @@ def by_the_rules_of_the_program(trials, made, room):
     wanted, done = system_calls.effects_wanted, system_calls.effect
 
     def wanted_of_tool(case):
-        """The sync behind the change is of the log alone: its folder is durable since the open, or since the rename."""
+        """The library syncs the folder before the log; and behind the change the log alone, since its folder is durable since the open, or since the
+        rename."""
         found = [it for it in wanted(case) if it != "look LOG"]
+        for at in range(len(found) - 1):
+            if found[at : at + 2] == ["sync LOG", "sync folder"]:
+                found[at : at + 2] = ["sync folder", "sync LOG"]
         return [*found[:-2], found[-1]] if found[-2:] == ["sync folder", "sync LOG"] else found
 
     system_calls.effects_wanted = wanted_of_tool
@@ -1485,10 +1529,12 @@ def trial(trials, program, room):
         writes_that_fail(trials, made, room)
         costs(trials, made, room)
         joins(trials, made, room)
+        pauses(trials, made, room)
         signals(trials, made, room)
         replaced(trials, made, room)
     clib_looks.trial(trials, made, room)
     clib_wary.trial(trials, made, room)
+    clib_rights.trial(trials, made, room)
     clib_systems.trial(trials, made, room)
     clib_packages.trial(trials, made, program, room)
     by_the_rules_of_the_program(trials, made, room)

@@ -151,17 +151,17 @@ def put(make):
     return change
 
 
-def put_with_its_time(make):
-    """Another file in the log's place, which was written when the log was."""
+def in_its_time(change):
+    """A change of the log, which was then written when the log was."""
 
-    def change(log, text):
+    def work(log, text):
         times = os.stat(log) if text is not None else None
-        new = put(make)(log, text)
+        new = change(log, text)
         if times is not None:
             os.utime(log, ns=(times.st_atime_ns, times.st_mtime_ns))
         return new
 
-    return change
+    return work
 
 
 def over(make):
@@ -201,8 +201,9 @@ WHAT = {
     "cuts it, and appends": over(lambda text: text[: text.rfind(b"\n") + 1] + D),
     "puts a copy there": put(lambda text: text),
     "puts one of the same length and end there": put(another),
-    "puts one of the same length, end and time there": put_with_its_time(another),
+    "puts one of the same length, end and time there": in_its_time(put(another)),
     "writes others of the same length and end": over(another),
+    "writes others of the same length, end and time": in_its_time(over(another)),
     "writes another end, and more": over(lambda text: text.replace(b"4\t5\t6\tb", b"4\t5\t7\tb") + D),
     "puts another log there": put(lambda _: HEADER + D),
     "puts one of version 7 there": put(lambda _: V7 + D),
@@ -321,10 +322,56 @@ def locked(trials, made, room):
             trials.want(f"{about}the log at last", read(log), HEADER + A + B + D)
 
 
+# A torn line, or a part of the first one, and what others put in its place, of the same length.
+TORN = [
+    *((b"1\t2\t3\t" + b"n" * length, lambda length: b"7\t8\t9\t" + b"m" * (length - 10) + b"\tcc\n") for length in (10, 40, 300, 500, 900, 1018, 3000, 60000)),
+    (b"1\t2\t3\tmain.o", lambda length: b"7\t8\t9\tma\tcc\n"),
+    # Lines, of which the last is torn again, by the same end.
+    (b"1\t2\t3\t" + b"n" * 400000, lambda length: NEW * 9 + b"n" * (length - 9 * len(NEW))),
+    (b"1\t2\t3\t" + b"n" * 30, lambda length: NEW + b"n" * (length - len(NEW))),
+    (b"1\t2\t3\t" + b"n" * 3000, lambda length: NEW + b"n" * (length - len(NEW))),
+    (b"1\t2\t3\ta\taa", lambda length: b"1\t2\t3\tb\taa"),
+]
+
+
+def in_its_place(trials, made, room):
+    """Another repairs the log and records as many bytes as it took away, within one tick of the clock: what it recorded stands."""
+    log = f"{room}/place"
+    ways = [it for it in drivers(made) if it[0] in ("C11", "sanitized")] + [("timeless", [made["timeless"]])] * ("timeless" in made)
+    for way, driver in ways:
+        for whole in (HEADER + A + B, BEFORE["long"]):
+            for torn, lines in TORN:
+                new = lines(len(torn))
+                for line in (RECORD, "open", "recompact"):
+                    write(log, whole + torn)
+                    writer = begun(driver, log)
+                    said = [answers_of(writer, "look")]
+                    in_its_time(over(lambda _: whole + new))(log, whole + torn)
+                    said += [answers_of(writer, it) for it in (line, "close")]
+                    writer.communicate()
+                    left = opened(whole + new, 0)[2]
+                    left = left + A if line == RECORD else text_of(Log(left).table) if line == "recompact" else left
+                    trials.want(f"{way}: a torn line of {len(torn)} bytes, {new[:30]!r} in its place, {line[:9]}", (said, read(log)), (["OK"] * 3, left))
+        # What the writer can't trust is told by the bytes of the torn line, and so is whether there is a log at all.
+        for text, new, lines, answers, left in (
+            (HEADER + A + B + b"1\t2\t3\ta\t", HEADER + A + B + b"1\t2\t3\tb\t", ["wary", "look", "open", "close"], ["OK"] * 4, HEADER + A),
+            (HEADER[:9], b"hello, wo", ["look", RECORD, "close"], ["OK", "NOT_A_LOG", "BROKEN"], b"hello, wo"),
+        ):
+            write(log, text)
+            writer = begun(driver, log)
+            said = [answers_of(writer, it) for it in lines[:-2]]
+            in_its_time(over(lambda _, new=new: new))(log, text)
+            said += [answers_of(writer, it) for it in lines[-2:]]
+            writer.communicate()
+            trials.want(f"{way}: {new[-9:]!r} in the place of {text[-9:]!r}", (said, read(log)), (answers, left))
+
+
 # ---- What it costs ----
 
+# So many bytes before the end of what was read are read again.
+LAST = 1024
 MEMORY_CALLS = {"brk", "mmap", "munmap", "mremap", "madvise", "fcntl", "getpid"}
-LOOKED = ["openat", "openat", "stat", "pread64", "pread64", "pread64"]
+LOOKED = ["openat", "openat", "stat", "pread64", "pread64"]
 # The calls of the system of the first change behind a look, where the log is the one that was read: those of an open but for the read.
 LOCKED = ["stat", "openat", "flock", "stat", "stat", "pread64"]
 COSTS = [
@@ -363,8 +410,10 @@ def costs(trials, made, room):
         trials.want(f"the calls of a look at {text[-9:]!r}", calls[1], LOOKED)
         trials.want("of what reads", calls[2:4], [[], []])
         trials.want(f"of the first {line[:9]}", ends, wanted or closed)
-    for more, most in ((b"", 128), (D * 3, 128 + len(D) * 3)):
-        write(log, MANY)
+    # (the last block of the second is shorter than what is compared)
+    short = MANY[: MANY.index(b"\n", 262144) + 1]
+    for text, more, most in ((MANY, b"", LAST), (MANY, D * 3, LAST + len(D) * 3), (short, b"", LAST)):
+        write(log, text)
         writer = subprocess.Popen(["strace", "-o", f"{room}/TRACE", made["C11"], "write", log, "0"], stdin=subprocess.PIPE, stdout=subprocess.PIPE)
         trials.want("a look at a long log", [answers_of(writer, it) for it in ("is_open", "look")], ["OK 0", "OK"])
         with open(log, "ab") as it:
@@ -372,9 +421,9 @@ def costs(trials, made, room):
         trials.want("a record behind it", [answers_of(writer, it) for it in (RECORD, "close")], ["OK", "OK"])
         writer.communicate()
         calls, got = calls_of(room)
-        trials.want("the look reads the log once", got[1], len(MANY) + 128)
+        trials.want("the look reads the log once", got[1], len(text))
         trials.want(f"the first record reads what it must, where another added {len(more)} bytes", got[2], most)
-        trials.want("the log then", read(log), MANY + more + A)
+        trials.want("the log then", read(log), text + more + A)
 
 
 # ---- What fails ----
@@ -443,6 +492,7 @@ def failing(trials, made, room):
 def trial(trials, made, room):
     looks(trials, made, room)
     between(trials, made, room)
+    in_its_place(trials, made, room)
     if may_trace(trials, room):
         costs(trials, made, room)
         failing(trials, made, room)

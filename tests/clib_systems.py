@@ -5,6 +5,7 @@ A build tool has to be able to go on where a program that only appends would (do
 import fcntl
 import os
 import re
+import select
 import shutil
 import signal
 import subprocess
@@ -127,12 +128,12 @@ def interrupted(trials, made, room):
                     fcntl.flock(held, fcntl.LOCK_EX)
                     writer.stdin.write(f"{line}\n".encode())
                     writer.stdin.flush()
-                    since = time.monotonic()
-                    time.sleep(0.15)
-                    trials.want(f"{about}it waits", writer.poll(), None)
-                    writer.send_signal(number)
+                    # (one that is handled before the wait ends nothing)
+                    while not select.select([writer.stdout], [], [], 0.15)[0]:
+                        writer.send_signal(number)
                     trials.want(f"{about}it is told", writer.stdout.readline().decode().strip(), f"NLOG_{ended}")
-                    trials.check(f"{about}at once", time.monotonic() - since < 3, time.monotonic() - since)
+                    said = answers_of(writer, "took")
+                    trials.check(f"{about}at once", int(said.split()[1]) < 3000, said)
                     trials.want(f"{about}the log then", read(log), HEADER + B)
                     fcntl.flock(held, fcntl.LOCK_UN)
                     trials.want(f"{about}once more", answers_of(writer, line), "OK")
@@ -265,11 +266,11 @@ def in_the_root(trials, made, room):
 
 def grown_in_a_read(trials, made, room):
     """A file that grows while it is read is taken with what it has by then; and one that gets shorter is one that ends there."""
-    log = f"{room}/growing"
+    log, many = f"{room}/growing", b"".join(line_of(b"%d" % i, (i, i, i, i)) for i in range(30000))
     for what, begin, end in (("load", ["load"], "load"), ("open", ["open", "count", "close"], "write"), ("look", ["look", "count", "close"], "write")):
-        for change, wanted in ((lambda: append(log, A + D), 3), (lambda: append(log, b"".join(line_of(b"%d" % i, (i, i, i, i)) for i in range(30000))), 30001), (lambda: os.truncate(log, len(HEADER)), 0)):
+        for change, wanted in ((lambda: append(log, A + D), 3), (lambda: append(log, many), 30001), (lambda: os.truncate(log, len(HEADER)), 0)):
             write(log, HEADER + B)
-            words = ["strace", "-o", f"{room}/TRACE", "-P", log, "-e", "trace=pread64", "-e", "inject=pread64:delay_enter=700000:when=1", made["C11"], end, log, *(["0"] if end == "write" else [])]
+            words = ["strace", "-o", f"{room}/TRACE", "-P", log, "-e", "trace=pread64", "-e", "inject=pread64:delay_enter=1500000:when=1", made["C11"], end, log, *(["0"] if end == "write" else [])]
             reader = subprocess.Popen(words, stdin=subprocess.PIPE, stdout=subprocess.PIPE)
             reader.stdin.write("\n".join(begin).encode() + b"\n")
             reader.stdin.flush()

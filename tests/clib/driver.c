@@ -34,6 +34,24 @@ void *__wrap_calloc(size_t count, size_t size) { return left >= 0 && left-- == 0
 #endif
 #endif
 
+#ifdef TIMELESS
+/* Linked with --wrap: on a file system whose times tell nothing. */
+#include <sys/stat.h>
+int __real_fstat64(int fd, struct stat *about);
+int __wrap_fstat64(int fd, struct stat *about);
+int __real_fstatat64(int folder, const char *path, struct stat *about, int how);
+int __wrap_fstatat64(int folder, const char *path, struct stat *about, int how);
+
+static int without_times(int answer, struct stat *about) {
+  memset(&about->st_mtim, 0, sizeof about->st_mtim);
+  memset(&about->st_ctim, 0, sizeof about->st_ctim);
+  return answer;
+}
+
+int __wrap_fstat64(int fd, struct stat *about) { return without_times(__real_fstat64(fd, about), about); }
+int __wrap_fstatat64(int folder, const char *path, struct stat *about, int how) { return without_times(__real_fstatat64(folder, path, about, how), about); }
+#endif
+
 #ifdef RECORDS
 /* Linked with --wrap: each call of the system that changes a file is written down, with the file that it is about, in the file of this process in
  * the folder NLOG_STEPS; and each call of the writer, with the log as it finds it and as it leaves it (tests/clib_steps.py). */
@@ -738,8 +756,15 @@ static void handle_signals(void) {
   sigaction(SIGUSR1, &action, NULL);
 }
 
+static double seconds(void) {
+  struct timespec now;
+  clock_gettime(CLOCK_MONOTONIC, &now);
+  return (double)now.tv_sec + (double)now.tv_nsec / 1e9;
+}
+
 static void write_log(const char *log, uint32_t version) {
   static request it;
+  double begun, took = 0;
   static char name[NLOG_MAX_NAME];
   nlog_writer *writer = NULL;
   nlog_entry entry;
@@ -757,6 +782,7 @@ static void write_log(const char *log, uint32_t version) {
     status = NLOG_STATUS_MAX;
     place = 99;
     NOTE_LOG("call", it.word, log);
+    begun = seconds();
     if (is(&it, "open")) status = nlog_writer_open(writer);
     if (is(&it, "look")) status = nlog_writer_open_to_read(writer);
     if (is(&it, "record")) status = nlog_writer_record(writer, it.names[0].bytes, it.names[0].len, &it.entry);
@@ -794,6 +820,8 @@ static void write_log(const char *log, uint32_t version) {
       nlog_writer_free(&writer);
       status = writer == NULL ? NLOG_OK : NLOG_FAULT;
     }
+    if (is(&it, "took")) status = NLOG_OK;
+    else took = seconds() - begun;
     NOTE_LOG("done", nlog_status_name(status), log);
     printf("%s", nlog_status_name(status));
     if ((status == NLOG_FAULT || status == NLOG_LOCKED) && !is(&it, "rival")) show_failure(writer, log);
@@ -802,6 +830,7 @@ static void write_log(const char *log, uint32_t version) {
     if (status == NLOG_OTHER_VERSION) printf(" %" PRIu64, nlog_writer_other_version(writer));
     if (is(&it, "version") && status == NLOG_OK) printf(" %" PRIu32, number);
     if (is(&it, "count") && status == NLOG_OK) printf(" %zu", count);
+    if (is(&it, "took")) printf(" %d", (int)(took * 1000));
     if ((is(&it, "find") || is(&it, "at")) && status == NLOG_OK) show_found(&entry);
     if (is(&it, "at") && status == NLOG_OK) {
       printf(" ");
@@ -862,12 +891,6 @@ static int write_many(const char *log, int count, int syncs) {
 
 /* The time of a record, beside fprintf and fflush of the same line into a file that is open for appending. Both go on in turn, a block of each, so
  * that what else the machine does falls on both. As many outputs as there are records: each is new. */
-static double seconds(void) {
-  struct timespec now;
-  clock_gettime(CLOCK_MONOTONIC, &now);
-  return (double)now.tv_sec + (double)now.tv_nsec / 1e9;
-}
-
 static void fill_entry(int i, nlog_entry *entry) {
   entry->start_ms = i;
   entry->end_ms = i + 5;

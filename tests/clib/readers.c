@@ -1,8 +1,11 @@
 /* Threads that read one handle and one writer at once: readers LOG TIMES
- * LOG has the outputs out0 to out999, where outN has the times N and N + 1, the mtime 7 * N and the hash N. It says how many answers were wrong. */
+ * LOG has the outputs out0 to out999, where outN has the times N and N + 1, the mtime 7 * N and the hash N. It says how many answers were wrong.
+ * Where TIMES is 0, a thread opens LOG, beside another that blocks SIGUSR1: it says how that ended. */
 #include "nlog.h"
 
+#include <errno.h>
 #include <pthread.h>
+#include <signal.h>
 #include <stdio.h>
 #include <stdlib.h>
 #include <string.h>
@@ -52,12 +55,39 @@ static void *read_all(void *passed) {
   return NULL;
 }
 
+static void heed_nothing(int number) { (void)number; }
+
+static void *wait_for_lock(void *passed) {
+  pthread_sigmask(SIG_UNBLOCK, (const sigset_t *)passed, NULL);
+  printf("it waits\n");
+  fflush(stdout);
+  printf("%s", nlog_status_name(nlog_writer_open(writer)));
+  printf(" %s\n", nlog_writer_errno(writer) == EINTR ? "EINTR" : "-");
+  return NULL;
+}
+
+static int wait_beside_another(const char *log) {
+  struct sigaction action;
+  sigset_t handled;
+  pthread_t thread;
+  memset(&action, 0, sizeof action);
+  action.sa_handler = heed_nothing;
+  sigemptyset(&handled);
+  sigaddset(&handled, SIGUSR1);
+  if (sigaction(SIGUSR1, &action, NULL) != 0 || pthread_sigmask(SIG_BLOCK, &handled, NULL) != 0) return 1;
+  if (nlog_writer_new(&writer, log, 0) != NLOG_OK || pthread_create(&thread, NULL, wait_for_lock, &handled) != 0) return 1;
+  pthread_join(thread, NULL);
+  nlog_writer_free(&writer);
+  return 0;
+}
+
 int main(int argc, char **argv) {
   static reader readers[THREADS];
   long wrong = 0;
   int i, error = 0;
   if (argc != 3) return 2;
   times = atoi(argv[2]);
+  if (times == 0) return wait_beside_another(argv[1]);
   if (nlog_load_file(&loaded, argv[1], &error) != NLOG_OK) return 1;
   if (nlog_writer_new(&writer, argv[1], 0) != NLOG_OK || nlog_writer_open(writer) != NLOG_OK) return 1;
   for (i = 0; i < THREADS; i++) {

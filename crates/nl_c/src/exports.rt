@@ -1,4 +1,5 @@
-//! What is exported. Each call takes the log out of its handle, and puts it back.
+//! What is exported. Each call takes the log out of its handle, and puts it back. One that makes a log is given two numbers: the
+//! secret under which names are hashed. In `lib/` stand the calls of the header that give them.
 ghost use Rattle.std.specs.Prelude.{◌≡◌, ◌≢◌, ◌↔◌, ◌⊎◌, true, false, None, IfErr, IfOk, IsErrOf, IsOk, IsSomeAnd};
 ghost use Rattle.nl_distrust.specs.Distrusted.{is_whole};
 ghost use Rattle.nl_fields.specs.CommandHash.{IsHash, hash_of};
@@ -21,6 +22,7 @@ use crate::written_log::WrittenLog;
 use crate::{look_up, status};
 use nl_distrust::is_whole;
 use nl_fields::{command_hash, command_hash_v7, name_fault};
+use nl_table::Secret;
 use nl_versions::lines_version;
 use std::alloc::Global;
 
@@ -45,7 +47,13 @@ pub extern "C" fn nlog_status_text(status: u32, buf: &mut [u8]) -> usize
 
 /// Loads the log that the bytes are. Where the handle has a log, the new one takes its place.
 #[unsafe(no_mangle)]
-pub extern "C" fn nlog_load(handle: &mut Handle, alloc: Global, bytes: &[u8]) -> u32
+pub extern "C" fn nlog_load(
+    handle: &mut Handle,
+    alloc: Global,
+    key0: u64,
+    key1: u64,
+    bytes: &[u8],
+) -> u32
     ensures ok { result ≡ ok → IsSomeAnd handle.new.kept.log
         (λ held. IsSomeAnd (loaded_of held) (IsLoadedFrom bytes.now)) }
     ensures not_a_log { result ≡ not_a_log → log_of (as_five bytes.now) ≡ NotALog }
@@ -54,7 +62,7 @@ pub extern "C" fn nlog_load(handle: &mut Handle, alloc: Global, bytes: &[u8]) ->
         ⊎ (result ≡ out_of_memory) }
     ensures unchanged { result ≢ ok → handle.new.kept.log ≡ handle.old.kept.log }
 {
-    let log = match LoadedLog::load(alloc, bytes) {
+    let log = match LoadedLog::load(alloc, Secret::of(key0, key1), bytes) {
         Ok(log) => log,
         Err(fault) => return status::of_fault(fault),
     };
@@ -71,7 +79,13 @@ pub extern "C" fn nlog_load(handle: &mut Handle, alloc: Global, bytes: &[u8]) ->
 /// Loads those entries alone of the log that the bytes are whose outputs can't be trusted. Where the handle has a log, the
 /// new one takes its place.
 #[unsafe(no_mangle)]
-pub extern "C" fn nlog_load_distrusted(handle: &mut Handle, alloc: Global, bytes: &[u8]) -> u32
+pub extern "C" fn nlog_load_distrusted(
+    handle: &mut Handle,
+    alloc: Global,
+    key0: u64,
+    key1: u64,
+    bytes: &[u8],
+) -> u32
     ensures ok { result ≡ ok → IsSomeAnd handle.new.kept.log
         (λ held. IsSomeAnd (loaded_of held) (IsDistrustedFrom bytes.now)) }
     ensures not_a_log { result ≡ not_a_log → log_of (as_five bytes.now) ≡ NotALog }
@@ -80,7 +94,7 @@ pub extern "C" fn nlog_load_distrusted(handle: &mut Handle, alloc: Global, bytes
         ⊎ (result ≡ out_of_memory) }
     ensures unchanged { result ≢ ok → handle.new.kept.log ≡ handle.old.kept.log }
 {
-    let log = match LoadedLog::load_distrusted(alloc, bytes) {
+    let log = match LoadedLog::load_distrusted(alloc, Secret::of(key0, key1), bytes) {
         Ok(log) => log,
         Err(refused) => return status::of_fault(refused),
     };
@@ -192,12 +206,13 @@ pub extern "C" fn nlog_find(
 
 /// A closed log without marks. What the handle held is let go.
 #[unsafe(no_mangle)]
-pub extern "C" fn nlog_new(handle: &mut Handle, alloc: Global) -> u32
+pub extern "C" fn nlog_new(handle: &mut Handle, alloc: Global, key0: u64, key1: u64) -> u32
     ensures ok { result ≡ ok → IsSomeAnd handle.new.kept.log (IsWrittenAnd IsNew) }
     ensures refusals { (result ≡ ok) ⊎ (result ≡ out_of_memory) }
     ensures unchanged { result ≢ ok → handle.new.kept.log ≡ handle.old.kept.log }
 {
-    match Box::new(alloc, Held::Written(WrittenLog::new(alloc))) {
+    let secret = Secret::of(key0, key1);
+    match Box::new(alloc, Held::Written(WrittenLog::new(alloc, secret))) {
         Ok(held) => {
             drop(handle.take(alloc));
             *handle = Handle::of(held);
@@ -395,12 +410,13 @@ pub extern "C" fn nlog_text(
 
 /// A closed log without marks, whose text the caller carries. What the handle held is let go.
 #[unsafe(no_mangle)]
-pub extern "C" fn carried_new(handle: &mut Handle, alloc: Global) -> u32
+pub extern "C" fn carried_new(handle: &mut Handle, alloc: Global, key0: u64, key1: u64) -> u32
     ensures ok { result ≡ ok → IsSomeAnd handle.new.kept.log (IsCarriedAnd IsNewCarried) }
     ensures refusals { (result ≡ ok) ⊎ (result ≡ out_of_memory) }
     ensures unchanged { result ≢ ok → handle.new.kept.log ≡ handle.old.kept.log }
 {
-    match Box::new(alloc, Held::Carried(CarriedLog::new(alloc))) {
+    let secret = Secret::of(key0, key1);
+    match Box::new(alloc, Held::Carried(CarriedLog::new(alloc, secret))) {
         Ok(held) => {
             drop(handle.take(alloc));
             *handle = Handle::of(held);
@@ -528,7 +544,7 @@ fn distrusted_of(held: &Held, alloc: Global) -> Result<LoadedLog, u32>
     if is_whole(lines_version(bytes), bytes) {
         return Err(status::NOT_FOUND);
     }
-    match LoadedLog::load_distrusted(alloc, bytes) {
+    match LoadedLog::load_distrusted(alloc, held.secret(), bytes) {
         Ok(log) => Ok(log),
         Err(fault) => Err(status::of_fault(fault)),
     }
