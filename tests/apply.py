@@ -15,7 +15,7 @@ import time
 
 from log_format import as_version, command_hash, command_hash_v7, line_of
 from log_lines import distrusted_of
-from trials import main, read, run, write
+from trials import main, read, run, seconds_of, write
 
 BUILD = f"{os.path.dirname(os.path.dirname(os.path.abspath(__file__)))}/examples/build.py"
 HEADER = b"# ninja log v5\n"
@@ -64,10 +64,10 @@ TURNS = [
     (HEADER + A + B, b"begin\t7\tab\ta\nopen\nbegin\t7\tab\ta\tc\tb\nbegin\t9\tab\ta\nbegin\t9\tac\ta\ntable\n",
      b"S1 NotOpen\nok\nok\nok\nok\n9\t9\t0\ta\tffffffffffffff53\n7\t7\t0\tb\tffffffffffffff54\nend\n", 0, b"",
      HEADER + A + B + b"7\t7\t0\ta\tffffffffffffff54\n7\t7\t0\tb\tffffffffffffff54\n9\t9\t0\ta\tffffffffffffff53\n"),
-    # Several begin with one sync; names that come twice, and the moments and hashes at the ends of their ranges.
+    # Several begin with one sync; one intent for a name that comes twice, and the moments and hashes at the ends of their ranges.
     (HEADER + A + B, b"open\nbegin\t-2147483648\t0\ta\ta\nbegin\t2147483647\tffffffffffffffff\tb\tc\tb\nsync\ntable\nstop\nbegin\t7\tab\ta\n",
      b"ok\nok\nok\nok\n-2147483648\t-2147483648\t0\ta\tffffffffffffffff\n2147483647\t2147483647\t0\tb\t0\nend\nok\nS1 NotOpen\n", 0, b"",
-     HEADER + A + B + b"-2147483648\t-2147483648\t0\ta\tffffffffffffffff\n" * 2 + b"2147483647\t2147483647\t0\tb\t0\n" * 2),
+     HEADER + A + B + b"-2147483648\t-2147483648\t0\ta\tffffffffffffffff\n2147483647\t2147483647\t0\tb\t0\n"),
     # What only looks like an intent gets one, and a record behind an intent counts.
     (HEADER + b"7\t7\t0\ta\taa\n", b"open\nbegin\t7\tab\ta\nget\ta\nrecord\t" + A + b"get\ta\nbegin\t7\tab\ta\nget\ta\n",
      b"ok\nok\n7\t7\t0\ta\tffffffffffffff54\nok\n" + A + b"ok\n7\t7\t0\ta\tffffffffffffff54\n", 0, b"",
@@ -135,6 +135,31 @@ HASHES = [b"0", b"ab", b"c0ffee", b"ffffffffffffffff"], [b"10000000000000000", b
 OUTPUTS = [b"a", b"b", b"c", b"\xff.o", b"two words", b"b\r"], [b"", b"a\0"]
 
 
+def keeps_many(trials, program, room):
+    """32,000 names that an `open` or a `recompact` keeps of 300,000 outputs: no name is compared with each of the others."""
+    log, keep = f"{room}/many.log", f"{room}/many.keep"
+    lines = [b"1\t2\t3\tn%d\ta\n" % it for it in range(300_000)]
+    kept = [b"n%d" % it for it in range(200_000, 232_000)]
+    left = HEADER + b"".join(lines[200_000:232_000])
+    write(keep, b"\n".join(kept))
+    write(log, HEADER + b"".join(lines))
+    ended, alone = seconds_of([program, "recompact", log, keep])
+    trials.want("many names: nlog recompact", (ended, read(log)), ((0, b"", b""), left))
+    # A log of version 4 is due, and has commands: the hash of an empty one is known. A name that comes twice is as one that comes once.
+    of_four, left_of_four = ([it[:-2] + end for it in lines] for end in (b"\n", b"87c2bc0beaf1d91d\n"))
+    for header, text, left, words, answers in (
+        (HEADER, lines, left, b"open\nrecompact", b"ok\nok\n"),
+        (b"# ninja log v4\n", of_four, HEADER + b"".join(left_of_four[200_000:232_000]), b"open", b"ok\n"),
+        (HEADER, lines, left, b"open\nrecompact\tn231999", b"ok\nok\n"),
+    ):
+        write(log, header + b"".join(text))
+        asked = words + b"".join(b"\t" + it for it in kept) + b"\n"
+        ended, taken = seconds_of([program, "apply", log], stdin=None, input=asked)
+        what = f"many names: {words[:15]} of {header}"
+        trials.want(what, (ended, read(log) == left), ((0, answers, b""), True))
+        trials.check(f"{what}: at most 0.5 s more than nlog recompact", taken <= alone + 0.5, f"{taken:.2f} s, {alone:.2f} s")
+
+
 def begins(trials, program, room):
     """Lines that begin a command, of good fields and of bad ones, by a table that is kept here."""
     chance, log = random.Random(19), f"{room}/begins.log"
@@ -159,9 +184,10 @@ def begins(trials, program, room):
         if is_good:
             moment, command, *names = [it for it, _ in fields]
             intent = (moment, moment, b"0", b"%x" % (int(command, 16) ^ (2**64 - 1)))
-            for name in [it for it in names if it in table and (table[it][0] != table[it][1] or table[it][2:] != intent[2:])]:
-                table[name] = intent
-                text += line_of(name)
+            for name in names:
+                if name in table and (table[name][0] != table[name][1] or table[name][2:] != intent[2:]):
+                    table[name] = intent
+                    text += line_of(name)
     trials.want("the answers to lines that begin", apply(program, log, b"".join(lines) + b"table\n"), (0, b"".join([*answers, *map(line_of, table), b"end\n"]), b""))
     trials.want("the log behind lines that begin", read(log), text)
     trials.check("lines that begin of both kinds", min(answers.count(b"ok\n"), answers.count(b"bad line\n")) > 1000, str(len(answers)))
@@ -488,6 +514,7 @@ def end_below(pid):
 def trial(trials, program, room):
     turns(trials, program, room)
     begins(trials, program, room)
+    keeps_many(trials, program, room)
     odd_names(trials, program, room)
     versions(trials, program, room)
     hashes(trials, program, room)

@@ -942,10 +942,14 @@ def try_settling(trials, program, room):
         trials.want(f"restat --files: of version {version}", asked(program, room, ["restat", "log", "--files"]), (0, b"", b""))
         wanted = HEADER + b"".join(b"0\t7\t%d\t%s\tff\n" % (times.get(name, 9), name) for name in left)
         trials.want(f"restat --files: the log of version {version}", read(f"{room}/log"), as_version(wanted, version))
-    log = HEADER + b"0\t7\t9\tsame\tff\n0\t7\t9\tno file\tff\n0\t7\t9\tof before 1970\tff\n"
-    write(f"{room}/log", log)
-    trials.want("restat --files: of before 1970", asked(program, room, ["restat", "-v", "--files", "log"]), (1, b"", b"nlog: negative time at pair 1\nnlog: LOG log: the file of output \"of before 1970\" is from before 1970\n"))
-    trials.want("restat --files: of before 1970: the log", read(f"{room}/log"), log)
+    # A log that isn't due, and ones that an open would write anew: due, and of version 4.
+    last = b"0\t7\t9\tsame\tff\n0\t7\t9\tno file\tff\n0\t7\t9\tof before 1970\tff\n"
+    for text in (HEADER + last, HEADER + last * 40, b"# ninja log v4\n" + last):
+        for words in ([], ["--log-version", "5"]):
+            write(f"{room}/log", text)
+            was, what = os.stat(f"{room}/log").st_ino, f"restat --files {words}: of before 1970, {len(text)} bytes"
+            trials.want(what, asked(program, room, ["restat", "-v", "--files", "log", *words]), (1, b"", b"nlog: negative time at pair 1\nnlog: LOG log: the file of output \"of before 1970\" is from before 1970\n"))
+            trials.want(f"{what}: the log", (read(f"{room}/log"), os.stat(f"{room}/log").st_ino), (text, was))
     try_manifests(trials, program, room)
     try_settling_stops(trials, program, room)
 
@@ -985,6 +989,26 @@ def try_settling_stops(trials, program, room):
             trials.want(f"{words} on {text!r}", asked(program, room, [*words, "-v"]), wanted)
             trials.want(f"{words} on {text!r}: the log", read(f"{room}/log"), text)
             trials.check(f"{words} on {text!r}: no scratch", not os.path.exists(f"{room}/log.recompact"))
+    # A log of another version than the one that is asked for is refused before damage is told of it, and so is what is no log.
+    for version, others in ((4, (6, 7)), (5, (6, 7)), (6, (5, 7)), (7, (5, 6))):
+        for asked_for in others:
+            for words in (["recompact", "log", "--manifest", "one"], ["restat", "log", "--files"]):
+                for damage in (b"", b"x\n1\t2\t3\tb"):
+                    text = b"# ninja log v%d\n1\t2\t3\ta\tff\n" % version + damage
+                    write(f"{room}/log", text)
+                    what = f"{words} of version {asked_for} on {text!r}"
+                    status, out, err = asked(program, room, [*words, "-v", "--log-version", str(asked_for)])
+                    trials.want(what, (status, out, err.splitlines()[:1]), (1, b"", OTHER_VERSION.splitlines()))
+                    trials.check(f"{what}: the version", b"nlog: LOG log: version %d" % version in err, repr(err))
+                    trials.want(f"{what}: the log", read(f"{room}/log"), text)
+    for words in (["recompact", "log", "--manifest", "one"], ["restat", "log", "--files"]):
+        for version in ("5", "6", "7"):
+            write(f"{room}/log", b"hello")
+            trials.want(f"{words} of version {version} on no log", asked(program, room, [*words, "-v", "--log-version", version]), (1, b"", NO_LOG + begins))
+            write(f"{room}/log", as_version(torn, int(version)))
+            trials.want(f"{words} of version {version} on damage", asked(program, room, [*words, "-v", "--log-version", version]), found)
+            os.remove(f"{room}/log")
+            trials.want(f"{words} of version {version} without a log", asked(program, room, [*words, "-v", "--log-version", version]), (1, b"", CANNOT_READ + b"nlog: LOG log: " + NO_FILE))
     write(f"{room}/log", HEADER)
     rows = [
         (["recompact", "log", "--manifest", "missing"], (1, b"", CANNOT_READ + b"nlog: FILE missing: " + NO_FILE)),

@@ -25,4 +25,4 @@ pub report_in_memory : (report : Report) (IsText : List ℕ → Type 0) (before 
 report_in_memory Builds IsText before items done none printed = in_memory IsText before items done none printed
 report_in_memory (Summary scope lists) IsText before items done none printed = in_memory IsText before items done none printed
 report_in_memory Trace IsText before items done none printed = in_memory IsText before items done none printed
-report_in_memory Picture IsText before items done none printed = in_memory IsText before items done none printed
+report_in_memory (Picture secret) IsText before items done none printed = in_memory IsText before items done none printed

@@ -1,7 +1,7 @@
 -- What is said of a file that is no log: docs/CLI.md, "Why something was refused".
-use Rattle.std.specs.Prelude.{ℕ, Bool, ◌&&◌, ◌||◌, ◌==◌, ◌/◌, ◌%◌, not, nat_lt, nat_eq, List, [], ◌∷◌, length, min, take, Option, None, Some, codes, if◌then◌else◌}
+use Rattle.std.specs.Prelude.{ℕ, Bool, ◌&&◌, ◌||◌, ◌==◌, not, nat_lt, nat_eq, List, [], ◌∷◌, length, min, take, Option, None, Some, codes, if◌then◌else◌}
 use Rattle.std.specs.List.{ends_with, flat_map, starts_with}
-use Rattle.nl_fields.specs.Digits.{digit_of}
+use Rattle.nl_tool_columns.specs.Columns.{by_number}
 use Rattle.nl_tool.specs.declared.looks.Look.{Look}
 use Rattle.nl_tool.specs.declared.looks.Look.TheVariants.{Gzip, Mark, Dependencies, Return}
 
@@ -28,7 +28,7 @@ is_shown b = nat_lt 31 b && (nat_lt b 127 && (not (b == 34) && not (b == 92)))
 
 -- a byte as it is said, another one by its number in hexadecimal
 abbrev pub escaped : ℕ → List ℕ
-escaped b = if is_shown b then b ∷ [] else 92 ∷ 120 ∷ digit_of (b / 16) ∷ digit_of (b % 16) ∷ []
+escaped b = if is_shown b then b ∷ [] else by_number b
 
 -- the first bytes of a file, as they are said
 abbrev pub start_text : List ℕ → List ℕ

@@ -18,7 +18,7 @@ use Rattle.nl_versions.specs.Version.{is_version_read}
 use Rattle.nl_tool.specs.declared.reason.Place.{Place}
 use Rattle.nl_tool.specs.declared.reason.Place.TheVariants as at
 use Rattle.nl_tool.specs.declared.reason.Reason.{Reason}
-use Rattle.nl_tool.specs.declared.reason.Reason.TheVariants.{System, Full, Locked, Unsynced, Line, Negative, Early, Version, Looks, Begins, Number, NoBytes, Tab, Newline, Long}
+use Rattle.nl_tool.specs.declared.reason.Reason.TheVariants.{System, Full, Locked, Unsynced, Masked, Line, Negative, Early, Version, Looks, Begins, Number, NoBytes, Tab, Newline, Long}
 use Rattle.nl_tool.specs.declared.notes.Notes.{Notes}
 use Rattle.nl_tool.specs.Looks.{escaped, look_of, look_text, start_text}
 use Rattle.nl_tool.specs.Reports.{IsMost, IsScope}
@@ -53,6 +53,7 @@ reason_text (System text) = string_bytes text
 reason_text (Full text) = string_bytes text ++ codes "; LOG keeps its entries"
 reason_text (Locked text) = string_bytes text ++ codes ": an nlog, or a tool that keeps LOG"
 reason_text (Unsynced text) = codes "it can't be synced, so a power cut may undo a rename: " ++ string_bytes text
+reason_text Masked = codes "it keeps no access control list; if it had one, its group has the rights of the mask"
 reason_text (Line number None) = codes "line " ++ decimal number
 reason_text (Line number (Some fault)) = codes "line " ++ (decimal number ++ (codes ": " ++ line_fault_text fault))
 reason_text (Negative number) = codes "line " ++ (decimal number ++ codes ": the time stamp is negative")
@@ -151,6 +152,11 @@ log_place (Replay script) file = None
 abbrev pub IsUnsynced : Reason → Type 0
 IsUnsynced (Unsynced text) = ⊤
 IsUnsynced _ = ⊥
+
+-- an access control list may be gone
+abbrev pub IsMasked : Reason → Type 0
+IsMasked Masked = ⊤
+IsMasked _ = ⊥
 
 -- of two logs, the words that read the second of them, or the first; of a log and a graph, the words that read the log, or a file; else
 -- the words as they are

@@ -46,21 +46,21 @@ abbrev pub report_anew : Report → Stamps → List Entry → Bool
 report_anew Builds stamps entries = builds_anew stamps entries
 report_anew (Summary scope lists) stamps entries = summary_anew scope stamps entries
 report_anew Trace stamps entries = false
-report_anew Picture stamps entries = false
+report_anew (Picture secret) stamps entries = false
 
 -- of the entries of a log, by what MTIME is in it
 abbrev pub report_text : Report → Stamps → List Entry → List ℕ
 report_text Builds stamps entries = builds_text stamps entries
 report_text (Summary scope lists) stamps entries = summary_text scope lists stamps entries
 report_text Trace stamps entries = trace_text stamps entries
-report_text Picture stamps entries = picture_text stamps entries
+report_text (Picture secret) stamps entries = picture_text stamps entries
 
 -- how a report is written: a trace and a picture piece by piece
 abbrev pub PrintsReport : Report → (List ℕ → Type 0) → Option (List ℕ) → Option (List ℕ) → Result (Unit {0}) ToolFault → Type 0
 PrintsReport Builds IsText old new result = Prints IsText old new result
 PrintsReport (Summary scope lists) IsText old new result = Prints IsText old new result
 PrintsReport Trace IsText old new result = PrintsInPieces IsText old new result
-PrintsReport Picture IsText old new result = PrintsInPieces IsText old new result
+PrintsReport (Picture secret) IsText old new result = PrintsInPieces IsText old new result
 
 -- a text as it is, or one in columns
 abbrev pub IsLaidOut : Bool → (List ℕ → Type 0) → List ℕ → Type 0

@@ -4,7 +4,7 @@ ghost use Rattle.nl_tool_change.specs.Faults.{IsApplyFault, IsEntryFault, IsReco
 ghost use Rattle.nl_tool_change.specs.RecordWords.{GiveEntry};
 ghost use Rattle.nl_tool.specs.Faults.{IsRepairFault};
 ghost use Rattle.nl_files.specs.FileFolder.{system_of};
-ghost use Rattle.nl_os.specs.OsSystem.{unsynced_of};
+ghost use Rattle.nl_os.specs.OsSystem.{is_masked, unsynced_of};
 
 use crate::files::{look_there, note_missing, open};
 use crate::notes::{NotedReader, NotedWriter, Notes};
@@ -58,7 +58,14 @@ where
     F::File: SystemFile,
     ensures faults { IfErr result IsRecordFault }
 {
-    let (folder, answer) = record_command(alloc, asked, folder, entry, command.as_bytes());
+    let (folder, answer) = record_command(
+        alloc,
+        notes.secret,
+        asked,
+        folder,
+        entry,
+        command.as_bytes(),
+    );
     note_folder(folder, answer, notes)
 }
 
@@ -98,8 +105,13 @@ where
     F::File: SystemFile,
     ensures faults { IfErr result IsRecompactFault }
 {
+    let place = AskedFolder {
+        secret: notes.secret,
+        asked,
+        folder,
+    };
     let names = NotedReader::new(names, &mut notes.heard);
-    let (left, answer) = recompact_on(alloc, AskedFolder { asked, folder }, names);
+    let (left, answer) = recompact_on(alloc, place, names);
     note_folder(left.folder, answer, notes)
 }
 
@@ -139,8 +151,13 @@ where
     F::File: SystemFile,
     ensures faults { IfErr result IsRestatFault }
 {
+    let place = AskedFolder {
+        secret: notes.secret,
+        asked,
+        folder,
+    };
     let pairs = NotedReader::new(pairs, &mut notes.heard);
-    let (left, answer) = restat_on(alloc, AskedFolder { asked, folder }, pairs);
+    let (left, answer) = restat_on(alloc, place, pairs);
     note_folder(left.folder, answer, notes)
 }
 
@@ -179,8 +196,9 @@ where
     ensures faults { IfErr result IsApplyFault }
 {
     let mut out = NotedWriter::new(io::writer(rt));
+    let secret = notes.secret;
     let reader = NotedReader::new(reader, &mut notes.heard);
-    let (folder, answer) = apply_on(alloc, asked, folder, reader, &mut out);
+    let (folder, answer) = apply_on(alloc, secret, asked, folder, reader, &mut out);
     notes.written = out.failure;
     note_folder(folder, answer, notes)
 }
@@ -217,7 +235,12 @@ where
     F::File: SystemFile,
     ensures faults { IfErr result IsRecordFault }
 {
-    let (left, answer) = repair_on(alloc, AskedFolder { asked, folder });
+    let place = AskedFolder {
+        secret: notes.secret,
+        asked,
+        folder,
+    };
+    let (left, answer) = repair_on(alloc, place);
     note_folder(left.folder, answer, notes)
 }
 
@@ -232,10 +255,12 @@ where
     ensures same { result ≡ answer }
     ensures kept { notes.new.folder ≡ folder.last_failure }
     ensures unsynced { notes.new.unsynced ≡ unsynced_of (system_of folder.folder) }
+    ensures masked { notes.new.is_masked ≡ is_masked (system_of folder.folder) }
 {
     let mut folder = folder;
     notes.folder = folder.last_failure();
     notes.unsynced = folder.unsynced_folder();
+    notes.is_masked = folder.is_masked();
     match answer {
         Err(ToolFault::OtherVersion | ToolFault::NotALog) if notes.looks => {
             notes.look_at(&mut folder);

@@ -106,8 +106,9 @@ fn table_at<R: Runtime>(
     match open_log(rt, path, missing_ok, notes)? {
         Some(file) => read_table(
             alloc,
+            notes.secret,
             NotedReader::new(Telling::new(rt, tells, file), &mut notes.heard),
         ),
-        None => read_table(alloc, io::empty()),
+        None => read_table(alloc, notes.secret, io::empty()),
     }
 }

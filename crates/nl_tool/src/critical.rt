@@ -52,6 +52,7 @@ pub fn critical_in<R: Runtime>(
     let lists = Lists {
         most,
         rule: rule_of(kind),
+        secret: notes.secret,
     };
     critical_by(
         rt, alloc, columns, scope, lists, graph, log, missing_ok, notes,
@@ -74,7 +75,7 @@ fn critical_by<R: Runtime>(
 {
     notes.begin_second();
     let text = bytes_at(rt, alloc, graph, notes)?;
-    let graph = read_graph(alloc, text.as_slice())?;
+    let graph = read_graph(alloc, notes.secret, text.as_slice())?;
     notes.begin_second();
     notes.is_second = false;
     critical_of(

@@ -12,6 +12,7 @@ use crate::files::open;
 use crate::notes::{NotedReader, NotedWriter, Notes};
 use crate::program::Verdict;
 use crate::progress::Telling;
+use nl_table::Secret;
 use nl_tool_doubt::{FileState, OutputFiles, doubt_to};
 use nl_tool_texts::ToolFault;
 use std::alloc::Global;
@@ -76,6 +77,7 @@ pub fn doubt_in<R: Runtime>(
             let file = open(rt, path, notes)?;
             tell_doubts(
                 alloc,
+                notes.secret,
                 NotedReader::new(Telling::new(rt, tells, file), &mut notes.heard),
                 &files,
                 &mut out,
@@ -83,6 +85,7 @@ pub fn doubt_in<R: Runtime>(
         }
         None => tell_doubts(
             alloc,
+            notes.secret,
             NotedReader::new(Telling::new(rt, tells, rt.reader()), &mut notes.heard),
             &files,
             &mut out,
@@ -95,6 +98,7 @@ pub fn doubt_in<R: Runtime>(
 // Says on which outputs of the log that the reader gives there is a doubt, by their files.
 fn tell_doubts<R: Read + Drop, F: OutputFiles, W: Write>(
     alloc: Global,
+    secret: Secret,
     reader: R,
     files: &F,
     writer: &mut W,
@@ -110,7 +114,7 @@ fn tell_doubts<R: Read + Drop, F: OutputFiles, W: Write>(
         → IfSome (R.remaining reader) (λ bs. log_of (as_five bs) ≡ OtherVersion) }
     ensures faults { IfErr result IsLogFault }
 {
-    match doubt_to(alloc, reader, files, writer) {
+    match doubt_to(alloc, secret, reader, files, writer) {
         Ok(true) => Ok(Verdict::Found),
         Ok(false) => Ok(Verdict::Done),
         Err(fault) => Err(fault),

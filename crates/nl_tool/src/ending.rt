@@ -9,14 +9,16 @@ ghost use Rattle.nl_tool_words.specs.Form.{form_of};
 
 use crate::notes::Notes;
 use crate::program::{Verdict, run_with_notes};
-use crate::reason::{Refusal, anew_note, note_of, refusal_of, unsynced_note};
+use crate::reason::{Refusal, anew_note, masked_note, note_of, refusal_of, unsynced_note};
 use crate::screen::Screen;
 use clap::Error;
 use clap::error::ErrorKind;
 use nl_os::SystemFile;
+use nl_table::{NO_SECRET, Secret};
 use nl_tool_texts::{ToolFault, status_of};
 use nl_tool_words::{CommandLine, read_words};
 use std::alloc::Global;
+use std::random::RandomSource;
 use std::rt::Runtime;
 use std::{env, io};
 
@@ -27,21 +29,28 @@ const WRONG_WORDS: u8 = 2;
 const FOUND: u8 = 3;
 
 /// The whole program: reads the words that it was given, does what they say, and answers the status to end with.
-pub fn run_program<R: Runtime + AllocGlobal>(rt: &R, screen: Screen) -> u8
+pub fn run_program<R: Runtime + AllocGlobal + RandomSource>(rt: &R, screen: Screen) -> u8
 where
     R::File: SystemFile,
     ensures status { result ≤ 3 }
 {
     match given_words(rt) {
-        Ok(line) => run_line(rt, rt.alloc(), line.as_slice(), screen),
+        Ok(line) => { run_line(rt, rt.alloc(), line.as_slice(), screen, secret_of(rt)) },
         Err(error) => refuse_line(rt, &error),
     }
 }
 
-/// Does what a command line says, of which the first word is the program's name, and answers the status to end with.
+/// Does what a command line says, of which the first word is the program's name, and answers the status to end with. Names
+/// are hashed under a secret.
 ///
 /// The text of a command, help and the version go to standard output; why something was refused goes to standard error.
-pub fn run_line<R: Runtime>(rt: &R, alloc: Global, line: &[String], screen: Screen) -> u8
+pub fn run_line<R: Runtime>(
+    rt: &R,
+    alloc: Global,
+    line: &[String],
+    screen: Screen,
+    secret: Secret,
+) -> u8
 where
     R::File: SystemFile,
     ensures status { IsStatusBy (fault_in (map string_bytes line.now))
@@ -50,12 +59,22 @@ where
 {
     match read_words(alloc, line) {
         Ok(said) => {
-            let mut notes = Notes::new(alloc, said.verbose, screen);
+            let mut notes = Notes::new(alloc, said.verbose, screen, secret);
             let answer = run_with_notes(rt, alloc, &said, &mut notes);
             end(rt, alloc, &said, answer, &notes)
         }
         Err(error) => explain(rt, &error),
     }
+}
+
+// A secret of random bytes, or none where there are none to be had: a log is read all the same.
+fn secret_of(source: &impl RandomSource) -> Secret {
+    let mut bytes = [0; 16];
+    if source.fill_bytes(&mut bytes).is_err() {
+        return NO_SECRET;
+    }
+    let keys = u128::from_le_bytes(bytes);
+    Secret::of((keys & 0xFFFF_FFFF_FFFF_FFFF) as u64, (keys >> 64) as u64)
 }
 
 fn given_words<R: Runtime + AllocGlobal>(rt: &R) -> io::Result<Vec<String>> {
@@ -82,8 +101,8 @@ fn end(
     }
 }
 
-// Says of a command that was done that its log was missing, and that its folder can't be synced, where that is asked for; and
-// that the log was written anew by whose builds it went.
+// Says of a command that was done that its log was missing, that its folder can't be synced, and that an access control list may be
+// gone, where that is asked for; and that the log was written anew by whose builds it went.
 fn say_notes(rt: &impl Eprint, alloc: Global, line: &CommandLine<'_>, notes: &Notes) {
     if let Some(log) = anew_note(line, notes) {
         let _ = eprintln!(rt; "nlog: {log}");
@@ -93,6 +112,9 @@ fn say_notes(rt: &impl Eprint, alloc: Global, line: &CommandLine<'_>, notes: &No
     }
     if let Some(unsynced) = unsynced_note(alloc, line, notes) {
         let _ = eprintln!(rt; "nlog: {unsynced}");
+    }
+    if let Some(masked) = masked_note(line, notes) {
+        let _ = eprintln!(rt; "nlog: {masked}");
     }
 }
 

@@ -1,9 +1,9 @@
 //! What the bytes look like of a file that is no log.
 ghost use Rattle.std.specs.Prelude.{◌≡◌, ◌<◌, ◌++◌, IfOk, IfSome, OnOk, Some, string_bytes};
 ghost use Rattle.std.specs.List.{flat_map};
-ghost use Rattle.nl_fields.specs.Digits.{digit_of};
 ghost use Rattle.nl_tool.specs.Looks.{escaped, look_of, look_text, start_text};
 
+use nl_tool_columns::append_number;
 use std::alloc::{AllocError, Global};
 use std::fmt;
 
@@ -112,16 +112,5 @@ fn push_escaped(byte: u8, out: &mut Vec<u8>) -> Result<(), AllocError>
         out.push(byte)?;
         return Ok(());
     }
-    out.push(b'\\')?;
-    out.push(b'x')?;
-    out.push(hex_digit(byte / 16))?;
-    out.push(hex_digit(byte % 16))?;
-    Ok(())
-}
-
-fn hex_digit(value: u8) -> u8
-    requires { value < 16 }
-    ensures { result ≡ digit_of value }
-{
-    if value < 10 { 48 + value } else { 87 + value }
+    append_number(byte, out)
 }

@@ -10,6 +10,7 @@ use crate::wrong::LineKind;
 use nl_folder::Folder;
 use nl_lines::MAX_LINE;
 use nl_os::Failure;
+use nl_table::Secret;
 use std::alloc::Global;
 use std::io::{self, Read, Write};
 
@@ -27,6 +28,8 @@ pub struct Notes {
     pub folder: Option<Failure>,
     /// Why the log's folder isn't synced, where that isn't to be had.
     pub unsynced: Option<io::Error>,
+    /// Whether a log was written anew whose group may do what the others may not.
+    pub is_masked: bool,
     /// The output whose file has a negative time stamp by which a change was refused.
     pub early: Vec<u8>,
     /// Whether the log was missing, and was read as one without bytes.
@@ -39,15 +42,17 @@ pub struct Notes {
     pub looks: bool,
     /// Which streams are terminals.
     pub screen: Screen,
+    /// The secret under which names are hashed.
+    pub secret: Secret,
 }
 
 impl Notes {
     /// Nothing is known yet.
-    pub fn new(alloc: Global, looks: bool, screen: Screen) -> Notes
+    pub fn new(alloc: Global, looks: bool, screen: Screen, secret: Secret) -> Notes
         ensures none { (result.heard.failure ≡ None) × (result.written ≡ None)
             × (result.folder ≡ None) × (result.unsynced ≡ None)
             × (result.is_missing ≡ false) × (result.is_second ≡ false)
-            × (result.is_anew ≡ false) }
+            × (result.is_anew ≡ false) × (result.is_masked ≡ false) }
         ensures looks { result.looks ≡ looks }
         ensures screen { result.screen ≡ screen }
     {
@@ -63,12 +68,14 @@ impl Notes {
             written: None,
             folder: None,
             unsynced: None,
+            is_masked: false,
             early: Vec::new(alloc),
             is_missing: false,
             is_second: false,
             is_anew: false,
             looks,
             screen,
+            secret,
         }
     }
 
@@ -97,6 +104,7 @@ impl Notes {
     pub fn look_at<F: Folder>(&mut self, folder: &mut F)
         ensures kept { self.new.folder ≡ self.old.folder }
         ensures unsynced { self.new.unsynced ≡ self.old.unsynced }
+        ensures masked { self.new.is_masked ≡ self.old.is_masked }
     {
         self.heard.look_at(folder);
     }

@@ -16,6 +16,7 @@ use crate::files::{open, open_log};
 use crate::notes::{NotedReader, NotedWriter, Notes};
 use crate::program::Verdict;
 use crate::progress::Telling;
+use nl_table::Secret;
 use nl_tool_print::{check_log, damage_to, entries_to, hash_for, hash_read, show_log};
 use nl_tool_script::replay_to;
 use nl_tool_texts::ToolFault;
@@ -180,7 +181,7 @@ pub fn print_from<P: Print + Eprint + Clock, R: Read + Drop>(
     let mut out = NotedWriter::new(io::writer(rt));
     let reader = Telling::new(rt, notes.screen.errors, reader);
     let reader = NotedReader::new(reader, &mut notes.heard);
-    let answer = print_to(alloc, printing, asked, reader, &mut out);
+    let answer = print_to(alloc, notes.secret, printing, asked, reader, &mut out);
     notes.written = out.failure;
     answer
 }
@@ -189,6 +190,7 @@ pub fn print_from<P: Print + Eprint + Clock, R: Read + Drop>(
 // first line names. A command has no first line, so its hash is that of version 5 then.
 fn print_to<R: Read + Drop, W: Write>(
     alloc: Global,
+    secret: Secret,
     printing: Printing<'_>,
     asked: Option<LogVersion>,
     reader: R,
@@ -201,8 +203,8 @@ fn print_to<R: Read + Drop, W: Write>(
 {
     let version = asked.unwrap_or(LogVersion::Five);
     match printing {
-        Printing::Show => show_log(alloc, asked, reader, writer),
-        Printing::Check => check_log(alloc, asked, reader, writer),
+        Printing::Show => show_log(alloc, secret, asked, reader, writer),
+        Printing::Check => check_log(alloc, secret, asked, reader, writer),
         Printing::Hash(command) => hash_for(alloc, version, command.as_bytes(), writer),
         Printing::HashFile => hash_read(alloc, version, reader, writer),
         Printing::Replay => replay_to(alloc, reader, writer),

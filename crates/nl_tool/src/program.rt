@@ -14,6 +14,7 @@ use crate::settling::{prune_in, retime_in};
 use crate::version_choice::{number_of, or_auto, or_five};
 use crate::wrong::LineKind;
 use nl_os::SystemFile;
+use nl_table::NO_SECRET;
 use nl_tool_texts::ToolFault;
 use nl_tool_words::{CommandLine, Words};
 use std::alloc::Global;
@@ -39,7 +40,12 @@ where
         (λ outcome. outcome ≡ Verdict.Found → CanFind line.now.words) }
     ensures faults { IfErr result (IsFaultOf line.now.words) }
 {
-    run_with_notes(rt, alloc, line, &mut Notes::new(alloc, false, NO_SCREEN))
+    run_with_notes(
+        rt,
+        alloc,
+        line,
+        &mut Notes::new(alloc, false, NO_SCREEN, NO_SECRET),
+    )
 }
 
 /// Does what a command line says, as `run`, and notes why what failed has failed.
@@ -106,7 +112,10 @@ where
             compare_in(rt, alloc, columns, old, new, lines, missing_ok, notes)
         }
         Words::Trace(log) => report_in(rt, alloc, false, Report::Trace, log, missing_ok, notes),
-        Words::Picture(log) => report_in(rt, alloc, false, Report::Picture, log, missing_ok, notes),
+        Words::Picture(log) => {
+            let report = Report::Picture(notes.secret);
+            report_in(rt, alloc, false, report, log, missing_ok, notes)
+        }
         Words::Record {
             log,
             start,

@@ -5,7 +5,7 @@ ghost use Rattle.nl_os.specs.declared.failed_call.FileRole.{FileRole};
 ghost use Rattle.nl_tool_texts.specs.declared.fault.ToolFault.{ToolFault};
 ghost use Rattle.nl_tool.specs.declared.reason.Place.{Place};
 ghost use Rattle.nl_tool.specs.Looks.{look_of};
-ghost use Rattle.nl_tool.specs.Reasons.{IsBadNumberOf, IsBadOption, IsByteAt, IsEarly, IsFirstBad, IsLongNameOf, IsLookAt, IsNegative, IsNoteFor, IsNumber, IsNumberFault, IsReasonFor, IsSystem, IsUnsynced, IsVersion, anew_text, file_place, heard_of, log_place, missing_text, place_text, read_place, reason_text, refusal_text, why_text, words_heard};
+ghost use Rattle.nl_tool.specs.Reasons.{IsBadNumberOf, IsBadOption, IsByteAt, IsEarly, IsFirstBad, IsLongNameOf, IsLookAt, IsMasked, IsNegative, IsNoteFor, IsNumber, IsNumberFault, IsReasonFor, IsSystem, IsUnsynced, IsVersion, anew_text, file_place, heard_of, log_place, missing_text, place_text, read_place, reason_text, refusal_text, why_text, words_heard};
 
 use crate::looks::{Look, escaped_of, look_of, start_of};
 use crate::notes::Notes;
@@ -89,6 +89,8 @@ pub enum Reason {
     Locked(String),
     /// What the system says of a folder that can't be synced, over which a command was done all the same.
     Unsynced(String),
+    /// That a log which was written anew may have lost an access control list.
+    Masked,
     /// The number of a bad line, from 1, and what is wrong with it, where that is known.
     Line(u64, Option<LineFault>),
     /// The number of the line with a negative time, from 1.
@@ -120,6 +122,10 @@ impl fmt::Display for Reason {
             Reason::Unsynced(text) => write!(
                 f,
                 "it can't be synced, so a power cut may undo a rename: {text}"
+            ),
+            Reason::Masked => write!(
+                f,
+                "it keeps no access control list; if it had one, its group has the rights of the mask"
             ),
             Reason::Line(number, None) => write!(f, "line {number}"),
             Reason::Line(number, Some(fault)) => write!(f, "line {number}: {fault}"),
@@ -259,6 +265,26 @@ pub fn unsynced_note<'a>(alloc: Global, line: &CommandLine<'a>, notes: &Notes) -
         place: log_place(&line.words, FileRole::Folder)?,
         reason: Reason::Unsynced(text),
     })
+}
+
+/// What is said of a command that was done: that the log's access control list is gone, if it had one, where the command line asks for
+/// more.
+pub fn masked_note<'a>(line: &CommandLine<'a>, notes: &Notes) -> Option<Why<'a>>
+    ensures quiet { line.now.verbose ≡ false → result ≡ None }
+    ensures none { notes.now.is_masked ≡ false → result ≡ None }
+    ensures note { IfSome result (λ why. (log_place line.now.words FileRole.Log ≡ Some why.place)
+        × IsMasked why.reason) }
+{
+    if !line.verbose || !notes.is_masked {
+        return None;
+    }
+    match log_place(&line.words, FileRole::Log) {
+        Some(place) => Some(Why {
+            place,
+            reason: Reason::Masked,
+        }),
+        None => None,
+    }
 }
 
 /// What is said of a fault of a command: its reason only where the command line asks for it, and it is known.

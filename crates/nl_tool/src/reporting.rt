@@ -15,6 +15,7 @@ use crate::files::open_log;
 use crate::notes::{NotedReader, NotedWriter, Notes};
 use crate::progress::Telling;
 use nl_fields::read_i64;
+use nl_table::Secret;
 use nl_tool_columns::columns_to;
 use nl_tool_picture::picture_to;
 use nl_tool_report::{KindRule, Lists, Scope, builds_to, summary_to};
@@ -32,7 +33,7 @@ pub enum Report {
     /// As the events of a trace.
     Trace,
     /// As a picture.
-    Picture,
+    Picture(Secret),
 }
 
 // Tells of what the words say, with lists of as many lines at most as they say.
@@ -61,6 +62,7 @@ pub fn summary_in<R: Runtime>(
     let lists = Lists {
         most,
         rule: rule_of(kind),
+        secret: notes.secret,
     };
     report_in(
         rt,
@@ -242,9 +244,9 @@ fn report_to<R: Read + Drop, W: Write>(
             *anew = false;
             trace_to(alloc, reader, writer)
         }
-        Report::Picture => {
+        Report::Picture(secret) => {
             *anew = false;
-            picture_to(alloc, reader, writer)
+            picture_to(alloc, secret, reader, writer)
         }
     }
 }

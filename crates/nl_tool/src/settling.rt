@@ -1,7 +1,11 @@
 //! The words that change a log by what a build has: `recompact --manifest` and `restat --files`.
-ghost use Rattle.std.specs.Prelude.{◌≡◌, ◌≢◌, ◌⊎◌, ℕ, ℤ, [], List, Err, IfErr, IsErr, IsSomeAnd, slice_get};
+ghost use Rattle.std.specs.Prelude.{◌≡◌, ◌<◌, ◌⊎◌, ℕ, ℤ, [], List, Err, IfErr, IsErr, IsSomeAnd, OnOk, length, slice_get};
 ghost use Rattle.nl_tool_change.specs.Calls.{keeping, touching};
 ghost use Rattle.nl_tool_doubt.specs.There.{AddsFor, name_by, pair_by};
+ghost use Rattle.nl_tool_print.specs.Faults.{IsLogFault};
+ghost use Rattle.nl_tool_print.specs.Versions.{IsReportFor};
+ghost use Rattle.nl_versions.specs.LogAs.{log_for};
+ghost use Rattle.nl_tool.specs.Answers.{RefusesLog};
 ghost use Rattle.nl_tool.specs.Faults.{IsSettlingFault, IsTargetsFault};
 ghost use Rattle.nl_tool_texts.specs.declared.fault.ToolFault.{ToolFault};
 
@@ -15,8 +19,11 @@ use crate::waiting::Waiting;
 use crate::wrong::LineKind;
 use nl_fields::Name;
 use nl_os::{DiskFolder, Failure, FileRole, SystemFile};
+use nl_session::first_negative;
+use nl_table::Secret;
 use nl_tool_change::{AskedFolder, LogPlace, keep_on, read_manifest, retime_on};
 use nl_tool_doubt::{OutputFiles, add_names_there, times_there};
+use nl_tool_print::check_log;
 use nl_tool_texts::ToolFault;
 use nl_versions::LogVersion;
 use std::alloc::Global;
@@ -76,7 +83,7 @@ fn targets_from<R: Read + Drop>(
 ) -> Result<Vec<Name>, ToolFault>
     ensures faults { IfErr result IsTargetsFault }
 {
-    let mut own = Notes::new(alloc, notes.looks, notes.screen);
+    let mut own = Notes::new(alloc, notes.looks, notes.screen, notes.secret);
     own.watch(LineKind::Targets);
     let answer = read_manifest(alloc, NotedReader::new(reader, &mut own.heard));
     if answer.is_err() {
@@ -97,6 +104,7 @@ where
     R::File: SystemFile,
     ensures faults { IfErr result IsSettlingFault }
 {
+    refuse_other(rt, alloc, asked, log, notes)?;
     if let Verdict::Found = stream_log(rt, alloc, Streaming::Damage, Some(log), false, notes)? {
         return Ok(Verdict::Found);
     }
@@ -127,9 +135,57 @@ where
     D::File: SystemFile,
     ensures faults { IfErr result IsSettlingFault }
 {
+    let place = AskedFolder {
+        secret: notes.secret,
+        asked,
+        folder,
+    };
     let log = NotedReader::new(log, &mut notes.heard);
-    let (left, answer) = keep_there(alloc, AskedFolder { asked, folder }, targets, log, files);
+    let (left, answer) = keep_there(alloc, place, targets, log, files);
     note_folder(left.folder, answer, notes)
+}
+
+// Refuses a log of another version than the one that is asked for, before anything is told of it.
+fn refuse_other<R: Runtime>(
+    rt: &R,
+    alloc: Global,
+    asked: Option<LogVersion>,
+    log: &str,
+    notes: &mut Notes,
+) -> Result<(), ToolFault>
+    ensures faults { IfErr result IsLogFault }
+{
+    if asked.is_none() {
+        return Ok(());
+    }
+    let file = open(rt, log, notes)?;
+    let secret = notes.secret;
+    check_version(
+        alloc,
+        secret,
+        asked,
+        NotedReader::new(file, &mut notes.heard),
+    )
+}
+
+// Refuses what the reader gives if it is no log of the version that is asked for.
+fn check_version<R: Read + Drop>(
+    alloc: Global,
+    secret: Secret,
+    asked: Option<LogVersion>,
+    log: R,
+) -> Result<(), ToolFault>
+    ensures ok { OnOk result ((text : List ℕ) × IsReportFor asked (R.remaining log) text) }
+    ensures bytes { RefusesLog (log_for asked) (R.remaining log) result }
+    ensures faults { IfErr result IsLogFault }
+{
+    let mut report = Vec::new(alloc);
+    match check_log(alloc, secret, asked, log, &mut report) {
+        Ok(()) => Ok(()),
+        // The writer is memory, so a write that fails found no room there.
+        Err(ToolFault::Write) => Err(ToolFault::Memory),
+        Err(fault) => Err(fault),
+    }
 }
 
 // Gives the outputs the times of their files, unless the log is damaged.
@@ -144,6 +200,7 @@ where
     R::File: SystemFile,
     ensures faults { IfErr result IsSettlingFault }
 {
+    refuse_other(rt, alloc, asked, log, notes)?;
     if let Verdict::Found = stream_log(rt, alloc, Streaming::Damage, Some(log), false, notes)? {
         return Ok(Verdict::Found);
     }
@@ -172,8 +229,12 @@ where
     D::File: SystemFile,
     ensures faults { IfErr result IsSettlingFault }
 {
+    let place = AskedFolder {
+        secret: notes.secret,
+        asked,
+        folder,
+    };
     let log = NotedReader::new(log, &mut notes.heard);
-    let place = AskedFolder { asked, folder };
     let (left, answer) = retime_there(alloc, place, log, files, &mut notes.early);
     note_folder(left.folder, answer, notes)
 }
@@ -192,13 +253,14 @@ fn keep_there<P: LogPlace, R: Read + Drop, F: OutputFiles>(
     ensures faults { IfErr result.1 IsSettlingFault }
 {
     let mut names = targets;
-    match add_names_there(alloc, log, files, &mut names) {
+    match add_names_there(alloc, place.secret(), log, files, &mut names) {
         Ok(()) => keep_on(alloc, place, names),
         Err(fault) => (place, Err(fault)),
     }
 }
 
-// Gives the outputs of the log of a place the times of their files, of the log that the reader gives.
+// Gives the outputs of the log of a place the times of their files, of the log that the reader gives. A time stamp that a log
+// can't have is refused before anything is asked of the place.
 fn retime_there<P: LogPlace, R: Read + Drop, F: OutputFiles>(
     alloc: Global,
     place: P,
@@ -209,29 +271,28 @@ fn retime_there<P: LogPlace, R: Read + Drop, F: OutputFiles>(
     ensures call { (IsErr result.1 × (result.0 ≡ place)) ⊎ ((times : List (List ℕ × ℤ))
         × AddsFor pair_by (R.remaining log) (F.states files.now) [] times
         × P.changes (touching times) result.1 place result.0) }
+    ensures negative_time { (i : ℕ) → result.1 ≡ Err (ToolFault.NegativeTime i) → result.0 ≡ place }
     ensures faults { IfErr result.1 IsSettlingFault }
 {
-    match times_there(alloc, log, files) {
-        Ok(times) => {
-            let (place, answer) = retime_on(alloc, place, &times);
-            note_early(times.as_slice(), &answer, early);
-            (place, answer)
-        }
+    match times_there(alloc, place.secret(), log, files) {
+        Ok(times) => match first_negative(times.as_slice()) {
+            Some(at) => {
+                note_early(times.as_slice(), at, early);
+                (place, Err(ToolFault::NegativeTime(at)))
+            }
+            None => retime_on(alloc, place, &times),
+        },
         Err(fault) => (place, Err(fault)),
     }
 }
 
-// Notes the output by whose time stamp a change was refused, where there is memory for it.
-fn note_early(times: &[(Name, i64)], answer: &Result<(), ToolFault>, early: &mut Vec<u8>)
-    ensures named { (i : ℕ) → answer.now ≡ Err (ToolFault.NegativeTime i)
-        → (early.new.items ≡ [])
-        ⊎ IsSomeAnd (slice_get times.now i) (λ pair. early.new.items ≡ pair.0) }
-    ensures other { ((i : ℕ) → answer.now ≢ Err (ToolFault.NegativeTime i)) → early.new.items ≡ [] }
+// Notes the output whose file has a time stamp that is refused, where there is memory for it.
+fn note_early(times: &[(Name, i64)], at: usize, early: &mut Vec<u8>)
+    requires there { at < length times.now }
+    ensures named { (early.new.items ≡ [])
+        ⊎ IsSomeAnd (slice_get times.now at) (λ pair. early.new.items ≡ pair.0) }
 {
     early.clear();
-    if let Err(ToolFault::NegativeTime(place)) = answer {
-        if let Some((name, _)) = times.get(*place) {
-            let _ = early.extend_from_slice(name.bytes());
-        }
-    }
+    let (name, _) = &times[at];
+    let _ = early.extend_from_slice(name.bytes());
 }

@@ -6,17 +6,18 @@ use std::io;
 use std::rt::{Clock, Files};
 use std::time::Duration;
 
-// How long is waited before it is said, in milliseconds.
-const PATIENCE: u64 = 1_000;
+// How long is waited before it is said, in seconds.
+const PATIENCE: u64 = 1;
 
 /// A runtime for the folder of the log at this path. Nothing in a folder sleeps but the wait for a lock.
 #[derive(Drop)]
 pub struct Waiting<'r, R> {
     rt: &'r R,
     log: &'r str,
-    // Whether it is said.
-    tells: bool,
-    waited: Cell<u64>,
+    // Whether it is still to be said.
+    tells: Cell<bool>,
+    // When the first wait began. A later one may be told of at once.
+    began: Cell<Option<Duration>>,
 }
 
 impl<'r, R> Waiting<'r, R> {
@@ -24,8 +25,8 @@ impl<'r, R> Waiting<'r, R> {
         Waiting {
             rt,
             log,
-            tells,
-            waited: Cell::new(0),
+            tells: Cell::new(tells),
+            began: Cell::new(None),
         }
     }
 }
@@ -40,13 +41,16 @@ impl<R: Clock + Eprint> Clock for Waiting<'_, R> {
     }
 
     fn sleep(&self, duration: Duration) {
-        let before = self.waited.get();
-        let more = u64::try_from(duration.as_millis()).unwrap_or(u64::MAX);
-        let after = before.saturating_add(more);
-        self.waited.set(after);
-        if self.tells && before < PATIENCE && after >= PATIENCE {
-            let log = self.log;
-            let _ = eprintln!(self.rt; "nlog: LOG {log}: another process has it locked; waiting");
+        if let Ok(now) = self.rt.monotonic() {
+            let began = self.began.get().unwrap_or(now);
+            self.began.set(Some(began));
+            if self.tells.get() && now.saturating_sub(began).as_secs() >= PATIENCE {
+                self.tells.set(false);
+                let log = self.log;
+                let _ = eprintln!(self.rt;
+                    "nlog: LOG {log}: another process has it locked; waiting"
+                );
+            }
         }
         self.rt.sleep(duration);
     }

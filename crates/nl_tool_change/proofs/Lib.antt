@@ -12,3 +12,4 @@ mod BeginLemmas
 mod AnswerLemmas
 mod ApplyLemmas
 mod BegunLemmas
+mod DeedLemmas

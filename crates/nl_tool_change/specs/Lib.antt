@@ -5,4 +5,5 @@ pub mod Updates
 pub mod Calls
 pub mod Seen
 pub mod Distrusts
+pub mod Deeds
 pub mod Applying

@@ -1,10 +1,14 @@
 //! What a line of `apply` asks for.
 ghost use Rattle.std.specs.Prelude.{◌++◌, ◌∷◌, ◌≢◌, codes, IfOk, IsErrOf};
+ghost use Rattle.nl_session.specs.declared.events.Event.TheVariants.{Crash};
+ghost use Rattle.nl_tool_script.specs.Replay.{KeepsSome, event_line};
 ghost use Rattle.nl_tool_script.specs.declared.script.LineRefusal.{LineRefusal};
 ghost use Rattle.nl_tool_change.specs.Applying.{Asks, BeginsBy, BeginsNone};
 
+use crate::deed::Deed;
 use nl_fields::{Name, name_fault, read_hex64, read_i32};
 use nl_session::Event;
+use nl_table::Secret;
 use nl_tool_script::{LineRefusal, read_event_line, read_names, split_tab};
 use std::alloc::Global;
 
@@ -19,7 +23,7 @@ pub struct Begin {
 /// What a line asks for.
 #[derive(Drop)]
 pub enum Asked<'a> {
-    Does(Event),
+    Does(Deed),
     Gets(&'a [u8]),
     /// The hash of a command in the log.
     Hashes(&'a [u8]),
@@ -35,18 +39,18 @@ pub enum Asked<'a> {
 }
 
 /// What a line asks for. A crash isn't asked for.
-pub fn read_asked(alloc: Global, line: &[u8]) -> Asked<'_>
+pub fn read_asked(alloc: Global, secret: Secret, line: &[u8]) -> Asked<'_>
     ensures asks { Asks line.now result }
 {
     if line == b"distrusted".as_slice() {
         Asked::Doubts
     } else {
-        read_other(alloc, line)
+        read_other(alloc, secret, line)
     }
 }
 
 // What another line asks for.
-fn read_other(alloc: Global, line: &[u8]) -> Asked<'_>
+fn read_other(alloc: Global, secret: Secret, line: &[u8]) -> Asked<'_>
     requires other { line.now ≢ codes "distrusted" }
     ensures asks { Asks line.now result }
 {
@@ -57,10 +61,22 @@ fn read_other(alloc: Global, line: &[u8]) -> Asked<'_>
         [b'b', b'e', b'g', b'i', b'n', b'\t', fields @ ..] => begins(alloc, fields),
         _ => match read_event_line(alloc, line) {
             Ok(Event::Crash) => Asked::Bad,
-            Ok(event) => Asked::Does(event),
+            Ok(event) => does(alloc, secret, event),
             Err(LineRefusal::BadLine) => Asked::Bad,
             Err(LineRefusal::OutOfMemory) => Asked::Unread,
         },
+    }
+}
+
+// What is asked for by an event.
+fn does(alloc: Global, secret: Secret, event: Event) -> Asked<'static>
+    requires no_crash { event ≢ Crash }
+    requires some { KeepsSome event }
+    ensures asks { Asks (event_line event) result }
+{
+    match Deed::of(alloc, secret, event) {
+        Ok(deed) => Asked::Does(deed),
+        Err(_) => Asked::Unread,
     }
 }
 

@@ -11,7 +11,7 @@ use nl_distrust::distrusted;
 use nl_folder::{Folder, LogReader};
 use nl_lines::{SliceSource, Source};
 use nl_session::LogFault;
-use nl_table::{LoadFault, Table};
+use nl_table::{LoadFault, Secret, Table};
 use nl_versions::{LogVersion, load_seen};
 use std::alloc::Global;
 
@@ -22,6 +22,7 @@ const ASKED_LEN: usize = 65_536;
 /// that its first line names. It takes the memory of the log's bytes, and of its table.
 pub fn distrusted_for<F: Folder>(
     alloc: Global,
+    secret: Secret,
     asked: Option<LogVersion>,
     folder: F,
 ) -> (F, Result<Table, LogFault>)
@@ -29,14 +30,23 @@ pub fn distrusted_for<F: Folder>(
         (folder_view F.Folder result.0) result.1 }
 {
     let mut reader = LogReader::new(folder);
+    reader.begin_load();
     match read_all(alloc, &mut reader) {
-        Ok(bytes) => (reader.folder, distrusted_of(alloc, asked, bytes.as_slice())),
+        Ok(bytes) => (
+            reader.folder,
+            distrusted_of(alloc, secret, asked, bytes.as_slice()),
+        ),
         Err(why) => (reader.folder, Err(why)),
     }
 }
 
 // Those of the log that the bytes are.
-fn distrusted_of(alloc: Global, asked: Option<LogVersion>, bytes: &[u8]) -> Result<Table, LogFault>
+fn distrusted_of(
+    alloc: Global,
+    secret: Secret,
+    asked: Option<LogVersion>,
+    bytes: &[u8],
+) -> Result<Table, LogFault>
     ensures found { IfOk result (AreDistrusted asked bytes.now) }
     ensures not_a_log { IsErrOf result LogFault.NotALog → log_for asked bytes.now ≡ NotALog }
     ensures other_version { IsErrOf result LogFault.OtherVersion
@@ -44,7 +54,7 @@ fn distrusted_of(alloc: Global, asked: Option<LogVersion>, bytes: &[u8]) -> Resu
     ensures refusals { IfErr result (λ why. (why ≡ LogFault.NotALog) ⊎ (why ≡ LogFault.OtherVersion)
         ⊎ (why ≡ LogFault.OutOfMemory)) }
 {
-    match load_seen(alloc, asked, SliceSource::new(bytes)) {
+    match load_seen(alloc, secret, asked, SliceSource::new(bytes)) {
         Ok((_, loaded)) => match distrusted(alloc, loaded.version, bytes, &loaded.table) {
             Ok(found) => Ok(found),
             Err(_) => Err(LogFault::OutOfMemory),

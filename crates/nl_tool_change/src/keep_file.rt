@@ -8,7 +8,7 @@ ghost use Rattle.nl_tool_texts.specs.declared.fault.ToolFault.{ToolFault};
 
 use crate::parts::{Part, read_parts};
 use nl_fields::{Name, NameFault};
-use nl_table::NameSet;
+use nl_table::{NameSet, Secret};
 use nl_tool_texts::ToolFault;
 use std::alloc::{AllocError, Global};
 use std::io::Read;
@@ -25,8 +25,12 @@ impl Part for Name {
     }
 }
 
-/// Reads KEEP. It takes the memory of the names, and of an index over them.
-pub fn read_keep<R: Read + Drop>(alloc: Global, reader: R) -> Result<NameSet, ToolFault>
+/// Reads KEEP. It takes the memory of the names, and of an index over them, by hashes under a secret.
+pub fn read_keep<R: Read + Drop>(
+    alloc: Global,
+    secret: Secret,
+    reader: R,
+) -> Result<NameSet, ToolFault>
     ensures value { IfOk result (λ set. OfBytes (R.remaining reader) (λ bytes.
         (names : List (List ℕ)) × (keep_of bytes ≡ Says names)
         × ((name : List ℕ) → holds set name ≡ holds names name))) }
@@ -35,5 +39,5 @@ pub fn read_keep<R: Read + Drop>(alloc: Global, reader: R) -> Result<NameSet, To
     ensures faults { IfErr result IsFileFault }
 {
     let names: Vec<Name> = read_parts(alloc, reader)?;
-    Ok(NameSet::of(alloc, names)?)
+    Ok(NameSet::of(alloc, secret, names)?)
 }

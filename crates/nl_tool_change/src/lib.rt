@@ -5,6 +5,7 @@ mod answers;
 mod apply;
 mod asked;
 mod change;
+mod deed;
 mod distrusted;
 mod keep_file;
 pub mod laws;

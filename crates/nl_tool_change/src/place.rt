@@ -10,6 +10,7 @@ use crate::log_fault::of_log_fault;
 use crate::look::look_for;
 use nl_folder::Folder;
 use nl_session::Log;
+use nl_table::{NO_SECRET, Secret};
 use nl_tool_texts::ToolFault;
 use nl_versions::{LogVersion, Version, VersionFolder, VersionSeven, VersionSix};
 use std::alloc::Global;
@@ -22,6 +23,9 @@ pub trait LogPlace: Sized {
     // What a change that drops nothing leaves, by its answer.
     ghost repairs: { Result (Unit {0}) ToolFault → Self → Self → Type 0 };
 
+    /// The secret under which names are hashed.
+    fn secret(&self) -> Secret;
+
     /// Makes a change of the log durable.
     fn change<C: Change>(self, alloc: Global, change: &C) -> (Self, Result<(), ToolFault>)
         ensures call { changes (C.meaning change.now) result.1 self result.0 }
@@ -29,16 +33,19 @@ pub trait LogPlace: Sized {
         ensures faults { IfErr result.1 (IsFaultBy (C.meaning change.now)) };
 }
 
-/// A folder whose log is one of the version that is asked for, or where none is, of the one that its first line names.
+/// A folder whose log is one of the version that is asked for, or where none is, of the one that its first line names. Names
+/// are hashed under a secret.
 #[derive(Drop)]
 pub struct AskedFolder<F> {
+    pub secret: Secret,
     pub asked: Option<LogVersion>,
     pub folder: F,
 }
 
-/// A folder whose log was found to be one of the version, or is taken for one.
+/// A folder whose log was found to be one of the version, or is taken for one. Names are hashed under a secret.
 #[derive(Drop)]
 pub struct FoundFolder<F> {
+    pub secret: Secret,
     pub version: LogVersion,
     pub folder: F,
 }
@@ -48,14 +55,19 @@ impl<F: Folder> LogPlace for F {
 
     ghost repairs = { λ result old new. Repairs result (F.disk old) (F.disk new) };
 
+    fn secret(&self) -> Secret {
+        NO_SECRET
+    }
+
     fn change<C: Change>(self, alloc: Global, change: &C) -> (F, Result<(), ToolFault>) {
-        change_on(alloc, self, change)
+        change_on(alloc, NO_SECRET, self, change)
     }
 }
 
 // Makes a change of the log of a folder durable.
 fn change_on<F: Folder, C: Change>(
     alloc: Global,
+    secret: Secret,
     folder: F,
     change: &C,
 ) -> (F, Result<(), ToolFault>)
@@ -63,7 +75,7 @@ fn change_on<F: Folder, C: Change>(
         (folder_view F.Folder folder) (folder_view F.Folder result.0) }
     ensures faults { IfErr result.1 (IsFaultBy (C.meaning change.now)) }
 {
-    let mut log = Log::new(alloc, folder);
+    let mut log = Log::with_secret(alloc, secret, folder);
     match change_log(&mut log, change) {
         Ok(()) => (log.into_folder(), Ok(())),
         Err(fault) => (log.into_folder(), Err(of_log_fault(fault))),
@@ -78,20 +90,49 @@ impl<F: Folder> LogPlace for FoundFolder<F> {
         → Repairs result (seen_as_version old.version (F.disk old.folder))
         (seen_as_version old.version (F.disk new.folder)) };
 
+    fn secret(&self) -> Secret {
+        self.secret
+    }
+
     fn change<C: Change>(self, alloc: Global, change: &C) -> (Self, Result<(), ToolFault>) {
-        let FoundFolder { version, folder } = self;
+        let FoundFolder {
+            secret,
+            version,
+            folder,
+        } = self;
         match version {
             LogVersion::Five => {
-                let (folder, result) = change_on(alloc, folder, change);
-                (FoundFolder { version, folder }, result)
+                let (folder, result) = change_on(alloc, secret, folder, change);
+                (
+                    FoundFolder {
+                        secret,
+                        version,
+                        folder,
+                    },
+                    result,
+                )
             }
             LogVersion::Six => {
-                let (folder, result) = change_seen(alloc, VersionSix, folder, change);
-                (FoundFolder { version, folder }, result)
+                let (folder, result) = change_seen(alloc, secret, VersionSix, folder, change);
+                (
+                    FoundFolder {
+                        secret,
+                        version,
+                        folder,
+                    },
+                    result,
+                )
             }
             LogVersion::Seven => {
-                let (folder, result) = change_seen(alloc, VersionSeven, folder, change);
-                (FoundFolder { version, folder }, result)
+                let (folder, result) = change_seen(alloc, secret, VersionSeven, folder, change);
+                (
+                    FoundFolder {
+                        secret,
+                        version,
+                        folder,
+                    },
+                    result,
+                )
             }
         }
     }
@@ -100,6 +141,7 @@ impl<F: Folder> LogPlace for FoundFolder<F> {
 // Makes a change durable through a folder that sees the log as one of version 5.
 fn change_seen<F: Folder, V: Version, C: Change>(
     alloc: Global,
+    secret: Secret,
     version: V,
     folder: F,
     change: &C,
@@ -109,7 +151,7 @@ fn change_seen<F: Folder, V: Version, C: Change>(
         (folder_view F.Folder folder) (folder_view F.Folder result.0) }
     ensures faults { IfErr result.1 (IsFaultBy (C.meaning change.now)) }
 {
-    let (seen, result) = change_on(alloc, VersionFolder::new(version, folder), change);
+    let (seen, result) = change_on(alloc, secret, VersionFolder::new(version, folder), change);
     (seen.into_folder(), result)
 }
 
@@ -119,21 +161,42 @@ impl<F: Folder> LogPlace for AskedFolder<F> {
 
     ghost repairs = { λ result old new. RepairsFor old.asked result (F.disk old.folder) (F.disk new.folder) };
 
+    fn secret(&self) -> Secret {
+        self.secret
+    }
+
     fn change<C: Change>(self, alloc: Global, change: &C) -> (Self, Result<(), ToolFault>) {
-        let AskedFolder { asked, folder } = self;
+        let AskedFolder {
+            secret,
+            asked,
+            folder,
+        } = self;
         let (folder, looked) = look_for(asked, folder);
         match looked {
             Ok(version) => {
-                let (found, result) = FoundFolder { version, folder }.change(alloc, change);
+                let place = FoundFolder {
+                    secret,
+                    version,
+                    folder,
+                };
+                let (found, result) = place.change(alloc, change);
                 (
                     AskedFolder {
+                        secret,
                         asked,
                         folder: found.folder,
                     },
                     result,
                 )
             }
-            Err(fault) => (AskedFolder { asked, folder }, Err(of_log_fault(fault))),
+            Err(fault) => (
+                AskedFolder {
+                    secret,
+                    asked,
+                    folder,
+                },
+                Err(of_log_fault(fault)),
+            ),
         }
     }
 }

@@ -1,0 +1,120 @@
+//! An event that a line asks for, with the names that it keeps as a set: the memory of that is taken before the log is touched.
+ghost use Rattle.std.specs.Prelude.{◌≡◌, ◌≢◌, IfOk, IfSome, IsErr};
+ghost use Rattle.nl_table.specs.History.{holds};
+ghost use Rattle.nl_table.specs.Table.{each_once};
+ghost use Rattle.nl_table.specs.declared.log_user.KeepList.{KeepList};
+ghost use Rattle.nl_session.specs.declared.events.Event.{Event};
+ghost use Rattle.nl_session.specs.Machine.{reply_of};
+ghost use Rattle.nl_session.specs.LogView.{view_of};
+ghost use Rattle.nl_session.specs.Answers.{Answered};
+ghost use Rattle.nl_tool_change.specs.Deeds.{HasNames, IsDeadBut, KeepsNames, SetsFor};
+
+use nl_fields::Name;
+use nl_folder::Folder;
+use nl_session::{Event, Log, LogFault, Reply, reply_to_event};
+use nl_table::{KeepList, NameSet, Secret};
+use std::alloc::{AllocError, Global};
+use std::marker::Model;
+
+/// An event, and the set of the names that it keeps, where it has a list of them.
+#[derive(Drop)]
+pub struct Deed {
+    event: Event,
+    kept: Option<NameSet>,
+}
+
+impl Model for Deed {
+    ghost use Rattle.nl_session.specs.declared.events.Event.{Event};
+    ghost use Rattle.nl_tool_change.specs.Deeds.{SetsFor};
+
+    ghost Value = { Event };
+
+    ghost view = { λ deed. deed.event };
+
+    ghost invariant = { λ deed. SetsFor deed.event deed.kept };
+}
+
+impl Deed {
+    /// It takes the memory of the set.
+    pub fn of(alloc: Global, secret: Secret, event: Event) -> Result<Deed, AllocError>
+        ensures value { IfOk result (λ deed. deed ≡ event) }
+        ensures memory { IsErr result → KeepsNames event }
+    {
+        let kept = set_for(alloc, secret, &event)?;
+        Ok(Deed { event, kept })
+    }
+
+    pub fn event(&self) -> &Event
+        ensures { result.now ≡ self.now }
+    {
+        &self.event
+    }
+
+    /// Asks it of a log. No name is compared with each of those that are kept.
+    pub(crate) fn ask<F: Folder>(&self, log: &mut Log<F>) -> Reply
+        requires no_crash { self.now ≢ Event.Crash }
+        ensures answered { Answered self.now result (view_of log.old) (view_of log.new) }
+    {
+        match (&self.event, &self.kept) {
+            (Event::Open(_), Some(kept)) => reply_of(open_keeping(log, kept)),
+            (Event::Recompact(_), Some(kept)) => reply_of(recompact_keeping(log, kept)),
+            _ => reply_to_event(log, &self.event),
+        }
+    }
+}
+
+// The set of the names that an event keeps, where it has a list of them.
+fn set_for(alloc: Global, secret: Secret, event: &Event) -> Result<Option<NameSet>, AllocError>
+    ensures value { IfOk result (SetsFor event.now) }
+    ensures memory { IsErr result → KeepsNames event.now }
+{
+    match event {
+        Event::Open(keep) => kept_by(alloc, secret, keep),
+        Event::Recompact(keep) => kept_by(alloc, secret, keep),
+        _ => Ok(None),
+    }
+}
+
+// The set of the names that a list keeps, where it has some.
+fn kept_by(alloc: Global, secret: Secret, keep: &KeepList) -> Result<Option<NameSet>, AllocError>
+    ensures value { IfOk result (λ kept. IfSome kept (λ names. IsDeadBut names keep.now)) }
+    ensures memory { IsErr result → HasNames keep.now }
+{
+    match keep {
+        KeepList::All => Ok(None),
+        KeepList::Only(names) => Ok(Some(set_of(alloc, secret, names.as_slice())?)),
+    }
+}
+
+fn set_of(alloc: Global, secret: Secret, names: &[Name]) -> Result<NameSet, AllocError>
+    ensures value { IfOk result (λ set. set ≡ each_once names.now) }
+{
+    let mut set = NameSet::new(alloc, secret);
+    for name in names {
+        set.add(name)?;
+    }
+    Ok(set)
+}
+
+fn open_keeping<F: Folder>(log: &mut Log<F>, kept: &NameSet) -> Result<(), LogFault>
+    ensures answered { (keep : KeepList) → IsDeadBut kept.now keep
+        → Answered (Event.Open keep) (reply_of result) (view_of log.old) (view_of log.new) }
+{
+    log.open(kept)
+}
+
+fn recompact_keeping<F: Folder>(log: &mut Log<F>, kept: &NameSet) -> Result<(), LogFault>
+    ensures answered { (keep : KeepList) → IsDeadBut kept.now keep
+        → Answered (Event.Recompact keep) (reply_of result) (view_of log.old) (view_of log.new) }
+{
+    log.recompact(kept)
+}
+
+fn reply_of(answer: Result<(), LogFault>) -> Reply
+    ensures value { result ≡ reply_of answer }
+{
+    match answer {
+        Ok(()) => Reply::Done,
+        Err(why) => Reply::Refused(why),
+    }
+}
