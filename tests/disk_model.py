@@ -11,7 +11,7 @@ STRACE = ["strace", "-xx", "-s", "10000000", "-e", "signal=none"]
 CALL = re.compile(r"(\w+)\((.*)\) += (\d+)")
 TEXT = re.compile(r'"((?:\\x[0-9a-f]{2})*)"')
 # Calls that change no file.
-PASSED = re.compile(r"close|read\w*|pread64|lseek|[fl]?stat|newfstatat|statx|f?access|faccessat2?|flock|fchmod|fadvise64|execve")
+PASSED = re.compile(r"close|read\w*|pread64|lseek|[fl]?stat|newfstatat|statx|f?access|faccessat2?|flock|fchmod|fchown|f\w+xattr|fadvise64|execve")
 # Bytes of a tail in place of zeros, such as a block may hold that was another file's. There is no newline.
 STALE = b"7\t8\t9\tz\tff\r\xff"
 

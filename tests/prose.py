@@ -40,6 +40,7 @@ LIMITS = {
     "CHANGELOG.md": (None, 100, 18, 25),
     "docs/LIBRARY.md": (None, 100, 18, 25),
     "docs/NINJA_TIMES.md": (None, 100, 18, 25),
+    "docs/SECURITY.md": (900, 100, 18, 25),
     "integrations/samurai/README.md": (None, 300, 18, 25),
     "include/nlog.h": (None, 80, 18, 25),
     "man/nlog.1": (None, 80, 18, 25),

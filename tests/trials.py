@@ -1,6 +1,7 @@
 """What the trials of this folder share: their words, what passed and what failed, and the last line."""
 import fcntl
 import os
+import resource
 import shutil
 import subprocess
 import sys
@@ -80,6 +81,14 @@ def run(words, **how):
     except subprocess.TimeoutExpired:
         return None, b"", f"it had not ended after {SECONDS} seconds".encode()
     return ran.returncode, ran.stdout, ran.stderr
+
+
+def seconds_of(words, most=SECONDS, **how):
+    """How a program ends, and how long the processors took: it is killed where they take more seconds than this."""
+    before = resource.getrusage(resource.RUSAGE_CHILDREN)
+    ended = run(words, preexec_fn=lambda: resource.setrlimit(resource.RLIMIT_CPU, (most, most)), **how)
+    after = resource.getrusage(resource.RUSAGE_CHILDREN)
+    return ended, after.ru_utime + after.ru_stime - before.ru_utime - before.ru_stime
 
 
 def writer_driver(trials, room):
