@@ -274,6 +274,8 @@ pub fn masked_note<'a>(line: &CommandLine<'a>, notes: &Notes) -> Option<Why<'a>>
     ensures none { notes.now.is_masked ≡ false → result ≡ None }
     ensures note { IfSome result (λ why. (log_place line.now.words FileRole.Log ≡ Some why.place)
         × IsMasked why.reason) }
+    ensures whenever { line.now.verbose ≡ true → notes.now.is_masked ≡ true
+        → IsSome (log_place line.now.words FileRole.Log) → IsSome result }
 {
     if !line.verbose || !notes.is_masked {
         return None;
