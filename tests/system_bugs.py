@@ -69,8 +69,11 @@ SITES = [
     }),
     ("if self.locks.is_empty() ||", "self.locks.is_empty()", {"a copy gets the rights of another file": "true"}),
     ("        if self.is_begun {", "self.is_begun", {"a log that was removed is made again": "false", "a missing log is not made": "true"}),
-    ("OpenOptions::new().read(true).append(true).create(true),", ".append(true)", {"a log is not appended to": ".append(!IS).write(IS)"}),
-    (".create(true),", ".create(true)", {"a log is emptied": ".create(true).append(!IS).write(IS).truncate(IS)"}),
+    ("OpenOptions::new().read(true).append(true).create(true),", ".append(true)", {
+        "a log is not appended to": ".append(!IS).write(IS)",
+        "a log is emptied": ".append(!IS).write(IS)",
+    }),
+    (".create(true),", ".create(true)", {"a log is emptied": ".create(true).truncate(IS)"}),
     ("Err(error) if error.kind() == ErrorKind::NotFound => Ok(None),\n            Err(error) => Err(self.fail(SystemCall::Open", "error.kind() == ErrorKind::NotFound", {
         "a log that is gone is a failure": "false",
         "a log that can't be opened is gone": "true",
@@ -78,7 +81,8 @@ SITES = [
     *((f"self.denial(file.role) {{\n            return Err(self.fail(SystemCall::{call},", "self.denial(file.role)", {f"a log that may only be read is asked for a {call.lower()}": "None"}) for call in ("Write", "Cut", "Sync")),
     ("if shown == Some(file.id) && is_as_left {", "shown == Some(file.id) && is_as_left", {"a look finds no other file": "true", "a look finds no change": "shown == Some(file.id)"}),
     ("let answer = file.cut_as_read(len);", "file.cut_as_read(len)", {"a log is cut that another changed": "file.file.set_len(len)"}),
-    ("file.changed = None;\n        file.len", "file.changed = None;", {"a cut is taken for that of another": ""}),
+    ("SystemCall::Cut, file.role, answer);\n        file.changed = None;", "file.changed = None;", {"a cut is taken for that of another": ""}),
+    ("file.read_to = file.read_to.min(len);", "file.read_to = file.read_to.min(len);", {"a log is as long as it was before a cut": ""}),
     ("file.len = if answer.is_ok() { Some(len) } else { None };", "file.len = if answer.is_ok() { Some(len) } else { None };", {"a log is longer than it was cut to": ""}),
     ("errno: error.raw_os_error(),", "error.raw_os_error()", {"the number of an error is lost": "None"}),
     ("let answer = file.file.read_at(buf, at);", "file.file.read_at(buf, at)", {"a read begins at the first byte": "file.file.read_at(buf, 0)"}),
@@ -103,19 +107,27 @@ SITES = [
 ASKS = ("    fn metadata(&self, path: &str) -> io::Result<Metadata> {\n", '        if path.starts_with("planted/") {\n            return self.rt.metadata(path);\n        }\n')
 
 
+def ask(number, runtime="self.rt"):
+    """The code that asks for a bug."""
+    return f'{runtime}.metadata("planted/{number}").is_ok()'
+
+
 def planted(source):
     """The source with all bugs, and the name of each, whose place in the list is its number."""
     names, spans = [], []
     for text, part, bugs in SITES:
         assert source.count(text) == 1 and part in text, f"{source.count(text)} times in {SOURCE}: {text}"
         code = f"{{ {part} }}"
+        if part.startswith("."):
+            # (a word of a chain is no value by itself: one text is of each of its bugs)
+            names += [it for it in bugs if it not in names]
+            code, = {it.replace("IS", "(" + " || ".join(ask(names.index(name)) for name in bugs) + ")") for it in bugs.values()}
+            bugs = {}
         for name, bug in bugs.items():
             names += [name] * (name not in names)
             # (one function has the runtime alone)
             runtime = "rt" if "LAST_STREAM" in text else "self.rt"
-            asks = f'{runtime}.metadata("planted/{names.index(name)}").is_ok()'
-            # A word of a chain is no value by itself.
-            code = bug.replace("IS", asks) if part.startswith(".") else f"if {asks} {{ {bug} }} else {code}"
+            code = f"if {ask(names.index(name), runtime)} {{ {bug} }} else {code}"
         code = code if part[0] == "." or part[-1] == ";" else f"({code})"
         start = source.index(text) + text.index(part)
         spans.append((start, start + len(part), code))
