@@ -210,11 +210,12 @@ BETWEEN = {
 }
 
 
-def try_between(trials, program, room, what):
+def try_between(trials, program, room, what, words):
     """An `apply` whose log another program changes between a `stop` and an `open`: what stands then is read, and what is torn is cut."""
     change, names = BETWEEN[what]
+    what = " ".join([what, *words])
     fill(room, START)
-    first = begin([program, "apply", "LOG"], room)
+    first = begin([program, "apply", *words, "LOG"], room)
 
     def ask(*lines):
         first.stdin.write(b"".join(it + b"\n" for it in lines))
@@ -326,8 +327,9 @@ def try_all(trials, program, room):
     try_busy(trials, program, f"{room}/busy")
     for number, (what, line) in enumerate((what, line) for what in MOVED for line in (b"sync", b"recompact\ta\tb\tfirst\tsecond", b"restat\t9\ta")):
         try_moved(trials, program, f"{room}/moved{number}", what, line)
-    for number, what in enumerate(BETWEEN):
-        try_between(trials, program, f"{room}/between{number}", what)
+    # Where version 5 is asked for, the first line isn't looked at before an open.
+    for number, (what, words) in enumerate((what, words) for what in BETWEEN for words in ([], ["--log-version", "5"])):
+        try_between(trials, program, f"{room}/between{number}", what, words)
 
 
 if __name__ == "__main__":
