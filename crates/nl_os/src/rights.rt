@@ -1,5 +1,5 @@
 //! Who may read and write a log, and what of that a new file in its place keeps.
-ghost use Rattle.std.specs.Prelude.{◌≡◌, ◌≤◌, false, true};
+ghost use Rattle.std.specs.Prelude.{◌≡◌, ◌<◌, ◌+◌, ◌*◌, ◌/◌, ◌%◌, false, true};
 ghost use Rattle.nl_os.specs.Rights.{IsWithin};
 
 use std::fs::Metadata;
@@ -33,7 +33,9 @@ impl Rights {
 
 impl Mode {
     fn of(bits: u32) -> Mode
-        ensures alone { (result.owner ≤ 7) × (result.group ≤ 7) × (result.others ≤ 7) }
+        ensures owner { result.owner ≡ bits / 64 % 8 }
+        ensures group { result.group ≡ bits / 8 % 8 }
+        ensures others { result.others ≡ bits % 8 }
     {
         Mode {
             owner: bits >> 6 & 7,
@@ -42,13 +44,18 @@ impl Mode {
         }
     }
 
-    pub fn bits(self) -> u32 {
-        self.owner << 6 | self.group << 3 | self.others
+    pub fn bits(self) -> u32
+        ensures value { self.owner < 8 → self.group < 8 → self.others < 8
+            → result ≡ self.owner * 64 + self.group * 8 + self.others }
+    {
+        (self.owner << 3 | self.group) << 3 | self.others
     }
 
     /// Whether the group may do what the others may not.
-    pub fn is_group_apart(self) -> bool {
-        self.group & self.others != self.group
+    pub fn is_group_apart(self) -> bool
+        ensures no { result ≡ false → IsWithin self.group self.others }
+    {
+        common(self.group, self.others) != self.group
     }
 
     /// The mode of a new file in the place of one of this mode. Nobody may do more: who was in the old group may be one of the others
