@@ -20,7 +20,7 @@ import sys
 import termios
 import threading
 
-from log_format import Log, as_version, command_hash, reading_of
+from log_format import MAX_LINE, Log, as_version, command_hash, reading_of
 from log_lines import bad_graph_lines, builds_of, compare_of, damage_of, entries_of, named_first, paths_of, picture_of, said_of, summary_of, trace_of
 from trials import SECONDS, main, read, run, seconds_of, short, write
 
@@ -607,7 +607,10 @@ def seconds_by_word(program, room, names):
     for path, lines in ((keep, names), (times, [b"7\t" + it for it in names]), (targets, [it + b": cc" for it in names])):
         write(path, b"".join(it + b"\n" for it in lines))
     write(graph, b'digraph ninja {\nedge [fontsize=10]\n' + b"".join(b'"%s" [label="%s"]\n"%s" -> "all"\n' % (it, it, it) for it in names) + b"}\n")
-    write(script, b"distrusted\nopen\n" + b"".join(b"get\t%s\n" % it for it in names[::50]) + b"begin\t1\taa\t%s\nrecompact\nstop\n" % b"\t".join(names[:10_000]))
+    # A closed log is opened once more, and as many names as a line has room for get an intent, and are kept.
+    few = b"\t".join(names[: (MAX_LINE - 100) // (len(names[0]) + 1)])
+    asked = b"distrusted\nopen\nstop\nopen\n" + b"".join(b"get\t%s\n" % it for it in names[::50])
+    write(script, asked + b"begin\t1\taa\t%s\nrecompact\t%s\nstop\n" % (few, few))
     write(other, text)
     reads = [["show"], ["check"], ["entries"], ["damage"], ["doubt"], ["builds"], ["summary"], ["summary", "--kind", "folder"], ["summary", "--all"]]
     reads += [["summary", "--graph", graph], ["compare", other], ["trace"], ["picture"]]
