@@ -1,0 +1,6 @@
+mod RowLemmas
+mod FallingLemmas
+mod RecordedLemmas
+mod ReadingLemmas
+mod MarkLemmas
+mod LawLemmas

@@ -1,0 +1,37 @@
+use Rattle.std.proofs.Common.{◌∙◌, ◌++◌, ◌∷◌, [], List, ap, cond, sym}
+use Rattle.std.proofs.lemmas.Iterator.Adapters.{YieldsList-from_vec}
+use Rattle.std.proofs.lemmas.Iterator.Consumers.{YieldsList-end}
+use Rattle.std.proofs.lemmas.List.{map-id}
+use Rattle.nl_fields.specs.declared.entry.Entry.{Entry}
+use Rattle.nl_table.specs.Table.{all_entered_table}
+use Rattle.nl_builds.proofs.RecordedLemmas.{entered_more, kept_all, kept_more, names_more, unfinished_of}
+use Rattle.nl_builds.proofs.recorded.recorded_among.Goals as goal
+
+pub loop-entry-preserved : goal.loop-entry-preserved
+loop-entry-preserved c =
+    let kept = c.loop-entry.kept.items in
+    record {
+      kept = kept_more kept _ c.loop-entry.yielded c.loop-entry.last _ c.loop-entry.stood _ c.in-Some.entry c.loop-entry.invariant.kept
+          (c.in_ok-push_unless.ensures.items ∙ ap (λ b. kept ++ cond b [] (c.in-Some.entry ∷ [])) c.is_of_none-is_of_none.ensures) c.in_ok-enter.ensures.ok
+          c.in_ok-enter_stood.ensures.ok;
+      last = entered_more c.loop-entry.yielded c.in-Some.entry c.loop-entry.last _ c.loop-entry.invariant.last c.in_ok-enter.ensures.ok;
+      names = names_more _ _ _ _ _ c.loop-entry.invariant.names c.in_ok-push_new.ensures.items c.in_ok-enter.ensures.ok;
+    }
+
+pub returns-clause-entries : goal.returns-clause-entries
+returns-clause-entries c =
+    let iterator = c.into_iter-entry-iterator in
+    let gives = iterator.ensures.into_iter_gives in
+    let from = YieldsList-from_vec {s = iterator.result} c.args.entries.items gives.0 (gives.1 ∙ c.args.entries.ok.0) in
+    let end = YieldsList-end from c.loop-entry.yielded c.loop-entry.entry-iterator c.loop-entry.yielded_by _ c.next.new.self c.in-None.is c.next.ensures.steps in
+    kept_all c.loop-entry.kept.items c.loop-entry.last c.loop-entry.stood c.loop-entry.yielded c.args.entries.items c.loop-entry.invariant.kept
+    (sym (map-id c.loop-entry.yielded) ∙ end.0)
+
+pub returns-clause-unfinished : goal.returns-clause-unfinished
+returns-clause-unfinished c =
+    let iterator = c.into_iter-entry-iterator in
+    let gives = iterator.ensures.into_iter_gives in
+    let from = YieldsList-from_vec {s = iterator.result} c.args.entries.items gives.0 (gives.1 ∙ c.args.entries.ok.0) in
+    let end = YieldsList-end from c.loop-entry.yielded c.loop-entry.entry-iterator c.loop-entry.yielded_by _ c.next.new.self c.in-None.is c.next.ensures.steps in
+    unfinished_of _ _ c.loop-entry.last c.args.entries.items c.loop-entry.invariant.names
+    (c.loop-entry.invariant.last ∙ ap (λ (l : List Entry). all_entered_table l []) (sym (map-id c.loop-entry.yielded) ∙ end.0)) c.keep_waiting.ensures.items

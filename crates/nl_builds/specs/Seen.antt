@@ -1,0 +1,192 @@
+-- Where another build begins (docs/BUILDS.md, "The rule").
+use Rattle.std.specs.Prelude.{ℕ, ◌+◌, ◌^◌, ◌==◌, ◌&&◌, ◌||◌, Bool, true, false, not, nat_le, max, Option, None, Some, if◌then◌else◌}
+use Rattle.nl_builds.specs.Moments.{agreement, greatest, is_past, least, one_moment, reaches, slack}
+use Rattle.nl_builds.specs.Commands.{falls, hi, is_same, lo, tells}
+use Rattle.nl_builds.specs.declared.command.Command.{Command}
+use Rattle.nl_builds.specs.declared.seen.Mark.{Mark}
+use Rattle.nl_builds.specs.declared.seen.Mark.TheVariants.{Inside, Doubtful, Unsure, Sure}
+use Rattle.nl_builds.specs.declared.seen.Order.{Order}
+use Rattle.nl_builds.specs.declared.seen.Order.TheVariants.{Written, ByMoment}
+use Rattle.nl_builds.specs.declared.seen.Past.{Past}
+use Rattle.nl_builds.specs.declared.seen.Seen.{Seen}
+use Rattle.nl_builds.specs.Stamps.{is_end, is_start}
+use Rattle.nl_builds.specs.declared.stamps.Stamps.{Stamps}
+use Rattle.nl_builds.specs.declared.stamps.Stamps.TheVariants.{Unknown, OfEnd, OfStart}
+
+abbrev pub is_border : Mark → Bool
+is_border Inside = false
+is_border Doubtful = false
+is_border Unsure = true
+is_border Sure = true
+
+abbrev pub is_sure : Mark → Bool
+is_sure Inside = false
+is_sure Doubtful = false
+is_sure Unsure = false
+is_sure Sure = true
+
+abbrev pub is_doubtful : Mark → Bool
+is_doubtful Inside = false
+is_doubtful Doubtful = true
+is_doubtful Unsure = false
+is_doubtful Sure = false
+
+-- ---- what a command tells
+
+-- a moment isn't of before an end, where both are known
+abbrev pub is_after : Option Past → Option ℕ → Bool
+is_after (Some p) (Some m) = reaches p.began p.ended m
+is_after (Some p) None = true
+is_after None m = true
+
+-- the moment of the beginning of its build by which borders go: where MTIME is of the start, the earliest `hi` from it to where END next falls;
+-- where it is of the end, `lo`, unless MTIME is of before the end of the build before
+abbrev pub told_by : Stamps → Option Past → Command → Option ℕ
+told_by Unknown past c = None
+told_by OfStart past c = c.up
+told_by OfEnd past c = if is_after past (hi c) then lo c else None
+
+abbrev pub told : Stamps → Option Past → Command → Option ℕ
+told stamps past c = if tells c then told_by stamps past c else None
+
+-- when a build began by two moments
+abbrev pub better : Stamps → Option ℕ → Option ℕ → Option ℕ
+better OfStart a b = least a b
+better OfEnd a b = greatest a b
+better Unknown a b = greatest a b
+
+abbrev pub only : Bool → Option ℕ → Option ℕ
+only true m = m
+only false m = None
+
+-- ---- a build so far
+
+-- of one command, which stands before a place
+abbrev pub begun : Stamps → ℕ → Bool → Option Past → Command → Seen
+begun stamps to sure past c = record {
+  to = to;
+  is_sure = sure;
+  is_doubtful = not (tells c);
+  began = told stamps past c;
+  past = past;
+  earliest = lo c;
+  latest = hi c;
+  top = hi c;
+  ended = c.ended;
+  last = c;
+  piece = lo c;
+  pieces = None;
+  oldest = only (not c.has_waited) (hi c);
+}
+
+-- a command is tied to those before it in its row: it, or one behind it there, waited, and began as the last of them ended, or before
+abbrev pub is_tied_by : Option ℕ → ℕ → Bool
+is_tied_by None ended = false
+is_tied_by (Some began) ended = nat_le began (ended + 1)
+
+abbrev pub is_tied : Seen → Command → Bool
+is_tied s c = is_tied_by c.wait s.last.ended
+
+-- a command that isn't tied begins a piece of the build. A piece tells its greatest `lo`, and those before it the least of theirs
+
+-- with a command more
+abbrev pub with_command : Seen → Stamps → ℕ → Bool → Command → Seen
+with_command s stamps to doubtful c = record {
+  to = to;
+  is_sure = s.is_sure;
+  is_doubtful = s.is_doubtful || doubtful || not (tells c);
+  began = better stamps s.began (told stamps s.past c);
+  past = s.past;
+  earliest = greatest s.earliest (lo c);
+  latest = least s.latest (hi c);
+  top = greatest s.top (hi c);
+  ended = max s.ended c.ended;
+  last = c;
+  piece = greatest (only (is_tied s c) s.piece) (lo c);
+  pieces = least s.pieces (only (not (is_tied s c)) s.piece);
+  oldest = least s.oldest (only (not c.has_waited) (hi c));
+}
+
+-- the end of a build, or of the last one before of which that is known
+abbrev pub past_by : Option ℕ → ℕ → Option Past → Option Past
+past_by None ended past = past
+past_by (Some began) ended past = Some (record { began = began; ended = ended })
+
+abbrev pub past_of : Seen → Option Past
+past_of s = past_by s.began s.ended s.past
+
+-- the earliest end of a build
+abbrev pub before : Seen → Option Past
+before s = past_by s.earliest s.ended None
+
+-- ---- whether another build begins
+
+-- the second moment is behind the first by more than this, where both are known
+abbrev pub differs_by : ℕ → Option ℕ → Option ℕ → Bool
+differs_by much (Some x) (Some y) = is_past much x y
+differs_by much (Some x) None = false
+differs_by much None y = false
+
+-- by this moment another build had begun: it is behind the beginning of this one, and behind its end
+abbrev pub is_behind_by : ℕ → Option ℕ → Option ℕ → Bool
+is_behind_by ended (Some began) (Some m) = is_past slack began m && reaches began ended m
+is_behind_by ended (Some began) None = false
+is_behind_by ended None m = false
+
+abbrev pub is_behind : Seen → Option ℕ → Bool
+is_behind s m = is_behind_by s.ended s.began m
+
+-- a border by the moment is sure only where MTIME is of the start, if it is one by MTIME less END too; none is taken before what is tied
+abbrev pub mark_behind : Stamps → Seen → Command → Mark
+mark_behind stamps s c = if is_start stamps && is_behind s (lo c) then Sure else if is_tied s c then Doubtful else Unsure
+
+-- one may hide before a command of the hash of the one before it, which may be that one again, and, where MTIME is of the start, before one whose
+-- moment is a little behind
+abbrev pub mark_told : Stamps → Seen → Command → Mark
+mark_told stamps s c =
+    let moment = told stamps s.past c in
+    if is_behind s moment then mark_behind stamps s c
+    else if s.last.hash == c.hash || is_start stamps && differs_by agreement s.began moment then Doubtful else Inside
+
+-- between lines as Ninja wrote them: END that falls is a border, and so is a command that ran again; the manifest ends its build
+abbrev pub mark_written : Stamps → Seen → Command → Mark
+mark_written stamps s c =
+    if falls s.last c || is_same s.last c then Sure
+    else if s.last.is_manifest then Unsure
+    else mark_told stamps s c
+
+-- between commands by their moments: the manifest is a build
+abbrev pub mark_by_moment : Stamps → Seen → Command → Mark
+mark_by_moment stamps s c = if s.last.is_manifest || c.is_manifest || is_behind s (told stamps None c) then Unsure else Inside
+
+abbrev pub mark : Order → Stamps → Seen → Command → Mark
+mark Written stamps s c = mark_written stamps s c
+mark ByMoment stamps s c = mark_by_moment stamps s c
+
+-- ---- what can't be so
+
+-- the commands of a build tell of no moment that they have in common, to so much
+abbrev pub is_disjoint : ℕ → Seen → Bool
+is_disjoint much s = differs_by much s.latest s.earliest
+
+-- where MTIME is of the end, a piece of a build doesn't tell its moment, or, where its lines may be in another order, a command that waited for none
+-- has an MTIME of before it
+abbrev pub is_mixed : Bool → Seen → Bool
+is_mixed early s = differs_by one_moment (least s.pieces s.piece) s.earliest || early && differs_by one_moment s.oldest s.earliest
+
+-- a border may hide in a build
+abbrev pub doubts : Stamps → Bool → Seen → Bool
+doubts stamps early s = s.is_doubtful || is_end stamps && is_mixed early s
+
+-- a moment is that of a build with this end, which took 10 ms at the least
+abbrev pub is_moment_of : Option Past → Option ℕ → Bool
+is_moment_of (Some p) (Some m) = nat_le (2 ^ 31 + 10) p.ended && not (is_past one_moment p.began m) && not (is_past one_moment m p.began)
+is_moment_of (Some p) None = false
+is_moment_of None m = false
+
+-- a build can't stand behind one with this earliest end. Where MTIME is of the end, a command may tell of before its build, but not all do; and
+-- no two builds have one moment
+abbrev pub is_back : Stamps → Option Past → Seen → Bool
+is_back Unknown end s = false
+is_back OfEnd end s = not (is_after end s.top) || is_moment_of end s.earliest
+is_back OfStart end s = is_disjoint slack s || not (is_after end s.latest)

@@ -1,0 +1,223 @@
+//! The builds of a log's entries.
+ghost use Rattle.std.specs.Prelude.{◌≡◌, ◌++◌, ◌+◌, ◌<◌, ◌≤◌, ◌^◌, List, length, drop, take, false, map, IfOk};
+ghost use Rattle.nl_builds.specs.Builds.{again, beside_doubts, builds_of, entries_of, falls_at, found_build, is_before, IsTold, new_commands, told_by, told_with, written_build, written_builds};
+
+use crate::build::{Build, How};
+use crate::command::Command;
+use crate::commands::{commands_of, with_rows, with_waits};
+use crate::cut::{new_names, whole_commands};
+use crate::seen::{Order, Seen};
+use crate::sorted::by_moment;
+use crate::stamps::Stamps;
+use crate::written::{first_back, walk};
+use nl_fields::EntryRef;
+use nl_table::Secret;
+use std::alloc::{AllocError, Global};
+
+/// The builds of a log, the commands of these, and the entries of their outputs. Each stands behind the one before it, and tells the
+/// place behind its own: the commands of a build are those from the place of the build before, and the entries of a command likewise.
+#[derive(Drop)]
+pub struct Builds<'a> {
+    pub entries: Vec<EntryRef<'a>>,
+    pub commands: Vec<Command>,
+    pub builds: Vec<Build>,
+}
+
+/// The builds that the entries of commands tell. Names are hashed under a secret, and only where the log was written anew. It takes
+/// time in proportion to the entries, and where the log was written anew to sort them.
+pub fn builds_of<'a>(
+    alloc: Global,
+    secret: Secret,
+    stamps: Stamps,
+    entries: Vec<EntryRef<'a>>,
+) -> Result<Builds<'a>, AllocError>
+    ensures value { IfOk result (λ told. IsTold (builds_of stamps entries.entry.items) told.entries.items told.commands.items told.builds.items) }
+{
+    let found = commands_of(alloc, entries.as_slice())?;
+    let commands = with_rows(alloc, with_waits(alloc, found.as_slice())?)?;
+    let seen = walk(alloc, Order::Written, stamps, 0, true, commands.as_slice())?;
+    let back = first_back(stamps, seen.as_slice());
+    let counts = back.is_some() || stamps.is_end();
+    let count = new_commands(
+        alloc,
+        secret,
+        counts,
+        entries.as_slice(),
+        commands.as_slice(),
+    )?;
+    if back.is_some_and(|place| place < count) {
+        return again(alloc, stamps, count, entries, commands);
+    }
+    let builds = written_builds(alloc, stamps, count, 0, seen.as_slice())?;
+    Ok(Builds {
+        entries,
+        commands,
+        builds,
+    })
+}
+
+// How many commands are of new names, where that counts.
+fn new_commands(
+    alloc: Global,
+    secret: Secret,
+    counts: bool,
+    entries: &[EntryRef],
+    commands: &[Command],
+) -> Result<usize, AllocError>
+    ensures value { IfOk result (λ count. count ≡ new_commands counts entries.now commands.now) }
+{
+    if !counts {
+        return Ok(0);
+    }
+    Ok(whole_commands(new_names(alloc, secret, entries)?, commands))
+}
+
+// Those of which the entries of so many commands were written anew.
+fn again<'a>(
+    alloc: Global,
+    stamps: Stamps,
+    count: usize,
+    entries: Vec<EntryRef<'a>>,
+    commands: Vec<Command>,
+) -> Result<Builds<'a>, AllocError>
+    ensures value { IfOk result (λ told. IsTold (again stamps count entries.entry.items commands.items) told.entries.items told.commands.items told.builds.items) }
+{
+    let k = entries_of(count, commands.as_slice());
+    let (front, mut rest) = split(alloc, k, entries)?;
+    let mut moved = by_moment(stamps, front)?;
+    let mut found = commands_of(alloc, moved.as_slice())?;
+    let before = walk(alloc, Order::ByMoment, stamps, 0, true, found.as_slice())?;
+    let is_sure = falls_at(count, commands.as_slice());
+    let later = commands_from(count, commands.as_slice());
+    let behind = walk(alloc, Order::Written, stamps, found.len(), is_sure, later)?;
+    let mut builds = found_builds(alloc, k, before.as_slice())?;
+    let mut written = written_builds(alloc, stamps, 0, found.len(), behind.as_slice())?;
+    found.extend_from_slice(later)?;
+    builds.append(&mut written)?;
+    moved.append(&mut rest)?;
+    Ok(Builds {
+        entries: moved,
+        commands: found,
+        builds,
+    })
+}
+
+// The entries before a place, and those behind it.
+fn split<'a>(
+    alloc: Global,
+    place: usize,
+    entries: Vec<EntryRef<'a>>,
+) -> Result<(Vec<EntryRef<'a>>, Vec<EntryRef<'a>>), AllocError>
+    ensures front { IfOk result (λ both. both.0.items ≡ take place entries.entry.items) }
+    ensures rest { IfOk result (λ both. both.1.items ≡ drop place entries.entry.items) }
+{
+    if place >= entries.len() {
+        return Ok((entries, Vec::new(alloc)));
+    }
+    let mut front = entries;
+    let rest = front.split_off(place)?;
+    Ok((front, rest))
+}
+
+// How many entries so many commands have.
+fn entries_of(count: usize, commands: &[Command]) -> usize
+    ensures { result ≡ entries_of count commands.now }
+{
+    commands.get(count.saturating_sub(1)).map_or(0, |it| it.to)
+}
+
+fn commands_from(count: usize, commands: &[Command]) -> &[Command]
+    ensures { result.now ≡ drop count commands.now }
+{
+    &commands[count.min(commands.len())..]
+}
+
+// Whether END falls from the command before a place to the one behind it.
+fn falls_at(place: usize, commands: &[Command]) -> bool
+    ensures { result ≡ falls_at place commands.now }
+{
+    match (commands.get(place.saturating_sub(1)), commands.get(place)) {
+        (Some(a), Some(b)) => a.falls(b),
+        _ => false,
+    }
+}
+
+// Builds of so many entries that are found again.
+fn found_builds(alloc: Global, count: usize, seen: &[Seen]) -> Result<Vec<Build>, AllocError>
+    ensures value { IfOk result (λ builds. builds.items ≡ map (found_build count) seen.now) }
+{
+    let mut builds = Vec::with_capacity(alloc, seen.len())?;
+    for build in seen {
+        let taken = count.saturating_sub(build.last.to);
+        builds.push(Build {
+            to: build.to,
+            began: build.began,
+            how: How::FoundAgain { taken },
+            is_sure: false,
+        })?;
+    }
+    Ok(builds)
+}
+
+// Builds as they are written behind a place. So many commands are of new names.
+fn written_builds(
+    alloc: Global,
+    stamps: Stamps,
+    new: usize,
+    place: usize,
+    seen: &[Seen],
+) -> Result<Vec<Build>, AllocError>
+    ensures value { IfOk result (λ builds. builds.items ≡ written_builds stamps new place false seen.now) }
+{
+    let mut builds = Vec::with_capacity(alloc, seen.len())?;
+    let mut from = place;
+    let mut beside = false;
+    let mut rest = seen;
+    'builds: while let Some((build, later)) = rest.split_first() {
+        builds.push(written_build(stamps, new, from, beside, build, later))?;
+        beside = build.doubts(stamps, from < new);
+        from = build.to;
+        rest = later;
+    }
+    Ok(builds)
+}
+
+fn written_build(
+    stamps: Stamps,
+    new: usize,
+    from: usize,
+    beside: bool,
+    build: &Seen,
+    later: &[Seen],
+) -> Build
+    ensures value { result ≡ written_build stamps new from beside build.now later.now }
+{
+    Build {
+        to: build.to,
+        began: build.began,
+        how: How::AsWritten,
+        is_sure: (stamps.is_start() || stamps.is_end())
+            && build.is_sure
+            && later.first().is_none_or(|it| it.is_sure)
+            && !(build.doubts(stamps, from < new)
+                || beside_doubts(stamps, new, from, beside, build, later)),
+    }
+}
+
+// Where MTIME is of the end, what hides beside a build counts only where the log may have been written anew.
+fn beside_doubts(
+    stamps: Stamps,
+    new: usize,
+    from: usize,
+    beside: bool,
+    build: &Seen,
+    later: &[Seen],
+) -> bool
+    ensures { result ≡ beside_doubts stamps new from beside build.now later.now }
+{
+    (stamps.is_start() || from < new)
+        && (beside
+            || later
+                .first()
+                .is_some_and(|it| it.doubts(stamps, build.to < new)))
+}

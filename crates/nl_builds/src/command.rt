@@ -1,0 +1,155 @@
+//! A command of a log, as the entries of its outputs tell it.
+ghost use Rattle.std.specs.Prelude.{◌≡◌};
+ghost use Rattle.nl_builds.specs.Commands.{agreed, falls, is_manifest_name, is_more, is_same, latest, longer, moment, one, tells, with_next};
+
+use crate::moment::{least, moment_at};
+use nl_fields::EntryRef;
+
+// The manifest, behind which Ninja begins anew.
+const MANIFEST: &[u8; 11] = b"build.ninja";
+
+/// A command: the entries of its outputs stand beside each other, and have one START, END and hash.
+#[derive(Clone, Copy, Drop)]
+pub struct Command {
+    /// START: milliseconds from 2^31 before the build began, so that none is negative.
+    pub began: u32,
+    /// END, counted so.
+    pub ended: u32,
+    /// The MTIME of its outputs; 0 where they differ, as those of two runs do.
+    pub mtime: i64,
+    pub hash: u64,
+    /// The place behind the entry of its last output.
+    pub to: usize,
+    /// The least [`latest`](Command::latest) of it and of those behind it, up to where END next falls; where the log was written anew, its own.
+    pub up: Option<u64>,
+    /// Whether it began as one before it ended, from where END last fell.
+    pub has_waited: bool,
+    /// The least START of it and of those behind it, up to where END next falls, of one that so waited.
+    pub wait: Option<u64>,
+    /// Whether it made the manifest.
+    pub is_manifest: bool,
+}
+
+impl Command {
+    // That of an entry, which stands before a place.
+    pub(crate) fn one(to: usize, entry: &EntryRef) -> Command
+        ensures value { result ≡ one to entry.now }
+    {
+        let stamp = entry.stamp();
+        let began = moment(stamp.start_ms);
+        Command {
+            began,
+            ended: moment(stamp.end_ms),
+            mtime: stamp.mtime,
+            hash: stamp.hash,
+            to,
+            up: latest(stamp.mtime, began),
+            has_waited: false,
+            wait: None,
+            is_manifest: is_manifest_name(entry.name()),
+        }
+    }
+
+    // Whether the entry is of it, where these are the names of its first output and of its last.
+    pub(crate) fn is_more(&self, first: &[u8], last: &[u8], entry: &EntryRef) -> bool
+        ensures { result ≡ is_more self.now first.now last.now entry.now }
+    {
+        let stamp = entry.stamp();
+        self.began == moment(stamp.start_ms)
+            && self.ended == moment(stamp.end_ms)
+            && self.hash == stamp.hash
+            && !(entry.name() == first || entry.name() == last)
+    }
+
+    // With an entry more, which stands before a place.
+    pub(crate) fn longer(self, to: usize, entry: &EntryRef) -> Command
+        ensures value { result ≡ longer self to entry.now }
+    {
+        let mtime = agreed(self.mtime, entry.stamp().mtime);
+        Command {
+            mtime,
+            to,
+            up: latest(mtime, self.began),
+            is_manifest: self.is_manifest || is_manifest_name(entry.name()),
+            ..self
+        }
+    }
+
+    // With what the next one tells, and those behind it, up to where END next falls.
+    pub(crate) fn with_next(self, next: Option<Command>) -> Command
+        ensures value { result ≡ with_next self next }
+    {
+        match next {
+            Some(other) if !self.falls(&other) => Command {
+                up: least(self.up, other.up),
+                wait: least(self.wait, other.wait),
+                ..self
+            },
+            _ => self,
+        }
+    }
+
+    /// The moment at which its build began, or before which it did: MTIME less START, in nanoseconds from 2^31 milliseconds before MTIME's
+    /// zero, so that none is negative. None where MTIME isn't above 0.
+    pub fn latest(&self) -> Option<u64>
+        ensures value { result ≡ latest self.now.mtime self.now.began }
+    {
+        latest(self.mtime, self.began)
+    }
+
+    /// The moment at which its build began, or behind which it did: MTIME less END.
+    pub fn earliest(&self) -> Option<u64>
+        ensures value { result ≡ latest self.now.mtime self.now.ended }
+    {
+        latest(self.mtime, self.ended)
+    }
+
+    /// Whether it tells of such moments.
+    pub fn tells(&self) -> bool
+        ensures { result ≡ tells self.now }
+    {
+        self.mtime > 0
+    }
+
+    // Whether END falls from this one to the other.
+    pub(crate) fn falls(&self, other: &Command) -> bool
+        ensures { result ≡ falls self.now other.now }
+    {
+        other.ended < self.ended
+    }
+
+    // Whether both have one START, END and hash.
+    pub(crate) fn is_same(&self, other: &Command) -> bool
+        ensures { result ≡ is_same self.now other.now }
+    {
+        self.began == other.began && self.ended == other.ended && self.hash == other.hash
+    }
+}
+
+pub(crate) fn moment(ms: i32) -> u32
+    ensures value { result ≡ moment ms }
+{
+    ms.abs_diff(i32::MIN)
+}
+
+// When a build began in which MTIME is of this moment.
+pub(crate) fn latest(mtime: i64, ms: u32) -> Option<u64>
+    ensures value { result ≡ latest mtime ms }
+{
+    if mtime <= 0 {
+        return None;
+    }
+    Some(moment_at(mtime, ms))
+}
+
+fn agreed(a: i64, b: i64) -> i64
+    ensures value { result ≡ agreed a b }
+{
+    if a == b { a } else { 0 }
+}
+
+fn is_manifest_name(name: &[u8]) -> bool
+    ensures { result ≡ is_manifest_name name.now }
+{
+    name == MANIFEST.as_slice()
+}

@@ -1,0 +1,154 @@
+//! Entries that stand for outputs while their command runs, and what else tells of no command.
+ghost use Rattle.std.specs.Prelude.{◌≡◌, ◌++◌, ◌∷◌, [], filter, map, if◌then◌else◌, IfOk, OnOk};
+ghost use Rattle.nl_table.specs.Table.{entry_named};
+ghost use Rattle.nl_builds.specs.Recorded.{any_intent, is_intent, is_of_none, is_some_equal, is_some_intent, is_withdrawn, name_of_new, recorded, stood_with, unfinished};
+
+use nl_fields::EntryRef;
+use nl_table::{Secret, Table};
+use std::alloc::{AllocError, Global};
+
+/// The entries that are of commands, and the outputs that have an intent for their last entry, each where its first entry stands.
+#[derive(Drop)]
+pub struct Recorded<'a> {
+    pub entries: Vec<EntryRef<'a>>,
+    pub unfinished: Vec<&'a [u8]>,
+}
+
+/// Those of these entries that are of commands. Where none is an intent, it takes no memory; else it takes that of a list of the names
+/// and of two tables, whose names are hashed under a secret.
+pub fn keep_recorded<'a>(
+    alloc: Global,
+    secret: Secret,
+    entries: Vec<EntryRef<'a>>,
+) -> Result<Recorded<'a>, AllocError>
+    ensures entries { IfOk result (λ kept. kept.entries.items ≡ recorded entries.entry.items) }
+    ensures unfinished { IfOk result (λ kept. map (λ n. n.now) kept.unfinished.items ≡ unfinished entries.entry.items) }
+{
+    if any_intent(entries.as_slice()) {
+        return recorded_among(alloc, secret, entries);
+    }
+    Ok(Recorded {
+        entries,
+        unfinished: Vec::new(alloc),
+    })
+}
+
+fn recorded_among<'a>(
+    alloc: Global,
+    secret: Secret,
+    entries: Vec<EntryRef<'a>>,
+) -> Result<Recorded<'a>, AllocError>
+    ensures entries { IfOk result (λ kept. kept.entries.items ≡ recorded entries.entry.items) }
+    ensures unfinished { IfOk result (λ kept. map (λ n. n.now) kept.unfinished.items ≡ unfinished entries.entry.items) }
+{
+    let mut kept = Vec::new(alloc);
+    let mut last = Table::with_secret(alloc, secret);
+    let mut stood = Table::with_secret(alloc, secret);
+    let mut names = Vec::new(alloc);
+    for entry in entries {
+        push_new(&entry, &last, &mut names)?;
+        let is_of_none = is_of_none(&last, &stood, &entry);
+        last.enter(&entry)?;
+        enter_stood(&entry, &mut stood)?;
+        push_unless(is_of_none, entry, &mut kept)?;
+    }
+    keep_waiting(&last, &mut names);
+    Ok(Recorded {
+        entries: kept,
+        unfinished: names,
+    })
+}
+
+// Appends the name of an entry, if none of that name is in the table.
+fn push_new<'a>(
+    entry: &EntryRef<'a>,
+    last: &Table,
+    names: &mut Vec<&'a [u8]>,
+) -> Result<(), AllocError>
+    ensures items { OnOk result (map (λ n. n.now) names.new.items
+        ≡ map (λ n. n.now) names.old.items ++ name_of_new (entry_named last.now entry.now.name) entry.now) }
+{
+    if last.get(entry.name()).is_none() {
+        names.push(entry.name())?;
+    }
+    Ok(())
+}
+
+// Keeps the names of which the last entry is an intent.
+fn keep_waiting(last: &Table, names: &mut Vec<&[u8]>)
+    ensures items { names.new.items ≡ filter (λ n. is_some_intent (entry_named last.now n.now)) names.old.items }
+{
+    names.retain(|name| is_some_intent(&last.get(name)));
+}
+
+// Whether an entry is of no command, where these are the last entries of each name, and the last ones that are no intents.
+fn is_of_none(last: &Table, stood: &Table, entry: &EntryRef) -> bool
+    ensures { result ≡ is_of_none last.now stood.now entry.now }
+{
+    is_intent(entry) || is_withdrawn(last, stood, entry)
+}
+
+fn push_unless<'a>(
+    is_of_none: bool,
+    entry: EntryRef<'a>,
+    kept: &mut Vec<EntryRef<'a>>,
+) -> Result<(), AllocError>
+    ensures items { OnOk result (kept.new.items ≡ kept.old.items ++ (if is_of_none then [] else entry.entry ∷ [])) }
+{
+    if !is_of_none {
+        kept.push(entry)?;
+    }
+    Ok(())
+}
+
+fn enter_stood(entry: &EntryRef, stood: &mut Table) -> Result<(), AllocError>
+    ensures ok { OnOk result (stood.new ≡ stood_with entry.now stood.old) }
+{
+    if is_intent(entry) {
+        return Ok(());
+    }
+    stood.enter(entry)
+}
+
+fn is_withdrawn(last: &Table, stood: &Table, entry: &EntryRef) -> bool
+    ensures { result ≡ is_withdrawn last.now stood.now entry.now }
+{
+    is_some_intent(&last.get(entry.name())) && is_some_equal(&stood.get(entry.name()), entry)
+}
+
+fn is_some_intent(entry: &Option<EntryRef>) -> bool
+    ensures { result ≡ is_some_intent entry.now }
+{
+    entry.as_ref().is_some_and(is_intent)
+}
+
+fn is_some_equal(old: &Option<EntryRef>, entry: &EntryRef) -> bool
+    ensures { result ≡ is_some_equal old.now entry.now }
+{
+    match old {
+        Some(it) => {
+            it.start_ms == entry.start_ms
+                && it.end_ms == entry.end_ms
+                && it.mtime == entry.mtime
+                && it.hash == entry.hash
+        }
+        None => false,
+    }
+}
+
+fn any_intent(entries: &[EntryRef]) -> bool
+    ensures { result ≡ any_intent entries.now }
+{
+    for entry in entries {
+        if is_intent(entry) {
+            return true;
+        }
+    }
+    false
+}
+
+pub(crate) fn is_intent(entry: &EntryRef) -> bool
+    ensures { result ≡ is_intent entry.now }
+{
+    entry.start_ms == entry.end_ms && entry.mtime == 0
+}

@@ -1,0 +1,289 @@
+//! What is known of a build so far, and where another begins.
+ghost use Rattle.std.specs.Prelude.{◌≡◌};
+ghost use Rattle.nl_builds.specs.Seen.{begun, better, differs_by, doubts, is_after, is_back, is_behind, is_mixed, is_moment_of, is_tied, mark, mark_behind, mark_by_moment, mark_written, only, past_by, told, with_command};
+
+use crate::command::Command;
+use crate::moment::{AGREEMENT, ONE_MOMENT, SLACK, greatest, is_past, least, reaches};
+use crate::stamps::Stamps;
+
+// END of a build that took 10 ms.
+const LASTED: u32 = (1 << 31) + 10;
+
+/// How commands stand in a list.
+#[derive(Clone, Copy, Drop)]
+pub(crate) enum Order {
+    /// As Ninja wrote their lines.
+    Written,
+    /// By the moments at which their builds began.
+    ByMoment,
+}
+
+/// What stands before a command.
+#[derive(Clone, Copy, Drop)]
+pub(crate) enum Mark {
+    Inside,
+    /// No border, but one may be there.
+    Doubtful,
+    Unsure,
+    Sure,
+}
+
+/// A moment, and an END that counts from it.
+#[derive(Clone, Copy, Drop)]
+pub(crate) struct Past {
+    pub began: u64,
+    pub ended: u32,
+}
+
+/// A build so far.
+#[derive(Clone, Copy, Drop)]
+pub(crate) struct Seen {
+    /// The place behind its last command.
+    pub to: usize,
+    /// Whether the border before it is sure.
+    pub is_sure: bool,
+    /// Whether a border may be in it, or a command tells nothing.
+    pub is_doubtful: bool,
+    pub began: Option<u64>,
+    /// The end of the last build before of which that is known.
+    pub past: Option<Past>,
+    /// It began at the first of these moments or behind, at the second or before, and no command says that it began behind the third.
+    pub earliest: Option<u64>,
+    pub latest: Option<u64>,
+    pub top: Option<u64>,
+    /// The greatest END.
+    pub ended: u32,
+    pub last: Command,
+    /// The moment that the commands tell from the last one on that isn't tied to those before it, and the least that such a piece before tells.
+    pub piece: Option<u64>,
+    pub pieces: Option<u64>,
+    /// The first moment before which it began by a command that waited for none.
+    pub oldest: Option<u64>,
+}
+
+impl Seen {
+    /// A build that a command begins, which stands before a place.
+    pub(crate) fn begun(
+        stamps: Stamps,
+        to: usize,
+        is_sure: bool,
+        past: Option<Past>,
+        command: &Command,
+    ) -> Seen
+        ensures value { result ≡ begun stamps to is_sure past command.now }
+    {
+        Seen {
+            to,
+            is_sure,
+            is_doubtful: !command.tells(),
+            began: told(stamps, past, command),
+            past,
+            earliest: command.earliest(),
+            latest: command.latest(),
+            top: command.latest(),
+            ended: command.ended,
+            last: *command,
+            piece: command.earliest(),
+            pieces: None,
+            oldest: only(!command.has_waited, command.latest()),
+        }
+    }
+
+    /// With a command more, which stands before a place.
+    pub(crate) fn with_command(
+        self,
+        stamps: Stamps,
+        to: usize,
+        is_doubtful: bool,
+        command: &Command,
+    ) -> Seen
+        ensures value { result ≡ with_command self stamps to is_doubtful command.now }
+    {
+        let is_tied = self.is_tied(command);
+        Seen {
+            to,
+            is_sure: self.is_sure,
+            is_doubtful: self.is_doubtful || is_doubtful || !command.tells(),
+            began: better(stamps, self.began, told(stamps, self.past, command)),
+            past: self.past,
+            earliest: greatest(self.earliest, command.earliest()),
+            latest: least(self.latest, command.latest()),
+            top: greatest(self.top, command.latest()),
+            ended: self.ended.max(command.ended),
+            last: *command,
+            piece: greatest(only(is_tied, self.piece), command.earliest()),
+            pieces: least(self.pieces, only(!is_tied, self.piece)),
+            oldest: least(self.oldest, only(!command.has_waited, command.latest())),
+        }
+    }
+
+    /// What stands before a command that follows this build.
+    pub(crate) fn mark(&self, order: Order, stamps: Stamps, command: &Command) -> Mark
+        ensures { result ≡ mark order stamps self.now command.now }
+    {
+        match order {
+            Order::Written => self.mark_written(stamps, command),
+            Order::ByMoment => self.mark_by_moment(stamps, command),
+        }
+    }
+
+    fn mark_written(&self, stamps: Stamps, command: &Command) -> Mark
+        ensures { result ≡ mark_written stamps self.now command.now }
+    {
+        if self.last.falls(command) || self.last.is_same(command) {
+            return Mark::Sure;
+        }
+        if self.last.is_manifest {
+            return Mark::Unsure;
+        }
+        let moment = told(stamps, self.past, command);
+        if self.is_behind(moment) {
+            return self.mark_behind(stamps, command);
+        }
+        // Of one hash, it may be the command before it, which ran again.
+        let hides = stamps.is_start() && differs_by(AGREEMENT, self.began, moment);
+        if self.last.hash == command.hash || hides {
+            Mark::Doubtful
+        } else {
+            Mark::Inside
+        }
+    }
+
+    // What stands before a command by whose moment another build had begun.
+    fn mark_behind(&self, stamps: Stamps, command: &Command) -> Mark
+        ensures { result ≡ mark_behind stamps self.now command.now }
+    {
+        if stamps.is_start() && self.is_behind(command.earliest()) {
+            Mark::Sure
+        } else if self.is_tied(command) {
+            Mark::Doubtful
+        } else {
+            Mark::Unsure
+        }
+    }
+
+    fn mark_by_moment(&self, stamps: Stamps, command: &Command) -> Mark
+        ensures { result ≡ mark_by_moment stamps self.now command.now }
+    {
+        if self.last.is_manifest
+            || command.is_manifest
+            || self.is_behind(told(stamps, None, command))
+        {
+            Mark::Unsure
+        } else {
+            Mark::Inside
+        }
+    }
+
+    // Whether by this moment another build had begun, behind the end of this one.
+    fn is_behind(&self, moment: Option<u64>) -> bool
+        ensures { result ≡ is_behind self.now moment }
+    {
+        match (self.began, moment) {
+            (Some(began), Some(at)) => {
+                is_past(SLACK, began, at) && reaches(began, self.ended, at)
+            }
+            _ => false,
+        }
+    }
+
+    // Whether the command, or one behind it in its row, waited for one of the row before it.
+    fn is_tied(&self, command: &Command) -> bool
+        ensures { result ≡ is_tied self.now command.now }
+    {
+        let ended = u64::from(self.last.ended);
+        command.wait.is_some_and(|began| began <= ended + 1)
+    }
+
+    /// The end of this build by one moment of its beginning, or an earlier one where that isn't known.
+    pub(crate) fn end(&self, began: Option<u64>, past: Option<Past>) -> Option<Past>
+        ensures value { result ≡ past_by began self.now.ended past }
+    {
+        let ended = self.ended;
+        began.map(|began| Past { began, ended }).or(past)
+    }
+
+    /// Whether a border may hide in it, where the order of its lines may be another.
+    pub(crate) fn doubts(&self, stamps: Stamps, early: bool) -> bool
+        ensures { result ≡ doubts stamps early self.now }
+    {
+        self.is_doubtful || stamps.is_end() && self.is_mixed(early)
+    }
+
+    // Whether not all of it tells its moment.
+    fn is_mixed(&self, early: bool) -> bool
+        ensures { result ≡ is_mixed early self.now }
+    {
+        differs_by(ONE_MOMENT, least(self.pieces, self.piece), self.earliest)
+            || early && differs_by(ONE_MOMENT, self.oldest, self.earliest)
+    }
+
+    /// Whether it can't stand behind a build with this earliest end.
+    pub(crate) fn is_back(&self, stamps: Stamps, before: Option<Past>) -> bool
+        ensures { result ≡ is_back stamps before self.now }
+    {
+        match stamps {
+            Stamps::Unknown => false,
+            Stamps::OfEnd => !is_after(before, self.top) || is_moment_of(before, self.earliest),
+            Stamps::OfStart => differs_by(SLACK, self.latest, self.earliest)
+                || !is_after(before, self.latest),
+        }
+    }
+}
+
+fn only(is_so: bool, moment: Option<u64>) -> Option<u64>
+    ensures { result ≡ only is_so moment }
+{
+    if is_so { moment } else { None }
+}
+
+fn differs_by(much: u64, from: Option<u64>, to: Option<u64>) -> bool
+    ensures { result ≡ differs_by much from to }
+{
+    match (from, to) {
+        (Some(x), Some(y)) => is_past(much, x, y),
+        _ => false,
+    }
+}
+
+// Whether a moment isn't of before the end, where both are known.
+fn is_after(end: Option<Past>, moment: Option<u64>) -> bool
+    ensures { result ≡ is_after end moment }
+{
+    match (end, moment) {
+        (Some(past), Some(at)) => reaches(past.began, past.ended, at),
+        _ => true,
+    }
+}
+
+// Whether a moment is that of a build with this end, which took long enough.
+fn is_moment_of(end: Option<Past>, moment: Option<u64>) -> bool
+    ensures { result ≡ is_moment_of end moment }
+{
+    match (end, moment) {
+        (Some(past), Some(at)) => past.ended >= LASTED
+            && !is_past(ONE_MOMENT, past.began, at)
+            && !is_past(ONE_MOMENT, at, past.began),
+        _ => false,
+    }
+}
+
+// The moment of the beginning of a build that a command tells, by which borders go.
+fn told(stamps: Stamps, past: Option<Past>, command: &Command) -> Option<u64>
+    ensures value { result ≡ told stamps past command.now }
+{
+    match stamps {
+        Stamps::OfStart if command.tells() => command.up,
+        Stamps::OfEnd if is_after(past, command.latest()) => command.earliest(),
+        _ => None,
+    }
+}
+
+fn better(stamps: Stamps, a: Option<u64>, b: Option<u64>) -> Option<u64>
+    ensures { result ≡ better stamps a b }
+{
+    match stamps {
+        Stamps::OfStart => least(a, b),
+        Stamps::Unknown | Stamps::OfEnd => greatest(a, b),
+    }
+}

@@ -1,0 +1,67 @@
+//! The builds of commands, one behind another.
+ghost use Rattle.std.specs.Prelude.{◌≡◌, ◌+◌, ◌<◌, ◌^◌, length, IfOk, None};
+ghost use Rattle.nl_builds.specs.Builds.{first_back, past_in, walk};
+
+use crate::command::Command;
+use crate::seen::{Mark, Order, Past, Seen};
+use crate::stamps::Stamps;
+use std::alloc::{AllocError, Global};
+
+/// The builds of these commands, of which the first stands behind a place, with this border before it.
+pub(crate) fn walk(
+    alloc: Global,
+    order: Order,
+    stamps: Stamps,
+    place: usize,
+    is_sure: bool,
+    commands: &[Command],
+) -> Result<Vec<Seen>, AllocError>
+    requires room { place + length commands.now < 2 ^ 64 }
+    ensures value { IfOk result (λ found. found.items ≡ walk order stamps place is_sure commands.now) }
+{
+    let mut found = Vec::new(alloc);
+    let Some((start, later)) = commands.split_first() else {
+        return Ok(found);
+    };
+    let mut to = place + 1;
+    let mut current = Seen::begun(stamps, to, is_sure, None, start);
+    for command in later {
+        to += 1;
+        let mark = current.mark(order, stamps, command);
+        if matches!(mark, Mark::Unsure | Mark::Sure) {
+            found.push(current)?;
+            let past = past_in(order, &current);
+            current = Seen::begun(stamps, to, matches!(mark, Mark::Sure), past, command);
+        } else {
+            current = current.with_command(stamps, to, matches!(mark, Mark::Doubtful), command);
+        }
+    }
+    found.push(current)?;
+    Ok(found)
+}
+
+// The end of a build, which tells of the next one where they stand as Ninja wrote them.
+fn past_in(order: Order, seen: &Seen) -> Option<Past>
+    ensures { result ≡ past_in order seen.now }
+{
+    match order {
+        Order::Written => seen.end(seen.began, seen.past),
+        Order::ByMoment => None,
+    }
+}
+
+/// The place before the first build that contradicts the order.
+pub(crate) fn first_back(stamps: Stamps, builds: &[Seen]) -> Option<usize>
+    ensures { result ≡ first_back stamps None 0 builds.now }
+{
+    let mut before = None;
+    let mut place = 0;
+    for build in builds {
+        if build.is_back(stamps, before) {
+            return Some(place);
+        }
+        before = build.end(build.earliest, None);
+        place = build.to;
+    }
+    None
+}
