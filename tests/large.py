@@ -35,7 +35,7 @@ PIECE = 1 << 20
 # How many kilobytes the words may take that keep no table: libraries, stack and all. The logs have 15 times as many.
 SMALL = 6_000
 # Commands at one time, how many kilobytes these take, and how many bytes of their text are read at least.
-WIDE, SPARE, READ = 200_000, 100_000, 1_000
+WIDE, SPARE, READ = 200_000, 120_000, 1_000
 # What the files of one part take at once.
 ROOM = 600_000_000
 
@@ -161,7 +161,8 @@ def name_of(number):
 
 
 def numbers_of(number):
-    return number, number + 7, 1_700_000_000_000_000_000 + number, 2**64 - 1 - number
+    # Its output is written as the command ends, so that all are of one build.
+    return number, number + 7, 1_700_000_000_000_000_000 + (number + 7) * 1_000_000, 2**64 - 1 - number
 
 
 def is_kept(number):
@@ -428,7 +429,8 @@ def try_long(trials, program, room):
     large.want_held("entries", (line for line in long_lines(random.Random(SEED)) if entry_of(line[:-1], 5)))
     large.want_held("damage", damaged, 3)
     # Each command has a hash of its own, and runs from before 0 as long behind it.
-    large.want_printed("builds", [b"1\t%d\t%d\t%d\t%d\tsure\n" % (1_600, 1_600, 2 * 1_599, 1_599 * 1_600)])
+    # Their MTIMEs tell of moments that are far from each other, so borders may hide.
+    large.want_printed("builds", [b"1\t%d\t%d\t%d\t%d\tunsure\n" % (1_600, 1_600, 2 * 1_599, 1_599 * 1_600)])
     # The last runs 2 x 1,599 ms, and the one before it 2 x 1,598 of these.
     entries = [entry_of(line[:-1], 5) for line in long_lines(random.Random(SEED))]
     ends = [(it[0], it[1][1]) for it in entries if it]
@@ -490,7 +492,7 @@ def try_damaged(trials, program, room):
 def try_builds(trials, program, room):
     """A million builds, each of one command: END falls from each line to the next."""
     large = Large(trials, program, room, f"a log of {ENTRIES:,} builds")
-    make(large.log, chain([HEADER], (line_of(name_of(it), (-it, ENTRIES - it, it, it % 7)) for it in range(ENTRIES))))
+    make(large.log, chain([HEADER], (line_of(name_of(it), (-it, ENTRIES - it, (it + 1) * 1_000_000_000, it % 7)) for it in range(ENTRIES))))
     large.want_sizes(large.log)
     large.want_printed("builds", (b"%d\t1\t1\t%d\t%d\tsure\n" % (it + 1, ENTRIES, ENTRIES) for it in range(ENTRIES)))
     row, last = (ENTRIES, b"%d.00" % ENTRIES, name_of(ENTRIES - 1)), (ENTRIES - 1) % 7

@@ -1,25 +1,19 @@
-"""What `entries`, `damage`, `builds`, `summary`, `compare`, `trace` and `picture` print, and what a graph says, read from docs/CLI.md and docs/FORMAT.md, and which lines are entries from `log_format`."""
+"""What `entries`, `damage`, `builds`, `summary`, `compare`, `trace` and `picture` print, and what a graph says, read from docs/CLI.md and docs/FORMAT.md; which lines are entries is from `log_format`, and where builds border from `builds_model`."""
 import bisect
 import collections
+import itertools
 import json
 import os
 import re
 
-from log_format import HEADER, MAX_LINE, entry_of, line_of
+import builds_model as model
+from log_format import MAX_LINE, entry_of, line_of, lines_of
 
 # A millisecond has so many parts, which each number up to 22 divides.
 PARTS = 232_792_560
-# A millisecond, and by how much the clocks of a file system and of a build may differ, in nanoseconds.
-MILLI, SLACK = 1_000_000, 20_000_000
-
-
-def lines_of(text):
-    """The version of a log, its lines after the first, and its rest."""
-    first, *lines = text.split(b"\n")
-    # Without a newline there is no line, and all of it is the torn header.
-    if not lines:
-        return 5, [], first
-    return int(first[len(HEADER) - 2 :]), lines[:-1], lines[-1]
+# A command of a build. A build is its commands, how many of its outputs later ones may have taken, if it was found again, and whether it is sure.
+Job = collections.namedtuple("Job", "start end hash outputs")
+Build = collections.namedtuple("Build", "jobs taken sure")
 
 
 def named_last(line, version):
@@ -88,120 +82,96 @@ def entries_of(text):
     return b"".join(line_of(*it) for it in entries if it)
 
 
-def is_intent(entry):
-    """An entry that stands for an output while its command runs: docs/FORMAT.md, "Intents"."""
-    start, end, mtime, _ = entry[1]
-    return start == end and mtime == 0
+def told_of(text, version=None):
+    """The builds of a log, and the outputs that wait for a command which didn't end. `version`: that of the log, where it is told as one of version 5."""
+    seen, lines = model.read(text.decode(errors="surrogateescape"))
+    entries, commands, builds = model.builds_of(version if version and seen == 5 else seen, lines)
+    names = (it.name.encode(errors="surrogateescape") for it in entries)
+    jobs = iter([Job(it.start, it.end, it.hash, list(itertools.islice(names, it.outputs))) for it in commands])
+    told = [Build(list(itertools.islice(jobs, it.commands)), it.taken if it.again else None, it.sure) for it in builds]
+    return told, [it.encode(errors="surrogateescape") for it in model.unfinished(lines)]
 
 
-def unfinished_of(text):
-    """How many outputs have an intent for their last entry."""
-    version, lines, _ = lines_of(text)
-    last = dict(filter(None, (entry_of(line, version) for line in lines)))
-    return sum(is_intent(it) for it in last.items())
+def lasting(builds, waiting):
+    """The builds with the last entry of each output alone, and none of the outputs that wait."""
+    gone, found = set(waiting), []
+    for build in reversed(builds):
+        jobs = []
+        for job in reversed(build.jobs):
+            outputs = []
+            for name in reversed(job.outputs):
+                outputs += [] if name in gone else [name]
+                gone.add(name)
+            jobs += [job._replace(outputs=outputs[::-1])] if outputs else []
+        found += [build._replace(jobs=jobs[::-1], taken=build.taken and 0)] if jobs else []
+    return found[::-1]
 
 
-def began_by(version, entry, earliest):
-    """When the build of an entry began, in nanoseconds: by MTIME less START in a log of version 6 or 7, less END in one of version 5. None where
-    MTIME is 0, or of more than 20 ms before the build can have begun."""
-    start, end, mtime, _ = entry[1]
-    if version == 4 or mtime <= 0 or earliest is not None and mtime < earliest - SLACK:
-        return None
-    return mtime - (end if version == 5 else start) * MILLI
+def last_of(builds):
+    """The last build that isn't the manifest's alone, or else the last one, with its number; as a list of one, or of none."""
+    others = [it for it in enumerate(builds, 1) if len(it[1].jobs) > 1 or b"build.ninja" not in it[1].jobs[0].outputs]
+    return (others or list(enumerate(builds, 1)))[-1:]
 
 
-def entries_by_build(text, version=None):
-    """The entries of each build that a log still tells, each with its name and four numbers."""
-    return [entries for entries, _ in builds_in(text, version)]
+def asked_of(text, number=None, of_all=False, version=None):
+    """The builds that `summary` tells of: the last one, that of a number, or all with the last entry of each output; and None where there are fewer."""
+    builds, waiting = told_of(text, version)
+    if of_all:
+        return lasting(builds, waiting)
+    if number is None:
+        return [it for _, it in last_of(builds)]
+    return builds[number - 1 : number] or None
 
 
-def builds_in(text, as_of=None):
-    """The builds of a log (docs/NINJA_TIMES.md, "Where builds border"): the entries of each, and whether the border before it is sure. `as_of`: the
-    version of the log, where it is told as one of version 5."""
-    version, lines, _ = lines_of(text)
-    found, sure, base, earliest = [], [], None, None
-    entries = [it for it in (entry_of(line, version) for line in lines) if it]
-    version = as_of if as_of and version == 5 else version
-    for entry in entries:
-        if is_intent(entry):
-            continue
-        (start, end, _, command), began = entry[1], began_by(version, entry, earliest)
-        last_start, last_end, _, last_command = found[-1][-1][1] if found else (None,) * 4
-        rises = found and None not in (base, began) and began - base > max(SLACK, last_end * MILLI - SLACK)
-        if not found or end < last_end or rises and (start, end, command) != (last_start, last_end, last_command):
-            before = base
-            if base is not None:
-                earliest = base + last_end * MILLI
-            # It is sure by MTIME in a log of version 6 or 7 alone, if MTIME less END is behind too.
-            ended = entry[1][2] - end * MILLI if version > 5 and entry[1][2] > 0 else None
-            is_behind = None not in (before, ended) and ended - before > max(SLACK, last_end * MILLI - SLACK)
-            sure.append(not found or end < last_end or is_behind)
-            found.append([])
-            base = began_by(version, entry, earliest)
-        elif base is None:
-            base = began
-        elif began is not None:
-            base = (max if version == 5 else min)(base, began)
-        found[-1].append(entry)
-    return list(zip(found, sure))
+def is_found_again(builds):
+    return any(it.taken is not None for it in builds)
 
 
-def commands_of(entries):
-    """When each command of some entries ran, and its hash: one command has a line for each of its outputs, side by side."""
-    ran = [(start, end, command) for _, (start, end, _, command) in entries]
-    return [it for at, it in enumerate(ran) if at == 0 or ran[at - 1] != it]
+def said_of(text, place, word="builds", number=None, of_all=False, version=None):
+    """What a word says on standard error of a log that stands there."""
+    told = told_of(text, version)[0] if word == "builds" else asked_of(text, number, of_all, version) or []
+    return b"nlog: %s: it was written anew, so builds were found again by their time stamps\n" % place if is_found_again(told) else b""
 
 
-def wall_of(commands):
+def wall_of(jobs):
     """The milliseconds from the first START to the last END."""
-    return max(0, max(end for _, end, _ in commands) - min(start for start, _, _ in commands))
+    return max(0, max(it.end for it in jobs) - min(it.start for it in jobs))
 
 
-def total_of(commands):
-    return sum(max(0, end - start) for start, end, _ in commands)
+def time_of(job):
+    return max(0, job.end - job.start)
 
 
-def is_anew(text, version=None):
-    """Whether a log was written anew: a build began more than 20 ms before the one that it follows, each by the latest of its entries."""
-    seen = lines_of(text)[0]
-    version = version if version and seen == 5 else seen
-    began = [[began_by(version, entry, None) for entry in entries] for entries in entries_by_build(text, version)]
-    latest = [max((it for it in those if it is not None), default=None) for those in began]
-    return any(None not in both and both[1] < both[0] - SLACK for both in zip(latest, latest[1:]))
-
-
-def said_of(text, place, version=None):
-    """What `builds` and `summary` say on standard error of a log that stands there."""
-    return b"nlog: %s: it was written anew, so its lines don't tell its builds\n" % place if is_anew(text, version) else b""
+def counts_of(builds):
+    """Commands, outputs, wall and total of builds, one after another."""
+    jobs = [job for it in builds for job in it.jobs]
+    return len(jobs), sum(len(it.outputs) for it in jobs), sum(wall_of(it.jobs) for it in builds), sum(map(time_of, jobs))
 
 
 def builds_of(text, version=None):
     """What `builds` prints of a log."""
-    told, builds = [], builds_in(text, version)
-    for number, (entries, is_sure) in enumerate(builds, 1):
-        commands = commands_of(entries)
-        word = b"sure" if is_sure and all(behind for _, behind in builds[number : number + 1]) else b"unsure"
-        told.append(b"%d\t%d\t%d\t%d\t%d\t%s\n" % (number, len(commands), len(entries), wall_of(commands), total_of(commands), word))
-    return b"".join(told)
+    told = b""
+    for number, build in enumerate(told_of(text, version)[0], 1):
+        word = (b"sure" if build.sure else b"unsure") if build.taken is None else b"again\t%d" % build.taken
+        told += b"%d\t%d\t%d\t%d\t%d\t%s\n" % (number, *counts_of([build]), word)
+    return told
 
 
-def time_where(commands, holds):
+def time_where(jobs, holds):
     """The milliseconds in which so many commands run as the test wants."""
-    moments = sorted({it for start, end, _ in commands for it in (start, end)})
+    moments = sorted({it for job in jobs for it in job[:2]})
     pairs = zip(moments, moments[1:])
-    return sum(to - at for at, to in pairs if holds(sum(start <= at < end for start, end, _ in commands)))
+    return sum(to - at for at, to in pairs if holds(sum(it.start <= at < it.end for it in jobs)))
 
 
-def told_commands(entries):
-    """Each command of some entries: its milliseconds, its weighted ones in parts of one, and its first output."""
-    firsts = [it for at, it in enumerate(entries) if at == 0 or len(commands_of(entries[at - 1 : at + 1])) == 2]
-    commands = [(start, end) for _, (start, end, _, _) in firsts]
-    moments = sorted({it for command in commands for it in command})
-    running = [(at, to, sum(start <= at < end for start, end in commands)) for at, to in zip(moments, moments[1:])]
+def told_commands(jobs):
+    """Each of these commands: its milliseconds, its weighted ones in parts of one, and its first output."""
+    moments = sorted({it for job in jobs for it in job[:2]})
+    running = [(at, to, sum(it.start <= at < it.end for it in jobs)) for at, to in zip(moments, moments[1:])]
     told = []
-    for name, (start, end, _, _) in firsts:
-        weight = sum((to - at) * (PARTS // count) for at, to, count in running if start <= at < end)
-        told.append((max(0, end - start), weight, name))
+    for job in jobs:
+        weight = sum((to - at) * (PARTS // count) for at, to, count in running if job.start <= at < job.end)
+        told.append((time_of(job), weight, job.outputs[0]))
     return told
 
 
@@ -255,24 +225,20 @@ def lanes_of(commands):
 
 def events_of(text, version=None):
     """The events that `trace` tells of a log, as JSON values."""
-    builds = entries_by_build(text, version)
-    if not builds:
-        return []
-    commands = []
-    for name, (start, end, _, command) in builds[-1]:
-        if not commands or commands[-1][:3] != (start, end, command):
-            commands.append((start, end, command, []))
-        commands[-1][3].append(name.decode(errors="replace"))
-    commands.sort(key=lambda it: it[0])
-    began, number = commands[0][0], len(builds)
-    events = [{"name": "process_name", "ph": "M", "pid": number, "args": {"name": f"build {number}", "rewritten": is_anew(text, version)}}]
-    for (start, end, command, names), lane in zip(commands, lanes_of([it[:2] for it in commands])):
-        known = {"hash": f"{command:x}", "outputs": names}
-        bar = {"ts": (start - began) * 1000, "dur": max(0, end - start) * 1000, "name": names[0], "args": known}
-        events.append({"ph": "X", "pid": number, "tid": lane + 1, **bar})
-        for at in (start, max(start, end)):
-            count = sum(first <= at < last for first, last, _, _ in commands)
-            events.append({"ph": "C", "pid": number, "name": "running", "ts": (at - began) * 1000, "args": {"commands": count}})
+    events = []
+    for number, build in last_of(told_of(text, version)[0]):
+        jobs = sorted(build.jobs, key=lambda it: it.start)
+        known = {"name": f"build {number}", "rewritten": False}
+        if build.taken is not None:
+            known = {"name": f"build {number}, found again", "rewritten": True, "taken": build.taken}
+        events.append({"name": "process_name", "ph": "M", "pid": number, "args": known})
+        for job, lane in zip(jobs, lanes_of([it[:2] for it in jobs])):
+            names = [it.decode(errors="replace") for it in job.outputs]
+            bar = {"ts": (job.start - jobs[0].start) * 1000, "dur": time_of(job) * 1000, "name": names[0], "args": {"hash": f"{job.hash:x}", "outputs": names}}
+            events.append({"ph": "X", "pid": number, "tid": lane + 1, **bar})
+            for at in (job.start, max(job.start, job.end)):
+                count = sum(it.start <= at < it.end for it in jobs)
+                events.append({"ph": "C", "pid": number, "name": "running", "ts": (at - jobs[0].start) * 1000, "args": {"commands": count}})
     return events
 
 
@@ -293,26 +259,16 @@ def name_in_xml(name):
     return shown(name) if len(shown(name)) <= 200 else shown(name[:40]) + b".."
 
 
-def jobs_of(entries):
-    """Each command of some entries in the order of START: its START, its END, its hash, and its outputs."""
-    commands = []
-    for name, (start, end, _, command) in entries:
-        if not commands or commands[-1][:3] != (start, end, command):
-            commands.append((start, end, command, []))
-        commands[-1][3].append(name)
-    return sorted(commands, key=lambda it: it[0])
-
-
 def picture_of(text, version=None):
     """What `picture` prints of a log."""
-    builds = entries_by_build(text, version)
-    commands = jobs_of(builds[-1] if builds else [])
-    return drawn(commands, lanes_of([it[:2] for it in commands]))
+    build = next((it for _, it in last_of(told_of(text, version)[0])), Build([], None, True))
+    jobs = sorted(build.jobs, key=lambda it: it.start)
+    return drawn(jobs, lanes_of([it[:2] for it in jobs]), build.taken)
 
 
-def drawn(commands, lanes):
+def drawn(commands, lanes, taken=None):
     """The picture of commands in their lanes, in tenths of a pixel: all of the build is 14,400 wide, from 600 on. A command is its START, its END,
-    anything, and its outputs."""
+    anything, and its outputs. `taken`: how many of its outputs later builds may have taken, if it was found again."""
     times, out, short = {}, [], collections.Counter()
     began, top = commands[0][0] if commands else 0, max(lanes, default=0)
     wall = max([max(it[:2]) for it in commands], default=0) - began
@@ -328,6 +284,8 @@ def drawn(commands, lanes):
         '<rect width="100%%" height="100%%" fill="#fff"/>\n<text x="600" y="260" font-size="180">%d commands in %d.%03d s</text>\n'
         % (height // 10, height, len(commands), wall // 1000, wall % 1000)
     )
+    if taken is not None:
+        out.append('<text x="15000" y="260" text-anchor="end">found again: later builds may have taken %d of its outputs</text>\n' % taken)
     for at in range(11):
         line = '<path stroke="#ddd" stroke-width="10" d="M%d 520V%d"/><text x="%d" y="480" text-anchor="middle">%d.%03d s</text>\n'
         out.append(line % (600 + at * 1440, foot, 600 + at * 1440, *divmod(at * wall // 10, 1000)))
@@ -361,35 +319,22 @@ def drawn(commands, lanes):
     return b"".join(it if isinstance(it, bytes) else it.encode() for it in [*out, "</svg>\n"])
 
 
-def asked_builds(text, of_all, version):
-    """The entries of each build, or the last one of each output as of one build."""
-    if not of_all:
-        return entries_by_build(text, version)
-    # By END, then START, then the hash.
-    ended = [it for it in last_entries(text).items() if not is_intent(it)]
-    return [sorted(ended, key=lambda it: (it[1][1], it[1][0], it[1][3]))] if ended else []
-
-
 def summary_of(text, most=10, number=None, of_all=False, rule="extension", version=None):
-    """What `summary` prints of a log: of its last build, of that of a number, or of the last entry of each output as of one build."""
-    found, count = asked_builds(text, of_all, version), unfinished_of(text)
-    unfinished = b"unfinished\t%d\n" % count if count else b""
-    if number is not None:
-        if number > len(found):
-            return b"builds\t%d\n" % len(found) + unfinished
-        found = found[number - 1 : number]
-    if not found:
-        return unfinished
-    commands = commands_of(found[-1])
-    wall, total = wall_of(commands), total_of(commands)
-    busy, alone = time_where(commands, lambda count: count > 0), time_where(commands, lambda count: count == 1)
+    """What `summary` prints of a log: of its last build, of that of a number, or of all with the last entry of each output alone."""
+    (builds, waiting), asked = told_of(text, version), asked_of(text, number, of_all, version)
+    unfinished = b"unfinished\t%d\n" % len(waiting) if waiting else b""
+    if not asked:
+        return (b"builds\t%d\n" % len(builds) if asked is None else b"") + unfinished
+    commands, outputs, wall, total = counts_of(asked)
+    busy, alone = (sum(time_where(it.jobs, holds) for it in asked) for holds in (lambda count: count > 0, lambda count: count == 1))
     parallel = b"%d.%02d" % divmod(total * 100 // wall, 100) if wall else b"0.00"
-    told = told_commands(found[-1])
-    counts = (len(commands), len(found[-1]), wall, total, busy, alone, parallel, *slowest_of(told))
+    told = [row for it in asked for row in told_commands(it.jobs)]
+    counts = (commands, outputs, wall, total, busy, alone, parallel, *slowest_of(told))
     eight = b"commands\t%d\noutputs\t%d\nwall\t%d\ntotal\t%d\nbusy\t%d\nalone\t%d\nparallel\t%s\nslowest\t%d\t%s\n" % counts
+    again = b"again\t%d\n" % max(it.taken or 0 for it in asked) if is_found_again(asked) else b""
     slowest = ranked_of(b"by-time", 0, told, most) + ranked_of(b"by-weight", 1, told, most)
     kinds = kinds_of(rule, told)
-    return eight + unfinished + slowest + ranked_kinds(b"kinds-by-time", 1, kinds, most) + ranked_kinds(b"kinds-by-weight", 2, kinds, most)
+    return eight + again + unfinished + slowest + ranked_kinds(b"kinds-by-time", 1, kinds, most) + ranked_kinds(b"kinds-by-weight", 2, kinds, most)
 
 
 def graph_line(line):
@@ -453,13 +398,16 @@ def bad_graph_lines(text):
 
 
 def paths_of(graph, text, number=None, of_all=False, version=None):
-    """What `summary` may print of the critical path of a build by the text of a graph without a cycle: that of each path than which none is longer."""
-    builds = asked_builds(text, of_all, version)
-    builds = builds if number is None else builds[:number] if number <= len(builds) else []
-    if not builds:
+    """What `summary` may print behind the summary by the text of a graph without a cycle: that of each path than which none is longer, and what the
+    graph lacks. None of it where the graph lacks all commands: then it is refused."""
+    jobs = sorted((job for it in asked_of(text, number, of_all, version) or [] for job in it.jobs), key=lambda it: it.start)
+    if not jobs:
         return {b""}
-    ran = {name: (start, end) for start, end, _, names in jobs_of(builds[-1]) for name in names}
+    ran = {name: (job.start, job.end) for job in jobs for name in job.outputs}
     names, edges = graph_of(graph)
+    lacking = [it for it in jobs if not {*it.outputs} & {*names.values()}]
+    if len(lacking) == len(jobs):
+        return set()
     ways = collections.defaultdict(set)
     for start, end, _ in edges:
         ways[start].add(end)
@@ -476,49 +424,45 @@ def paths_of(graph, text, number=None, of_all=False, version=None):
             found[own] = time + most, {line + it for length, told in later if length == most for it in told}
         return found[own]
 
-    all_found = [longest(it) for it in [*names, *(it for edge in edges for it in edge[:2])]] or [(0, {()})]
+    all_found = [longest(it) for it in [*names, *(it for edge in edges for it in edge[:2])]]
     most = max(length for length, _ in all_found)
-    return {b"critical-path\t%d\n" % most + b"".join(it) for length, told in all_found if length == most for it in told}
+    behind = b"not-in-graph\t%d\t%d\n" % (len(lacking), sum(map(time_of, lacking))) if lacking else b""
+    return {b"critical-path\t%d\n" % most + b"".join(it) + behind for length, told in all_found if length == most for it in told}
 
 
 CLASSES = (b"new", b"gone", b"changed", b"slower", b"faster", b"unfinished", b"same")
 
 
-def last_entries(text):
-    """The last entry of each output, in the order of first appearance."""
-    version, lines, _ = lines_of(text)
-    entries = (entry_of(line, version) for line in lines if len(line) <= MAX_LINE)
-    return dict(it for it in entries if it)
-
-
-def class_of(before, after, hashes):
-    """The class of an output by its entries in two logs, START, END, MTIME and the hash, of which one may be missing."""
-    if before is None or after is None:
-        return b"new" if before is None else b"gone"
-    if any(start == end and mtime == 0 for start, end, mtime, _ in (before, after)):
-        return b"unfinished"
-    if hashes and before[3] != after[3]:
+def class_of(old, new, hashes, least):
+    """The class of a command that ran in both logs: a difference of less milliseconds than `least` is none."""
+    if hashes and old.hash != new.hash:
         return b"changed"
-    change = millis(after) - millis(before)
-    return b"slower" if change > 0 else b"faster" if change < 0 else b"same"
+    change = time_of(new) - time_of(old)
+    if abs(change) < least or change == 0:
+        return b"same"
+    return b"slower" if change > 0 else b"faster"
 
 
-def millis(entry):
-    return max(0, entry[1] - entry[0]) if entry else 0
-
-
-def compare_of(old, new, hashes=True, most=10):
-    """What `compare` prints of two logs, as version 5, whose hashes are of one kind or aren't."""
-    before, after = last_entries(old), last_entries(new)
-    rows = []
-    for name in [*before, *(it for it in after if it not in before)]:
-        times = millis(before.get(name)), millis(after.get(name))
-        rows.append((class_of(before.get(name), after.get(name), hashes), times[1] - times[0], *times, name))
+def compare_of(old, new, versions=(None, None), most=10, least=0):
+    """What `compare` prints of two logs, of these versions where they are told as version 5."""
+    (before, waited), (after, waits) = (told_of(*it) for it in zip((old, new), versions))
+    before, after = ([job for it in lasting(*told) for job in it.jobs] for told in ((before, waited), (after, waits)))
+    hashes = len({(version or lines_of(text)[0]) == 7 for text, version in zip((old, new), versions)}) == 1
+    places, left, rows = {name: at for at, job in enumerate(after) for name in job.outputs}, set(range(len(after))), []
+    for job in before:
+        # Of the outputs the first one whose command has met none.
+        at = next((places[it] for it in job.outputs if places.get(it) in left), None)
+        left.discard(at)
+        kind = class_of(job, after[at], hashes, least) if at is not None else b"unfinished" if {*waits} & {*job.outputs} else b"gone"
+        rows.append((kind, time_of(job), time_of(after[at]) if at is not None else 0, job.outputs[0]))
+    for at in sorted(left):
+        rows.append((b"unfinished" if {*waited} & {*after[at].outputs} else b"new", 0, time_of(after[at]), after[at].outputs[0]))
     told = [b"hashes\tcompared\n" if hashes else b"hashes\tnot-compared\n"]
     for kind in CLASSES:
         own = [it for it in rows if it[0] == kind]
-        told.append(b"total\t%s\t%d\t%d\t%d\t%d\n" % (kind, len(own), *(sum(it[at] for it in own) for at in (1, 2, 3))))
+        times = [sum(it[at] for it in own) for at in (1, 2)]
+        told.append(b"total\t%s\t%d\t%d\t%d\t%d\n" % (kind, len(own), times[1] - times[0], *times))
     for kind in CLASSES[:-1]:
-        own = sorted((it for it in rows if it[0] == kind), key=lambda it: -abs(it[1]))
-        told += [b"%s\t%d\t%d\t%d\t%s\n" % it for it in own[:most]]
+        own = sorted((it for it in rows if it[0] == kind), key=lambda it: -abs(it[2] - it[1]))
+        told += [b"%s\t%d\t%d\t%d\t%s\n" % (kind, it[2] - it[1], *it[1:]) for it in own[:most]]
     return b"".join(told)

@@ -24,7 +24,7 @@ import xml.etree.ElementTree as ElementTree
 
 from examples import read_page
 from log_format import HEADER, Log, as_version, line_of
-from log_lines import builds_of, compare_of, entries_of, picture_of, said_of, summary_of, trace_of
+from log_lines import builds_of, compare_of, entries_of, picture_of, summary_of, trace_of
 from trials import main, read, run, write
 
 AWKS = {"mawk": ["mawk"], "gawk": ["gawk"], "busybox": ["busybox", "awk"], "original-awk": ["original-awk"]}
@@ -65,29 +65,46 @@ LOGS = {
     "version 4": b"# ninja log v4\n1\t2\t3\ta\tcc\tx\n0\t1\t1700000000000000000\tb\t\n",
     # In the last line END rises, and MTIME is of 100 seconds later.
     "a later build": HEADER + line_of(b"c", (0, 90, NANO - 1_000_000_000, 3)) + line_of(b"a", (0, 40, NANO, 1)) + line_of(b"b", (5, 45, NANO, 2)) + line_of(b"a", (5, 50, NANO + 100_000_000_000, 1)),
-    # By the order of its lines the second build began 100 seconds before the first.
+    # By the order of its lines the second build began 100 seconds before the first. They are found again by their moments, the other way round.
     "written anew": HEADER + line_of(b"a", (5, 55, NANO + 100_000_000_000, 1)) + line_of(b"b", (10, 50, NANO, 2)),
+    # The same, and a build behind it, by which END falls and `a` comes again.
+    "written anew and added to": HEADER
+    + line_of(b"a", (5, 55, NANO + 100_000_000_000, 1)) + line_of(b"b", (10, 50, NANO, 2)) + line_of(b"a", (0, 20, NANO + 200_000_000_000, 3)),
+    # Two builds of two commands, 500 seconds apart, whose lines take turns.
+    "taking turns": HEADER + b"0\t100\t1000000000000\ta\t1\n0\t50\t1500000000000\tb\t2\n60\t90\t1000060000000\tc\t3\n40\t80\t1500040000000\td\t4\n",
+    "the manifest last": HEADER + line_of(b"a", (0, 40, NANO, 1)) + line_of(b"build.ninja", (0, 30, NANO + 100_000_000_000, 9)),
     "many builds": HEADER + b"".join(line_of(b"o%d" % (it % 7), (it % 10, it % 10 + 5, NANO + it, it)) for it in range(995)),
 }
-# What `builds` has to print of each, by hand.
+ODD_NAMES = b"1\t2\t2\t9001\t9001\t%b\n2\t%d\t%d\t%d\t%d\t%b\n"
+# What `builds` has to print of each, by hand, and of which logs another in version 6 and 7: there MTIME less START tells.
 BUILT = {
     "no bytes": b"",
     "a header": b"",
     # A command of no time at its end, four of 10, 20 and 30 ms that begin at 0, and the others of 35 ms each.
-    "odd names": b"1\t2\t2\t9001\t9001\tsure\n2\t%d\t%d\t%d\t%d\tsure\n" % (len(NAMES), len(NAMES), 10 * len(NAMES) - 10, 60 + 35 * (len(NAMES) - 4)),
-    "several outputs": b"1\t1\t1\t9\t9\tsure\n2\t6\t6\t9\t21\tsure\n",
+    # In version 5 the commands of the second tell of moments that are far from each other, so borders may hide.
+    "odd names": ODD_NAMES % (b"unsure", len(NAMES), len(NAMES), 10 * len(NAMES) - 10, 60 + 35 * (len(NAMES) - 4), b"unsure"),
+    # MTIME 0 of its last command tells nothing, so a border may hide beside it.
+    "several outputs": b"1\t1\t1\t9\t9\tunsure\n2\t6\t6\t9\t21\tunsure\n",
     # By MTIME another build begins at its fourth.
-    "odd numbers": b"1\t3\t3\t2147483643\t2147483643\tsure\n2\t3\t3\t2147483647\t6442450938\tsure\n",
-    "version 4": b"1\t1\t1\t1\t1\tsure\n2\t1\t1\t1\t1\tsure\n",
-    "a later build": b"1\t1\t1\t90\t90\tsure\n2\t2\t2\t45\t80\tsure\n3\t1\t1\t45\t45\tsure\n",
-    "written anew": b"1\t1\t1\t50\t50\tsure\n2\t1\t1\t40\t40\tsure\n",
+    "odd numbers": b"1\t3\t3\t2147483643\t2147483643\tunsure\n2\t3\t3\t2147483647\t6442450938\tunsure\n",
+    "version 4": b"1\t1\t1\t1\t1\tunsure\n2\t1\t1\t1\t1\tunsure\n",
+    # END doesn't fall before its last build.
+    "a later build": b"1\t1\t1\t90\t90\tsure\n2\t2\t2\t45\t80\tunsure\n3\t1\t1\t45\t45\tunsure\n",
+    "written anew": b"1\t1\t1\t40\t40\tagain\t1\n2\t1\t1\t50\t50\tagain\t0\n",
+    "written anew and added to": b"1\t1\t1\t40\t40\tagain\t1\n2\t1\t1\t50\t50\tagain\t0\n3\t1\t1\t20\t20\tsure\n",
+    "taking turns": b"1\t2\t2\t100\t130\tagain\t2\n2\t2\t2\t80\t90\tagain\t0\n",
+    "the manifest last": b"1\t1\t1\t40\t40\tsure\n2\t1\t1\t30\t30\tsure\n",
     "many builds": b"".join(b"%d\t10\t10\t14\t50\tsure\n" % it for it in range(1, 100)) + b"100\t5\t5\t9\t25\tsure\n",
 }
-# Of which of these builds a border isn't sure in a log of version 5, by their numbers: END doesn't fall there.
-UNSURE = {"odd numbers": (1, 2), "a later build": (2, 3)}
-# Which of them can't have been written by builds.
-ANEW = {"written anew"}
-# What `summary` has to print of each, by hand: commands, outputs, wall, total, busy, alone, parallel, slowest. Of `odd names` the script works it out.
+BUILT_LATE = {
+    "odd names": ODD_NAMES % (b"sure", len(NAMES), len(NAMES), 10 * len(NAMES) - 10, 60 + 35 * (len(NAMES) - 4), b"sure"),
+    # Its last line began before its fourth can have, so it was written anew. Those that tell nothing come first, by END: `least`, `x` and `none`. Behind
+    # them come `early`, `back`, which began within the 2147483647 ms of these, and `last`.
+    "odd numbers": b"1\t5\t5\t4294967295\t6442450934\tagain\t1\n2\t1\t1\t2147483647\t2147483647\tagain\t0\n",
+    "a later build": b"1\t1\t1\t90\t90\tsure\n2\t2\t2\t45\t80\tsure\n3\t1\t1\t45\t45\tsure\n",
+}
+# What `summary` has to print of each, by hand: commands, outputs, wall, total, busy, alone, parallel, slowest, and how many outputs later builds may
+# have taken. Of `odd names` the script works it out.
 SUMMED = {
     "no bytes": None,
     "a header": None,
@@ -97,10 +114,34 @@ SUMMED = {
     "odd numbers": (3, 3, 2147483647, 6442450938, 2147483647, 1, b"2.99", 2147483647, b"last"),
     "version 4": (1, 1, 1, 1, 1, 1, b"1.00", 1, b"b"),
     "a later build": (1, 1, 45, 45, 45, 45, b"1.00", 45, b"a"),
-    "written anew": (1, 1, 40, 40, 40, 40, b"1.00", 40, b"b"),
+    "written anew": (1, 1, 50, 50, 50, 50, b"1.00", 50, b"a", 0),
+    "written anew and added to": (1, 1, 20, 20, 20, 20, b"1.00", 20, b"a"),
+    # 0 to 40 one runs, to 50 two, and to 80 one.
+    "taking turns": (2, 2, 80, 90, 80, 70, b"1.12", 50, b"b", 0),
+    "the manifest last": (1, 1, 40, 40, 40, 40, b"1.00", 40, b"a"),
     # Five, from 0 to 9, each a millisecond behind the other and 5 ms long: 0 to 1 and 8 to 9 one runs.
     "many builds": (5, 5, 9, 25, 9, 2, b"2.77", 5, b"o3"),
 }
+SUMMED_LATE = {"odd numbers": (1, 1, 2147483647, 2147483647, 2147483647, 2147483647, b"1.00", 2147483647, b"last", 0)}
+# What `summary --all` has to print of each, by hand: the sums over its builds, with the last entry of each output alone.
+SUMMED_ALL = {
+    "no bytes": None,
+    "a header": None,
+    "several outputs": (7, 7, 18, 30, 18, 13, b"1.66", 9, b"gone"),
+    "odd numbers": (6, 6, 4294967290, 8589934581, 4294967290, 2147483644, b"2.00", 2147483647, b"last"),
+    "version 4": (2, 2, 2, 2, 2, 2, b"1.00", 1, b"a"),
+    # `c`, `b` and the second `a`, each in a build of its own.
+    "a later build": (3, 3, 175, 175, 175, 175, b"1.00", 90, b"c"),
+    "written anew": (2, 2, 90, 90, 90, 90, b"1.00", 50, b"a", 0),
+    # Its second build has no output left.
+    "written anew and added to": (2, 2, 60, 60, 60, 60, b"1.00", 40, b"b", 0),
+    "taking turns": (4, 4, 180, 220, 180, 140, b"1.22", 100, b"a", 0),
+    "the manifest last": (2, 2, 70, 70, 70, 70, b"1.00", 40, b"a"),
+    # Two of its last build but one, from 8 to 14, and the five of its last.
+    "many builds": (7, 7, 15, 35, 15, 4, b"2.33", 5, b"o1"),
+}
+# In version 6 and 7 one command alone of the first build runs up to -5, and from 1 to 2; `early` and `none` then run up to the end.
+SUMMED_ALL_LATE = {"odd numbers": (6, 6, 6442450942, 8589934581, 6442450936, 4294967291, b"1.33", 2147483647, b"last", 0)}
 # How many bars `picture` has to draw of each, by hand, and how many for commands that are too short: those of no time, or of less than half a
 # pixel of 1,440.
 DRAWN = {
@@ -112,15 +153,19 @@ DRAWN = {
     "version 4": (1, []),
     "a later build": (1, []),
     "written anew": (1, []),
+    "written anew and added to": (1, []),
+    "taking turns": (2, []),
+    "the manifest last": (1, []),
     "many builds": (5, []),
 }
+DRAWN_LATE = {"odd numbers": (1, [])}
 BROWSERS = ("chromium", "chromium-browser", "google-chrome")
 SVG = "{http://www.w3.org/2000/svg}"
 KEYS = b"commands\t%d\noutputs\t%d\nwall\t%d\ntotal\t%d\nbusy\t%d\nalone\t%d\nparallel\t%s\nslowest\t%d\t%s\n"
 # Two logs, by the lines that differ: hashes that an awk may take for one number, names that are numbers.
 OLD = HEADER + b"0\t5\t1\ta\t1e5\n0\t5\t1\tb\t100\n0\t5\t1\tc\tab\n0\t5\t1\t1e5\t7\n0\t5\t1\tgone\t0\n"
 NEW = HEADER + b"0\t7\t1\ta\t100000\n0\t7\t1\tb\t100\n-4\t7\t9\tc\tac\n0\t7\t1\t100000\t7\n0\t0\t1\tnew\t0\n"
-COMPARED = (
+SCRIPT_COMPARED = (
     b"changed\t5\t7\ta\nsame\t5\t7\tb\nchanged\t5\t11\tc\nnew\t-\t7\t100000\nnew\t-\t0\tnew\ngone\t5\t-\t1e5\ngone\t5\t-\tgone\n"
 )
 
@@ -220,7 +265,7 @@ class Reports:
         write(f"{self.room}/LOG", OLD)
         write(f"{self.room}/OTHER", NEW)
         write(f"{self.room}/NONE", b"hello\n")
-        self.want("two logs compared", self.script("compare.sh", "LOG", "OTHER"), (0, COMPARED, b""))
+        self.want("two logs compared", self.script("compare.sh", "LOG", "OTHER"), (0, SCRIPT_COMPARED, b""))
         rows = [("last.sh", "{}"), ("dates.sh", "{}"), ("compare.sh", "{}", "OTHER"), ("compare.sh", "LOG", "{}")]
         for words in rows:
             name = " ".join(words)
@@ -247,54 +292,88 @@ class Reports:
         self.want(f"{name} of files that are limited: stopped, but not always", 0 < stopped < 29, True)
 
 
-def built_of(kind, version):
-    """What `builds` has to print of a log of this version, by hand."""
-    lines = BUILT[kind].splitlines(keepends=True)
-    for number in UNSURE.get(kind, ()) if version == 5 else ():
-        lines[number - 1] = lines[number - 1].replace(b"sure", b"unsure")
-    return b"".join(lines)
+def by_hand(rows, late, kind, version):
+    """What has to be printed of a log of this version."""
+    return late.get(kind, rows[kind]) if version > 5 else rows[kind]
+
+
+def counted(row):
+    """The first lines of a summary of these numbers."""
+    return KEYS % row[:9] + b"".join(b"again\t%d\n" % it for it in row[9:]) if row else b""
 
 
 def try_builds(trials, program, room):
     """What `builds` and `summary` print, by hand, of each version, and what `trace` and `picture` do of each and `compare` of each two logs."""
     trials.want("the logs of which builds are told", set(BUILT), set(LOGS))
-    for kind, text in LOGS.items():
-        for version in (5, 6, 7):
-            write(f"{room}/LOG", as_version(text, version))
-            said = b"nlog: LOG %s/LOG: it was written anew, so its lines don't tell its builds\n" % room.encode() if kind in ANEW else b""
-            trials.want(f"{kind}, version {version}: what is said by docs/NINJA_TIMES.md", said_of(text, b"LOG %s/LOG" % room.encode(), version), said)
-            trials.want(f"{kind}, version {version}: builds by docs/FORMAT.md", builds_of(as_version(text, version)), built_of(kind, version))
-            trials.want(f"{kind}, version {version}: builds", run([program, "builds", f"{room}/LOG"]), (0, built_of(kind, version), said))
-            wanted = (0, summary_of(text, version=version), said)
-            trials.want(f"{kind}, version {version}: summary", run([program, "summary", f"{room}/LOG"]), wanted)
-            for number in range(1, 5):
-                got = run([program, "summary", "-n", "2", "--build", str(number), f"{room}/LOG"])
-                trials.want(f"{kind}, version {version}: summary of build {number}", got, (0, summary_of(text, 2, number, version=version), said))
-            got = run([program, "summary", "-n", "3", "--all", f"{room}/LOG"])
-            trials.want(f"{kind}, version {version}: summary of all outputs", got, (0, summary_of(text, 3, of_all=True), b""))
-            for rule in ("extension", "folder", "top"):
-                got = run([program, "summary", f"--kind={rule}", f"{room}/LOG"])
-                trials.want(f"{kind}, version {version}: its kinds by {rule}", got, (0, summary_of(text, rule=rule, version=version), said))
-            status, out, err = run([program, "trace", f"{room}/LOG"])
-            trials.want(f"{kind}, version {version}: trace", (status, out, err), (0, trace_of(text, version), b""))
-            told = json.loads(out.decode())
-            trials.want(f"{kind}, version {version}: whether it is said to be rewritten", [it["args"]["rewritten"] for it in told[:1]], [kind in ANEW] * len(told[:1]))
-            trials.want(f"{kind}, version {version}: its lanes", lanes_that_fail(told), [])
-            status, out, err = run([program, "picture", f"{room}/LOG"])
-            trials.want(f"{kind}, version {version}: picture", (status, out, err), (0, picture_of(text, version), b""))
-            want_drawn(trials, f"{kind}, version {version}: its picture", out, *DRAWN[kind])
-            trials.want(f"{kind}, version {version}: its numbers", run([program, "summary", "-n", "0", f"{room}/LOG"]), (0, summary_of(text, 0, version=version), said))
+    place = b"LOG %s/LOG" % room.encode()
+    for (kind, text), version in itertools.product(LOGS.items(), (5, 6, 7)):
+        about = f"{kind}, version {version}"
+        write(f"{room}/LOG", as_version(text, version))
+        built = by_hand(BUILT, BUILT_LATE, kind, version)
+        # By hand: which of its builds were found again, and of which of them the last is told.
+        again = [b"again" in it for it in built.splitlines()]
+        said = [b"nlog: %s: it was written anew, so builds were found again by their time stamps\n" % place if it else b"" for it in (any(again), again[-1:] == [True])]
+        trials.want(f"{about}: builds by docs/BUILDS.md", builds_of(as_version(text, version)), built)
+        trials.want(f"{about}: builds", run([program, "builds", f"{room}/LOG"]), (0, built, said[0]))
+        trials.want(f"{about}: summary", run([program, "summary", f"{room}/LOG"]), (0, summary_of(text, version=version), said[1]))
+        for number in range(1, 5):
+            got = run([program, "summary", "-n", "2", "--build", str(number), f"{room}/LOG"])
+            wanted = (0, summary_of(text, 2, number, version=version), said[0] if again[number - 1 : number] == [True] else b"")
+            trials.want(f"{about}: summary of build {number}", got, wanted)
+        got = run([program, "summary", "-n", "3", "--all", f"{room}/LOG"])
+        trials.want(f"{about}: summary of all outputs", got, (0, summary_of(text, 3, of_all=True, version=version), said[0]))
+        for rule in ("extension", "folder", "top"):
+            got = run([program, "summary", f"--kind={rule}", f"{room}/LOG"])
+            trials.want(f"{about}: its kinds by {rule}", got, (0, summary_of(text, rule=rule, version=version), said[1]))
+        status, out, err = run([program, "trace", f"{room}/LOG"])
+        trials.want(f"{about}: trace", (status, out, err), (0, trace_of(text, version), said[1]))
+        told = json.loads(out.decode())
+        trials.want(f"{about}: whether it is said to be rewritten", [it["args"]["rewritten"] for it in told[:1]], again[-1:])
+        trials.want(f"{about}: its lanes", lanes_that_fail(told), [])
+        status, out, err = run([program, "picture", f"{room}/LOG"])
+        trials.want(f"{about}: picture", (status, out, err), (0, picture_of(text, version), said[1]))
+        trials.want(f"{about}: whether its picture says so", b"found again" in out, again[-1:] == [True])
+        want_drawn(trials, f"{about}: its picture", out, *by_hand(DRAWN, DRAWN_LATE, kind, version))
+        trials.want(f"{about}: its numbers", run([program, "summary", "-n", "0", f"{room}/LOG"]), (0, summary_of(text, 0, version=version), said[1]))
+        for words, rows, late in (({}, SUMMED, SUMMED_LATE), ({"of_all": True}, SUMMED_ALL, SUMMED_ALL_LATE)):
+            if kind in rows:
+                wanted = counted(by_hand(rows, late, kind, version))
+                trials.want(f"{about}: the summary by docs/CLI.md, {words}", summary_of(text, 0, version=version, **words), wanted)
     for (kind, old), (other, new) in itertools.product(LOGS.items(), repeat=2):
         # Of each two one is of version 5, 6 or 7 by turns.
-        versions = 5 + len(kind) % 3, 5 + len(other) % 3
-        write(f"{room}/OLD", as_version(old, versions[0]))
-        write(f"{room}/NEW", as_version(new, versions[1]))
-        are_seven = [as_version(it, version)[:14] == b"# ninja log v7" for it, version in ((old, versions[0]), (new, versions[1]))]
-        wanted = compare_of(old, new, are_seven[0] == are_seven[1], 3)
+        versions = [5 + len(it) % 3 if text.startswith(HEADER) else None for it, text in ((kind, old), (other, new))]
+        write(f"{room}/OLD", as_version(old, versions[0] or 5))
+        write(f"{room}/NEW", as_version(new, versions[1] or 5))
         got = run([program, "compare", "-n", "3", f"{room}/OLD", f"{room}/NEW"])
-        trials.want(f"{kind}, version {versions[0]}, and {other}, version {versions[1]}: compare", got, (0, wanted, b""))
-    for kind, counts in SUMMED.items():
-        trials.want(f"{kind}: the summary by docs/FORMAT.md", summary_of(LOGS[kind], 0), KEYS % counts if counts else b"")
+        trials.want(f"{kind}, version {versions[0]}, and {other}, version {versions[1]}: compare", got, (0, compare_of(old, new, versions, 3), b""))
+
+
+# Two logs, and what `compare` prints of them by hand: `x` and `y` are of one command, which meets the later one of `y`. That of `u` didn't end. `p` and
+# `q` are of one command in the second log, which meets that of `p`.
+BEFORE = b"# ninja log v7\n0\t10\t1\tx\t1\n0\t10\t1\ty\t1\n0\t20\t1\tz\t2\n0\t5\t1\tw\t3\n0\t7\t1\tu\t4\n0\t9\t1\tv\t5\n0\t8\t1\tp\t7\n0\t30\t1\tq\t7\n"
+AFTER = b"# ninja log v7\n0\t13\t1\ty\t1\n0\t20\t1\tz\t9\n0\t4\t1\tw\t3\n5\t5\t0\tu\t0\n0\t6\t1\tn\t6\n0\t8\t1\tp\t7\n0\t8\t1\tq\t7\n"
+COMPARED = (
+    b"hashes\tcompared\ntotal\tnew\t1\t6\t0\t6\ntotal\tgone\t2\t-39\t39\t0\ntotal\tchanged\t1\t0\t20\t20\n%btotal\tunfinished\t1\t-7\t7\t0\n%b"
+    b"new\t6\t0\t6\tn\ngone\t-30\t30\t0\tq\ngone\t-9\t9\t0\tv\nchanged\t0\t20\t20\tz\n%bunfinished\t-7\t7\t0\tu\n"
+)
+SLOWER, FASTER, NO_SLOWER, NO_FASTER = (b"total\t%b\n" % it for it in (b"slower\t1\t3\t10\t13", b"faster\t1\t-1\t5\t4", b"slower\t0\t0\t0\t0", b"faster\t0\t0\t0\t0"))
+# By the least difference.
+DIFFERENT = {
+    0: (SLOWER + FASTER, b"total\tsame\t1\t0\t8\t8\n", b"slower\t3\t10\t13\tx\nfaster\t-1\t5\t4\tw\n"),
+    1: (SLOWER + FASTER, b"total\tsame\t1\t0\t8\t8\n", b"slower\t3\t10\t13\tx\nfaster\t-1\t5\t4\tw\n"),
+    2: (SLOWER + NO_FASTER, b"total\tsame\t2\t-1\t13\t12\n", b"slower\t3\t10\t13\tx\n"),
+    3: (SLOWER + NO_FASTER, b"total\tsame\t2\t-1\t13\t12\n", b"slower\t3\t10\t13\tx\n"),
+    4: (NO_SLOWER + NO_FASTER, b"total\tsame\t3\t2\t23\t25\n", b""),
+}
+
+
+def try_compared(trials, program, room):
+    """What `compare` prints of commands of several outputs, by hand, and by the least difference."""
+    write(f"{room}/OLD", BEFORE)
+    write(f"{room}/NEW", AFTER)
+    for least, parts in DIFFERENT.items():
+        trials.want(f"compare at least {least} by docs/CLI.md", compare_of(BEFORE, AFTER, least=least), COMPARED % parts)
+        trials.want(f"compare at least {least}", run([program, "compare", f"--at-least={least}", f"{room}/OLD", f"{room}/NEW"]), (0, COMPARED % parts, b""))
 
 
 def lanes_that_fail(events):
@@ -334,7 +413,7 @@ def try_browser(trials, program, room):
     write(f"{room}/LOG", LOGS["odd names"])
     write(f"{room}/build.svg", run([program, "picture", f"{room}/LOG"])[1])
     words = [browser, "--headless", "--no-sandbox", "--disable-gpu", f"--user-data-dir={room}/browser", "--dump-dom", f"file://{room}/build.svg"]
-    status, shown, _ = run(words, timeout=120)
+    status, shown, _ = run(words)
     trials.want("a picture in a browser: how it ends, and its titles", (status, shown.count(b"<title>"), b"parsererror" in shown), (0, len(NAMES), False))
     return None
 
@@ -397,9 +476,10 @@ def try_graphs(trials, program, room):
         "a graph": (GRAPH, eight + ON_PATH, 0),
         "a graph with empty lines behind it": (GRAPH + b"\n\n", eight + ON_PATH, 0),
         "a graph without its last newline": (GRAPH[:-1], eight + ON_PATH, 0),
-        "nodes without names": (b'digraph ninja {\n"1" -> "2"\n"3" [label="cc", shape=ellipse]\n}\n', eight + b"critical-path\t0\n", 0),
-        "nodes that the log lacks": (GRAPH.replace(b'"a"', b'"c"').replace(b'"b"', b'"d"'), eight + b"critical-path\t0\n", 0),
-        "a name anew": (GRAPH.replace(b"}\n", b'"2" [label="x"]\n}\n'), eight + b"critical-path\t20\non-path\t20\t40\t60\tb\n", 0),
+        "nodes without names": (b'digraph ninja {\n"1" -> "2"\n"3" [label="cc", shape=ellipse]\n}\n', b"", "other"),
+        "nodes that the log lacks": (GRAPH.replace(b'"a"', b'"c"').replace(b'"b"', b'"d"'), b"", "other"),
+        "a name anew": (GRAPH.replace(b"}\n", b'"2" [label="x"]\n}\n'), eight + b"critical-path\t20\non-path\t20\t40\t60\tb\nnot-in-graph\t1\t40\n", 0),
+        "a graph of the first command alone": (GRAPH.replace(b'"b"', b'"d"'), eight + b"critical-path\t40\non-path\t40\t0\t40\ta\nnot-in-graph\t1\t20\n", 0),
         "an empty file": (b"", b"", 1),
         "a log": (GRAPHED, b"", 1),
         "a graph without its end": (GRAPH[:-2], b"", 8),
@@ -413,7 +493,9 @@ def try_graphs(trials, program, room):
     for what, (text, out, line) in rows.items():
         write(f"{room}/GRAPH", text)
         got = run([program, "summary", "-n", "0", "--graph", f"{room}/GRAPH", f"{room}/LOG"])
-        if line is None:
+        if line == "other":
+            trials.want(what, got, (1, b"", b"nlog: not the graph of this build\n"))
+        elif line is None:
             # One of the two lines of the cycle is told.
             trials.check(what, got in [(1, b"", b"nlog: bad line %d\n" % it) for it in (6, 8)], got)
         else:
@@ -421,11 +503,25 @@ def try_graphs(trials, program, room):
     write(f"{room}/GRAPH", GRAPH)
     piped = run(["bash", "-c", f"'{program}' summary -n 0 --graph <(cat '{room}/GRAPH') '{room}/LOG'"])
     trials.want("a graph by a pipe", piped, (0, eight + ON_PATH, b""))
+    got = run([program, "summary", "-n", "0", "--graph", "-", f"{room}/LOG"], stdin=None, input=GRAPH)
+    trials.want("a graph by standard input", got, (0, eight + ON_PATH, b""))
+    # The builds of `written anew` are found again, the first of `b`, which the graph has, and the last of `a`.
+    write(f"{room}/ANEW", LOGS["written anew"])
+    said = b"nlog: LOG %s/ANEW: it was written anew, so builds were found again by their time stamps\n" % room.encode()
+    got = run([program, "summary", "-n", "0", "--build", "1", "--graph", f"{room}/GRAPH", f"{room}/ANEW"])
+    wanted = summary_of(LOGS["written anew"], 0, 1) + b"critical-path\t40\non-path\t40\t10\t50\tb\n"
+    trials.want("a graph of a build that is found again", got, (0, wanted, said))
+    # Of all builds, each START and END from the beginning of its own.
+    got = run([program, "summary", "-n", "0", "--all", "--graph", f"{room}/GRAPH", f"{room}/ANEW"])
+    wanted = summary_of(LOGS["written anew"], 0, of_all=True) + b"critical-path\t90\non-path\t50\t5\t55\ta\non-path\t40\t10\t50\tb\n"
+    trials.want("a graph of all builds", got, (0, wanted, said))
+    write(f"{room}/ANEW", HEADER)
+    trials.want("a graph of no build", run([program, "summary", "--graph", f"{room}/GRAPH", f"{room}/ANEW"]), (0, b"", b""))
     # A path of 100,000 commands, whose edges come in the order of Ninja, from the end on.
     count = 100_000
     edges = b"".join(b'"%d" [label="%d"]\n"%d" -> "%d" [label=" cc"]\n' % (it, it, it - 1, it) for it in range(count, 0, -1))
     write(f"{room}/GRAPH", b"digraph ninja {\n" + edges + b"}\n")
-    write(f"{room}/LOG", b"# ninja log v7\n" + b"".join(b"%d\t%d\t1\t%d\t%x\n" % (it, it + 1, it, it) for it in range(1, count + 1)))
+    write(f"{room}/LOG", b"# ninja log v7\n" + b"".join(b"%d\t%d\t%d\t%d\t%x\n" % (it, it + 1, NANO + it * 1_000_000, it, it) for it in range(1, count + 1)))
     status, out, err = run([program, "summary", "-n", "0", "--graph", f"{room}/GRAPH", f"{room}/LOG"])
     wanted = b"critical-path\t100000\n" + b"".join(b"on-path\t1\t%d\t%d\t%d\n" % (it, it + 1, it) for it in range(1, count + 1))
     return trials.want("a path of 100,000 commands", (status, out[out.find(b"critical-path"):], err), (0, wanted, b""))
@@ -479,6 +575,7 @@ def trial(trials, program, room):
     if shutil.which("iconv") is None or not re.match(rb"date \(GNU", version):
         return trials.skip("all of it", "iconv or GNU's date isn't there")
     try_builds(trials, program, room)
+    try_compared(trials, program, room)
     try_ninja(trials, program, room)
     try_graphs(trials, program, room)
     try_ninja_graph(trials, program, room)

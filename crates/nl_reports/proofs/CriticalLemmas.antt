@@ -1,0 +1,101 @@
+-- The text of a critical path, the names of a graph's nodes as a map holds them, and the commands that it lacks.
+use Rattle.std.proofs.Common.{◌≡◌, ◌<◌, ◌∙◌, ◌++◌, ◌==◌, ℕ, true, false, List, [], ◌∷◌, Option, Some, append-nil, ap, arith, codes, cond, decimal, refl, sym, ◌+◌, ◌||◌, Bool, None, bytes_eq, drop, get_or, is_some, length, map, not, take}
+use Rattle.std.proofs.lemmas.Bool.Decides.{nat_tests}
+use Rattle.std.proofs.lemmas.List.{at_drop_more, map-append, take_more}
+use Rattle.std.proofs.lemmas.List.Concat.{flat_map-append}
+use Rattle.std.specs.Global.{Vec}
+use Rattle.std.specs.Map.{lookup}
+use Rattle.nl_fields.specs.declared.entry.Entry.{Entry}
+use Rattle.nl_reports.specs.Critical.{IsCritical, IsCriticalText, lacking_line, any_named, is_named, lacking}
+use Rattle.nl_reports.specs.GraphText.{HeldNode, node_of, nodes_of}
+use Rattle.nl_reports.specs.Jobs.{Job, seen}
+use Rattle.nl_reports.specs.Lasting.{is_among}
+use Rattle.nl_reports.specs.Paths.{Graph, Node}
+use Rattle.nl_reports.specs.Reaches.{HoldNames}
+use Rattle.nl_reports.specs.declared.job.Job.{Job as HeldJob}
+use Rattle.nl_reports.proofs.GraphLemmas.{Name, same}
+
+-- of some commands
+pub critical_told : (g : Graph) (js : List Job) (text : Vec ℕ) → IsCriticalText g js text.items → IsCritical g js (Some text)
+critical_told g [] text is = absurd (is.some refl)
+critical_told g (j ∷ js) text is = is
+
+-- what a graph lacks is appended, where it lacks any
+pub lacking_told : (count time : ℕ) (old line new : List ℕ) → 0 < count
+    → line ≡ codes "not-in-graph\t" ++ decimal count ++ codes "\t" ++ decimal time ++ codes "\n" → new ≡ old ++ line
+    → new ≡ old ++ lacking_line count time
+lacking_told count time old line new some is told =
+    let test : (count == 0) ≡ false = grind (arith, nat_tests, some) in
+    told ∙ ap (λ (l : List ℕ). old ++ l) (is
+    ∙ sym (ap (λ b. cond b [] (codes "not-in-graph\t" ++ decimal count ++ codes "\t" ++ decimal time ++ codes "\n")) test))
+
+pub nothing_told : (count time : ℕ) (old : List ℕ) → count ≡ 0 → old ≡ old ++ lacking_line count time
+nothing_told count time old none =
+    let test : (count == 0) ≡ true = grind (arith, nat_tests, none) in
+    sym (ap (λ b. old ++ cond b [] (codes "not-in-graph\t" ++ decimal count ++ codes "\t" ++ decimal time ++ codes "\n")) test ∙ append-nil old)
+
+-- ---- names
+
+nodes_more : (ps : List HeldNode) (i : ℕ) (p : HeldNode) → i < length ps
+    → nodes_of (take (i + 1) ps) ≡ nodes_of (take i ps) ++ node_of (get_or ps i p).0.now (get_or ps i p).1
+nodes_more ps i p inside =
+    let f : HeldNode → List Node = λ q. node_of q.0.now q.1 in
+    ap nodes_of (take_more ps i p inside) ∙ flat_map-append f (take i ps) (get_or ps i p ∷ [])
+    ∙ ap (λ (l : List Node). nodes_of (take i ps) ++ l) (append-nil (f (get_or ps i p)))
+
+among-push : (name : List ℕ) (ns : List (List ℕ)) (n : List ℕ) → is_among name (ns ++ n ∷ []) ≡ cond (bytes_eq n name) true (is_among name ns)
+among-push name [] n = elim (bytes_eq n name) as (λ b. (b || false) ≡ cond b true false) [ true ↦ refl | false ↦ refl ]
+among-push name (m ∷ ns) n =
+    ap (λ b. bytes_eq m name || b) (among-push name ns n)
+    ∙ elim (bytes_eq m name) as (λ a. (a || cond (bytes_eq n name) true (is_among name ns)) ≡ cond (bytes_eq n name) true (a || is_among name ns)) [
+      | true ↦ elim (bytes_eq n name) as (λ b. true ≡ cond b true true) [ true ↦ refl | false ↦ refl ]
+      | false ↦ refl
+    ]
+
+-- a node more that has no name, and one that has
+module _ (ps : List HeldNode) (i : ℕ) (p : HeldNode) (inside : i < length ps) (es fs : List (Name × Unit {0}))
+    (hold : HoldNames (nodes_of (take i ps)) es) where
+  names_of_nodes : List Node → List (List ℕ)
+  names_of_nodes ns = map (λ (n : Node). n.name) ns
+
+  pub hold_unnamed : None ≡ (get_or ps i p).1 → HoldNames (nodes_of (take (i + 1) ps)) es
+  unfolding names_of_nodes
+  hold_unnamed none name =
+      hold name ∙ ap (λ (l : List Node). is_among name (names_of_nodes l)) (sym (nodes_more ps i p inside
+      ∙ ap (λ (o : Option Name). nodes_of (take i ps) ++ node_of (get_or ps i p).0.now o) (sym none) ∙ append-nil (nodes_of (take i ps))))
+
+  pub hold_named : (n : Name) → Some n ≡ (get_or ps i p).1
+      → ((q : Name) → lookup (same q) fs ≡ cond (same n q) (Some (tt {0})) (lookup (same q) es)) → HoldNames (nodes_of (take (i + 1) ps)) fs
+  unfolding names_of_nodes
+  hold_named n is updates name =
+      let node : Node = record { id = (get_or ps i p).0.now; name = n.now } in
+      let more : nodes_of (take (i + 1) ps) ≡ nodes_of (take i ps) ++ node ∷ [] =
+      nodes_more ps i p inside ∙ ap (λ (o : Option Name). nodes_of (take i ps) ++ node_of (get_or ps i p).0.now o) (sym is) in
+      ap is_some (updates (record n { now = name }))
+      ∙ elim (bytes_eq n.now name) as (λ b. is_some (cond b (Some (tt {0})) (lookup (λ (k : Name). bytes_eq name k.now) es))
+      ≡ cond b true (is_some (lookup (λ (k : Name). bytes_eq name k.now) es))) [ true ↦ refl | false ↦ refl ]
+      ∙ ap (λ b. cond (bytes_eq n.now name) true b) (hold name)
+      ∙ sym (ap (λ (l : List Node). is_among name (names_of_nodes l)) more
+      ∙ ap (is_among name) (map-append (λ (m : Node). m.name) (nodes_of (take i ps)) (node ∷ []))
+      ∙ among-push name (names_of_nodes (nodes_of (take i ps))) n.now)
+
+-- ---- the commands that are lacking
+
+module _ (g : Graph) (names : List (Name × Unit {0})) (hold : HoldNames g.nodes names) where
+  named_by : (n : Name) (e : Entry) (b : Bool) → n.now ≡ e.name → b ≡ is_some (lookup (same n) names) → is_named g e.name ≡ b
+  named_by n e b is found = ap (is_named g) (sym is) ∙ sym (hold n.now) ∙ sym found
+
+  pub any_more : (es : List Entry) (i : ℕ) (e : Entry) (n : Name) (b : Bool) → i < length es → e ≡ get_or es i e → n.now ≡ e.name
+      → b ≡ is_some (lookup (same n) names) → any_named g (drop i es) ≡ (b || any_named g (drop (i + 1) es))
+  any_more es i e n b inside is named found =
+      at_drop_more (any_named g) es i e inside
+      ∙ ap (λ (x : Entry). is_named g x.name || any_named g (drop (i + 1) es)) (sym is)
+      ∙ ap (λ a. a || any_named g (drop (i + 1) es)) (named_by n e b named found)
+
+pub lacking_more : (g : Graph) (jobs : List HeldJob) (i : ℕ) (j : HeldJob) (b : Bool) → i < length jobs → j ≡ get_or jobs i j
+    → b ≡ any_named g j.outputs.now → lacking g (map seen (drop i jobs))
+    ≡ cond (not b) (seen j ∷ lacking g (map seen (drop (i + 1) jobs))) (lacking g (map seen (drop (i + 1) jobs)))
+lacking_more g jobs i j b inside is any =
+    at_drop_more (λ (l : List HeldJob). lacking g (map seen l)) jobs i j inside
+    ∙ ap (λ (x : HeldJob). lacking g (seen x ∷ map seen (drop (i + 1) jobs))) (sym is)
+    ∙ ap (λ a. cond (not a) (seen j ∷ lacking g (map seen (drop (i + 1) jobs))) (lacking g (map seen (drop (i + 1) jobs)))) (sym any)

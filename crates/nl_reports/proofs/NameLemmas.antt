@@ -1,0 +1,37 @@
+-- The names of outputs as JSON, one by one.
+use Rattle.std.proofs.Common.{◌≡◌, ◌∙◌, ℕ, zero, suc, ◌+◌, true, false, List, [], ◌∷◌, ◌++◌, ap, arith, codes, map, refl}
+use Rattle.serde_json.specs.View.{items_of}
+use Rattle.serde_json.specs.Written.{items_text}
+use Rattle.nl_fields.specs.Digits.{digits_of}
+use Rattle.nl_fields.specs.declared.entry.Entry.{Entry}
+use Rattle.nl_reports.specs.Events.{args_of, event_text, shown}
+use Rattle.nl_reports.specs.Jobs.{Job}
+use Rattle.json.specs.Print.{escape_byte}
+
+-- what stands before the name at a place
+abbrev pub comma_before : ℕ → List ℕ
+comma_before zero = []
+comma_before (suc i) = 44 ∷ []
+
+-- those from a place on, and the bracket behind them
+abbrev pub names_text : ℕ → List Entry → List ℕ
+names_text i [] = 93 ∷ []
+names_text i (e ∷ es) = comma_before i ++ event_text (shown e.name) ++ names_text (i + 1) es
+
+names_behind : (i : ℕ) (es : List Entry) → names_text (suc i) es ≡ items_text true (items_of (map (λ (e : Entry). shown e.name) es))
+unfolding event_text
+names_behind i [] = refl
+names_behind i (e ∷ es) =
+    let next : ◌≡◌ {A = ℕ} (suc i + 1) (suc (suc i)) = omega arith in
+    ap (λ (l : List ℕ). 44 ∷ (event_text (shown e.name) ++ l)) (ap (λ (n : ℕ). names_text n es) next ∙ names_behind (suc i) es)
+
+names_are : (es : List Entry) → names_text 0 es ≡ items_text false (items_of (map (λ (e : Entry). shown e.name) es))
+unfolding event_text
+names_are [] = refl
+names_are (e ∷ es) = ap (λ (l : List ℕ). event_text (shown e.name) ++ l) (names_behind 0 es)
+
+pub args_are : (j : Job) → codes "{\"hash\":" ++ (event_text (shown (digits_of 16 j.hash)) ++ (codes ",\"outputs\":[" ++ (names_text 0 j.outputs ++ 125 ∷ [])))
+    ≡ event_text (args_of j)
+unfolding event_text escape_byte
+args_are j =
+    ap (λ (l : List ℕ). codes "{\"hash\":" ++ (event_text (shown (digits_of 16 j.hash)) ++ (codes ",\"outputs\":[" ++ (l ++ 125 ∷ [])))) (names_are j.outputs)

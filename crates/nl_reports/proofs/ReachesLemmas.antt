@@ -1,0 +1,283 @@
+-- What is guessed of a graph's places, seen by its numbers.
+use Rattle.std.proofs.Common.{◌≡◌, ◌<◌, ◌≤◌, ◌∙◌, ◌+◌, ◌⊎◌, append-nil, append_assoc, ℕ, zero, suc, true, false, List, [], ◌∷◌, ◌++◌, Option, None, Some, inl, inr, ap, arith, bytes_eq, codes, cond, decimal, get_or, length, map, option_and_then, option_map, refl, subst, sym, take}
+use Rattle.std.proofs.lemmas.Bool.{cases_Bool}
+use Rattle.std.proofs.lemmas.Cmp.{nat_list_eq_equiv}
+use Rattle.std.proofs.lemmas.List.{get_or-map, length-map, map-append, take_more}
+use Rattle.std.proofs.lemmas.List.Concat.{flat_map-append}
+use Rattle.std.proofs.lemmas.List.Elements.{All-map, All-weaker}
+use Rattle.std.proofs.lemmas.Map.Keys.{IsDistinct-head, IsDistinct-tail}
+use Rattle.std.specs.Prelude.{nat_lt}
+use Rattle.std.specs.Cmp.Lexicographic.{bytes_decides}
+use Rattle.std.specs.List.{All, AllByRecursion, Contains, IsDistinct, flat_map, sum_by}
+use Rattle.std.specs.Map.{keys_of, lookup}
+use Rattle.nl_reports.specs.Critical.{Ran, ran_at, ran_line, ran_named, ran_time, told_moment, told_ran, weight}
+use Rattle.nl_reports.specs.GraphText.{HeldNode, ids_of, nodes_of, seen_edge, seen_graph}
+use Rattle.nl_reports.specs.Jobs.{Job}
+use Rattle.nl_reports.specs.Paths.{IsLongest, IsPath, Leads}
+use Rattle.nl_reports.specs.Reaches.{AreOf, IsFarthest, IsFollowed, IsTight, behind_at, far_at, ran_in, ran_named_in, ran_seen, rans_seen}
+use Rattle.nl_reports.specs.Spans.{time_of}
+use Rattle.nl_reports.specs.declared.critical.Ran.{Ran as HeldRan}
+use Rattle.nl_reports.specs.declared.critical.Reaches.{Reaches}
+use Rattle.nl_reports.specs.declared.graph.Edge.{Edge as HeldEdge}
+use Rattle.nl_reports.proofs.GraphLemmas.{Name, named, of_name, same}
+use Rattle.nl_reports.proofs.OrderLemmas.{edge_among}
+use Rattle.nl_reports.proofs.PathsLemmas.{IsBounded, longest_by, path_on, sum_on}
+
+-- a number is that of no key, or it has a place
+pub key_or_none : (ps : List HeldNode) (id : List ℕ)
+    → (lookup (λ (k : Name). bytes_eq id k.now) ps ≡ None) ⊎ ((i : ℕ) × (i < length ps) × (get_or (ids_of ps) i [] ≡ id))
+key_or_none [] id = inl refl
+key_or_none (p ∷ ps) id = elim (cases_Bool (bytes_eq id p.0.now)) [
+  | inl is ↦ inr (0, omega arith, sym ((bytes_decides id p.0.now).0 is))
+  | inr other ↦ elim (key_or_none ps id) [
+    | inl none ↦ inl (ap (λ b. cond b (Some p.1) (lookup (λ (k : Name). bytes_eq id k.now) ps)) other ∙ none)
+    | inr found ↦ inr (suc found.0, omega (arith, found.1), found.2)
+  ]
+]
+
+-- a key that stands before these has its own place
+apart_at : (x : Name) (ps : List HeldNode) (j : ℕ) → j < length ps → AllByRecursion (λ y. same x y ≡ false) (keys_of ps)
+    → bytes_eq x.now (get_or (ids_of ps) j []) ≡ false
+apart_at x [] j inside apart = absurd (omega (arith, inside))
+apart_at x (p ∷ ps) zero inside apart = apart.0
+apart_at x (p ∷ ps) (suc j) inside apart = apart_at x ps j (omega (arith, inside)) apart.1
+
+module _ (r : Reaches) where
+  -- how far it is from a number on, where the first of these has this place
+  far_from : List HeldNode → ℕ → List ℕ → ℕ
+  far_from [] i id = 0
+  far_from (p ∷ ps) i id = cond (bytes_eq p.0.now id) (far_at r i) (far_from ps (i + 1) id)
+
+  far_most : (most : ℕ) (ps : List HeldNode) (i : ℕ) (id : List ℕ) → ((k : ℕ) → k < i + length ps → far_at r k ≤ most)
+      → far_from ps i id ≤ most
+  unfolding far_from
+  far_most most [] i id under = omega arith
+  far_most most (p ∷ ps) i id under =
+      let here : far_at r i ≤ most = under i (omega arith) in
+      let rest : far_from ps (i + 1) id ≤ most = far_most most ps (i + 1) id (λ k inside. under k (omega (arith, inside))) in
+      elim (bytes_eq p.0.now id) as (λ b. cond b (far_at r i) (far_from ps (i + 1) id) ≤ most) [ true ↦ here | false ↦ rest ]
+
+  far_there : (ps : List HeldNode) (i j : ℕ) → j < length ps → IsDistinct same (keys_of ps)
+      → far_from ps i (get_or (ids_of ps) j []) ≡ far_at r (i + j)
+  unfolding far_from
+  far_there [] i j inside distinct = absurd (omega (arith, inside))
+  far_there (p ∷ ps) i zero inside distinct =
+      let place : i ≡ i + 0 = omega arith in
+      ap (λ b. cond b (far_at r i) (far_from ps (i + 1) p.0.now)) (nat_list_eq_equiv.refl p.0.now) ∙ ap (far_at r) place
+  far_there (p ∷ ps) i (suc j) inside distinct =
+      let id = get_or (ids_of ps) j [] in
+      let place : (i + 1) + j ≡ i + suc j = omega arith in
+      let other : bytes_eq p.0.now id ≡ false = apart_at p.0 ps j (omega (arith, inside)) (IsDistinct-head same p.0 (keys_of ps) distinct) in
+      ap (λ b. cond b (far_at r i) (far_from ps (i + 1) id)) other
+      ∙ far_there ps (i + 1) j (omega (arith, inside)) (IsDistinct-tail same p.0 (keys_of ps) distinct) ∙ ap (far_at r) place
+
+module _ (ps : List HeldNode) (js : List Job) (r : Reaches) (are : rans_seen r.ran.items ≡ map (ran_at (nodes_of ps) js) (ids_of ps)) where
+  pub ran_is : (i : ℕ) → i < length ps → ran_in r i ≡ ran_at (nodes_of ps) js (get_or (ids_of ps) i [])
+  ran_is i inside =
+      let count : length (ids_of ps) ≡ length ps = length-map ps (λ (p : HeldNode). p.0.now) in
+      ap (λ (l : List (Option Ran)). get_or l i None) are
+      ∙ get_or-map (ran_at (nodes_of ps) js) (ids_of ps) i [] None (omega (arith, count, inside))
+
+  pub count_is : length r.ran.items ≡ length ps
+  count_is = sym (length-map r.ran.items (option_map ran_seen)) ∙ ap (λ (l : List (Option Ran)). length l) are
+      ∙ length-map (ids_of ps) (ran_at (nodes_of ps) js) ∙ length-map ps (λ (p : HeldNode). p.0.now)
+
+module _ (ps : List HeldNode) (js : List Job) (r : Reaches) (distinct : IsDistinct same (keys_of ps))
+    (are : rans_seen r.ran.items ≡ map (ran_at (nodes_of ps) js) (ids_of ps)) where
+  far : List ℕ → ℕ
+  far id = far_from r ps 0 id
+
+  far_is : (i : ℕ) → i < length ps → far (get_or (ids_of ps) i []) ≡ far_at r i
+  unfolding far
+  far_is i inside = let place : 0 + i ≡ i = omega arith in far_there r ps 0 i inside distinct ∙ ap (far_at r) place
+
+  light : (id : List ℕ) → weight (nodes_of ps) js id ≤ far id
+  light id = elim (key_or_none ps id) [
+    | inl none ↦
+        let nothing : weight (nodes_of ps) js id ≡ 0 =
+        ap (λ (o : Option (List ℕ)). ran_time (option_and_then (ran_named js) o)) (named ps distinct id ∙ ap (option_and_then of_name) none) in
+        omega (arith, nothing)
+    | inr found ↦
+        let P : List ℕ → Type 0 = λ x. weight (nodes_of ps) js x ≤ far x in
+        let time : ran_time (ran_in r found.0) ≡ weight (nodes_of ps) js (get_or (ids_of ps) found.0 []) =
+        ap ran_time (ran_is ps js r are found.0 found.1) in
+        subst P found.2 (omega (arith, time, far_is found.0 found.1))
+  ]
+
+  tight : (e : HeldEdge) → IsTight r e → IsBounded (weight (nodes_of ps) js) far (seen_edge (ids_of ps) e)
+  tight e is =
+      let from : e.from < length ps = omega (arith, is.from, count_is ps js r are) in
+      let time : ran_time (ran_in r e.from) ≡ weight (nodes_of ps) js (get_or (ids_of ps) e.from []) = ap ran_time (ran_is ps js r are e.from from) in
+      record {
+        to = light (get_or (ids_of ps) e.to []);
+        from = omega (arith, is.far, time, far_is e.from from, far_is e.to (omega (arith, is.to, count_is ps js r are)));
+      }
+
+  -- a path that is as long as it is far from any place is a longest one
+  pub longest : (hs : List HeldEdge) (most : ℕ) → All (IsTight r) hs → ((k : ℕ) → k < length r.ran.items → far_at r k ≤ most)
+      → (path : List (List ℕ)) → IsPath (map (seen_edge (ids_of ps)) hs) path → sum_by (weight (nodes_of ps) js) path ≡ most
+      → IsLongest (map (seen_edge (ids_of ps)) hs) (weight (nodes_of ps) js) path
+  unfolding far
+  longest hs most are_tight under =
+      let wf = weight (nodes_of ps) js in
+      longest_by (map (seen_edge (ids_of ps)) hs) wf far
+      (All-map (IsBounded wf far) (seen_edge (ids_of ps)) hs
+      (All-weaker (IsTight r) (λ e. IsBounded wf far (seen_edge (ids_of ps) e)) tight hs are_tight))
+      most light (λ id. far_most r most ps 0 id (λ k inside. under k (omega (arith, inside, count_is ps js r are))))
+
+-- what a key has is its own
+own_value : (ps : List HeldNode) (i : ℕ) (d : HeldNode) → i < length ps → IsDistinct same (keys_of ps)
+    → lookup (λ (k : Name). bytes_eq (get_or (ids_of ps) i []) k.now) ps ≡ Some (get_or ps i d).1
+own_value [] i d inside distinct = absurd (omega (arith, inside))
+own_value (p ∷ ps) zero d inside distinct =
+    ap (λ b. cond b (Some p.1) (lookup (λ (k : Name). bytes_eq p.0.now k.now) ps)) (nat_list_eq_equiv.refl p.0.now)
+own_value (p ∷ ps) (suc i) d inside distinct =
+    let id = get_or (ids_of ps) i [] in
+    let other : bytes_eq id p.0.now ≡ false =
+    nat_list_eq_equiv.symm id p.0.now ∙ apart_at p.0 ps i (omega (arith, inside)) (IsDistinct-head same p.0 (keys_of ps) distinct) in
+    ap (λ b. cond b (Some p.1) (lookup (λ (k : Name). bytes_eq id k.now) ps)) other
+    ∙ own_value ps i d (omega (arith, inside)) (IsDistinct-tail same p.0 (keys_of ps) distinct)
+
+pub ran_here : (ps : List HeldNode) (js : List Job) (i : ℕ) (d : HeldNode) → i < length ps → IsDistinct same (keys_of ps)
+    → ran_named_in js (get_or ps i d).1 ≡ ran_at (nodes_of ps) js (get_or (ids_of ps) i [])
+ran_here ps js i d inside distinct =
+    let id = get_or (ids_of ps) i [] in
+    sym (ap (option_and_then (ran_named js)) (named ps distinct id ∙ ap (option_and_then of_name) (own_value ps i d inside distinct))
+    ∙ by (get_or ps i d).1)
+  where
+    by : (name : Option Name) → option_and_then (ran_named js) (of_name name) ≡ ran_named_in js name
+    by None = refl
+    by (Some n) = refl
+
+-- one more was looked at
+pub ran_more : (ps : List HeldNode) (js : List Job) (hs : List (Option HeldRan)) (h : Option HeldRan) (i : ℕ) (d : HeldNode) → i < length ps
+    → IsDistinct same (keys_of ps) → option_map ran_seen h ≡ ran_named_in js (get_or ps i d).1
+    → rans_seen hs ≡ map (ran_at (nodes_of ps) js) (take i (ids_of ps))
+    → rans_seen (hs ++ h ∷ []) ≡ map (ran_at (nodes_of ps) js) (take (i + 1) (ids_of ps))
+ran_more ps js hs h i d inside distinct is so_far =
+    let f : List ℕ → Option Ran = ran_at (nodes_of ps) js in
+    let ids = ids_of ps in
+    let count : i < length ids = omega (arith, inside, length-map ps (λ (p : HeldNode). p.0.now)) in
+    map-append (option_map ran_seen) hs (h ∷ []) ∙ (λ j. so_far j ++ (is ∙ ran_here ps js i d inside distinct) j ∷ [])
+    ∙ sym (ap (map f) (take_more ids i [] count) ∙ map-append f (take i ids) (get_or ids i [] ∷ []))
+
+-- what ran at a place, as it is held
+pub ran_found : (hs : List (Option HeldRan)) (i : ℕ) (h : Option HeldRan) → i < length hs → h ≡ get_or hs i h
+    → option_map ran_seen h ≡ get_or (rans_seen hs) i None
+ran_found hs i h inside is = ap (option_map ran_seen) is ∙ sym (get_or-map (option_map ran_seen) hs i h None inside)
+
+pub ran_none : (hs : List (Option HeldRan)) (i : ℕ) → length hs ≤ i → None ≡ get_or (rans_seen hs) i None
+ran_none [] i past = refl
+ran_none (h ∷ hs) zero past = absurd (omega (arith, past))
+ran_none (h ∷ hs) (suc i) past = ran_none hs i (omega (arith, past))
+
+-- ---- the path so far
+
+abbrev pub id_at : Reaches → ℕ → List ℕ
+id_at r place = get_or (ids_of r.graph.now.nodes.entries) place []
+
+abbrev pub told_at : Reaches → List Job → List ℕ → List ℕ
+told_at r js id = told_ran (ran_at (nodes_of r.graph.now.nodes.entries) js id)
+
+abbrev pub time_at : Reaches → List Job → List ℕ → ℕ
+time_at r js id = weight (nodes_of r.graph.now.nodes.entries) js id
+
+-- it goes on from a place, is as long as it is said to be but for what is from there on, and its lines are told
+pub record SoFar (js : List Job) (r : Reaches) (start place : ℕ) (old new : List ℕ) : Type 0 where
+  pub path : List (List ℕ)
+  pub joins : (tail : List (List ℕ)) → IsPath (seen_graph r.graph.now).edges (id_at r place ∷ tail)
+      → IsPath (seen_graph r.graph.now).edges (path ++ id_at r place ∷ tail)
+  pub long : sum_by (time_at r js) path + far_at r place ≡ far_at r start
+  pub told : new ≡ old ++ flat_map (told_at r js) path
+  pub ran : ran_in r place ≡ ran_at (nodes_of r.graph.now.nodes.entries) js (id_at r place)
+
+pub so_far_as : (js : List Job) (r : Reaches) (start n m : ℕ) (old a b : List ℕ) → n ≡ m → a ≡ b → SoFar js r start m old b → SoFar js r start n old a
+so_far_as js r start n m old a b place text so_far =
+    let P : ℕ → Type 0 = λ k. SoFar js r start k old a in
+    let Q : List ℕ → Type 0 = λ t. SoFar js r start m old t in
+    subst P (sym place) (subst Q (sym text) so_far)
+
+ran_start : (js : List Job) (r : Reaches) (ps : List HeldNode) (start : ℕ) → rans_seen r.ran.items ≡ map (ran_at (nodes_of ps) js) (ids_of ps)
+    → (0 < length r.ran.items → start < length r.ran.items) → ran_in r start ≡ ran_at (nodes_of ps) js (get_or (ids_of ps) start [])
+ran_start js r [] start are within = ap (λ (l : List (Option Ran)). get_or l start None) are
+ran_start js r (p ∷ ps) start are within =
+    let count = count_is (p ∷ ps) js r are in
+    ran_is (p ∷ ps) js r are start (omega (arith, count, within (omega (arith, count))))
+
+pub path_begun : (js : List Job) (r : Reaches) (start : ℕ) (text : List ℕ) → AreOf r.graph.now js r → IsFarthest r start
+    → SoFar js r start start text text
+path_begun js r start text are is = record {
+  path = [];
+  joins = λ tail along. along;
+  long = omega arith;
+  told = sym (append-nil text);
+  ran = ran_start js r r.graph.now.nodes.entries start are.ran is.within;
+}
+
+module _ (js : List Job) (r : Reaches) (start place : ℕ) (old mid new : List ℕ) (so_far : SoFar js r start place old mid)
+    (line : new ≡ mid ++ told_ran (ran_in r place)) where
+  path_now : List (List ℕ)
+  path_now = so_far.path ++ id_at r place ∷ []
+
+  long_now : sum_by (time_at r js) path_now ≡ sum_by (time_at r js) so_far.path + ran_time (ran_in r place)
+  unfolding path_now
+  long_now =
+      let time : time_at r js (id_at r place) ≡ ran_time (ran_in r place) = ap ran_time (sym so_far.ran) in
+      omega (arith, time, sum_on (time_at r js) so_far.path (id_at r place))
+
+  told_now : new ≡ old ++ flat_map (told_at r js) path_now
+  unfolding path_now
+  told_now =
+      let told = flat_map (told_at r js) so_far.path in
+      let last : told_ran (ran_in r place) ≡ told_at r js (id_at r place) ++ [] = ap told_ran so_far.ran
+      ∙ sym (append-nil (told_at r js (id_at r place))) in
+      line ∙ (λ i. so_far.told i ++ last i) ∙ append_assoc old told (flat_map (told_at r js) (id_at r place ∷ []))
+      ∙ ap (λ (l : List ℕ). old ++ l) (sym (flat_map-append (told_at r js) so_far.path (id_at r place ∷ [])))
+
+  pub path_more : (e : HeldEdge) → Contains r.graph.now.edges.items e → AreOf r.graph.now js r → e.from ≡ place → e.to < length r.ran.items
+      → far_at r e.to ≡ behind_at r place → SoFar js r start e.to old new
+  unfolding path_now
+  path_more e among are from to far =
+      let ids = ids_of r.graph.now.nodes.entries in
+      let edges = r.graph.now.edges.items in
+      let leads : Leads (map (seen_edge ids) edges) (id_at r place) (id_at r e.to) = record {
+        edge = seen_edge ids e;
+        among = edge_among ids edges e among;
+        from_is = ap (λ k. get_or ids k []) from;
+        to_is = refl;
+      } in
+      let count = count_is r.graph.now.nodes.entries js r are.ran in
+      record {
+        path = path_now;
+        joins = path_on (map (seen_edge ids) edges) so_far.path (id_at r place) (id_at r e.to) leads so_far.joins;
+        long = omega (arith, long_now, so_far.long, far);
+        told = told_now;
+        ran = ran_is r.graph.now.nodes.entries js r are.ran e.to (omega (arith, to, count));
+      }
+
+  pub path_ended : behind_at r place ≡ 0 → IsFollowed (seen_graph r.graph.now) js (far_at r start) old new
+  unfolding path_now
+  path_ended none = record {
+    path = path_now;
+    is_path = so_far.joins [] tt;
+    length_is = omega (arith, long_now, so_far.long, none);
+    told = told_now;
+  }
+
+-- ---- a line
+
+-- what it begins with
+abbrev pub line_head : ℕ → List ℕ → List ℕ → List ℕ
+line_head time began ended = codes "on-path\t" ++ decimal time ++ codes "\t" ++ began ++ codes "\t" ++ ended ++ codes "\t"
+
+-- by its parts: that, an output and a newline
+pub ran_appended : (r : Ran) (old key a b new : List ℕ) → nat_lt 0 (time_of r.span) ≡ true
+    → key ≡ line_head (time_of r.span) (told_moment r.span.began) (told_moment r.span.ended) → a ≡ old ++ key → b ≡ a ++ r.name
+    → new ≡ b ++ codes "\n"
+    → new ≡ old ++ told_ran (Some r)
+ran_appended r old key a b new long is e1 e2 e3 =
+    let joined : ((old ++ line_head (time_of r.span) (told_moment r.span.began) (told_moment r.span.ended)) ++ r.name) ++ codes "\n"
+    ≡ old ++ ran_line r =
+    simp append_assoc refl in
+    e3 ∙ ap (λ (l : List ℕ). l ++ codes "\n") (e2 ∙ ap (λ (l : List ℕ). l ++ r.name) (e1 ∙ ap (λ (l : List ℕ). old ++ l) is)) ∙ joined
+    ∙ ap (λ b. old ++ cond b (ran_line r) []) (sym long)

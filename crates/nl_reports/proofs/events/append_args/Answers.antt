@@ -1,0 +1,29 @@
+use Rattle.std.proofs.Common.{◌≡◌, ◌∙◌, ◌≤◌, ◌++◌, ◌∷◌, [], ℕ, List, ap, append_assoc, arith, codes, length, sym}
+use Rattle.std.proofs.lemmas.List.{at_drop_all}
+use Rattle.std.proofs.lemmas.Result.{on_ok_weaker}
+use Rattle.nl_fields.specs.Digits.{digits_of}
+use Rattle.nl_reports.specs.Events.{event_text, shown}
+use Rattle.nl_reports.specs.Jobs.{seen}
+use Rattle.nl_reports.proofs.NameLemmas.{args_are, names_text}
+use Rattle.nl_reports.proofs.events.append_args.Goals as goal
+
+pub returns : goal.returns
+returns c =
+    let old = c.args.out.now.items in
+    let j = seen c.args.job.now in
+    let i = c.loop-entry.entry-index in
+    let all : length j.outputs ≤ i = omega (arith, c.loop-entry-test.false) in
+    let digits : c.as_slice.result.now ≡ digits_of 16 j.hash =
+    c.as_slice.ensures.value ∙ c.in_ok-append_hex64.ensures.ok ∙ ap (λ (l : List ℕ). l ++ digits_of 16 j.hash) c.new-digits.ensures.items in
+    let hash = event_text (shown (digits_of 16 j.hash)) in
+    let outputs = codes ",\"outputs\":[" in
+    let start : c.append-2.new.out.items ≡ ((old ++ codes "{\"hash\":") ++ hash) ++ outputs =
+    c.in_ok-append-2.ensures.items ∙ ap (λ (l : List ℕ). l ++ outputs) (c.in_ok-append_shown.ensures.items
+    ∙ (λ n. c.in_ok-append.ensures.items n ++ event_text (shown (digits n)))) in
+    let told : c.loop-entry.out.items ++ 93 ∷ [] ≡ c.append-2.new.out.items ++ names_text 0 j.outputs =
+    ap (λ (l : List ℕ). c.loop-entry.out.items ++ l) (sym (at_drop_all (names_text i) j.outputs i all)) ∙ c.loop-entry.invariant.told in
+    record {
+      items = on_ok_weaker c.append-3.result (λ h. h ∙ sym (append_assoc c.loop-entry.out.items (93 ∷ []) (125 ∷ []))
+          ∙ ap (λ (l : List ℕ). l ++ 125 ∷ []) (told ∙ ap (λ (l : List ℕ). l ++ names_text 0 j.outputs) start) ∙ (simp append_assoc)
+          ∙ ap (λ (l : List ℕ). old ++ l) (args_are j)) c.append-3.ensures.items;
+    }

@@ -1,0 +1,7 @@
+use Rattle.nl_reports.specs.Trace.{trace_events}
+use Rattle.nl_reports.proofs.FitLemmas.{trace_fits}
+use Rattle.nl_reports.proofs.ReadLemmas.{reads_as}
+use Rattle.nl_reports.proofs.laws.a_trace_reads_as_its_events.Goals as goal
+
+pub returns : goal.returns
+returns c = λ t early commands builds taken. reads_as (trace_events t) (trace_fits t early commands builds taken)

@@ -1,0 +1,8 @@
+use Rattle.std.proofs.Common.{map, take}
+use Rattle.nl_reports.specs.Jobs.{seen}
+use Rattle.nl_reports.specs.Outputs.{HoldPlaces, places_from}
+use Rattle.nl_reports.proofs.outputs.Outputs.of.Given as goal
+
+-- the outputs of the commands so far
+abbrev pub invariant-loop-place : goal.invariant-loop-place
+invariant-loop-place l = HoldPlaces (places_from 0 (map seen (take l.place l.jobs))) l.places.entries

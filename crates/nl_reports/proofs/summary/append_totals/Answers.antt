@@ -1,0 +1,21 @@
+use Rattle.std.proofs.Common.{◌≡◌, ◌∙◌, ◌++◌, List, ℕ, append_assoc, ap, length, map, sym}
+use Rattle.std.specs.Prelude.{string_bytes}
+use Rattle.std.proofs.lemmas.List.{length-map}
+use Rattle.nl_reports.specs.Fraction.{ratio}
+use Rattle.nl_reports.specs.Rows.{told_row}
+use Rattle.nl_reports.specs.Summary.{told_lines, total_of}
+use Rattle.nl_reports.proofs.summary.append_totals.Goals as goal
+
+pub returns : goal.returns
+returns c =
+    let t = c.args.totals.now in
+    let rows = c.args.rows.now in
+    let total = c.total_of-total.ensures.value in
+    let count : length rows ≡ length (map told_row rows) = sym (length-map rows told_row) in
+    let parallel = c.in_ok-parallel.ensures.value ∙ ap (λ (n : ℕ). ratio n t.wall) total in
+    let line : c.as_bytes.result.now ≡ told_lines (length rows) t.outputs t.wall c.total_of-total.result t.busy t.alone (string_bytes c.in_ok-parallel.parallel) =
+    c.as_bytes.ensures.value ∙ c.in_ok-text.ensures.ok ∙ simp append_assoc in
+    record {
+      items = c.in_ok-extend_from_slice.ensures.items ∙ ap (λ (l : List ℕ). c.args.lines.now.items ++ l)
+          (line ∙ (λ i. told_lines (count i) t.outputs t.wall (total i) t.busy t.alone (parallel i)));
+    }

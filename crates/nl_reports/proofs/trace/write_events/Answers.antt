@@ -1,0 +1,105 @@
+use Rattle.std.proofs.Common.{◌≡◌, ◌∙◌, ◌<◌, ◌≤◌, ◌++◌, ◌∷◌, [], ℕ, List, ap, arith, get_or, length, map, subst}
+use Rattle.std.proofs.lemmas.List.{get_or_default, length-map}
+use Rattle.nl_reports.specs.Events.{build_event, event_text}
+use Rattle.nl_reports.specs.Frame.{first_began}
+use Rattle.nl_reports.specs.Jobs.{seen}
+use Rattle.nl_reports.specs.Lanes.{lanes}
+use Rattle.nl_reports.specs.Moments.{AreMoments}
+use Rattle.nl_reports.specs.Rows.{spans}
+use Rattle.nl_reports.specs.Trace.{array_text, behind_commas, build_events, events_of}
+use Rattle.nl_reports.specs.Writing.{HoldsAllBut}
+use Rattle.nl_reports.specs.declared.events.BuildEvent.{BuildEvent}
+use Rattle.nl_reports.specs.declared.span.Span.{Span}
+use Rattle.nl_reports.proofs.LaneLemmas.{lane_below, lanes_length}
+use Rattle.nl_reports.proofs.PairLemmas.{pairs_over}
+use Rattle.nl_reports.proofs.TraceLemmas.{all_told, end_some, told_next}
+use Rattle.nl_reports.proofs.WritingLemmas.{all_held, err_writes, is_part, more_held, part_on, rest_written, then_moved}
+use Rattle.nl_reports.proofs.trace.write_events.Goals as goal
+
+pub loop-i-init : goal.loop-i-init
+loop-i-init g c =
+    let js = map seen c.args.jobs.now in
+    let b : BuildEvent = record { number = c.args.number; began = c.first_began.result; how = c.args.how } in
+    let told = array_text (build_events c.args.number c.args.how js) in
+    subst (λ (l : List ℕ). HoldsAllBut (g.W.Write.contents c.args.writer.now) (g.W.Write.contents c.args.writer.now) told l)
+    (all_told c.args.number c.first_began.result c.args.how js c.in_ok-lanes.lanes.items c.append_build.new.out.items
+    (c.first_began.ensures.value ∙ ap first_began (c.as_slice-3.ensures.value ∙ c.in_ok-spans.ensures.value))
+    (c.in_ok-lanes.ensures.value ∙ ap lanes (c.as_slice.ensures.value ∙ c.in_ok-spans.ensures.value))
+    (c.in_ok-append_build.ensures.items ∙ ap (λ (l : List ℕ). l ++ event_text (build_event b)) c.in_ok-held.ensures.items)) (all_held _ told)
+
+pub append_events-requires-clause-lane : goal.append_events-requires-clause-lane
+append_events-requires-clause-lane g c =
+    let ran = spans (map seen c.args.jobs.now) in
+    let is = c.as_slice-in-loop-i.ensures.value ∙ c.in_ok-lanes.ensures.value ∙ ap lanes (c.as_slice.ensures.value ∙ c.in_ok-spans.ensures.value) in
+    let count : length ran ≡ length c.args.jobs.now =
+    omega (arith, length-map (map seen c.args.jobs.now) (λ j. j.span), length-map c.args.jobs.now seen) in
+    let within : c.loop-i.i < length ran = omega (arith, c.loop-i-test.true, count) in
+    omega (arith, lane_below ran [] c.loop-i.i within, c.lane_at-lane.ensures, ap (λ (l : List ℕ). get_or l c.loop-i.i 0) is, c.loop-i-test.true)
+
+pub loop-i-preserved : goal.loop-i-preserved
+loop-i-preserved g c =
+    let ks = c.args.jobs.now in
+    let ran = spans (map seen ks) in
+    let i = c.loop-i.i in
+    let ls = c.in_ok-lanes.lanes.items in
+    let b : BuildEvent = record { number = c.args.number; began = c.first_began.result; how = c.args.how } in
+    let count : length ran ≡ length ks = omega (arith, length-map (map seen ks) (λ j. j.span), length-map ks seen) in
+    let within : i < length ks = omega (arith, c.loop-i-test.true) in
+    let there : i < length ls = omega (
+      arith,
+      within,
+      count,
+      ap length c.in_ok-lanes.ensures.value,
+      lanes_length c.as_slice.result.now [],
+      ap length c.as_slice.ensures.value,
+      ap length c.in_ok-spans.ensures.value,
+    ) in
+    let are : AreMoments ran c.in_ok-moments.moments = subst (λ (cs : List Span). AreMoments cs c.in_ok-moments.moments)
+    (c.as_slice-2.ensures.value ∙ c.in_ok-spans.ensures.value) c.in_ok-moments.ensures.value in
+    then_moved _ _ _ _ _ _ _ (more_held _ _ _ _ _ _ _ _ (93 ∷ []) (told_next b ran ks ls i c.lane_at-lane.result c.index-jobs-i.result within there
+    c.index-jobs-i.is (c.lane_at-lane.ensures ∙ ap (λ (l : List ℕ). get_or l i 0) c.as_slice-in-loop-i.ensures.value
+    ∙ get_or_default ls i 0 c.lane_at-lane.result there)) (c.in_ok-append_events.ensures.items ran are) c.loop-i.invariant) c.in_ok-write_full.ensures.moved
+
+pub returns-in_err-append_events-clause-writes : goal.returns-in_err-append_events-clause-writes
+returns-in_err-append_events-clause-writes g c =
+    err_writes _ _ _ _ c.from_residual-in_err-append_events.ensures.0 (is_part _ _ _ _ (end_some c.loop-i.held.items _) c.loop-i.invariant)
+
+pub returns-in_err-write_full-clause-writes : goal.returns-in_err-write_full-clause-writes
+returns-in_err-write_full-clause-writes g c =
+    let ks = c.args.jobs.now in
+    let ran = spans (map seen ks) in
+    let i = c.loop-i.i in
+    let ls = c.in_ok-lanes.lanes.items in
+    let b : BuildEvent = record { number = c.args.number; began = c.first_began.result; how = c.args.how } in
+    let count : length ran ≡ length ks = omega (arith, length-map (map seen ks) (λ j. j.span), length-map ks seen) in
+    let within : i < length ks = omega (arith, c.loop-i-test.true) in
+    let there : i < length ls = omega (
+      arith,
+      within,
+      count,
+      ap length c.in_ok-lanes.ensures.value,
+      lanes_length c.as_slice.result.now [],
+      ap length c.as_slice.ensures.value,
+      ap length c.in_ok-spans.ensures.value,
+    ) in
+    let are : AreMoments ran c.in_ok-moments.moments = subst (λ (cs : List Span). AreMoments cs c.in_ok-moments.moments)
+    (c.as_slice-2.ensures.value ∙ c.in_ok-spans.ensures.value) c.in_ok-moments.ensures.value in
+    err_writes _ _ _ _ c.from_residual-in_err-write_full.ensures.0 (part_on _ _ _ _ _ _ (more_held _ _ _ _ _ _ _ _ (93 ∷ []) (told_next b ran ks ls i
+    c.lane_at-lane.result c.index-jobs-i.result within there c.index-jobs-i.is (c.lane_at-lane.ensures ∙ ap (λ (l : List ℕ). get_or l i 0)
+    c.as_slice-in-loop-i.ensures.value ∙ get_or_default ls i 0 c.lane_at-lane.result there)) (c.in_ok-append_events.ensures.items ran are) c.loop-i.invariant)
+    c.in_err-write_full.ensures.prefix)
+
+pub returns-in_err-append-clause-writes : goal.returns-in_err-append-clause-writes
+returns-in_err-append-clause-writes g c =
+    err_writes _ _ _ _ c.from_residual-in_err-append.ensures.0 (is_part _ _ _ _ (end_some c.loop-i.held.items _) c.loop-i.invariant)
+
+pub returns-clause-writes : goal.returns-clause-writes
+returns-clause-writes g c =
+    let ks = c.args.jobs.now in
+    let js = map seen ks in
+    let b : BuildEvent = record { number = c.args.number; began = c.first_began.result; how = c.args.how } in
+    let all : length ks ≤ c.loop-i.i = omega (arith, c.loop-i-test.false) in
+    let over = ap behind_commas (pairs_over (events_of b (spans js)) ks c.in_ok-lanes.lanes.items c.loop-i.i all) in
+    rest_written _ _ _ _ _ c.write_rest.result (rw c.in_ok-append.ensures.items (subst (λ (l : List ℕ). HoldsAllBut (g.W.Write.contents c.args.writer.now)
+    (g.W.Write.contents c.loop-i.writer) (array_text (build_events c.args.number c.args.how js)) (c.loop-i.held.items ++ (l ++ 93 ∷ []))) over
+    c.loop-i.invariant)) c.write_rest.ensures.writes

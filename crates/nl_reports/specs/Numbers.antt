@@ -1,0 +1,47 @@
+-- The numbers of builds (docs/CLI.md, "builds").
+use Rattle.std.specs.Prelude.{ℕ, ◌-◌, ◌<◌, ◌≤◌, ◌*◌, ◌^◌, min, max, List, length, map}
+use Rattle.std.specs.List.{fold, sum_by}
+use Rattle.nl_builds.specs.Builds.{Told}
+use Rattle.nl_reports.specs.Jobs.{Job, build_jobs, commands_to, entries_to}
+use Rattle.nl_reports.specs.Rows.{spans}
+use Rattle.nl_reports.specs.Spans.{time_of}
+use Rattle.nl_reports.specs.declared.numbers.Numbers.{Numbers}
+use Rattle.nl_reports.specs.declared.span.Span.{Span}
+
+abbrev pub spans_of : List Job → List Span
+spans_of js = spans js
+
+-- the first START, which is before the end of time, and the last END
+abbrev pub first_start : List Job → ℕ
+first_start js = fold (λ at (j : Job). min at j.span.began) (2 ^ 32) js
+
+abbrev pub last_end : List Job → ℕ
+last_end js = fold (λ at (j : Job). max at j.span.ended) 0 js
+
+-- the sum of the times of the commands
+abbrev pub total_time : List Job → ℕ
+total_time js = sum_by (λ (j : Job). time_of j.span) js
+
+-- how many outputs the build of a number has
+abbrev pub count_outputs : Told → ℕ → ℕ
+count_outputs t number =
+    entries_to (commands_to number t.builds) t.commands - entries_to (commands_to (number - 1) t.builds) t.commands
+
+-- the numbers of a build: its commands and outputs, the milliseconds from the first START to the last END, and the sum of their times
+abbrev pub numbers_by : ℕ → List Job → Numbers
+numbers_by outputs js = record {
+  commands = length js;
+  outputs = outputs;
+  wall = last_end js - first_start js;
+  total = total_time js;
+}
+
+abbrev pub numbers_of : Told → ℕ → Numbers
+numbers_of t number = numbers_by (count_outputs t number) (build_jobs t number)
+
+-- they are those of commands in memory
+pub record IsSmall (n : Numbers) : Type 0 where
+  pub commands : n.commands < 2 ^ 63
+  pub outputs : n.outputs < 2 ^ 64
+  pub wall : n.wall < 2 ^ 32
+  pub total : n.total < 2 ^ 96

@@ -1,0 +1,63 @@
+-- How far it is from each node of a graph, as it is guessed, and what shows that a path is a longest one.
+use Rattle.std.specs.Prelude.{◌≡◌, ◌≤◌, ◌<◌, ◌+◌, ℕ, List, ◌++◌, Option, None, get_or, length, map, bytes_eq, is_some, option_and_then, option_map}
+use Rattle.std.specs.Borrow.{Bor}
+use Rattle.std.specs.List.{IsDistinct, flat_map}
+use Rattle.std.specs.Map.{keys_of, lookup}
+use Rattle.nl_reports.specs.Critical.{Ran, ran_at, ran_named, ran_time, told_ran, weight}
+use Rattle.nl_reports.specs.GraphText.{ids_of, nodes_of}
+use Rattle.nl_reports.specs.Jobs.{Job}
+use Rattle.nl_reports.specs.Lasting.{is_among}
+use Rattle.nl_reports.specs.Paths.{Graph, IsPath, Node, length_of}
+use Rattle.nl_reports.specs.declared.critical.Ran.{Ran as HeldRan}
+use Rattle.nl_reports.specs.declared.critical.Reaches.{Reaches}
+use Rattle.nl_reports.specs.declared.graph.Edge.{Edge as HeldEdge}
+use Rattle.nl_reports.specs.declared.graph.NinjaGraph.{NinjaGraph}
+
+-- what ran, as it is held
+abbrev pub ran_seen : HeldRan → Ran
+ran_seen r = record { span = r.span; name = r.name.now }
+
+abbrev pub rans_seen : List (Option HeldRan) → List (Option Ran)
+rans_seen rs = map (option_map ran_seen) rs
+
+-- the last command that has a name which a node may have
+abbrev pub ran_named_in : List Job → Option (Bor (List ℕ)) → Option Ran
+ran_named_in js name = option_and_then (λ (n : Bor (List ℕ)). ran_named js n.now) name
+
+-- a map has the names of these nodes
+abbrev pub HoldNames : List Node → List (Bor (List ℕ) × Unit {0}) → Type 0
+HoldNames ns es = (name : List ℕ) → is_some (lookup (λ k. bytes_eq name k.now) es) ≡ is_among name (map (λ (n : Node). n.name) ns)
+
+-- what ran at a place, and how far it is behind it, and from it on
+abbrev pub ran_in : Reaches → ℕ → Option Ran
+ran_in r place = get_or (rans_seen r.ran.items) place None
+
+abbrev pub behind_at : Reaches → ℕ → ℕ
+behind_at r place = get_or r.behind.items place 0
+
+abbrev pub far_at : Reaches → ℕ → ℕ
+far_at r place = ran_time (ran_in r place) + behind_at r place
+
+-- these are of a graph, whose numbers differ: what ran is what ran at each
+pub record AreOf (g : NinjaGraph) (js : List Job) (r : Reaches) : Type 0 where
+  pub graph : r.graph.now ≡ g
+  pub distinct : IsDistinct (λ (x y : Bor (List ℕ)). bytes_eq x.now y.now) (keys_of g.nodes.entries)
+  pub ran : rans_seen r.ran.items ≡ map (ran_at (nodes_of g.nodes.entries) js) (ids_of g.nodes.entries)
+
+-- from no other place it is farther than from this one, which is there if any is
+pub record IsFarthest (r : Reaches) (place : ℕ) : Type 0 where
+  pub within : 0 < length r.ran.items → place < length r.ran.items
+  pub farthest : (k : ℕ) → k < length r.ran.items → far_at r k ≤ far_at r place
+
+-- from where an edge ends it is no farther than it is behind where it begins
+pub record IsTight (r : Reaches) (e : HeldEdge) : Type 0 where
+  pub from : e.from < length r.ran.items
+  pub to : e.to < length r.ran.items
+  pub far : far_at r e.to ≤ behind_at r e.from
+
+-- the lines of a path that is so long
+pub record IsFollowed (g : Graph) (js : List Job) (far : ℕ) (old new : List ℕ) : Type 0 where
+  pub path : List (List ℕ)
+  pub is_path : IsPath g.edges path
+  pub length_is : length_of (weight g.nodes js) path ≡ far
+  pub told : new ≡ old ++ flat_map (λ id. told_ran (ran_at g.nodes js id)) path

@@ -1,0 +1,82 @@
+//! The text of `builds`.
+ghost use Rattle.std.specs.Prelude.{◌≡◌, ◌++◌, IfOk, OnOk, string_bytes};
+ghost use Rattle.nl_reports.specs.BuildsText.{border_word, build_line, builds_text, numbers_line, taken_text};
+ghost use Rattle.nl_reports.specs.Jobs.{told};
+
+use crate::job::jobs_of;
+use crate::numbers::{Numbers, numbers_of};
+use nl_builds::{Build, Builds, How};
+use std::alloc::{AllocError, Global};
+
+/// A line for each build: its number, how many commands and outputs it has, the milliseconds from its first START to its last END, the
+/// sum of the commands' times, and `sure` or `unsure` if it is as written, whether both its borders are sure. If it was found again, that
+/// is `again`, and the line ends with how many of its outputs later builds may have taken.
+pub fn builds_lines(alloc: Global, from: &Builds) -> Result<Vec<u8>, AllocError>
+    ensures value { IfOk result (λ lines. lines.items ≡ builds_text (told from.now)) }
+{
+    let mut lines = Vec::new(alloc);
+    let mut number = 0;
+    for build in &from.builds {
+        number += 1;
+        append_build(alloc, from, number, build, &mut lines)?;
+    }
+    Ok(lines)
+}
+
+fn append_build(
+    alloc: Global,
+    from: &Builds,
+    number: usize,
+    build: &Build,
+    out: &mut Vec<u8>,
+) -> Result<(), AllocError>
+    ensures items { OnOk result
+        (out.new.items ≡ out.old.items ++ build_line (told from.now) number build.now) }
+{
+    let jobs = jobs_of(alloc, from, number)?;
+    let numbers = numbers_of(from, number, jobs.as_slice());
+    append_line(alloc, number, &numbers, build, out)
+}
+
+fn append_line(
+    alloc: Global,
+    number: usize,
+    numbers: &Numbers,
+    build: &Build,
+    out: &mut Vec<u8>,
+) -> Result<(), AllocError>
+    ensures items { OnOk result (out.new.items ≡ out.old.items ++ numbers_line number numbers.now build.now) }
+{
+    let Numbers {
+        commands,
+        outputs,
+        wall,
+        total,
+    } = numbers;
+    let word = border_word(build);
+    let taken = taken_text(alloc, build.how)?;
+    let line = format!(in alloc;
+        "{number}\t{commands}\t{outputs}\t{wall}\t{total}\t{word}{taken}\n"
+    )?;
+    out.extend_from_slice(line.as_bytes())?;
+    Ok(())
+}
+
+fn border_word(build: &Build) -> &'static str
+    ensures { result.now ≡ border_word build.now.how build.now.is_sure }
+{
+    match build.how {
+        How::FoundAgain { .. } => "again",
+        How::AsWritten => if build.is_sure { "sure" } else { "unsure" },
+    }
+}
+
+// How many outputs later builds may have taken, behind a tab.
+fn taken_text(alloc: Global, how: How) -> Result<String, AllocError>
+    ensures value { IfOk result (λ text. string_bytes text ≡ taken_text how) }
+{
+    match how {
+        How::FoundAgain { taken } => format!(in alloc; "\t{taken}"),
+        How::AsWritten => String::from_str(alloc, ""),
+    }
+}

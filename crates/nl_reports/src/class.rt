@@ -1,0 +1,62 @@
+//! How a command stands in two logs.
+ghost use Rattle.std.specs.Prelude.{◌≡◌};
+ghost use Rattle.nl_reports.specs.Compare.{class_by_time, class_number, class_text};
+
+/// How a command stands in an old log and in a new one.
+#[derive(Clone, Copy, Debug, PartialEq, Eq, Drop)]
+pub enum Class {
+    /// The new log alone has it.
+    New,
+    /// The old log alone has it.
+    Gone,
+    /// Another one makes its output, as the hash says.
+    Changed,
+    Slower,
+    Faster,
+    /// One of the two says that it didn't end.
+    Unfinished,
+    Same,
+}
+
+// The class of a command that ran twice. A difference of less than this is none.
+pub(crate) fn class_by_time(least: u64, old: u64, new: u64) -> Class
+    ensures { result ≡ class_by_time least old new }
+{
+    if old.abs_diff(new) < least || old == new {
+        Class::Same
+    } else if old < new {
+        Class::Slower
+    } else {
+        Class::Faster
+    }
+}
+
+// Each class by a number.
+pub(crate) fn class_number(class: Class) -> u8
+    ensures { result ≡ class_number class }
+{
+    match class {
+        Class::New => 0,
+        Class::Gone => 1,
+        Class::Changed => 2,
+        Class::Slower => 3,
+        Class::Faster => 4,
+        Class::Unfinished => 5,
+        Class::Same => 6,
+    }
+}
+
+// What a line says of a command of the class.
+pub(crate) fn class_text(class: Class) -> &'static str
+    ensures { result.now ≡ class_text class }
+{
+    match class {
+        Class::New => "new",
+        Class::Gone => "gone",
+        Class::Changed => "changed",
+        Class::Slower => "slower",
+        Class::Faster => "faster",
+        Class::Unfinished => "unfinished",
+        Class::Same => "same",
+    }
+}

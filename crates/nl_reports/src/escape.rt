@@ -1,0 +1,79 @@
+//! Names as the text of an XML document.
+ghost use Rattle.std.specs.Prelude.{◌≡◌, ◌++◌, IfOk, OnOk};
+ghost use Rattle.nl_reports.specs.Escape.{escaped, label, piece, shown};
+
+use std::alloc::{AllocError, Global};
+
+// The longest text of a name that stands whole, and how many bytes of a longer name are shown.
+const WHOLE: usize = 200;
+
+const START: usize = 40;
+
+/// Appends a name, or how it begins.
+pub(crate) fn append_label(alloc: Global, name: &[u8], out: &mut Vec<u8>) -> Result<(), AllocError>
+    ensures items { OnOk result (out.new.items ≡ out.old.items ++ label name.now) }
+{
+    let whole = shown(alloc, name)?;
+    if whole.len() <= WHOLE {
+        return append(whole.as_slice(), out);
+    }
+    let start = shown(alloc, &name[..name.len().min(START)])?;
+    append(start.as_slice(), out)?;
+    append(b"..", out)
+}
+
+// A name, with U+FFFD for what isn't UTF-8.
+fn shown(alloc: Global, name: &[u8]) -> Result<Vec<u8>, AllocError>
+    ensures value { IfOk result (λ out. out.items ≡ shown name.now) }
+{
+    let text = String::from_utf8_lossy(alloc, name)?;
+    let mut out = Vec::new(alloc);
+    append_escaped(text.as_bytes(), &mut out)?;
+    Ok(out)
+}
+
+fn append_escaped(text: &[u8], out: &mut Vec<u8>) -> Result<(), AllocError>
+    ensures items { OnOk result (out.new.items ≡ out.old.items ++ escaped text.now) }
+{
+    let mut first: u8 = 0;
+    let mut second: u8 = 0;
+    for byte in text {
+        append_piece(first, second, *byte, out)?;
+        first = second;
+        second = *byte;
+    }
+    Ok(())
+}
+
+// What a byte becomes behind two others.
+fn append_piece(first: u8, second: u8, byte: u8, out: &mut Vec<u8>) -> Result<(), AllocError>
+    ensures items { OnOk result (out.new.items ≡ out.old.items ++ piece first second byte) }
+{
+    if byte == b'<' {
+        return append(b"&lt;", out);
+    }
+    if byte == b'>' {
+        return append(b"&gt;", out);
+    }
+    if byte == b'"' {
+        return append(b"&#34;", out);
+    }
+    if byte == b'&' {
+        return append(b"&#38;", out);
+    }
+    if byte <= 31 {
+        return append(b"\xEF\xBF\xBD", out);
+    }
+    if first == 0xEF && second == 0xBF && byte >= 0xBE {
+        return append(b"\xBD", out);
+    }
+    append(&[byte], out)
+}
+
+/// Appends a text.
+pub(crate) fn append(text: &[u8], out: &mut Vec<u8>) -> Result<(), AllocError>
+    ensures items { OnOk result (out.new.items ≡ out.old.items ++ text.now) }
+{
+    out.extend_from_slice(text)?;
+    Ok(())
+}

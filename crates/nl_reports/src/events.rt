@@ -1,0 +1,125 @@
+//! The events of a trace.
+ghost use Rattle.std.specs.Prelude.{◌≡◌, ◌<◌, ◌^◌, ◌++◌, ◌∷◌, List, OnOk};
+ghost use Rattle.nl_reports.specs.Events.{args_of, build_event, command_event, event_text, running_event, shown};
+ghost use Rattle.nl_reports.specs.Jobs.{seen};
+ghost use Rattle.nl_reports.specs.Moments.{AreMoments};
+ghost use Rattle.nl_reports.specs.Spans.{IsEarly};
+ghost use Rattle.nl_reports.specs.declared.span.Span.{Span};
+
+use crate::escape::append;
+use crate::job::Job;
+use crate::moments::Moments;
+use json::Writer;
+use nl_builds::How;
+use nl_fields::append_hex64;
+use std::alloc::{AllocError, Global};
+use std::mem;
+
+/// The build that a trace is of: its number, when it began, and how it is known.
+#[derive(Clone, Copy, Drop)]
+pub(crate) struct BuildEvent {
+    pub number: u64,
+    pub began: u64,
+    pub how: How,
+}
+
+/// Appends the name of a build, which says whether it was found again, and how many of its outputs later builds may have taken.
+pub(crate) fn append_build(
+    alloc: Global,
+    build: BuildEvent,
+    out: &mut Vec<u8>,
+) -> Result<(), AllocError>
+    ensures items { OnOk result (out.new.items ≡ out.old.items ++ event_text (build_event build)) }
+{
+    let number = build.number;
+    match build.how {
+        How::AsWritten => {
+            let text = format!(in alloc;
+                "{{\"args\":{{\"name\":\"build {number}\",\"rewritten\":false}},\"name\":\"process_name\",\"ph\":\"M\",\"pid\":{number}}}"
+            )?;
+            append(text.as_bytes(), out)
+        }
+        How::FoundAgain { taken } => {
+            let text = format!(in alloc;
+                "{{\"args\":{{\"name\":\"build {number}, found again\",\"rewritten\":true,\"taken\":{taken}}},\"name\":\"process_name\",\"ph\":\"M\",\"pid\":{number}}}"
+            )?;
+            append(text.as_bytes(), out)
+        }
+    }
+}
+
+/// Appends a command in a lane, behind a comma.
+pub(crate) fn append_command(
+    alloc: Global,
+    build: BuildEvent,
+    lane: u64,
+    job: &Job<'_, '_>,
+    out: &mut Vec<u8>,
+) -> Result<(), AllocError>
+    requires early { IsEarly job.now.span }
+    requires lane { lane < 2 ^ 63 }
+    ensures items { OnOk result
+        (out.new.items ≡ out.old.items ++ 44 ∷ event_text (command_event build lane (seen job.now))) }
+{
+    let number = build.number;
+    let dur = job.span.time() * 1000;
+    let tid = lane + 1;
+    let ts = job.span.began.saturating_sub(build.began) * 1000;
+    append(b",{\"args\":", out)?;
+    append_args(alloc, job, out)?;
+    let time = format!(in alloc; ",\"dur\":{dur},\"name\":")?;
+    append(time.as_bytes(), out)?;
+    append_shown(alloc, job.name(), out)?;
+    let end = format!(in alloc; ",\"ph\":\"X\",\"pid\":{number},\"tid\":{tid},\"ts\":{ts}}}")?;
+    append(end.as_bytes(), out)
+}
+
+// The hash and the outputs of a command.
+fn append_args(alloc: Global, job: &Job<'_, '_>, out: &mut Vec<u8>) -> Result<(), AllocError>
+    ensures items { OnOk result (out.new.items ≡ out.old.items ++ event_text (args_of (seen job.now))) }
+{
+    let mut digits = Vec::new(alloc);
+    append_hex64(job.hash, &mut digits)?;
+    append(b"{\"hash\":", out)?;
+    append_shown(alloc, digits.as_slice(), out)?;
+    append(b",\"outputs\":[", out)?;
+    let mut comma: &[u8] = b"";
+    for entry in job.outputs {
+        append(comma, out)?;
+        append_shown(alloc, entry.name(), out)?;
+        comma = b",";
+    }
+    append(b"]}", out)
+}
+
+// A name as JSON, with U+FFFD for what isn't UTF-8.
+fn append_shown(alloc: Global, name: &[u8], out: &mut Vec<u8>) -> Result<(), AllocError>
+    ensures items { OnOk result (out.new.items ≡ out.old.items ++ event_text (shown name.now)) }
+{
+    let text = String::from_utf8_lossy(alloc, name)?;
+    let mut json = Writer::new(mem::replace(out, Vec::new(alloc)));
+    json.string(text.as_str())?;
+    *out = json.into_inner();
+    Ok(())
+}
+
+/// Appends how many commands run at a moment, behind a comma.
+pub(crate) fn append_running(
+    alloc: Global,
+    build: BuildEvent,
+    moments: &Moments,
+    at: u64,
+    out: &mut Vec<u8>,
+) -> Result<(), AllocError>
+    requires early { at < 2 ^ 32 }
+    ensures items { (cs : List Span) → AreMoments cs moments.now → OnOk result
+        (out.new.items ≡ out.old.items ++ 44 ∷ event_text (running_event build cs at)) }
+{
+    let number = build.number;
+    let count = moments.running(at);
+    let ts = at.saturating_sub(build.began) * 1000;
+    let text = format!(in alloc;
+        ",{{\"args\":{{\"commands\":{count}}},\"name\":\"running\",\"ph\":\"C\",\"pid\":{number},\"ts\":{ts}}}"
+    )?;
+    append(text.as_bytes(), out)
+}

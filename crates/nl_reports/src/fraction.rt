@@ -1,0 +1,20 @@
+//! Fractions as they are told.
+ghost use Rattle.std.specs.Prelude.{◌≡◌, ◌<◌, ◌^◌, IfOk, string_bytes};
+ghost use Rattle.nl_reports.specs.Fraction.{ratio};
+
+use std::alloc::{AllocError, Global};
+
+// A fraction with two digits behind the point, rounded down.
+pub(crate) fn ratio(alloc: Global, part: u128, whole: u128) -> Result<String, AllocError>
+    requires room { whole < 2 ^ 120 }
+    ensures value { IfOk result (λ text. string_bytes text ≡ ratio part whole) }
+{
+    if whole == 0 {
+        return String::from_str(alloc, "0.00");
+    }
+    let times = part / whole;
+    let hundredths = part % whole * 100 / whole;
+    let tenth = hundredths / 10;
+    let hundredth = hundredths % 10;
+    format!(in alloc; "{times}.{tenth}{hundredth}")
+}

@@ -1,0 +1,118 @@
+//! Where things stand in a picture, and how moments are told.
+ghost use Rattle.std.specs.Prelude.{◌≡◌, ◌<◌, ◌^◌, IfOk, string_bytes};
+ghost use Rattle.std.specs.List.{All};
+ghost use Rattle.nl_reports.specs.Spans.{IsEarly};
+ghost use Rattle.nl_reports.specs.Frame.{IsFrame, across, first_began, foot_of, frame_of, last_closed, line_at, seconds, top_of, x_at, y_at};
+
+use crate::span::Span;
+use std::alloc::{AllocError, Global};
+
+/// When a build began, how long it took, and its highest lane.
+#[derive(Clone, Copy, Drop)]
+pub struct Frame {
+    pub began: u64,
+    pub wall: u64,
+    pub top: u64,
+}
+
+impl Frame {
+    /// Of commands in the order of START, which have these lanes.
+    pub(crate) fn of(spans: &[Span], lanes: &[u64]) -> Frame
+        requires early { All IsEarly spans.now }
+        ensures value { result ≡ frame_of spans.now lanes.now }
+        ensures early { IsFrame result }
+    {
+        let began = first_began(spans);
+        Frame {
+            began,
+            wall: last_closed(spans).saturating_sub(began),
+            top: top_of(lanes),
+        }
+    }
+
+    /// How wide so many milliseconds are, in tenths of a pixel.
+    pub(crate) fn across(&self, ms: u64) -> u64
+        requires early { ms < 2 ^ 32 }
+        ensures value { result ≡ across self.now ms }
+        ensures bound { result < 2 ^ 48 }
+    {
+        ms * 14400 / self.wall.max(1)
+    }
+
+    /// Where a moment stands.
+    pub(crate) fn x_at(&self, at: u64) -> u64
+        requires early { at < 2 ^ 32 }
+        ensures value { result ≡ x_at self.now at }
+    {
+        600 + self.across(at.saturating_sub(self.began))
+    }
+
+    /// The foot of the curve.
+    pub(crate) fn foot(&self) -> u128
+        ensures value { result ≡ foot_of self.now }
+        ensures bound { result < 2 ^ 100 }
+    {
+        y_at(self.top) + 1400
+    }
+
+    /// A line of the legend.
+    pub(crate) fn line_at(&self, line: u64) -> u128
+        ensures value { result ≡ line_at self.now line }
+        ensures bound { result < 2 ^ 101 }
+    {
+        self.foot() + 300 + u128::from(line) * 200
+    }
+}
+
+/// When the first of some commands begins, which are in the order of START; 0 if there is none.
+pub(crate) fn first_began(spans: &[Span]) -> u64
+    requires early { All IsEarly spans.now }
+    ensures value { result ≡ first_began spans.now }
+    ensures bound { result < 2 ^ 32 }
+{
+    match spans.first() {
+        Some(first) => first.began,
+        None => 0,
+    }
+}
+
+fn last_closed(spans: &[Span]) -> u64
+    requires early { All IsEarly spans.now }
+    ensures value { result ≡ last_closed spans.now }
+    ensures bound { result < 2 ^ 32 }
+{
+    let mut last = 0;
+    for span in spans {
+        last = last.max(span.closed());
+    }
+    last
+}
+
+fn top_of(lanes: &[u64]) -> u64
+    ensures value { result ≡ top_of lanes.now }
+{
+    let mut top = 0;
+    for lane in lanes {
+        top = top.max(*lane);
+    }
+    top
+}
+
+/// Where a lane stands.
+pub(crate) fn y_at(lane: u64) -> u128
+    ensures value { result ≡ y_at lane }
+    ensures bound { result < 2 ^ 80 }
+{
+    600 + u128::from(lane) * 160
+}
+
+/// So many milliseconds in seconds.
+pub(crate) fn seconds(alloc: Global, ms: u64) -> Result<String, AllocError>
+    ensures value { IfOk result (λ text. string_bytes text ≡ seconds ms) }
+{
+    let whole = ms / 1000;
+    let tenth = ms % 1000 / 100;
+    let hundredth = ms % 100 / 10;
+    let thousandth = ms % 10;
+    format!(in alloc; "{whole}.{tenth}{hundredth}{thousandth}")
+}

@@ -1,0 +1,134 @@
+//! The commands of a build, with the entries of their outputs.
+ghost use Rattle.std.specs.Prelude.{◌≡◌, drop, map, take, IfOk};
+ghost use Rattle.std.specs.List.{All};
+ghost use Rattle.nl_reports.specs.Jobs.{between, build_jobs, commands_to, entries_to, first_name, jobs_between, jobs_from, seen, told};
+ghost use Rattle.nl_reports.specs.Rows.{by_start};
+ghost use Rattle.nl_reports.specs.Spans.{IsEarly};
+
+use crate::span::Span;
+use nl_builds::{Build, Builds, Command};
+use nl_fields::EntryRef;
+use std::alloc::{AllocError, Global};
+
+/// A command: when it ran, its hash, and the entries of its outputs.
+#[derive(Clone, Copy, Drop)]
+pub struct Job<'s, 'a> {
+    pub span: Span,
+    pub hash: u64,
+    pub outputs: &'s [EntryRef<'a>],
+}
+
+impl<'a> Job<'_, 'a> {
+    /// The name of its first output; empty where it has none.
+    pub fn name(&self) -> &'a [u8]
+        ensures { result.now ≡ first_name self.now.outputs.now }
+    {
+        match self.outputs.first() {
+            Some(entry) => entry.name(),
+            None => b"",
+        }
+    }
+}
+
+/// The commands of the build of this number, from 1, in order; none, if there is no such build.
+pub fn jobs_of<'s, 'a>(
+    alloc: Global,
+    from: &'s Builds<'a>,
+    number: usize,
+) -> Result<Vec<Job<'s, 'a>>, AllocError>
+    ensures value { IfOk result (λ jobs. map seen jobs.items ≡ build_jobs (told from.now) number) }
+    ensures early { IfOk result (λ jobs. All (λ j. IsEarly j.span) jobs.items) }
+{
+    jobs_in(alloc, from, number, number)
+}
+
+/// Those of the builds from a number to another.
+pub(crate) fn jobs_in<'s, 'a>(
+    alloc: Global,
+    from: &'s Builds<'a>,
+    first: usize,
+    last: usize,
+) -> Result<Vec<Job<'s, 'a>>, AllocError>
+    ensures value { IfOk result (λ jobs. map seen jobs.items ≡ jobs_between (told from.now) first last) }
+    ensures early { IfOk result (λ jobs. All (λ j. IsEarly j.span) jobs.items) }
+{
+    let start = commands_to(first.saturating_sub(1), from.builds.as_slice());
+    let end = commands_to(last, from.builds.as_slice());
+    let place = entries_to(start, from.commands.as_slice());
+    let commands = between(start, end, from.commands.as_slice());
+    jobs_from(alloc, place, commands, from.entries.as_slice())
+}
+
+/// These commands, of which the first has the entries from a place on.
+pub(crate) fn jobs_from<'s, 'a>(
+    alloc: Global,
+    place: usize,
+    commands: &[Command],
+    entries: &'s [EntryRef<'a>],
+) -> Result<Vec<Job<'s, 'a>>, AllocError>
+    ensures value { IfOk result (λ jobs. map seen jobs.items ≡ jobs_from entries.now place commands.now) }
+    ensures early { IfOk result (λ jobs. All (λ j. IsEarly j.span) jobs.items) }
+{
+    let mut jobs = Vec::with_capacity(alloc, commands.len())?;
+    let mut start = place;
+    for command in commands {
+        jobs.push(Job {
+            span: Span::of(command),
+            hash: command.hash,
+            outputs: between(start, command.to, entries),
+        })?;
+        start = command.to;
+    }
+    Ok(jobs)
+}
+
+/// How many commands the first builds have, and how many entries the first commands.
+pub(crate) fn commands_to(count: usize, builds: &[Build]) -> usize
+    ensures { result ≡ commands_to count builds.now }
+{
+    if count == 0 {
+        return 0;
+    }
+    match builds.get(count - 1) {
+        Some(build) => build.to,
+        None => 0,
+    }
+}
+
+pub(crate) fn entries_to(count: usize, commands: &[Command]) -> usize
+    ensures { result ≡ entries_to count commands.now }
+{
+    if count == 0 {
+        return 0;
+    }
+    match commands.get(count - 1) {
+        Some(command) => command.to,
+        None => 0,
+    }
+}
+
+/// What stands from one place to another.
+pub(crate) fn between<T>(from: usize, to: usize, items: &[T]) -> &[T]
+    ensures { result.now ≡ between from to items.now }
+{
+    let front = &items[..to.min(items.len())];
+    &front[from.min(front.len())..]
+}
+
+// A moment is before this one.
+const NO_MOMENT: u64 = 1 << 32;
+
+/// The commands in the order of START, and those of one START in their order.
+pub fn jobs_by_start<'s, 'a>(jobs: Vec<Job<'s, 'a>>) -> Result<Vec<Job<'s, 'a>>, AllocError>
+    requires early { All (λ j. IsEarly j.span) jobs.items }
+    ensures value { IfOk result (λ sorted. map seen sorted.items ≡ by_start (map seen jobs.entry.items)) }
+    ensures early { IfOk result (λ sorted. All (λ j. IsEarly j.span) sorted.items) }
+{
+    let mut sorted = jobs;
+    sorted.sort_by(|a, b| {
+        NO_MOMENT
+            .saturating_sub(b.span.began)
+            .cmp(&NO_MOMENT.saturating_sub(a.span.began))
+    })?;
+    Ok(sorted)
+}

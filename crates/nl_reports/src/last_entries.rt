@@ -1,0 +1,150 @@
+//! Builds without what later ones made again.
+ghost use Rattle.std.specs.Prelude.{◌≡◌, ◌-◌, ℕ, List, drop, get_or, length, map, take, IfOk};
+ghost use Rattle.nl_reports.specs.Jobs.{told};
+ghost use Rattle.nl_reports.specs.Lasting.{builds_left, commands_left, is_among, is_held, last_entries, lasting, whole};
+
+use indexmap::IndexSet;
+use nl_builds::{Build, Builds, Command, How};
+use nl_fields::EntryRef;
+use nl_table::Secret;
+use std::alloc::{AllocError, Global};
+
+/// The builds with the last entry of each output alone, if it isn't one of those that wait for a command which didn't end. Commands
+/// and builds of which nothing is left aren't there. Names are hashed under a secret.
+pub fn lasting<'a>(
+    alloc: Global,
+    secret: Secret,
+    waiting: &[&'a [u8]],
+    from: Builds<'a>,
+) -> Result<Builds<'a>, AllocError>
+    ensures value { IfOk result (λ left. told left ≡ lasting (map (λ n. n.now) waiting.now) (told from.entry)) }
+{
+    let Builds {
+        entries,
+        commands,
+        builds,
+    } = from;
+    let (entries, behind) = last_entries(alloc, secret, waiting, entries)?;
+    let (commands, before) = commands_left(
+        alloc,
+        entries.len(),
+        behind.as_slice(),
+        commands.as_slice(),
+    )?;
+    let builds = builds_left(alloc, commands.len(), before.as_slice(), builds.as_slice())?;
+    Ok(Builds {
+        entries,
+        commands,
+        builds,
+    })
+}
+
+// The entries that are left, and of each place how many of them don't stand before it.
+fn last_entries<'a>(
+    alloc: Global,
+    secret: Secret,
+    waiting: &[&'a [u8]],
+    entries: Vec<EntryRef<'a>>,
+) -> Result<(Vec<EntryRef<'a>>, Vec<usize>), AllocError>
+    ensures items { IfOk result (λ left. left.0.items ≡ last_entries (map (λ n. n.now) waiting.now) entries.entry.items) }
+    ensures behind { IfOk result (λ left. (place : ℕ) → get_or left.1.items place 0
+        ≡ length (last_entries (map (λ n. n.now) waiting.now) (drop place entries.entry.items))) }
+{
+    let mut later = names_of(alloc, secret, waiting)?;
+    let mut left = Vec::new(alloc);
+    let mut behind = Vec::with_capacity(alloc, entries.len())?;
+    let mut rest = entries;
+    'entries: while let Some(entry) = rest.pop() {
+        if later.insert(entry.name())? {
+            left.push(entry)?;
+        }
+        behind.push(left.len())?;
+    }
+    left.reverse();
+    behind.reverse();
+    Ok((left, behind))
+}
+
+/// The set of these names, which are hashed under a secret.
+pub(crate) fn names_of<'a>(
+    alloc: Global,
+    secret: Secret,
+    names: &[&'a [u8]],
+) -> Result<IndexSet<&'a [u8], Secret>, AllocError>
+    ensures value { IfOk result (λ set. (name : List ℕ) → is_held set.keys name ≡ is_among name (map (λ n. n.now) names.now)) }
+{
+    let mut set = IndexSet::with_hasher(alloc, secret);
+    for name in names {
+        set.insert(*name)?;
+    }
+    Ok(set)
+}
+
+// The commands that are left, and of each place how many of them stand before it, where so many entries are left, and so many not before
+// each place.
+fn commands_left(
+    alloc: Global,
+    entries: usize,
+    behind: &[usize],
+    commands: &[Command],
+) -> Result<(Vec<Command>, Vec<usize>), AllocError>
+    ensures items { IfOk result (λ left. left.0.items
+        ≡ commands_left (λ place. entries - get_or behind.now place 0) 0 commands.now) }
+    ensures before { IfOk result (λ left. (place : ℕ) → get_or left.1.items place (length left.0.items)
+        ≡ length (commands_left (λ place. entries - get_or behind.now place 0) 0 (take place commands.now))) }
+{
+    let mut left = Vec::new(alloc);
+    let mut before = Vec::with_capacity(alloc, commands.len())?;
+    let mut from = 0;
+    for command in commands {
+        before.push(left.len())?;
+        let to = entries.saturating_sub(number_at(behind, command.to, 0));
+        if from < to {
+            left.push(Command { to, ..*command })?;
+        }
+        from = to;
+    }
+    Ok((left, before))
+}
+
+// The builds that are left, where so many commands are left, and so many before each place.
+fn builds_left(
+    alloc: Global,
+    commands: usize,
+    before: &[usize],
+    builds: &[Build],
+) -> Result<Vec<Build>, AllocError>
+    ensures value { IfOk result (λ left. left.items ≡ builds_left (λ place. get_or before.now place commands) 0 builds.now) }
+{
+    let mut left = Vec::new(alloc);
+    let mut from = 0;
+    for build in builds {
+        let to = number_at(before, build.to, commands);
+        if from < to {
+            left.push(Build {
+                to,
+                how: whole(build.how),
+                ..*build
+            })?;
+        }
+        from = to;
+    }
+    Ok(left)
+}
+
+// The number at a place, and this one behind the end.
+fn number_at(numbers: &[usize], place: usize, end: usize) -> usize
+    ensures { result ≡ get_or numbers.now place end }
+{
+    numbers.get(place).copied().unwrap_or(end)
+}
+
+// That of a build of which no output is missing.
+fn whole(how: How) -> How
+    ensures { result ≡ whole how }
+{
+    match how {
+        How::AsWritten => How::AsWritten,
+        How::FoundAgain { .. } => How::FoundAgain { taken: 0 },
+    }
+}

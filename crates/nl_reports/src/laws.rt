@@ -1,0 +1,175 @@
+//! Laws of weighted times, lists, kinds, comparisons, lanes, events, names and columns, each the contract of a function that does nothing.
+ghost use Rattle.std.specs.Prelude.{◌≡◌, ◌+◌, ◌*◌, ◌<◌, ◌≤◌, ◌^◌, ◌++◌, ◌∷◌, [], ℕ, Bool, true, false, List, Some, count_by, length, map, slice_index, slice_index_or, take};
+ghost use Rattle.std.specs.List.{All, filter, flat_map, sum_by};
+ghost use Rattle.std.specs.List.Sorted.{IsPermutation};
+ghost use Rattle.serde_json.specs.Data.{Data, array};
+ghost use Rattle.serde_json.specs.Read.{read};
+ghost use Rattle.serde_json.specs.View.{items_of};
+ghost use Rattle.nl_builds.specs.Builds.{Told as BuildsTold};
+ghost use Rattle.nl_builds.specs.declared.build.Build.{Build};
+ghost use Rattle.nl_reports.specs.Bars.{bar};
+ghost use Rattle.nl_reports.specs.Columns.{IsQuiet, cell, column, field_at, fields_of, room, shown, width};
+ghost use Rattle.nl_reports.specs.Compare.{Compared, Log, classes, compared, is_of, new_of, of_class, old_of, pairs, told_pair};
+ghost use Rattle.nl_reports.specs.Escape.{IsMadeOfPieces, escaped};
+ghost use Rattle.nl_reports.specs.Escape.{IsQuiet as IsQuietByte};
+ghost use Rattle.nl_reports.specs.Jobs.{Job, build_jobs, first_name, jobs_from, last_number};
+ghost use Rattle.nl_reports.specs.Kinds.{kinds, named, of_kind};
+ghost use Rattle.nl_reports.specs.Lanes.{Begin, lanes};
+ghost use Rattle.nl_reports.specs.Lasting.{Rise, has_outputs, is_among, jobs_left, last_of, lasting, marked, of_name};
+ghost use Rattle.nl_reports.specs.Numbers.{total_time};
+ghost use Rattle.nl_reports.specs.Picture.{bars_of};
+ghost use Rattle.nl_reports.specs.Reading.{FewTaken, IsEvent};
+ghost use Rattle.nl_reports.specs.Rows.{Told, by_start, falling, ranked, spans, told_jobs};
+ghost use Rattle.nl_reports.specs.Spans.{IsEarly, time_of};
+ghost use Rattle.nl_reports.specs.Sweep.{busy_time, left_over, parts, runs_at, weight};
+ghost use Rattle.nl_reports.specs.Trace.{array_text, trace_events, trace_text};
+ghost use Rattle.nl_reports.specs.declared.sides.Rules.{Rules};
+ghost use Rattle.nl_reports.specs.declared.frame.Frame.{Frame};
+ghost use Rattle.nl_reports.specs.declared.kind.KindRule.{KindRule};
+ghost use Rattle.nl_reports.specs.declared.span.Span.{Span};
+
+/// The weighted times of commands, and what is left over, add up to the time in which one command at least runs.
+pub fn weights_add_up()
+    ensures { (cs : List Span) → sum_by (weight cs) cs + left_over cs ≡ parts * busy_time cs }
+{}
+
+/// What is left over is no more parts of a millisecond than the commands' own times have milliseconds.
+pub fn little_is_left_over()
+    ensures { (cs : List Span) → left_over cs ≤ sum_by time_of cs }
+{}
+
+/// A list of commands or kinds is those that it is made of, each once; none is larger than one before it, by what the list goes by; and
+/// those that are equal by it stand as before.
+pub fn the_largest_come_first()
+    ensures each { (rank : Told → ℕ) (ts : List Told) → IsPermutation ts (falling rank ts) }
+    ensures order { (rank : Told → ℕ) (ts : List Told) (i j : ℕ) (d : Told) → i ≤ j
+        → j < length (falling rank ts)
+        → rank (slice_index_or (falling rank ts) j d) ≤ rank (slice_index_or (falling rank ts) i d) }
+    ensures alike { (rank : Told → ℕ) (v : ℕ) (ts : List Told)
+        → ranked rank v (falling rank ts) ≡ ranked rank v ts }
+{}
+
+/// Each kind is told once, with the sums of its own commands.
+pub fn each_kind_is_its_commands()
+    ensures once { (rule : KindRule) (kind : List ℕ) (ts : List Told)
+        → length (named kind (kinds rule ts)) ≤ 1 }
+    ensures commands { (rule : KindRule) (kind : List ℕ) (ts : List Told)
+        → sum_by (λ (k : Told). k.sums.commands) (named kind (kinds rule ts))
+        ≡ sum_by (λ (t : Told). t.sums.commands) (of_kind rule kind ts) }
+    ensures times { (rule : KindRule) (kind : List ℕ) (ts : List Told)
+        → sum_by (λ (k : Told). k.sums.time) (named kind (kinds rule ts))
+        ≡ sum_by (λ (t : Told). t.sums.time) (of_kind rule kind ts) }
+    ensures weights { (rule : KindRule) (kind : List ℕ) (ts : List Told)
+        → sum_by (λ (k : Told). k.sums.weight) (named kind (kinds rule ts))
+        ≡ sum_by (λ (t : Told). t.sums.weight) (of_kind rule kind ts) }
+{}
+
+/// The commands of all kinds are those of the build, and their times add up to the sum of its commands' times. Their weighted times, and
+/// what is left over, add up to the time in which one command at least runs.
+pub fn kinds_add_up()
+    ensures commands { (rule : KindRule) (js : List Job)
+        → sum_by (λ (k : Told). k.sums.commands) (kinds rule (told_jobs js)) ≡ length js }
+    ensures times { (rule : KindRule) (js : List Job)
+        → sum_by (λ (k : Told). k.sums.time) (kinds rule (told_jobs js)) ≡ total_time js }
+    ensures weights { (rule : KindRule) (js : List Job)
+        → sum_by (λ (k : Told). k.sums.weight) (kinds rule (told_jobs js)) + left_over (spans js)
+        ≡ parts * busy_time (spans js) }
+{}
+
+/// What is left of the entries of an output is its last one, and nothing where it waits; and what is left of all stands as before.
+pub fn the_last_entry_of_each_output_is_left()
+    ensures last { (names : List (List ℕ)) (t : BuildsTold) (name : List ℕ) → is_among name names ≡ false
+        → of_name name (lasting names t).entries ≡ last_of (of_name name t.entries) }
+    ensures waiting { (names : List (List ℕ)) (t : BuildsTold) (name : List ℕ) → is_among name names ≡ true
+        → of_name name (lasting names t).entries ≡ [] }
+    ensures order { (names : List (List ℕ)) (t : BuildsTold)
+        → (marks : List Bool) × ((lasting names t).entries ≡ marked marks t.entries) }
+{}
+
+/// Each command keeps those of its outputs that are left, and one of which none is left is gone. Here places rise.
+pub fn each_command_keeps_what_is_left()
+    ensures { (names : List (List ℕ)) (t : BuildsTold) → Rise 0 t.commands
+        → jobs_from (lasting names t).entries 0 (lasting names t).commands
+        ≡ filter has_outputs (jobs_left names t.entries 0 t.commands) }
+{}
+
+/// What is compared are pairs: each command of the old log stands in one, in its order; and those of the new log that stand in pairs, with
+/// an old one or alone, are all of its commands, each once.
+pub fn each_command_is_compared_once()
+    ensures rows { (rules : Rules) (old new : Log)
+        → compared rules old new ≡ map (told_pair rules old new) (pairs old.jobs new.jobs) }
+    ensures old { (js ks : List Job) → flat_map old_of (pairs js ks) ≡ js }
+    ensures new { (js ks : List Job) → IsPermutation ks (flat_map new_of (pairs js ks)) }
+{}
+
+/// The commands that are compared begin with those of the old log, in its order.
+pub fn each_old_command_is_compared()
+    ensures { (rules : Rules) (old new : Log)
+        → map (λ (c : Compared). c.output) (take (length old.jobs) (compared rules old new))
+        ≡ map (λ (j : Job). first_name j.outputs) old.jobs }
+{}
+
+/// Each command is in one class; so the totals of all classes add up to those of all commands, whatever is summed.
+pub fn each_command_is_in_one_class()
+    ensures one { (c : Compared) → count_by (λ k. is_of k c) classes ≡ 1 }
+    ensures sums { (f : Compared → ℕ) (cs : List Compared)
+        → sum_by (λ k. sum_by f (of_class k cs)) classes ≡ sum_by f cs }
+{}
+
+/// No lane holds two commands that run at one moment.
+pub fn no_lane_holds_two_at_once()
+    ensures { (cs : List Span) (i j t : ℕ) (d : Span) → i < j → j < length cs
+        → slice_index (lanes cs) i ≡ slice_index (lanes cs) j → runs_at t (slice_index_or cs i d) ≡ true
+        → runs_at t (slice_index_or cs j d) ≡ true → ⊥ }
+{}
+
+/// A command gets a new lane only if so many others run as it begins: its lane's number is at most that of the commands before it that run
+/// then. So no other choice of lanes has fewer, but for a command that took no time: it runs at no moment, and may take one lane more.
+pub fn lanes_are_few()
+    ensures { (cs : List Span) (i : ℕ) (d : Span) → Begin cs → i < length cs → slice_index (lanes cs) i
+        ≤ count_by (runs_at (slice_index_or cs i d).began) (take i cs) }
+{}
+
+/// By the definition of reading of `serde_json`, the text of any events reads as their array, if each number in them has 64 bits.
+pub fn an_array_reads_as_its_events()
+    ensures { (ds : List Data) → All IsEvent ds → read (array_text ds) ≡ Some (array (items_of ds)) }
+{}
+
+/// The text of a trace reads as the array of its events, where there are no more commands, builds and outputs than a memory holds.
+pub fn a_trace_reads_as_its_events()
+    ensures { (t : BuildsTold) → All (λ (j : Job). IsEarly j.span) (build_jobs t (last_number t))
+        → length t.commands < 2 ^ 63 → length t.builds < 2 ^ 63 → All (λ (b : Build). FewTaken b.how) t.builds
+        → read (trace_text t) ≡ Some (array (items_of (trace_events t))) }
+{}
+
+/// No escaped text has a `<`, a `>`, a `"` or a control character below 32, and each `&` in it begins an entity.
+pub fn escaped_text_is_quiet()
+    ensures bytes { (text : List ℕ) → All IsQuietByte (escaped text) }
+    ensures pieces { (text : List ℕ) → IsMadeOfPieces (escaped text) }
+{}
+
+/// The bar of a command takes at most 400 bytes, its title included, whatever its outputs are called.
+pub fn a_bar_takes_at_most_400_bytes()
+    ensures { (f : Frame) (ks : List (List ℕ)) (j : Job) (lane : ℕ) → length ks ≤ 9 → IsEarly j.span
+        → length j.outputs < 2 ^ 63 → lane < 2 ^ 63 → length (bar f ks (j, lane)) ≤ 400 }
+{}
+
+/// All bars of a picture, those of short commands too, take at most 400 bytes for each command.
+pub fn bars_take_at_most_400_bytes_a_command()
+    ensures { (js : List Job) → All (λ (j : Job). IsEarly j.span) js → All (λ (j : Job). length j.outputs < 2 ^ 63) js
+        → length js < 2 ^ 63 → length (bars_of (by_start js)) ≤ 400 * length js }
+{}
+
+/// Columns line up: in each line of a text with as many fields, a cell that others follow is as wide as the widest field of its column,
+/// and two characters more.
+pub fn columns_line_up()
+    ensures { (before : List (List ℕ)) (line : List ℕ) (later : List (List ℕ)) (place : ℕ)
+        → width (cell false
+        (column (length (fields_of line)) place (before ++ line ∷ later) room) (field_at line place))
+        ≡ (column (length (fields_of line)) place (before ++ line ∷ later) room).width + 2 }
+{}
+
+/// No name makes a terminal do anything: what is laid out has no control character, of one byte or of two, but tabs and newlines.
+pub fn nothing_is_obeyed()
+    ensures { (text : List ℕ) → IsQuiet 0 (shown text) }
+{}

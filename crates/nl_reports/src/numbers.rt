@@ -1,0 +1,70 @@
+//! The numbers of builds.
+ghost use Rattle.std.specs.Prelude.{◌≡◌, map, IfOk};
+ghost use Rattle.std.specs.List.{All};
+ghost use Rattle.nl_reports.specs.Jobs.{build_jobs, seen, told};
+ghost use Rattle.nl_reports.specs.Numbers.{IsSmall, count_outputs, numbers_of, spans_of};
+ghost use Rattle.nl_reports.specs.Spans.{IsEarly};
+
+use crate::job::{Job, commands_to, entries_to};
+use crate::span::Span;
+use nl_builds::Builds;
+use std::alloc::{AllocError, Global};
+
+/// The numbers of a build. Times are in milliseconds.
+#[derive(Clone, Copy, Drop)]
+pub struct Numbers {
+    pub commands: usize,
+    pub outputs: usize,
+    /// From the first START to the last END.
+    pub wall: u64,
+    /// The sum of the times of the commands.
+    pub total: u128,
+}
+
+// A moment is before this one.
+const NO_MOMENT: u64 = 1 << 32;
+
+/// Those of the build of this number, which has these commands.
+pub fn numbers_of(from: &Builds, number: usize, jobs: &[Job<'_, '_>]) -> Numbers
+    requires early { All (λ j. IsEarly j.span) jobs.now }
+    ensures value { map seen jobs.now ≡ build_jobs (told from.now) number → result ≡ numbers_of (told from.now) number }
+    ensures small { IsSmall result }
+{
+    let mut began = NO_MOMENT;
+    let mut ended = 0;
+    let mut total: u128 = 0;
+    for job in jobs {
+        began = began.min(job.span.began);
+        ended = ended.max(job.span.ended);
+        total += u128::from(job.span.time());
+    }
+    Numbers {
+        commands: jobs.len(),
+        outputs: count_outputs(from, number),
+        wall: ended.saturating_sub(began),
+        total,
+    }
+}
+
+// How many outputs the commands of a build have.
+fn count_outputs(from: &Builds, number: usize) -> usize
+    ensures { result ≡ count_outputs (told from.now) number }
+{
+    let first = commands_to(number.saturating_sub(1), from.builds.as_slice());
+    let end = commands_to(number, from.builds.as_slice());
+    let start = entries_to(first, from.commands.as_slice());
+    entries_to(end, from.commands.as_slice()).saturating_sub(start)
+}
+
+/// When each of these commands ran.
+pub fn spans_of(alloc: Global, jobs: &[Job<'_, '_>]) -> Result<Vec<Span>, AllocError>
+    requires early { All (λ j. IsEarly j.span) jobs.now }
+    ensures value { IfOk result (λ spans. spans.items ≡ spans_of (map seen jobs.now)) }
+    ensures early { IfOk result (λ spans. All IsEarly spans.items) }
+{
+    let mut spans = Vec::with_capacity(alloc, jobs.len())?;
+    for job in jobs {
+        spans.push(job.span)?;
+    }
+    Ok(spans)
+}

@@ -1,0 +1,111 @@
+//! Orders of edges, and cycles: that an order is one isn't shown, and is checked by those who use it.
+ghost use Rattle.std.specs.Prelude.{◌≡◌, ℕ, List, map, IfErr, IfSome, IsErrOf};
+ghost use Rattle.nl_tool_texts.specs.declared.fault.ToolFault.{ToolFault};
+ghost use Rattle.nl_reports.specs.GraphText.{IsGraphFault, seen_edge};
+ghost use Rattle.nl_reports.specs.Paths.{ClosesCycle};
+
+use crate::graph::Edge;
+use nl_tool_texts::ToolFault;
+use std::alloc::{AllocError, Global};
+
+// No place.
+const NONE: usize = usize::MAX;
+
+// Where a walk into the depth of a graph stands at a node: at the first edge from it that wasn't looked at, and whether it went on from
+// here and didn't yet come back.
+#[derive(Clone, Copy, Drop)]
+struct Mark {
+    first: usize,
+    open: bool,
+}
+
+const DONE: Mark = Mark {
+    first: NONE,
+    open: false,
+};
+
+/// The places of all edges between so many nodes, each behind those that lead to where it begins. An edge of a cycle is refused by its
+/// line. If an edge is found to be of one and isn't, memory is told to be wanting: no such case is known.
+pub(crate) fn order_of(alloc: Global, count: usize, edges: &[Edge]) -> Result<Vec<usize>, ToolFault>
+    ensures told_line { (ids : List (List ℕ)) (line : ℕ) → IsErrOf result (ToolFault.BadLine line)
+        → ClosesCycle (map (seen_edge ids) edges.now) line }
+    ensures faults { IfErr result IsGraphFault }
+{
+    let mut marks = Vec::new(alloc);
+    marks.resize(count, DONE)?;
+    let next = next_edges(alloc, edges, marks.as_mut_slice())?;
+    let mut order = Vec::new(alloc);
+    // The edges from a start to the node at which the walk is.
+    let mut way = Vec::new(alloc);
+    let mut start = 0;
+    let mut node = 0;
+    for _ in 0..u64::MAX {
+        if start >= count {
+            break;
+        }
+        let place = mark_at(marks.as_slice(), node).first;
+        if let Some(edge) = edges.get(place) {
+            let first = next.get(place).copied().unwrap_or(NONE);
+            set_mark(marks.as_mut_slice(), node, first, true);
+            way.push(place).map_err(AllocError::from)?;
+            node = edge.to;
+            if mark_at(marks.as_slice(), node).open {
+                return match closing_line(way.as_slice(), edges) {
+                    Some(line) => Err(ToolFault::BadLine(line)),
+                    None => Err(ToolFault::Memory),
+                };
+            }
+        } else if let Some(seen) = way.pop() {
+            order.push(seen).map_err(AllocError::from)?;
+            node = edges.get(seen).map_or(start, |edge| edge.from);
+            let first = mark_at(marks.as_slice(), node).first;
+            set_mark(marks.as_mut_slice(), node, first, false);
+        } else {
+            start += 1;
+            node = start;
+        }
+    }
+    order.reverse();
+    Ok(order)
+}
+
+// For each edge the one from the same node that is looked at behind it; the marks are of those that are looked at first.
+fn next_edges(alloc: Global, edges: &[Edge], marks: &mut [Mark]) -> Result<Vec<usize>, AllocError> {
+    let mut next = Vec::new(alloc);
+    for place in 0..edges.len() {
+        let from = edges[place].from;
+        next.push(mark_at(marks, from).first)?;
+        set_mark(marks, from, place, false);
+    }
+    Ok(next)
+}
+
+fn mark_at(marks: &[Mark], node: usize) -> Mark {
+    marks.get(node).copied().unwrap_or(DONE)
+}
+
+fn set_mark(marks: &mut [Mark], node: usize, first: usize, open: bool) {
+    if node < marks.len() {
+        marks[node] = Mark { first, open };
+    }
+}
+
+// The line of the last of some edges, if those before it lead to where it begins from where it ends.
+fn closing_line(way: &[usize], edges: &[Edge]) -> Option<u64>
+    ensures cycle { (ids : List (List ℕ)) → IfSome result (ClosesCycle (map (seen_edge ids) edges.now)) }
+{
+    let (place, before) = way.split_last()?;
+    let last = edges.get(*place)?;
+    let mut head = last.from;
+    let mut rest = before;
+    'way: while head != last.to {
+        let (place, before) = rest.split_last()?;
+        let edge = edges.get(*place)?;
+        if edge.to != head {
+            return None;
+        }
+        head = edge.from;
+        rest = before;
+    }
+    Some(last.line)
+}

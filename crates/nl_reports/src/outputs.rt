@@ -1,0 +1,56 @@
+//! Which command has an output.
+ghost use Rattle.std.specs.Prelude.{◌≡◌, ◌++◌, ◌∷◌, [], ℕ, List, map, IfOk, OnOk};
+ghost use Rattle.nl_reports.specs.Jobs.{seen};
+ghost use Rattle.nl_reports.specs.Outputs.{HoldPlaces, last_at, places_from, places_of};
+
+use crate::job::Job;
+use indexmap::IndexMap;
+use nl_table::Secret;
+use std::alloc::{AllocError, Global};
+
+/// The places of the commands by their outputs.
+#[derive(Drop)]
+pub struct Outputs<'a> {
+    places: IndexMap<&'a [u8], usize, Secret>,
+}
+
+impl<'a> Outputs<'a> {
+    /// Those of these commands. Names are hashed under a secret.
+    pub fn of(
+        alloc: Global,
+        secret: Secret,
+        jobs: &[Job<'_, 'a>],
+    ) -> Result<Outputs<'a>, AllocError>
+        ensures value { IfOk result (λ outputs. HoldPlaces (places_of (map seen jobs.now)) outputs.places.entries) }
+    {
+        let mut places = IndexMap::with_hasher(alloc, secret);
+        for place in 0..jobs.len() {
+            put_outputs(&jobs[place], place, &mut places)?;
+        }
+        Ok(Outputs { places })
+    }
+
+    /// The place of the last command that has this output.
+    pub fn place_of(&self, name: &[u8]) -> Option<usize>
+        ensures value { (ps : List (List ℕ × ℕ)) → HoldPlaces ps self.now.places.entries → result ≡ last_at ps name.now }
+    {
+        match self.places.get(name) {
+            Some(place) => Some(*place),
+            None => None,
+        }
+    }
+}
+
+fn put_outputs<'a>(
+    job: &Job<'_, 'a>,
+    place: usize,
+    places: &mut IndexMap<&'a [u8], usize, Secret>,
+) -> Result<(), AllocError>
+    ensures ok { (ps : List (List ℕ × ℕ)) → HoldPlaces ps places.old.entries
+        → OnOk result (HoldPlaces (ps ++ places_from place (seen job.now ∷ [])) places.new.entries) }
+{
+    for entry in job.outputs {
+        places.insert(entry.name(), place)?;
+    }
+    Ok(())
+}

@@ -1,0 +1,147 @@
+//! Commands and kinds of commands, the largest first.
+ghost use Rattle.std.specs.Prelude.{◌≡◌, ◌++◌, map, IfOk, OnOk};
+ghost use Rattle.nl_reports.specs.Rows.{falling, list_key, list_line, list_lines, rank_key, rank_of, shown_name, told_row};
+ghost use Rattle.nl_reports.specs.declared.rows.Rank.TheVariants.{Time, Weight};
+
+use crate::fraction::ratio;
+use crate::sweep::PARTS;
+use std::alloc::{AllocError, Global};
+
+/// How many commands there are, the sum of their milliseconds, and that of their weighted times, in parts of a millisecond.
+#[derive(Clone, Copy, Drop)]
+pub struct Sums {
+    pub commands: u128,
+    pub time: u128,
+    pub weight: u128,
+}
+
+/// A command by its first output, or a kind, with its sums.
+#[derive(Clone, Copy, Drop)]
+pub struct Row<'a> {
+    pub name: &'a [u8],
+    pub sums: Sums,
+}
+
+/// By what rows are ranked.
+#[derive(Clone, Copy, Drop)]
+pub enum Rank {
+    Time,
+    Weight,
+}
+
+/// What a list has.
+#[derive(Clone, Copy, Drop)]
+pub enum Listed {
+    Commands,
+    Kinds,
+}
+
+/// The rows by rank, the highest first, and those of one rank in their order.
+pub fn falling_by<'a>(
+    alloc: Global,
+    rank: Rank,
+    rows: &[Row<'a>],
+) -> Result<Vec<Row<'a>>, AllocError>
+    ensures value { IfOk result (λ sorted. sorted.items ≡ falling (rank_of rank) rows.now) }
+{
+    match rank {
+        Rank::Time => falling_by_time(alloc, rows),
+        Rank::Weight => falling_by_weight(alloc, rows),
+    }
+}
+
+fn falling_by_time<'a>(alloc: Global, rows: &[Row<'a>]) -> Result<Vec<Row<'a>>, AllocError>
+    ensures items { IfOk result (λ sorted. sorted.items ≡ falling (rank_of Time) rows.now) }
+{
+    let mut sorted = Vec::from_slice(alloc, rows)?;
+    sorted.sort_by(|a, b| b.sums.time.cmp(&a.sums.time))?;
+    Ok(sorted)
+}
+
+fn falling_by_weight<'a>(alloc: Global, rows: &[Row<'a>]) -> Result<Vec<Row<'a>>, AllocError>
+    ensures items { IfOk result (λ sorted. sorted.items ≡ falling (rank_of Weight) rows.now) }
+{
+    let mut sorted = Vec::from_slice(alloc, rows)?;
+    sorted.sort_by(|a, b| b.sums.weight.cmp(&a.sums.weight))?;
+    Ok(sorted)
+}
+
+/// Appends the lines of so many rows at most, the highest by this rank first.
+pub(crate) fn append_list(
+    alloc: Global,
+    listed: Listed,
+    rank: Rank,
+    most: usize,
+    rows: &[Row<'_>],
+    lines: &mut Vec<u8>,
+) -> Result<(), AllocError>
+    ensures items { OnOk result
+        (lines.new.items ≡ lines.old.items ++ list_lines listed rank most (map told_row rows.now)) }
+{
+    let sorted = falling_by(alloc, rank, rows)?;
+    let count = most.min(sorted.len());
+    for i in 0..count {
+        append_row(alloc, listed, rank, &sorted[i], lines)?;
+    }
+    Ok(())
+}
+
+fn append_row(
+    alloc: Global,
+    listed: Listed,
+    rank: Rank,
+    row: &Row<'_>,
+    lines: &mut Vec<u8>,
+) -> Result<(), AllocError>
+    ensures items { OnOk result
+        (lines.new.items ≡ lines.old.items ++ list_line listed rank (told_row row.now)) }
+{
+    append_key(alloc, listed, rank, row.sums.commands, lines)?;
+    let time = row.sums.time;
+    let weighted = ratio(alloc, row.sums.weight, u128::from(PARTS))?;
+    let times = format!(in alloc; "{time}\t{weighted}\t")?;
+    lines.extend_from_slice(times.as_bytes())?;
+    lines.extend_from_slice(shown_name(listed, row.name))?;
+    lines.push(b'\n')?;
+    Ok(())
+}
+
+// What a line begins with: of kinds with how many commands there are.
+fn append_key(
+    alloc: Global,
+    listed: Listed,
+    rank: Rank,
+    commands: u128,
+    lines: &mut Vec<u8>,
+) -> Result<(), AllocError>
+    ensures items { OnOk result (lines.new.items ≡ lines.old.items ++ list_key listed rank commands) }
+{
+    let by = rank_key(rank);
+    match listed {
+        Listed::Commands => lines.extend_from_slice(by.as_bytes())?,
+        Listed::Kinds => {
+            let key = format!(in alloc; "kinds-{by}{commands}\t")?;
+            lines.extend_from_slice(key.as_bytes())?;
+        }
+    }
+    Ok(())
+}
+
+fn rank_key(rank: Rank) -> &'static str
+    ensures { result.now ≡ rank_key rank }
+{
+    match rank {
+        Rank::Time => "by-time\t",
+        Rank::Weight => "by-weight\t",
+    }
+}
+
+// How a row is named: a kind without a name has one here.
+fn shown_name(listed: Listed, name: &[u8]) -> &[u8]
+    ensures { result.now ≡ shown_name listed name.now }
+{
+    match listed {
+        Listed::Commands => name,
+        Listed::Kinds => if name.is_empty() { b"(none)" } else { name },
+    }
+}

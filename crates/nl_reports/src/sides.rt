@@ -1,0 +1,248 @@
+//! The commands of two logs, side by side.
+ghost use Rattle.std.specs.Prelude.{◌≡◌, ℕ, List, false, get_or, map, option_map, IfOk};
+ghost use Rattle.nl_reports.specs.Compare.{compared, compared_of, cost_of, fresh, held_side, job_at, new_time, of_class, old_time, or_unfinished, pair_of, partner, side_of, time_in, told_pair, waits, with_taken};
+ghost use Rattle.nl_reports.specs.Jobs.{seen};
+ghost use Rattle.nl_reports.specs.Outputs.{HoldPlaces};
+ghost use Rattle.nl_reports.specs.Rows.{falling};
+
+use crate::class::{Class, class_by_time, class_number};
+use crate::job::{Job, jobs_from};
+use crate::last_entries::names_of;
+use crate::outputs::Outputs;
+use indexmap::IndexSet;
+use nl_builds::Builds;
+use nl_table::Secret;
+use nl_versions::LogVersion;
+use std::alloc::{AllocError, Global};
+
+/// A log that is compared: its version, its builds with the last entry of each output alone, and the outputs that wait for a command
+/// which didn't end.
+#[derive(Clone, Copy, Drop)]
+pub struct Side<'s, 'a> {
+    pub version: LogVersion,
+    pub told: &'s Builds<'a>,
+    pub waiting: &'s [&'a [u8]],
+}
+
+/// What is compared: whether hashes can be, and from how many milliseconds on a difference is one.
+#[derive(Clone, Copy, Drop)]
+pub struct Rules {
+    pub hashes: bool,
+    pub least: u64,
+}
+
+/// A command of two logs: how it stands in them, the milliseconds that it took in each, 0 where it isn't there or didn't end, and its
+/// first output.
+#[derive(Clone, Copy, Drop)]
+pub struct ComparedRow<'a> {
+    pub class: Class,
+    pub old: u64,
+    pub new: u64,
+    pub output: &'a [u8],
+}
+
+// The commands of a log, and what waits in it.
+#[derive(Drop)]
+struct Held<'s, 'a> {
+    jobs: Vec<Job<'s, 'a>>,
+    waiting: IndexSet<&'a [u8], Secret>,
+}
+
+impl<'s, 'a> Held<'s, 'a> {
+    fn of(alloc: Global, secret: Secret, side: &Side<'s, 'a>) -> Result<Held<'s, 'a>, AllocError>
+        ensures value { IfOk result (λ held. held_side held ≡ side_of side.now) }
+    {
+        let told = side.told;
+        let jobs = jobs_from(alloc, 0, told.commands.as_slice(), told.entries.as_slice())?;
+        let waiting = names_of(alloc, secret, side.waiting)?;
+        Ok(Held { jobs, waiting })
+    }
+
+    // Whether an output of a command waits.
+    fn waits(&self, job: &Job<'_, 'a>) -> bool
+        ensures { result ≡ waits (held_side self.now) (seen job.now) }
+    {
+        job.outputs
+            .iter()
+            .any(|entry| self.waiting.contains(entry.name()))
+    }
+
+    // How long a command took: not at all, where it didn't end.
+    fn time(&self, job: &Job<'_, 'a>) -> u64
+        ensures { result ≡ time_in (held_side self.now) (seen job.now) }
+    {
+        if self.waits(job) { 0 } else { job.span.time() }
+    }
+}
+
+/// The commands of two logs: those of the old one, and then those that the new one alone has. A command of the old log is met by that of
+/// the new one which has the first of its outputs whose command meets none before it. Names are hashed under a secret.
+pub fn compared<'a>(
+    alloc: Global,
+    secret: Secret,
+    rules: Rules,
+    old: &Side<'_, 'a>,
+    new: &Side<'_, 'a>,
+) -> Result<Vec<ComparedRow<'a>>, AllocError>
+    ensures value { IfOk result (λ rows. map compared_of rows.items ≡ compared rules (side_of old.now) (side_of new.now)) }
+{
+    let before = Held::of(alloc, secret, old)?;
+    let after = Held::of(alloc, secret, new)?;
+    told_pairs(alloc, secret, rules, &before, &after)
+}
+
+fn told_pairs<'a>(
+    alloc: Global,
+    secret: Secret,
+    rules: Rules,
+    old: &Held<'_, 'a>,
+    new: &Held<'_, 'a>,
+) -> Result<Vec<ComparedRow<'a>>, AllocError>
+    ensures value { IfOk result (λ rows. map compared_of rows.items ≡ compared rules (held_side old.now) (held_side new.now)) }
+{
+    let outputs = Outputs::of(alloc, secret, new.jobs.as_slice())?;
+    let mut left = vec![in alloc; true; new.jobs.len()]?;
+    let mut rows = Vec::new(alloc);
+    for job in &old.jobs {
+        let place = partner(&outputs, left.as_slice(), job);
+        let other = take_out(place, new.jobs.as_slice(), left.as_mut_slice());
+        rows.push(met(rules, old, new, job, other))?;
+    }
+    let mut place = 0;
+    for other in &new.jobs {
+        if is_left(left.as_slice(), place) {
+            rows.push(row(
+                Class::New,
+                old.waits(other),
+                0,
+                new.time(other),
+                other.name(),
+            ))?;
+        }
+        place += 1;
+    }
+    Ok(rows)
+}
+
+// The place of the command that meets this one, among those that are left.
+fn partner(outputs: &Outputs<'_>, left: &[bool], job: &Job<'_, '_>) -> Option<usize>
+    ensures value { (ps : List (List ℕ × ℕ)) → HoldPlaces ps outputs.now.places.entries
+        → result ≡ partner ps left.now job.now.outputs.now }
+{
+    for entry in job.outputs {
+        if let Some(place) = outputs.place_of(entry.name()) {
+            if is_left(left, place) {
+                return Some(place);
+            }
+        }
+    }
+    None
+}
+
+fn is_left(left: &[bool], place: usize) -> bool
+    ensures { result ≡ get_or left.now place false }
+{
+    left.get(place).copied().unwrap_or(false)
+}
+
+// The command at a place, which is then left no more.
+fn take_out<'j, 's, 'a>(
+    place: Option<usize>,
+    jobs: &'j [Job<'s, 'a>],
+    left: &mut [bool],
+) -> Option<&'j Job<'s, 'a>>
+    ensures value { option_map (λ k. seen k.now) result ≡ job_at (map seen jobs.now) place }
+    ensures left { left.new ≡ with_taken left.old place }
+{
+    let at = place?;
+    if at < left.len() {
+        left[at] = false;
+    }
+    jobs.get(at)
+}
+
+// A command of the old log, with that of the new one that meets it, if one does.
+fn met<'a>(
+    rules: Rules,
+    old: &Held<'_, 'a>,
+    new: &Held<'_, 'a>,
+    job: &Job<'_, 'a>,
+    other: Option<&Job<'_, 'a>>,
+) -> ComparedRow<'a>
+    ensures value { compared_of result ≡ told_pair rules (held_side old.now) (held_side new.now)
+        (pair_of (seen job.now) (option_map (λ k. seen k.now) other.entry)) }
+{
+    let before = old.time(job);
+    let Some(partner) = other else {
+        return row(Class::Gone, new.waits(job), before, 0, job.name());
+    };
+    let after = new.time(partner);
+    let class = if rules.hashes && job.hash != partner.hash {
+        Class::Changed
+    } else {
+        class_by_time(rules.least, before, after)
+    };
+    let is_waiting = old.waits(job) || new.waits(partner);
+    row(class, is_waiting, before, after, job.name())
+}
+
+// A command of a class, if none of its outputs waits.
+fn row(class: Class, is_waiting: bool, old: u64, new: u64, output: &[u8]) -> ComparedRow<'_>
+    ensures value { compared_of result ≡ record {
+      class = or_unfinished class is_waiting;
+      old = old;
+      new = new;
+      output = output.now;
+    } }
+{
+    ComparedRow {
+        class: if is_waiting { Class::Unfinished } else { class },
+        old,
+        new,
+        output,
+    }
+}
+
+/// Those of a class, in order.
+pub(crate) fn of_class<'a>(
+    alloc: Global,
+    class: Class,
+    rows: &[ComparedRow<'a>],
+) -> Result<Vec<ComparedRow<'a>>, AllocError>
+    ensures value { IfOk result
+        (λ kept. map compared_of kept.items ≡ of_class class (map compared_of rows.now)) }
+{
+    let mut kept = Vec::new(alloc);
+    for row in rows {
+        if class_number(row.class) == class_number(class) {
+            kept.push(*row)?;
+        }
+    }
+    Ok(kept)
+}
+
+/// How long some commands took in the old log, in milliseconds.
+pub(crate) fn old_time(rows: &[ComparedRow<'_>]) -> u128
+    ensures { result ≡ old_time (map compared_of rows.now) }
+{
+    rows.iter().map(|row| u128::from(row.old)).sum()
+}
+
+/// The same in the new log.
+pub(crate) fn new_time(rows: &[ComparedRow<'_>]) -> u128
+    ensures { result ≡ new_time (map compared_of rows.now) }
+{
+    rows.iter().map(|row| u128::from(row.new)).sum()
+}
+
+/// Those with the largest differences first, and equal ones in order.
+pub(crate) fn falling_by_cost<'a>(
+    alloc: Global,
+    rows: &[ComparedRow<'a>],
+) -> Result<Vec<ComparedRow<'a>>, AllocError>
+    ensures items { IfOk result (λ sorted. sorted.items ≡ falling cost_of rows.now) }
+{
+    let mut sorted = Vec::from_slice(alloc, rows)?;
+    sorted.sort_by(|a, b| b.old.abs_diff(b.new).cmp(&a.old.abs_diff(a.new)))?;
+    Ok(sorted)
+}

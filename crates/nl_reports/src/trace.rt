@@ -1,0 +1,101 @@
+//! The text of `trace`.
+ghost use Rattle.std.specs.Prelude.{◌≡◌, ◌<◌, ◌^◌, ◌++◌, List, map, IfErr, OnOk};
+ghost use Rattle.std.specs.List.{All};
+ghost use Rattle.nl_reports.specs.Jobs.{seen, told};
+ghost use Rattle.nl_reports.specs.Moments.{AreMoments};
+ghost use Rattle.nl_reports.specs.Spans.{IsEarly};
+ghost use Rattle.nl_reports.specs.Trace.{array_text, behind_commas, build_events, events_of, how_of, trace_text};
+ghost use Rattle.nl_reports.specs.Writing.{IsWriteFault, Writes};
+ghost use Rattle.nl_reports.specs.declared.span.Span.{Span};
+
+use crate::choice::last_number;
+use crate::escape::append;
+use crate::events::{BuildEvent, append_build, append_command, append_running};
+use crate::frame::first_began;
+use crate::job::{Job, jobs_by_start, jobs_of};
+use crate::lanes::{lane_at, lanes_of};
+use crate::moments::Moments;
+use crate::numbers::spans_of;
+use crate::writing::{write_full, write_rest};
+use nl_builds::{Build, Builds, How};
+use nl_tool_texts::{ToolFault, write_out};
+use std::alloc::{AllocError, Global};
+use std::io::Write;
+
+/// Writes what the last build did that isn't the manifest's alone, as the events of a trace: a JSON array. Each command has a lane, in
+/// which no other runs as it does, and all its outputs; and it is told how many run as it begins and as it has ended. The text is written
+/// as it is made, so a part of it may stand where memory is refused.
+#[tactic(auto, using(crate::proofs::TraceLemmas::none_told))]
+pub fn write_trace<W: Write>(alloc: Global, from: &Builds, writer: &mut W) -> Result<(), ToolFault>
+    ensures writes { Writes (W.contents writer.old) (W.contents writer.new) (trace_text (told from.now)) result }
+    ensures faults { IfErr result IsWriteFault }
+{
+    let number = last_number(from);
+    let Some(how) = how_of(number, from.builds.as_slice()) else {
+        return write_out(b"[]", writer);
+    };
+    let jobs = jobs_by_start(jobs_of(alloc, from, number)?)?;
+    write_events(alloc, number as u64, how, jobs.as_slice(), writer)
+}
+
+/// How the build of a number is known; None if there is no such build.
+pub(crate) fn how_of(number: usize, builds: &[Build]) -> Option<How>
+    ensures { result ≡ how_of number builds.now }
+{
+    match builds.get(number.saturating_sub(1)) {
+        Some(build) => Some(build.how),
+        None => None,
+    }
+}
+
+// Writes the events of the build of this number, which has these commands.
+#[tactic(auto, using(crate::proofs::TraceLemmas::none_told))]
+fn write_events<W: Write>(
+    alloc: Global,
+    number: u64,
+    how: How,
+    jobs: &[Job<'_, '_>],
+    writer: &mut W,
+) -> Result<(), ToolFault>
+    requires early { All (λ j. IsEarly j.span) jobs.now }
+    ensures writes { Writes (W.contents writer.old) (W.contents writer.new)
+        (array_text (build_events number how (map seen jobs.now))) result }
+    ensures faults { IfErr result IsWriteFault }
+{
+    let spans = spans_of(alloc, jobs)?;
+    let lanes = lanes_of(alloc, spans.as_slice())?;
+    let moments = Moments::of(alloc, spans.as_slice())?;
+    let build = BuildEvent {
+        number,
+        began: first_began(spans.as_slice()),
+        how,
+    };
+    let mut held = Vec::from_slice(alloc, b"[")?;
+    append_build(alloc, build, &mut held)?;
+    for i in 0..jobs.len() {
+        let lane = lane_at(lanes.as_slice(), i);
+        append_events(alloc, build, &moments, lane, &jobs[i], &mut held)?;
+        write_full(&mut held, writer)?;
+    }
+    append(b"]", &mut held)?;
+    write_rest(held, writer)
+}
+
+// Appends the events of a command in its lane: the command, and how many run as it begins, and as it has ended.
+fn append_events(
+    alloc: Global,
+    build: BuildEvent,
+    moments: &Moments,
+    lane: u64,
+    job: &Job<'_, '_>,
+    out: &mut Vec<u8>,
+) -> Result<(), AllocError>
+    requires early { IsEarly job.now.span }
+    requires lane { lane < 2 ^ 63 }
+    ensures items { (cs : List Span) → AreMoments cs moments.now → OnOk result
+        (out.new.items ≡ out.old.items ++ behind_commas (events_of build cs (seen job.now, lane))) }
+{
+    append_command(alloc, build, lane, job, out)?;
+    append_running(alloc, build, moments, job.span.began, out)?;
+    append_running(alloc, build, moments, job.span.closed(), out)
+}

@@ -1,6 +1,0 @@
-use Rattle.std.proofs.Common.{◌≡◌, ◌++◌}
-use Rattle.nl_tool_columns.specs.Columns.{cells_up_to}
-use Rattle.nl_tool_columns.proofs.columns.append_cells.Given as goal
-
-abbrev pub invariant-loop-place : goal.invariant-loop-place
-invariant-loop-place l = l.out.items ≡ l.fn.out.items ++ cells_up_to l.place l.found l.line

@@ -1,5 +1,0 @@
-use Rattle.nl_tool_columns.proofs.WidthLemmas.{line_up}
-use Rattle.nl_tool_columns.proofs.laws.columns_line_up.Goals as goal
-
-pub returns : goal.returns
-returns c = line_up

@@ -1,4 +1,0 @@
-mod PathLemmas
-mod WeightLemmas
-mod LineLemmas
-mod CriticalLemmas

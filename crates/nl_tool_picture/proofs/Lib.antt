@@ -1,9 +1,0 @@
-mod TextLemmas
-mod BarLemmas
-mod CurveLemmas
-mod PartLemmas
-mod MarkLemmas
-mod EscapeLemmas
-mod KindLemmas
-mod SizeLemmas
-mod LogLemmas

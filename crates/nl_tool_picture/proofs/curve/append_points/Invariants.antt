@@ -1,9 +1,0 @@
-use Rattle.std.proofs.Common.{◌≡◌, ◌++◌, List}
-use Rattle.nl_tool_report.specs.declared.span.Span.{Span}
-use Rattle.nl_tool_trace.specs.Running.{AreMoments}
-use Rattle.nl_tool_picture.specs.Curve.{points}
-use Rattle.nl_tool_picture.proofs.curve.append_points.Given as goal
-
--- the points before this one
-abbrev pub invariant-loop-i : goal.invariant-loop-i
-invariant-loop-i l = (cs : List Span) → AreMoments cs l.moments → l.out.items ≡ l.initial.out.items ++ points l.frame cs l.i
