@@ -1,2 +1,5 @@
-mod JudgedLemmas
-mod ThereLemmas
+pub mod SpanLemmas
+pub mod OrderLemmas
+pub mod LineLemmas
+pub mod LawLemmas
+pub mod TableLemmas

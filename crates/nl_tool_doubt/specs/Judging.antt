@@ -1,37 +1,73 @@
--- What the file of an output says against its entry (docs/NINJA_TIMES.md).
-use Rattle.std.specs.Prelude.{ℕ, ◌+◌, ◌*◌, ◌&&◌, ◌-ℤ◌, ℤ, pos, Bool, true, false, nat_lt, int_lt, unsigned_abs, Option, None, Some, if◌then◌else◌}
+-- What the file of an output says against its entry (docs/NINJA_TIMES.md, "Which output was made since").
+use Rattle.std.specs.Prelude.{ℕ, ◌+◌, ◌/◌, ◌^◌, ◌&&◌, ℤ, ◌+ℤ◌, pos, Bool, true, false, not, nat_le, nat_lt, int_lt, max, List, Option, None, Some, if◌then◌else◌}
+use Rattle.std.specs.Int.RustNames.{unsigned_abs}
 use Rattle.std.specs.Ordering.{int_eq}
 use Rattle.nl_fields.specs.declared.entry.Entry.{Entry}
-use Rattle.nl_versions.specs.declared.version.LogVersion.{LogVersion}
-use Rattle.nl_versions.specs.Version.{has_starts}
+use Rattle.nl_builds.specs.Commands.{moment}
+use Rattle.nl_builds.specs.declared.stamps.Stamps.{Stamps}
+use Rattle.nl_builds.specs.declared.stamps.Stamps.TheVariants.{Unknown, OfEnd, OfStart}
+use Rattle.nl_tool_doubt.specs.Moments.{begun, is_sure, length_of, tells, tick_of}
 use Rattle.nl_tool_doubt.specs.declared.files.FileState.{FileState}
-use Rattle.nl_tool_doubt.specs.declared.files.FileState.TheVariants.{Missing, Directory, Written, Unknown}
+use Rattle.nl_tool_doubt.specs.declared.files.FileState.TheVariants.{Missing, Directory, Written, Unknown as Unseen}
+use Rattle.nl_tool_doubt.specs.declared.files.FileTimes.{FileTimes}
 use Rattle.nl_tool_doubt.specs.declared.judge.Doubt.{Doubt}
-use Rattle.nl_tool_doubt.specs.declared.judge.Doubt.TheVariants.{Newer, Gone, Folder, NoTime, Untold}
+use Rattle.nl_tool_doubt.specs.declared.judge.Doubt.TheVariants.{Newer, Unsure, Gone, Folder, NoTime, Untold}
 
--- how long a command ran, in milliseconds: not at all, where it ended before it began
-abbrev pub length_of : ℤ → ℤ → ℕ
-length_of start end = if int_lt start end then unsigned_abs (end -ℤ start) else 0
+-- when a command ended whose build began at this moment, and a file's time, both in milliseconds from one moment
+abbrev pub ended : ℕ → Entry → ℕ
+ended m e = m + moment e.end_ms
 
--- by how many nanoseconds a file may be newer than MTIME says: where that is the moment when the command started, the file is written while
--- it runs, or within a tick of the file system's clock behind it
-abbrev pub slack_by : Bool → ℤ → ℤ → ℕ
-slack_by false start end = 0
-slack_by true start end = length_of start end * 1000000 + 20000000
+abbrev pub written : ℤ → ℕ
+written time = unsigned_abs time / 1000000 + 2 ^ 32
 
-abbrev pub slack : LogVersion → ℤ → ℤ → ℕ
-slack version start end = slack_by (has_starts version) start end
+-- the file is 8 ms or more behind the end
+abbrev pub is_newer : ℕ → ℕ → ℕ → Bool
+is_newer tick end at = nat_le (end + 8 + tick) at
 
--- the file was written behind what the entry tells
-abbrev pub is_newer : LogVersion → Entry → ℤ → Bool
-is_newer version e time = int_lt e.mtime time && nat_lt (slack version e.start_ms e.end_ms) (unsigned_abs (time -ℤ e.mtime))
+-- it is before the end by more than 20 ms, and by more than a quarter of the command's length
+abbrev pub is_early : ℕ → ℕ → ℕ → ℕ → Bool
+is_early tick length end at = nat_lt (at + max (length / 4) 20 + tick) end
 
--- of a file that is there, by its time
-abbrev pub doubt_by : LogVersion → Entry → ℤ → Option Doubt
-doubt_by version e time = if int_eq e.mtime (pos 0) then Some NoTime else (if is_newer version e time then Some Newer else None)
+-- of a file that was written then, and whose last time is behind MTIME
+abbrev pub doubt_at : List Entry → ℕ → Entry → ℤ → ℤ → Option Doubt
+doubt_at ls m e time last =
+    if is_newer (tick_of ls) (ended m e) (written last) then Some Newer
+    else if int_lt e.mtime time && is_early (tick_of ls) (length_of e) (ended m e) (written last) && not (is_sure ls m) then Some Unsure
+    else None
 
-abbrev pub doubt_of : LogVersion → Entry → FileState → Option Doubt
-doubt_of version e Missing = Some Gone
-doubt_of version e Directory = Some Folder
-doubt_of version e Unknown = Some Untold
-doubt_of version e (Written time) = doubt_by version e time
+abbrev pub doubt_from : List Entry → Entry → ℤ → ℤ → Option Doubt
+doubt_from ls e time last = doubt_at ls (begun ls e) e time last
+
+-- it is newer, unless MTIME is when the command started, and tells so
+abbrev pub doubt_behind : Stamps → List Entry → Entry → ℤ → ℤ → Option Doubt
+doubt_behind OfStart ls e time last = if tells e then doubt_from ls e time last else Some Newer
+doubt_behind OfEnd ls e time last = Some Newer
+doubt_behind Unknown ls e time last = Some Newer
+
+-- of one that was written then, by its last time that counts
+abbrev pub doubt_by : Stamps → List Entry → Entry → ℤ → ℤ → Option Doubt
+doubt_by stamps ls e time last =
+    if int_eq e.mtime (pos 0) then Some NoTime
+    else if int_lt e.mtime last then doubt_behind stamps ls e time last
+    else None
+
+-- the last time of a file: where MTIME is when the command started, also that of its last change, if change times count
+abbrev pub last_of : Bool → Stamps → FileTimes → ℤ
+last_of true OfStart t = if int_lt t.written t.changed then t.changed else t.written
+last_of counts stamps t = t.written
+
+-- by what was said of it
+abbrev pub doubt_of : Bool → Stamps → List Entry → Entry → FileState → Option Doubt
+doubt_of counts stamps ls e Missing = Some Gone
+doubt_of counts stamps ls e Directory = Some Folder
+doubt_of counts stamps ls e Unseen = Some Untold
+doubt_of counts stamps ls e (Written t) = doubt_by stamps ls e t.written (last_of counts stamps t)
+
+-- it is a file, and one that was changed more than a second behind the time at which it was written
+abbrev pub is_written : FileState → Bool
+is_written (Written t) = true
+is_written state = false
+
+abbrev pub was_moved : FileState → Bool
+was_moved (Written t) = int_lt (t.written +ℤ pos 1000000000) t.changed
+was_moved state = false

@@ -1,4 +1,6 @@
+pub mod Moments
 pub mod Judging
-pub mod Text
-pub mod Printing
+pub mod Spans
+pub mod Known
+pub mod Doubts
 pub mod There

@@ -1,16 +1,51 @@
 //! What is said of the files of outputs.
-ghost use Rattle.std.specs.Prelude.{◌≡◌, ℕ, List, Option, IfSome};
+ghost use Rattle.std.specs.Prelude.{◌≡◌, ℕ, List, Option, IfOk, IfSome};
+ghost use Rattle.nl_tool_doubt.specs.Doubts.{AreLooked};
+ghost use Rattle.nl_tool_doubt.specs.Judging.{is_written, was_moved};
 ghost use Rattle.nl_tool_doubt.specs.declared.files.FileState.{FileState};
+
+use nl_fields::EntryRef;
+use nl_table::Table;
+use std::alloc::{AllocError, Global};
+
+const SECOND: i128 = 1_000_000_000;
 
 /// What is said of the file of an output.
 #[derive(Clone, Copy, Drop)]
 pub enum FileState {
     Missing,
     Directory,
-    /// When it was written, in nanoseconds since 1970, as Ninja counts them.
-    Written(i64),
+    Written(FileTimes),
     /// It can't be told, as of a file that may not be looked at.
     Unknown,
+}
+
+impl FileState {
+    /// Whether it is a file.
+    pub fn is_written(self) -> bool
+        ensures { result ≡ is_written self }
+    {
+        matches!(self, FileState::Written(_))
+    }
+
+    /// Whether it is one that was changed more than a second behind the time at which it was written.
+    pub fn was_moved(self) -> bool
+        ensures { result ≡ was_moved self }
+    {
+        match self {
+            FileState::Written(at) => i128::from(at.written) + SECOND < i128::from(at.changed),
+            _ => false,
+        }
+    }
+}
+
+/// The times of a file, in nanoseconds since 1970, as Ninja counts them.
+#[derive(Clone, Copy, Drop)]
+pub struct FileTimes {
+    /// When it was written, or the time that it was given.
+    pub written: i64,
+    /// When anything of it was last changed, which nobody can give it.
+    pub changed: i64,
 }
 
 /// What says of each output's file what state it is in.
@@ -20,4 +55,29 @@ pub trait OutputFiles {
 
     fn look(&self, name: &[u8]) -> FileState
         ensures known { IfSome (states self.now) (λ state_of. result ≡ state_of name.now) };
+}
+
+/// An entry, and what was said of the file of its output.
+#[derive(Drop)]
+pub struct Looked<'a> {
+    pub entry: EntryRef<'a>,
+    pub file: FileState,
+}
+
+/// Asks for the file of each output, in order.
+pub(crate) fn look_all<'a, F: OutputFiles>(
+    alloc: Global,
+    table: &'a Table,
+    files: &F,
+) -> Result<Vec<Looked<'a>>, AllocError>
+    ensures looked { IfOk result (λ looked. AreLooked table.now (F.states files.now) looked.items) }
+{
+    let mut looked = Vec::with_capacity(alloc, table.len())?;
+    for place in 0..table.len() {
+        if let Some(entry) = table.at(place) {
+            let file = files.look(entry.name());
+            looked.push(Looked { entry, file })?;
+        }
+    }
+    Ok(looked)
 }

@@ -1,22 +1,21 @@
 //! What the file of an output says against its entry.
-ghost use Rattle.std.specs.Prelude.{◌≡◌};
-ghost use Rattle.nl_tool_doubt.specs.Judging.{doubt_by, doubt_of, length_of, slack};
+ghost use Rattle.std.specs.Prelude.{◌≡◌, ◌<◌, ◌≤◌, ◌^◌};
+ghost use Rattle.nl_tool_doubt.specs.Judging.{doubt_by, doubt_from, doubt_of, ended, is_early, is_newer, last_of, written};
 
-use crate::files::FileState;
+use crate::files::{FileState, FileTimes, Looked};
+use crate::moments::{Moments, NANOSECONDS, NONE, length_of, moment, tells};
+use nl_builds::Stamps;
 use nl_fields::EntryRef;
-use nl_versions::LogVersion;
 
-// An output's file may be written that long after the end of its command: the most that the clock of a file system
-// was seen to lag (docs/NINJA_TIMES.md), in nanoseconds.
-const TICK: u64 = 20_000_000;
-
-const NANOSECONDS: u64 = 1_000_000;
-
-/// Why an output isn't as its entry says, or why that can't be told.
+/// Why an output can't be trusted.
 #[derive(Clone, Copy, Drop)]
 pub enum Doubt {
+    /// A damaged or torn line may be about it.
+    Damaged,
     /// The file was written behind what the entry tells, so the line of the command that wrote it is lost.
     Newer,
+    /// It may have been: the log doesn't tell when the entry's build began.
+    Unsure,
     /// There is no file.
     Gone,
     /// The output is a directory, whose time says nothing of the command.
@@ -27,49 +26,101 @@ pub enum Doubt {
     Untold,
 }
 
-/// What the file of an output says against its entry in a log of the version. None: nothing.
-pub fn doubt_of(version: LogVersion, entry: &EntryRef<'_>, file: FileState) -> Option<Doubt>
-    ensures value { result ≡ doubt_of version entry.now file }
+/// What the file of an output says against its entry, where change times count or don't.
+pub fn doubt_of(counts: bool, stamps: Stamps, moments: &Moments, looked: &Looked) -> Option<Doubt>
+    ensures value { result ≡ doubt_of counts stamps moments.now looked.now.entry looked.now.file }
 {
-    match file {
+    match looked.file {
         FileState::Missing => Some(Doubt::Gone),
         FileState::Directory => Some(Doubt::Folder),
         FileState::Unknown => Some(Doubt::Untold),
-        FileState::Written(time) => doubt_by(version, entry, time),
+        FileState::Written(times) => doubt_by(
+            stamps,
+            moments,
+            &looked.entry,
+            times.written,
+            last_of(counts, stamps, times),
+        ),
     }
 }
 
-// Of a file that is there, by its time.
-fn doubt_by(version: LogVersion, entry: &EntryRef<'_>, time: i64) -> Option<Doubt>
-    ensures value { result ≡ doubt_by version entry.now time }
+fn last_of(counts: bool, stamps: Stamps, times: FileTimes) -> i64
+    ensures value { result ≡ last_of counts stamps times }
 {
-    let mtime = entry.mtime;
-    if mtime == 0 {
+    match stamps {
+        Stamps::OfStart if counts => times.written.max(times.changed),
+        _ => times.written,
+    }
+}
+
+// Of a file that was written then, by its last time that counts.
+fn doubt_by(
+    stamps: Stamps,
+    moments: &Moments,
+    entry: &EntryRef,
+    time: i64,
+    last: i64,
+) -> Option<Doubt>
+    ensures value { result ≡ doubt_by stamps moments.now entry.now time last }
+{
+    if entry.mtime == 0 {
         return Some(Doubt::NoTime);
     }
-    if mtime < time && slack(version, entry.start_ms, entry.end_ms) < time.abs_diff(mtime) {
+    if last <= entry.mtime {
+        return None;
+    }
+    match stamps {
+        Stamps::OfStart if tells(entry) => doubt_from(moments, entry, time, last),
+        _ => Some(Doubt::Newer),
+    }
+}
+
+fn doubt_from(moments: &Moments, entry: &EntryRef, time: i64, last: i64) -> Option<Doubt>
+    ensures value { result ≡ doubt_from moments.now entry.now time last }
+{
+    let begun = moments.begun(entry);
+    let ended = ended(begun, entry);
+    let written = written(last);
+    if is_newer(moments.tick(), ended, written) {
         return Some(Doubt::Newer);
+    }
+    if entry.mtime < time
+        && is_early(moments.tick(), length_of(entry), ended, written)
+        && !moments.is_sure(begun)
+    {
+        return Some(Doubt::Unsure);
     }
     None
 }
 
-// By how many nanoseconds a file may be newer than MTIME says.
-fn slack(version: LogVersion, start_ms: i32, end_ms: i32) -> u64
-    ensures value { result ≡ slack version start_ms end_ms }
+// When a command ended whose build began then.
+fn ended(begun: u64, entry: &EntryRef) -> u64
+    requires small { begun < 2 ^ 45 }
+    ensures value { result ≡ ended begun entry.now }
+    ensures bound { result < 2 ^ 46 }
 {
-    if version.has_starts() {
-        u64::from(length_of(start_ms, end_ms)) * NANOSECONDS + TICK
-    } else {
-        0
-    }
+    begun + u64::from(moment(entry.end_ms))
 }
 
-// How long a command ran, in milliseconds.
-fn length_of(start_ms: i32, end_ms: i32) -> u32
-    ensures value { result ≡ length_of start_ms end_ms }
+fn written(time: i64) -> u64
+    ensures value { result ≡ written time }
+    ensures bound { result < 2 ^ 46 }
 {
-    if start_ms < end_ms {
-        return end_ms.abs_diff(start_ms);
-    }
-    0
+    time.unsigned_abs() / NANOSECONDS + NONE
+}
+
+// 8 ms or more behind the end.
+fn is_newer(tick: u64, ended: u64, written: u64) -> bool
+    requires small { (tick ≤ 1000) × (ended < 2 ^ 46) }
+    ensures { result ≡ is_newer tick ended written }
+{
+    ended + 8 + tick <= written
+}
+
+// Before the end by more than 20 ms, and by more than a quarter of the command's length.
+fn is_early(tick: u64, length: u64, ended: u64, written: u64) -> bool
+    requires small { (tick ≤ 1000) × (length < 2 ^ 32) × (written < 2 ^ 46) }
+    ensures { result ≡ is_early tick length ended written }
+{
+    written + (length / 4).max(20) + tick < ended
 }

@@ -1,12 +1,15 @@
-//! Which entries of a log the files of their outputs speak against, over any reader, files and writer.
+//! Which outputs of a log their files speak against, over any files and writer.
 #![tactic(auto)]
 
-mod doubt;
+mod doubts;
 mod files;
 mod judge;
+pub mod laws;
+mod moments;
+mod spans;
 mod there;
 
-pub use doubt::doubt_to;
-pub use files::{FileState, OutputFiles};
-pub use judge::{Doubt, doubt_of};
+pub use doubts::{Doubted, Doubts, doubts_of, untrusted_of, write_doubts};
+pub use files::{FileState, FileTimes, Looked, OutputFiles};
+pub use judge::Doubt;
 pub use there::{add_names_there, times_there};

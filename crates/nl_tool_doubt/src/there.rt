@@ -1,14 +1,15 @@
 //! What the files of a log's outputs are: which are there, and when each was written.
 ghost use Rattle.std.specs.Prelude.{◌≡◌, ◌++◌, [], IfErr, IfOk, IfSome, IsErrOf, OnOk};
+ghost use Rattle.std.specs.List.{flat_map};
 ghost use Rattle.nl_table.specs.Log.{log_of, NotALog, OtherVersion};
 ghost use Rattle.nl_tool_texts.specs.declared.fault.ToolFault.{ToolFault};
 ghost use Rattle.nl_tool_print.specs.Faults.{IsLogFault};
 ghost use Rattle.nl_versions.specs.VersionOf.{as_five};
-ghost use Rattle.nl_tool_doubt.specs.There.{AddsAlong, AddsFor, name_by, pair_by};
+ghost use Rattle.nl_tool_doubt.specs.There.{AddsFor, learned, name_by, pair_by};
 
-use crate::files::{FileState, OutputFiles};
+use crate::files::{FileState, Looked, OutputFiles, look_all};
 use nl_fields::{Entry, EntryRef, Name};
-use nl_table::{Secret, Table};
+use nl_table::Secret;
 use nl_tool_print::load_read;
 use nl_tool_texts::ToolFault;
 use std::alloc::{AllocError, Global};
@@ -32,7 +33,8 @@ pub fn add_names_there<R: Read + Drop, F: OutputFiles>(
     ensures faults { IfErr result IsLogFault }
 {
     let (_, loaded) = load_read(alloc, secret, None, reader)?;
-    add_names(alloc, &loaded.table, files, names)?;
+    let looked = look_all(alloc, &loaded.table, files)?;
+    add_names(alloc, looked.as_slice(), names)?;
     Ok(())
 }
 
@@ -53,82 +55,32 @@ pub fn times_there<R: Read + Drop, F: OutputFiles>(
     ensures faults { IfErr result IsLogFault }
 {
     let (_, loaded) = load_read(alloc, secret, None, reader)?;
-    let mut times = Vec::new(alloc);
-    add_times(alloc, &loaded.table, files, &mut times)?;
+    let looked = look_all(alloc, &loaded.table, files)?;
+    let times = times_of(alloc, looked.as_slice())?;
     Ok(times)
 }
 
-// Asks for the file of each output, in order.
-fn add_names<F: OutputFiles>(
-    alloc: Global,
-    table: &Table,
-    files: &F,
-    names: &mut Vec<Name>,
-) -> Result<(), AllocError>
-    ensures ok { OnOk result (AddsAlong name_by table.now (F.states files.now) names.old.items
-        names.new.items) }
+fn add_names(alloc: Global, looked: &[Looked], names: &mut Vec<Name>) -> Result<(), AllocError>
+    ensures items { OnOk result (names.new.items ≡ names.old.items ++ flat_map (learned name_by) looked.now) }
 {
-    for place in 0..table.len() {
-        if let Some(entry) = table.at(place) {
-            let file = files.look(entry.name());
-            add_name(alloc, &entry, file, names)?;
+    for it in looked {
+        if !matches!(it.file, FileState::Missing) {
+            names.push(name_of(alloc, &it.entry)?)?;
         }
     }
     Ok(())
 }
 
-fn add_times<F: OutputFiles>(
-    alloc: Global,
-    table: &Table,
-    files: &F,
-    times: &mut Vec<(Name, i64)>,
-) -> Result<(), AllocError>
-    ensures ok { OnOk result (AddsAlong pair_by table.now (F.states files.now) times.old.items
-        times.new.items) }
+fn times_of(alloc: Global, looked: &[Looked]) -> Result<Vec<(Name, i64)>, AllocError>
+    ensures items { IfOk result (λ times. times.items ≡ flat_map (learned pair_by) looked.now) }
 {
-    for place in 0..table.len() {
-        if let Some(entry) = table.at(place) {
-            let file = files.look(entry.name());
-            add_time(alloc, &entry, file, times)?;
+    let mut times = Vec::new(alloc);
+    for it in looked {
+        if let FileState::Written(at) = it.file {
+            times.push((name_of(alloc, &it.entry)?, at.written))?;
         }
     }
-    Ok(())
-}
-
-// Adds the name of an output, unless its file is missing.
-fn add_name(
-    alloc: Global,
-    entry: &EntryRef<'_>,
-    file: FileState,
-    names: &mut Vec<Name>,
-) -> Result<(), AllocError>
-    ensures items { OnOk result (names.new.items ≡ names.old.items ++ name_by entry.now.name file) }
-{
-    match file {
-        FileState::Missing => Ok(()),
-        FileState::Directory | FileState::Written(_) | FileState::Unknown => {
-            names.push(name_of(alloc, entry)?)?;
-            Ok(())
-        }
-    }
-}
-
-// Adds an output with the time of its file, if that has one.
-fn add_time(
-    alloc: Global,
-    entry: &EntryRef<'_>,
-    file: FileState,
-    times: &mut Vec<(Name, i64)>,
-) -> Result<(), AllocError>
-    ensures items { OnOk result (times.new.items ≡ times.old.items ++ pair_by entry.now.name file) }
-{
-    match file {
-        FileState::Written(time) => {
-            times.push((name_of(alloc, entry)?, time))?;
-            Ok(())
-        }
-        FileState::Missing | FileState::Directory | FileState::Unknown => Ok(()),
-    }
+    Ok(times)
 }
 
 fn name_of(alloc: Global, entry: &EntryRef<'_>) -> Result<Name, AllocError>

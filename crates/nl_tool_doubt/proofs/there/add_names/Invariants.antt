@@ -1,8 +1,7 @@
-use Rattle.std.proofs.Common.{take}
-use Rattle.nl_tool_doubt.specs.There.{AddsAlong, name_by}
+use Rattle.std.proofs.Common.{◌≡◌, ◌++◌, drop}
+use Rattle.std.specs.List.{flat_map}
+use Rattle.nl_tool_doubt.specs.There.{learned, name_by}
 use Rattle.nl_tool_doubt.proofs.there.add_names.Given as goal
 
--- the files of the entries before the place were looked at
-abbrev pub invariant-loop-place : goal.invariant-loop-place
-invariant-loop-place g l =
-    AddsAlong name_by (take l.place l.table) (g.F.OutputFiles.states l.files) l.fn.names.items l.names.items
+abbrev pub invariant-loop-it : goal.invariant-loop-it
+invariant-loop-it l = l.names.items ++ flat_map (learned name_by) (drop l.it-index l.looked) ≡ l.fn.names.items ++ flat_map (learned name_by) l.fn.looked

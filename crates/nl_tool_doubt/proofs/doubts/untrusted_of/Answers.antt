@@ -1,0 +1,11 @@
+use Rattle.nl_tool_doubt.specs.Doubts.{damaged_in}
+use Rattle.nl_tool_doubt.proofs.TableLemmas.{is_doubts}
+use Rattle.nl_tool_doubt.proofs.doubts.untrusted_of.Goals as goal
+
+pub returns-clause-value : goal.returns-clause-value
+returns-clause-value g c =
+    let reads = c.in_ok-lines.ensures.value in
+    let lines = c.in_ok-lines.lines in
+    let tabled = rw c.as_slice.ensures.value at c.in_ok-table.ensures.value in
+    is_doubts (damaged_in c.args.log.now) c.args.log.now (g.F.OutputFiles.states c.args.files.now) c.in_ok-doubts.doubts reads.0 lines.stamps lines.entries.items _ _
+    reads.1 c.in_ok-lines.ensures.stamps (tabled reads.0) c.in_ok-damaged.ensures.value c.in_ok-doubts.ensures.value

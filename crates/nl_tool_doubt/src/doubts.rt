@@ -1,0 +1,226 @@
+//! The outputs of a log that can't be trusted, and the lines that say so.
+ghost use Rattle.std.specs.Prelude.{◌≡◌, ◌⊎◌, ◌++◌, ℕ, count_by, length, nat_lt, IfErr, IfOk, IsErrOf, OnOk};
+ghost use Rattle.std.specs.List.{flat_map};
+ghost use Rattle.std.specs.Io.KnownBytes.{Appends, Keeps};
+ghost use Rattle.nl_table.specs.History.{logged, table};
+ghost use Rattle.nl_table.specs.Log.{log_of, NotALog, OtherVersion};
+ghost use Rattle.nl_table.specs.declared.loader.LoadFault.{LoadFault};
+ghost use Rattle.nl_versions.specs.VersionOf.{as_five};
+ghost use Rattle.nl_tool_texts.specs.Output.{AppendsPrefixOf};
+ghost use Rattle.nl_tool_texts.specs.declared.fault.ToolFault.{ToolFault};
+ghost use Rattle.nl_tool_doubt.specs.Doubts.{AreDoubts, IsDoubts, damaged_in, doubt_line, doubted, is_copied, is_file, is_moved, named_by, undamaged, why, word_of};
+
+use crate::files::{Looked, OutputFiles, look_all};
+use crate::judge::{Doubt, doubt_of};
+use crate::moments::Moments;
+use nl_builds::{LogEntries, Stamps, read_entries};
+use nl_distrust::laws::a_whole_log_is_trusted;
+use nl_distrust::{distrusted, is_whole};
+use nl_fields::{Entry, EntryRef};
+use nl_table::{LoadFault, Secret, Table};
+use nl_tool_texts::{ToolFault, write_out};
+use nl_versions::lines_version;
+use std::alloc::{AllocError, Global};
+use std::io::Write;
+
+/// An output that can't be trusted, by its last entry.
+#[derive(Drop)]
+pub struct Doubted {
+    pub why: Doubt,
+    pub entry: Entry,
+}
+
+/// The outputs of a log that can't be trusted.
+#[derive(Drop)]
+pub struct Doubts {
+    /// In the order in which the outputs first appear.
+    pub named: Vec<Doubted>,
+    /// How many outputs the log has.
+    pub outputs: usize,
+    /// Whether the files were copied, restored or given to another user: their change times didn't count.
+    pub copied: bool,
+}
+
+/// What the files of a log's outputs say against their last entries. The log is of whichever version its first line names,
+/// and each file is looked at once, in order. Names are hashed under a secret.
+pub fn doubts_of<F: OutputFiles>(
+    alloc: Global,
+    secret: Secret,
+    log: &[u8],
+    files: &F,
+) -> Result<Doubts, LoadFault>
+    ensures value { IfOk result (IsDoubts undamaged log.now (F.states files.now)) }
+    ensures not_a_log { IsErrOf result LoadFault.NotALog → log_of (as_five log.now) ≡ NotALog }
+    ensures other_version { IsErrOf result LoadFault.OtherVersion → log_of (as_five log.now) ≡ OtherVersion }
+{
+    let lines = read_entries(alloc, log)?;
+    let table = table_of(alloc, secret, lines.entries.as_slice())?;
+    let doubts = name_all(alloc, lines, &table, &Table::new(alloc), files)?;
+    Ok(doubts)
+}
+
+/// The same, and each output that a damaged or torn line may be about is damaged, whatever its file says.
+pub fn untrusted_of<F: OutputFiles>(
+    alloc: Global,
+    secret: Secret,
+    log: &[u8],
+    files: &F,
+) -> Result<Doubts, LoadFault>
+    ensures value { IfOk result (IsDoubts (damaged_in log.now) log.now (F.states files.now)) }
+    ensures not_a_log { IsErrOf result LoadFault.NotALog → log_of (as_five log.now) ≡ NotALog }
+    ensures other_version { IsErrOf result LoadFault.OtherVersion → log_of (as_five log.now) ≡ OtherVersion }
+{
+    let lines = read_entries(alloc, log)?;
+    let table = table_of(alloc, secret, lines.entries.as_slice())?;
+    let damaged = damaged_of(alloc, log, &table)?;
+    let doubts = name_all(alloc, lines, &table, &damaged, files)?;
+    Ok(doubts)
+}
+
+// The entries whose outputs a damaged or torn line may be about.
+fn damaged_of(alloc: Global, log: &[u8], table: &Table) -> Result<Table, AllocError>
+    ensures value { IfOk result (λ found. found ≡ damaged_in log.now table.now) }
+{
+    let version = lines_version(log);
+    if is_whole(version, log) {
+        a_whole_log_is_trusted();
+        return Ok(Table::new(alloc));
+    }
+    distrusted(alloc, version, log, table)
+}
+
+// The last entry of each output, in the order of first appearance.
+fn table_of(alloc: Global, secret: Secret, entries: &[EntryRef]) -> Result<Table, AllocError>
+    ensures value { IfOk result (λ found. (version : ℕ) → found ≡ table (logged version entries.now)) }
+{
+    let mut table = Table::with_secret(alloc, secret);
+    for entry in entries {
+        table.enter(entry)?;
+    }
+    Ok(table)
+}
+
+// Names the outputs of these lines and this table that can't be trusted.
+fn name_all<F: OutputFiles>(
+    alloc: Global,
+    lines: LogEntries,
+    table: &Table,
+    damaged: &Table,
+    files: &F,
+) -> Result<Doubts, AllocError>
+    ensures value { IfOk result (AreDoubts damaged.now lines.entry.stamps lines.entry.entries.items table.now (F.states files.now)) }
+{
+    let LogEntries { stamps, entries } = lines;
+    let moments = Moments::of(alloc, stamps, entries)?;
+    let looked = look_all(alloc, table, files)?;
+    let copied = is_copied(looked.as_slice());
+    let named = name_looked(alloc, !copied, stamps, &moments, looked.as_slice(), damaged)?;
+    Ok(Doubts {
+        named,
+        outputs: looked.len(),
+        copied,
+    })
+}
+
+fn name_looked(
+    alloc: Global,
+    counts: bool,
+    stamps: Stamps,
+    moments: &Moments,
+    looked: &[Looked],
+    damaged: &Table,
+) -> Result<Vec<Doubted>, AllocError>
+    ensures value { IfOk result (λ named. named.items ≡ flat_map (named_by damaged.now counts stamps moments.now) looked.now) }
+{
+    let mut named = Vec::new(alloc);
+    for it in looked {
+        let doubt = doubt_of(counts, stamps, moments, it);
+        name_one(alloc, &it.entry, doubt, damaged, &mut named)?;
+    }
+    Ok(named)
+}
+
+// Whether more than half of the files were changed more than a second behind the time at which they were written.
+fn is_copied(looked: &[Looked]) -> bool
+    ensures { result ≡ is_copied looked.now }
+{
+    files_in(looked) / 2 < moved_in(looked)
+}
+
+fn files_in(looked: &[Looked]) -> usize
+    ensures value { result ≡ count_by is_file looked.now }
+{
+    looked.iter().filter(|it| it.file.is_written()).count()
+}
+
+fn moved_in(looked: &[Looked]) -> usize
+    ensures value { result ≡ count_by is_moved looked.now }
+{
+    looked.iter().filter(|it| it.file.was_moved()).count()
+}
+
+// Names an output, if there is a doubt on it, or damage is about it.
+fn name_one(
+    alloc: Global,
+    entry: &EntryRef,
+    doubt: Option<Doubt>,
+    damaged: &Table,
+    named: &mut Vec<Doubted>,
+) -> Result<(), AllocError>
+    ensures items { OnOk result (named.new.items ≡ named.old.items ++ doubted entry.now (why damaged.now doubt entry.now)) }
+{
+    let why = if damaged.get(entry.name()).is_some() {
+        Some(Doubt::Damaged)
+    } else {
+        doubt
+    };
+    if let Some(why) = why {
+        let entry = Entry::of(alloc, entry)?;
+        named.push(Doubted { why, entry })?;
+    }
+    Ok(())
+}
+
+/// Writes a line for each of these outputs, and answers whether there is any.
+pub fn write_doubts<W: Write>(
+    alloc: Global,
+    named: &[Doubted],
+    writer: &mut W,
+) -> Result<bool, ToolFault>
+    ensures ok { IfOk result (λ any. Appends (W.contents writer.old) (W.contents writer.new) (flat_map doubt_line named.now)
+        × (any ≡ nat_lt 0 (length named.now))) }
+    ensures prefix { IsErrOf result ToolFault.Write → AppendsPrefixOf (W.contents writer.old) (W.contents writer.new) (flat_map doubt_line named.now) }
+    ensures memory { IsErrOf result ToolFault.Memory → Keeps (W.contents writer.old) (W.contents writer.new) }
+    ensures faults { IfErr result (λ e. (e ≡ ToolFault.Write) ⊎ (e ≡ ToolFault.Memory)) }
+{
+    let text = text_of(alloc, named)?;
+    write_out(text.as_slice(), writer)?;
+    Ok(!named.is_empty())
+}
+
+fn text_of(alloc: Global, named: &[Doubted]) -> Result<Vec<u8>, AllocError>
+    ensures value { IfOk result (λ text. text.items ≡ flat_map doubt_line named.now) }
+{
+    let mut text = Vec::new(alloc);
+    for it in named {
+        text.extend_from_slice(word_of(it.why).as_bytes())?;
+        text.push(b'\t')?;
+        text.extend_from_slice(it.entry.name.bytes())?;
+        text.push(b'\n')?;
+    }
+    Ok(text)
+}
+
+fn word_of(why: Doubt) -> &'static str
+    ensures value { result.now ≡ word_of why }
+{
+    match why {
+        Doubt::Damaged => "damaged",
+        Doubt::Newer => "newer",
+        Doubt::Unsure => "unsure",
+        Doubt::Gone => "missing",
+        Doubt::Folder => "directory",
+        Doubt::NoTime => "no-time",
+        Doubt::Untold => "unknown",
+    }
+}

@@ -1,0 +1,288 @@
+#!/usr/bin/env python3
+"""The words that look at the files of outputs, against a model of its own: `doubt`, `recompact --manifest` and `restat --files`.
+
+    python3 tests/files.py PROGRAM [CASES [SEED]]
+
+The model is docs/CLI.md written as a program: what a file's kind and its time are to an entry of each version. Each case is a log of versions 4
+to 7, with files, folders and names without a file, whose times are at each border of the rules and beside it. The seed is fixed.
+
+So that the model is a rival and no echo, each fault of FAULTS is put into it in turn: with each of them some case has to come out otherwise than
+the program has it.
+"""
+import os
+import random
+import shutil
+import sys
+import tempfile
+
+from log_format import HEADER, Log, as_version, line_of, text_of
+from trials import Trials, in_memory, read, run, short, usage, write
+
+CASES, SEED = 1200, 20240229
+NAMES = [b"a", b"b", b"c", b"d", b"two words", b"folder/c", b"folder", b"a/below a file", b"gone", b"gone/too", b"n" * 256, b"no UTF-8 \xff"]
+MILLI = 1_000_000
+FAULTS = {
+    "doubt": ["the same time is newer", "each log is of version 5", "each log is of version 7", "an entry without a time is compared", "a file of 1970 has its own time",
+              "a folder is a file", "what can't be looked at is missing", "what is missing is passed over", "the first entry counts",
+              "a build began at MTIME less START", "builds may overlap", "the bound is exact", "superseded lines tell nothing", "lengths tell nothing", "any difference of lengths tells",
+              "a fifth is no matter", "7 ms are near", "near moments are earlier", "each moment is sure", "no moment is sure", "a short command tells nothing", "lengths are of 5 ms",
+              "no file is late", "9 ms are late", "20 ms are no matter", "a quarter is no matter", "no file is early",
+              "a file that isn't behind MTIME is judged", "there is no tick", "no change time counts", "change times always count", "one copy is a copied tree",
+              "change times count in each version"],
+    "recompact": ["a target without a file goes", "a file that is no target goes", "a folder is no file", "what can't be looked at goes", "what is missing stays"],
+    "restat": ["a file of 1970 has its own time", "a folder is a file", "what is missing is of 0", "only later times are taken"],
+}
+
+
+def took(entry):
+    """The milliseconds that a command ran: none if END is before START, as a clock that was put back leaves it."""
+    start, end = entry[:2]
+    return max(0, end - start)
+
+
+def less(entry, at):
+    """MTIME less START, where `at` is 0, or less END, where it is 1, in whole milliseconds."""
+    return entry[2] // MILLI - entry[at]
+
+
+def spread(lengths):
+    return max(lengths) - min(lengths)
+
+
+def tick_of(lines, fault):
+    """By how much a time may be early: a second if the file system counts whole ones, so that each MTIME is one."""
+    return 1000 if fault != "there is no tick" and all(it[2] % (1000 * MILLI) == 0 for it in lines) else 0
+
+
+def build_of(entry, lines, fault):
+    """When the build of an entry began, by all lines of its log."""
+    own, lines = less(entry, 0), [it for it in lines if it[2] > 0]
+    if fault == "a build began at MTIME less START":
+        return own
+    bound = max(less(it, 1) for it in lines if it[2] // MILLI <= entry[2] // MILLI or fault == "builds may overlap")
+    bound -= 0 if fault == "the bound is exact" else 5 + tick_of(lines, fault)
+    lengths = [took(it) for it in lines if abs(less(it, 0) - own) <= (7 if fault == "7 ms are near" else 8)]
+    by = max(0 if fault == "any difference of lengths tells" else 12, 0 if fault == "a fifth is no matter" else min(lengths) // 5)
+    if spread(lengths) > by and fault != "lengths tell nothing":
+        bound = own - 8 if fault == "near moments are earlier" else max(bound, own - 8)
+    return min([own, *(less(it, 0) for it in lines if less(it, 0) >= bound)])
+
+
+def is_sure(moment, lines, fault):
+    """Whether a build surely began then: a command that took no time did, or two of different lengths."""
+    if fault in ("each moment is sure", "no moment is sure"):
+        return fault == "each moment is sure"
+    lengths = [took(it) for it in lines if it[2] > 0 and 0 <= less(it, 0) - moment <= (5 if fault == "lengths are of 5 ms" else 6)]
+    return min(lengths) <= 12 and fault != "a short command tells nothing" or spread(lengths) > 12
+
+
+def why_behind(entry, lines, time, last, fault):
+    """What a file tells in a log of version 6 or 7, by its time and the last one that counts, which is behind MTIME."""
+    moment, tick = build_of(entry, lines, fault), tick_of([it for it in lines if it[2] > 0], fault)
+    end = moment + entry[1]
+    if last // MILLI >= end + {"no file is late": 0, "9 ms are late": 9}.get(fault, 8) + tick:
+        return b"newer"
+    early = max(0 if fault == "20 ms are no matter" else 20, 0 if fault == "a quarter is no matter" else took(entry) // 4) + tick
+    if time > entry[2] and last // MILLI + early < end and not is_sure(moment, lines, fault) and fault != "no file is early":
+        return b"unsure"
+    return b""
+
+
+def time_of(kind, time, fault):
+    """A file's time as Ninja has it, to whom 0 is none: each of the first second of 1970 is 1."""
+    return time if time >= 10**9 or fault == "a file of 1970 has its own time" else 1
+
+
+def are_copied(files, fault):
+    """Whether more than half of these files were changed more than a second behind their times: so is a tree that was copied."""
+    if fault in ("change times always count", "no change time counts"):
+        return fault == "no change time counts"
+    moved = sum(changed > time_of(kind, time, fault) + 1000 * MILLI for kind, time, changed in files)
+    return moved > len(files) // 2 if fault != "one copy is a copied tree" else moved > 0
+
+
+def doubt_of(table, version, files, targets, lines, fault=None):
+    """What `doubt` prints, by the last entry of each output and by all lines."""
+    lines = list(table.values()) if fault == "superseded lines tell nothing" else lines
+    is_copied = are_copied([files[name] for name in table if files[name][0] == "file"], fault)
+    for name, entry in table.items():
+        kind, time, changed = files[name]
+        if kind == "folder" and fault == "a folder is a file":
+            kind = "file"
+        if kind == "unknown" and fault == "what can't be looked at is missing":
+            kind = "missing"
+        if kind != "file":
+            if (kind, fault) != ("missing", "what is missing is passed over"):
+                yield b"%s\t%s\n" % ({"folder": b"directory"}.get(kind, kind.encode()), name)
+            continue
+        if entry[2] == 0 and fault != "an entry without a time is compared":
+            yield b"no-time\t%s\n" % name
+            continue
+        time = time_of(kind, time, fault)
+        is_start = version > 5 and fault != "each log is of version 5" or fault == "each log is of version 7"
+        last = max(time, changed) if (is_start or fault == "change times count in each version") and not is_copied else time
+        if last <= entry[2] - (fault == "the same time is newer") and fault != "a file that isn't behind MTIME is judged":
+            continue
+        why = why_behind(entry, lines, time, last, fault) if is_start and entry[2] > 0 else b"newer" if last > entry[2] - (fault == "the same time is newer") else b""
+        if why:
+            yield b"%s\t%s\n" % (why, name)
+
+
+def recompact_of(table, version, files, targets, lines, fault=None):
+    """What `recompact --manifest` keeps: each target, and whatever is there."""
+    for name, entry in table.items():
+        kind = files[name][0]
+        is_there = {"folder": fault != "a folder is no file", "unknown": fault != "what can't be looked at goes", "missing": fault == "what is missing stays"}.get(kind, True)
+        if fault == "a file that is no target goes":
+            is_there = False
+        if is_there or name in targets and fault != "a target without a file goes":
+            yield line_of(name, entry)
+
+
+def restat_of(table, version, files, targets, lines, fault=None):
+    """What `restat --files` leaves: of each file its time."""
+    for name, (start, end, mtime, command) in table.items():
+        kind, time = files[name][:2]
+        is_taken = kind == "file" or kind == "folder" and fault == "a folder is a file"
+        if kind == "missing" and fault == "what is missing is of 0":
+            is_taken, time = True, 0
+            mtime = 0
+        elif is_taken and (fault != "only later times are taken" or time > mtime):
+            mtime = time_of(kind, time, fault)
+        yield line_of(name, (start, end, mtime, command))
+
+
+MODELS = {"doubt": doubt_of, "recompact": recompact_of, "restat": restat_of}
+
+
+def moments_of(chance, began):
+    """The START, END and MTIME of some lines: those of two builds, where MTIME is START's moment, the file's own time, or another one."""
+    lines, is_coarse = [], chance.random() < 0.1
+    for _ in range(chance.randrange(1, 3)):
+        lengths = chance.choice([[0, 5, 12, 13], [60, 72, 73], [13, 14, 25, 26], [1000, 1012, 1013, 1200, 1201]]) * 6
+        for _ in range(chance.randrange(1, 9)):
+            start = chance.choice([0, 0, 3, 100, 1000])
+            end = start + chance.choice([*lengths, 0, 5, 12, 13, 14, 25, 26, 60, 72, 73, 75, 400, 1000, 1012, 1013, 1200, 1201, -20])
+            tick = chance.choice([0, 0, 1, 5 * MILLI, 6 * MILLI, 7 * MILLI, 8 * MILLI, 9 * MILLI, *[chance.randrange(20 * MILLI)] * 4])
+            at = chance.choice([start, start, start, end, (start + end) // 2])
+            mtime = began + MILLI * at + chance.choice([-1, 1]) * tick
+            lines.append((start, end, mtime // 10**9 * 10**9 if is_coarse else mtime))
+        began += MILLI * chance.choice([0, 70, 1100, 2000, 60_000])
+    return lines
+
+
+def times_by(entry, lines):
+    """A file's times at the borders of the rules, and beside them."""
+    start, end, mtime = entry[:3]
+    times = [mtime, 0, mtime + 10**12]
+    if mtime > 0:
+        for moment in {build_of(entry, lines, None), less(entry, 0)}:
+            late = moment + end
+            borders = [late, late + 8, late + 9, late - 20, late - took(entry) // 4, (mtime // MILLI + late) // 2]
+            times += [MILLI * (it + tick) for it in borders for tick in {0, tick_of(lines, None)}]
+    return times
+
+
+def made(path, kind, time):
+    """Makes a file or a folder of a time, or of now if that is None, and gives its time and that of its last change."""
+    if kind == "file":
+        write(path, b"")
+    if time is not None:
+        os.utime(path, ns=(time, time))
+    stat = os.stat(path)
+    return stat.st_mtime_ns, stat.st_ctime_ns
+
+
+KINDS = {b"folder": "folder", b"n" * 256: "unknown", b"no UTF-8 \xff": "unknown", b"gone": "missing", b"gone/too": "missing", b"a/below a file": "missing"}
+
+
+def a_case(chance, room):
+    """A log, its version, the files of its outputs by their kind and times, which are made in a room of their own, some targets, and the log's entries.
+
+    A file has a time of its own, or that of its writing, which is now, as its change time always is: then the log is of now too.
+    """
+    version, entries = chance.choice([4, 5, 6, 6, 7, 7]), []
+    shutil.rmtree(room, ignore_errors=True)
+    os.makedirs(f"{room}/folder")
+    is_now = chance.random() < 0.3
+    files = {name: (KINDS.get(name, "file"), 0, 0) for name in NAMES}
+    if chance.random() < 0.1:
+        # A name below one that isn't there either, in place of a file.
+        files[b"a"] = "missing", 0, 0
+    began = chance.choice([5_001_000_000, 1_700_000_000_123_456_789])
+    if is_now:
+        for name, (kind, *_) in files.items():
+            if kind == "file":
+                files[name] = kind, *made(os.path.join(os.fsencode(room), name), kind, chance.choice([None, None, None, 10**18]))
+        began = files[b"b"][2] - MILLI * (chance.choice([0, 0, 3, 100]) + chance.choice([0, 5, 13, 60, 73, 1000]) + chance.choice([6, 7, 8, 9, 10, 40]))
+    last = {}
+    lines = []
+    for start, end, mtime in moments_of(chance, began):
+        name = chance.choice(NAMES)
+        mtime = chance.choice([0, 1, -5 * 10**9]) if chance.random() < 0.06 else mtime
+        entries.append((start, end, mtime, chance.randrange(1, 99)))
+        last[name] = entries[-1]
+        line = line_of(name, entries[-1])
+        lines.append(line.rsplit(b"\t", 1)[0] + b"\tcc\n" if version == 4 else line)
+    text = b"# ninja log v4\n" + b"".join(lines) if version == 4 else as_version(HEADER + b"".join(lines), version)
+    for name, (kind, *_) in files.items():
+        time = max(0, chance.choice(times_by(last[name], entries) if name in last else [9]) + chance.choice([-1, 0, 1]))
+        path = os.path.join(os.fsencode(room), name)
+        if name == b"no UTF-8 \xff":
+            write(path, b"")
+        if kind == "folder" or kind == "file" and not is_now:
+            files[name] = kind, *made(path, kind, time)
+    return text, version, files, [it for it in NAMES[:-2] if chance.random() < 0.3] or [b"other"], entries
+
+
+class Rivals:
+    """Compares the words with the models, and keeps which faults no case has seen."""
+
+    def __init__(self, trials, program, room):
+        self.trials, self.program, self.room = trials, program, room
+        self.unseen = {(word, fault) for word, faults in FAULTS.items() for fault in faults}
+
+    def case(self, what, chance):
+        text, version, files, targets, lines = a_case(chance, f"{self.room}/files")
+        seen = as_version(text, version) if version > 5 else text
+        table = Log(seen).table
+        first = {}
+        for line in seen.split(b"\n")[1:-1]:
+            first.setdefault(line.split(b"\t")[3], line)
+        write(f"{self.room}/targets", b"".join(it + b": cc\n" for it in targets))
+        for word, model in MODELS.items():
+            write(f"{self.room}/log", text)
+            words = {"doubt": ["doubt", "../log"], "recompact": ["recompact", "../log", "--manifest", "../targets"], "restat": ["restat", "../log", "--files"]}[word]
+            words += ["--log-version", "auto"] if word != "doubt" else []
+            ended = run([self.program, *words], cwd=f"{self.room}/files")
+
+            def wanted(fault=None, model=model, word=word):
+                by = Log(HEADER + b"".join(it + b"\n" for it in first.values())).table if fault == "the first entry counts" and version > 4 else table
+                told = b"".join(model(by, version, files, targets, lines, fault))
+                if word == "doubt":
+                    return 3 if told else 0, told, b""
+                return 0, b"", b"", as_version(HEADER + told, version) if version > 5 else HEADER + told
+
+            got = ended if word == "doubt" else (*ended, read(f"{self.room}/log"))
+            self.trials.check(f"{what}, {' '.join(words)} of {short(text)} with {short(files)}", got == wanted(), f"{short(got)} in place of {short(wanted())}")
+            self.unseen -= {(word, fault) for fault in FAULTS[word] if wanted(fault) != got}
+
+
+def main(words):
+    numbers = words[1:]
+    if not words or len(numbers) > 2 or not all(it.isdecimal() for it in numbers):
+        return usage(__file__, "PROGRAM [CASES [SEED]]")
+    trials, count = Trials(__file__), int(numbers[0]) if numbers else CASES
+    chance = random.Random(int(numbers[1]) if len(numbers) > 1 else SEED)
+    with tempfile.TemporaryDirectory(dir=in_memory()) as room:
+        rivals = Rivals(trials, os.path.abspath(words[0]), room)
+        for number in range(count):
+            rivals.case(f"case {number}", chance)
+    for word, faults in FAULTS.items():
+        for fault in faults if count >= CASES else []:
+            trials.check(f"{word}, with the fault that {fault}, comes out otherwise", (word, fault) not in rivals.unseen)
+    return trials.end()
+
+
+if __name__ == "__main__":
+    sys.exit(main(sys.argv[1:]))
