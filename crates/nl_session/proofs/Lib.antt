@@ -5,6 +5,7 @@ pub mod AppendLemmas
 pub mod OpenLemmas
 pub mod Stories
 pub mod IntentLemmas
+pub mod MendLemmas
 pub mod StaleLemmas
 pub mod FoundLemmas
 pub mod RunLemmas

@@ -9,6 +9,7 @@ pub mod Parts
 pub mod Headline
 pub mod NeverStale
 pub mod Effects
+pub mod Mending
 pub mod Reopening
 pub mod Runs
 pub mod Answers

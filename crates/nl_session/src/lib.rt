@@ -9,6 +9,7 @@ mod fault;
 mod intent;
 pub mod laws;
 mod log;
+mod mending;
 mod opening;
 mod repair;
 mod restat;

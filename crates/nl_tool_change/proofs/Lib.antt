@@ -7,6 +7,7 @@ mod DamageLawLemmas
 mod ReadLemmas
 mod RepairLemmas
 mod SeenLemmas
+mod MendLemmas
 mod SeenLogLemmas
 mod BeginLemmas
 mod AnswerLemmas

@@ -3,6 +3,7 @@ pub mod RecordWords
 pub mod Faults
 pub mod Updates
 pub mod Calls
+pub mod Mending
 pub mod Seen
 pub mod Distrusts
 pub mod Deeds

@@ -1,22 +1,19 @@
 //! Which outputs of the log in a folder can't be trusted, by a read of all of it. The folder stays as it is.
-ghost use Rattle.std.specs.Prelude.{◌≡◌, ◌≤◌, ◌⊎◌, Some, IfErr, IfOk, IfSome, IsErrOf};
-ghost use Rattle.nl_lines.specs.Source.{FailedBetween};
+ghost use Rattle.std.specs.Prelude.{◌≡◌, ◌⊎◌, IfErr, IfOk, IsErrOf};
 ghost use Rattle.nl_table.specs.Log.{NotALog, OtherVersion};
 ghost use Rattle.nl_versions.specs.LogAs.{log_for};
 ghost use Rattle.nl_session.specs.declared.fault.LogFault.{LogFault};
 ghost use Rattle.nl_folder.specs.FolderView.{folder_view};
 ghost use Rattle.nl_tool_change.specs.Distrusts.{AreDistrusted, Distrusts};
 
+use crate::reading::read_bytes;
 use nl_distrust::distrusted;
-use nl_folder::{Folder, LogReader};
-use nl_lines::{SliceSource, Source};
+use nl_folder::Folder;
+use nl_lines::SliceSource;
 use nl_session::LogFault;
 use nl_table::{LoadFault, Secret, Table};
 use nl_versions::{LogVersion, load_seen};
 use std::alloc::Global;
-
-// How many bytes are asked for at a time.
-const ASKED_LEN: usize = 65_536;
 
 /// The entries whose outputs can't be trusted, of a log of the version that is asked for, or where none is, of the one
 /// that its first line names. It takes the memory of the log's bytes, and of its table.
@@ -29,14 +26,13 @@ pub fn distrusted_for<F: Folder>(
     ensures distrusts { Distrusts asked (folder_view F.Folder folder)
         (folder_view F.Folder result.0) result.1 }
 {
-    let mut reader = LogReader::new(folder);
-    reader.begin_load();
-    match read_all(alloc, &mut reader) {
+    let (folder, read) = read_bytes(alloc, folder);
+    match read {
         Ok(bytes) => (
-            reader.folder,
+            folder,
             distrusted_of(alloc, secret, asked, bytes.as_slice()),
         ),
-        Err(why) => (reader.folder, Err(why)),
+        Err(why) => (folder, Err(why)),
     }
 }
 
@@ -64,27 +60,4 @@ fn distrusted_of(
         // No read of bytes that are there fails.
         Err(LoadFault::OutOfMemory | LoadFault::Read) => Err(LogFault::OutOfMemory),
     }
-}
-
-// All bytes that a source has left.
-fn read_all<S: Source>(alloc: Global, source: &mut S) -> Result<Vec<u8>, LogFault>
-    ensures value { IfOk result (λ all. IfSome (S.ahead source.old) (λ bytes. bytes ≡ all.items)) }
-    ensures cause { IsErrOf result LogFault.Fault
-        → FailedBetween (S.failures source.old) (S.failures source.new) }
-    ensures refusals { IfErr result
-        (λ why. (why ≡ LogFault.Fault) ⊎ (why ≡ LogFault.OutOfMemory)) }
-    ensures rises { S.failures source.old ≤ S.failures source.new }
-    ensures relation { S.keeps source.old source.new }
-{
-    let mut piece = Vec::new(alloc);
-    piece.resize(ASKED_LEN, 0)?;
-    let mut all = Vec::new(alloc);
-    'pieces: for _ in 0..u64::MAX {
-        match source.read_some(piece.as_mut_slice()) {
-            Ok(0) => return Ok(all),
-            Ok(n) => all.extend_from_slice(&piece[..n])?,
-            Err(_) => return Err(LogFault::Fault),
-        }
-    }
-    Err(LogFault::OutOfMemory)
 }

@@ -12,8 +12,10 @@ pub mod laws;
 mod log_fault;
 mod look;
 mod manifest_file;
+mod mending;
 mod parts;
 mod place;
+mod reading;
 mod record_words;
 mod seen;
 mod times_file;
@@ -21,7 +23,9 @@ mod update;
 
 pub use apply::apply_on;
 pub use manifest_file::read_manifest;
+pub use mending::mend_on;
 pub use place::{AskedFolder, FoundFolder, LogPlace};
+pub use reading::read_log;
 pub use record_words::entry_of;
 pub use update::{
     keep_on, recompact_on, record_command, record_on, repair_on, restat_on, retime_on,

@@ -1,0 +1,208 @@
+-- A mend of the log of a folder, by the answer of the log over it, and of one that is seen as of another version.
+use Rattle.std.proofs.Common.{◌≡◌, ◌⊎◌, ◌∙◌, inl, inr, ◌<◌, ◌≤◌, refl, sym, ap, subst, arith, List, ℕ, Result, Ok, Err}
+use Rattle.std.specs.Prelude.{IsTrue}
+use Rattle.std.proofs.lemmas.Bool.{cond-false}
+use Rattle.nl_folder.specs.FolderView.{FolderView}
+use Rattle.nl_versions.specs.declared.version.LogVersion.{LogVersion}
+use Rattle.nl_versions.specs.declared.version.LogVersion.TheVariants.{Five}
+use Rattle.nl_versions.specs.LogAs.{is_barred}
+use Rattle.nl_versions.specs.VersionFolder.{disk_as_version, seen_as_version}
+use Rattle.nl_versions.proofs.LogAsLemmas.{log_five, seen_five}
+use Rattle.nl_versions.proofs.VersionFolderLemmas.{seen-twice}
+use Rattle.nl_session.specs.declared.fault.LogFault.{LogFault}
+use Rattle.nl_session.specs.declared.fault.LogFault.TheVariants as refusal
+use Rattle.nl_session.specs.declared.state.LogState.TheVariants.{Closed}
+use Rattle.nl_session.specs.LogView.{LogView}
+use Rattle.nl_session.specs.Mending.{Mends}
+use Rattle.nl_tool_texts.specs.declared.fault.ToolFault.{ToolFault}
+use Rattle.nl_tool_change.specs.Calls.{IsFree}
+use Rattle.nl_tool_change.specs.Faults.{IsOpenOrChangeRefusal, IsRecordFault, of_log_fault}
+use Rattle.nl_tool_change.specs.Mending.{MendsDisk, MendsLog, MendsLogAs, MendsSeen}
+use Rattle.nl_tool_change.proofs.ChangeLemmas.{ok_with}
+
+-- a closed log that was mended
+pub mended : {names : List (List ℕ)} {old new : LogView} → Mends names (Ok tt) old new → MendsLog names (Ok tt) old.folder new.folder
+mended call = record {
+  disk = record {
+    contents = call.contents;
+    left = λ is. absurd (cc is);
+    stays = λ fine. tt;
+    either = call.either;
+    untouched = λ d is none. (call.untouched d is none).0;
+  };
+  settled = call.settled;
+  scratch = call.scratch;
+  bytes = record { not_a_log = λ d is other. absurd (cc other); other_version = λ d is other. absurd (cc other) };
+  unchanged = λ fine. tt;
+  count = record { cause = λ is. absurd (cc is); steady = λ fine. call.count.steady (λ is. absurd (cc is)) };
+  refusals = tt;
+}
+
+-- the refusals of a mend
+abbrev Refusals : LogFault → Type 0
+Refusals why = (why ≡ refusal.AlreadyOpen) ⊎ (why ≡ refusal.Broken) ⊎ (why ≡ refusal.NotALog) ⊎ (why ≡ refusal.OtherVersion)
+    ⊎ (why ≡ refusal.OutOfMemory) ⊎ (why ≡ refusal.Fault)
+
+-- what a refusal or a fault of one leaves
+abbrev pub Unmended : List (List ℕ) → LogView → LogView → LogFault → Type 0
+Unmended names old new why =
+    IsOpenOrChangeRefusal why × IsRecordFault (of_log_fault why) × MendsLog names (Err (of_log_fault why)) old.folder new.folder
+
+pub unmended : {names : List (List ℕ)} {old new : LogView} (why : LogFault) → old.mode ≡ Closed → Mends names (Err why) old new
+    → Unmended names old new why
+unmended refusal.AlreadyOpen closed call = absurd (cc (call.already_open.0 refl, closed))
+unmended refusal.Broken closed call = absurd (cc (call.broken.0 refl, closed))
+unmended refusal.NotOpen closed call = absurd (none call.refusals)
+  where
+    none : Refusals refusal.NotOpen → ⊥
+    none (inl h) = absurd (cc h)
+    none (inr (inl h)) = absurd (cc h)
+    none (inr (inr (inl h))) = absurd (cc h)
+    none (inr (inr (inr (inl h)))) = absurd (cc h)
+    none (inr (inr (inr (inr (inl h))))) = absurd (cc h)
+    none (inr (inr (inr (inr (inr h))))) = absurd (cc h)
+unmended (refusal.NegativeTime index) closed call = absurd (none call.refusals)
+  where
+    none : Refusals (refusal.NegativeTime index) → ⊥
+    none (inl h) = absurd (cc h)
+    none (inr (inl h)) = absurd (cc h)
+    none (inr (inr (inl h))) = absurd (cc h)
+    none (inr (inr (inr (inl h)))) = absurd (cc h)
+    none (inr (inr (inr (inr (inl h))))) = absurd (cc h)
+    none (inr (inr (inr (inr (inr h))))) = absurd (cc h)
+unmended refusal.NotALog closed call =
+    let same = call.unchanged (λ is. absurd (cc is)) in (
+      tt,
+      tt,
+      record {
+        disk = record {
+          contents = tt;
+          left = λ is. absurd (cc is);
+          stays = λ fine. same.0;
+          either = call.either;
+          untouched = λ d is none. same.0;
+        };
+        settled = tt;
+        scratch = tt;
+        bytes = record { not_a_log = λ d is here. call.not_a_log d is refl; other_version = λ d is other. absurd (cc other) };
+        unchanged = λ fine. record { disk = same.0; settled = same.1; scratch = same.2 };
+        count = record { cause = λ is. absurd (cc is); steady = λ fine. call.count.steady (λ is. absurd (cc is)) };
+        refusals = tt;
+      },
+    )
+unmended refusal.OtherVersion closed call =
+    let same = call.unchanged (λ is. absurd (cc is)) in (
+      tt,
+      tt,
+      record {
+        disk = record {
+          contents = tt;
+          left = λ is. absurd (cc is);
+          stays = λ fine. same.0;
+          either = call.either;
+          untouched = λ d is none. same.0;
+        };
+        settled = tt;
+        scratch = tt;
+        bytes = record { not_a_log = λ d is other. absurd (cc other); other_version = λ d is here. call.other_version d is refl };
+        unchanged = λ fine. record { disk = same.0; settled = same.1; scratch = same.2 };
+        count = record { cause = λ is. absurd (cc is); steady = λ fine. call.count.steady (λ is. absurd (cc is)) };
+        refusals = tt;
+      },
+    )
+unmended refusal.OutOfMemory closed call =
+    let same = call.unchanged (λ is. absurd (cc is)) in (
+      tt,
+      tt,
+      record {
+        disk = record {
+          contents = tt;
+          left = λ is. absurd (cc is);
+          stays = λ fine. same.0;
+          either = call.either;
+          untouched = λ d is none. same.0;
+        };
+        settled = tt;
+        scratch = tt;
+        bytes = record { not_a_log = λ d is other. absurd (cc other); other_version = λ d is other. absurd (cc other) };
+        unchanged = λ fine. record { disk = same.0; settled = same.1; scratch = same.2 };
+        count = record { cause = λ is. absurd (cc is); steady = λ fine. call.count.steady (λ is. absurd (cc is)) };
+        refusals = tt;
+      },
+    )
+unmended refusal.Fault closed call = (
+  tt,
+  tt,
+  record {
+    disk = record {
+      contents = tt;
+      left = λ is. call.left refl;
+      stays = λ fine. absurd (fine refl);
+      either = call.either;
+      untouched = λ d is none. (call.untouched d is none).0;
+    };
+    settled = tt;
+    scratch = tt;
+    bytes = record { not_a_log = λ d is other. absurd (cc other); other_version = λ d is other. absurd (cc other) };
+    unchanged = λ fine. absurd (fine refl);
+    count = record { cause = λ is. call.count.cause refl; steady = λ fine. absurd (fine refl) };
+    refusals = tt;
+  },
+)
+
+-- ---- as of another version
+
+module _ {names : List (List ℕ)} {r : Result (Unit {0}) ToolFault} {old new : FolderView} where
+  -- through a folder that sees it so, where no bytes are barred
+  pub mends_through : {from to : FolderView} (version : LogVersion) → IsFree old.disk version → from.disk ≡ seen_as_version version old.disk
+      → new.disk ≡ seen_as_version version to.disk → (IsTrue to.is_settled → IsTrue new.is_settled)
+      → from.failures ≡ old.failures → new.failures ≤ to.failures → (0 < to.failures → 0 < new.failures)
+      → MendsLog names r from to → MendsSeen version names r old new
+  mends_through {from} {to} version free below above settled same rose risen call =
+      let seen : seen_as_version version new.disk ≡ to.disk = ap (seen_as_version version) above ∙ seen-twice version to.disk in
+      record {
+        disk = subst (λ d. MendsDisk names r d (seen_as_version version new.disk)) below
+            (subst (MendsDisk names r from.disk) (sym seen) call.disk);
+        settled = ok_with r _ _ call.settled settled;
+        bytes = record {
+          not_a_log = λ d is refused. cond-false (is_barred version d.visible) _ _ (free d is)
+              ∙ call.bytes.not_a_log (disk_as_version version d) (below ∙ ap (seen_as_version version) is) refused;
+          other_version = λ d is refused. cond-false (is_barred version d.visible) _ _ (free d is)
+              ∙ call.bytes.other_version (disk_as_version version d) (below ∙ ap (seen_as_version version) is) refused;
+        };
+        count = λ none. record {
+          cause = λ failed less.
+              let more : from.failures < to.failures = call.count.cause failed (omega (arith, same, less)) in
+              let some : 0 < new.failures = risen (omega (arith, more)) in
+              omega (arith, none, some);
+          steady = λ fine. omega (arith, call.count.steady fine, same, rose, none);
+        };
+        refusals = call.refusals;
+      }
+
+  -- of version 5, as it is
+  pub mends_five : {version : LogVersion} → version ≡ Five → MendsLog names r old new → MendsLogAs version names r old new
+  mends_five {version} is call =
+      let same = seen_five version is in
+      record {
+        seen = record {
+          disk = subst (λ d. MendsDisk names r d (seen_as_version version new.disk)) (sym (same old.disk))
+              (subst (MendsDisk names r old.disk) (sym (same new.disk)) call.disk);
+          settled = call.settled;
+          bytes = record {
+            not_a_log = λ d was refused. log_five version is d.visible ∙ call.bytes.not_a_log d was refused;
+            other_version = λ d was refused. log_five version is d.visible ∙ call.bytes.other_version d was refused;
+          };
+          count = λ none. call.count;
+          refusals = call.refusals;
+        };
+        five = λ five. call;
+      }
+
+  -- of another
+  pub mends_other : {version seen : LogVersion} → version ≡ seen → (seen ≡ Five → ⊥) → MendsSeen seen names r old new
+      → MendsLogAs version names r old new
+  mends_other is other call = record {
+    seen = subst (λ v. MendsSeen v names r old new) (sym is) call;
+    five = λ five. absurd (other (sym is ∙ five));
+  }

@@ -1,0 +1,75 @@
+//! Intents over the entries of outputs that can't be trusted, in the log of a folder, by one change.
+ghost use Rattle.std.specs.Prelude.{IfErr};
+ghost use Rattle.nl_folder.specs.FolderView.{folder_view};
+ghost use Rattle.nl_tool_change.specs.Calls.{IsFree};
+ghost use Rattle.nl_tool_change.specs.Faults.{IsRecordFault};
+ghost use Rattle.nl_tool_change.specs.Mending.{MendsLog, MendsLogAs, MendsSeen};
+
+use crate::log_fault::of_log_fault;
+use crate::place::FoundFolder;
+use nl_fields::Name;
+use nl_folder::Folder;
+use nl_session::Log;
+use nl_table::Secret;
+use nl_tool_texts::ToolFault;
+use nl_versions::{LogVersion, Version, VersionFolder, VersionSeven, VersionSix};
+use std::alloc::Global;
+
+/// Puts an intent over the entry of each output that is named, in the log of a folder, and makes it durable. What is damaged is
+/// gone after it.
+pub fn mend_on<F: Folder>(
+    alloc: Global,
+    place: FoundFolder<F>,
+    names: &[Name],
+) -> (F, Result<(), ToolFault>)
+    ensures call { IsFree (F.disk place.folder) place.version
+        → MendsLogAs place.version names.now result.1
+        (folder_view F.Folder place.folder) (folder_view F.Folder result.0) }
+    ensures faults { IfErr result.1 IsRecordFault }
+{
+    let FoundFolder {
+        secret,
+        version,
+        folder,
+    } = place;
+    match version {
+        LogVersion::Five => mend_log(alloc, secret, folder, names),
+        LogVersion::Six => mend_seen(alloc, secret, VersionSix, folder, names),
+        LogVersion::Seven => mend_seen(alloc, secret, VersionSeven, folder, names),
+    }
+}
+
+// Mends the log of a folder as it is.
+fn mend_log<F: Folder>(
+    alloc: Global,
+    secret: Secret,
+    folder: F,
+    names: &[Name],
+) -> (F, Result<(), ToolFault>)
+    ensures call { MendsLog names.now result.1
+        (folder_view F.Folder folder) (folder_view F.Folder result.0) }
+    ensures faults { IfErr result.1 IsRecordFault }
+{
+    let mut log = Log::with_secret(alloc, secret, folder);
+    match log.mend(names) {
+        Ok(()) => (log.into_folder(), Ok(())),
+        Err(fault) => (log.into_folder(), Err(of_log_fault(fault))),
+    }
+}
+
+// Mends it through a folder that sees the log as one of version 5.
+fn mend_seen<F: Folder, V: Version>(
+    alloc: Global,
+    secret: Secret,
+    version: V,
+    folder: F,
+    names: &[Name],
+) -> (F, Result<(), ToolFault>)
+    ensures call { IsFree (F.disk folder) V.version
+        → MendsSeen V.version names.now result.1
+        (folder_view F.Folder folder) (folder_view F.Folder result.0) }
+    ensures faults { IfErr result.1 IsRecordFault }
+{
+    let (seen, result) = mend_log(alloc, secret, VersionFolder::new(version, folder), names);
+    (seen.into_folder(), result)
+}
