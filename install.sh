@@ -1,13 +1,14 @@
 #!/bin/sh
-# Proves and builds nlog, and puts the program, its page, its completion for bash, and the library for C below PREFIX, or below DESTDIR/PREFIX.
+# Proves and builds nlog, and puts the program, its page, its completions, and the library for C below PREFIX, or below DESTDIR/PREFIX.
 set -eu
 
 usage="usage: ./install.sh PREFIX
-puts PREFIX/bin/nlog, PREFIX/share/man/man1/nlog.1 and PREFIX/share/bash-completion/completions/nlog, and where cc, ar and objcopy are there
+puts PREFIX/bin/nlog, PREFIX/share/man/man1/nlog.1, completions for bash, zsh and fish below PREFIX/share, and where cc, ar and objcopy are there
 PREFIX/lib/libnlog.a, PREFIX/lib/libnlog.so.0 with its links, PREFIX/include/nlog.h, PREFIX/lib/pkgconfig/nlog.pc,
 PREFIX/lib/cmake/nlog with nlog-config.cmake and nlog-config-version.cmake, PREFIX/share/man/man3/nlog.3 and a link to it of the name of each call
 PREFIX is a folder, as /usr/local; with DESTDIR=FOLDER all is put below FOLDER, from where a package takes it to PREFIX, which begins with /
-NLOG_PROGRAM=FILE puts that program, and proves and builds none"
+LIBDIR=lib64 puts the libraries, and what pkg-config and CMake read, below PREFIX/lib64 in place of PREFIX/lib
+NLOG_PROGRAM=FILE puts that program, and proves and builds none; NLOG_TARGET=aarch64 has the library made for ARM64"
 
 if [ $# -ne 1 ]; then
     echo "$usage" >&2
@@ -27,6 +28,13 @@ esac
 top=$(cd "$(dirname "$0")" && pwd)
 root=${DESTDIR-}
 prefix=$1
+libdir=${LIBDIR-lib}
+case $libdir in
+    '' | /* | ../* | */../* | */..)
+        echo "install.sh: LIBDIR is a folder below PREFIX, as lib64" >&2
+        exit 2
+        ;;
+esac
 case $root$prefix in
     "$prefix" | "$root"/*) ;;
     *)
@@ -55,11 +63,14 @@ if [ -z "$program" ]; then
 fi
 
 to=$root$prefix
-mkdir -p "$to/bin" "$to/share/man/man1" "$to/share/bash-completion/completions"
+bash=share/bash-completion/completions zsh=share/zsh/site-functions fish=share/fish/vendor_completions.d
+mkdir -p "$to/bin" "$to/share/man/man1" "$to/$bash" "$to/$zsh" "$to/$fish"
 put 755 "$program" "$to/bin/nlog"
 put 644 "$top/man/nlog.1" "$to/share/man/man1/nlog.1"
-put 644 "$top/completions/nlog.bash" "$to/share/bash-completion/completions/nlog"
-echo "install.sh: $to/bin/nlog, $to/share/man/man1/nlog.1 and $to/share/bash-completion/completions/nlog are there"
+put 644 "$top/completions/nlog.bash" "$to/$bash/nlog"
+put 644 "$top/completions/nlog.zsh" "$to/$zsh/_nlog"
+put 644 "$top/completions/nlog.fish" "$to/$fish/nlog.fish"
+echo "install.sh: $to/bin/nlog, $to/share/man/man1/nlog.1, $to/$bash/nlog, $to/$zsh/_nlog and $to/$fish/nlog.fish are there"
 
 if ! command -v cc > /dev/null || ! command -v ar > /dev/null || ! command -v objcopy > /dev/null; then
     echo "install.sh: the library for C is left out: cc, ar or objcopy isn't there"
@@ -68,15 +79,15 @@ fi
 
 room=$(mktemp -d)
 trap 'rm -rf "$room"' EXIT
-"$top/lib/archive.sh" "$room/libnlog.a"
-mkdir -p "$to/lib/pkgconfig" "$to/lib/cmake/nlog" "$to/include" "$to/share/man/man3"
+"$top/lib/archive.sh" --target "${NLOG_TARGET:-x86_64}" "$room/libnlog.a"
+mkdir -p "$to/$libdir/pkgconfig" "$to/$libdir/cmake/nlog" "$to/include" "$to/share/man/man3"
 number=$(sed -n 's/^#define NLOG_VERSION //p' "$top/include/nlog.h")
 version=$((number / 1000000)).$((number / 1000 % 1000)).$((number % 1000))
 [ -n "$root" ] || prefix=$(cd "$prefix" && pwd)
 # The quotes are for a prefix with a space.
 cat > "$room/nlog.pc" << END
 prefix=$prefix
-libdir=\${prefix}/lib
+libdir=\${prefix}/$libdir
 includedir=\${prefix}/include
 
 Name: nlog
@@ -88,16 +99,17 @@ END
 # For CMake: the targets lie where this file does, wherever that is.
 cat > "$room/nlog-config.cmake" << END
 # The library nlog: nlog::nlog is the shared object, nlog::static the archive, which needs nothing but the C library.
-get_filename_component(nlog_PREFIX "\${CMAKE_CURRENT_LIST_DIR}/../../.." ABSOLUTE)
+get_filename_component(nlog_LIBDIR "\${CMAKE_CURRENT_LIST_DIR}/../.." ABSOLUTE)
+get_filename_component(nlog_PREFIX "\${nlog_LIBDIR}/$(echo "$libdir" | sed 's|[^/][^/]*|..|g')" ABSOLUTE)
 if(NOT TARGET nlog::nlog)
   add_library(nlog::nlog SHARED IMPORTED)
   set_target_properties(nlog::nlog PROPERTIES
-    IMPORTED_LOCATION "\${nlog_PREFIX}/lib/libnlog.so.$version"
+    IMPORTED_LOCATION "\${nlog_LIBDIR}/libnlog.so.$version"
     IMPORTED_SONAME "libnlog.so.$((number / 1000000))"
     INTERFACE_INCLUDE_DIRECTORIES "\${nlog_PREFIX}/include")
   add_library(nlog::static STATIC IMPORTED)
   set_target_properties(nlog::static PROPERTIES
-    IMPORTED_LOCATION "\${nlog_PREFIX}/lib/libnlog.a"
+    IMPORTED_LOCATION "\${nlog_LIBDIR}/libnlog.a"
     IMPORTED_LINK_INTERFACE_LANGUAGES "C"
     INTERFACE_INCLUDE_DIRECTORIES "\${nlog_PREFIX}/include")
 endif()
@@ -118,24 +130,24 @@ if(CMAKE_SIZEOF_VOID_P AND NOT CMAKE_SIZEOF_VOID_P EQUAL 8)
 endif()
 END
 for file in nlog-config.cmake nlog-config-version.cmake; do
-    put 644 "$room/$file" "$to/lib/cmake/nlog/$file"
+    put 644 "$room/$file" "$to/$libdir/cmake/nlog/$file"
 done
-put 644 "$room/libnlog.a" "$to/lib/libnlog.a"
+put 644 "$room/libnlog.a" "$to/$libdir/libnlog.a"
 for file in "$room"/libnlog.so*; do
     name=$(basename "$file")
     if [ -L "$file" ]; then
-        ln -sf "$(readlink "$file")" "$to/lib/$name.new"
-        mv -f "$to/lib/$name.new" "$to/lib/$name"
+        ln -sf "$(readlink "$file")" "$to/$libdir/$name.new"
+        mv -f "$to/$libdir/$name.new" "$to/$libdir/$name"
     else
-        put 755 "$file" "$to/lib/$name"
+        put 755 "$file" "$to/$libdir/$name"
     fi
 done
 put 644 "$top/include/nlog.h" "$to/include/nlog.h"
-put 644 "$room/nlog.pc" "$to/lib/pkgconfig/nlog.pc"
+put 644 "$room/nlog.pc" "$to/$libdir/pkgconfig/nlog.pc"
 put 644 "$top/man/nlog.3" "$to/share/man/man3/nlog.3"
 # nlog(3) by the name of each call.
 echo ".so man3/nlog.3" > "$room/page"
 for name in $(sed -n 's/^[a-z].*[ *]\(nlog_[a-z0-9_]*\)(.*/\1/p' "$top/include/nlog.h"); do
     put 644 "$room/page" "$to/share/man/man3/$name.3"
 done
-echo "install.sh: $to/lib/libnlog.a, $to/lib/libnlog.so.0, $to/include/nlog.h, $to/lib/pkgconfig/nlog.pc, $to/lib/cmake/nlog and nlog(3) are there"
+echo "install.sh: $to/$libdir/libnlog.a, $to/$libdir/libnlog.so.0, $to/include/nlog.h, $to/$libdir/pkgconfig/nlog.pc, $to/$libdir/cmake/nlog and nlog(3) are there"

@@ -1,38 +1,35 @@
 /* nlog.h: Ninja's build log (.ninja_log, versions 4 to 7) for C and C++.
- * docs/LIBRARY.md has an example of each part.
+ * docs/LIBRARY.md has a whole program, and an example of each part.
  *
- * Part 1 reads a log that stands in memory. Part 2 writes one in memory, and
- *   you carry its changes to a file. Both are proved: what each status means
- *   is a clause of crates/nl_c/src/exports.rt. Two things are tested and not
- *   proved: nlog_next_damage, and that a call which only reads leaves its
- *   handle as it is (lib/nlog_reads.c).
- * Part 3 writes a log on disk, in your process: it carries part 2's changes to
- *   the file. It is C code, lib/nlog_writer.c, which is tested and not proved.
+ * Part 1 reads logs that stand in memory. What each status means is proved, by
+ *   the clauses of crates/nl_c/src/exports.rt. Tested alone: nlog_next_damage,
+ *   and that a call which only reads leaves its handle as it is.
+ * Part 2 writes a log on disk. The log's text and its table are proved, and the
+ *   C code below lib/ that carries them to files is tested.
  *
- * Status: each call answers one, and no call prints, aborts, sets a signal's
- *   handler or has global state, but for two random numbers. The first call
- *   that makes a log takes them from getrandom. Names are hashed under them, so
- *   no names make a log slow. Unless a call says more, any status but
- *   NLOG_OK leaves the handle as it was. It leaves each thing that the call
- *   would have filled as it was, too.
+ * Three words of this page: an output is distrusted if a damaged line may be
+ *   about it, and no entry of it follows. A writer is wary if its open drops
+ *   the entries of such outputs. A place is the number of an output, from 0, in
+ *   the order in which the outputs first appear in the log.
+ *
+ * Status: each call answers one. No call prints, aborts, sets a signal's
+ *   handler or has global state, but for two random numbers under which names
+ *   are hashed. Unless a call says more, any status but NLOG_OK leaves the
+ *   handle, and each thing that the call would have filled, as it was.
  * Pointers: none may be NULL, but one to 0 bytes, an nlog_writer, and what a
  *   call says. What a call fills must not overlap anything else that is passed
  *   to it. Nothing that is passed is kept when the call returns. No pointer
  *   into the library is handed out, but the texts of nlog_writer_failed_path
  *   and nlog_writer_failed_call.
- * Memory: from malloc, freed by nlog_free and nlog_writer_free. malloc must
- *   align as ISO C says. If it gives none, the call answers
- *   NLOG_OUT_OF_MEMORY.
+ * Memory: from malloc, freed by nlog_free and nlog_writer_free. If it gives
+ *   none, the call answers NLOG_OUT_OF_MEMORY.
  * Threads: a call whose handle or writer is const only reads. Any number of
- *   these may run on one handle or writer at once. Each other call has it
- *   alone, in order with those before it and behind it (by a lock, or a join).
- *   Calls on different ones need no order. Make no call in a signal handler,
- *   or in the forked child of a process with threads.
- * Fork: a child may go on with each handle and with each closed writer, by
- *   itself. A writer whose log is open, or broken, stays the parent's. In the
- *   child each call on it that has a status answers NLOG_FORKED, and does
- *   nothing. nlog_writer_free frees the child's part and lets go of its
- *   descriptors. The parent's log stays open, and locked.
+ *   these may run on one at once. Each other call has it alone. Make no call in
+ *   a signal handler, or in the forked child of a process with threads.
+ * Fork: a child may go on with each handle and with each closed writer. A
+ *   writer whose log is open, or broken, stays the parent's. In the child each
+ *   call on it that has a status answers NLOG_FORKED, and does nothing.
+ *   nlog_writer_free frees the child's part. The parent's log stays locked.
  * Units: lengths are in bytes, and start and end in milliseconds from the
  *   start of the build. Each mtime is in the writer's unit (Ninja 1.12:
  *   nanoseconds since 1970; 0 for no file). Names and commands are bytes, of no
@@ -64,26 +61,23 @@ typedef enum nlog_status {
   NLOG_OUT_OF_MEMORY = 4,
   NLOG_NOT_FOUND = 5,      /* no entry of this name, or at this place */
   NLOG_NO_ROOM = 6,        /* the buffer for the name is too short */
-  /* of parts 2 and 3 */
+  /* of part 2 */
   NLOG_NOT_OPEN = 7,
   NLOG_ALREADY_OPEN = 8,
   NLOG_BROKEN = 9,         /* a change failed before: close, and open again,
                             * which repairs */
   NLOG_NEGATIVE_TIME = 10,
-  NLOG_FAULT = 11,         /* a file couldn't be read, written or synced; of
-                            * part 2: memory ran out within a change */
+  NLOG_FAULT = 11,         /* a file couldn't be read, written or synced */
   NLOG_BAD_NAME = 12,      /* empty, longer than NLOG_MAX_NAME, or with a NUL,
                             * a tab or a newline */
-  NLOG_LOCKED = 13,        /* another has had the log locked for 10 seconds, or
-                            * as long as nlog_writer_set_wait says, or until a
-                            * signal came */
+  NLOG_LOCKED = 13,        /* another has had the log locked for as long as is
+                            * waited, or until a signal came */
   NLOG_FORKED = 14,        /* this process's parent opened the writer's log */
   NLOG_STATUS_MAX = 0x7fffffff
 } nlog_status;
 
 /* The name of a status, as "NLOG_NOT_FOUND"; "NLOG_?" for a number that is
- * none. It lasts for ever. The library has this function too, if you can't take
- * it from here. */
+ * none. The library has this function too. */
 static inline const char *nlog_status_name(nlog_status status) {
   switch (status) {
     case NLOG_OK: return "NLOG_OK";
@@ -106,9 +100,8 @@ static inline const char *nlog_status_name(nlog_status status) {
   return "NLOG_?";
 }
 
-/* What a status says, in words, as "out of memory". As much as there is room
- * for is written, with no NUL behind it. The length of the whole text comes
- * back. */
+/* What a status says, in words, as "out of memory", with a NUL behind as much
+ * of it as there is room for. The length of the whole text comes back. */
 size_t nlog_status_text(nlog_status status, char *text, size_t room);
 
 /* The version of the library. */
@@ -116,9 +109,8 @@ uint32_t nlog_version(void);
 
 /* ---- Part 1: a log in memory ---- */
 
-/* A log that was loaded, or one that is written (part 2), or none. The fields
- * are the library's. A copy is not a second handle: after either was passed to
- * a call, the other is of no use. */
+/* A log that was loaded, or none. The fields are the library's. A copy is not a
+ * second handle: after either was passed to a call, the other is of no use. */
 typedef struct nlog {
   uint64_t made;
   void *at;
@@ -158,17 +150,15 @@ nlog_status nlog_load(nlog *log, const void *bytes, size_t len);
  * without one, nothing is done. */
 void nlog_free(nlog *log);
 
-/* Of a log that was loaded. NLOG_NO_HANDLE: the handle has none. */
+/* NLOG_NO_HANDLE of this call and the next three: the handle has no log. */
 nlog_status nlog_get_facts(const nlog *log, nlog_facts *facts);
 
-/* How many outputs there are, of a log that was loaded or is open (part 2). So
- * it is in the two calls below. NLOG_NO_HANDLE: it is neither. */
+/* How many outputs there are. */
 nlog_status nlog_count(const nlog *log, size_t *count);
 
-/* The last entry of the output at a place, from 0, in the order in which the
- * outputs first appear. Its name is written into the buffer, with no NUL behind
- * it, and the name's length into name_len. A buffer of NLOG_MAX_NAME bytes is
- * always enough.
+/* The last entry of the output at a place. Its name is written into the buffer,
+ * with no NUL behind it, and the name's length into name_len. A buffer of
+ * NLOG_MAX_NAME bytes is always enough.
  * NLOG_NO_ROOM: the entry and name_len are filled, the buffer is as it was.
  * NLOG_NOT_FOUND: there are no more than `place` outputs. */
 nlog_status nlog_at(const nlog *log, size_t place, nlog_entry *entry,
@@ -187,8 +177,7 @@ nlog_status nlog_read_line(uint32_t version, const char *line, size_t len,
 /* What a line is that is no entry. */
 typedef enum nlog_damage_kind {
   NLOG_SKIPPED = 0, /* a whole line that is no entry */
-  NLOG_LONG = 1,    /* a whole line of more than 262143 bytes, of which nothing
-                     * is looked at */
+  NLOG_LONG = 1,    /* one of more than 262143 bytes, which isn't looked at */
   NLOG_TORN = 2,    /* the bytes behind the last newline, of a line that a crash
                      * cut off */
   NLOG_DAMAGE_KIND_MAX = 0x7fffffff
@@ -201,15 +190,13 @@ typedef struct nlog_damage {
   size_t from;           /* where it begins in the log's bytes */
   size_t len;            /* without the newline */
   nlog_damage_kind kind;
-  size_t output_from;    /* where in the log's bytes the output stands that its
-                          * last five fields name. They name one if they are an
-                          * entry, as one that was written behind a torn line */
-  size_t output_len;     /* 0 if they are none, or if the line has more than
-                          * 262143 bytes */
+  size_t output_from;    /* where the output stands that its last five fields
+                          * name, if they are an entry, as one that was written
+                          * behind a torn line */
+  size_t output_len;     /* 0 if they are none, or the line is NLOG_LONG */
   size_t first_from;     /* the same of the output that plain Ninja takes the
-                          * line for an entry of: it stands between the third
-                          * tab and the fourth */
-  size_t first_len;      /* 0 if there are fewer tabs, or as above */
+                          * line for an entry of, between its tabs 3 and 4 */
+  size_t first_len;
 } nlog_damage;
 
 #define NLOG_DAMAGE_INIT {0, 0, 0, NLOG_SKIPPED, 0, 0, 0, 0}
@@ -217,134 +204,25 @@ typedef struct nlog_damage {
 /* The first line that is no entry, of a log that nlog_load takes, by its bytes
  * and the version of nlog_get_facts. If `damage` is what the call before
  * filled, the next one. As many are told as nlog_facts.skipped counts, and one
- * more if there are torn bytes. It takes time by the bytes that it goes over,
- * and no memory. Tested and not proved (lib/nlog_damage.c).
+ * more if there are torn bytes. It takes no memory.
  * NLOG_NOT_FOUND: there is no further one. */
 nlog_status nlog_next_damage(uint32_t version, const void *bytes, size_t len,
     nlog_damage *damage);
 
-/* Loads the log as nlog_load does, and keeps those entries alone whose outputs
- * can't be trusted. A line that is no entry may be about such an output, and no
- * entry of it follows. Or the torn bytes may be about it. docs/FORMAT.md has
- * the rule, "Outputs that can't be trusted". Make it again, as if it had no
- * entry.
- * nlog_count, nlog_at and nlog_find tell of these outputs. nlog_get_facts has
- * their number as `unique`, by which `is_due` is then of no use. All else is
- * that of the log. If it has nothing skipped and nothing torn, there are none.
- * Answered as nlog_load is. */
+/* Loads the log as nlog_load does, and keeps the entries of distrusted outputs
+ * alone (docs/FORMAT.md, "Outputs that can't be trusted"). Make each again, as
+ * if it had no entry. nlog_get_facts has their number as `unique`, by which
+ * `is_due` is then of no use. Answered as nlog_load is. */
 nlog_status nlog_load_distrusted(nlog *log, const void *bytes, size_t len);
 
-/* The hash of a command, as it stands in logs of version 5 and 6, and of
- * version 7. */
+/* The hash of a command in logs of version 5 and 6, and of version 7. */
 uint64_t nlog_command_hash(const char *command, size_t len);
 uint64_t nlog_command_hash_v7(const char *command, size_t len);
-
-/* ---- Part 2: a log in memory that is written ---- */
-
-/* The library keeps the whole text that the file is to have, and makes no call
- * of the system. You carry each change to the file, as part 3 does, or as you
- * like. A handle from nlog_new is closed, open, or broken:
- *
- *     closed --nlog_open--> open
- *     open --nlog_record, nlog_begin, nlog_recompact, nlog_restat, if memory
- *       runs out within the text--> broken
- *     open or broken --nlog_close--> closed
- *
- * Each call of part 2 answers NLOG_NO_HANDLE of a handle that nlog_new didn't
- * make. */
-
-/* A closed log without marks. What the handle held before is freed.
- * NLOG_OUT_OF_MEMORY: the handle is as it was. */
-nlog_status nlog_new(nlog *log);
-
-/* What makes the file the text that nlog_text gives. Before each change the
- * file is synced, and behind each of its steps, as docs/LIBRARY.md has them in
- * order. Then whatever a crash leaves, at any moment, is opened as something
- * that could be found before. */
-typedef enum nlog_change {
-  NLOG_KEEP = 0,    /* nothing: the file is the text */
-  NLOG_APPEND = 1,  /* the file holds a part of the first line, or nothing: cut
-                     * it to nothing, and write the text */
-  NLOG_CUT = 2,     /* the file is the text and the torn tail behind it: cut it
-                     * to the text's length */
-  NLOG_REPLACE = 3, /* the log is rewritten: write the text into a new file,
-                     * sync it, and rename it over the log */
-  NLOG_CHANGE_MAX = 0x7fffffff
-} nlog_change;
-
-/* Opens the log that the bytes are: what a crash cut off is taken away, and a
- * missing first line is made. A log that is due is rewritten, without what is
- * marked dead.
- * `version`: 5 (which takes 4 too), 6 or 7 is the version that the log must
- * have. A log of which nothing stands is made one of that version. 0 is that of
- * the bytes, and 5 if there are none.
- * `change`: an nlog_change.
- * NLOG_OK uses up each mark of a dead name of which the log then has no entry.
- * NLOG_ALREADY_OPEN, NLOG_BROKEN, NLOG_NOT_A_LOG, NLOG_OTHER_VERSION,
- * NLOG_OUT_OF_MEMORY, NLOG_FAULT (memory ran out in the text): nothing was
- * changed. */
-nlog_status nlog_open(nlog *log, const void *bytes, size_t len,
-    uint32_t version, uint32_t *change);
-
-nlog_status nlog_is_open(const nlog *log, bool *is_open);
-
-/* Writes the log's text from byte `from` on into the buffer, as much as there
- * is room for. The length of the whole text is written into len. Of a closed
- * log it is none. Of a broken one it is of no use. */
-nlog_status nlog_text(const nlog *log, uint64_t from, void *bytes, size_t room,
-    uint64_t *len);
-
-/* Adds the entry of an output: the text grows by one line, which you append to
- * the file.
- * NLOG_NOT_OPEN, NLOG_BROKEN, NLOG_BAD_NAME, NLOG_OUT_OF_MEMORY: nothing was
- * changed. NLOG_FAULT: the log is broken. */
-nlog_status nlog_record(nlog *log, const char *name, size_t len,
-    const nlog_entry *entry);
-
-/* Adds the intent of an output, before a command of this hash runs that makes
- * it. It is added if the log has an entry of the output that isn't such an
- * intent already. No command passes for it, so the output is never taken for
- * what it was before (docs/FORMAT.md, "Intents"). The moment is that of now, as
- * the start of an entry.
- * Refused and answered as nlog_record is. */
-nlog_status nlog_begin(nlog *log, const char *name, size_t len,
-    int32_t moment_ms, uint64_t hash);
 
 /* NLOG_OK if the bytes are a name that a log can hold, else NLOG_BAD_NAME. */
 nlog_status nlog_check_name(const char *name, size_t len);
 
-/* NLOG_OK if the log is open: sync the file then. NLOG_NOT_OPEN,
- * NLOG_BROKEN. */
-nlog_status nlog_sync(nlog *log);
-
-/* Writes the text anew, with the last entry of each output but of those that
- * are marked dead. Such marks are used up. You replace the file.
- * NLOG_NOT_OPEN, NLOG_BROKEN, NLOG_OUT_OF_MEMORY: nothing was changed.
- * NLOG_FAULT: the log is broken. */
-nlog_status nlog_recompact(nlog *log);
-
-/* Writes the text anew, and gives each output that is marked with a time this
- * mtime. Such marks are used up. You replace the file.
- * NLOG_NEGATIVE_TIME: nothing was changed, and place is that of the first
- * negative one in the order of the marks. Else place is as it was. */
-nlog_status nlog_restat(nlog *log, size_t *place);
-
-/* Closes the log, and frees its text and its table. Marks stay.
- * NLOG_NOT_OPEN: it was neither open nor broken. */
-nlog_status nlog_close(nlog *log);
-
-/* Marks an output as one that the next rewriting leaves out.
- * NLOG_BAD_NAME, NLOG_OUT_OF_MEMORY: nothing was changed. */
-nlog_status nlog_mark_dead(nlog *log, const char *name, size_t len);
-
-/* Marks an output with the mtime that the next nlog_restat gives it. The last
- * mark of a name counts. It is refused as nlog_mark_dead is. */
-nlog_status nlog_mark_time(nlog *log, const char *name, size_t len,
-    int64_t mtime);
-
-nlog_status nlog_clear_marks(nlog *log);
-
-/* ---- Part 3: a log on disk, for POSIX with flock ---- */
+/* ---- Part 2: a log on disk, for POSIX with flock ---- */
 
 /* A log at a path, which the writer opens, and then keeps open and locked until
  * the close. A writer is in one of four states:
@@ -353,65 +231,47 @@ nlog_status nlog_clear_marks(nlog *log);
  *     closed --nlog_writer_open_to_read--> open to read
  *     open to read --nlog_writer_open, or the first of record, record_edge,
  *       begin, sync, recompact, restat--> open
- *     open, or open to read in such a call --a call of the system fails,
- *       or memory runs out within a change--> broken
+ *     open, or open to read in such a call --a call of the system fails-->
+ *       broken
  *     open to read, open or broken --nlog_writer_close--> closed
  *
  * If a call of the system fails, the call here answers NLOG_FAULT, and the
- * writer is broken. Each call that reads or changes the log then answers
- * NLOG_BROKEN until nlog_writer_close, and the next nlog_writer_open repairs
- * the log. What a failed call was to change may be on disk in part, in whole or
- * not at all. What an nlog_writer_sync had answered NLOG_OK for stands.
- * nlog_writer_errno says why it failed.
+ * writer is broken. nlog_writer_errno says why. Each call that reads or changes
+ * the log then answers NLOG_BROKEN until nlog_writer_close, and the next
+ * nlog_writer_open repairs the log. What a failed call was to change may be on
+ * disk in part, in whole or not at all.
  *
  * Lock: flock on the log's file, as each `nlog` that changes a log takes it,
  *   and no Ninja does. If the file system has no locks, there is none. The
- *   close unlocks the log, also if a child that was forked while it was open
- *   lives on: see "Fork" above. If the process was started with a descriptor
- *   that has the lock, as by `flock LOG COMMAND`, it counts as the writer's. It
- *   has to be below 256 and not close-on-exec, and the system Linux with /proc.
- *   Who else was started with it isn't kept out.
+ *   close unlocks the log, also if a forked child lives on. A process that was
+ *   started with a descriptor of the log that has the lock, as by `flock LOG
+ *   COMMAND`, has it (Linux with /proc).
  * Signals: a call goes on if a signal interrupts it. But a wait for a lock ends
  *   if a handler runs in its thread, or if SIGINT, SIGTERM or SIGHUP is blocked
- *   and pending. The call then answers NLOG_LOCKED with EINTR, and may be made
- *   again. The system gives a signal to any thread that doesn't block it. So
- *   block it in all other threads, or the wait may go on. A process that has a
- *   limit on the length of files (RLIMIT_FSIZE) must ignore SIGXFSZ, or it is
- *   ended by it.
- * Threads and processes: each call may block as long as the disk does.
- *   Descriptors are close-on-exec, and none is a standard stream's.
+ *   and pending. It answers NLOG_LOCKED with EINTR, and may be made again.
+ *   Block such a signal in all other threads. A process that limits the length
+ *   of files (RLIMIT_FSIZE) must ignore SIGXFSZ.
+ * Descriptors are close-on-exec, and none is a standard stream's.
  * Files: the scratch of a rewriting is the path with `.recompact` behind it. A
  *   failure may leave it there, and the next rewriting takes it away. If that
  *   is too long a name, the open is refused, by ENAMETOOLONG. A rewritten log
- *   is a new file. If the path is a symbolic link, it stands in the place of
- *   that. Other names of a file stay those of the old one. nlog_writer_open
- *   looks the path up. The folder that it names then is held open until the
- *   close, wherever it is moved to.
- * Rights: a rewritten log has the owner, group, permissions and ACL of the
- *   one before, as far as the process may give them. It has its security.*
- *   attributes too. Setuid, setgid, the sticky bit, capabilities and all other
- *   attributes go. Nobody but the owner of the new file may do with it what he
- *   might not do with the old one (docs/LIBRARY.md). The scratch has mode 0600
- *   until all of it is written.
+ *   is a new file, and replaces a symbolic link. Its rights are those of the
+ *   old one, as far as the process may give them, and nobody gains one. The
+ *   open looks the path up, and holds the folder open until the close.
  * Syncs: a log is synced by its folder, and then by its file. A sync of the
- *   folder may answer EINVAL, ENOSYS, ENOTSUP or EROFS. Then the file system
- *   has none, and the call goes on without. So it does if the folder may be
- *   searched and not read. A power failure may then take the name of a log that
- *   was made or rewritten. Any other error is a failure.
+ *   folder that answers EINVAL, ENOSYS, ENOTSUP or EROFS is none. Then a power
+ *   failure may take the name of a log that was made or rewritten.
  * Others: nobody else writes, removes or replaces the log while it is open, but
  *   writers that share it. The log is looked at before each sync, each close
  *   that syncs and each rewriting. If another file stands there, none, or one
  *   of another length, the call answers NLOG_FAULT, with ESTALE or ENOENT and
- *   "stat", and changes nothing. What was recorded since the last sync may then
- *   be lost. What another program puts there between the look and the end of
- *   the call isn't seen. If the log or its folder was removed, docs/LIBRARY.md
- *   has what each call answers.
+ *   "stat", and changes nothing. What was recorded since the last sync may be
+ *   lost.
  * Memory: a log that is open, or open to read, takes its table, as nlog_load
  *   does, and a buffer of 327,743 bytes. While it is opened it takes the log's
- *   bytes too. The close frees them. If there is none, a call answers
- *   NLOG_OUT_OF_MEMORY, and no file was changed, unless the call says more.
- *   nlog_writer_is_open tells whether the log is then still open, and the call
- *   may be made again. If memory ran out within a change, the writer is broken.
+ *   bytes too. If there is none, a call answers NLOG_OUT_OF_MEMORY, and no file
+ *   was changed, unless it says more.
+ * docs/LIBRARY.md has more on each of these.
  *
  * If the writer is NULL, every call but nlog_writer_new and nlog_writer_free
  * answers NLOG_NO_HANDLE, 0 or NULL. */
@@ -424,31 +284,29 @@ typedef struct nlog_name {
 } nlog_name;
 
 /* Makes a closed writer of the log at a path, which is copied. No file is
- * touched. `version`: as in nlog_open.
- * NLOG_OUT_OF_MEMORY, and NLOG_OTHER_VERSION if the number is none of these:
- * *writer is NULL. */
+ * touched. `version`: 5 (which takes 4 too), 6 or 7 is the version that the log
+ * must have. A log of which nothing stands is made one of that version. 0 takes
+ * that of the log, and 5 if nothing stands.
+ * NLOG_OUT_OF_MEMORY, and NLOG_OTHER_VERSION of another number: *writer is
+ * NULL. */
 nlog_status nlog_writer_new(nlog_writer **writer, const char *path,
     uint32_t version);
 
-/* Frees the writer, and closes what is open without a sync. *writer is then
- * NULL. If it is NULL already, nothing is done. */
+/* Frees the writer, if there is one, and closes what is open without a sync.
+ * *writer is then NULL. */
 void nlog_writer_free(nlog_writer **writer);
 
 /* Opens the log: locks it, makes it if it is missing, and reads it. The open
- * repairs it if a crash cut it off, and rewrites it if it is due, without what
- * is marked dead. It waits for the lock 10 seconds at most, or as
- * nlog_writer_set_wait says.
+ * repairs it, and rewrites it if it is due, without what is marked dead.
  * NLOG_OK: all of that is on disk.
  * NLOG_ALREADY_OPEN, NLOG_BROKEN: nothing was done.
- * After any other status the writer is closed, and the log is unlocked. After
+ * After any other status the writer is closed, and the log unlocked. After
  * NLOG_LOCKED, NLOG_NOT_A_LOG, NLOG_OTHER_VERSION and NLOG_OUT_OF_MEMORY the
- * log is as it was (made empty, if it was missing). Marks of dead names are
- * used up as by nlog_open, also if a file then fails.
- * If a sync of the log had failed, this writer's next open rewrites the log.
- * That is because a second sync may answer for bytes that the first one lost.
- * If a sync of its folder had failed, each later open answers NLOG_FAULT, with
- * EIO and "fsync" of the folder. Another writer can open the log, and knows
- * nothing of what was lost. */
+ * log is as it was (made empty, if it was missing). An open that read the log
+ * uses up each mark of a dead name of which there is no entry then.
+ * If a sync of the log had failed, this writer's next open rewrites the log. If
+ * a sync of its folder had failed, each later open answers NLOG_FAULT, with
+ * EIO. */
 nlog_status nlog_writer_open(nlog_writer *writer);
 
 /* Opens the log to read it: reads it as it stands, and locks, writes and makes
@@ -456,83 +314,73 @@ nlog_status nlog_writer_open(nlog_writer *writer);
  * nlog_writer_count, nlog_writer_at, nlog_writer_find and nlog_writer_version
  * then answer as behind nlog_writer_open. Marks of dead names are used up as by
  * it.
- * The first call that changes the log locks it. Then it does what an open owes:
- * it syncs, and repairs or rewrites. So does nlog_writer_open, which does no
- * more than that. If the file is the one that was read, nothing of it is read
- * again but its last 1024 bytes. If it only grew by lines of entries, these are
- * read. If it is another, or was written in any other way, it is read anew. So
- * it is if over 512 of these bytes are of a torn line. It is known by its
- * device, its inode, its length, the times of its last write and its last
- * change, and these bytes. A log that is due is rewritten without what is
- * marked dead by then.
+ * The first call that changes the log, or nlog_writer_open, locks it. Then it
+ * does what an open owes: it syncs, and repairs or rewrites. If the file is the
+ * one that was read, nothing of it is read again but its last 1024 bytes. If it
+ * isn't due, and only grew by lines of entries, these are read. Else it is read
+ * anew. A log that is due is rewritten without what is marked dead by then.
  * NLOG_OK: the log was read. A close of it is answered NLOG_OK, and does
  * nothing to any file.
  * Other statuses of this call: as of nlog_writer_open, and no file was touched.
  * Other statuses of the first change: NLOG_LOCKED and NLOG_BAD_NAME leave the
- * log open to read, and the call may be made again. Any other breaks the
- * writer, and closes it if the call is nlog_writer_open. NLOG_NOT_A_LOG and
- * NLOG_OTHER_VERSION come if the log was read anew. */
+ * log open to read. Any other breaks the writer, or closes it if the call is
+ * nlog_writer_open. */
 nlog_status nlog_writer_open_to_read(nlog_writer *writer);
 
-/* Whether the first change rewrites the log that is open to read. It does if
- * the log is due, as nlog_facts has it, or if a wary writer dropped an entry.
- * Of an open log it is false.
+/* Whether the first change rewrites the log that is open to read: it is due, or
+ * a wary writer dropped an entry. False if the log is open.
  * NLOG_NOT_OPEN, NLOG_BROKEN. */
 nlog_status nlog_writer_is_due(const nlog_writer *writer, bool *is_due);
 
-/* The number of the version that the log's first line has, if the last open,
- * or the last first change, answered NLOG_OTHER_VERSION. UINT64_MAX if it is
- * larger. 0 if that wasn't so, or if the number begins with a 0. */
+/* The number of the version that the last open refused, or the last first
+ * change; UINT64_MAX if it is larger. 0 if they refused none, or if the number
+ * begins with a 0. */
 uint64_t nlog_writer_other_version(const nlog_writer *writer);
 
 /* Whether the log is shared, which it isn't at first. Then the lock is held
  * within each call alone, and not from the open to the close. This is for a
  * tool whose commands may run the tool itself in the same folder, as a build
  * may run Ninja.
- * A call that changes the log, and finds that another writer had it since,
- * takes in what it holds now. The lines of both stand in the order in which
- * they were recorded. If the log only grew by lines of entries, these alone are
- * read, and nothing is synced or rewritten for them. Else it is read and opened
- * anew, as by nlog_writer_open. What only reads (nlog_writer_find and the like)
- * answers of what the last such call saw.
+ * A call that changes the log takes in what others did. If the log only grew by
+ * lines of entries, these alone are read, and nothing is synced or rewritten
+ * for them. Else it is read and opened anew. Calls that only read answer of
+ * what the last such call saw.
  * NLOG_ALREADY_OPEN: the writer has to be closed; also of a broken one.
  * NLOG_LOCKED of a later call: nothing was done, the log is open still, and the
  * call may be made again. */
 nlog_status nlog_writer_set_shared(nlog_writer *writer, bool is_shared);
 
+/* A hold takes the lock of a shared log, and keeps it until the release or a
+ * close. The calls between take none, as is good for many records. If the log
+ * isn't shared they do nothing. NLOG_LOCKED: nothing was done. */
+nlog_status nlog_writer_hold(nlog_writer *writer);
+nlog_status nlog_writer_release(nlog_writer *writer);
+
 /* Whether the writer is wary, which it isn't at first. Then each open, also one
- * to read, drops the entries of the outputs that can't be trusted, as
- * nlog_load_distrusted tells them. This is for a build tool: it makes an output
- * again that has no entry.
+ * to read, drops the entries of distrusted outputs, as nlog_load_distrusted
+ * tells them. This is for a build tool: it makes an output again that has no
+ * entry.
  * If there is such an output, the open rewrites the log, or the first change
- * does, without what is marked dead. Until the new log has the old one's place,
- * that one still tells of them. So no kill brings a dropped entry back, and no
- * power cut does once the damaged line is on disk. A log whose lines are all
- * entries is read and loaded once. Any other one is read twice.
- * If such an open fails for want of memory, some of these outputs may be marked
- * dead still.
+ * does, without what is marked dead. Until then the old log still tells of
+ * them. So no kill brings a dropped entry back, and no power cut does once the
+ * damaged line is on disk. A log whose lines are all entries is read and loaded
+ * once. Any other one is read twice.
  * NLOG_ALREADY_OPEN: the writer has to be closed; also of a broken one. */
 nlog_status nlog_writer_set_wary(nlog_writer *writer, bool is_wary);
 
 /* How long a lock is waited for from now on, in milliseconds of
- * CLOCK_MONOTONIC. It is 10,000 at first, and with 0 the lock is asked for
- * once. A signal ends the wait (see "Signals"). It is asked for again each
- * millisecond at first, and each 20 by and by. Whoever asks first behind an
- * unlock has it. There is no queue, so among many that wait one may wait
- * long. */
+ * CLOCK_MONOTONIC: 10,000 at first. With 0 the lock is asked for once. */
 nlog_status nlog_writer_set_wait(nlog_writer *writer, uint32_t milliseconds);
 
-/* Whether an open, or an open to read, succeeded that no close followed, and
- * nothing broke the writer since. */
+/* Whether the log is open, or open to read. */
 nlog_status nlog_writer_is_open(const nlog_writer *writer, bool *is_open);
 
 /* Whether the last open rewrote the log, also at the first change behind an
  * open to read. NLOG_NOT_OPEN, NLOG_BROKEN. */
 nlog_status nlog_writer_rewrote(const nlog_writer *writer, bool *rewrote);
 
-/* The version of the log, open or open to read: 5, 6 or 7. The hash of each
- * entry must be that of the version: nlog_command_hash_v7 of 7, else
- * nlog_command_hash. NLOG_NOT_OPEN, NLOG_BROKEN. */
+/* The version of the log: 5, 6 or 7. The hash of each entry must be that of the
+ * version. NLOG_NOT_OPEN, NLOG_BROKEN. */
 nlog_status nlog_writer_version(const nlog_writer *writer, uint32_t *version);
 
 /* Adds the entry of an output, by one write.
@@ -549,9 +397,11 @@ nlog_status nlog_writer_record(nlog_writer *writer, const char *name,
 nlog_status nlog_writer_record_edge(nlog_writer *writer, const nlog_name *names,
     size_t count, const nlog_entry *entry);
 
-/* As nlog_begin, of the outputs of a command that is to run. One write adds
- * them, and none if none of them wants an intent. Then the command may run. If
- * power may be lost, call nlog_writer_sync before it.
+/* Before a command of this hash runs: adds the intent of each of its outputs
+ * that has an entry which isn't such an intent already. No command passes for
+ * an intent, so none of these outputs is taken for what it was before
+ * (docs/FORMAT.md, "Intents"). The moment is that of now, as the start of an
+ * entry. One write adds them. If power may be lost, call nlog_writer_sync then.
  * Refused as nlog_writer_record_edge is. */
 nlog_status nlog_writer_begin(nlog_writer *writer, const nlog_name *names,
     size_t count, int32_t moment_ms, uint64_t hash);
@@ -577,14 +427,18 @@ nlog_status nlog_writer_recompact(nlog_writer *writer);
 /* Rewrites the log, and gives each output that is marked with a time this
  * mtime. Such marks are used up, also if a file fails.
  * NLOG_OK: it is on disk.
- * NLOG_NEGATIVE_TIME: nothing was changed, and place is filled as by
- * nlog_restat. */
+ * NLOG_NEGATIVE_TIME: nothing was changed, and place is that of the first
+ * negative one in the order of the marks. */
 nlog_status nlog_writer_restat(nlog_writer *writer, size_t *place);
 
-/* As nlog_mark_dead, nlog_mark_time and nlog_clear_marks, of an open, a closed
- * or a broken writer. */
+/* Marks an output as one that the next rewriting leaves out. Marks
+ * are taken in each state.
+ * NLOG_BAD_NAME, NLOG_OUT_OF_MEMORY: nothing was changed. */
 nlog_status nlog_writer_mark_dead(nlog_writer *writer, const char *name,
     size_t len);
+
+/* Marks an output with the mtime that the next nlog_writer_restat gives it. The
+ * last mark of a name counts. Refused as nlog_writer_mark_dead is. */
 nlog_status nlog_writer_mark_time(nlog_writer *writer, const char *name,
     size_t len, int64_t mtime);
 nlog_status nlog_writer_clear_marks(nlog_writer *writer);
@@ -598,11 +452,10 @@ nlog_status nlog_writer_clear_marks(nlog_writer *writer);
  * NLOG_BROKEN: it was broken. NLOG_NOT_OPEN. */
 nlog_status nlog_writer_close(nlog_writer *writer);
 
-/* These three tell of the last call of the system that failed since the last
- * open began. They are its errno (0: none did), the path that it was about, and
- * its name, as "fsync" (NULL: none did). After NLOG_LOCKED these are
- * EWOULDBLOCK and "flock", or EINTR and "flock" if a signal ended the wait. The
- * texts last until the next call on the writer. */
+/* The last call of the system that failed since the last open began. They are
+ * its errno, the path that it was about, and its name, as "fsync". If none did,
+ * they are 0 and NULL. After NLOG_LOCKED the errno is EWOULDBLOCK, or EINTR.
+ * The texts last until the next call on the writer. */
 int nlog_writer_errno(const nlog_writer *writer);
 const char *nlog_writer_failed_path(const nlog_writer *writer);
 const char *nlog_writer_failed_call(const nlog_writer *writer);
@@ -614,9 +467,9 @@ const char *nlog_writer_failed_call(const nlog_writer *writer);
  * any other status *error is as it was. */
 nlog_status nlog_load_file(nlog *log, const char *path, int *error);
 
-/* Reads the file once, and loads the log, as nlog_load_file. It loads those of
- * the log's outputs that can't be trusted too, as nlog_load_distrusted. Unless
- * it answers NLOG_OK, both handles hold what they held. */
+/* Reads the file once, and loads the log, and its distrusted outputs, as
+ * nlog_load_distrusted. Unless it answers NLOG_OK, both handles hold what they
+ * held. */
 nlog_status nlog_load_file_distrusted(nlog *log, nlog *distrusted,
     const char *path, int *error);
 

@@ -11,7 +11,6 @@
 
 nlog_status proved_load(nlog *log, uint64_t key0, uint64_t key1, const void *bytes, size_t len);
 nlog_status proved_load_distrusted(nlog *log, uint64_t key0, uint64_t key1, const void *bytes, size_t len);
-nlog_status proved_new(nlog *log, uint64_t key0, uint64_t key1);
 nlog_status proved_carried_new(nlog *log, uint64_t key0, uint64_t key1);
 nlog_status carried_new(nlog *log);
 
@@ -35,10 +34,6 @@ nlog_status nlog_load(nlog *log, const void *bytes, size_t len) {
 
 nlog_status nlog_load_distrusted(nlog *log, const void *bytes, size_t len) {
   return proved_load_distrusted(log, key(0), key(1), bytes, len);
-}
-
-nlog_status nlog_new(nlog *log) {
-  return proved_new(log, key(0), key(1));
 }
 
 nlog_status carried_new(nlog *log) {

@@ -104,7 +104,7 @@ def unreadable(trials, made, room):
     rows = [("folder", "FAULT EISDIR fstat log"), ("file/log", "FAULT ENOTDIR open folder"), ("loop", "FAULT ELOOP open log"), ("pipe", "FAULT EINVAL fstat log"), ("n" * 300, "FAULT ENAMETOOLONG open log")]
     for name, said in rows:
         for way, driver in drivers(made):
-            answers = asked(driver, "write", f"{room}/looks/{name}", 0, ["look", "count", "close", "look"], timeout=20)[1]
+            answers = asked(driver, "write", f"{room}/looks/{name}", 0, ["look", "count", "close", "look"])[1]
             trials.want(f"{way}: a look at {name[:20]}", answers, [said, "NOT_OPEN", "NOT_OPEN", said])
     # A name that has no room for the scratch's: it is read, and the first change is refused.
     longest = os.pathconf(room, "PC_NAME_MAX")

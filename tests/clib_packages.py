@@ -4,8 +4,8 @@ import re
 import shutil
 
 from clib_driver import STRICT, TOP
-from log_format import HEADER, command_hash, line_of
-from trials import read, run, write
+from log_format import HEADER, command_hash
+from trials import BUILD_SECONDS, read, run, write
 
 PROJECT = """cmake_minimum_required(VERSION 3.10)
 project(takes C)
@@ -25,10 +25,11 @@ def example(room):
 
 
 def makes_its_log(trials, about, words, room, **more):
-    if os.path.exists(f"{room}/c.log"):
-        os.remove(f"{room}/c.log")
-    trials.want(f"{about} runs", run(words, cwd=room, **more), (0, b"", b""))
-    trials.want(f"{about}: its log", read(f"{room}/c.log"), HEADER + line_of(b"a.o", (0, 12, 1000, command_hash(b"cc a.c"))))
+    if os.path.exists(f"{room}/.ninja_log"):
+        os.remove(f"{room}/.ninja_log")
+    trials.want(f"{about} runs", run(words, cwd=room, **more), (0, b"made a.txt\n", b""))
+    lines = (read(f"{room}/.ninja_log") or b"").split(b"\n")
+    trials.want(f"{about}: its log", (lines[0], lines[-2].split(b"\t")[3:]), (HEADER[:-1], [b"a.txt", b"%x" % command_hash(b"echo hello > a.txt")]))
 
 
 def by_pkg_config(trials, prefix, room):
@@ -91,7 +92,7 @@ def by_script(trials, room):
     for words in ([f"{TOP}/lib/archive.sh"], ["./link.sh"], ["sh", os.path.relpath(f"{TOP}/lib/archive.sh", room)]):
         shutil.rmtree(f"{room}/to/here")
         os.mkdir(f"{room}/to/here")
-        ran = run([*words, "to/here/libnlog.a"], cwd=room, env={**os.environ, "CDPATH": "/:/tmp"}, timeout=1800)
+        ran = run([*words, "to/here/libnlog.a"], cwd=room, env={**os.environ, "CDPATH": "/:/tmp"}, timeout=BUILD_SECONDS)
         about = f"{os.path.basename(words[-1])} by {words[0][-12:]}"
         trials.want(f"{about}: its status", ran[0], 0)
         trials.want(f"{about}: what it makes", sorted(os.listdir(f"{room}/to/here")), ["libnlog.a", "libnlog.so", "libnlog.so.0", "libnlog.so.0.2.0"])
@@ -111,13 +112,71 @@ def by_script(trials, room):
         trials.check(f"it says that {missing} is missing, in one line", ran[0] == 1 and ran[2].startswith(begin) and ran[2].count(b"\n") == 1, ran[2])
 
 
+def header_alone(trials, room):
+    """The header by itself, in each language from C99 and C++11 on, without a warning."""
+    write(f"{room}/alone.c", b'#include "nlog.h"\nint main(void) { return nlog_status_name(NLOG_OK) == 0; }\n')
+    for compiler, language, standards in (("cc", "c", ("c99", "c11", "c17", "gnu17")), ("c++", "c++", ("c++11", "c++14", "c++17", "c++20"))):
+        if shutil.which(compiler) is None:
+            trials.skip(f"the header by {compiler}", "it isn't there")
+            continue
+        for it in standards:
+            ran = run([compiler, "-x", language, f"-std={it}", "-Wall", "-Wextra", "-pedantic", "-Werror", "-I", f"{TOP}/include", "-fsyntax-only", f"{room}/alone.c"])
+            trials.want(f"the header as {it}", (ran[0], ran[2]), (0, b""))
+
+
+def by_meson(trials, prefix, room):
+    if shutil.which("meson") is None or shutil.which("ninja") is None:
+        trials.skip("a project of Meson", "meson or ninja isn't there")
+        return
+    example(room)
+    env = {**os.environ, "PKG_CONFIG_PATH": f"{prefix}/lib/pkgconfig"}
+    for wanted, is_taken in ((">=0.2", True), (">=0.3", False)):
+        shutil.rmtree(f"{room}/build", ignore_errors=True)
+        write(f"{room}/meson.build", f"project('takes', 'c')\nexecutable('takes', 'example.c', dependencies : dependency('nlog', version : '{wanted}'))\n".encode())
+        ran = run(["meson", "setup", f"{room}/build", room], env=env)
+        trials.want(f"a project of Meson that asks for {wanted}", ran[0] == 0, is_taken)
+        if is_taken and ran[0] == 0:
+            ran = run(["meson", "compile", "-C", f"{room}/build"], env=env)
+            if trials.check("it is built", ran[0] == 0, (ran[1] + ran[2])[-500:]):
+                makes_its_log(trials, "its program", [f"{room}/build/takes"], room, env={"LD_LIBRARY_PATH": f"{prefix}/lib", "PATH": os.environ["PATH"]})
+
+
+def by_libdir(trials, program, room):
+    """LIBDIR, of one folder and of two: what pkg-config and CMake say of it, and what stands there."""
+    for libdir in ("lib64", "lib/x86_64-linux-gnu"):
+        prefix = f"{room}/{libdir.replace('/', '-')}"
+        ran = run([f"{TOP}/install.sh", prefix], env={**os.environ, "NLOG_PROGRAM": program, "LIBDIR": libdir}, timeout=BUILD_SECONDS)
+        if not trials.check(f"install.sh with {libdir}", ran[0] == 0, (ran[1] + ran[2])[-400:]):
+            continue
+        found = sorted(os.listdir(f"{prefix}/{libdir}"))
+        trials.want(f"{libdir}: what is put there", [it for it in found if it != "x86_64-linux-gnu"], ["cmake", "libnlog.a", "libnlog.so", "libnlog.so.0", "libnlog.so.0.2.0", "pkgconfig"])
+        if libdir == "lib64":
+            trials.check("and nothing below lib", not os.path.exists(f"{prefix}/lib"))
+        if shutil.which("pkg-config"):
+            said = run(["pkg-config", "--libs", "nlog"], env={**os.environ, "PKG_CONFIG_PATH": f"{prefix}/{libdir}/pkgconfig"})[1].split()
+            trials.check(f"{libdir}: the flags of pkg-config", f"-L{prefix}/{libdir}".encode() in said, str(said))
+        if shutil.which("cmake") and (shutil.which("make") or shutil.which("ninja")):
+            example(room)
+            shutil.rmtree(f"{room}/build", ignore_errors=True)
+            write(f"{room}/CMakeLists.txt", (PROJECT % "0.2").encode())
+            ran = run(["cmake", *([] if shutil.which("make") else ["-G", "Ninja"]), "-S", room, "-B", f"{room}/build", f"-Dnlog_DIR={prefix}/{libdir}/cmake/nlog"])
+            ran = run(["cmake", "--build", f"{room}/build"]) if ran[0] == 0 else ran
+            if trials.check(f"{libdir}: a project of CMake is built", ran[0] == 0, (ran[1] + ran[2])[-500:]):
+                makes_its_log(trials, f"{libdir}: its program", [f"{room}/build/shared"], room)
+    for bad in ("", "/usr/lib", "../lib"):
+        trials.want(f"LIBDIR={bad}", run([f"{TOP}/install.sh", f"{room}/bad"], env={**os.environ, "NLOG_PROGRAM": program, "LIBDIR": bad})[0], 2)
+
+
 def trial(trials, made, program, room):
-    for it in ("pkg", "cmake", "vendored", "script"):
+    for it in ("pkg", "cmake", "meson", "libdir", "vendored", "script"):
         os.mkdir(f"{room}/take-{it}")
+    header_alone(trials, f"{room}/take-vendored")
     vendored(trials, made, f"{room}/take-vendored")
     by_script(trials, f"{room}/take-script")
     prefix = f"{room}/take-prefix"
-    ran = run([f"{TOP}/install.sh", prefix], env={**os.environ, "NLOG_PROGRAM": program}, timeout=1800)
+    ran = run([f"{TOP}/install.sh", prefix], env={**os.environ, "NLOG_PROGRAM": program}, timeout=BUILD_SECONDS)
     if trials.check("install.sh puts the library", ran[0] == 0, (ran[1] + ran[2])[-400:]):
         by_pkg_config(trials, prefix, f"{room}/take-pkg")
         by_cmake(trials, prefix, f"{room}/take-cmake")
+        by_meson(trials, prefix, f"{room}/take-meson")
+        by_libdir(trials, program, f"{room}/take-libdir")

@@ -12,7 +12,7 @@ import time
 
 from clib_driver import A, B, answers_of, asked, drivers, hexed, may_trace
 from log_format import HEADER
-from trials import read, run, write
+from trials import SECONDS, read, run, write
 
 OWNER, WRITER, THIRD, SHARED = 12001, 12002, 12003, 13001
 # Persons by their number and their groups, of which the first is their own.
@@ -236,7 +236,7 @@ def watched(trials, room):
         trials.want("a log that is watched", answers_of(writer, "open"), "OK")
         writer.stdin.write(b"recompact\n")
         writer.stdin.flush()
-        scratch, seen, until = f"{room.log}.recompact", set(), time.monotonic() + 30
+        scratch, seen, until = f"{room.log}.recompact", set(), time.monotonic() + SECONDS
         while time.monotonic() < until and not any(size == len(HEADER + A + B) for _, size in seen):
             try:
                 about = os.stat(scratch)

@@ -3,6 +3,11 @@
 `steps_of` of crates/nl_c/specs/Changes.antt is the list of steps that make a file the text, of which a law says what each prefix leaves. Here it is
 read from that file, and what the writer did in each call of a driver that writes its calls of the system down (tests/clib/driver.c) is compared
 with it, step by step: in an open, in the first change behind an open to read, in a shared call that reads anew, in a recompact and a restat.
+
+Beside these steps it holds each call, however it ends, to what the states of the writer say (lib/writer.c, lib/lock.c): which files are open then,
+and which of them are locked; that no step is taken without the lock, nor behind a new lock without a look; that a scratch is its owner's alone until
+it is whole; which pages and how much memory are left. And it holds the proved calls to their premises: `carried_written` comes where the file
+has the text, and `carried_sync` behind a sync of it.
 """
 import os
 import re
@@ -20,7 +25,11 @@ class Definition:
     def __init__(self):
         self.text = read(f"{TOP}/crates/nl_c/specs/Changes.antt").decode()
         self.numbers = {name: int(value) for name, value in re.findall(r"(?m)^(keep|append|cut|replace) = (\d)$", self.text)}
-        self.steps = self.body(r"steps_of change bytes text")
+        self.steps = self.body(r"file_steps change bytes text")
+        # What comes before these, and what each end of a call lets go of, of a log that isn't shared and of one that is.
+        self.first = [it for it in self.body(r"steps_of change bytes text") if it not in ("∷", "file_steps", "change", "bytes", "text")]
+        ends = {"open": r"Stays (?:%s|is_shared)", "broken": r"Breaks (?:%s|is_shared)", "closed": r"Closes (?:%s|is_shared)"}
+        self.ends = {state: [[it for it in self.body(rf"exit_of {head % word}") if it not in ("∷", "[]")] for word in ("false", "true")] for state, head in ends.items()}
         self.no_bytes, self.some_bytes = self.body(r"emptied \[\]"), self.body(r"emptied \(b ∷ bytes\)")
 
     def body(self, head):
@@ -115,9 +124,103 @@ def steps_taken(calls):
             taken.append((("StartScratch",), done))
         elif what == "rename":
             taken.append((("Replace",), done))
-        else:
+        elif what in ("sync", "cut"):
             taken.append(((f"{what} of {file}",), done))
     return taken
+
+
+STEPS = {"sync", "cut", "write", "unlink", "make", "rename"}
+
+
+class Held:
+    """The files of a writer as a driver's calls leave them, each with whether it is locked, from one call of the writer to the next. What each end
+    of a call lets go of is `exit_of` of the definition, and what comes before a step the head of `steps_of`."""
+
+    def __init__(self, definition):
+        self.definition = definition
+        self.files, self.is_lent, self.swapped, self.length = {}, False, "", 0
+
+    def follow(self, word, before, status, calls, is_shared, was_open):
+        """What is wrong with the order of these calls, or None."""
+        # A log that is the writer's alone may have been moved, or removed.
+        self.length = self.length if was_open and not is_shared else len(before)
+        length, scratch, is_looked, is_clean, filled, has_written = self.length, 0, was_open and word not in ("sync", "recompact", "restat", "close"), False, False, False
+        lent = any(it[0] == "lock" and it[1] == "l" and it[3] == "0" for it, _ in calls) and status in ("NLOG_OK", "NLOG_NEGATIVE_TIME")
+        for (what, file, number, is_done), _ in calls:
+            number, done = int(number), is_done == "1"
+            if what == "lock" and done:
+                self.files[file], is_looked, self.is_lent = True, file != "l" and is_looked, self.is_lent and file != "l"
+            elif what == "lock" and file == "l":
+                self.is_lent = lent
+            elif what == "unlock" and file in self.files:
+                self.files[file] = False
+            elif what == "look":
+                is_looked = True
+            elif what == "close":
+                if file in "lo" and number == 1:
+                    return f"{file} is closed, and isn't unlocked"
+                self.files.pop(file, None)
+            elif what == "mode" and (file != "s" or not filled or number & ~0o777):
+                return f"the mode {number:o} of {file}, filled: {filled}"
+            elif what == "written" and (number > length or has_written and number != length if done else status == "NLOG_OK" and not is_shared and was_open):
+                return f"{number} bytes are said to be written of {length}"
+            elif what == "synced" and not (done and is_clean):
+                return "what isn't synced is said to be"
+            if what not in STEPS:
+                continue
+            if "Lock" in self.definition.first and not (self.files.get("l") or self.is_lent) and file != "f":
+                return f"{what} of {file} without the lock"
+            if "Look" in self.definition.first and not is_looked:
+                return f"{what} of {file} behind no look"
+            is_clean = what == "sync" and file == "l" and done
+            if is_clean:
+                self.swapped = ""
+            if what == "make" and done:
+                self.files["s"], scratch, filled = False, 0, False
+                if number != 0o600:
+                    return f"a scratch of mode {number:o}"
+            if what == "write" and file == "s":
+                scratch += number
+                filled = True
+                if not self.files.get("s"):
+                    return "the scratch isn't locked"
+            if what == "write" and file == "l":
+                length, has_written = length + number, True
+            if what == "cut" and done:
+                length = number
+            if what == "rename":
+                # The name may show either file: the one that isn't the log's stays locked until a sync, or the close.
+                self.swapped = "o" if done else "s"
+                if done:
+                    length = scratch
+                    self.files = {{"l": "o", "s": "l"}.get(it, it): locked for it, locked in self.files.items()}
+            self.length = length
+        return None
+
+    def left(self, text, pages, state, is_shared):
+        """What is wrong with what is open behind a call, or None."""
+        found = {}
+        for file, locked, closes in re.findall(r"(.)(\d)(\d) ", text):
+            if closes == "0" or file in found:
+                return f"{text}: twice, or not close-on-exec"
+            found[file] = locked == "1"
+        self.files = found
+        if state == "closed":
+            self.swapped = ""
+        if pages != (0 if state == "closed" else 1):
+            return f"{pages} pages"
+        if state == "read":
+            return f"{text}: not the file that was read, or locked" if found.keys() - {"f", "r"} or found.get("r") else None
+        lets_go = self.definition.ends[state][is_shared]
+        if "Close" in lets_go:
+            return f"{text}: open behind a close" if text else None
+        if found.keys() & {"s", "o"} != set(self.swapped) or not found.get(self.swapped, True):
+            return f"{text}: the file before a rename, or behind one, {state}, {self.swapped}"
+        if "r" in found or state == "open" and ("f" not in found or "l" not in found and not is_shared):
+            return f"{text}: of an open log"
+        if "l" in found and not self.is_lent and (state == "open" or not is_shared) and found["l"] == ("Unlock" in lets_go):
+            return f"{text}: the lock, shared: {is_shared}"
+        return None
 
 
 def is_begun(taken, told):
@@ -141,8 +244,8 @@ class Process:
 
     def __init__(self, definition):
         self.definition, self.version, self.told = definition, 0, 0
-        self.state, self.change, self.is_pending, self.is_unsound, self.is_shared = "closed", None, False, False, False
-        self.opened = opened
+        self.state, self.change, self.is_pending, self.is_unsound, self.is_shared, self.is_held = "closed", None, False, False, False, False
+        self.opened, self.held, self.blocks = opened, Held(definition), None
 
     def openings(self, before):
         """The steps that an open of these bytes may owe."""
@@ -155,7 +258,7 @@ class Process:
     def lists(self, word, before, after, own, is_done):
         """The lists of steps that a call may take. `after`: the log behind it, to which the call itself added what `own` says."""
         mine = {"record": [("WriteLog", own)] if own else [], "sync": [("SyncLog",)], "close": [("SyncLog",)] if self.is_pending else []}
-        mine["edge"] = mine["begin"] = mine["record"]
+        mine["edge"], mine["begin"], mine["hold"] = mine["record"], mine["record"], []
         rewriting = self.definition.steps_of("REPLACE", b"", after)[1:]
         mine["recompact"] = mine["restat"] = rewriting
         last = mine.get(word, [])
@@ -178,7 +281,21 @@ class Process:
         return [*first, *([last] if self.state == "open" else [[]] if word in ("edge", "begin") else [])]
 
     def call(self, word, before, status, after, calls):
-        """One call: what is wrong with its steps, or None."""
+        """One call: what is wrong with it, or None."""
+        left = {it[0]: (int(it[2]), data.decode()) for it, data in calls if it[0] in ("held", "pages", "blocks")}
+        calls = [it for it in calls if it[0][0] not in left]
+        wrong = self.held.follow(word, before, status, calls, self.is_shared and not self.is_held, self.state == "open")
+        of_steps = self.steps(word, before, status, after, calls)
+        if word in ("dead", "time", "load", "wary", "free") or left["blocks"][0] < 0:
+            self.blocks = None
+        if self.state == "closed" and self.blocks is not None and left["blocks"][0] > self.blocks + 1:
+            wrong = wrong or f"{left['blocks'][0]} blocks of memory behind a close, and {self.blocks} at first"
+        self.is_held = self.state == "open" and word != "release" and (self.is_held or word == "hold" and status == "NLOG_OK")
+        held = self.held.left(left["held"][1], left["pages"][0], self.state, self.is_shared and not self.is_held)
+        return of_steps or wrong or held
+
+    def steps(self, word, before, status, after, calls):
+        """What is wrong with its steps, or None."""
         taken = steps_taken(calls)
         writes = [step for step, _ in taken if step[0] == "WriteLog"]
         own = writes[-1][1] if word in ("record", "edge", "begin") and writes else b""
@@ -188,7 +305,9 @@ class Process:
             own = own[15:]
         steps = [step for step, _ in taken]
         done = status not in ("NLOG_FAULT", "NLOG_OUT_OF_MEMORY", "NLOG_LOCKED") and all(it for _, it in taken)
-        lists = self.lists(word, before, after, own, done)
+        # What a rewriting wrote that failed stands in the scratch.
+        scratch = b"".join(step[1] for step, _ in taken if step[0] == "WriteScratch")
+        lists = self.lists(word, before, scratch or after if word in ("recompact", "restat") and not done else after, own, done)
         if word in ("sync", "close"):
             # Behind an open the folder is durable: the last sync may be of the file alone.
             lists += [[*it[:-1], ("SyncFile",)] for it in lists if it[-1:] == [("SyncLog",)]]
@@ -220,7 +339,7 @@ class Process:
             self.is_pending = False
         elif word in ("close", "free") and status not in ("NLOG_LOCKED",):
             self.state, self.is_pending = "closed", False
-        elif word in ("record", "edge", "begin", "sync", "recompact", "restat") and self.state in ("read", "open"):
+        elif word in ("record", "edge", "begin", "hold", "sync", "recompact", "restat") and self.state in ("read", "open"):
             if status in ("NLOG_OK", "NLOG_NEGATIVE_TIME"):
                 # An edge of no name is no change.
                 self.state = self.state if not taken and word in ("edge", "begin") and self.state == "read" else "open"
@@ -232,13 +351,15 @@ def steps(trials, folder):
     """Compares what each process of the driver did with what the definition tells."""
     definition, count, rewritings = Definition(), 0, 0
     trials.want("the numbers of the changes", [definition.numbers[it.lower()] for it in CHANGES], [0, 1, 2, 3])
+    trials.want("what comes before the steps", definition.first, ["Lock", "Look"])
+    trials.want("what the ends let go of", definition.ends, {"open": [[], ["Unlock"]], "broken": [[], []], "closed": [["Unlock", "Close"]] * 2})
     for name in sorted(os.listdir(folder)):
         process = word = before = None
         calls = []
         for words, data in records_of(f"{folder}/{name}"):
             if words[0] == "run":
                 process = Process(definition)
-                process.version = int(words[1])
+                process.version, process.blocks = int(words[1]), last
             elif words[0] == "call":
                 word, before, calls = words[1], data, []
             elif words[0] == "done":
@@ -250,6 +371,7 @@ def steps(trials, folder):
                 word = None
             elif word is not None:
                 calls.append((words, data))
+            last = int(words[2]) if words[0] == "blocks" else None
         os.remove(f"{folder}/{name}")
     trials.check("many calls took steps, and each took those that are told", count > 700 and rewritings > 100, f"{count} calls, {rewritings} rewritings")
     print(f"clib.py: {count} calls of the writer took the steps that steps_of of Changes.antt tells, {rewritings} of them a rewriting")

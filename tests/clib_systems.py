@@ -13,7 +13,7 @@ import time
 
 from clib_driver import A, B, D, FIND, RECORD, STRICT_DRIVER, answers_of, asked, drivers, hexed, may_trace
 from log_format import HEADER, line_of
-from trials import is_locked, read, run, write
+from trials import SECONDS, Pauses, is_locked, read, run, until_open, write
 
 RECORD_D = f"record -1 0 -5 ffffffffffffffff {hexed(b'd')}"
 LOCKED = "LOCKED EWOULDBLOCK flock log"
@@ -117,7 +117,7 @@ def lent(trials, made, room):
 def interrupted(trials, made, room):
     """A signal that comes while a lock is awaited ends the wait at once, whether it is handled or kept back; and the call may be made again."""
     log, ended = f"{room}/interrupted", "LOCKED EINTR flock log"
-    with open(log, "ab") as held:
+    with open(log, "ab") as held, Pauses() as clock:
         for way, driver in drivers(made):
             for number, is_kept in ((signal.SIGUSR1, False), (signal.SIGINT, True), (signal.SIGTERM, True), (signal.SIGHUP, True)):
                 for begin, line in (([], "open"), (["look"], RECORD), (["shared", "open"], RECORD), (["shared", "open"], "sync")):
@@ -133,7 +133,7 @@ def interrupted(trials, made, room):
                         writer.send_signal(number)
                     trials.want(f"{about}it is told", writer.stdout.readline().decode().strip(), f"NLOG_{ended}")
                     said = answers_of(writer, "took")
-                    trials.check(f"{about}at once", int(said.split()[1]) < 3000, said)
+                    trials.check(f"{about}at once", int(said.split()[1]) < 3000 * clock.slower(), said)
                     trials.want(f"{about}the log then", read(log), HEADER + B)
                     fcntl.flock(held, fcntl.LOCK_UN)
                     trials.want(f"{about}once more", answers_of(writer, line), "OK")
@@ -147,10 +147,9 @@ def interrupted(trials, made, room):
             fcntl.flock(held, fcntl.LOCK_EX)
             trials.want("as it does", answers_of(writer, line), LOCKED)
         writer.send_signal(signal.SIGTERM)
-        time.sleep(0.5)
-        trials.want("the process ends by a signal", writer.poll(), -signal.SIGTERM)
-        writer.kill()
+        # (one that doesn't end by the signal does once its input has ended)
         writer.communicate()
+        trials.want("the process ends by a signal", writer.returncode, -signal.SIGTERM)
     # A stop and its end are no end of a wait.
     write(log, HEADER + B)
     writer = begun([made["C11"]], log)
@@ -274,9 +273,10 @@ def grown_in_a_read(trials, made, room):
             reader = subprocess.Popen(words, stdin=subprocess.PIPE, stdout=subprocess.PIPE)
             reader.stdin.write("\n".join(begin).encode() + b"\n")
             reader.stdin.flush()
-            time.sleep(0.35)
+            # (its read is late by 1.5 seconds)
+            until_open(reader, log)
             change()
-            said = reader.communicate(timeout=60)[0].decode().replace("NLOG_", "").split("\n")[:-1]
+            said = reader.communicate(timeout=SECONDS)[0].decode().replace("NLOG_", "").split("\n")[:-1]
             trials.want(f"a file that changes while it is read, by {what}", said, [f"OK - {wanted}"] if end == "load" else ["OK", f"OK {wanted}", "OK"])
 
 

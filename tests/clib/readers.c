@@ -35,7 +35,7 @@ static void *read_all(void *passed) {
     size_t len = (size_t)snprintf(name, sizeof name, "out%d", n), count = 0, found_len = 0;
     nlog_entry entry;
     nlog_facts facts;
-    bool is_open = false;
+    bool is_open = false, is = true;
     uint32_t version = 0;
     memset(&entry, 0, sizeof entry);
     self->wrong += nlog_find(&loaded, name, len, &entry) != NLOG_OK || !is_right(&entry, n);
@@ -44,11 +44,13 @@ static void *read_all(void *passed) {
     memset(&entry, 0, sizeof entry);
     self->wrong += nlog_at(&loaded, (size_t)n, &entry, found, sizeof found, &found_len) != NLOG_OK || !is_right(&entry, n);
     self->wrong += found_len != len || memcmp(found, name, len) != 0;
+    self->wrong += nlog_get_facts(&loaded, &facts) != NLOG_OK || facts.total != OUTPUTS || nlog_writer_errno(writer) != 0;
+    self->wrong += nlog_count(&loaded, &count) != NLOG_OK || count != OUTPUTS || nlog_writer_failed_path(writer) != NULL;
+    self->wrong += nlog_writer_is_open(writer, &is_open) != NLOG_OK || !is_open || nlog_writer_failed_call(writer) != NULL;
+    self->wrong += nlog_writer_rewrote(writer, &is) != NLOG_OK || is || nlog_writer_is_due(writer, &is) != NLOG_OK || is;
+    self->wrong += nlog_writer_other_version(writer) != 0;
     if (i % 16 != 0) continue;
-    self->wrong += nlog_count(&loaded, &count) != NLOG_OK || count != OUTPUTS;
     self->wrong += nlog_writer_count(writer, &count) != NLOG_OK || count != OUTPUTS;
-    self->wrong += nlog_get_facts(&loaded, &facts) != NLOG_OK || facts.total != OUTPUTS;
-    self->wrong += nlog_writer_is_open(writer, &is_open) != NLOG_OK || !is_open;
     self->wrong += nlog_writer_version(writer, &version) != NLOG_OK || version != 5;
     self->wrong += nlog_writer_at(writer, (size_t)n, &entry, found, sizeof found, &found_len) != NLOG_OK || !is_right(&entry, n);
   }

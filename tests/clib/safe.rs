@@ -1,6 +1,7 @@
 //! A log on disk and one in memory, behind types that can't be misused: a small wrapper over the library for C, and a program that uses it.
 //! tests/clib.py builds and runs it.
-use std::ffi::{CStr, CString, c_char, c_void};
+use std::ffi::{CStr, CString};
+use std::os::raw::{c_char, c_void};
 use std::{env, fmt, ptr};
 
 #[repr(C)]

@@ -7,6 +7,6 @@ mod KeptValues
 mod LogDrop
 mod RecordLemmas
 mod RewritingLemmas
-mod RoomLemmas
 mod ToldLemmas
+mod WaitLemmas
 mod WholeLemmas

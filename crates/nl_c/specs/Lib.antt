@@ -4,9 +4,8 @@ pub mod LoadedLogs
 pub mod Changes
 pub mod Ends
 pub mod Honest
-pub mod Room
-pub mod TextFolder
 pub mod Written
+pub mod Waits
 pub mod Carried
 pub mod CarriedLogs
 pub mod Faults

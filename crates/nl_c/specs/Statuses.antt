@@ -1,5 +1,5 @@
 -- The statuses of the library's calls: docs/LIBRARY.md.
-use Rattle.std.specs.Prelude.{ℕ, Result, Ok, Err, List, ◌++◌, ◌==◌, if◌then◌else◌, codes, drop, length, min, take}
+use Rattle.std.specs.Prelude.{ℕ, ◌+◌, ◌-◌, Result, Ok, Err, List, ◌∷◌, ◌++◌, ◌==◌, if◌then◌else◌, codes, drop, length, min, take}
 use Rattle.nl_session.specs.declared.fault.LogFault.{LogFault}
 use Rattle.nl_session.specs.declared.fault.LogFault.TheVariants as log_fault
 use Rattle.nl_table.specs.declared.loader.LoadFault.{LoadFault}
@@ -106,6 +106,10 @@ status_text status = if status == ok then codes "ok"
     else (if status == locked then codes "another process has the log"
     else (if status == forked then codes "the parent process opened the log" else codes "unknown status"))))))))))))))
 
--- the length of a text, and a buffer with as much of the text as it has room for
+-- the first n bytes of a text at the beginning of a buffer, and a NUL behind them
+abbrev pub written_in : ℕ → List ℕ → List ℕ → List ℕ
+written_in n text buf = take n text ++ 0 ∷ drop (n + 1) buf
+
+-- the length of a text, and a buffer with as much of the text as it has room for beside the NUL
 abbrev pub text_in : List ℕ → List ℕ → ℕ × List ℕ
-text_in text buf = (length text, take (min (length text) (length buf)) text ++ drop (min (length text) (length buf)) buf)
+text_in text buf = (length text, if length buf == 0 then buf else written_in (min (length text) (length buf - 1)) text buf)

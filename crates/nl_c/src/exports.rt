@@ -8,9 +8,9 @@ ghost use Rattle.nl_table.specs.Log.{NotALog, OtherVersion, log_of};
 ghost use Rattle.nl_versions.specs.VersionOf.{as_five, lines_version};
 ghost use Rattle.nl_c.specs.LoadedLogs.{IsDistrustedFrom, IsLoadedFrom};
 ghost use Rattle.nl_c.specs.Answers.{answered_at, answered_count, answered_facts, answered_find, answer_line};
-ghost use Rattle.nl_c.specs.CarriedLogs.{IsNewCarried, MadeRoom, Given, CarriedOpened, WholeOpened, CarriedText, CarriedHeader, CarriedLine};
-ghost use Rattle.nl_c.specs.Held.{InCarried, InHandle, IsCarriedAnd, IsWrittenAnd, NoCall, given_in, given_of, has_carried, is_carried, loaded_in, loaded_of, table_in};
-ghost use Rattle.nl_c.specs.Written.{IsNew, Opened, Recorded, Begun, Synced, Stopped, Recompacted, Restatted, DeadMarked, TimeMarked, Cleared, IsOpenTold, Texted};
+ghost use Rattle.nl_c.specs.CarriedLogs.{IsNewCarried, MadeRoom, Given, CarriedOpened, WholeOpened, Keeps, Anew, CarriedWritten, CarriedText, CarriedHeader, CarriedLine};
+ghost use Rattle.nl_c.specs.Held.{InCarried, IsCarriedAnd, given_in, given_of, has_carried, is_carried, loaded_in, loaded_of, table_in};
+ghost use Rattle.nl_c.specs.Written.{Recorded, Begun, Synced, Stopped, Recompacted, Restatted, DeadMarked, TimeMarked, Cleared};
 ghost use Rattle.nl_fields.specs.Name.{IsName};
 ghost use Rattle.nl_c.specs.Statuses.{ok, bad_name, no_handle, not_a_log, not_found, other_version, out_of_memory, text_in, status_text};
 
@@ -18,7 +18,6 @@ use crate::carried_log::CarriedLog;
 use crate::handle::Handle;
 use crate::held::Held;
 use crate::loaded_log::{CStamp, Facts, LoadedLog};
-use crate::written_log::WrittenLog;
 use crate::{look_up, status};
 use nl_distrust::is_whole;
 use nl_fields::{command_hash, command_hash_v7, name_fault};
@@ -34,14 +33,17 @@ pub extern "C" fn nlog_version() -> u32
     2000
 }
 
-/// Writes as much of the text of a status as the buffer has room for. The length of the whole text comes back.
+/// Writes as much of the text of a status as the buffer has room for, and a NUL behind it. The length of the whole text comes back.
 #[unsafe(no_mangle)]
 pub extern "C" fn nlog_status_text(status: u32, buf: &mut [u8]) -> usize
     ensures { (result, buf.new) ≡ text_in (status_text status) buf.old }
 {
     let text = status::text(status);
-    let len = text.len().min(buf.len());
-    buf[..len].copy_from_slice(&text[..len]);
+    if !buf.is_empty() {
+        let len = text.len().min(buf.len() - 1);
+        buf[..len].copy_from_slice(&text[..len]);
+        buf[len..len + 1].copy_from_slice(b"\0");
+    }
     text.len()
 }
 
@@ -204,210 +206,6 @@ pub extern "C" fn nlog_find(
     answer
 }
 
-/// A closed log without marks. What the handle held is let go.
-#[unsafe(no_mangle)]
-pub extern "C" fn nlog_new(handle: &mut Handle, alloc: Global, key0: u64, key1: u64) -> u32
-    ensures ok { result ≡ ok → IsSomeAnd handle.new.kept.log (IsWrittenAnd IsNew) }
-    ensures refusals { (result ≡ ok) ⊎ (result ≡ out_of_memory) }
-    ensures unchanged { result ≢ ok → handle.new.kept.log ≡ handle.old.kept.log }
-{
-    let secret = Secret::of(key0, key1);
-    match Box::new(alloc, Held::Written(WrittenLog::new(alloc, secret))) {
-        Ok(held) => {
-            drop(handle.take(alloc));
-            *handle = Handle::of(held);
-            status::OK
-        }
-        Err(_) => status::OUT_OF_MEMORY,
-    }
-}
-
-/// Opens the log that the bytes are, of a handle with a closed log.
-#[unsafe(no_mangle)]
-pub extern "C" fn nlog_open(
-    handle: &mut Handle,
-    alloc: Global,
-    bytes: &[u8],
-    version: u32,
-    change: &mut u32,
-) -> u32
-    ensures call { InHandle (Opened bytes.now version (change.old, change.new)) NoCall result
-        handle.old.kept.log handle.new.kept.log }
-{
-    let Some(mut held) = handle.take(alloc) else {
-        return status::NO_HANDLE;
-    };
-    let answer = held.open(alloc, bytes, version, change);
-    *handle = Handle::of(held);
-    answer
-}
-
-/// Adds the line of an entry to the text of an open log.
-#[unsafe(no_mangle)]
-pub extern "C" fn nlog_record(
-    handle: &mut Handle,
-    alloc: Global,
-    name: &[u8],
-    stamp: &CStamp,
-) -> u32
-    ensures call { InHandle (Recorded name.now stamp.now) (Recorded name.now stamp.now) result handle.old.kept.log
-        handle.new.kept.log }
-{
-    let Some(mut held) = handle.take(alloc) else {
-        return status::NO_HANDLE;
-    };
-    let answer = held.record(name, stamp);
-    *handle = Handle::of(held);
-    answer
-}
-
-/// Adds the line of an intent to the text of an open log, where the entry of the name isn't such an intent.
-#[unsafe(no_mangle)]
-pub extern "C" fn nlog_begin(
-    handle: &mut Handle,
-    alloc: Global,
-    name: &[u8],
-    moment_ms: i32,
-    hash: u64,
-) -> u32
-    ensures call { InHandle (Begun name.now moment_ms hash) (Begun name.now moment_ms hash) result
-        handle.old.kept.log handle.new.kept.log }
-{
-    let Some(mut held) = handle.take(alloc) else {
-        return status::NO_HANDLE;
-    };
-    let answer = held.begin(alloc, name, moment_ms, hash);
-    *handle = Handle::of(held);
-    answer
-}
-
-/// What was recorded is to be made durable.
-#[unsafe(no_mangle)]
-pub extern "C" fn nlog_sync(handle: &mut Handle, alloc: Global) -> u32
-    ensures call { InHandle (Synced) (Synced) result handle.old.kept.log handle.new.kept.log }
-{
-    let Some(mut held) = handle.take(alloc) else {
-        return status::NO_HANDLE;
-    };
-    let answer = held.sync();
-    *handle = Handle::of(held);
-    answer
-}
-
-/// Writes the text anew without what is marked dead.
-#[unsafe(no_mangle)]
-pub extern "C" fn nlog_recompact(handle: &mut Handle, alloc: Global) -> u32
-    ensures call { InHandle (Recompacted) (Recompacted) result handle.old.kept.log handle.new.kept.log }
-{
-    let Some(mut held) = handle.take(alloc) else {
-        return status::NO_HANDLE;
-    };
-    let answer = held.recompact(alloc);
-    *handle = Handle::of(held);
-    answer
-}
-
-/// Writes the text anew with the mtimes that are marked.
-#[unsafe(no_mangle)]
-pub extern "C" fn nlog_restat(handle: &mut Handle, alloc: Global, place: &mut usize) -> u32
-    ensures call { InHandle (Restatted (place.old, place.new)) (Restatted (place.old, place.new)) result handle.old.kept.log
-        handle.new.kept.log }
-{
-    let Some(mut held) = handle.take(alloc) else {
-        return status::NO_HANDLE;
-    };
-    let answer = held.restat(alloc, place);
-    *handle = Handle::of(held);
-    answer
-}
-
-/// Closes the log, and frees its text and its table.
-#[unsafe(no_mangle)]
-pub extern "C" fn nlog_close(handle: &mut Handle, alloc: Global) -> u32
-    ensures call { InHandle (Stopped) (Stopped) result handle.old.kept.log handle.new.kept.log }
-{
-    let Some(mut held) = handle.take(alloc) else {
-        return status::NO_HANDLE;
-    };
-    let answer = held.stop(alloc);
-    *handle = Handle::of(held);
-    answer
-}
-
-/// Marks an output as dead.
-#[unsafe(no_mangle)]
-pub extern "C" fn nlog_mark_dead(handle: &mut Handle, alloc: Global, name: &[u8]) -> u32
-    ensures call { InHandle (DeadMarked name.now) (DeadMarked name.now) result handle.old.kept.log handle.new.kept.log }
-{
-    let Some(mut held) = handle.take(alloc) else {
-        return status::NO_HANDLE;
-    };
-    let answer = held.mark_dead(name);
-    *handle = Handle::of(held);
-    answer
-}
-
-/// Marks an output with a new mtime.
-#[unsafe(no_mangle)]
-pub extern "C" fn nlog_mark_time(handle: &mut Handle, alloc: Global, name: &[u8], mtime: i64) -> u32
-    ensures call { InHandle (TimeMarked name.now mtime) (TimeMarked name.now mtime) result handle.old.kept.log
-        handle.new.kept.log }
-{
-    let Some(mut held) = handle.take(alloc) else {
-        return status::NO_HANDLE;
-    };
-    let answer = held.mark_time(alloc, name, mtime);
-    *handle = Handle::of(held);
-    answer
-}
-
-/// Forgets the marks.
-#[unsafe(no_mangle)]
-pub extern "C" fn nlog_clear_marks(handle: &mut Handle, alloc: Global) -> u32
-    ensures call { InHandle (Cleared) (Cleared) result handle.old.kept.log handle.new.kept.log }
-{
-    let Some(mut held) = handle.take(alloc) else {
-        return status::NO_HANDLE;
-    };
-    let answer = held.clear_marks(alloc);
-    *handle = Handle::of(held);
-    answer
-}
-
-/// Whether the log is open.
-#[unsafe(no_mangle)]
-pub extern "C" fn nlog_is_open(handle: &mut Handle, alloc: Global, is_open: &mut bool) -> u32
-    ensures call { InHandle (IsOpenTold is_open.new) (IsOpenTold is_open.new) result handle.old.kept.log
-        handle.new.kept.log }
-{
-    let Some(mut held) = handle.take(alloc) else {
-        return status::NO_HANDLE;
-    };
-    let answer = held.is_open(is_open);
-    *handle = Handle::of(held);
-    answer
-}
-
-/// How long the text is, and as much of it from a place on as there is room for.
-#[unsafe(no_mangle)]
-pub extern "C" fn nlog_text(
-    handle: &mut Handle,
-    alloc: Global,
-    from: u64,
-    bytes: &mut [u8],
-    len: &mut u64,
-) -> u32
-    ensures call { InHandle (Texted from (bytes.old, bytes.new) (len.old, len.new)) NoCall result
-        handle.old.kept.log handle.new.kept.log }
-{
-    let Some(mut held) = handle.take(alloc) else {
-        return status::NO_HANDLE;
-    };
-    let answer = held.text(from, bytes, len);
-    *handle = Handle::of(held);
-    answer
-}
-
 /// A closed log without marks, whose text the caller carries. What the handle held is let go.
 #[unsafe(no_mangle)]
 pub extern "C" fn carried_new(handle: &mut Handle, alloc: Global, key0: u64, key1: u64) -> u32
@@ -465,7 +263,7 @@ pub extern "C" fn carried_open(
     let Some(mut held) = handle.take(alloc) else {
         return status::NO_HANDLE;
     };
-    let answer = held.open_given(alloc, version, change);
+    let answer = held.open(alloc, version, change);
     *handle = Handle::of(held);
     answer
 }
@@ -550,6 +348,152 @@ fn distrusted_of(held: &Held, alloc: Global) -> Result<LoadedLog, u32>
     }
 }
 
+/// Adds the line of an entry to the text of an open log. It waits to be carried.
+#[unsafe(no_mangle)]
+pub extern "C" fn carried_record(
+    handle: &mut Handle,
+    alloc: Global,
+    name: &[u8],
+    stamp: &CStamp,
+) -> u32
+    ensures call { InCarried (Keeps (Recorded name.now stamp.now)) result handle.old.kept.log handle.new.kept.log }
+{
+    let Some(mut held) = handle.take(alloc) else {
+        return status::NO_HANDLE;
+    };
+    let answer = held.record(name, stamp);
+    *handle = Handle::of(held);
+    answer
+}
+
+/// Adds the line of an intent to the text of an open log, where the entry of the name isn't such an intent.
+#[unsafe(no_mangle)]
+pub extern "C" fn carried_begin(
+    handle: &mut Handle,
+    alloc: Global,
+    name: &[u8],
+    moment_ms: i32,
+    hash: u64,
+) -> u32
+    ensures call { InCarried (Keeps (Begun name.now moment_ms hash)) result handle.old.kept.log handle.new.kept.log }
+{
+    let Some(mut held) = handle.take(alloc) else {
+        return status::NO_HANDLE;
+    };
+    let answer = held.begin(alloc, name, moment_ms, hash);
+    *handle = Handle::of(held);
+    answer
+}
+
+/// The file holds the whole text of an open log, which is this long.
+#[unsafe(no_mangle)]
+pub extern "C" fn carried_written(handle: &mut Handle, alloc: Global, len: u64) -> u32
+    ensures call { InCarried (CarriedWritten len) result handle.old.kept.log handle.new.kept.log }
+{
+    let Some(mut held) = handle.take(alloc) else {
+        return status::NO_HANDLE;
+    };
+    let answer = held.note_written(len);
+    *handle = Handle::of(held);
+    answer
+}
+
+/// What the file holds was made durable, by a sync of it.
+#[unsafe(no_mangle)]
+pub extern "C" fn carried_sync(handle: &mut Handle, alloc: Global) -> u32
+    ensures call { InCarried (Keeps Synced) result handle.old.kept.log handle.new.kept.log }
+{
+    let Some(mut held) = handle.take(alloc) else {
+        return status::NO_HANDLE;
+    };
+    let answer = held.sync();
+    *handle = Handle::of(held);
+    answer
+}
+
+/// Writes the text anew without what is marked dead.
+#[unsafe(no_mangle)]
+pub extern "C" fn carried_recompact(handle: &mut Handle, alloc: Global) -> u32
+    ensures call { InCarried (Anew Recompacted) result handle.old.kept.log handle.new.kept.log }
+{
+    let Some(mut held) = handle.take(alloc) else {
+        return status::NO_HANDLE;
+    };
+    let answer = held.recompact(alloc);
+    *handle = Handle::of(held);
+    answer
+}
+
+/// Writes the text anew with the mtimes that are marked.
+#[unsafe(no_mangle)]
+pub extern "C" fn carried_restat(handle: &mut Handle, alloc: Global, place: &mut usize) -> u32
+    ensures call { InCarried (Anew (Restatted (place.old, place.new))) result handle.old.kept.log handle.new.kept.log }
+{
+    let Some(mut held) = handle.take(alloc) else {
+        return status::NO_HANDLE;
+    };
+    let answer = held.restat(alloc, place);
+    *handle = Handle::of(held);
+    answer
+}
+
+/// Closes the log, and frees its table and what waits.
+#[unsafe(no_mangle)]
+pub extern "C" fn carried_close(handle: &mut Handle, alloc: Global) -> u32
+    ensures call { InCarried (Anew Stopped) result handle.old.kept.log handle.new.kept.log }
+{
+    let Some(mut held) = handle.take(alloc) else {
+        return status::NO_HANDLE;
+    };
+    let answer = held.stop(alloc);
+    *handle = Handle::of(held);
+    answer
+}
+
+/// Marks an output as dead.
+#[unsafe(no_mangle)]
+pub extern "C" fn carried_mark_dead(handle: &mut Handle, alloc: Global, name: &[u8]) -> u32
+    ensures call { InCarried (Keeps (DeadMarked name.now)) result handle.old.kept.log handle.new.kept.log }
+{
+    let Some(mut held) = handle.take(alloc) else {
+        return status::NO_HANDLE;
+    };
+    let answer = held.mark_dead(name);
+    *handle = Handle::of(held);
+    answer
+}
+
+/// Marks an output with a new mtime.
+#[unsafe(no_mangle)]
+pub extern "C" fn carried_mark_time(
+    handle: &mut Handle,
+    alloc: Global,
+    name: &[u8],
+    mtime: i64,
+) -> u32
+    ensures call { InCarried (Keeps (TimeMarked name.now mtime)) result handle.old.kept.log handle.new.kept.log }
+{
+    let Some(mut held) = handle.take(alloc) else {
+        return status::NO_HANDLE;
+    };
+    let answer = held.mark_time(alloc, name, mtime);
+    *handle = Handle::of(held);
+    answer
+}
+
+/// Forgets the marks.
+#[unsafe(no_mangle)]
+pub extern "C" fn carried_clear_marks(handle: &mut Handle, alloc: Global) -> u32
+    ensures call { InCarried (Keeps Cleared) result handle.old.kept.log handle.new.kept.log }
+{
+    let Some(mut held) = handle.take(alloc) else {
+        return status::NO_HANDLE;
+    };
+    let answer = held.clear_marks(alloc);
+    *handle = Handle::of(held);
+    answer
+}
+
 /// How long the text is, and as much of it from a place on as there is room for, where that wasn't carried.
 #[unsafe(no_mangle)]
 pub extern "C" fn carried_text(
@@ -564,7 +508,7 @@ pub extern "C" fn carried_text(
     let Some(mut held) = handle.take(alloc) else {
         return status::NO_HANDLE;
     };
-    let answer = held.waiting(from, bytes, len);
+    let answer = held.text(from, bytes, len);
     *handle = Handle::of(held);
     answer
 }

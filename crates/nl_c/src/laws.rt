@@ -1,4 +1,4 @@
-//! Laws of what is loaded, each the contract of a function that does nothing.
+//! Laws of a log that is written, each the contract of a function that does nothing.
 ghost use Rattle.std.specs.Prelude.{◌≡◌, ◌≤◌, ◌⊎◌, ◌++◌, ℕ, Bool, false, List, All, IsSomeAnd, length};
 ghost use Rattle.nl_fields.specs.EntryLine.{IsEntry};
 ghost use Rattle.nl_fields.specs.declared.entry.Entry.{Entry};
@@ -10,8 +10,8 @@ ghost use Rattle.nl_table.specs.Table.{all_entered_table};
 ghost use Rattle.nl_session.specs.Opened.{opened_bytes, IsTableOf};
 ghost use Rattle.nl_folder.specs.CrashImages.{IsDisk, IsImage};
 ghost use Rattle.nl_folder.specs.DiskState.{Disk};
-ghost use Rattle.nl_c.specs.Changes.{IsOpenText, StepsLeave, replace, steps_of};
-ghost use Rattle.nl_c.specs.Faults.{WholeFaults, LightFaults};
+ghost use Rattle.nl_c.specs.Changes.{Ending, IsOpenText, StepsLeave, exit_of, replace, steps_of};
+ghost use Rattle.nl_c.specs.Faults.{CarriedFaults};
 
 /// A rewriting puts a new file in the place of the log. Wherever its steps end, and the power then fails, what is found could be found
 /// before, or is the text, whatever text that is.
@@ -19,6 +19,12 @@ pub fn a_rewriting_leaves_the_old_or_the_new()
     ensures { (old new : Disk) (text bs : List ℕ) → IsDisk old
         → StepsLeave (steps_of replace old.visible text) old new → IsImage new bs
         → IsImage old bs ⊎ (bs ≡ text) }
+{}
+
+/// What a call of the writer lets go of as it ends changes nothing on disk, wherever that stops.
+pub fn an_end_leaves_the_disk()
+    ensures { (ending : Ending) (is_shared : Bool) (old new : Disk)
+        → StepsLeave (exit_of ending is_shared) old new → new ≡ old }
 {}
 
 /// Lines of entries behind the text of an open log: the table in which each was entered is that of the whole, which an open leaves as it
@@ -37,9 +43,8 @@ pub fn appended_lines_are_recorded()
         → opened_bytes dead text ≡ text }
 {}
 
-/// A call of a log that is written answers a fault only where there is no room. In memory there is none behind its text, or behind what is
-/// to take that one's place. Where it is carried there is none behind the bytes that wait, or its folder was asked for what it doesn't keep.
+/// A call of a log that is written answers a fault only where the longest line has no place within the limit of a log, or where its folder
+/// was asked for what it doesn't keep.
 pub fn a_fault_is_want_of_room()
-    ensures whole { WholeFaults }
-    ensures light { LightFaults }
+    ensures { CarriedFaults }
 {}

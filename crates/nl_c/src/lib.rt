@@ -13,7 +13,5 @@ mod laws;
 mod loaded_log;
 mod look_up;
 mod marks;
-mod room;
 mod status;
-mod text_folder;
 mod written_log;

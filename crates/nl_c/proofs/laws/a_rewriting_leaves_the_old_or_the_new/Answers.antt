@@ -1,5 +1,8 @@
+use Rattle.nl_c.specs.Changes.{file_steps, replace}
+use Rattle.nl_c.proofs.ChangeLemmas.{unlocked}
 use Rattle.nl_c.proofs.RewritingLemmas.{old_or_text}
 use Rattle.nl_c.proofs.laws.a_rewriting_leaves_the_old_or_the_new.Goals as goal
 
 pub returns : goal.returns
-returns c = λ old new text bs honest left image. old_or_text text old honest new left bs image
+returns c = λ old new text bs honest left image.
+    old_or_text text old honest new (unlocked (file_steps replace old.visible text) old new left) bs image
