@@ -1,14 +1,19 @@
 #!/usr/bin/env bash
-# Makes what a machine without the toolchain takes: an archive that unpacks anywhere and a Debian package, of what ./install.sh puts.
+# Makes what a machine without the toolchain takes: for each processor an archive that unpacks anywhere, and Debian packages.
 set -euo pipefail
 
-usage="usage: ./release.sh TO
-proves and builds nlog as ./install.sh does, and puts into the folder TO
-nlog-VERSION-linux-x86_64.tar.gz, one folder with bin, lib, include and share, which may lie anywhere, and
-nlog_VERSION_amd64.deb, the same below /usr, where dpkg-deb is there
-Both have share/doc/nlog/RELEASE: which C library they need, what was proved, and by which kit.
-NLOG_PROGRAM=FILE takes that program, which some run proved before, and RELEASE then says so"
+usage="usage: ./release.sh [--target TARGET].. TO
+proves and builds nlog for x86_64 and aarch64, or for each TARGET that is named, and puts into the folder TO
+nlog-VERSION-linux-TARGET.tar.gz, one folder with bin, lib, include and share, which may lie anywhere; for x86_64 lib/musl too, where musl-gcc is there,
+the packages nlog, libnlog0 and libnlog-dev for the processor, where dpkg-deb is there, and SHA256SUMS of all these
+The program is one static file. Archives and packages have share/doc/nlog/RELEASE: what they need, what was proved, and by which kit.
+What lib/proved.sh kept is not proved again. DEBFULLNAME and DEBEMAIL name who maintains the packages"
 
+targets=()
+while [[ ${1-} == --target && $# -gt 1 ]]; do
+    targets+=("$2")
+    shift 2
+done
 if [[ $# -ne 1 || $1 == '' || $1 == -* ]]; then
     [[ $# -eq 1 && ($1 == -h || $1 == --help) ]] && echo "$usage" && exit 0
     echo "$usage" >&2
@@ -16,107 +21,229 @@ if [[ $# -ne 1 || $1 == '' || $1 == -* ]]; then
 fi
 
 top=$(cd "$(dirname "$0")" && pwd)
-for it in cc ar objcopy objdump sha256sum tar gzip; do
-    command -v "$it" > /dev/null || { echo "release.sh: $it isn't there" >&2; exit 1; }
+said_by=release.sh
+# shellcheck source=lib/tools.sh
+. "$top/lib/tools.sh"
+# shellcheck disable=SC2154
+[[ ${#targets[@]} -gt 0 ]] || read -ra targets <<< "$all_targets"
+# Each processor has its own compiler.
+unset CC
+need_rt
+for target in "${targets[@]}"; do
+    take_tools "$target"
+    need "$cc" "$ar" "$nm" "$objcopy" "$objdump" "$strip"
 done
+need sha256sum tar gzip
+
 room=$(mktemp -d)
 trap 'rm -rf "$room"' EXIT
 umask 022
 mkdir -p "$1"
 to=$(cd "$1" && pwd)
 
-DESTDIR=$room/package "$top/install.sh" /usr
-tree=$room/package/usr
-version=$("$tree/bin/nlog" --version)
-version=${version#nlog }
-shared=$(readlink -f "$tree/lib/libnlog.so")
-
-# The newest version of the C library of which a file asks for a name.
-glibc() {
-    objdump -T "$1" | sed -n 's/.*[( ]GLIBC_\([0-9.]*\)[) ].*/\1/p' | sort -V | tail -n 1
-}
-program_needs=$(glibc "$tree/bin/nlog")
-library_needs=$(glibc "$shared")
-needs=$(printf '%s\n' "$program_needs" "$library_needs" | sort -V | tail -n 1)
-if [[ -z $program_needs || -z $library_needs ]]; then
-    echo "release.sh: which C library the program and the library need can't be told" >&2
-    exit 1
-fi
-
+version=$(sed -n 's/^\.TH NLOG 1 [^ ]* "nlog \([0-9.]*\)".*/\1/p' "$top/man/nlog.1")
+number=$(sed -n 's/^#define NLOG_VERSION \([0-9]*\)$/\1/p' "$top/include/nlog.h")
+library=$((number / 1000000)).$((number / 1000 % 1000)).$((number % 1000))
+kit=$(rt version)
 commit=$(git -C "$top" rev-parse HEAD 2> /dev/null || echo "not known")
 [[ -z $(git -C "$top" status --porcelain -uno 2> /dev/null || true) ]] || commit="$commit, changed"
 # Files of the same sources have the same dates.
 SOURCE_DATE_EPOCH=$(git -C "$top" log -1 --format=%ct 2> /dev/null || date +%s)
 export SOURCE_DATE_EPOCH
-if [[ -n ${NLOG_PROGRAM-} ]]; then
-    how="bin/nlog was handed to release.sh as a built program, and not proved in this run. Of the one that is built from this commit:
-  each"
-else
-    how="bin/nlog was proved and built from the sources of this commit, by this kit: each"
-fi
+maintainer="${DEBFULLNAME:-nobody} <${DEBEMAIL:-nobody@localhost}>"
+made=()
 
-doc=$tree/share/doc/nlog
-mkdir -p "$doc/docs"
-cp "$top/README.md" "$top/CHANGELOG.md" "$doc"
-cp "$top"/docs/*.md "$doc/docs"
-cat > "$doc/RELEASE" << END
-nlog $version for Linux on x86-64
+# Prints the sums of these files of a folder, as RELEASE has them.
+sums() {
+    (cd "$1" && sha256sum "${@:2}" | sed 's/^/    /')
+}
 
-What it needs
-  Linux on x86-64, level v2 (processors since 2009), and the GNU C library $needs or later: bin/nlog asks for names of GLIBC_$program_needs,
-  lib/$(basename "$shared") of GLIBC_$library_needs. Nothing else: no toolchain, no other library.
-  There is no static program: the toolchain links against the shared C library alone.
+# Prints what a release for a processor says of itself: of the files in a folder as ./install.sh lays them out.
+release() {
+    local tree=$1 glibc on needs musl=''
+    [[ ! -d $tree/lib/musl ]] || musl="lib/musl has both for musl. "
+    # The newest version of the C library of which the shared library asks for a name.
+    glibc=$("$objdump" -T "$tree/lib/libnlog.so.$library" | sed -n 's/.*[( ]GLIBC_\([0-9.]*\)[) ].*/\1/p' | sort -V | tail -n 1)
+    case $target in
+        x86_64) on=x86-64 needs="a processor of level v2, as all since 2009 are" ;;
+        aarch64) on=ARM64 needs="no more than each ARM64 processor has" ;;
+    esac
+    cat << END
+nlog $version for Linux on $on
 
-What was proved
-  commit   $commit
-  kit      $(rt version)
-  $how function of it meets its contract, is safe and ends. The main one:
+bin/nlog is one static file: it needs no C library and no other file, so it runs on Alpine too. It
+needs $needs.
+
+lib/libnlog.so.$library is the library for C, version $library. It needs the GNU C library $glibc or later,
+and so does what is linked with lib/libnlog.a. ${musl}include/nlog.h and nlog(3) say what each
+call does.
+
+What was proved: each function of bin/nlog meets its contract, is safe and ends. The main one says:
 
 $(sed -n 's/^> /    /p' "$top/docs/PROMISES.md")
 
-  docs/PROMISES.md has the rest, what is tested only, and what is trusted. Of the library for C, crates/nl_c was proved by this kit too;
-  the writer over files (lib/nlog_writer.c) is tested and not proved.
+PROMISES.md has the rest, what is tested only, and what is trusted. Of the library, crates/nl_c was
+proved. Its C, which writes files, is tested and not proved.
 
-Checksums (sha256)
-$(cd "$tree" && sha256sum bin/nlog lib/libnlog.a "lib/$(basename "$shared")" include/nlog.h | sed 's/^/  /')
+The proof is of commit
+    $commit
+by the prover and compiler of
+    $kit
+and for this processor. The prover said of the program's own crate, over those below it, of which it
+proved each, and of the library's:
+    $(cat "$top/crates/nlog/out/$target/verdict")
+    $(cat "$top/crates/nl_c/out/$target/verdict")
+
+The program was linked by
+    $($cc --version | head -n 1)
+with the GNU C library of that compiler, which is under the LGPL 2.1 or later. The archive
+nlog-$version-linux-$target.tar.gz has all else of the program in lib/nlog/nlog.o, so that you can link
+it with another version of that: cc -static -o nlog nlog.o
+
+No licence has been chosen for nlog yet.
+
+The sha256 sums of these files:
+$(sums "$tree" bin/nlog lib/libnlog.a "lib/libnlog.so.$library" include/nlog.h)
 END
+}
 
 pack() { # the folder, of which all is packed, and the archive
     local how=(--sort=name --owner=0 --group=0 --numeric-owner --mtime="@$SOURCE_DATE_EPOCH")
     tar --create "${how[@]}" --directory "$(dirname "$1")" "$(basename "$1")" | gzip -9n > "$2.new"
     mv -f "$2.new" "$2"
+    made+=("$(basename "$2")")
+    echo "release.sh: $2 is there"
 }
 
-# The archive: the flags of pkg-config go by where its file lies, in which it marks each space itself.
-name=nlog-$version-linux-x86_64
-cp -r "$tree" "$room/$name"
-# shellcheck disable=SC2016
-sed -i -e 's|^prefix=.*|prefix=${pcfiledir}/../..|' -e '/^\(Cflags\|Libs\):/s/"//g' "$room/$name/lib/pkgconfig/nlog.pc"
-pack "$room/$name" "$to/$name.tar.gz"
-echo "release.sh: $to/$name.tar.gz is there"
+# package NAME VERSION SECTION DEPENDS: makes a Debian package of the files of its folder, whose description is its input.
+package() {
+    local name=$1 its=$2 root=$here/$1 doc=$here/$1/usr/share/doc/$1
+    mkdir -p "$root/DEBIAN" "$doc"
+    cat > "$doc/copyright" << END
+nlog: Ninja's build log, read and written
 
-if ! command -v dpkg-deb > /dev/null; then
-    echo "release.sh: skipped: the Debian package: dpkg-deb isn't there"
-    exit 0
-fi
-mkdir "$room/package/DEBIAN"
-cat > "$room/package/DEBIAN/control" << END
-Package: nlog
-Version: $version
-Architecture: amd64
-Maintainer: ${DEBFULLNAME:-nobody} <${DEBEMAIL:-nobody@localhost}>
-Installed-Size: $(du -sk "$tree" | cut -f 1)
-Depends: libc6 (>= $needs)
-Section: devel
-Priority: optional
-Description: Ninja's build log, read and written
- The program nlog prints, checks and repairs Ninja's build log, and records to
- it so that no crash can spoil it; the library is for C.
- Made with $(rt version);
- /usr/share/doc/nlog/RELEASE says what was proved.
+No licence has been chosen for nlog yet.
+
+The program /usr/bin/nlog holds parts of the GNU C Library, which is under the
+GNU Lesser General Public License, version 2.1 or later. Its text is in
+/usr/share/common-licenses/LGPL-2.1. The archive nlog-$version-linux-$target.tar.gz
+has all else of the program as lib/nlog/nlog.o, to link it with another.
 END
-echo "activate-noawait ldconfig" > "$room/package/DEBIAN/triggers"
-(cd "$room/package" && find usr -type f -exec md5sum {} + | sort -k 2) > "$room/package/DEBIAN/md5sums"
-dpkg-deb --root-owner-group --build "$room/package" "$room/nlog.deb" > "$room/said" || { cat "$room/said" >&2; exit 1; }
-mv -f "$room/nlog.deb" "$to/nlog_${version}_amd64.deb"
-echo "release.sh: $to/nlog_${version}_amd64.deb is there"
+    cat > "$room/changelog" << END
+$1 ($its) unstable; urgency=medium
+
+  * The changes of this version are in CHANGELOG.md of the sources.
+
+ -- $maintainer  $(date -uR -d "@$SOURCE_DATE_EPOCH")
+END
+    gzip -9nc "$room/changelog" > "$doc/changelog.gz"
+    find "$root/usr/share/man" -type f -exec gzip -9n {} + 2> /dev/null || true
+    {
+        echo "Package: $1"
+        echo "Version: $its"
+        echo "Architecture: $debian"
+        echo "Maintainer: $maintainer"
+        echo "Installed-Size: $(du -sk "$root/usr" | cut -f 1)"
+        [[ -z $4 ]] || echo "Depends: $4"
+        echo "Section: $3"
+        echo "Priority: optional"
+        cat
+    } > "$root/DEBIAN/control"
+    (cd "$root" && find usr -type f -exec md5sum {} + | sort -k 2) > "$root/DEBIAN/md5sums"
+    dpkg-deb --root-owner-group --build "$root" "$room/$1.deb" > "$room/said" || { cat "$room/said" >&2; exit 1; }
+    mv -f "$room/$1.deb" "$to/$1_${its}_$debian.deb"
+    made+=("$1_${its}_$debian.deb")
+    echo "release.sh: $to/$1_${its}_$debian.deb is there"
+}
+
+# Has a package take files from the tree, below another folder if two are named.
+take() {
+    mkdir -p "$here/$1/usr/${3:-$2}"
+    cp -a "$here/all/usr/$2/." "$here/$1/usr/${3:-$2}"
+}
+
+packages() {
+    local glibc
+    glibc=$("$objdump" -T "$tree/lib/libnlog.so.$library" | sed -n 's/.*[( ]GLIBC_\([0-9.]*\)[) ].*/\1/p' | sort -V | tail -n 1)
+    take nlog bin
+    take nlog share/man/man1
+    take nlog share/bash-completion
+    take nlog share/zsh/site-functions share/zsh/vendor-completions
+    take nlog share/fish
+    take nlog share/doc/nlog
+    gzip -9n "$here/nlog/usr/share/doc/nlog/CHANGELOG.md"
+    package nlog "$version" devel '' << END
+Description: Ninja's build log, read, checked and repaired
+ The program nlog prints, checks and repairs the build log of Ninja, and records
+ to it so that no crash can spoil it.
+ .
+ /usr/share/doc/nlog/RELEASE says what was proved of it.
+END
+    mkdir -p "$here/libnlog0/usr/lib" "$here/libnlog0/DEBIAN"
+    cp -a "$tree/lib/libnlog.so.$library" "$tree/lib/libnlog.so.${library%%.*}" "$here/libnlog0/usr/lib"
+    chmod 644 "$here/libnlog0/usr/lib/libnlog.so.$library"
+    echo "activate-noawait ldconfig" > "$here/libnlog0/DEBIAN/triggers"
+    echo "libnlog ${library%%.*} libnlog0 (>= $library)" > "$here/libnlog0/DEBIAN/shlibs"
+    package libnlog0 "$library" libs "libc6 (>= $glibc)" << END
+Description: Ninja's build log for programs in C: the shared library
+ A library that reads the build log of Ninja, and records to it so that no crash
+ can spoil it.
+ .
+ This is what a program wants that was built with it.
+END
+    take libnlog-dev include
+    take libnlog-dev lib
+    rm -rf "$here"/libnlog-dev/usr/lib/libnlog.so.* "$here"/libnlog-dev/usr/lib/{nlog,musl}
+    take libnlog-dev share/man/man3
+    for page in "$here"/libnlog-dev/usr/share/man/man3/nlog_*; do
+        ln -sf nlog.3.gz "$page.gz" && rm "$page"
+    done
+    package libnlog-dev "$library" libdevel "libnlog0 (= $library)" << END
+Description: Ninja's build log for programs in C: what they are built with
+ A library that reads the build log of Ninja, and records to it so that no crash
+ can spoil it.
+ .
+ This has the header, the archive, the pages, and the files of pkg-config and
+ CMake.
+END
+}
+
+for target in "${targets[@]}"; do
+    take_tools "$target"
+    here=$room/$target
+    tree=$here/all/usr
+    name=nlog-$version-linux-$target
+    mkdir -p "$here"
+    NLOG_OBJECT=$here/program.o "$top/lib/program.sh" --target "$target" "$here/program"
+    NLOG_TARGET=$target NLOG_PROGRAM=$here/program DESTDIR=$here/all "$top/install.sh" /usr > "$room/said"
+    "$strip" --strip-unneeded "$tree/lib/libnlog.so.$library"
+    "$strip" --strip-debug "$tree/lib/libnlog.a"
+    # musl's compiler is for the processor of this machine.
+    if [[ $target == x86_64 ]] && command -v musl-gcc > /dev/null; then
+        mkdir "$tree/lib/musl"
+        CC=musl-gcc "$top/lib/archive.sh" "$tree/lib/musl/libnlog.a"
+        "$strip" --strip-unneeded "$tree/lib/musl/libnlog.so.$library"
+        "$strip" --strip-debug "$tree/lib/musl/libnlog.a"
+    elif [[ $target == x86_64 ]]; then
+        echo "release.sh: skipped: the library over musl: musl-gcc isn't there"
+    fi
+    mkdir -p "$tree/lib/nlog" "$tree/share/doc/nlog/docs"
+    cp "$here/program.o" "$tree/lib/nlog/nlog.o"
+    cp "$top/README.md" "$top/CHANGELOG.md" "$tree/share/doc/nlog"
+    cp "$top"/docs/*.md "$top"/docs/*.svg "$tree/share/doc/nlog/docs"
+    release "$tree" > "$tree/share/doc/nlog/RELEASE"
+
+    # The archive: the flags of pkg-config go by where its file lies, in which it marks each space itself.
+    cp -r "$tree" "$here/$name"
+    # shellcheck disable=SC2016
+    sed -i -e 's|^prefix=.*|prefix=${pcfiledir}/../..|' -e '/^\(Cflags\|Libs\):/s/"//g' "$here/$name/lib/pkgconfig/nlog.pc"
+    pack "$here/$name" "$to/$name.tar.gz"
+
+    if command -v dpkg-deb > /dev/null; then
+        packages
+    else
+        echo "release.sh: skipped: the Debian packages: dpkg-deb isn't there"
+    fi
+done
+(cd "$to" && sha256sum "${made[@]}" > SHA256SUMS.new && mv -f SHA256SUMS.new SHA256SUMS)
+echo "release.sh: $to/SHA256SUMS is there"

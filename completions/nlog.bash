@@ -43,7 +43,7 @@ _nlog() {
                 mapfile -t COMPREPLY < <(compgen -f -- "$word")
                 return
             fi
-        elif [[ ! $dashes && ${COMP_WORDS[1]} =~ ^(summary|compare)$ && ${COMP_WORDS[at]} =~ ^(--build|--lines|-n)$ ]]; then
+        elif [[ ! $dashes && ${COMP_WORDS[1]} =~ ^(summary|compare)$ && ${COMP_WORDS[at]} =~ ^(--build|--at-least|--lines|-n)$ ]]; then
             [[ ${COMP_WORDS[at + 1]} == '=' ]] && at=$((at + 1))
             ((++at >= COMP_CWORD)) && return
         elif [[ $dashes || ${COMP_WORDS[at]} != -?* ]]; then
@@ -56,7 +56,7 @@ _nlog() {
             builds) mapfile -t COMPREPLY < <(compgen -W '--log-version --missing-ok --tabs --verbose -v --help -h' -- "$word") ;;
             entries | damage | trace | picture | repair) mapfile -t COMPREPLY < <(compgen -W '--log-version --missing-ok --verbose -v --help -h' -- "$word") ;;
             summary) mapfile -t COMPREPLY < <(compgen -W '--log-version --missing-ok --build --all --kind --lines -n --graph --tabs --verbose -v --help -h' -- "$word") ;;
-            compare) mapfile -t COMPREPLY < <(compgen -W '--log-version --missing-ok --lines -n --tabs --verbose -v --help -h' -- "$word") ;;
+            compare) mapfile -t COMPREPLY < <(compgen -W '--log-version --missing-ok --at-least --lines -n --tabs --verbose -v --help -h' -- "$word") ;;
             recompact) mapfile -t COMPREPLY < <(compgen -W '--log-version --manifest --verbose -v --help -h' -- "$word") ;;
             restat) mapfile -t COMPREPLY < <(compgen -W '--log-version --files --verbose -v --help -h' -- "$word") ;;
             *) mapfile -t COMPREPLY < <(compgen -W '--log-version --verbose -v --help -h' -- "$word") ;;
