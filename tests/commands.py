@@ -199,9 +199,15 @@ INPUT_CHECKED = b"version 5\ntotal 1\nunique 1\nskipped 1\ntorn 0\ndue no\n"
 NOTHING_CHECKED = b"version 5\ntotal 0\nunique 0\nskipped 0\ntorn 0\ndue no\n"
 SIX, SEVEN = (b"# ninja log v%d\n1\t2\t3\tout\t8072fc2ac19230e4\nx\n" % it for it in (6, 7))
 FOUR, FOUR_SHOWN = b"# ninja log v4\n1\t2\t3\ta\tcc\tx\n", b"1\t2\t3\ta\t72274e7a30810c7b\n"
-# Each has one command of one output, which took 1 ms.
-FILE_BUILT = INPUT_BUILT = FOUR_BUILT = NEW_BUILT = b"1\t1\t1\t1\t1\tsure\n"
+# Each has one command of one output, which took 1 ms. In version 4 END alone tells of builds.
+FILE_BUILT = INPUT_BUILT = NEW_BUILT = b"1\t1\t1\t1\t1\tsure\n"
+FOUR_BUILT = b"1\t1\t1\t1\t1\tunsure\n"
 BAD_NUMBER = b"nlog: bad number\n"
+# Two builds of one command, 2 ms and 1 ms, of which the first began 100 seconds behind the other.
+ANEW = b"# ninja log v7\n0\t2\t1700000100000000000\ta\t1\n0\t1\t1700000000000000000\tb\t2\n"
+ANEW_BUILT = b"1\t1\t1\t1\t1\tagain\t1\n2\t1\t1\t2\t2\tagain\t0\n"
+ANEW_COUNTED = b"commands\t1\noutputs\t1\nwall\t2\ntotal\t2\nbusy\t2\nalone\t2\nparallel\t1.00\nslowest\t2\ta\n"
+ALL_ANEW = b"commands\t2\noutputs\t2\nwall\t3\ntotal\t3\nbusy\t3\nalone\t3\nparallel\t1.00\nslowest\t2\ta\nagain\t0\n"
 ONE_COUNTED = b"commands\t1\noutputs\t1\nwall\t1\ntotal\t1\nbusy\t1\nalone\t1\nparallel\t1.00\nslowest\t1\t%b\n"
 # What `compare` prints but for its lists: whether hashes were compared, and of each class the count, the difference and both times.
 COMPARED = b"hashes\t%bcompared\n" + b"".join(b"total\t%b\t%%b\n" % it for it in (b"new", b"gone", b"changed", b"slower", b"faster", b"unfinished", b"same"))
@@ -209,8 +215,10 @@ NONE = b"0\t0\t0\t0"
 ONE_SUMMED = ONE_COUNTED + b"by-time\t1\t1.00\t%b\nby-weight\t1\t1.00\t%b\nkinds-by-time\t1\t1\t1.00\t(none)\nkinds-by-weight\t1\t1\t1.00\t(none)\n"
 # Three commands, one after another, and what `summary` prints of them: of 1 ms, 2 ms and 4 ms, in folders of each depth.
 NESTED = b"# ninja log v7\n0\t1\t1\ta.o\t1\n1\t3\t1\tlib/b.o\t2\n3\t7\t1\tlib/x/c\t3\n"
-KINDS_COUNTED = (
-    b"commands\t3\noutputs\t3\nwall\t7\ntotal\t7\nbusy\t7\nalone\t7\nparallel\t1.00\nslowest\t4\tlib/x/c\n"
+NESTED_COUNTED = b"commands\t3\noutputs\t3\nwall\t7\ntotal\t7\nbusy\t7\nalone\t7\nparallel\t1.00\nslowest\t4\tlib/x/c\n"
+# A graph of its last output and of that of SIX and SEVEN.
+GRAPH = b'digraph ninja {\n"1" [label="lib/x/c"]\n"2" [label="out"]\n}\n'
+KINDS_COUNTED = NESTED_COUNTED + (
     b"by-time\t4\t4.00\tlib/x/c\nby-time\t2\t2.00\tlib/b.o\nby-time\t1\t1.00\ta.o\n"
     b"by-weight\t4\t4.00\tlib/x/c\nby-weight\t2\t2.00\tlib/b.o\nby-weight\t1\t1.00\ta.o\n"
 )
@@ -325,6 +333,11 @@ TWO_GRAPHS = TWO_BUILDS.replace(b"--build <BUILD>", b"--graph <FILE>")
 NO_GRAPH = NO_VERSION.replace(b"--log-version <VERSION>", b"--graph <FILE>")
 TWO_SCOPES = b"error: the argument '--build <BUILD>' cannot be used with '--all'\n\nUsage: nlog [COMMAND]\n" + MORE
 TWO_MISSING = TWO_VERSIONS.replace(b"--log-version <VERSION>", b"--missing-ok").replace(b"nlog show", b"nlog entries")
+TWO_LEAST = TWO_VERSIONS.replace(b"--log-version <VERSION>", b"--at-least <MS>").replace(b"nlog show [OPTIONS] [LOG]", b"nlog compare [OPTIONS] <OLD> <NEW>")
+GRAPH_AS_LOG = b"error: the argument '--graph -' reads standard input, so LOG is required with it\n\nUsage: nlog [COMMAND]\n" + MORE
+NO_LEAST = NO_VERSION.replace(b"--log-version <VERSION>", b"--at-least <MS>")
+# Its second build began 100 seconds before the first: of what both say that tell of them.
+IS_ANEW = b"nlog: LOG anew: it was written anew, so builds were found again by their time stamps\n"
 # What a log that is missing was, with `--verbose`.
 IS_MISSING = b": it is missing, and was read as empty\n"
 
@@ -338,7 +351,7 @@ Usage: nlog --version
 # Logs of versions that are long, by their names.
 LONG_VERSIONS = {"digits18": b"8" * 18, "digits19": b"9" * 19, "digits500": b"1" * 500, "digits": b"7" * 262_130}
 
-# Words, where INPUT is standard input and `file` is FILE, `four`, `six`, `seven` and `nested` FOUR, SIX, SEVEN and NESTED, `eight` a log of version 8; the status and both outputs.
+# Words, where INPUT is standard input and `file` is FILE, `four`, `six`, `seven`, `nested`, `anew` and `graph` FOUR, SIX, SEVEN, NESTED, ANEW and GRAPH, `eight` a log of version 8; the status and both outputs.
 WORDS = [
     ([], 0, INPUT_SHOWN, b""),
     (["show"], 0, INPUT_SHOWN, b""),
@@ -431,12 +444,21 @@ WORDS = [
     (["summary", "--build", "9223372036854775808"], 1, b"", BAD_NUMBER),
     *[(["summary", f"--build={number}"], 1, b"", BAD_NUMBER) for number in ("0", "-1", "01", "+1", "", "x", "last")],
     (["summary", "--missing-ok", "-n", "0", "file"], 0, ONE_COUNTED % b"file", b""),
-    # The numbers are looked at first, then the graph, then LOG. No graph is taken from standard input.
+    # The numbers are looked at first, then the graph, then LOG.
     (["summary", "--graph"], 2, b"", NO_GRAPH),
     (["summary", "--graph", "file", "--graph=file"], 2, b"", TWO_GRAPHS),
+    (["summary", "--graph", "-"], 2, b"", GRAPH_AS_LOG),
+    (["summary", "--graph=-", "--all"], 2, b"", GRAPH_AS_LOG),
     (["summary", "--graph", "missing", "missing"], 1, b"", CANNOT_READ),
     (["summary", "--graph=", "file"], 1, b"", CANNOT_READ),
-    (["summary", "--graph", "-", "file"], 1, b"", CANNOT_READ),
+    (["summary", "--graph", "-", "file"], 1, b"", b"nlog: bad line 1\n"),
+    (["summary", "--graph", "-", "missing"], 1, b"", b"nlog: bad line 1\n"),
+    (["summary", "--graph", "graph", "file"], 1, b"", b"nlog: not the graph of this build\n"),
+    (["summary", "--all", "--graph=graph", "file"], 1, b"", b"nlog: not the graph of this build\n"),
+    (["summary", "--build", "2", "--graph=graph", "file"], 0, b"builds\t1\n", b""),
+    (["summary", "--graph=graph", "-n0", "seven"], 0, ONE_COUNTED % b"out" + b"critical-path\t1\non-path\t1\t1\t2\tout\n", b""),
+    (["summary", "--graph=graph", "-n0", "nested"], 0, NESTED_COUNTED + b"critical-path\t4\non-path\t4\t3\t7\tlib/x/c\nnot-in-graph\t2\t3\n", b""),
+    (["summary", "--graph=graph", "missing", "--missing-ok"], 0, b"", b""),
     (["summary", "--graph", "folder", "--missing-ok", "missing"], 1, b"", CANNOT_READ),
     (["summary", "--graph", "file", "missing"], 1, b"", b"nlog: bad line 1\n"),
     (["summary", "--graph", "missing", "-n", "x", "file"], 1, b"", BAD_NUMBER),
@@ -458,6 +480,22 @@ WORDS = [
     (["compare", "-n", "9223372036854775808", "file", "file"], 1, b"", BAD_NUMBER),
     (["compare", "--lines=-1", "missing", "file"], 1, b"", BAD_NUMBER),
     (["compare", "-n", "01", "file", "folder"], 1, b"", BAD_NUMBER),
+    # A difference of less milliseconds is none; N is looked at before MS, and both before the logs.
+    (["compare", "nested", "nested", "--at-least", "0"], 0, COMPARED % (b"", *[NONE] * 6, b"3\t0\t7\t7"), b""),
+    (["compare", "--at-least", "9223372036854775807", "nested", "nested"], 0, COMPARED % (b"", *[NONE] * 6, b"3\t0\t7\t7"), b""),
+    (["compare", "--at-least=2", "missing", "file", "--missing-ok"], 0, COMPARED % (b"", b"1\t1\t0\t1", *[NONE] * 6) + b"new\t1\t0\t1\tfile\n", b""),
+    *[(["compare", f"--at-least={number}", "missing", "file"], 1, b"", BAD_NUMBER) for number in ("9223372036854775808", "-1", "01", "+1", "", "x", "1.5")],
+    (["compare", "--at-least", "1", "--at-least=1", "file", "file"], 2, b"", TWO_LEAST),
+    (["compare", "file", "file", "--at-least"], 2, b"", NO_LEAST),
+    (["summary", "--at-least", "1", "file"], 2, b"", NO_OPTION.replace(b"--log-version", b"--at-least") % b"summary [OPTIONS] [LOG]"),
+    # Of what was written anew.
+    (["builds", "anew"], 0, ANEW_BUILT, IS_ANEW),
+    (["builds", "-v", "anew"], 0, ANEW_BUILT, IS_ANEW),
+    (["summary", "-n0", "anew"], 0, ANEW_COUNTED + b"again\t0\n", IS_ANEW),
+    (["summary", "-n0", "--build=1", "anew"], 0, ONE_COUNTED % b"b" + b"again\t1\n", IS_ANEW),
+    (["summary", "-n0", "--build=3", "anew"], 0, b"builds\t2\n", b""),
+    (["summary", "-n0", "--all", "anew"], 0, ALL_ANEW, IS_ANEW),
+    (["compare", "-n0", "anew", "anew"], 0, COMPARED % (b"", *[NONE] * 6, b"2\t0\t3\t3"), b""),
     (["trace"], 0, INPUT_TRACED, b""),
     (["picture"], 0, INPUT_PICTURED, b""),
     (["trace", "file"], 0, FILE_TRACED, b""),
@@ -705,6 +743,11 @@ WORDS = [
     (["summary", "-v", "-n", "x", "seven"], 1, b"", b"nlog: bad number\nnlog: N x: it isn't a number\n"),
     (["compare", "-v", "-n", "x", "six", "seven"], 1, b"", b"nlog: bad number\nnlog: N x: it isn't a number\n"),
     (["compare", "-v", "--lines=-1", "six", "missing"], 1, b"", b"nlog: bad number\nnlog: N -1: it is less than 0\n"),
+    (["compare", "-v", "--at-least", "x", "six", "missing"], 1, b"", b"nlog: bad number\nnlog: MS x: it isn't a number\n"),
+    (["compare", "-v", "--at-least=-1", "six", "missing"], 1, b"", b"nlog: bad number\nnlog: MS -1: it is less than 0\n"),
+    (["compare", "-v", "--at-least", "01", "six", "missing"], 1, b"", b"nlog: bad number\nnlog: MS 01: a number has no zero in front\n"),
+    (["compare", "-v", "--at-least", "9223372036854775808", "six", "six"], 1, b"", b"nlog: bad number\nnlog: MS 9223372036854775808: it isn't a number of 64 bits\n"),
+    (["compare", "-v", "--at-least", "x", "-n", "y", "six", "six"], 1, b"", b"nlog: bad number\nnlog: N y: it isn't a number\n"),
     (["summary", "-v", "-n", "", "seven"], 1, b"", b"nlog: bad number\nnlog: N : it isn't a number\n"),
     (["summary", "-v", "--lines=007", "seven"], 1, b"", b"nlog: bad number\nnlog: N 007: a number has no zero in front\n"),
     (["summary", "-v", "--build", "x", "seven"], 1, b"", b"nlog: bad number\nnlog: BUILD x: it isn't a number\n"),
@@ -719,6 +762,8 @@ WORDS = [
     (["summary", "-v", "--graph", "missing", "folder"], 1, b"", CANNOT_READ + b"nlog: FILE missing: " + NO_FILE),
     (["summary", "-v", "--graph=folder", "file"], 1, b"", CANNOT_READ + b"nlog: FILE folder: " + A_FOLDER),
     (["summary", "-v", "--graph", "file", "missing"], 1, b"", b"nlog: bad line 1\nnlog: FILE file: line 1\n"),
+    (["summary", "-v", "--graph=graph", "file"], 1, b"", b"nlog: not the graph of this build\n"),
+    (["summary", "-v", "--graph=-", "file"], 1, b"", b"nlog: bad line 1\nnlog: standard input: line 1\n"),
     (["summary", "-v", "--graph", "missing", "-n", "x", "seven"], 1, b"", b"nlog: bad number\nnlog: N x: it isn't a number\n"),
     (["builds", "-v", "folder"], 1, b"", CANNOT_READ + b"nlog: LOG folder: " + A_FOLDER),
     (["builds", "eight", "-v"], 1, b"", OTHER_VERSION + b"nlog: LOG eight: version 8\n"),
@@ -850,14 +895,14 @@ def try_refused(trials, program, room):
 
 
 # What is at a name, its time in nanoseconds if it is a file, and what `doubt` says of it in a log of version 5, where MTIME is the file's own
-# time, and in one of 6 or 7, where it is the start of the command: of an entry of 0 to 7 ms with MTIME 5,000,000,000.
+# time, and in one of 6 or 7, where the file may be less than 8 ms behind the end of the command: of an entry of 0 to 7 ms with MTIME 5,001,000,000.
 DOUBTS = [
-    (b"older", 4_999_999_999, None, None),
-    (b"same", 5_000_000_000, None, None),
-    (b"a nanosecond", 5_000_000_001, b"newer", None),
-    (b"while it ran", 5_007_000_000, b"newer", None),
-    (b"a tick later", 5_027_000_000, b"newer", None),
-    (b"-later", 5_027_000_001, b"newer", b"newer"),
+    (b"older", 5_000_999_999, None, None),
+    (b"same", 5_001_000_000, None, None),
+    (b"a nanosecond", 5_001_000_001, b"newer", None),
+    (b"while it ran", 5_008_000_000, b"newer", None),
+    (b"a tick later", 5_015_999_999, b"newer", None),
+    (b"-later", 5_016_000_000, b"newer", b"newer"),
     (b"in a folder/much later", 1_700_000_000_000_000_000, b"newer", b"newer"),
     (b"of 1970", 0, None, None),
     (b"of before 1970", -1_000_000_000, None, None),
@@ -886,17 +931,24 @@ def try_doubt(trials, program, room):
             target = {b"nothing": b"none", b"itself": name, b"a folder": b"a folder", b"same": b"same"}[name[10:]]
             os.symlink(target, path)
     for version in (5, 6, 7):
-        lines = b"".join(b"0\t7\t5000000000\t%s\tff\n" % name for name, *_ in DOUBTS)
-        write(f"{room}/doubts", as_version(HEADER + b"0\t7\t5000000000\tolder\tff\n" + lines, version))
+        lines = b"".join(b"0\t7\t5001000000\t%s\tff\n" % name for name, *_ in DOUBTS)
+        write(f"{room}/doubts", as_version(HEADER + b"0\t7\t5001000000\tolder\tff\n" + lines, version))
         wanted = b"".join(b"%s\t%s\n" % (why, name) for name, why in ((it[0], it[2 if version == 5 else 3]) for it in DOUBTS) if why)
         trials.want(f"doubt of a log of version {version}", asked(program, room, ["doubt", "doubts"]), (3, wanted, b""))
-        write(f"{room}/doubts", as_version(HEADER + b"0\t7\t5000000000\tsame\tff\n0\t7\t5000000000\ta link to same\tff\n", version))
+        write(f"{room}/doubts", as_version(HEADER + b"0\t7\t5001000000\tsame\tff\n0\t7\t5001000000\ta link to same\tff\n", version))
         trials.want(f"doubt of none, version {version}", asked(program, room, ["doubt", "doubts"]), (0, b"", b""))
         write(f"{room}/doubts", as_version(HEADER + b"0\t7\t0\tsame\tff\n0\t7\t0\tno file\tff\n", version))
         trials.want(f"doubt without a time, version {version}", asked(program, room, ["doubt", "doubts"]), (3, b"no-time\tsame\nmissing\tno file\n", b""))
         # Ninja counts a file of the first second of 1970 as one of 1 ns, since 0 stands for none.
         write(f"{room}/doubts", as_version(HEADER + b"0\t0\t1\tof 1970\tff\n", version))
         trials.want(f"doubt of a file of 1970, version {version}", asked(program, room, ["doubt", "doubts"]), (0, b"", b""))
+        # One command of a second alone doesn't tell when it started: its file is as it left it if it was written as it ended.
+        write(f"{room}/doubts", as_version(HEADER + b"".join(b"0\t%d\t5001000000\t%s\tff\n" % it for it in ((1000, b"same"), (1000, b"a tick later"))), version))
+        wanted = b"newer\ta tick later\n" if version == 5 else b"unsure\ta tick later\n"
+        trials.want(f"doubt of a long command alone, version {version}", asked(program, room, ["doubt", "doubts"]), (3, wanted, b""))
+        write(f"{room}/doubts", as_version(HEADER + b"".join(b"0\t%d\t5001000000\t%s\tff\n" % it for it in ((7, b"same"), (1000, b"a tick later"))), version))
+        wanted = (3, b"newer\ta tick later\n", b"") if version == 5 else (0, b"", b"")
+        trials.want(f"doubt of a long command beside a short one, version {version}", asked(program, room, ["doubt", "doubts"]), wanted)
     write(f"{room}/doubts", HEADER + b"0\t0\t-1\tof 1970\tff\n")
     trials.want("doubt of a file of 1970 behind a time of before", asked(program, room, ["doubt", "doubts"]), (3, b"newer\tof 1970\n", b""))
     try_settling(trials, program, room)
@@ -1107,6 +1159,8 @@ def try_words(trials, program, room):
     write(f"{room}/six", SIX)
     write(f"{room}/seven", SEVEN)
     write(f"{room}/nested", NESTED)
+    write(f"{room}/anew", ANEW)
+    write(f"{room}/graph", GRAPH)
     write(f"{room}/four", FOUR)
     write(f"{room}/eight", b"# ninja log v8\n")
     write(f"{room}/header", b"# ninja log v9\n")

@@ -14,16 +14,14 @@ import shutil
 import sys
 import tempfile
 
-from trials import Trials, read, run, usage, write
+from trials import BUILD_SECONDS, SECONDS, Trials, read, run, usage, write
 
 TOP = os.path.dirname(os.path.dirname(os.path.abspath(__file__)))
 LIBRARY = f"{TOP}/tests/library"
 # `growths.py` runs those of `growths`.
-PARTS = ["fields", "lines", "table", "folder", "files", "system", "session", "words", "disk", "program", "report", "trace", "picture", "graph", "doubt", "distrust"]
+PARTS = ["fields", "lines", "table", "builds", "folder", "files", "system", "session", "words", "disk", "program", "reports", "doubt", "distrust"]
 CRATE = "nl_library_tests"
-USES = "nl_fields nl_lines nl_table nl_folder nl_versions nl_files nl_session nl_tool_words nl_os nl_tool_script nl_tool_print nl_tool_report nl_tool_trace nl_tool_picture nl_tool_graph nl_tool_columns nl_tool_doubt nl_distrust nl_tool_change nl_tool clap"
-# How long a test may run, and all of them with what they are built in.
-SECONDS, ALL_SECONDS = 300, 1800
+USES = "nl_fields nl_lines nl_table nl_builds nl_folder nl_versions nl_files nl_session nl_tool_words nl_tool_texts nl_os nl_tool_script nl_tool_print nl_reports nl_tool_doubt nl_distrust nl_tool_change nl_tool clap"
 TEST = r"(?m)^#\[test\]\nfn (\w+)"
 
 
@@ -47,7 +45,7 @@ def modules(trials, part):
 
 def lay_out(trials, src, files, below=""):
     """Whether the files, whose names begin so in tests/library alone, stand as `rt fmt` lays them out."""
-    run(["rt", "fmt"], cwd=os.path.dirname(src), timeout=ALL_SECONDS)
+    run(["rt", "fmt"], cwd=os.path.dirname(src), timeout=BUILD_SECONDS)
     for file, text in files.items():
         trials.want(f"the layout of tests/library/{file}.rattle", read(f"{src}/{file[len(below):]}.rt"), text)
 
@@ -66,7 +64,7 @@ def tests(trials, room, parts):
     write(f"{src}/lib.rt", ("#![tactic(auto)]\n\n" + "".join(f"#[cfg(test)]\nmod {it};\n" for it in parts)).encode())
     lay_out(trials, src, files)
     words = ["rt", "try", "--test", "--seconds", str(SECONDS)]
-    status, out, err = run(words, cwd=os.path.dirname(src), timeout=ALL_SECONDS)
+    status, out, err = run(words, cwd=os.path.dirname(src), timeout=BUILD_SECONDS)
     text = (out + err).decode(errors="replace")
     ends = dict(re.findall(r"(?m)^test (\S+) \.\.\. (.*)$", text))
     if not trials.want("the tests that ran", set(ends), names):

@@ -1,4 +1,4 @@
--- Where the files of a log stand (docs/ARCHITECTURE.md, "Real files").
+-- Where the files of a log stand (docs/DISK_MODEL.md, "A system of real files").
 use Rattle.std.specs.Prelude.{◌≡◌, ℕ, ◌++◌, ◌==◌, List, length, Option, Some, None, codes, if◌then◌else◌, string_bytes}
 use Rattle.std.specs.Path.{rsplit_once, slash}
 use Rattle.nl_os.specs.declared.paths.Paths.{Paths}

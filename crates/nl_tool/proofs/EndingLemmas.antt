@@ -12,7 +12,7 @@ use Rattle.nl_tool_words.specs.CommandLine.{IsSaid, IsSaidBy}
 use Rattle.nl_tool_words.specs.declared.form.Form.{Form}
 use Rattle.nl_tool_words.specs.declared.form.Form.TheVariants.{Plain, Manifest, Files}
 use Rattle.nl_tool_words.specs.declared.command_line.Words.{Words}
-use Rattle.nl_tool_words.specs.declared.command_line.Words.TheVariants.{Show, Check, Hash, Entries, Damage, Doubt, Builds, Summary, Critical, Compare, Trace, Picture, HashFile, Record, Recompact, Restat}
+use Rattle.nl_tool_words.specs.declared.command_line.Words.TheVariants.{Show, Check, Hash, Entries, Damage, Doubt, Builds, Summary, Compare, Trace, Picture, HashFile, Record, Recompact, Restat}
 use Rattle.nl_tool_words.specs.declared.command_line.Words.TheVariants.{Repair, Replay, Apply, Prune, Retime}
 
 pub IsStatusBy_kind : (kinds : Kinds) (form : Form) (entered : Option (Text × List Row)) (e : Error) (status : ℕ) → HasKind kinds e
@@ -33,9 +33,8 @@ names_finding (Check log) entered said asks = absurd asks
 names_finding (Hash command) entered said asks = absurd asks
 names_finding (Entries log) entered said asks = absurd asks
 names_finding (Builds log) entered said asks = absurd asks
-names_finding (Summary log build all kind lines) entered said asks = absurd asks
-names_finding (Critical log build all kind lines graph) entered said asks = absurd asks
-names_finding (Compare old new lines) entered said asks = absurd asks
+names_finding (Summary log build all kind lines graph) entered said asks = absurd asks
+names_finding (Compare old new lines least) entered said asks = absurd asks
 names_finding (Trace log) entered said asks = absurd asks
 names_finding (Picture log) entered said asks = absurd asks
 names_finding (HashFile file) entered said asks = absurd asks

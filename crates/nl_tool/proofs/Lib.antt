@@ -1,2 +1,2 @@
 mod EndingLemmas
-mod LayoutLemmas
+mod ReportLemmas

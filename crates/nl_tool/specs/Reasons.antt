@@ -1,6 +1,6 @@
 -- What is said behind a refusal where `--verbose` asks for it: docs/CLI.md, "Why something was refused".
 use Rattle.std.specs.List.{flat_map}
-use Rattle.std.specs.Prelude.{⊤, ◌≡◌, ◌≢◌, ◌⊎◌, ◌++◌, IsSomeAnd, [], List, ℕ, Option, None, Some, IfSome, codes, decimal, string_bytes, Bool, true, false, length, if◌then◌else◌, FitsSigned, ℤ}
+use Rattle.std.specs.Prelude.{⊤, ◌≡◌, ◌≢◌, ◌⊎◌, ◌++◌, IsSomeAnd, [], List, ℕ, Option, None, Some, IfSome, codes, decimal, string_bytes, Bool, true, false, bytes_eq, length, if◌then◌else◌, FitsSigned, ℤ}
 use Rattle.std.specs.Int.{Width, w32, w64}
 use Rattle.nl_fields.specs.Digits.{IsDecimal}
 use Rattle.std.specs.Borrow.{Bor}
@@ -12,7 +12,7 @@ use Rattle.nl_tool_texts.specs.Faults.{fault_text}
 use Rattle.nl_tool_texts.specs.declared.fault.ToolFault.{ToolFault}
 use Rattle.nl_tool_texts.specs.declared.fault.ToolFault.TheVariants as fault
 use Rattle.nl_tool_words.specs.declared.command_line.Words.{Words}
-use Rattle.nl_tool_words.specs.declared.command_line.Words.TheVariants.{Show, Check, Hash, Entries, Damage, Doubt, Builds, Summary, Critical, Compare, Trace, Picture, HashFile, Record, Recompact, Restat}
+use Rattle.nl_tool_words.specs.declared.command_line.Words.TheVariants.{Show, Check, Hash, Entries, Damage, Doubt, Builds, Summary, Compare, Trace, Picture, HashFile, Record, Recompact, Restat}
 use Rattle.nl_tool_words.specs.declared.command_line.Words.TheVariants.{Repair, Replay, Apply, Prune, Retime}
 use Rattle.nl_versions.specs.Version.{is_version_read}
 use Rattle.nl_tool.specs.declared.reason.Place.{Place}
@@ -21,8 +21,8 @@ use Rattle.nl_tool.specs.declared.reason.Reason.{Reason}
 use Rattle.nl_tool.specs.declared.reason.Reason.TheVariants.{System, Full, Locked, Unsynced, Masked, Line, Negative, Early, Version, Looks, Begins, Number, NoBytes, Tab, Newline, Long}
 use Rattle.nl_tool.specs.declared.notes.Notes.{Notes}
 use Rattle.nl_tool.specs.Looks.{escaped, look_of, look_text, start_text}
-use Rattle.nl_tool.specs.Reports.{IsMost, IsScope}
-use Rattle.nl_tool_report.specs.declared.scope.Scope.{Scope}
+use Rattle.nl_tool.specs.Reports.{IsLeast, IsMost, IsScope}
+use Rattle.nl_reports.specs.declared.choice.Scope.{Scope}
 use Rattle.nl_tool.specs.Wrong.{line_fault_text, number_fault_text}
 use Rattle.nl_tool.specs.declared.reason.Why.{Why}
 use Rattle.nl_tool.specs.declared.reason.Refusal.{Refusal}
@@ -47,6 +47,7 @@ place_text (at.Mtime text) = codes "MTIME " ++ text.now
 place_text at.Name = codes "NAME"
 place_text (at.Count text) = codes "N " ++ text.now
 place_text (at.Build text) = codes "BUILD " ++ text.now
+place_text (at.Least text) = codes "MS " ++ text.now
 
 abbrev pub reason_text : Reason → List ℕ
 reason_text (System text) = string_bytes text
@@ -84,9 +85,9 @@ refusal_text refusal = fault_text refusal.fault ++ behind refusal.why
 abbrev pub missing_text : Place → List ℕ
 missing_text place = place_text place ++ codes ": it is missing, and was read as empty"
 
--- what is said behind a command that was done by the builds of a log whose lines can't be those of builds
-abbrev pub anew_text : Place → List ℕ
-anew_text place = place_text place ++ codes ": it was written anew, so its lines don't tell its builds"
+-- what is said behind a command that told of builds which were found again
+abbrev pub again_text : Place → List ℕ
+again_text place = place_text place ++ codes ": it was written anew, so builds were found again by their time stamps"
 
 -- ---- of which file it is
 
@@ -102,9 +103,8 @@ read_place (Entries log) = Some (given_or_input at.Log log)
 read_place (Damage log) = Some (given_or_input at.Log log)
 read_place (Doubt log) = Some (given_or_input at.Log log)
 read_place (Builds log) = Some (given_or_input at.Log log)
-read_place (Summary log build all kind lines) = Some (given_or_input at.Log log)
-read_place (Critical log build all kind lines graph) = Some (given_or_input at.Log log)
-read_place (Compare old new lines) = None
+read_place (Summary log build all kind lines graph) = Some (given_or_input at.Log log)
+read_place (Compare old new lines least) = None
 read_place (Trace log) = Some (given_or_input at.Log log)
 read_place (Picture log) = Some (given_or_input at.Log log)
 read_place (HashFile file) = Some (given_or_input at.Command file)
@@ -139,9 +139,8 @@ log_place (Entries log) file = read_place (Entries log)
 log_place (Damage log) file = read_place (Damage log)
 log_place (Doubt log) file = read_place (Doubt log)
 log_place (Builds log) file = read_place (Builds log)
-log_place (Summary log build all kind lines) file = read_place (Summary log build all kind lines)
-log_place (Critical log build all kind lines graph) file = read_place (Critical log build all kind lines graph)
-log_place (Compare old new lines) file = None
+log_place (Summary log build all kind lines graph) file = read_place (Summary log build all kind lines graph)
+log_place (Compare old new lines least) file = None
 log_place (Trace log) file = read_place (Trace log)
 log_place (Picture log) file = read_place (Picture log)
 log_place (Hash command) file = None
@@ -158,12 +157,22 @@ abbrev pub IsMasked : Reason → Type 0
 IsMasked Masked = ⊤
 IsMasked _ = ⊥
 
+-- the file of a graph, or standard input
+abbrev pub graph_file : Bor (List ℕ) → Option (Bor (List ℕ))
+graph_file path = if bytes_eq path.now (codes "-") then None else Some path
+
 -- of two logs, the words that read the second of them, or the first; of a log and a graph, the words that read the log, or a file; else
 -- the words as they are
 abbrev pub words_heard : Words → Bool → Words
-words_heard (Compare old new lines) is_second = Summary (Some (if is_second then new else old)) None false None lines
-words_heard (Critical log build all kind lines graph) is_second = if is_second then HashFile (Some graph) else Summary log build all kind lines
+words_heard (Compare old new lines least) is_second = Builds (Some (if is_second then new else old))
+words_heard (Summary log build all kind lines (Some graph)) is_second =
+    if is_second then HashFile (graph_file graph) else Summary log build all kind lines (Some graph)
 words_heard words is_second = words
+
+-- those that give the reason of a fault: where a number is bad, the words as they are
+abbrev pub words_for : ToolFault → Words → Bool → Words
+words_for fault.BadNumber words is_second = words
+words_for fault words is_second = words_heard words is_second
 
 -- the reason is what the system said
 abbrev pub IsSystem : Reason → Type 0
@@ -204,15 +213,21 @@ IsFirstBad start end mtime (at.End text) = (text ≡ end) × ¬ IsNumber w32 end
 IsFirstBad start end mtime (at.Mtime text) = (text ≡ mtime) × ¬ IsNumber w64 mtime.now × IsNumber w32 start.now × IsNumber w32 end.now
 IsFirstBad start end mtime _ = ⊥
 
--- a number of `summary` or `compare` that is none
+-- a number of `summary` that is none, and one of `compare`
 abbrev pub IsBadOption : Bool → Option (Bor (List ℕ)) → Option (Bor (List ℕ)) → Place → Type 0
 IsBadOption all build lines (at.Count text) = (lines ≡ Some text) × ((most : ℕ) → IsMost lines most → ⊥)
 IsBadOption all build lines (at.Build text) = (build ≡ Some text) × ((scope : Scope) → IsScope all build scope → ⊥)
 IsBadOption all build lines _ = ⊥
 
+abbrev pub IsBadRule : Option (Bor (List ℕ)) → Option (Bor (List ℕ)) → Place → Type 0
+IsBadRule lines least (at.Count text) = (lines ≡ Some text) × ((most : ℕ) → IsMost lines most → ⊥)
+IsBadRule lines least (at.Least text) = (least ≡ Some text) × ((ms : ℕ) → IsLeast least ms → ⊥)
+IsBadRule lines least _ = ⊥
+
 abbrev pub IsBadNumberOf : Words → Why → Type 0
 IsBadNumberOf (Record log start end mtime name command) why = IsFirstBad start end mtime why.place × IsNumberFault why.reason
-IsBadNumberOf (Summary log build all kind lines) why = IsBadOption all build lines why.place × IsNumberFault why.reason
+IsBadNumberOf (Summary log build all kind lines graph) why = IsBadOption all build lines why.place × IsNumberFault why.reason
+IsBadNumberOf (Compare old new lines least) why = IsBadRule lines least why.place × IsNumberFault why.reason
 IsBadNumberOf _ why = ⊥
 
 -- the reason is this byte
@@ -257,6 +272,7 @@ IsReasonFor words fault.EmptyName failed bytes why = (why.place ≡ at.Name) × 
 IsReasonFor words (fault.BadByte place) failed bytes why = (why.place ≡ at.Name) × IsByteAt place why.reason
 IsReasonFor words fault.LongName failed bytes why = IsLongNameOf words why
 IsReasonFor words fault.Memory failed bytes why = ⊥
+IsReasonFor words fault.OtherGraph failed bytes why = ⊥
 
 -- it is said only of a log that was missing
 abbrev pub IsNoteFor : Words → Bool → Missing → Type 0

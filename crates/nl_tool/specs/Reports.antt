@@ -1,29 +1,51 @@
 -- What each command prints that tells of builds.
-use Rattle.std.specs.Prelude.{◌≡◌, ℕ, Bool, true, false, ◌<◌, ◌^◌, pos, List, Option, None, Some, Result, bytes_eq, codes, if◌then◌else◌}
+use Rattle.std.specs.Prelude.{◌≡◌, ◌⊎◌, ◌++◌, ℕ, Bool, true, false, ◌<◌, ◌^◌, pos, List, Option, None, Some, IsSome, Result, Err, length, map, bytes_eq, codes, if◌then◌else◌}
 use Rattle.std.specs.Borrow.{Bor}
+use Rattle.std.specs.Global.{Vec}
 use Rattle.nl_fields.specs.Digits.{IsDecimal}
 use Rattle.nl_fields.specs.declared.entry.Entry.{Entry}
-use Rattle.nl_tool_texts.specs.Output.{Prints}
-use Rattle.nl_tool_trace.specs.Pieces.{PrintsInPieces}
+use Rattle.nl_table.specs.Log.{Log, log_of}
+use Rattle.nl_versions.specs.VersionOf.{as_five, version_of}
+use Rattle.nl_builds.specs.Builds.{Told, builds_of}
+use Rattle.nl_builds.specs.Recorded.{recorded, unfinished}
+use Rattle.nl_builds.specs.Stamps.{stamps_of}
+use Rattle.nl_builds.specs.declared.log.LogBuilds.{LogBuilds}
+use Rattle.std.specs.Io.KnownBytes.{Keeps}
+use Rattle.nl_tool_texts.specs.Output.{AppendsPrefixOf, Prints}
 use Rattle.nl_tool_texts.specs.declared.fault.ToolFault.{ToolFault}
-use Rattle.nl_tool_report.specs.Anew.{builds_anew}
-use Rattle.nl_tool_report.specs.Builds.{builds_text}
-use Rattle.nl_tool_report.specs.Summary.{summary_anew, summary_text}
-use Rattle.nl_tool_report.specs.declared.clock.Stamps.{Stamps}
-use Rattle.nl_tool_report.specs.declared.kind.KindRule.{KindRule}
-use Rattle.nl_tool_report.specs.declared.kind.KindRule.TheVariants.{Extension, Folder, Top}
-use Rattle.nl_tool_report.specs.declared.scope.Scope.{Scope}
-use Rattle.nl_tool_report.specs.declared.scope.Scope.TheVariants.{Last, Numbered, Outputs}
-use Rattle.nl_tool_columns.specs.Columns.{in_columns}
-use Rattle.nl_tool_trace.specs.Trace.{trace_text}
-use Rattle.nl_tool_picture.specs.Picture.{picture_text}
+use Rattle.nl_tool_texts.specs.declared.fault.ToolFault.TheVariants.{Memory}
+use Rattle.nl_reports.specs.BuildsText.{builds_text}
+use Rattle.nl_reports.specs.Choice.{chosen_jobs}
+use Rattle.nl_reports.specs.Columns.{in_columns}
+use Rattle.nl_reports.specs.Compare.{Log as Compared}
+use Rattle.nl_reports.specs.Critical.{IsCritical}
+use Rattle.nl_reports.specs.GraphText.{seen_graph}
+use Rattle.nl_reports.specs.Jobs.{jobs_from, told}
+use Rattle.nl_reports.specs.Lasting.{is_among, lasting}
+use Rattle.nl_reports.specs.Picture.{picture_text}
+use Rattle.nl_reports.specs.Summary.{summary_text}
+use Rattle.nl_reports.specs.Trace.{trace_text}
+use Rattle.nl_reports.specs.declared.choice.Scope.{Scope}
+use Rattle.nl_reports.specs.declared.choice.Scope.TheVariants.{Last, Numbered, All}
+use Rattle.nl_reports.specs.declared.graph.NinjaGraph.{NinjaGraph}
+use Rattle.nl_reports.specs.declared.kind.KindRule.{KindRule}
+use Rattle.nl_reports.specs.declared.kind.KindRule.TheVariants.{Extension, Folder, Top}
+use Rattle.nl_reports.specs.declared.lists.Lists.{Lists}
+use Rattle.nl_tool.specs.declared.comparing.Last.{Last as LastHeld}
 use Rattle.nl_tool.specs.declared.reporting.Report.{Report}
 use Rattle.nl_tool.specs.declared.reporting.Report.TheVariants.{Builds, Picture, Summary, Trace}
+
+-- ---- what is asked for
 
 -- how many lines a list has at most: so many as is given, and ten where nothing is
 abbrev pub IsMost : Option (Bor (List ℕ)) → ℕ → Type 0
 IsMost None most = most ≡ 10
 IsMost (Some text) most = (most < 2 ^ 63) × IsDecimal (pos most) text.now
+
+-- how many milliseconds a difference has at the least: so many as is given, and none where nothing is
+abbrev pub IsLeast : Option (Bor (List ℕ)) → ℕ → Type 0
+IsLeast None least = least ≡ 0
+IsLeast (Some text) least = (least < 2 ^ 63) × IsDecimal (pos least) text.now
 
 -- of which build is told: of the one of a number, from 1, or of the last one where none is given
 abbrev pub IsBuild : Option (Bor (List ℕ)) → Scope → Type 0
@@ -31,9 +53,9 @@ IsBuild None scope = scope ≡ Last
 IsBuild (Some text) (Numbered number) = (0 < number) × (number < 2 ^ 63) × IsDecimal (pos number) text.now
 IsBuild (Some text) scope = ⊥
 
--- of what is told: of all outputs, or of a build
+-- of what is told: of all builds, or of one
 abbrev pub IsScope : Bool → Option (Bor (List ℕ)) → Scope → Type 0
-IsScope true build scope = scope ≡ Outputs
+IsScope true build scope = scope ≡ All
 IsScope false build scope = IsBuild build scope
 
 -- the rule by which kinds are told apart, by its word: that of extensions where it is left out
@@ -41,33 +63,77 @@ abbrev pub rule_of : Option (Bor (List ℕ)) → KindRule
 rule_of None = Extension
 rule_of (Some text) = if bytes_eq text.now (codes "folder") then Folder else (if bytes_eq text.now (codes "top") then Top else Extension)
 
--- whether it is said of a log that it was written anew; of a trace and a picture nothing is
-abbrev pub report_anew : Report → Stamps → List Entry → Bool
-report_anew Builds stamps entries = builds_anew stamps entries
-report_anew (Summary scope lists) stamps entries = summary_anew scope stamps entries
-report_anew Trace stamps entries = false
-report_anew (Picture secret) stamps entries = false
+-- ---- what is told
 
--- of the entries of a log, by what MTIME is in it
-abbrev pub report_text : Report → Stamps → List Entry → List ℕ
-report_text Builds stamps entries = builds_text stamps entries
-report_text (Summary scope lists) stamps entries = summary_text scope lists stamps entries
-report_text Trace stamps entries = trace_text stamps entries
-report_text (Picture secret) stamps entries = picture_text stamps entries
+-- the builds of which is told: where it is of all, with the last entry of each output alone that doesn't wait
+abbrev pub asked_told : Scope → List (List ℕ) → Told → Told
+asked_told Last names t = t
+asked_told (Numbered number) names t = t
+asked_told All names t = lasting names t
 
--- how a report is written: a trace and a picture piece by piece
-abbrev pub PrintsReport : Report → (List ℕ → Type 0) → Option (List ℕ) → Option (List ℕ) → Result (Unit {0}) ToolFault → Type 0
-PrintsReport Builds IsText old new result = Prints IsText old new result
-PrintsReport (Summary scope lists) IsText old new result = Prints IsText old new result
-PrintsReport Trace IsText old new result = PrintsInPieces IsText old new result
-PrintsReport (Picture secret) IsText old new result = PrintsInPieces IsText old new result
+-- a summary of these builds, where so many outputs wait, and behind it the critical path by a graph
+abbrev pub IsSummary : Scope → Lists → Option (Bor NinjaGraph) → ℕ → Told → List ℕ → Type 0
+IsSummary scope lists None count t text = text ≡ summary_text scope lists count t
+IsSummary scope lists (Some graph) count t text = (path : Vec ℕ) × IsCritical (seen_graph graph.now) (chosen_jobs scope t) (Some path)
+    × (text ≡ summary_text scope lists count t ++ path.items)
 
--- a text as it is, or one in columns
+-- a summary, or none, where the graph has no command of these builds
+abbrev pub IsFound : Scope → Lists → Option (Bor NinjaGraph) → ℕ → Told → Option (Vec ℕ) → Type 0
+IsFound scope lists graph count t None = IsSome graph
+IsFound scope lists graph count t (Some lines) = IsSummary scope lists graph count t lines.items
+
+-- of builds, where outputs of these names wait for a command that didn't end
+abbrev pub IsReport : Report → List (List ℕ) → Told → List ℕ → Type 0
+IsReport Builds names t text = text ≡ builds_text t
+IsReport (Summary scope lists graph) names t text = IsSummary scope lists graph (length names) (asked_told scope names t) text
+IsReport Trace names t text = text ≡ trace_text t
+IsReport Picture names t text = text ≡ picture_text t
+
+-- what a log tells, as it is held
+abbrev pub waiting : LogBuilds → List (List ℕ)
+waiting log = map (λ n. n.now) log.unfinished.items
+
+-- of a log
+pub record IsReportOf (report : Report) (bytes : List ℕ) (text : List ℕ) : Type 0 where
+  pub version : ℕ
+  pub entries : List Entry
+  pub is_log : log_of (as_five bytes) ≡ Log version entries
+  pub is_told : IsReport report (unfinished entries) (builds_of (stamps_of bytes) (recorded entries)) text
+
+-- ---- two logs
+
+-- what a log tells that is compared
+pub record IsLastOf (bytes : List ℕ) (held : LastHeld) : Type 0 where
+  pub version : ℕ
+  pub entries : List Entry
+  pub is_log : log_of (as_five bytes) ≡ Log version entries
+  pub named : held.version ≡ version_of bytes
+  pub builds : told held.told ≡ lasting (unfinished entries) (builds_of (stamps_of bytes) (recorded entries))
+  pub waits : map (λ n. n.now) held.waiting.items ≡ unfinished entries
+
+abbrev pub side_in : LastHeld → Compared
+side_in held = record {
+  jobs = jobs_from held.told.entries.items 0 held.told.commands.items;
+  waiting = λ name. is_among name (map (λ n. n.now) held.waiting.items);
+}
+
+-- ---- how it is written
+
+-- as it is, or in columns
+abbrev pub laid_out : Bool → List ℕ → List ℕ
+laid_out columns text = if columns then in_columns text else text
+
+-- where memory is refused, nothing more was written, or a part of the text; all else as `Prints`
+abbrev pub PrintsInPieces : (List ℕ → Type 0) → Option (List ℕ) → Option (List ℕ) → Result (Unit {0}) ToolFault → Type 0
+PrintsInPieces IsText old new (Err Memory) = Keeps old new ⊎ ((text : List ℕ) × IsText text × AppendsPrefixOf old new text)
+PrintsInPieces IsText old new result = Prints IsText old new result
+
+-- a text in columns where they are wanted; a trace and a picture piece by piece
 abbrev pub IsLaidOut : Bool → (List ℕ → Type 0) → List ℕ → Type 0
-IsLaidOut false IsText text = IsText text
-IsLaidOut true IsText text = (told : List ℕ) × IsText told × (text ≡ in_columns told)
+IsLaidOut columns IsText text = (lines : List ℕ) × IsText lines × (text ≡ laid_out columns lines)
 
--- the same of a report that is laid out: columns stand in memory until they are written
-abbrev pub PrintsAs : Bool → Report → (List ℕ → Type 0) → Option (List ℕ) → Option (List ℕ) → Result (Unit {0}) ToolFault → Type 0
-PrintsAs false report IsText old new result = PrintsReport report IsText old new result
-PrintsAs true report IsText old new result = Prints (IsLaidOut true IsText) old new result
+abbrev pub PrintsReport : Bool → Report → (List ℕ → Type 0) → Option (List ℕ) → Option (List ℕ) → Result (Unit {0}) ToolFault → Type 0
+PrintsReport columns Builds IsText old new result = Prints (IsLaidOut columns IsText) old new result
+PrintsReport columns (Summary scope lists graph) IsText old new result = Prints (IsLaidOut columns IsText) old new result
+PrintsReport columns Trace IsText old new result = PrintsInPieces IsText old new result
+PrintsReport columns Picture IsText old new result = PrintsInPieces IsText old new result

@@ -1,23 +1,28 @@
 //! `compare`, over two logs, with standard output for its text.
-ghost use Rattle.std.specs.Prelude.{◌≡◌, ℕ, IfErr, OnOk};
+ghost use Rattle.std.specs.Prelude.{◌≡◌, ℕ, Some, IfErr, IfOk, IfSome, IsErrOf, OnOk};
 ghost use Rattle.nl_tool_print.specs.Faults.{IsLogFault};
-ghost use Rattle.nl_tool_report.specs.Compare.{are_comparable, compare_text};
 ghost use Rattle.nl_tool_texts.specs.Output.{Prints};
-ghost use Rattle.nl_tool.specs.Faults.{IsListFault};
-ghost use Rattle.nl_tool.specs.Reports.{IsLaidOut, IsMost};
+ghost use Rattle.nl_reports.specs.Writing.{IsWriteFault};
+ghost use Rattle.nl_tool.specs.Faults.{IsCompareFault};
+ghost use Rattle.nl_table.specs.Log.{NotALog, OtherVersion, log_of};
+ghost use Rattle.nl_tool_texts.specs.declared.fault.ToolFault.{ToolFault};
+ghost use Rattle.nl_versions.specs.VersionOf.{as_five};
+ghost use Rattle.nl_reports.specs.Compare.{are_comparable, compare_text, side_of};
+ghost use Rattle.nl_tool.specs.Reports.{IsLastOf, IsLeast, IsMost, laid_out, side_in};
 
-use crate::files::open_log;
-use crate::notes::{NotedReader, NotedWriter, Notes};
-use crate::progress::Telling;
-use crate::reporting::most_of;
-use nl_tool_columns::columns_to;
-use nl_tool_report::{TableAsRead, compare_to, read_table};
+use crate::notes::{NotedWriter, Notes};
+use crate::reading::log_bytes;
+use crate::reporting::{count_of, most_of, write_lines};
+use nl_builds::{Builds, LogBuilds, read_builds};
+use nl_reports::{Side, compare_lines, lasting};
+use nl_table::Secret;
 use nl_tool_texts::ToolFault;
+use nl_versions::{LogVersion, version_of};
 use std::alloc::Global;
 use std::io::{self, Write};
 use std::rt::Runtime;
 
-// Tells what two logs say of their outputs, with lists of as many lines at most as the words say.
+// Tells what two logs say of their commands, with lists of as many lines at most as the words say.
 pub fn compare_in<R: Runtime>(
     rt: &R,
     alloc: Global,
@@ -25,16 +30,32 @@ pub fn compare_in<R: Runtime>(
     old: &str,
     new: &str,
     lines: Option<&str>,
+    least: Option<&str>,
     missing_ok: bool,
     notes: &mut Notes,
 ) -> Result<(), ToolFault>
     ensures accepts { OnOk result ((most : ℕ) × IsMost lines.entry most) }
-    ensures faults { IfErr result (IsListFault lines.entry) }
+    ensures least { OnOk result ((ms : ℕ) × IsLeast least.entry ms) }
+    ensures faults { IfErr result (IsCompareFault lines.entry least.entry) }
 {
     let Some(most) = most_of(lines) else {
         return Err(ToolFault::BadNumber);
     };
-    compare_logs(rt, alloc, columns, most, old, new, missing_ok, notes)
+    let Some(ms) = least_of(least) else {
+        return Err(ToolFault::BadNumber);
+    };
+    compare_logs(rt, alloc, columns, most, ms, old, new, missing_ok, notes)
+}
+
+// How many milliseconds a difference has at the least.
+pub fn least_of(least: Option<&str>) -> Option<usize>
+    ensures value { IfSome result (IsLeast least.entry) }
+    ensures accepts { (ms : ℕ) → IsLeast least.entry ms → result ≡ Some ms }
+{
+    match least {
+        None => Some(0),
+        Some(text) => count_of(text),
+    }
 }
 
 // Reads the old log and then the new one, each of which is closed before anything else is done.
@@ -43,6 +64,7 @@ fn compare_logs<R: Runtime>(
     alloc: Global,
     columns: bool,
     most: usize,
+    least: usize,
     old: &str,
     new: &str,
     missing_ok: bool,
@@ -50,65 +72,85 @@ fn compare_logs<R: Runtime>(
 ) -> Result<(), ToolFault>
     ensures faults { IfErr result IsLogFault }
 {
-    let old = table_at(rt, alloc, old, missing_ok, notes)?;
+    let secret = notes.secret;
+    let old_text = log_bytes(rt, alloc, Some(old), missing_ok, notes)?;
+    let old = last_of(alloc, secret, old_text.as_slice())?;
     let is_missing = notes.is_missing;
     notes.begin_second();
-    let new = table_at(rt, alloc, new, missing_ok, notes)?;
+    let new_text = log_bytes(rt, alloc, Some(new), missing_ok, notes)?;
+    let new = last_of(alloc, secret, new_text.as_slice())?;
     if is_missing && !notes.is_missing {
         notes.is_missing = true;
         notes.is_second = false;
     }
     let mut out = NotedWriter::new(io::writer(rt));
-    let answer = compare_as(alloc, columns, most, &old, &new, &mut out);
+    let answer = compare_to(
+        alloc,
+        secret,
+        columns,
+        most,
+        least as u64,
+        &old,
+        &new,
+        &mut out,
+    );
     notes.written = out.failure;
     answer
 }
 
-// Compares them, in columns where they are wanted.
-fn compare_as<W: Write>(
-    alloc: Global,
-    columns: bool,
-    most: usize,
-    old: &TableAsRead,
-    new: &TableAsRead,
-    writer: &mut W,
-) -> Result<(), ToolFault>
-    ensures prints { Prints
-        (IsLaidOut columns
-        (λ text. text ≡ compare_text most (are_comparable old.now.version new.now.version)
-        old.now.table new.now.table))
-        (W.contents writer.old) (W.contents writer.new) result }
-    ensures faults { IfErr result IsLogFault }
-{
-    if !columns {
-        return compare_to(alloc, most, old, new, writer);
-    }
-    let mut text = Vec::new(alloc);
-    match compare_to(alloc, most, old, new, &mut text) {
-        Ok(()) => columns_to(alloc, text.as_slice(), writer),
-        // The writer is memory, so a write that fails found no room there.
-        Err(ToolFault::Write) => Err(ToolFault::Memory),
-        Err(fault) => Err(fault),
-    }
+// What a log tells that is compared: its version, its builds with the last entry of each output alone, and which outputs wait.
+#[derive(Drop)]
+pub struct Last<'a> {
+    pub version: LogVersion,
+    pub told: Builds<'a>,
+    pub waiting: Vec<&'a [u8]>,
 }
 
-// What the log at this path says.
-fn table_at<R: Runtime>(
-    rt: &R,
-    alloc: Global,
-    path: &str,
-    missing_ok: bool,
-    notes: &mut Notes,
-) -> Result<TableAsRead, ToolFault>
+fn last_of(alloc: Global, secret: Secret, text: &[u8]) -> Result<Last<'_>, ToolFault>
+    ensures value { IfOk result (IsLastOf text.now) }
+    ensures not_a_log { IsErrOf result ToolFault.NotALog → log_of (as_five text.now) ≡ NotALog }
+    ensures other_version { IsErrOf result ToolFault.OtherVersion → log_of (as_five text.now) ≡ OtherVersion }
     ensures faults { IfErr result IsLogFault }
 {
-    let tells = notes.screen.errors;
-    match open_log(rt, path, missing_ok, notes)? {
-        Some(file) => read_table(
-            alloc,
-            notes.secret,
-            NotedReader::new(Telling::new(rt, tells, file), &mut notes.heard),
-        ),
-        None => read_table(alloc, notes.secret, io::empty()),
+    let LogBuilds {
+        told,
+        unfinished,
+        ..
+    } = read_builds(alloc, secret, text)?;
+    Ok(Last {
+        version: version_of(text),
+        told: lasting(alloc, secret, unfinished.as_slice(), told)?,
+        waiting: unfinished,
+    })
+}
+
+// Compares them, in columns where they are wanted.
+fn compare_to<W: Write>(
+    alloc: Global,
+    secret: Secret,
+    columns: bool,
+    most: usize,
+    least: u64,
+    old: &Last<'_>,
+    new: &Last<'_>,
+    writer: &mut W,
+) -> Result<(), ToolFault>
+    ensures prints { Prints (λ text. text ≡ laid_out columns
+        (compare_text most least (are_comparable old.now.version new.now.version) (side_in old.now) (side_in new.now)))
+        (W.contents writer.old) (W.contents writer.new) result }
+    ensures faults { IfErr result IsWriteFault }
+{
+    let lines = compare_lines(alloc, secret, most, least, &side_of(old), &side_of(new))?;
+    write_lines(alloc, columns, lines, writer)
+}
+
+fn side_of<'s, 'a>(last: &'s Last<'a>) -> Side<'s, 'a>
+    ensures version { result.version ≡ last.now.version }
+    ensures value { side_of result ≡ side_in last.now }
+{
+    Side {
+        version: last.version,
+        told: &last.told,
+        waiting: last.waiting.as_slice(),
     }
 }

@@ -1,23 +1,24 @@
 //! `doubt`, over LOG or standard input, and the files of the outputs, with standard output for its text.
-ghost use Rattle.std.specs.Prelude.{◌≡◌, ◌<◌, ◌↔◌, ℕ, List, None, IfErr, IfOk, IfSome, IsErrOf, length};
+ghost use Rattle.std.specs.Prelude.{◌≡◌, ◌<◌, ◌↔◌, None, IfErr, IfOk, IsErrOf, length};
 ghost use Rattle.std.specs.Io.KnownBytes.{Appends};
-ghost use Rattle.nl_tool_doubt.specs.Printing.{IsDoubtText};
+ghost use Rattle.std.specs.List.{flat_map};
+ghost use Rattle.nl_tool_doubt.specs.Doubts.{IsDoubts, doubt_line, undamaged};
+ghost use Rattle.nl_tool_doubt.specs.declared.doubts.Doubts.{Doubts};
 ghost use Rattle.nl_tool_print.specs.Faults.{IsLogFault};
 ghost use Rattle.nl_versions.specs.VersionOf.{as_five};
 ghost use Rattle.nl_table.specs.Log.{NotALog, OtherVersion, log_of};
 ghost use Rattle.nl_tool_texts.specs.declared.fault.ToolFault.{ToolFault};
 ghost use Rattle.nl_tool.specs.declared.program.Verdict.{Verdict};
 
-use crate::files::open;
-use crate::notes::{NotedReader, NotedWriter, Notes};
+use crate::notes::{NotedWriter, Notes};
 use crate::program::Verdict;
-use crate::progress::Telling;
+use crate::reading::log_bytes;
 use nl_table::Secret;
-use nl_tool_doubt::{FileState, OutputFiles, doubt_to};
+use nl_tool_doubt::{FileState, FileTimes, OutputFiles, doubts_of, write_doubts};
 use nl_tool_texts::ToolFault;
 use std::alloc::Global;
 use std::fs::{self, Metadata};
-use std::io::{self, ErrorKind, Read, Write};
+use std::io::{self, ErrorKind, Write};
 use std::os::unix::fs::MetadataExt;
 use std::rt::{Files, Runtime};
 use std::str;
@@ -40,7 +41,7 @@ impl<R: Files> OutputFiles for SystemFiles<'_, R> {
         };
         match fs::metadata(self.rt, path) {
             Ok(metadata) if metadata.is_dir() => FileState::Directory,
-            Ok(metadata) => FileState::Written(time_of(&metadata)),
+            Ok(metadata) => FileState::Written(times_of(&metadata)),
             Err(error) => match error.kind() {
                 ErrorKind::NotFound | ErrorKind::NotADirectory => FileState::Missing,
                 _ => FileState::Unknown,
@@ -49,14 +50,21 @@ impl<R: Files> OutputFiles for SystemFiles<'_, R> {
     }
 }
 
-// When a file was written, as Ninja counts it: in nanoseconds, and 1 for a file of the first second of 1970, since 0
-// stands for none.
-fn time_of(metadata: &Metadata) -> i64 {
-    match metadata.mtime() {
+// When a file was written, and when anything of it last changed, which the system tells by one call (statx).
+fn times_of(metadata: &Metadata) -> FileTimes {
+    FileTimes {
+        written: time_of(metadata.mtime(), metadata.mtime_nsec()),
+        changed: time_of(metadata.ctime(), metadata.ctime_nsec()),
+    }
+}
+
+// A time as Ninja counts it: in nanoseconds, and 1 for the first second of 1970, since 0 stands for none.
+fn time_of(seconds: i64, nanoseconds: i64) -> i64 {
+    match seconds {
         0 => 1,
-        seconds => seconds
+        _ => seconds
             .saturating_mul(NANOSECONDS)
-            .saturating_add(metadata.mtime_nsec()),
+            .saturating_add(nanoseconds),
     }
 }
 
@@ -69,52 +77,33 @@ pub fn doubt_in<R: Runtime>(
 ) -> Result<Verdict, ToolFault>
     ensures faults { IfErr result IsLogFault }
 {
+    let bytes = log_bytes(rt, alloc, log, false, notes)?;
     let mut out = NotedWriter::new(io::writer(rt));
     let files = SystemFiles { rt };
-    let tells = notes.screen.errors;
-    let answer = match log {
-        Some(path) => {
-            let file = open(rt, path, notes)?;
-            tell_doubts(
-                alloc,
-                notes.secret,
-                NotedReader::new(Telling::new(rt, tells, file), &mut notes.heard),
-                &files,
-                &mut out,
-            )
-        }
-        None => tell_doubts(
-            alloc,
-            notes.secret,
-            NotedReader::new(Telling::new(rt, tells, rt.reader()), &mut notes.heard),
-            &files,
-            &mut out,
-        ),
-    };
+    let answer = tell_doubts(alloc, notes.secret, bytes.as_slice(), &files, &mut out);
     notes.written = out.failure;
     answer
 }
 
-// Says on which outputs of the log that the reader gives there is a doubt, by their files.
-fn tell_doubts<R: Read + Drop, F: OutputFiles, W: Write>(
+// Says on which outputs of a log there is a doubt, by their files.
+fn tell_doubts<F: OutputFiles, W: Write>(
     alloc: Global,
     secret: Secret,
-    reader: R,
+    log: &[u8],
     files: &F,
     writer: &mut W,
 ) -> Result<Verdict, ToolFault>
     ensures found { IfOk result
         (λ outcome.
-        (text : List ℕ) × IsDoubtText (R.remaining reader) (F.states files.now) text
-        × Appends (W.contents writer.old) (W.contents writer.new) text
-        × ((outcome ≡ Verdict.Found) ↔ (0 < length text))) }
-    ensures not_a_log { IsErrOf result ToolFault.NotALog
-        → IfSome (R.remaining reader) (λ bs. log_of (as_five bs) ≡ NotALog) }
-    ensures other_version { IsErrOf result ToolFault.OtherVersion
-        → IfSome (R.remaining reader) (λ bs. log_of (as_five bs) ≡ OtherVersion) }
+        (doubts : Doubts) × IsDoubts undamaged log.now (F.states files.now) doubts
+        × Appends (W.contents writer.old) (W.contents writer.new) (flat_map doubt_line doubts.named.items)
+        × ((outcome ≡ Verdict.Found) ↔ (0 < length doubts.named.items))) }
+    ensures not_a_log { IsErrOf result ToolFault.NotALog → log_of (as_five log.now) ≡ NotALog }
+    ensures other_version { IsErrOf result ToolFault.OtherVersion → log_of (as_five log.now) ≡ OtherVersion }
     ensures faults { IfErr result IsLogFault }
 {
-    match doubt_to(alloc, secret, reader, files, writer) {
+    let doubts = doubts_of(alloc, secret, log, files)?;
+    match write_doubts(alloc, doubts.named.as_slice(), writer) {
         Ok(true) => Ok(Verdict::Found),
         Ok(false) => Ok(Verdict::Done),
         Err(fault) => Err(fault),

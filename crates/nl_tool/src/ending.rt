@@ -9,7 +9,7 @@ ghost use Rattle.nl_tool_words.specs.Form.{form_of};
 
 use crate::notes::Notes;
 use crate::program::{Verdict, run_with_notes};
-use crate::reason::{Refusal, anew_note, masked_note, note_of, refusal_of, unsynced_note};
+use crate::reason::{Refusal, again_note, masked_note, note_of, refusal_of, unsynced_note};
 use crate::screen::Screen;
 use clap::Error;
 use clap::error::ErrorKind;
@@ -104,7 +104,7 @@ fn end(
 // Says of a command that was done that its log was missing, that its folder can't be synced, and that an access control list may be
 // gone, where that is asked for; and that the log was written anew by whose builds it went.
 fn say_notes(rt: &impl Eprint, alloc: Global, line: &CommandLine<'_>, notes: &Notes) {
-    if let Some(log) = anew_note(line, notes) {
+    if let Some(log) = again_note(line, notes) {
         let _ = eprintln!(rt; "nlog: {log}");
     }
     if let Some(missing) = note_of(line, notes) {

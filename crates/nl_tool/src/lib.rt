@@ -4,7 +4,6 @@
 
 mod changing;
 mod comparing;
-mod critical;
 mod doubting;
 mod ending;
 mod files;
@@ -14,6 +13,7 @@ mod notes;
 mod printing;
 mod program;
 mod progress;
+mod reading;
 mod reason;
 mod reporting;
 mod screen;
@@ -30,19 +30,13 @@ pub use nl_tool_change::{
     AskedFolder, FoundFolder, LogPlace, apply_on, entry_of, recompact_on, record_command,
     record_on, repair_on, restat_on,
 };
-pub use nl_tool_columns::columns_to;
-pub use nl_tool_doubt::doubt_to;
-pub use nl_tool_picture::picture_to;
+pub use nl_tool_doubt::{doubts_of, write_doubts};
 pub use nl_tool_print::{
     check_log, check_to, damage_to, entries_to, hash_for, hash_read, hash_to, load_read, show_log,
     show_to,
 };
-pub use nl_tool_report::{
-    KindRule, Lists, Scope, TableAsRead, builds_to, compare_to, read_table, summary_to,
-};
 pub use nl_tool_script::replay_to;
 pub use nl_tool_texts::{ToolFault, status_of};
-pub use nl_tool_trace::trace_to;
 pub use nl_tool_words::{AskedVersion, CommandLine, Words, read_words};
 pub use nl_versions::{FirstLine, LogVersion, command_hash_in, first_line_in, version_of};
 pub use notes::{Beginning, Heard, NotedReader, NotedWriter, Notes};

@@ -36,8 +36,8 @@ pub struct Notes {
     pub is_missing: bool,
     /// Whether what was heard is of the second of two logs.
     pub is_second: bool,
-    /// Whether the log was written anew, so that its lines don't tell its builds.
-    pub is_anew: bool,
+    /// Whether builds of which was told were found again, since the log was written anew.
+    pub is_again: bool,
     /// Whether more is to be said than the words ask for: so a log of another version is looked at once it is refused.
     pub looks: bool,
     /// Which streams are terminals.
@@ -52,7 +52,7 @@ impl Notes {
         ensures none { (result.heard.failure ≡ None) × (result.written ≡ None)
             × (result.folder ≡ None) × (result.unsynced ≡ None)
             × (result.is_missing ≡ false) × (result.is_second ≡ false)
-            × (result.is_anew ≡ false) × (result.is_masked ≡ false) }
+            × (result.is_again ≡ false) × (result.is_masked ≡ false) }
         ensures looks { result.looks ≡ looks }
         ensures screen { result.screen ≡ screen }
     {
@@ -72,7 +72,7 @@ impl Notes {
             early: Vec::new(alloc),
             is_missing: false,
             is_second: false,
-            is_anew: false,
+            is_again: false,
             looks,
             screen,
             secret,

@@ -4,7 +4,6 @@ ghost use Rattle.nl_tool.specs.Faults.{CanFind, CanBeDone, IsFaultOf};
 
 use crate::changing::{apply_in, recompact_in, record_in, repair_in, restat_in};
 use crate::comparing::compare_in;
-use crate::critical::critical_in;
 use crate::doubting::doubt_in;
 use crate::notes::Notes;
 use crate::printing::{Printing, Streaming, print_file, print_from, print_log, stream_log};
@@ -92,30 +91,20 @@ where
             all,
             kind,
             lines,
-        } => summary_in(
-            rt, alloc, columns, log, all, build, kind, lines, missing_ok, notes,
-        ),
-        Words::Critical {
-            log,
-            build,
-            all,
-            kind,
-            lines,
             graph,
-        } => {
-            critical_in(
-                rt, alloc, columns, log, all, build, kind, lines, graph, missing_ok, notes,
-            )?;
-            return Ok(Verdict::Done);
-        }
-        Words::Compare { old, new, lines } => {
-            compare_in(rt, alloc, columns, old, new, lines, missing_ok, notes)
-        }
+        } => summary_in(
+            rt, alloc, columns, log, all, build, kind, lines, graph, missing_ok, notes,
+        ),
+        Words::Compare {
+            old,
+            new,
+            lines,
+            least,
+        } => compare_in(
+            rt, alloc, columns, old, new, lines, least, missing_ok, notes,
+        ),
         Words::Trace(log) => report_in(rt, alloc, false, Report::Trace, log, missing_ok, notes),
-        Words::Picture(log) => {
-            let report = Report::Picture(notes.secret);
-            report_in(rt, alloc, false, report, log, missing_ok, notes)
-        }
+        Words::Picture(log) => report_in(rt, alloc, false, Report::Picture, log, missing_ok, notes),
         Words::Record {
             log,
             start,

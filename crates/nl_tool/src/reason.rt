@@ -5,8 +5,9 @@ ghost use Rattle.nl_os.specs.declared.failed_call.FileRole.{FileRole};
 ghost use Rattle.nl_tool_texts.specs.declared.fault.ToolFault.{ToolFault};
 ghost use Rattle.nl_tool.specs.declared.reason.Place.{Place};
 ghost use Rattle.nl_tool.specs.Looks.{look_of};
-ghost use Rattle.nl_tool.specs.Reasons.{IsBadNumberOf, IsBadOption, IsByteAt, IsEarly, IsFirstBad, IsLongNameOf, IsLookAt, IsMasked, IsNegative, IsNoteFor, IsNumber, IsNumberFault, IsReasonFor, IsSystem, IsUnsynced, IsVersion, anew_text, file_place, heard_of, log_place, missing_text, place_text, read_place, reason_text, refusal_text, why_text, words_heard};
+ghost use Rattle.nl_tool.specs.Reasons.{IsBadNumberOf, IsBadOption, IsBadRule, IsByteAt, IsEarly, IsFirstBad, IsLongNameOf, IsLookAt, IsMasked, IsNegative, IsNoteFor, IsNumber, IsNumberFault, IsReasonFor, IsSystem, IsUnsynced, IsVersion, again_text, file_place, graph_file, heard_of, log_place, missing_text, place_text, read_place, reason_text, refusal_text, why_text, words_for, words_heard};
 
+use crate::comparing::least_of;
 use crate::looks::{Look, escaped_of, look_of, start_of};
 use crate::notes::Notes;
 use crate::reporting::{most_of, scope_of};
@@ -43,6 +44,8 @@ pub enum Place<'a> {
     Count(&'a str),
     /// Of which build `summary` tells.
     Build(&'a str),
+    /// How many milliseconds a difference of `compare` has at the least.
+    Least(&'a str),
 }
 
 impl fmt::Display for Place<'_> {
@@ -68,6 +71,7 @@ impl fmt::Display for Place<'_> {
             Place::Name => write!(f, "NAME"),
             Place::Count(text) => write!(f, "N {text}"),
             Place::Build(text) => write!(f, "BUILD {text}"),
+            Place::Least(text) => write!(f, "MS {text}"),
         }
     }
 }
@@ -214,37 +218,37 @@ pub fn note_of<'a>(line: &CommandLine<'a>, notes: &Notes) -> Option<Missing<'a>>
     }
 }
 
-/// That the log was written anew over which a command was done.
+/// That builds were found again of which a command told, since the log was written anew.
 #[derive(Clone, Copy, Drop)]
-pub struct WrittenAnew<'a> {
+pub struct FoundAgain<'a> {
     pub place: Place<'a>,
 }
 
-impl fmt::Display for WrittenAnew<'_> {
-    ghost output = { λ log. Some (anew_text log.place) };
+impl fmt::Display for FoundAgain<'_> {
+    ghost output = { λ log. Some (again_text log.place) };
 
     fn fmt<W: fmt::Write>(&self, f: &mut fmt::Formatter<W>) -> fmt::Result {
-        let WrittenAnew { place } = self;
+        let FoundAgain { place } = self;
         write!(
             f,
-            "{place}: it was written anew, so its lines don't tell its builds"
+            "{place}: it was written anew, so builds were found again by their time stamps"
         )
     }
 }
 
-/// What is said of a command that was done: that the log was written anew by whose builds it went.
-pub fn anew_note<'a>(line: &CommandLine<'a>, notes: &Notes) -> Option<WrittenAnew<'a>>
-    ensures none { notes.now.is_anew ≡ false → result ≡ None }
+/// What is said of a command that was done: that builds were found again of which it told.
+pub fn again_note<'a>(line: &CommandLine<'a>, notes: &Notes) -> Option<FoundAgain<'a>>
+    ensures none { notes.now.is_again ≡ false → result ≡ None }
     ensures note { IfSome result
         (λ log. log_place line.now.words FileRole.Log ≡ Some log.place) }
-    ensures whenever { notes.now.is_anew ≡ true → IsSome (log_place line.now.words FileRole.Log)
+    ensures whenever { notes.now.is_again ≡ true → IsSome (log_place line.now.words FileRole.Log)
         → IsSome result }
 {
-    if !notes.is_anew {
+    if !notes.is_again {
         return None;
     }
     match log_place(&line.words, FileRole::Log) {
-        Some(place) => Some(WrittenAnew { place }),
+        Some(place) => Some(FoundAgain { place }),
         None => None,
     }
 }
@@ -299,13 +303,13 @@ pub fn refusal_of<'a>(
     ensures fault { result.fault ≡ fault }
     ensures quiet { line.now.verbose ≡ false → result.why ≡ None }
     ensures why { IfSome result.why
-        (IsReasonFor (words_heard line.now.words notes.now.is_second) fault notes.now.folder
+        (IsReasonFor (words_for fault line.now.words notes.now.is_second) fault notes.now.folder
         (heard_of notes.now)) }
 {
     let why = if line.verbose {
         why_of(
             alloc,
-            &words_heard(&line.words, notes.is_second),
+            &words_for(fault, &line.words, notes.is_second),
             fault,
             notes,
         )
@@ -315,40 +319,44 @@ pub fn refusal_of<'a>(
     Refusal { fault, why }
 }
 
+// The words that give the reason of a fault: where a number is bad, the words as they are.
+fn words_for<'a>(fault: ToolFault, words: &Words<'a>, is_second: bool) -> Words<'a>
+    ensures { result ≡ words_for fault words.now is_second }
+{
+    match fault {
+        ToolFault::BadNumber => *words,
+        _ => words_heard(words, is_second),
+    }
+}
+
 // Of two logs, the words that read the second of them, or the first; of a log and a graph, the words that read the log, or a file;
 // else the words as they are.
 fn words_heard<'a>(words: &Words<'a>, is_second: bool) -> Words<'a>
     ensures { result ≡ words_heard words.now is_second }
 {
     match *words {
-        Words::Compare { old, new, lines } => Words::Summary {
-            log: Some(if is_second { new } else { old }),
-            build: None,
-            all: false,
-            kind: None,
-            lines,
-        },
-        Words::Critical {
-            log,
-            build,
-            all,
-            kind,
-            lines,
-            graph,
+        Words::Compare { old, new, .. } => Words::Builds(Some(if is_second { new } else { old })),
+        Words::Summary {
+            graph: Some(path),
+            ..
         } => {
             if is_second {
-                return Words::HashFile(Some(graph));
+                return Words::HashFile(graph_file(path));
             }
-            Words::Summary {
-                log,
-                build,
-                all,
-                kind,
-                lines,
-            }
+            *words
         }
         other => other,
     }
+}
+
+// The file of a graph, or standard input.
+fn graph_file(path: &str) -> Option<&str>
+    ensures { result ≡ graph_file path.entry }
+{
+    if path == "-" {
+        return None;
+    }
+    Some(path)
 }
 
 // The reason of a fault, where it is known.
@@ -374,7 +382,7 @@ fn why_of<'a>(alloc: Global, words: &Words<'a>, fault: ToolFault, notes: &Notes)
         ToolFault::EmptyName => Some(of_name(Reason::NoBytes)),
         ToolFault::BadByte(at) => bad_byte(words, at),
         ToolFault::LongName => long_name(words),
-        ToolFault::Memory => None,
+        ToolFault::Memory | ToolFault::OtherGraph => None,
     }
 }
 
@@ -492,12 +500,12 @@ fn bad_number<'a>(words: &Words<'a>) -> Option<Why<'a>>
             ..
         } => bad_value(start, end, mtime),
         Words::Summary {
-            log: _,
             build,
             all,
-            kind: _,
             lines,
+            ..
         } => bad_option(all, build, lines),
+        Words::Compare { lines, least, .. } => bad_rule(lines, least),
         _ => None,
     }
 }
@@ -515,6 +523,24 @@ fn bad_option<'a>(all: bool, build: Option<&'a str>, lines: Option<&'a str>) -> 
         (_, Some(text)) if scope_of(all, build).is_none() => Some(Why {
             place: Place::Build(text),
             reason: Reason::Number(build_fault(text.as_bytes())),
+        }),
+        _ => None,
+    }
+}
+
+// Which of these two numbers is none, and why.
+fn bad_rule<'a>(lines: Option<&'a str>, least: Option<&'a str>) -> Option<Why<'a>>
+    ensures { IfSome result (λ why. IsBadRule lines.entry least.entry why.place
+        × IsNumberFault why.reason) }
+{
+    match (lines, least) {
+        (Some(text), _) if most_of(lines).is_none() => Some(Why {
+            place: Place::Count(text),
+            reason: Reason::Number(count_fault(text.as_bytes())),
+        }),
+        (_, Some(text)) if least_of(least).is_none() => Some(Why {
+            place: Place::Least(text),
+            reason: Reason::Number(count_fault(text.as_bytes())),
         }),
         _ => None,
     }
@@ -627,21 +653,7 @@ fn read_place<'a>(words: &Words<'a>) -> Option<Place<'a>>
         | Words::Builds(Some(log))
         | Words::Trace(Some(log))
         | Words::Picture(Some(log))
-        | Words::Summary {
-            log: Some(log),
-            build: _,
-            all: _,
-            kind: _,
-            lines: _,
-        }
-        | Words::Critical {
-            log: Some(log),
-            build: _,
-            all: _,
-            kind: _,
-            lines: _,
-            graph: _,
-        } => Some(Place::Log(log)),
+        | Words::Summary { log: Some(log), .. } => Some(Place::Log(log)),
         Words::HashFile(Some(file))
         | Words::Prune {
             log: _,
@@ -662,21 +674,7 @@ fn read_place<'a>(words: &Words<'a>) -> Option<Place<'a>>
         | Words::Builds(None)
         | Words::Trace(None)
         | Words::Picture(None)
-        | Words::Summary {
-            log: None,
-            build: _,
-            all: _,
-            kind: _,
-            lines: _,
-        }
-        | Words::Critical {
-            log: None,
-            build: _,
-            all: _,
-            kind: _,
-            lines: _,
-            graph: _,
-        }
+        | Words::Summary { log: None, .. }
         | Words::HashFile(None)
         | Words::Prune {
             log: _,
@@ -712,8 +710,7 @@ fn log_place<'a>(words: &Words<'a>, file: FileRole) -> Option<Place<'a>>
         | Words::Builds(_)
         | Words::Trace(_)
         | Words::Picture(_)
-        | Words::Summary { .. }
-        | Words::Critical { .. } => read_place(words),
+        | Words::Summary { .. } => read_place(words),
         Words::Hash(_) | Words::HashFile(_) | Words::Replay(_) | Words::Compare { .. } => None,
     }
 }

@@ -1,39 +1,45 @@
 //! The words that tell what the builds of a log did, over LOG or standard input, with standard output for their text.
-ghost use Rattle.std.specs.Prelude.{◌≡◌, ◌<◌, ◌^◌, ℕ, pos, Some, IfErr, IfSome, OnOk};
+ghost use Rattle.std.specs.Prelude.{◌≡◌, ◌++◌, ◌<◌, ◌^◌, ℕ, map, pos, Some, IfErr, IfOk, IfSome, OnOk};
+ghost use Rattle.nl_builds.specs.declared.log.LogBuilds.{LogBuilds};
 ghost use Rattle.nl_fields.specs.Digits.{IsDecimal};
-ghost use Rattle.nl_tool_print.specs.Faults.{IsLogFault};
+ghost use Rattle.nl_tool_texts.specs.Output.{Prints};
 ghost use Rattle.nl_versions.specs.VersionOf.{as_five};
 ghost use Rattle.nl_table.specs.Log.{log_of};
-ghost use Rattle.nl_tool_report.specs.Anew.{IsSaidAsRead};
-ghost use Rattle.nl_tool_report.specs.Builds.{IsReportAsRead};
-ghost use Rattle.nl_tool_report.specs.declared.scope.Scope.{Scope};
+ghost use Rattle.nl_reports.specs.BuildsText.{builds_text};
+ghost use Rattle.nl_reports.specs.Jobs.{told};
+ghost use Rattle.nl_reports.specs.Writing.{IsWriteFault};
+ghost use Rattle.nl_reports.specs.declared.choice.Scope.{Scope};
 ghost use Rattle.nl_tool.specs.Answers.{RefusesLog};
-ghost use Rattle.nl_tool.specs.Faults.{IsSummaryFault};
-ghost use Rattle.nl_tool.specs.Reports.{IsBuild, IsMost, IsScope, PrintsAs, PrintsReport, report_anew, report_text, rule_of};
+ghost use Rattle.nl_tool.specs.Faults.{IsFoundFault, IsPathFault, IsReportFault, IsSummaryFault, IsToldFault};
+ghost use Rattle.nl_tool.specs.Reports.{IsBuild, IsFound, IsLaidOut, IsMost, IsReport, IsReportOf, IsScope, IsSummary, PrintsReport, asked_told, laid_out, rule_of, waiting};
 
-use crate::files::open_log;
-use crate::notes::{NotedReader, NotedWriter, Notes};
-use crate::progress::Telling;
+use crate::notes::{NotedWriter, Notes};
+use crate::reading::{graph_bytes, log_bytes};
+use nl_builds::{Builds, LogBuilds, read_builds};
 use nl_fields::read_i64;
+use nl_reports::{
+    KindRule, Lists, NinjaGraph, Scope, builds_lines, chosen_jobs, critical_lines, in_columns,
+    lasting, read_graph, summary_lines, taken_in, write_picture, write_trace,
+};
 use nl_table::Secret;
-use nl_tool_columns::columns_to;
-use nl_tool_picture::picture_to;
-use nl_tool_report::{KindRule, Lists, Scope, builds_to, summary_to};
-use nl_tool_texts::ToolFault;
-use nl_tool_trace::trace_to;
-use std::alloc::Global;
-use std::io::{self, Read, Write};
+use nl_tool_texts::{ToolFault, write_out};
+use std::alloc::{AllocError, Global};
+use std::io::{self, Write};
 use std::rt::Runtime;
 
 /// What is told of builds.
 #[derive(Clone, Copy, Drop)]
-pub enum Report {
+pub enum Report<'g, 't> {
     Builds,
-    Summary { scope: Scope, lists: Lists },
+    /// With the critical path, where there is a graph.
+    Summary {
+        scope: Scope,
+        lists: Lists,
+        graph: Option<&'g NinjaGraph<'t>>,
+    },
     /// As the events of a trace.
     Trace,
-    /// As a picture.
-    Picture(Secret),
+    Picture,
 }
 
 // Tells of what the words say, with lists of as many lines at most as they say.
@@ -46,12 +52,13 @@ pub fn summary_in<R: Runtime>(
     build: Option<&str>,
     kind: Option<&str>,
     lines: Option<&str>,
+    graph: Option<&str>,
     missing_ok: bool,
     notes: &mut Notes,
 ) -> Result<(), ToolFault>
     ensures scope { OnOk result ((scope : Scope) × IsScope all build.entry scope) }
     ensures accepts { OnOk result ((most : ℕ) × IsMost lines.entry most) }
-    ensures faults { IfErr result (IsSummaryFault all build.entry lines.entry) }
+    ensures faults { IfErr result (IsSummaryFault all build.entry lines.entry graph.entry) }
 {
     let Some(most) = most_of(lines) else {
         return Err(ToolFault::BadNumber);
@@ -64,15 +71,46 @@ pub fn summary_in<R: Runtime>(
         rule: rule_of(kind),
         secret: notes.secret,
     };
-    report_in(
-        rt,
-        alloc,
-        columns,
-        Report::Summary { scope, lists },
-        log,
-        missing_ok,
-        notes,
-    )
+    match graph {
+        Some(path) => summary_with(
+            rt, alloc, columns, scope, lists, path, log, missing_ok, notes,
+        ),
+        None => {
+            let report = Report::Summary {
+                scope,
+                lists,
+                graph: None,
+            };
+            report_in(rt, alloc, columns, report, log, missing_ok, notes)
+        }
+    }
+}
+
+// Reads the graph, and then the log.
+fn summary_with<R: Runtime>(
+    rt: &R,
+    alloc: Global,
+    columns: bool,
+    scope: Scope,
+    lists: Lists,
+    path: &str,
+    log: Option<&str>,
+    missing_ok: bool,
+    notes: &mut Notes,
+) -> Result<(), ToolFault>
+    ensures faults { IfErr result IsPathFault }
+{
+    notes.begin_second();
+    let text = graph_bytes(rt, alloc, path, notes)?;
+    let graph = read_graph(alloc, notes.secret, text.as_slice())?;
+    notes.begin_second();
+    notes.is_second = false;
+    let report = Report::Summary {
+        scope,
+        lists,
+        graph: Some(&graph),
+    };
+    report_in(rt, alloc, columns, report, log, missing_ok, notes)
 }
 
 // Of what is told.
@@ -81,7 +119,7 @@ pub fn scope_of(all: bool, build: Option<&str>) -> Option<Scope>
     ensures accepts { (scope : Scope) → IsScope all build.entry scope → result ≡ Some scope }
 {
     if all {
-        return Some(Scope::Outputs);
+        return Some(Scope::All);
     }
     build_of(build)
 }
@@ -141,7 +179,7 @@ pub fn most_of(lines: Option<&str>) -> Option<usize>
 }
 
 // A number of 0 up to 2^63 - 1, in its one spelling.
-fn count_of(text: &str) -> Option<usize>
+pub fn count_of(text: &str) -> Option<usize>
     ensures value { IfSome result (λ n. (n < 2 ^ 63) × IsDecimal (pos n) text.now) }
     ensures accepts { (n : ℕ) → n < 2 ^ 63 → IsDecimal (pos n) text.now → result ≡ Some n }
 {
@@ -153,100 +191,185 @@ pub fn report_in<R: Runtime>(
     rt: &R,
     alloc: Global,
     columns: bool,
-    report: Report,
+    report: Report<'_, '_>,
     log: Option<&str>,
     missing_ok: bool,
     notes: &mut Notes,
 ) -> Result<(), ToolFault>
-    ensures faults { IfErr result IsLogFault }
+    ensures faults { IfErr result (IsReportFault report.entry) }
 {
+    let text = log_bytes(rt, alloc, log, missing_ok, notes)?;
     let mut out = NotedWriter::new(io::writer(rt));
-    let mut anew = false;
-    let tells = notes.screen.errors;
-    let file = match log {
-        Some(path) => open_log(rt, path, missing_ok, notes)?,
-        None => None,
-    };
-    let answer = match file {
-        Some(file) => report_as(
-            alloc,
-            columns,
-            report,
-            NotedReader::new(Telling::new(rt, tells, file), &mut notes.heard),
-            &mut out,
-            &mut anew,
-        ),
-        None if log.is_some() => {
-            report_as(alloc, columns, report, io::empty(), &mut out, &mut anew)
-        }
-        None => report_as(
-            alloc,
-            columns,
-            report,
-            NotedReader::new(Telling::new(rt, tells, rt.reader()), &mut notes.heard),
-            &mut out,
-            &mut anew,
-        ),
-    };
+    let secret = notes.secret;
+    let again = &mut notes.is_again;
+    let answer = report_to(
+        alloc,
+        secret,
+        columns,
+        report,
+        text.as_slice(),
+        &mut out,
+        again,
+    );
     notes.written = out.failure;
-    notes.is_anew = anew;
     answer
 }
 
-// Tells it of the log that the reader gives, in columns where they are wanted, and whether that was written anew.
-fn report_as<R: Read + Drop, W: Write>(
+// Tells it of the log of these bytes, in columns where they are wanted, and whether builds of which it tells were found again.
+fn report_to<W: Write>(
     alloc: Global,
+    secret: Secret,
     columns: bool,
-    report: Report,
-    reader: R,
+    report: Report<'_, '_>,
+    text: &[u8],
     writer: &mut W,
-    anew: &mut bool,
+    again: &mut bool,
 ) -> Result<(), ToolFault>
-    ensures prints { PrintsAs columns report
-        (IsReportAsRead (report_text report) (R.remaining reader)) (W.contents writer.old)
-        (W.contents writer.new) result }
-    ensures anew { OnOk result (IsSaidAsRead (report_anew report) (R.remaining reader) anew.new) }
-    ensures bytes { RefusesLog (λ bs. log_of (as_five bs)) (R.remaining reader) result }
-    ensures faults { IfErr result IsLogFault }
+    ensures prints { PrintsReport columns report.entry (IsReportOf report.entry text.now)
+        (W.contents writer.old) (W.contents writer.new) result }
+    ensures bytes { RefusesLog (λ bs. log_of (as_five bs)) (Some text.now) result }
+    ensures faults { IfErr result (IsReportFault report.entry) }
 {
-    if !columns {
-        return report_to(alloc, report, reader, writer, anew);
-    }
-    let mut text = Vec::new(alloc);
-    match report_to(alloc, report, reader, &mut text, anew) {
-        Ok(()) => columns_to(alloc, text.as_slice(), writer),
-        // The writer is memory, so a write that fails found no room there.
-        Err(ToolFault::Write) => Err(ToolFault::Memory),
-        Err(fault) => Err(fault),
+    let log = read_builds(alloc, secret, text)?;
+    tell(alloc, secret, columns, report, log, writer, again)
+}
+
+// Tells it of what a log tells.
+fn tell<W: Write>(
+    alloc: Global,
+    secret: Secret,
+    columns: bool,
+    report: Report<'_, '_>,
+    log: LogBuilds<'_>,
+    writer: &mut W,
+    again: &mut bool,
+) -> Result<(), ToolFault>
+    ensures prints { PrintsReport columns report.entry
+        (IsReport report.entry (waiting log.entry) (told log.entry.told))
+        (W.contents writer.old) (W.contents writer.new) result }
+    ensures faults { IfErr result (IsToldFault report.entry) }
+{
+    let LogBuilds {
+        told,
+        unfinished,
+        ..
+    } = log;
+    match report {
+        Report::Builds => tell_builds(alloc, columns, &told, writer, again),
+        Report::Summary {
+            scope,
+            lists,
+            graph,
+        } => {
+            let names = unfinished.as_slice();
+            let asked = asked_builds(alloc, secret, scope, names, told)?;
+            let count = names.len();
+            tell_summary(
+                alloc, columns, scope, lists, graph, count, &asked, writer, again,
+            )
+        }
+        Report::Trace => {
+            *again = taken_in(Scope::Last, &told).is_some();
+            write_trace(alloc, &told, writer)
+        }
+        Report::Picture => {
+            *again = taken_in(Scope::Last, &told).is_some();
+            write_picture(alloc, secret, &told, writer)
+        }
     }
 }
 
-// Tells it of the log that the reader gives, and whether that was written anew.
-fn report_to<R: Read + Drop, W: Write>(
+fn tell_builds<W: Write>(
     alloc: Global,
-    report: Report,
-    reader: R,
+    columns: bool,
+    from: &Builds,
     writer: &mut W,
-    anew: &mut bool,
+    again: &mut bool,
 ) -> Result<(), ToolFault>
-    ensures prints { PrintsReport report (IsReportAsRead (report_text report) (R.remaining reader))
+    ensures prints { Prints (λ text. text ≡ laid_out columns (builds_text (told from.now)))
         (W.contents writer.old) (W.contents writer.new) result }
-    ensures anew { OnOk result (IsSaidAsRead (report_anew report) (R.remaining reader) anew.new) }
-    ensures bytes { RefusesLog (λ bs. log_of (as_five bs)) (R.remaining reader) result }
-    ensures faults { IfErr result IsLogFault }
+    ensures faults { IfErr result IsWriteFault }
 {
-    match report {
-        Report::Builds => builds_to(alloc, reader, writer, anew),
-        Report::Summary { scope, lists } => {
-            summary_to(alloc, scope, lists, reader, writer, anew)
-        }
-        Report::Trace => {
-            *anew = false;
-            trace_to(alloc, reader, writer)
-        }
-        Report::Picture(secret) => {
-            *anew = false;
-            picture_to(alloc, secret, reader, writer)
-        }
+    *again = taken_in(Scope::All, from).is_some();
+    write_lines(alloc, columns, builds_lines(alloc, from)?, writer)
+}
+
+fn tell_summary<W: Write>(
+    alloc: Global,
+    columns: bool,
+    scope: Scope,
+    lists: Lists,
+    graph: Option<&NinjaGraph<'_>>,
+    unfinished: usize,
+    from: &Builds,
+    writer: &mut W,
+    again: &mut bool,
+) -> Result<(), ToolFault>
+    ensures prints { Prints (IsLaidOut columns (IsSummary scope lists graph.entry unfinished (told from.now)))
+        (W.contents writer.old) (W.contents writer.new) result }
+    ensures faults { IfErr result (IsFoundFault graph.entry) }
+{
+    *again = taken_in(scope, from).is_some();
+    let Some(lines) = summary_of(alloc, scope, lists, graph, unfinished, from)? else {
+        return Err(ToolFault::OtherGraph);
+    };
+    write_lines(alloc, columns, lines, writer)
+}
+
+// The builds of which is told: where it is of all, with the last entry of each output alone.
+fn asked_builds<'a>(
+    alloc: Global,
+    secret: Secret,
+    scope: Scope,
+    names: &[&'a [u8]],
+    from: Builds<'a>,
+) -> Result<Builds<'a>, AllocError>
+    ensures value { IfOk result (λ asked. told asked ≡ asked_told scope (map (λ n. n.now) names.now) (told from.entry)) }
+{
+    match scope {
+        Scope::All => lasting(alloc, secret, names, from),
+        Scope::Last | Scope::Numbered(_) => Ok(from),
     }
+}
+
+// What is told of these builds, with the critical path by a graph, where so many outputs wait for a command that didn't end. None, where the
+// graph has no command of them.
+fn summary_of(
+    alloc: Global,
+    scope: Scope,
+    lists: Lists,
+    graph: Option<&NinjaGraph<'_>>,
+    unfinished: usize,
+    from: &Builds,
+) -> Result<Option<Vec<u8>>, AllocError>
+    ensures value { IfOk result (IsFound scope lists graph.entry unfinished (told from.now)) }
+{
+    let mut lines = summary_lines(alloc, scope, lists, unfinished, from)?;
+    let Some(graph) = graph else {
+        return Ok(Some(lines));
+    };
+    let jobs = chosen_jobs(alloc, scope, from)?;
+    let Some(path) = critical_lines(alloc, lists.secret, graph, jobs.as_slice())? else {
+        return Ok(None);
+    };
+    lines.extend_from_slice(path.as_slice())?;
+    Ok(Some(lines))
+}
+
+// Writes lines, in columns where they are wanted.
+pub fn write_lines<W: Write>(
+    alloc: Global,
+    columns: bool,
+    lines: Vec<u8>,
+    writer: &mut W,
+) -> Result<(), ToolFault>
+    ensures prints { Prints (λ text. text ≡ laid_out columns lines.items) (W.contents writer.old)
+        (W.contents writer.new) result }
+    ensures faults { IfErr result IsWriteFault }
+{
+    if !columns {
+        return write_out(lines.as_slice(), writer);
+    }
+    let laid = in_columns(alloc, lines.as_slice())?;
+    write_out(laid.as_slice(), writer)
 }

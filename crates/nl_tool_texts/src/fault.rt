@@ -29,6 +29,8 @@ pub enum ToolFault {
     LongName,
     /// The number, from 1, of the first bad line of KEEP, TIMES or SCRIPT. Lines that are ignored are counted.
     BadLine(u64),
+    /// A graph has no command of the builds that are told of.
+    OtherGraph,
 }
 
 impl fmt::Display for ToolFault {
@@ -48,6 +50,7 @@ impl fmt::Display for ToolFault {
             ToolFault::BadByte(at) => write!(f, "bad byte in name at {at}"),
             ToolFault::LongName => write!(f, "name too long"),
             ToolFault::BadLine(number) => write!(f, "bad line {number}"),
+            ToolFault::OtherGraph => write!(f, "not the graph of this build"),
         }
     }
 }

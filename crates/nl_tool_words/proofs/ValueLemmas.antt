@@ -12,10 +12,9 @@ use Rattle.clap.specs.declared.parser.matches.ArgMatches.{ArgMatches}
 use Rattle.clap.specs.declared.parser.matches.ArgMatches.TheViews.{out-ArgMatches, out-SubCommand}
 use Rattle.clap.specs.declared.parser.matches.SubCommand.{SubCommand}
 use Rattle.nl_tool_words.specs.declared.command_line.Words.{Words}
-use Rattle.nl_tool_words.specs.CommandLine.{all_id, all_rule, build_id, build_rule, kind_id, kind_rule, files_id, files_rule, graph_id, graph_rule, manifest_id, manifest_rule}
-use Rattle.nl_tool_words.specs.CommandLine.{HasEach, IsSaid, IsComplete, lines_id, lines_rule, missing_id, missing_rule, required_of, tabs_id, tabs_rule, verbose_id}
+use Rattle.nl_tool_words.specs.CommandLine.{flag_rule, option_rule}
+use Rattle.nl_tool_words.specs.CommandLine.{HasEach, IsSaid, IsComplete, lines_id, lines_rule, required_of, verbose_id}
 use Rattle.nl_tool_words.specs.CommandLine.{verbose_rule}
-use Rattle.nl_tool_words.specs.CommandLine.{version_id, version_rule}
 
 -- a reference to a text that is there
 pub some_of : (o : Option (Bor Text)) (t : Option Text) → option_map (λ (s : Bor Text). s.now) o ≡ t → is_some t ≡ true → IsSome o
@@ -56,37 +55,13 @@ pub entered_says : (m : ArgMatches) (name : Text) (rows : List Row) → Some nam
 entered_says m name rows e f words known is says =
     subst (IsSaid words) (sym (entered_is m name rows e f)) (subst (λ n. IsSaid words (Some (n, rows))) (sym is) says)
 
--- the option for a version, by how it is put together
-pub version_told : (new long named told : Arg) (name value text : Bor Text)
+-- an option that has a value, by how it is put together
+pub option_told : (new long named told : Arg) (name value text : Bor Text)
     → long ≡ record new { long = Some name } → named ≡ record long { val_names = One value } → told ≡ record named { help = Some text }
-    → rule_of new ≡ new_rule version_id → name.now ≡ version_id → rule_of told ≡ version_rule
-version_told new long named told name value text e f g is id =
+    → rule_of new ≡ new_rule name.now → rule_of told ≡ option_rule name.now
+option_told new long named told name value text e f g is =
     ap rule_of g ∙ (ap rule_of f ∙ ap (λ (a : Rule). record a { value_names = 1 }) (ap rule_of e
-    ∙ ap₂ (λ (a : Rule) (t : Text). record a { long = Some t }) is id))
-
--- the option for a build, by how it is put together
-pub build_told : (new long named told : Arg) (name value text : Bor Text)
-    → long ≡ record new { long = Some name } → named ≡ record long { val_names = One value } → told ≡ record named { help = Some text }
-    → rule_of new ≡ new_rule build_id → name.now ≡ build_id → rule_of told ≡ build_rule
-build_told new long named told name value text e f g is id =
-    ap rule_of g ∙ (ap rule_of f ∙ ap (λ (a : Rule). record a { value_names = 1 }) (ap rule_of e
-    ∙ ap₂ (λ (a : Rule) (t : Text). record a { long = Some t }) is id))
-
--- the option for a graph, by how it is put together
-pub graph_told : (new long named told : Arg) (name value text : Bor Text)
-    → long ≡ record new { long = Some name } → named ≡ record long { val_names = One value } → told ≡ record named { help = Some text }
-    → rule_of new ≡ new_rule graph_id → name.now ≡ graph_id → rule_of told ≡ graph_rule
-graph_told new long named told name value text e f g is id =
-    ap rule_of g ∙ (ap rule_of f ∙ ap (λ (a : Rule). record a { value_names = 1 }) (ap rule_of e
-    ∙ ap₂ (λ (a : Rule) (t : Text). record a { long = Some t }) is id))
-
--- the option for kinds, by how it is put together
-pub kind_told : (new long named told : Arg) (name value text : Bor Text)
-    → long ≡ record new { long = Some name } → named ≡ record long { val_names = One value } → told ≡ record named { help = Some text }
-    → rule_of new ≡ new_rule kind_id → name.now ≡ kind_id → rule_of told ≡ kind_rule
-kind_told new long named told name value text e f g is id =
-    ap rule_of g ∙ (ap rule_of f ∙ ap (λ (a : Rule). record a { value_names = 1 }) (ap rule_of e
-    ∙ ap₂ (λ (a : Rule) (t : Text). record a { long = Some t }) is id))
+    ∙ ap (λ (a : Rule). record a { long = Some name.now }) is))
 
 -- the option for how many lines, by how it is put together
 pub lines_told : (new long short named told : Arg) (name value text : Bor Text) (letter : ℕ)
@@ -108,45 +83,11 @@ verbose_told new long short flag told name text letter e f g h is id v =
     ∙ ap₂ (λ (a : Rule) (c : ℕ). record a { short = Some c })
     (ap rule_of e ∙ ap₂ (λ (a : Rule) (t : Text). record a { long = Some t }) is id) v))
 
--- the flag by which a log may be missing, by how it is put together
-pub missing_told : (new long flag told : Arg) (name text : Bor Text)
-    → long ≡ record new { long = Some name } → flag ≡ record long { action = Some SetTrue } → told ≡ record flag { help = Some text }
-    → rule_of new ≡ new_rule missing_id → name.now ≡ missing_id → rule_of told ≡ missing_rule
-missing_told new long flag told name text e f g is id =
-    ap rule_of g ∙ (ap rule_of f ∙ ap (λ (a : Rule). record a { action = Some SetTrue })
-    (ap rule_of e ∙ ap₂ (λ (a : Rule) (t : Text). record a { long = Some t }) is id))
-
--- the flag for tabs, by how it is put together
-pub tabs_told : (new long flag told : Arg) (name text : Bor Text)
+-- a flag, by how it is put together
+pub flag_told : (new long flag told : Arg) (name text : Bor Text)
     → long ≡ record new { long = Some name } → flag ≡ record long { action = Some SetTrue }
     → told ≡ record flag { help = Some text }
-    → rule_of new ≡ new_rule tabs_id → name.now ≡ tabs_id → rule_of told ≡ tabs_rule
-tabs_told new long flag told name text e f g is id =
+    → rule_of new ≡ new_rule name.now → rule_of told ≡ flag_rule name.now
+flag_told new long flag told name text e f g is =
     ap rule_of g ∙ (ap rule_of f ∙ ap (λ (a : Rule). record a { action = Some SetTrue })
-    (ap rule_of e ∙ ap₂ (λ (a : Rule) (t : Text). record a { long = Some t }) is id))
-
--- the flag for all outputs, by how it is put together
-pub all_told : (new long flag told : Arg) (name text : Bor Text)
-    → long ≡ record new { long = Some name } → flag ≡ record long { action = Some SetTrue }
-    → told ≡ record flag { help = Some text }
-    → rule_of new ≡ new_rule all_id → name.now ≡ all_id → rule_of told ≡ all_rule
-all_told new long flag told name text e f g is id =
-    ap rule_of g ∙ (ap rule_of f ∙ ap (λ (a : Rule). record a { action = Some SetTrue })
-    (ap rule_of e ∙ ap₂ (λ (a : Rule) (t : Text). record a { long = Some t }) is id))
-
--- the flag for the files, by how it is put together
-pub files_told : (new long flag told : Arg) (name text : Bor Text)
-    → long ≡ record new { long = Some name } → flag ≡ record long { action = Some SetTrue }
-    → told ≡ record flag { help = Some text }
-    → rule_of new ≡ new_rule files_id → name.now ≡ files_id → rule_of told ≡ files_rule
-files_told new long flag told name text e f g is id =
-    ap rule_of g ∙ (ap rule_of f ∙ ap (λ (a : Rule). record a { action = Some SetTrue })
-    (ap rule_of e ∙ ap₂ (λ (a : Rule) (t : Text). record a { long = Some t }) is id))
-
--- the option for a manifest, by how it is put together
-pub manifest_told : (new long named told : Arg) (name value text : Bor Text)
-    → long ≡ record new { long = Some name } → named ≡ record long { val_names = One value } → told ≡ record named { help = Some text }
-    → rule_of new ≡ new_rule manifest_id → name.now ≡ manifest_id → rule_of told ≡ manifest_rule
-manifest_told new long named told name value text e f g is id =
-    ap rule_of g ∙ (ap rule_of f ∙ ap (λ (a : Rule). record a { value_names = 1 }) (ap rule_of e
-    ∙ ap₂ (λ (a : Rule) (t : Text). record a { long = Some t }) is id))
+    (ap rule_of e ∙ ap (λ (a : Rule). record a { long = Some name.now }) is))

@@ -1,5 +1,5 @@
 -- The words of the program, as a simple command of `clap`, and the command that they name.
-use Rattle.std.specs.Prelude.{◌≡◌, ◌⊎◌, ⊤, List, [], Bool, true, false, Option, Some, None, codes, is_some, option_and_then, option_map}
+use Rattle.std.specs.Prelude.{◌≡◌, ◌⊎◌, ⊤, List, [], Bool, true, false, Option, Some, None, codes, is_some, option_and_then, option_map, not}
 use Rattle.std.specs.Prelude.{◌∷◌, ◌&&◌, ◌||◌, if◌then◌else◌}
 use Rattle.std.specs.Option.{option_map_or}
 use Rattle.std.specs.Str.{bytes_eq}
@@ -14,7 +14,7 @@ use Rattle.nl_tool_words.specs.declared.form.Form.TheVariants as form
 use Rattle.nl_tool_words.specs.declared.version.AskedVersion.{AskedVersion}
 use Rattle.nl_tool_words.specs.declared.version.AskedVersion.TheVariants.{Auto, Five, Six, Seven}
 use Rattle.nl_tool_words.specs.declared.command_line.Words.{Words}
-use Rattle.nl_tool_words.specs.declared.command_line.Words.TheVariants.{Show, Check, Hash, Entries, Damage, Doubt, Builds, Summary, Critical, Compare, Trace, Picture, HashFile, Record, Recompact, Restat}
+use Rattle.nl_tool_words.specs.declared.command_line.Words.TheVariants.{Show, Check, Hash, Entries, Damage, Doubt, Builds, Summary, Compare, Trace, Picture, HashFile, Record, Recompact, Restat}
 use Rattle.nl_tool_words.specs.declared.command_line.Words.TheVariants.{Repair, Replay, Apply, Prune, Retime}
 use Rattle.std.specs.Borrow.{Bor}
 
@@ -22,13 +22,19 @@ use Rattle.std.specs.Borrow.{Bor}
 abbrev pub positional : Text → Bool → Rule
 positional id required = record (new_rule id) { required = required }
 
+-- an option that has a value, and a flag
+abbrev pub option_rule : Text → Rule
+option_rule id = record (new_rule id) { long = Some id; value_names = 1 }
+
+abbrev pub flag_rule : Text → Rule
+flag_rule id = record (new_rule id) { long = Some id; action = Some SetTrue }
+
 -- the name of the option for a version
 abbrev pub version_id : Text
 version_id = codes "log-version"
 
--- the option: it has one value
 abbrev pub version_rule : Rule
-version_rule = record (new_rule version_id) { long = Some version_id; value_names = 1 }
+version_rule = option_rule version_id
 
 -- the name of the option for how many lines a list has at most
 abbrev pub lines_id : Text
@@ -42,32 +48,36 @@ lines_rule = record (new_rule lines_id) { long = Some lines_id; short = Some 110
 abbrev pub build_id : Text
 build_id = codes "build"
 
--- the option: it has one value
 abbrev pub build_rule : Rule
-build_rule = record (new_rule build_id) { long = Some build_id; value_names = 1 }
+build_rule = option_rule build_id
 
 -- the name of the option for the rule by which kinds are told apart
 abbrev pub kind_id : Text
 kind_id = codes "kind"
 
--- the option: it has one value
 abbrev pub kind_rule : Rule
-kind_rule = record (new_rule kind_id) { long = Some kind_id; value_names = 1 }
+kind_rule = option_rule kind_id
 
 -- the name of the option for the graph of a build
 abbrev pub graph_id : Text
 graph_id = codes "graph"
 
--- the option: it has one value
 abbrev pub graph_rule : Rule
-graph_rule = record (new_rule graph_id) { long = Some graph_id; value_names = 1 }
+graph_rule = option_rule graph_id
+
+-- the name of the option for the least difference
+abbrev pub least_id : Text
+least_id = codes "at-least"
+
+abbrev pub least_rule : Rule
+least_rule = option_rule least_id
 
 -- the name of the flag for the last entries of all outputs
 abbrev pub all_id : Text
 all_id = codes "all"
 
 abbrev pub all_rule : Rule
-all_rule = record (new_rule all_id) { long = Some all_id; action = Some SetTrue }
+all_rule = flag_rule all_id
 
 -- the name of the flag for the reason of a refusal
 abbrev pub verbose_id : Text
@@ -82,29 +92,28 @@ abbrev pub missing_id : Text
 missing_id = codes "missing-ok"
 
 abbrev pub missing_rule : Rule
-missing_rule = record (new_rule missing_id) { long = Some missing_id; action = Some SetTrue }
+missing_rule = flag_rule missing_id
 
 -- the name of the flag by which tabs stand between fields at a terminal too
 abbrev pub tabs_id : Text
 tabs_id = codes "tabs"
 
 abbrev pub tabs_rule : Rule
-tabs_rule = record (new_rule tabs_id) { long = Some tabs_id; action = Some SetTrue }
+tabs_rule = flag_rule tabs_id
 
 -- the name of the option for the targets of a build
 abbrev pub manifest_id : Text
 manifest_id = codes "manifest"
 
--- the option: it has one value
 abbrev pub manifest_rule : Rule
-manifest_rule = record (new_rule manifest_id) { long = Some manifest_id; value_names = 1 }
+manifest_rule = option_rule manifest_id
 
 -- the name of the flag by which the files are asked
 abbrev pub files_id : Text
 files_id = codes "files"
 
 abbrev pub files_rule : Rule
-files_rule = record (new_rule files_id) { long = Some files_id; action = Some SetTrue }
+files_rule = flag_rule files_id
 
 -- a command of a log that tells its version itself, and which has to be there
 abbrev pub with_any_log : App → App
@@ -142,12 +151,13 @@ summary = with_rule
 
 -- two logs, which have to be there
 abbrev pub compare : App
-compare = with_rule (with_rule (with_rule (with_rule (with_rule (with_rule (new_app (codes "compare"))
+compare = with_rule (with_rule (with_rule (with_rule (with_rule (with_rule (with_rule (new_app (codes "compare"))
     (positional (codes "OLD") true))
     (positional (codes "NEW") true))
     version_rule)
     missing_rule)
     lines_rule)
+    least_rule)
     tabs_rule
 
 abbrev pub trace : App
@@ -312,14 +322,11 @@ IsSaid (Entries log) (Some p) = (p.0 ≡ codes "entries") × IsGiven (codes "LOG
 IsSaid (Damage log) (Some p) = (p.0 ≡ codes "damage") × IsGiven (codes "LOG") p.1 log
 IsSaid (Doubt log) (Some p) = (p.0 ≡ codes "doubt") × IsGiven (codes "LOG") p.1 log
 IsSaid (Builds log) (Some p) = (p.0 ≡ codes "builds") × IsGiven (codes "LOG") p.1 log
-IsSaid (Summary log build all kind lines) (Some p) = (p.0 ≡ codes "summary")
+IsSaid (Summary log build all kind lines graph) (Some p) = (p.0 ≡ codes "summary")
     × IsGiven (codes "LOG") p.1 log × IsGiven build_id p.1 build × (all ≡ is_set_in all_id p.1)
-    × IsGiven kind_id p.1 kind × IsGiven lines_id p.1 lines × IsGiven graph_id p.1 None
-IsSaid (Critical log build all kind lines graph) (Some p) = (p.0 ≡ codes "summary")
-    × IsGiven (codes "LOG") p.1 log × IsGiven build_id p.1 build × (all ≡ is_set_in all_id p.1)
-    × IsGiven kind_id p.1 kind × IsGiven lines_id p.1 lines × IsThere graph_id p.1 graph
-IsSaid (Compare old new lines) (Some p) = (p.0 ≡ codes "compare")
-    × IsThere (codes "OLD") p.1 old × IsThere (codes "NEW") p.1 new × IsGiven lines_id p.1 lines
+    × IsGiven kind_id p.1 kind × IsGiven lines_id p.1 lines × IsGiven graph_id p.1 graph
+IsSaid (Compare old new lines least) (Some p) = (p.0 ≡ codes "compare")
+    × IsThere (codes "OLD") p.1 old × IsThere (codes "NEW") p.1 new × IsGiven lines_id p.1 lines × IsGiven least_id p.1 least
 IsSaid (Trace log) (Some p) = (p.0 ≡ codes "trace") × IsGiven (codes "LOG") p.1 log
 IsSaid (Picture log) (Some p) = (p.0 ≡ codes "picture") × IsGiven (codes "LOG") p.1 log
 IsSaid (HashFile file) (Some p) = (p.0 ≡ codes "hash-file") × IsGiven (codes "FILE") p.1 file
@@ -430,9 +437,18 @@ asked_kind entered = option_and_then (λ p. first_of kind_id p.1) entered
 abbrev pub kind_fault : Option (Text × List Row) → Kinds
 kind_fault entered = if option_map_or is_kind_text (asked_kind entered) true then [] else InvalidValue ∷ []
 
--- that of the choices of `summary`: of two that don't go together, and then of a rule
+-- a graph and a log are both to be read from standard input
+abbrev pub asks_twice : Option (Text × List Row) → Bool
+asks_twice entered = option_map_or (λ text. bytes_eq text (codes "-")) (option_and_then (λ p. first_of graph_id p.1) entered) false
+    && not (is_some (option_and_then (λ p. first_of (codes "LOG") p.1) entered))
+
+-- the kind of error of that
+abbrev pub input_fault : Option (Text × List Row) → Kinds
+input_fault entered = if asks_twice entered then ArgumentConflict ∷ [] else []
+
+-- that of the choices of `summary`: of two that don't go together, then of a rule, and then of standard input
 abbrev pub choice_fault : Option (Text × List Row) → Kinds
-choice_fault entered = or_else (scope_fault entered) (kind_fault entered)
+choice_fault entered = or_else (or_else (scope_fault entered) (kind_fault entered)) (input_fault entered)
 
 -- the kinds of error that the words may give: those of clap's definition, and where these are none, that of the version, and then that of
 -- the choices

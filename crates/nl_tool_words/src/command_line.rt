@@ -1,7 +1,8 @@
 //! The command that a command line names, and the values that it gives.
 ghost use Rattle.std.specs.Prelude.{◌≡◌, codes, is_some, map, option_map, string_bytes, true, IfErr, IfOk};
+ghost use Rattle.clap.specs.Kinds.{or_else};
 ghost use Rattle.clap.specs.Words.{first_of, found_of, kind_of, rows_of, subcommand_rows_of, FailsBy};
-ghost use Rattle.nl_tool_words.specs.CommandLine.{allows_missing, asked_text, asks_reason, asks_tabs, entered_of, fault_in, asked_kind, asks_both, choice_fault, is_flagged, is_kind_text, is_set_in, kind_fault, required_of, scope_fault, version_fault};
+ghost use Rattle.nl_tool_words.specs.CommandLine.{allows_missing, asked_text, asks_reason, asks_tabs, entered_of, fault_in, asked_kind, asks_both, asks_twice, choice_fault, input_fault, is_flagged, is_kind_text, is_set_in, kind_fault, required_of, scope_fault, version_fault};
 ghost use Rattle.nl_tool_words.specs.CommandLine.{HasEach, HasLog, IsAsked, IsComplete, IsCompleteBy, IsGiven, IsPrunedBy, IsRetimedBy, IsSaid, IsSaidBy, IsThere};
 ghost use Rattle.nl_tool_words.specs.Form.{form_of};
 
@@ -31,20 +32,15 @@ pub enum Words<'a> {
         /// The rule by which kinds are told apart: `extension`, `folder` or `top`.
         kind: Option<&'a str>,
         lines: Option<&'a str>,
-    },
-    /// `summary` with the critical path by a graph.
-    Critical {
-        log: Option<&'a str>,
-        build: Option<&'a str>,
-        all: bool,
-        kind: Option<&'a str>,
-        lines: Option<&'a str>,
-        graph: &'a str,
+        /// The graph by which the critical path is told too.
+        graph: Option<&'a str>,
     },
     Compare {
         old: &'a str,
         new: &'a str,
         lines: Option<&'a str>,
+        /// How many milliseconds a difference has at the least.
+        least: Option<&'a str>,
     },
     Trace(Option<&'a str>),
     Picture(Option<&'a str>),
@@ -187,8 +183,47 @@ fn version_in<'a>(alloc: Global, matches: &ArgMatches<'a>) -> Result<Option<Aske
 fn known_choices(alloc: Global, matches: &ArgMatches<'_>) -> Result<(), Error>
     ensures accepts { FailsBy (choice_fault (subcommand_rows_of matches.now)) result }
 {
+    known_scope_and_kind(alloc, matches)?;
+    one_input(alloc, matches)
+}
+
+fn known_scope_and_kind(alloc: Global, matches: &ArgMatches<'_>) -> Result<(), Error>
+    ensures accepts { FailsBy (or_else (scope_fault (subcommand_rows_of matches.now)) (kind_fault (subcommand_rows_of matches.now))) result }
+{
     one_scope(alloc, matches)?;
     known_kind(alloc, matches)
+}
+
+// Refuses a graph and a log that are both to be read from standard input.
+fn one_input(alloc: Global, matches: &ArgMatches<'_>) -> Result<(), Error>
+    ensures accepts { FailsBy (input_fault (subcommand_rows_of matches.now)) result }
+{
+    if asks_twice(matches) {
+        return Err(twice_asked(alloc)?);
+    }
+    Ok(())
+}
+
+fn asks_twice(matches: &ArgMatches<'_>) -> bool
+    ensures { result ≡ asks_twice (subcommand_rows_of matches.now) }
+{
+    let Some((_, inner)) = matches.subcommand() else {
+        return false;
+    };
+    match optional(inner, "graph") {
+        Some("-") => optional(inner, "LOG").is_none(),
+        _ => false,
+    }
+}
+
+// What is said of that.
+fn twice_asked(alloc: Global) -> Result<Error, Error>
+    ensures value { IfOk result (λ e. kind_of e ≡ ErrorKind.ArgumentConflict) }
+    ensures memory { IfErr result (λ e. kind_of e ≡ ErrorKind.OutOfMemory) }
+{
+    let message = "the argument '--graph -' reads standard input, so LOG is required with it";
+    let error = nlog_command(alloc)?.error(ErrorKind::ArgumentConflict, message)?;
+    Ok(error)
 }
 
 // Refuses a rule for kinds that there isn't.
@@ -359,27 +394,13 @@ fn hash_words<'a>(inner: &ArgMatches<'a>) -> Words<'a>
 fn summary_words<'a>(inner: &ArgMatches<'a>) -> Words<'a>
     ensures value { IsSaid result (Some (codes "summary", rows_of (found_of inner.now))) }
 {
-    let log = optional(inner, "LOG");
-    let build = optional(inner, "build");
-    let all = is_set(inner, "all");
-    let kind = optional(inner, "kind");
-    let lines = optional(inner, "lines");
-    match optional(inner, "graph") {
-        Some(graph) => Words::Critical {
-            log,
-            build,
-            all,
-            kind,
-            lines,
-            graph,
-        },
-        None => Words::Summary {
-            log,
-            build,
-            all,
-            kind,
-            lines,
-        },
+    Words::Summary {
+        log: optional(inner, "LOG"),
+        build: optional(inner, "build"),
+        all: is_set(inner, "all"),
+        kind: optional(inner, "kind"),
+        lines: optional(inner, "lines"),
+        graph: optional(inner, "graph"),
     }
 }
 
@@ -387,11 +408,11 @@ fn compare_words<'a>(inner: &ArgMatches<'a>) -> Words<'a>
     requires { HasEach (required_of (codes "compare")) (rows_of (found_of inner.now)) }
     ensures value { IsSaid result (Some (codes "compare", rows_of (found_of inner.now))) }
 {
-    let lines = optional(inner, "lines");
     Words::Compare {
         old: value(inner, "OLD"),
         new: value(inner, "NEW"),
-        lines,
+        lines: optional(inner, "lines"),
+        least: optional(inner, "at-least"),
     }
 }
 

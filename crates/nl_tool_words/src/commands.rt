@@ -2,8 +2,8 @@
 ghost use Rattle.std.specs.Prelude.{◌≡◌, IfOk, false};
 ghost use Rattle.clap.specs.Words.{app_of, with_rule};
 ghost use Rattle.clap.specs.declared.builder.command.Command.TheViews.{out-Command};
-ghost use Rattle.nl_tool_words.specs.CommandLine.{all_rule, apply, build_rule, builds, check, compare, damage, doubt, entries, files_rule, graph_rule, hash, hash_file, kind_rule, lines_rule, manifest_rule, missing_rule, positional, pruning, recompact};
-ghost use Rattle.nl_tool_words.specs.CommandLine.{picture, record_line, record_values, repair, replay, restat, retiming, show, summary, tabs_rule, trace, version_rule, with_any_log};
+ghost use Rattle.nl_tool_words.specs.CommandLine.{apply, builds, check, compare, damage, doubt, entries, flag_rule, hash, hash_file, lines_rule, option_rule, positional, pruning, recompact};
+ghost use Rattle.nl_tool_words.specs.CommandLine.{picture, record_line, record_values, repair, replay, restat, retiming, show, summary, trace, with_any_log};
 
 use clap::{Arg, ArgAction, Command};
 use std::alloc::{AllocError, Global};
@@ -29,14 +29,28 @@ const HASH_VERSION: &str =
     "5, 6 or 7: the version of the logs that hold the hash; auto: 5, as where it is left out";
 
 const KIND: &str =
-    "What a kind is told by: extension, folder or top, the first folder; extension where it is left out";
+    "What a kind goes by: extension, folder, or top, the first folder; extension where it is left out";
 
-const LINES: &str = "How many lines each list has at most: 10 where it is left out; 0 for none";
+const LINES: &str = "How many lines a list has at most: 10 where it is left out, 0 for none";
 
 const BUILD: &str =
-    "The number of a build, as `builds` tells it; the last build where it is left out";
+    "The number of a build, as in `builds`; where it is left out, the last that made more than `build.ninja`";
 
-const GRAPH: &str = "What `ninja -t graph` prints: the critical path is told too";
+const GRAPH: &str =
+    "What `ninja -t graph` prints: the critical path is told too; `-` is standard input";
+
+const LEAST: &str = "A command whose times differ by less than MS milliseconds is `same`";
+
+const MANIFEST: &str = "What `ninja -t targets all` prints; `-` is standard input";
+
+const ALL: &str =
+    "Tells of all builds, one after another, with the last entry of each output alone";
+
+const MISSING_OK: &str = "Takes a LOG that is missing for an empty one";
+
+const TABS: &str = "Puts a tab between fields at a terminal too, in place of columns";
+
+const FILES: &str = "Takes the time stamps of the files";
 
 const AUTO_VERSION: &str =
     "auto alone: the version is the one that LOG's first line names, as where it is left out";
@@ -60,20 +74,37 @@ fn with_value<'a>(
     command.arg(Arg::new(alloc, id).required(required).help(help))
 }
 
-// The command with the option for the version of its logs.
-fn with_version<'a>(
+// The command with an option that has a value.
+fn with_option<'a>(
     alloc: Global,
     command: Command<'a>,
+    id: &'a str,
+    value: &'a str,
     help: &'a str,
 ) -> Result<Command<'a>, AllocError>
-    ensures shape { IfOk result (λ c. app_of c ≡ with_rule (app_of command.entry) version_rule) }
+    ensures shape { IfOk result
+        (λ c. app_of c ≡ with_rule (app_of command.entry) (option_rule id.entry.now)) }
     ensures local { IfOk result
         (λ c. (out-Command c).has_globals ≡ (out-Command command.entry).has_globals) }
 {
-    let option = Arg::new(alloc, "log-version")
-        .long("log-version")
-        .value_name("VERSION");
-    command.arg(option.help(help))
+    let option = Arg::new(alloc, id).long(id);
+    command.arg(option.value_name(value).help(help))
+}
+
+// The command with a flag.
+fn with_flag<'a>(
+    alloc: Global,
+    command: Command<'a>,
+    id: &'a str,
+    help: &'a str,
+) -> Result<Command<'a>, AllocError>
+    ensures shape { IfOk result
+        (λ c. app_of c ≡ with_rule (app_of command.entry) (flag_rule id.entry.now)) }
+    ensures local { IfOk result
+        (λ c. (out-Command c).has_globals ≡ (out-Command command.entry).has_globals) }
+{
+    let flag = Arg::new(alloc, id).long(id);
+    command.arg(flag.action(ArgAction::SetTrue).help(help))
 }
 
 // The command with the option for how many lines its lists have.
@@ -90,92 +121,6 @@ fn with_lines<'a>(
     command.arg(option.value_name("N").help(help))
 }
 
-// The command with the option for the number of a build.
-fn with_build<'a>(alloc: Global, command: Command<'a>) -> Result<Command<'a>, AllocError>
-    ensures shape { IfOk result (λ c. app_of c ≡ with_rule (app_of command.entry) build_rule) }
-    ensures local { IfOk result
-        (λ c. (out-Command c).has_globals ≡ (out-Command command.entry).has_globals) }
-{
-    let option = Arg::new(alloc, "build").long("build");
-    command.arg(option.value_name("BUILD").help(BUILD))
-}
-
-// The command with the option for the rule by which kinds are told apart.
-fn with_kind<'a>(alloc: Global, command: Command<'a>) -> Result<Command<'a>, AllocError>
-    ensures shape { IfOk result (λ c. app_of c ≡ with_rule (app_of command.entry) kind_rule) }
-    ensures local { IfOk result
-        (λ c. (out-Command c).has_globals ≡ (out-Command command.entry).has_globals) }
-{
-    let option = Arg::new(alloc, "kind").long("kind");
-    command.arg(option.value_name("RULE").help(KIND))
-}
-
-// The command with the option for the graph of a build.
-fn with_graph<'a>(alloc: Global, command: Command<'a>) -> Result<Command<'a>, AllocError>
-    ensures shape { IfOk result (λ c. app_of c ≡ with_rule (app_of command.entry) graph_rule) }
-    ensures local { IfOk result
-        (λ c. (out-Command c).has_globals ≡ (out-Command command.entry).has_globals) }
-{
-    let option = Arg::new(alloc, "graph").long("graph");
-    command.arg(option.value_name("FILE").help(GRAPH))
-}
-
-// The command with the flag for all outputs.
-fn with_all<'a>(alloc: Global, command: Command<'a>) -> Result<Command<'a>, AllocError>
-    ensures shape { IfOk result (λ c. app_of c ≡ with_rule (app_of command.entry) all_rule) }
-    ensures local { IfOk result
-        (λ c. (out-Command c).has_globals ≡ (out-Command command.entry).has_globals) }
-{
-    let flag = Arg::new(alloc, "all").long("all");
-    let flag = flag.action(ArgAction::SetTrue);
-    command.arg(flag.help("Tells of the last entry of each output, as if they were one build"))
-}
-
-// The command with the flag by which a log may be missing.
-fn with_missing_ok<'a>(alloc: Global, command: Command<'a>) -> Result<Command<'a>, AllocError>
-    ensures shape { IfOk result (λ c. app_of c ≡ with_rule (app_of command.entry) missing_rule) }
-    ensures local { IfOk result
-        (λ c. (out-Command c).has_globals ≡ (out-Command command.entry).has_globals) }
-{
-    let flag = Arg::new(alloc, "missing-ok").long("missing-ok");
-    let flag = flag.action(ArgAction::SetTrue);
-    command.arg(flag.help("Takes a LOG that is missing for an empty one"))
-}
-
-// The command with the flag by which tabs stand between fields at a terminal too.
-fn with_tabs<'a>(alloc: Global, command: Command<'a>) -> Result<Command<'a>, AllocError>
-    ensures shape { IfOk result (λ c. app_of c ≡ with_rule (app_of command.entry) tabs_rule) }
-    ensures local { IfOk result
-        (λ c. (out-Command c).has_globals ≡ (out-Command command.entry).has_globals) }
-{
-    let flag = Arg::new(alloc, "tabs").long("tabs");
-    let flag = flag.action(ArgAction::SetTrue);
-    command.arg(flag.help("Puts a tab between fields at a terminal too, in place of columns"))
-}
-
-// The command with the option for the targets of a build.
-fn with_manifest<'a>(alloc: Global, command: Command<'a>) -> Result<Command<'a>, AllocError>
-    ensures shape { IfOk result (λ c. app_of c ≡ with_rule (app_of command.entry) manifest_rule) }
-    ensures local { IfOk result
-        (λ c. (out-Command c).has_globals ≡ (out-Command command.entry).has_globals) }
-{
-    let option = Arg::new(alloc, "manifest")
-        .long("manifest")
-        .value_name("FILE");
-    command.arg(option.help("What `ninja -t targets all` prints; `-` is standard input"))
-}
-
-// The command with the flag by which the files are asked.
-fn with_files<'a>(alloc: Global, command: Command<'a>) -> Result<Command<'a>, AllocError>
-    ensures shape { IfOk result (λ c. app_of c ≡ with_rule (app_of command.entry) files_rule) }
-    ensures local { IfOk result
-        (λ c. (out-Command c).has_globals ≡ (out-Command command.entry).has_globals) }
-{
-    let flag = Arg::new(alloc, "files").long("files");
-    let flag = flag.action(ArgAction::SetTrue);
-    command.arg(flag.help("Takes the time stamps of the files"))
-}
-
 // The command with a log that tells its version itself, and which has to be there.
 fn with_any_log<'a>(alloc: Global, command: Command<'a>) -> Result<Command<'a>, AllocError>
     ensures shape { IfOk result (λ c. app_of c ≡ with_any_log (app_of command.entry)) }
@@ -183,8 +128,8 @@ fn with_any_log<'a>(alloc: Global, command: Command<'a>) -> Result<Command<'a>, 
         (λ c. (out-Command c).has_globals ≡ (out-Command command.entry).has_globals) }
 {
     let command = with_value(alloc, command, "LOG", false, OPTIONAL_ANY_LOG)?;
-    let command = with_version(alloc, command, AUTO_VERSION)?;
-    with_missing_ok(alloc, command)
+    let command = with_option(alloc, command, "log-version", "VERSION", AUTO_VERSION)?;
+    with_flag(alloc, command, "missing-ok", MISSING_OK)
 }
 
 pub fn show_command<'a>(alloc: Global) -> Result<Command<'a>, AllocError>
@@ -207,7 +152,7 @@ NAME   the output
 HASH   the hash of the command, in hexadecimal",
         );
     let command = with_value(alloc, command, "LOG", false, OPTIONAL_LOG)?;
-    with_version(alloc, command, LOG_VERSION)
+    with_option(alloc, command, "log-version", "VERSION", LOG_VERSION)
 }
 
 pub fn check_command<'a>(alloc: Global) -> Result<Command<'a>, AllocError>
@@ -226,7 +171,7 @@ torn     how many bytes stand after the last newline
 due      `yes` where a build would recompact the log, else `no`",
         );
     let command = with_value(alloc, command, "LOG", false, OPTIONAL_LOG)?;
-    with_version(alloc, command, LOG_VERSION)
+    with_option(alloc, command, "log-version", "VERSION", LOG_VERSION)
 }
 
 pub fn hash_command<'a>(alloc: Global) -> Result<Command<'a>, AllocError>
@@ -243,7 +188,7 @@ pub fn hash_command<'a>(alloc: Global) -> Result<Command<'a>, AllocError>
         true,
         "The command's text, as one word",
     )?;
-    with_version(alloc, command, HASH_VERSION)
+    with_option(alloc, command, "log-version", "VERSION", HASH_VERSION)
 }
 
 pub fn entries_command<'a>(alloc: Global) -> Result<Command<'a>, AllocError>
@@ -305,18 +250,19 @@ command and leave its file, and then an older entry passes for it. One line for 
 last entry: WHAT and NAME with a tab between them.
 
 WHAT  `newer`: the file was written behind what the entry says, so the entry isn't of the command
-      that wrote it; `missing`: there is no file; `directory`: the output is one, so its time says
-      nothing; `no-time`: the entry has no time; `unknown`: the file can't be looked at
+      that wrote it; `unsure`: it may have been; `missing`: there is no file; `directory`: the output
+      is one, so its time says nothing; `no-time`: the entry has no time; `unknown`: the file can't be
+      looked at
 NAME  the output
 
-Remove the files that are newer, but not `build.ninja`, and build. Their names are printed by
+Remove files that are newer or unsure, but not `build.ninja`, and build. Their names are printed by
 
-  nlog doubt .ninja_log | sed -n 's/^newer\t//p'
+  nlog doubt .ninja_log | sed -n -E 's/^(newer|unsure)\t//p'
 
 Status: 0 where nothing is printed, 3 where something is. A LOG that is missing is refused.",
         );
     let command = with_value(alloc, command, "LOG", false, OPTIONAL_ANY_LOG)?;
-    with_version(alloc, command, AUTO_VERSION)
+    with_option(alloc, command, "log-version", "VERSION", AUTO_VERSION)
 }
 
 pub fn builds_command<'a>(alloc: Global) -> Result<Command<'a>, AllocError>
@@ -324,29 +270,28 @@ pub fn builds_command<'a>(alloc: Global) -> Result<Command<'a>, AllocError>
     ensures local { IfOk result (λ c. (out-Command c).has_globals ≡ false) }
 {
     let command = Command::new(alloc, "builds")
-        .about("Prints a line for each build that a log still tells: what it ran, and how long")
+        .about("Prints a line for each build that a log tells of: what it ran, and how long")
         .after_help(
             "\
-One line for each, the oldest first: NUMBER, COMMANDS, OUTPUTS, WALL, TOTAL and BORDERS with a tab
-between neighbours.
+One line for each, the oldest first: NUMBER, COMMANDS, OUTPUTS, WALL, TOTAL, BORDERS, and behind
+`again` TAKEN, with a tab between neighbours.
 
 NUMBER    its number, from 1
-COMMANDS  how many commands ended in it; neighbours with one START, END and HASH are of one, and an
-          intent is of none
+COMMANDS  how many commands ended in it
 OUTPUTS   how many outputs these made
 WALL      milliseconds from the first START to the last END
 TOTAL     the sum of the commands' times, in milliseconds; TOTAL / WALL ran at a time
-BORDERS   `sure`, or `unsure` if LOG may border the build elsewhere
+BORDERS   `sure`; `unsure`: it may have begun or ended elsewhere; `again`: LOG was written anew since,
+          as by `ninja -t recompact`, `cmake` or `nlog repair`, so the build was found by its time
+          stamps, and may be wrong
+TAKEN     how many of its outputs aren't counted at most, because later builds made them again
 
-A build begins where END falls, or where MTIME says that the build of an entry began behind the one
-so far. In a log of version 5 the second isn't sure, and in one of version 4 END alone tells. A log
-that was rewritten doesn't tell its builds any more; if it can be told, standard error says so. The
-last build is told by
+The last build is printed by
 
   nlog builds .ninja_log | tail -n 1",
         );
     let command = with_any_log(alloc, command)?;
-    with_tabs(alloc, command)
+    with_flag(alloc, command, "tabs", TABS)
 }
 
 pub fn summary_command<'a>(alloc: Global) -> Result<Command<'a>, AllocError>
@@ -357,51 +302,42 @@ pub fn summary_command<'a>(alloc: Global) -> Result<Command<'a>, AllocError>
         .about("Prints how long a build took, how much ran at a time, and its slowest commands")
         .after_help(
             "\
-A line for each of these, its name and what it is with a tab between them:
+A line for each of these, with a tab behind its name:
 
-commands  how many commands ended in it
-outputs   how many outputs these made
-wall      milliseconds from the first START to the last END
-total     the sum of the commands' times, in milliseconds
-busy      milliseconds in which one command at least ran
-alone     milliseconds in which one command alone ran
-parallel  how many commands ran at a time in the mean: total / wall, rounded down
-slowest   the command that took the longest: its milliseconds, and its first output
+commands    how many commands ended in it
+outputs     how many outputs these made
+wall        milliseconds from the first START to the last END
+total       the sum of the commands' times, in milliseconds
+busy        milliseconds in which at least one command ran
+alone       milliseconds in which exactly one ran
+parallel    how many ran at a time on average: total / wall, rounded down
+slowest     the command that took the longest: its milliseconds, and its first output
+again       if the build is `again` in `builds`: its TAKEN; with `--all` 0
+unfinished  if a command didn't end: how many outputs wait for one
 
-A line `unfinished` tells how many outputs wait for a command that didn't end, where one does.
+Two lists of commands follow, and two of kinds of commands, the largest first:
 
-Two lists of commands follow: those that took the longest, and those with the longest weighted time.
-One line for each: KEY, TIME, WEIGHTED and OUTPUT.
+by-time, by-weight              TIME, WEIGHTED and the first output of a command
+kinds-by-time, kinds-by-weight  how many commands are of a kind, their TIME and WEIGHTED, and the kind
 
-KEY       `by-time` or `by-weight`: what the list goes by; equal ones stand as in LOG
-TIME      how long the command took, in milliseconds
-WEIGHTED  the same, where a millisecond in which k commands ran counts 1/k; rounded down
-OUTPUT    its first output
+TIME is in milliseconds. In WEIGHTED a millisecond in which k commands ran counts 1/k. The kind is that
+of the first output: its extension with the dot, or by RULE its folder with the `/`, or `(none)`.
 
-Two lists of the kinds of commands follow, with the largest sums first: KEY, COUNT, TIME, WEIGHTED and
-KIND.
+With `--graph` the critical path follows, the commands that waited for each other the longest:
 
-KEY       `kinds-by-time` or `kinds-by-weight`; equal ones stand as their first commands in LOG
-COUNT     how many commands are of the kind
-TIME      the sum of their times, and WEIGHTED that of their weighted times
-KIND      of the first output the extension with its dot, or by RULE the folder, or the first folder, with
-          the `/` behind it; `(none)` where there is none
+critical-path  how long its commands took together, in milliseconds
+on-path        of each that took any time, in order: TIME, START, END and output
+not-in-graph   if FILE lacks commands of the build: how many, and their TIME
 
-Commands and builds are those of `builds`. Where LOG has no entry, nothing is printed. Where it has
-fewer builds than BUILD, a line `builds` tells how many it has, in the place of all but `unfinished`.
-With `--all`, each START and END counts from the beginning of its own build.
-
-With `--graph`, a line `critical-path` tells how long the commands of a longest path took together, in
-milliseconds. A line for each of them follows, in order, if it took any time: `on-path`, TIME, START, END
-and OUTPUT.",
+If LOG has fewer builds than BUILD, a line `builds` tells how many it has.",
         );
     let command = with_any_log(alloc, command)?;
-    let command = with_build(alloc, command)?;
-    let command = with_all(alloc, command)?;
-    let command = with_kind(alloc, command)?;
+    let command = with_option(alloc, command, "build", "BUILD", BUILD)?;
+    let command = with_flag(alloc, command, "all", ALL)?;
+    let command = with_option(alloc, command, "kind", "RULE", KIND)?;
     let command = with_lines(alloc, command, LINES)?;
-    let command = with_graph(alloc, command)?;
-    with_tabs(alloc, command)
+    let command = with_option(alloc, command, "graph", "FILE", GRAPH)?;
+    with_flag(alloc, command, "tabs", TABS)
 }
 
 pub fn compare_command<'a>(alloc: Global) -> Result<Command<'a>, AllocError>
@@ -409,32 +345,30 @@ pub fn compare_command<'a>(alloc: Global) -> Result<Command<'a>, AllocError>
     ensures local { IfOk result (λ c. (out-Command c).has_globals ≡ false) }
 {
     let command = Command::new(alloc, "compare")
-        .about("Prints which outputs are new, gone, changed, slower and faster in another log")
+        .about("Prints which commands are new, gone, changed, slower and faster in another log")
         .after_help(
             "\
-It compares the last entry of each output, by the time of its command. One line tells whether hashes
-were compared, and seven lines tell the total of each class: `total`, CLASS, COUNT, DIFFERENCE, BEFORE
-and AFTER with a tab between neighbours. A list for each class but the last follows, the largest
-differences first: CLASS, DIFFERENCE, BEFORE, AFTER and OUTPUT.
+It compares the last entry of each output, by command. `hashes` tells whether hashes were compared, and
+seven lines `total` have CLASS, COUNT, DIFFERENCE, BEFORE and AFTER. The commands of each class but `same`
+follow, the largest differences first: CLASS, DIFFERENCE, BEFORE, AFTER and OUTPUT.
 
-CLASS       `new`: NEW alone has the output; `gone`: OLD alone; `changed`: the command has another hash;
-            `slower`, `faster`: it has the same; `unfinished`: one of the two says that the command
-            didn't end; `same`: as long as before
-COUNT       how many outputs are of the class
+CLASS       `new`: NEW alone has the command; `gone`: OLD alone; `changed`: it has another hash;
+            `slower`, `faster`, `same`: it has the same hash; `unfinished`: it didn't end in one of both
+COUNT       how many commands are of the class
 DIFFERENCE  AFTER - BEFORE
-BEFORE      milliseconds that the command took in OLD, 0 where it isn't there; of a total their sum
+BEFORE      milliseconds that the command took in OLD, 0 if it isn't there; of a total their sum
 AFTER       the same in NEW
-OUTPUT      the output; equal differences stand as in OLD, new ones as in NEW
+OUTPUT      the first output of the command
 
-A log of version 7 has other hashes than older ones, so between these nothing is `changed`. A command
-with several outputs counts once for each.",
+Logs of version 7 have other hashes than older ones: between these nothing is `changed`.",
         );
     let command = with_value(alloc, command, "OLD", true, OLD)?;
     let command = with_value(alloc, command, "NEW", true, NEW)?;
-    let command = with_version(alloc, command, AUTO_VERSION)?;
-    let command = with_missing_ok(alloc, command)?;
+    let command = with_option(alloc, command, "log-version", "VERSION", AUTO_VERSION)?;
+    let command = with_flag(alloc, command, "missing-ok", MISSING_OK)?;
     let command = with_lines(alloc, command, LINES)?;
-    with_tabs(alloc, command)
+    let command = with_option(alloc, command, "at-least", "MS", LEAST)?;
+    with_flag(alloc, command, "tabs", TABS)
 }
 
 pub fn trace_command<'a>(alloc: Global) -> Result<Command<'a>, AllocError>
@@ -451,15 +385,14 @@ A JSON array of events in Chrome's format, which https://ui.perfetto.dev and chr
 
   nlog trace .ninja_log > trace.json
 
-\"ph\":\"M\"  the build: \"pid\" is its number, as `builds` has it; behind \"args\" \"rewritten\": whether LOG was
-          written anew, so that it doesn't tell its builds
+\"ph\":\"M\"  the build: \"pid\" is its number in `builds`; \"args\" has \"rewritten\", true if it is `again`
+          there, and then \"taken\"
 \"ph\":\"X\"  a command: \"tid\" is its lane, \"ts\" when it began, in microseconds from the first START of
-          the build, \"dur\" how long it took, \"name\" its first output; behind \"args\" all outputs, and HASH
+          the build, \"dur\" how long it took, \"name\" its first output; \"args\" has all outputs, and HASH
 \"ph\":\"C\"  how many commands run at \"ts\": for each command as it begins, and as it has ended
 
-No lane has two commands at one time, and no other lanes would be fewer. Commands and builds are
-those of `builds`. A byte that isn't UTF-8 is shown as U+FFFD. Where LOG has no entry, the array is
-empty.",
+No lane has two commands at one time. A byte that isn't UTF-8 is shown as U+FFFD. The last build is the
+last that made more than `build.ninja`; if LOG has no entry, the array is empty.",
         );
     with_any_log(alloc, command)
 }
@@ -476,15 +409,13 @@ One SVG file, which each browser shows:
 
   nlog picture .ninja_log > build.svg
 
-Each command is a bar in a lane, and no lane has two commands at one time. Hold the mouse over a bar:
-it tells the first output, how many more there are, how long the command took, and when it began, in
-seconds from the first START of the build. The colour is that of the kind, which is the extension of
-the first output: the nine kinds that took the longest are told apart, and the legend names them.
-What is narrower than half a pixel has one bar together with its neighbours of the same lane, pixel
-and kind.
+Each command is a bar in a lane, and no lane has two commands at one time. Hold the mouse over a bar: it
+tells the first output, how many more there are, how long the command took, and when it began, in seconds
+from the first START of the build. The colour is that of the first output's extension; the legend names
+the nine that took the longest. Below is the curve of how many commands ran.
 
-Below the lanes is the curve of how many commands ran. Commands and builds are those of `builds`. A
-byte that isn't UTF-8, and what XML can't have, is shown as U+FFFD.",
+Neighbours in a lane that are narrower than half a pixel share a bar. A byte that isn't UTF-8, or that XML
+can't have, is shown as U+FFFD. The last build is the last that made more than `build.ninja`.",
         );
     with_any_log(alloc, command)
 }
@@ -508,7 +439,7 @@ A newline at the end of FILE is a byte of it, so a command that has none is hash
         false,
         "The file; standard input where it is left out",
     )?;
-    with_version(alloc, command, HASH_VERSION)
+    with_option(alloc, command, "log-version", "VERSION", HASH_VERSION)
 }
 
 // `record` with its values.
@@ -564,7 +495,13 @@ pub fn record_command<'a>(alloc: Global) -> Result<Command<'a>, AllocError>
     ensures shape { IfOk result (λ c. app_of c ≡ record_line) }
     ensures local { IfOk result (λ c. (out-Command c).has_globals ≡ false) }
 {
-    with_version(alloc, record_values(alloc)?, LOG_VERSION)
+    with_option(
+        alloc,
+        record_values(alloc)?,
+        "log-version",
+        "VERSION",
+        LOG_VERSION,
+    )
 }
 
 pub fn recompact_command<'a>(alloc: Global) -> Result<Command<'a>, AllocError>
@@ -589,7 +526,7 @@ No build by Ninja may change LOG meanwhile; another nlog waits.",
         true,
         "A file with the name of one output a line",
     )?;
-    with_version(alloc, command, LOG_VERSION)
+    with_option(alloc, command, "log-version", "VERSION", LOG_VERSION)
 }
 
 pub fn restat_command<'a>(alloc: Global) -> Result<Command<'a>, AllocError>
@@ -614,7 +551,7 @@ No build by Ninja may change LOG meanwhile; another nlog waits.",
         true,
         "A file with a time stamp, a tab and a name a line",
     )?;
-    with_version(alloc, command, LOG_VERSION)
+    with_option(alloc, command, "log-version", "VERSION", LOG_VERSION)
 }
 
 pub fn prune_command<'a>(alloc: Global) -> Result<Command<'a>, AllocError>
@@ -635,8 +572,8 @@ renamed over LOG. A FILE without a target is refused, since Ninja failed then.
 No build by Ninja may change LOG meanwhile; another nlog waits.",
         );
     let command = with_value(alloc, command, "LOG", true, ANY_LOG)?;
-    let command = with_manifest(alloc, command)?;
-    with_version(alloc, command, OWN_VERSION)
+    let command = with_option(alloc, command, "manifest", "FILE", MANIFEST)?;
+    with_option(alloc, command, "log-version", "VERSION", OWN_VERSION)
 }
 
 pub fn retime_command<'a>(alloc: Global) -> Result<Command<'a>, AllocError>
@@ -654,8 +591,8 @@ changes nothing. The new log is written to LOG.recompact, and renamed over LOG.
 No build by Ninja may change LOG meanwhile; another nlog waits.",
         );
     let command = with_value(alloc, command, "LOG", true, ANY_LOG)?;
-    let command = with_files(alloc, command)?;
-    with_version(alloc, command, OWN_VERSION)
+    let command = with_flag(alloc, command, "files", FILES)?;
+    with_option(alloc, command, "log-version", "VERSION", OWN_VERSION)
 }
 
 pub fn repair_command<'a>(alloc: Global) -> Result<Command<'a>, AllocError>
@@ -676,8 +613,8 @@ number. What `damage` prints of LOG can't be seen after it, so it is kept first,
 No build by Ninja may change LOG meanwhile; another nlog waits.",
         );
     let command = with_value(alloc, command, "LOG", true, ANY_LOG)?;
-    let command = with_version(alloc, command, OWN_VERSION)?;
-    with_missing_ok(alloc, command)
+    let command = with_option(alloc, command, "log-version", "VERSION", OWN_VERSION)?;
+    with_flag(alloc, command, "missing-ok", MISSING_OK)
 }
 
 pub fn replay_command<'a>(alloc: Global) -> Result<Command<'a>, AllocError>
@@ -737,5 +674,5 @@ No build by Ninja may change LOG meanwhile; another nlog waits.",
         false,
         "A file with the lines; standard input where it is left out",
     )?;
-    with_version(alloc, command, OWN_VERSION)
+    with_option(alloc, command, "log-version", "VERSION", OWN_VERSION)
 }

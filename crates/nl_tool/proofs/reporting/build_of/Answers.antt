@@ -1,5 +1,5 @@
 use Rattle.std.proofs.Common.{List, ℕ, Bor, Option, Some, ap, refl, subst, sym}
-use Rattle.nl_tool_report.specs.declared.scope.Scope.TheVariants.{Last}
+use Rattle.nl_reports.specs.declared.choice.Scope.TheVariants.{Last}
 use Rattle.nl_tool.specs.Reports.{IsBuild}
 use Rattle.nl_tool.proofs.reporting.build_of.Goals as goal
 

@@ -8,11 +8,11 @@ returns-clause-shape c =
     let made = after_help_keeps _ _ _ _ c.after_help-command.ensures (about_keeps _ _ _ _ c.about.ensures c.new.ensures.app) in
     let one = with_one _ _ _ _ c.in_ok-command.ensures.shape made in
     let two = with_one _ _ _ _ c.in_ok-command-2.ensures.shape one in
-    IfOk-weaker c.with_version.result _ _ (λ r h. with_one _ _ _ _ h two) c.with_version.ensures.shape
+    IfOk-weaker c.with_option.result _ _ (λ r h. with_one _ _ _ _ h two) c.with_option.ensures.shape
 
 pub returns-clause-local : goal.returns-clause-local
 returns-clause-local c =
     let made = after_help_local _ _ _ c.after_help-command.ensures (about_local _ _ _ c.about.ensures c.new.ensures.local) in
     let one = c.in_ok-command.ensures.local ∙ made in
     let two = c.in_ok-command-2.ensures.local ∙ one in
-    IfOk-weaker c.with_version.result _ _ (λ r h. h ∙ two) c.with_version.ensures.local
+    IfOk-weaker c.with_option.result _ _ (λ r h. h ∙ two) c.with_option.ensures.local

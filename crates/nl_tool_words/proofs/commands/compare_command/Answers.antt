@@ -11,7 +11,8 @@ returns-clause-shape c =
     let three = with_one _ _ _ _ c.in_ok-command-3.ensures.shape two in
     let four = with_one _ _ _ _ c.in_ok-command-4.ensures.shape three in
     let five = with_one _ _ _ _ c.in_ok-command-5.ensures.shape four in
-    IfOk-weaker c.with_tabs.result _ _ (λ r h. with_one _ _ _ _ h five) c.with_tabs.ensures.shape
+    let six = with_one _ _ _ _ c.in_ok-command-6.ensures.shape five in
+    IfOk-weaker c.with_flag-2.result _ _ (λ r h. with_one _ _ _ _ h six) c.with_flag-2.ensures.shape
 
 pub returns-clause-local : goal.returns-clause-local
 returns-clause-local c =
@@ -21,4 +22,5 @@ returns-clause-local c =
     let three = c.in_ok-command-3.ensures.local ∙ two in
     let four = c.in_ok-command-4.ensures.local ∙ three in
     let five = c.in_ok-command-5.ensures.local ∙ four in
-    IfOk-weaker c.with_tabs.result _ _ (λ r h. h ∙ five) c.with_tabs.ensures.local
+    let six = c.in_ok-command-6.ensures.local ∙ five in
+    IfOk-weaker c.with_flag-2.result _ _ (λ r h. h ∙ six) c.with_flag-2.ensures.local

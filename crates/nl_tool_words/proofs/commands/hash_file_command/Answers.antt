@@ -7,10 +7,10 @@ pub returns-clause-shape : goal.returns-clause-shape
 returns-clause-shape c =
     let made = after_help_keeps _ _ _ _ c.after_help-command.ensures (about_keeps _ _ _ _ c.about.ensures c.new.ensures.app) in
     let one = with_one _ _ _ _ c.in_ok-command.ensures.shape made in
-    IfOk-weaker c.with_version.result _ _ (λ r h. with_one _ _ _ _ h one) c.with_version.ensures.shape
+    IfOk-weaker c.with_option.result _ _ (λ r h. with_one _ _ _ _ h one) c.with_option.ensures.shape
 
 pub returns-clause-local : goal.returns-clause-local
 returns-clause-local c =
     let made = after_help_local _ _ _ c.after_help-command.ensures (about_local _ _ _ c.about.ensures c.new.ensures.local) in
     let one = c.in_ok-command.ensures.local ∙ made in
-    IfOk-weaker c.with_version.result _ _ (λ r h. h ∙ one) c.with_version.ensures.local
+    IfOk-weaker c.with_option.result _ _ (λ r h. h ∙ one) c.with_option.ensures.local

@@ -8,7 +8,7 @@ returns-clause-shape c =
     let made = after_help_keeps _ _ _ _ c.after_help-command.ensures (about_keeps _ _ _ _ c.about.ensures c.new.ensures.app) in
     let one = with_one _ _ _ _ c.in_ok-command.ensures.shape made in
     let two = with_one _ _ _ _ c.in_ok-command-2.ensures.shape one in
-    IfOk-weaker c.with_version.result _ _ (λ r h. with_one _ _ _ _ h two) c.with_version.ensures.shape
+    IfOk-weaker c.with_option-2.result _ _ (λ r h. with_one _ _ _ _ h two) c.with_option-2.ensures.shape
 
 pub returns-clause-local : goal.returns-clause-local
 returns-clause-local c =
@@ -16,4 +16,4 @@ returns-clause-local c =
     let helped = after_help_local _ _ _ c.after_help-command.ensures made in
     let one = c.in_ok-command.ensures.local ∙ helped in
     let two = c.in_ok-command-2.ensures.local ∙ one in
-    IfOk-weaker c.with_version.result _ _ (λ r h. h ∙ two) c.with_version.ensures.local
+    IfOk-weaker c.with_option-2.result _ _ (λ r h. h ∙ two) c.with_option-2.ensures.local

@@ -12,7 +12,7 @@ returns-clause-shape c =
     let four = with_one _ _ _ _ c.in_ok-command-4.ensures.shape three in
     let five = with_one _ _ _ _ c.in_ok-command-5.ensures.shape four in
     let six = with_one _ _ _ _ c.in_ok-command-6.ensures.shape five in
-    IfOk-weaker c.with_tabs.result _ _ (λ r h. with_one _ _ _ _ h six) c.with_tabs.ensures.shape
+    IfOk-weaker c.with_flag-2.result _ _ (λ r h. with_one _ _ _ _ h six) c.with_flag-2.ensures.shape
 
 pub returns-clause-local : goal.returns-clause-local
 returns-clause-local c =
@@ -23,4 +23,4 @@ returns-clause-local c =
     let four = c.in_ok-command-4.ensures.local ∙ three in
     let five = c.in_ok-command-5.ensures.local ∙ four in
     let six = c.in_ok-command-6.ensures.local ∙ five in
-    IfOk-weaker c.with_tabs.result _ _ (λ r h. h ∙ six) c.with_tabs.ensures.local
+    IfOk-weaker c.with_flag-2.result _ _ (λ r h. h ∙ six) c.with_flag-2.ensures.local

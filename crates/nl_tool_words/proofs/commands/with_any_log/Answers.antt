@@ -7,10 +7,10 @@ pub returns-clause-shape : goal.returns-clause-shape
 returns-clause-shape c =
     let one = with_one _ _ _ _ c.in_ok-command.ensures.shape refl in
     let two = with_one _ _ _ _ c.in_ok-command-2.ensures.shape one in
-    IfOk-weaker c.with_missing_ok.result _ _ (λ r h. with_one _ _ _ _ h two) c.with_missing_ok.ensures.shape
+    IfOk-weaker c.with_flag.result _ _ (λ r h. with_one _ _ _ _ h two) c.with_flag.ensures.shape
 
 pub returns-clause-local : goal.returns-clause-local
 returns-clause-local c =
     let one = c.in_ok-command.ensures.local in
     let two = c.in_ok-command-2.ensures.local ∙ one in
-    IfOk-weaker c.with_missing_ok.result _ _ (λ r h. h ∙ two) c.with_missing_ok.ensures.local
+    IfOk-weaker c.with_flag.result _ _ (λ r h. h ∙ two) c.with_flag.ensures.local

@@ -1,0 +1,6 @@
+use Rattle.std.proofs.Common.{rules}
+use Rattle.nl_tool.proofs.ReportLemmas.{found_by, laid_of, other_found}
+use Rattle.nl_tool.proofs.reporting.tell_summary.Goals as goal
+
+pub returns-clause-faults : goal.returns-clause-faults
+returns-clause-faults g c = found_by c.args.graph c.write_lines.result c.write_lines.ensures.faults
