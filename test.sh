@@ -1,16 +1,27 @@
 #!/usr/bin/env bash
 # The test command of README.md: the gate, the edits that it must refuse, and then the trials of tests/ on the program that it built.
-# Each part ends in a line 'N passed, M failed'; the last line is their sum. NLOG_NINJA_SOURCES=FOLDER tries Ninja and samurai on the library for C too.
+#
+#   ./test.sh [--strict]
+#
+# Each part ends in a line 'N passed, M failed'; the last line is their sum. What was skipped is named at the end, and with --strict it has failed.
+# NLOG_NINJA_SOURCES=FOLDER tries Ninja and samurai on the library for C too, and --strict does, with sources that are fetched where there are none.
 set -uo pipefail
 cd "$(dirname "$0")"
+
+strict=${1-}
+if (($# > 1)) || [[ $strict != "" && $strict != --strict ]]; then
+    echo "usage: ./test.sh [--strict]" >&2
+    exit 2
+fi
 
 passed=0
 failed=0
 
-# Adds the last line of what a part printed to the sum. A part that ends badly, or without that line, has failed.
+# Adds the last line of what a part printed to the sum. A part that ends badly, or without that line, has failed. tests/counts.py reads all of it.
 count() {
     local status=$1 last
     last=$(tail -n 1 "$2")
+    { echo "part: ${*:3}"; cat "$2"; } >> "$room/said"
     shift 2
     if [[ $last =~ ^(integrations/[^:]*: )?([0-9]+)\ passed,\ ([0-9]+)\ failed$ ]]; then
         passed=$((passed + BASH_REMATCH[2]))
@@ -47,6 +58,18 @@ parts() {
     done
 }
 
+# Ninja, or samurai, on the library for C, where its source is in the folder that NLOG_NINJA_SOURCES names, or may be fetched.
+peer() {
+    local source=$1
+    shift
+    if [[ -n $strict || -n ${NLOG_NINJA_SOURCES-} && -e $NLOG_NINJA_SOURCES/$source ]]; then
+        part "$@" ${NLOG_NINJA_SOURCES:+"$NLOG_NINJA_SOURCES"}
+    else
+        printf 'skipped: all of it: NLOG_NINJA_SOURCES names no folder that has %s\n0 passed, 0 failed\n' "$source" > "$room/part"
+        count 0 "$room/part" "$@"
+    fi
+}
+
 room=$(mktemp -d)
 trap 'rm -rf "$room"' EXIT
 
@@ -63,41 +86,29 @@ if ! command -v rt > /dev/null; then
 fi
 
 part rt ci
+# The verdicts, and what is compiled of what is proved, which lib/archive.sh and lib/program.sh take below.
+part python3 tests/verdicts.py
 part python3 tests/edits.py --times
 part python3 tests/labels.py
+part python3 tests/citations.py
 part python3 tests/prose.py
+# The program as LLVM made it, and as Rattle's own compiler did.
 part python3 tests/examples.py crates/nlog/out/nlog
-# What Rattle's own compiler made of the same program. Where it made nothing, the gate has said so.
-if [[ -e crates/nlog/out/nlog.by-rattle ]]; then
-    part python3 tests/examples.py crates/nlog/out/nlog.by-rattle
-else
-    echo "test.sh: skipped: the examples by Rattle's own compiler (it built no program)"
-fi
+part python3 tests/examples.py crates/nlog/out/nlog.by-rattle
 
 # The libraries, and the program. Each says what it skips, and why: a formatter, strace, Ninja or a small disk may be missing.
 # Those that take the longest begin first.
 parts < <(
-    printf 'python3 tests/%s.py\n' library growths refusals
-    for trial in stops crash_states large terminal system_calls short_writes fuzz commands apply apply_calls begun_builds scripts limits clib manual damaged closed_streams real_disks full_disk two_writers between reports release with_ninja; do
+    printf 'python3 tests/%s.py\n' library growths refusals builds_compared lines_read host
+    for trial in stops crash_states found_builds large terminal system_calls short_writes fuzz files commands apply apply_calls begun_builds scripts limits clib manual damaged closed_streams completions kept real_disks full_disk two_writers between reports release with_ninja; do
         echo "python3 tests/$trial.py crates/nlog/out/nlog"
     done
 )
 
-# Ninja on the library for C, of each version whose source is in this folder.
-for version in 1.11.1 1.13.2; do
-    if [[ -n ${NLOG_NINJA_SOURCES-} && -e $NLOG_NINJA_SOURCES/ninja-$version ]]; then
-        part integrations/ninja/try.sh "$version" "$NLOG_NINJA_SOURCES"
-    else
-        echo "test.sh: skipped: integrations/ninja/try.sh $version (NLOG_NINJA_SOURCES names no folder that has ninja-$version)"
-    fi
-done
-
-# And samurai, of which muon has one within.
-if [[ -n ${NLOG_NINJA_SOURCES-} && -e $NLOG_NINJA_SOURCES/muon-0.4.0 ]]; then
-    part integrations/samurai/try.sh "$NLOG_NINJA_SOURCES"
-else
-    echo "test.sh: skipped: integrations/samurai/try.sh (NLOG_NINJA_SOURCES names no folder that has muon-0.4.0)"
-fi
+peer ninja-1.11.1 integrations/ninja/try.sh 1.11.1
+peer ninja-1.13.2 integrations/ninja/try.sh 1.13.2
+peer muon-0.4.0 integrations/samurai/try.sh
+part python3 tests/counts.py ${strict:+"$strict"} "$room/said"
 
 # What it cost: the clock, and the processor time of all that it started, user and system.
 times > "$room/times"

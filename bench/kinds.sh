@@ -1,5 +1,5 @@
 #!/usr/bin/env bash
-# Makes a log of each kind that docs/PERFORMANCE.md has a line for, and compares on each of them, in turn: the native
+# Makes a log of each kind, and compares on each of them, in turn: the native
 # program, `nlog show`, `nlog check`, and Ninja's own load of the log (`ninja -n` on a manifest of one edge).
 #
 #   kinds.sh FOLDER ROUNDS [KIND ..]

@@ -126,6 +126,8 @@ class Builds:
 class Project(Builds):
     """Some hundred C files, and an edge of each kind."""
 
+    OFTEN = [8, 1, 3, 5, 1, 4, 1, 1]   # how often each change is made
+
     def __init__(self, ninja, folder, seed, jobs, pause, files):
         super().__init__(ninja, folder, seed, jobs, pause)
         self.files, self.modules = files, max(2, files // 25)
@@ -175,7 +177,7 @@ class Project(Builds):
     def step(self):
         """One change, and the builds that follow."""
         module = self.random.randrange(self.modules)
-        what = self.random.choices(["sources", "header", "comment", "kinds", "flags", "part", "stop", "fail"], [8, 1, 3, 5, 1, 4, 1, 1])[0]
+        what = self.random.choices(["sources", "header", "comment", "kinds", "flags", "part", "stop", "fail"], self.OFTEN)[0]
         if what in ("sources", "part", "stop", "fail"):
             chosen = self.some(12 if what == "stop" else 4)
             for i in chosen:

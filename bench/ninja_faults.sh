@@ -1,5 +1,5 @@
 #!/usr/bin/env bash
-# Shows on the installed Ninja the four faults that the README opens with.
+# Shows on the installed Ninja the fault that README.md tells of, and the three of a recompaction.
 # Needs ninja, strace and, for the full disk, the right to mount a tmpfs. Writes below a folder of its own in $TMPDIR.
 set -uo pipefail
 top=$(mktemp -d)

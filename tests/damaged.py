@@ -22,7 +22,7 @@ import threading
 
 from log_format import MAX_LINE, Log, as_version, command_hash, reading_of
 from log_lines import bad_graph_lines, builds_of, compare_of, damage_of, entries_of, named_first, paths_of, picture_of, said_of, summary_of, trace_of
-from trials import SECONDS, main, read, run, seconds_of, short, write
+from trials import SECONDS, is_within, main, read, run, seconds_of, short, write
 
 BENCH = f"{os.path.dirname(os.path.dirname(os.path.abspath(__file__)))}/bench"
 NO_LOG = (1, b"", b"nlog: not a ninja log\n")
@@ -325,8 +325,8 @@ class Readings:
             version = named(bytes_read)
             seen = as_version(bytes_read, version)
             reading = reading_of(seen)
-            for at, both in enumerate([(OTHER, seen), (seen, OTHER)]):
-                wanted = (0, compare_of(*both, version != 7), b"") if reading == "log" else (1, b"", b"nlog: " + reading.encode() + b"\n")
+            for at, (both, versions) in enumerate([((OTHER, seen), (5, version)), ((seen, OTHER), (version, 5))]):
+                wanted = (0, compare_of(*both, versions), b"") if reading == "log" else (1, b"", b"nlog: " + reading.encode() + b"\n")
                 paths = (self.file, self.other) if at else (self.other, self.file)
                 self.trials.want(f"{what}, as of version {version}: compare {'to' if at else 'from'} another", run([self.program, "compare", *paths]), wanted)
 
@@ -448,7 +448,7 @@ def told_at(word, wanted, text, place, version=None):
     """How a word ends of a log that stands there, by what it prints or how it ends."""
     if isinstance(wanted, tuple):
         return wanted
-    return 0, wanted, said_of(text, place, version) if word in ("builds", "summary") else b""
+    return 0, wanted, said_of(text, place, word, version=version) if word in ("builds", "summary", "trace", "picture") else b""
 
 
 def try_damage(readings):
@@ -552,6 +552,7 @@ def try_graphs(trials, program, room):
         bad = bad_graph_lines(text)
         paths = [] if bad else paths_of(text, as_version(GRAPHED, 7), version=7)
         wanted = [(1, b"", b"nlog: bad line %d\n" % it) for it in bad] or [(0, eight + it, b"") for it in paths]
+        wanted = wanted or [(1, b"", b"nlog: not the graph of this build\n")]
         got = run([program, "summary", "-n0", "--graph", graph, log])
         trials.check(f"the graph {short(text)}", got in wanted, f"{short(got)} in place of {short(wanted[0])}")
     write(graph, GRAPH)
@@ -594,12 +595,13 @@ def try_colliding(trials, program, room):
     trials.want("colliding names: the log after restat", read(log), HEADERS[5] + b"".join(wanted))
 
 
-# A hostile log has so many bytes, and a word takes so many times as long on it as on another, and so many seconds more, at most.
-HOSTILE, TIMES_AS_LONG, SECONDS_MORE = 5_000_000, 3, 0.3
+# A hostile log has so many bytes, and a word takes so many times as long on it as on another at most.
+HOSTILE, TIMES_AS_LONG = 5_000_000, 3
 
 
-def seconds_by_word(program, room, names):
-    """How long each word takes that reads a log, of one whose outputs have these names: its words, status, and seconds."""
+def words_on(program, room, names):
+    """Each word that reads a log, of one whose outputs have these names: a call that runs it, and gives its status and its seconds of processors."""
+    os.mkdir(room)
     log, other, keep, times, targets, graph, script = (f"{room}/{it}" for it in ("LOG", "OTHER", "KEEP", "TIMES", "TARGETS", "GRAPH", "SCRIPT"))
     text = HEADERS[5] + b"".join(b"%d\t%d\t3\t%s\ta\n" % (at % 9, at % 9 + 1, name) for at, name in enumerate(names))
     # The text ends in half a line, which may be about each output.
@@ -616,11 +618,15 @@ def seconds_by_word(program, room, names):
     reads += [["summary", "--graph", graph], ["compare", other], ["trace"], ["picture"]]
     changes = [(["record"], ["1", "2", "3", "new", "cc"]), (["recompact"], [keep]), (["restat"], [times]), (["repair"], []), (["apply"], [script])]
     changes += [(["recompact", "--manifest", targets], []), (["restat", "--files"], [])]
-    for before, behind in [*((it, []) for it in reads), *changes]:
+
+    def ended(before, behind):
         # Of damage these two tell alone, and `apply` says what can't be trusted.
         write(log, torn if before == ["apply"] else text)
-        (status, _, _), seconds = seconds_of([program, *before, log, *behind], 6)
-        yield " ".join(os.path.basename(it) for it in before), status, seconds
+        (status, _, _), seconds = seconds_of([program, *before, log, *behind], 60)
+        return status, seconds
+
+    commands = [*((it, []) for it in reads), *changes]
+    return {" ".join(os.path.basename(it) for it in before): lambda it=(before, behind): ended(*it) for before, behind in commands}
 
 
 def try_hostile(trials, program, room):
@@ -631,15 +637,20 @@ def try_hostile(trials, program, room):
         names = [line.split(b"\t")[3] for line in made.split(b"\n")[1:-1]]
         if not trials.check(f"{count} names that collide", status == 0 and len(set(names)) == count, f"status {status}"):
             return
-        hostile = list(seconds_by_word(program, room, names))
+        hostile = words_on(program, f"{room}/hostile {count}", names)
         # The last byte of each is another.
-        others = list(seconds_by_word(program, room, [it[:-1] + b"x" for it in names]))
-        for (word, status, seconds), (_, as_well, usual) in zip(hostile, others):
-            most = TIMES_AS_LONG * usual + SECONDS_MORE
-            trials.want(f"{word}, of {count} names that collide: the status", (status, as_well), (as_well, as_well))
-            trials.check(f"{word}, of {count} names that collide", seconds <= most, f"{seconds:.2f} s, others {usual:.2f} s")
-        word, _, seconds = max(hostile, key=lambda it: it[2])
-        print(f"damaged.py: of {count} names that collide `{word}` took longest, {seconds:.2f} s")
+        others = words_on(program, f"{room}/others {count}", [it[:-1] + b"x" for it in names])
+        for word, call in hostile.items():
+            statuses = set()
+
+            def seconds(call, statuses=statuses):
+                status, taken = call()
+                statuses.add(status)
+                return taken
+
+            is_good, why = is_within(TIMES_AS_LONG, lambda it=call: seconds(it), lambda it=others[word]: seconds(it))
+            trials.check(f"{word}, of {count} names that collide: the status", len(statuses) == 1, statuses)
+            trials.check(f"{word}, of {count} names that collide", is_good, why)
 
 
 def trial(trials, program, room):

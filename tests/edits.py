@@ -14,7 +14,10 @@ checked. It takes the libraries that the gate or `rt check` left in crates/*/out
 
 An edit is refused where its own function is, at a goal of the clause that it names. Every other end is a failure: it is let through, it is
 refused elsewhere, it doesn't compile, or it can't be applied. With --singly each edit is in a check of its own, with --times each line has
-the seconds that its function took. The last line is `N passed, M failed`.
+the seconds that its function took.
+
+A run over all crates ends with one of the checks, with no edit in it, where each function must be let through: else the runner refuses what it
+should not. The commit's hash says which, so that each comes round. The last line is `N passed, M failed`.
 """
 import argparse
 import concurrent.futures
@@ -197,7 +200,7 @@ class Crate:
         if ran.returncode:
             raise SystemExit(f"edits.py: the libraries below {self.name} can't be made: {ran.stdout[-600:]}")
 
-    def words(self, kit):
+    def words(self, kit, jobs=1):
         """The words of `rattle check` for this crate, those of `rt check` but for what is kept."""
         words = ["--crate-name", self.name, self.root]
         for name in self.of_kit:
@@ -208,7 +211,12 @@ class Crate:
         for name in self.below:
             words += ["-L", f"dependency={os.path.dirname(self.library(name))}"]
         words += ["--antt-project", f"{kit}/rattle/logic/antt-project.json", "--logic-built", f"{kit}/logic_built"]
-        return words + ["--links", f"{self.name}=", "--jobs", "1"] + ["--crate-type", "staticlib"] * self.is_static
+        return words + ["--links", f"{self.name}=", "--jobs", f"{jobs}"] + ["--crate-type", "staticlib"] * self.is_static
+
+
+def kit_of():
+    """The folder of the toolchain."""
+    return os.path.dirname(subprocess.run(["rt", "doc"], stdout=subprocess.PIPE, text=True, check=True).stdout.strip())
 
 
 def crates(top):
@@ -461,6 +469,14 @@ def tried(crate, edits, kit, given, say):
     return passed, failed
 
 
+def sampled(top, work):
+    """A crate and the edits that one check tries: which, the hash of the last commit says, and where there is none it is the first."""
+    made = [(crate, batch) for crate, edits in work for batch in batches(edits, False)]
+    said = subprocess.run(["git", "rev-parse", "HEAD"], cwd=top, **QUIET)
+    crate, batch = made[int(said.stdout, 16) % len(made) if said.returncode == 0 else 0]
+    return crate, [Edit(crate, it.name) for it in batch]
+
+
 def lanes_of(number):
     """How many checks run side by side: one a processor, and as many as the free memory holds."""
     with open("/proc/meminfo", encoding="ascii") as it:
@@ -478,7 +494,7 @@ def main():
     words.add_argument("--tree", default=TOP, help="another repository than this one")
     words.add_argument("names", nargs="*", metavar="CRATE [EDIT ..]", help="one crate alone, or some of its edits")
     given = words.parse_args()
-    kit = os.path.dirname(subprocess.run(["rt", "doc"], stdout=subprocess.PIPE, text=True, check=True).stdout.strip())
+    kit = kit_of()
     found, printing, passed, failed, work = crates(os.path.abspath(given.tree)), threading.Lock(), 0, 0, []
     if given.names and given.names[0] not in found:
         words.error(f"crates.txt has no crate {given.names[0]}")
@@ -489,6 +505,10 @@ def main():
         at = f" at `{edit.function.path}`: {shown}{more}" if end == "refused" else f": {shown}" if shown else ""
         with printing:
             print(f"{edit.crate.name}/{edit.name}: {end}{at}{f' [{edit.seconds:.1f} s]' if given.times else ''}", flush=True)
+
+    def tell(edit, end, goals):
+        if end != "LET THROUGH":
+            print(f"{edit.crate.name}/{edit.name}: with no edit in it, `{edit.function.path}` is {end}: {', '.join(goals[:2])}", flush=True)
 
     for crate in found.values():
         names, edits = crate.edits(), []
@@ -507,9 +527,13 @@ def main():
             work.append((crate, edits))
     # (those that take the longest first)
     work.sort(key=lambda it: -len(it[1]) * sum(len(f.text) for f in it[0].functions.values()))
+    tasks = [(*it, kit, given, say) for it in work]
+    if work and not given.names and not given.unedited:
+        tasks.append((*sampled(given.tree, work), kit, argparse.Namespace(**{**vars(given), "unedited": True}), tell))
     with concurrent.futures.ThreadPoolExecutor(lanes_of(given.lanes)) as pool:
-        for good, bad in pool.map(lambda it: tried(*it, kit, given, say), work):
+        for (crate, edits, *_, how), (good, bad) in zip(tasks, pool.map(lambda it: tried(*it), tasks)):
             passed, failed = passed + good, failed + bad
+            print(f"edits.py: tried {len(edits)} edits of {crate.name}" if how is say else f"edits.py: tried 1 check with no edit in it: {len(edits)} functions of {crate.name}")
     used = resource.getrusage(resource.RUSAGE_CHILDREN)
     print(f"{len(work)} crates, {used.ru_utime + used.ru_stime:.0f} s of processors")
     print(f"{passed} passed, {failed} failed")

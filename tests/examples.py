@@ -13,21 +13,22 @@ A paragraph that ends in "file `NAME` holds" (or "file `NAME`, without a newline
 it is that file. The examples of a page run in order in one folder, with the page's files and the program on the path: nothing
 of the repository is there, and they leave nothing in it.
 
+A picture that a page shows, `![..](docs/NAME.svg)`, is the file NAME.svg that its examples make.
+
 The script fails where an example differs, and where docs/CLI.md has none for a command that the program's help lists. Its last line is
 `N passed, M failed`.
 """
+import filecmp
 import os
 import re
-import shutil
 import subprocess
 import sys
 import tempfile
 
-from trials import usage
+from trials import SECONDS, main
 
 TOP = os.path.dirname(os.path.dirname(os.path.abspath(__file__)))
 PAGES = ("README.md", "docs/CLI.md", "docs/HELP.md", "docs/REPLAY.md", "docs/DAMAGE.md", "docs/RECIPES.md")
-SECONDS = 60
 
 # The head of a table of messages.
 MESSAGES = "| Text | Cause | Example |"
@@ -175,43 +176,27 @@ def lacking(page, examples, commands):
         yield "`nlog` without a word"
 
 
-def try_page(page, program, commands):
-    """Tries a page, and returns how many of its examples passed, and what failed."""
+def try_page(trials, page, program, commands, is_tried=lambda _: True):
     files, examples = read_page(page)
-    failures = [f"{page} shows no example of {it}" for it in lacking(page, examples, commands)]
-    passed = 0
+    for it in lacking(page, examples, commands):
+        trials.check(f"{page} shows no example of {it}", False)
     with tempfile.TemporaryDirectory(prefix="nlog-examples-") as room:
         fill(room, files)
-        for example in examples:
+        for example in filter(is_tried, examples):
             why = example.differs(*run(room, program, example.command))
-            if why:
-                failures.append(f"{example.where}: {example.command}: {why}")
-            passed += not why
-    return passed, failures
+            trials.check(f"{example.where}: {example.command}", not why, why)
+        for path in re.findall(r"!\[[^]]*\]\(([^)]+)\)", "\n".join(lines_of(page))):
+            made = f"{room}/{os.path.basename(path)}"
+            is_made = os.path.exists(made) and filecmp.cmp(made, f"{TOP}/{path}", shallow=False)
+            trials.check(f"{page}: {path} is what its examples make", is_made)
 
 
-def main(words):
-    if len(words) != 1:
-        return usage(__file__)
-    if not os.path.isfile(words[0]):
-        print("examples.py: FAILED: the program to run is not there")
-        print("0 passed, 1 failed")
-        return 1
-    passed, failures = 0, []
-    with tempfile.TemporaryDirectory(prefix="nlog-program-") as folder:
-        program = shutil.copy(words[0], f"{folder}/nlog")
-        os.chmod(program, 0o755)
-        commands = commands_of(program)
-        if not commands:
-            failures.append("the program's help lists no commands")
-        for page in PAGES:
-            more, why = try_page(page, program, commands)
-            passed, failures = passed + more, failures + why
-    for it in failures:
-        print(f"examples.py: FAILED: {it}")
-    print(f"{passed} passed, {len(failures)} failed")
-    return 1 if failures else 0
+def trial(trials, program, _):
+    commands = commands_of(program)
+    trials.check("the program's help lists commands", commands)
+    for page in PAGES:
+        try_page(trials, page, program, commands)
 
 
 if __name__ == "__main__":
-    sys.exit(main(sys.argv[1:]))
+    sys.exit(main(__file__, trial))

@@ -58,8 +58,8 @@ def try_full(trials, program, disk, command, end):
 
 
 def repair():
-    """The words of the repair in the table of README.md on damage."""
-    return re.search(r"`torn` above 0 \|.*?`nlog (repair LOG)`", read(f"{TOP}/README.md").decode())[1].split()
+    """The words of the repair that README.md names."""
+    return re.search(r"Then `nlog (repair LOG)`", read(f"{TOP}/README.md").decode())[1].split()
 
 
 def try_repair(trials, program, disk, kind, start):

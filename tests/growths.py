@@ -19,10 +19,9 @@ import sys
 import tempfile
 
 from library import TEST, crates, lay_out, modules
-from trials import Trials, run, write
+from trials import BUILD_SECONDS, SECONDS, Trials, run, write
 
 CRATE, USES = "nl_growths", "nl_fields nl_lines nl_table nl_folder nl_session"
-SECONDS = 900
 # The growth that is refused, and no test asks for so many.
 LAST = 32
 
@@ -114,8 +113,8 @@ def ends_of(room, names):
             write(f"{cases}/{place}-{nth}", b"")
             before = "x" * (LAST - nth)
             write(f"{cases}/{place}-{nth}.args", f"{name}\n{before}\n".encode())
-    words = ["rt", "try", "--fail-alloc", str(LAST), "--cases", cases]
-    status, _, err = run(words, cwd=f"{room}/crates/{CRATE}", timeout=SECONDS)
+    words = ["rt", "try", "--seconds", str(SECONDS), "--fail-alloc", str(LAST), "--cases", cases]
+    status, _, err = run(words, cwd=f"{room}/crates/{CRATE}", timeout=BUILD_SECONDS)
     text = err.decode(errors="replace")
     ends = {name: [None] * (ENDS[name][1] + 1) for name in names}
     for said, place, nth, how in re.findall(r"(?ms)(.*?)^case=(\d+)-(\d+) run=([^\n]*)\n", text):

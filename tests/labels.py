@@ -14,9 +14,9 @@ import re
 import sys
 from glob import glob
 
-from edits import BadEdit, Edit, crates, text_of
+from edits import TOP, BadEdit, Edit, crates, text_of
+from trials import Trials
 
-TOP = os.path.dirname(os.path.dirname(os.path.abspath(__file__)))
 CLAUSE = re.compile(r"\b(?:ensures|requires)\*?\s+([a-z]\w*)\s*\{")
 LAWS = ("laws.rt",)
 # What begins a function, and what begins that in which an indented one stands, which is at the left margin by `rt fmt`.
@@ -102,13 +102,10 @@ def faults_of_edits():
 
 
 def main():
-    checks = list(faults_of_table(rows_of_table(text_of(f"{TOP}/CONTRIBUTING.md")), labels_in_use()))
-    checks += faults_of_edits()
-    failed = [it for it in checks if it]
-    for it in failed:
-        print(f"FAILED: {it}")
-    print(f"{len(checks) - len(failed)} passed, {len(failed)} failed")
-    return bool(failed)
+    trials = Trials(__file__)
+    for fault in (*faults_of_table(rows_of_table(text_of(f"{TOP}/CONTRIBUTING.md")), labels_in_use()), *faults_of_edits()):
+        trials.check(fault, not fault)
+    return trials.end()
 
 
 if __name__ == "__main__":

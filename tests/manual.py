@@ -1,12 +1,11 @@
 #!/usr/bin/env python3
-"""Tries the manual page: that it is shown without a warning, and that it has each command, option and message, and the script
-by which the names of a build are kept. And the completion for bash, and what install.sh puts.
+"""Tries the manual page: that it is shown without a warning, that it and docs/HELP.md are what man/make.py makes of the program's help, and that
+it has each command, option and message. And what install.sh puts.
 
     python3 tests/manual.py PROGRAM
 
 Wants groff, and mandoc, to format the page; each is skipped where it is missing. The commands are those that the help of the
-program lists, the messages those of the table of docs/CLI.md. What is completed is what the
-help has: the commands and options, and the name of a file where the usage of a command has one.
+program lists, the messages those of the table of docs/CLI.md.
 """
 import os
 import re
@@ -16,8 +15,11 @@ import sys
 from trials import main, read, run, write
 
 TOP = os.path.dirname(os.path.dirname(os.path.abspath(__file__)))
+sys.path.insert(0, f"{TOP}/man")
+import make  # noqa: E402
+
 PAGE, LIBRARY_PAGE = f"{TOP}/man/nlog.1", f"{TOP}/man/nlog.3"
-SECTIONS = ["NAME", "SYNOPSIS", "DESCRIPTION", "COMMANDS", "FILES", "EXIT STATUS", "DIAGNOSTICS", "EXAMPLES", "CAVEATS", "SEE ALSO"]
+SECTIONS = ["NAME", "SYNOPSIS", "DESCRIPTION", "COMMANDS", "OPTIONS", "FILES", "EXIT STATUS", "DIAGNOSTICS", "EXAMPLES", "CAVEATS", "SEE ALSO"]
 # How each formatter says what is wrong with a page.
 FORMATTERS = {"groff": ["groff", "-ww", "-man", "-Tutf8", "-z"], "mandoc": ["mandoc", "-Tlint"]}
 LIBRARY_SECTIONS = ["NAME", "LIBRARY", "SYNOPSIS", "DESCRIPTION", "RETURN VALUE", "EXAMPLES", "CAVEATS", "SEE ALSO"]
@@ -44,58 +46,10 @@ def messages():
     return [re.sub(r" [0-9]+$", "", it) for it in re.findall(r"(?m)^\| `([^`]+)`", table)]
 
 
-# Prints what is completed of the words, of which the last one is begun.
-COMPLETE = '. "$0"; COMP_WORDS=("$@"); COMP_CWORD=$(($# - 1)); _nlog; printf "%s\\n" "${COMPREPLY[@]}"'
-# The options by which a command takes other values. Its own help has them in its text.
-FORMS = {"recompact": ["--manifest"], "restat": ["--files"]}
-FILES = {"LOG", "OLD", "NEW", "KEEP", "TIMES", "SCRIPT", "FILE"}
-
-
 def options_of(help_text):
     """The options of a help, long and short."""
     found = re.findall(r"(?m)^ +(-[A-Za-z])?(?:, )? *(--[a-z]+(?:-[a-z]+)*)", help_text[help_text.index("Options:") :].split("\n\n")[0])
     return [it for both in found for it in both if it]
-
-
-def try_completion(trials, program, room, help_text, commands):
-    os.mkdir(f"{room}/files")
-    for name in ("b.log", "a file"):
-        write(f"{room}/files/{name}", b"")
-
-    def want(words, wanted):
-        status, out, err = run(["bash", "-c", COMPLETE, f"{TOP}/completions/nlog.bash", "nlog", *words], cwd=f"{room}/files")
-        completed = sorted(it for it in out.decode().split("\n") if it)
-        trials.want(f"completion of {words}", (status, completed, err), (0, sorted(wanted), b""))
-
-    want([""], [*commands, *options_of(help_text)])
-    want(["re"], [it for it in commands if it.startswith("re")])
-    want(["--"], [it for it in options_of(help_text) if it.startswith("--")])
-    want(["frob", ""], [])
-    for name in commands:
-        own = run([program, name, "--help"])[1].decode()
-        want([name, "-"], [*options_of(own), *FORMS.get(name, [])])
-        values = re.findall(r"[\[<]([A-Z]+)[\]>]", re.search(r"Usage: (.*)", own)[1].replace("[OPTIONS]", ""))
-        trials.check(f"the values of {name}", values != [])
-        for at, value in enumerate([*values, "none"]):
-            for before in ([], ["--"]):
-                want([name, *before, *["1"] * at, ""], ["a file", "b.log"] if value in FILES else [])
-                want([name, *before, *["1"] * at, "b"], ["b.log"] if value in FILES else [])
-        if "--log-version" in own:
-            want([name, "--log-version", ""], ["auto"] if name in ("entries", "damage", "doubt", "builds", "summary", "compare", "trace", "picture") else ["5", "6", "7", "auto"])
-            want([name, "--log-version", "7", ""], ["a file", "b.log"] if values[0] in FILES else [])
-            want([name, "--log-version=7", "b"], ["b.log"] if values[0] in FILES else [])
-            # Behind `--` it is the first value.
-            want([name, "--", "--log-version", ""], ["a file", "b.log"] if values[1:2] and values[1] in FILES else [])
-        if "--kind" in own:
-            want([name, "--kind", ""], ["extension", "folder", "top"])
-            want([name, "--kind", "f"], ["folder"])
-            want([name, "--kind", "top", "b"], ["b.log"])
-            want([name, "--", "--kind", ""], [])
-        if "--graph" in own:
-            want([name, "--graph", ""], ["a file", "b.log"])
-            want([name, "--graph=", ""], ["a file", "b.log"])
-            want([name, "--graph", "b.log", "b"], ["b.log"])
-            want([name, "--", "--graph", ""], [])
 
 
 def try_library_page(trials):
@@ -117,14 +71,14 @@ def try_library_page(trials):
 def try_install(trials, program, room):
     """install.sh, where the command that proves and builds is one that does nothing, and the program is there."""
     top = f"{room}/top"
-    for name in ("install.sh", "man/nlog.1", "man/nlog.3", "completions/nlog.bash", "include/nlog.h", "CHANGELOG.md"):
+    for name in ("install.sh", "man/nlog.1", "man/nlog.3", "completions/nlog.bash", "completions/nlog.zsh", "completions/nlog.fish", "include/nlog.h", "CHANGELOG.md"):
         os.makedirs(os.path.dirname(f"{top}/{name}"), exist_ok=True)
         shutil.copy(f"{TOP}/{name}", f"{top}/{name}")
     os.makedirs(f"{top}/crates/nlog/out")
     shutil.copy(program, f"{top}/crates/nlog/out/nlog")
     write(f"{top}/rt", b"#!/bin/sh\n")
     os.mkdir(f"{top}/lib")
-    write(f"{top}/lib/archive.sh", b"#!/bin/sh\ncp include/nlog.h $1; cd `dirname $1`; cp $1 libnlog.so.0.2.0; ln -s libnlog.so.0.2.0 libnlog.so\n".replace(b"include", f"{top}/include".encode()))
+    write(f"{top}/lib/archive.sh", b"#!/bin/sh\nshift 2; cp include/nlog.h $1; cd `dirname $1`; cp $1 libnlog.so.0.2.0; ln -s libnlog.so.0.2.0 libnlog.so\n".replace(b"include", f"{top}/include".encode()))
     for name in ("rt", "lib/archive.sh"):
         os.chmod(f"{top}/{name}", 0o755)
     env = {**os.environ, "PATH": f"{top}:{os.environ.get('PATH', os.defpath)}"}
@@ -135,6 +89,7 @@ def try_install(trials, program, room):
     try_destdir(trials, f"{top}/install.sh", room, env)
     made = {os.path.relpath(f"{folder}/{it}", f"{room}/prefix") for folder, _, files in os.walk(f"{room}/prefix") for it in files}
     wanted = {"bin/nlog": program, "share/man/man1/nlog.1": PAGE, "share/bash-completion/completions/nlog": f"{TOP}/completions/nlog.bash"}
+    wanted.update({"share/zsh/site-functions/_nlog": f"{TOP}/completions/nlog.zsh", "share/fish/vendor_completions.d/nlog.fish": f"{TOP}/completions/nlog.fish"})
     if shutil.which("cc") and shutil.which("ar") and shutil.which("objcopy"):
         for name in ("lib/libnlog.a", "lib/libnlog.so", "lib/libnlog.so.0.2.0", "include/nlog.h"):
             wanted[name] = f"{TOP}/include/nlog.h"
@@ -185,7 +140,10 @@ def trial(trials, program, room):
             for path in (PAGE, LIBRARY_PAGE):
                 trials.want(f"{name} has no warning of {os.path.basename(path)}", run([*words, path]), (0, b"", b""))
     try_library_page(trials)
+    screens = make.screens(program)
+    trials.want("docs/HELP.md", read(make.HELP).decode(), make.help_page(screens))
     page = read(PAGE).decode()
+    trials.want("man/nlog.1", page, make.manual(screens))
     trials.want("its sections", re.findall(r"(?m)^\.SH (.*)$", page), SECTIONS)
     text = plain(page)
     help_text = run([program, "--help"])[1].decode()
@@ -198,12 +156,11 @@ def trial(trials, program, room):
             trials.check(f"the option {option} of {name}", option == "-h" or option in text)
     for option in re.findall(r"--[a-z]+", help_text[help_text.index("Options:") : help_text.index("\n\n", help_text.index("Options:"))]):
         trials.check(f"the option {option}", option in text)
-    trials.want("the number of messages", len(messages()), 12)
+    trials.want("the number of messages", len(messages()), 13)
     for it in messages():
         trials.check(f"the message {it!r}", it in text[text.index("Each comes as") :])
     for it in ("recompact LOG --manifest FILE", "restat LOG --files", "ninja -t targets all > targets && nlog recompact .ninja_log --manifest targets"):
         trials.check(f"{it} is there", it in text)
-    try_completion(trials, program, room, help_text, commands)
     try_install(trials, program, room)
 
 

@@ -1,5 +1,5 @@
 #!/usr/bin/env python3
-"""Holds the pages to plain English: how long their sentences and lines are, how long the first page is, and that none says a thing twice.
+"""Holds the pages to plain English: how long they are, and their sentences and lines, how a sentence begins, and that none says a thing twice.
 
     python3 tests/prose.py [PAGE..]
     python3 tests/prose.py --show PAGE
@@ -7,45 +7,86 @@
 A sentence ends at a full stop, a colon at the end of a line, a question mark, or where a paragraph, an item of a list, a heading or a cell of
 a table ends. What stands in backquotes counts as one word, of a link its text alone, and what stands in an indented or a fenced block isn't
 prose. Of a header the comments are read, and of a manual page the source, whose synopsis and examples are blocks. A page is held to the
-limits of `LIMITS`: words in all, columns (of a page outside of indented blocks), words of a sentence on average, and words of the longest one. Each of
-these was the page's own figure when it was set, or less: a page may get plainer, and not the other way. `--show` prints the sentences of a
-page, the longest first.
+limits of `LIMITS`: columns (of a page outside of indented blocks), words of a sentence on average, and words of the longest one. Each page that
+`PAGES` finds has a budget, of words as `wc -w` counts them or of lines, and so have all together. `--show` prints the sentences of a page, the
+longest first.
 
 The last line is `N passed, M failed`.
 """
 import os
 import re
 import sys
+from fnmatch import fnmatch
+from glob import glob
 
 from trials import Trials, usage
 
 TOP = os.path.dirname(os.path.dirname(os.path.abspath(__file__)))
 
-# Of each page: its words, or None for any number of them; its columns; the words of a sentence on average; those of the longest.
-LIMITS = {
-    "README.md": (600, 100, 18, 25),
-    "docs/CLI.md": (None, 100, 18, 25),
-    "docs/DAMAGE.md": (None, 100, 18, 25),
-    "docs/HELP.md": (None, 100, 18, 25),
-    "docs/REPLAY.md": (None, 100, 18, 25),
-    "docs/RECIPES.md": (None, 100, 18, 25),
-    "docs/DECISIONS.md": (None, 100, 18, 25),
-    "docs/PROMISES.md": (None, 100, 18, 25),
-    "docs/DISK_MODEL.md": (None, 100, 18, 25),
-    "docs/FORMAT.md": (None, 100, 18, 25),
-    "docs/ARCHITECTURE.md": (None, 100, 18, 25),
-    "CONTRIBUTING.md": (None, 100, 18, 25),
-    "docs/PERFORMANCE.md": (None, 100, 18, 25),
-    "docs/GATE.md": (None, 100, 18, 25),
-    "CHANGELOG.md": (None, 100, 18, 25),
-    "docs/LIBRARY.md": (None, 100, 18, 25),
-    "docs/NINJA_TIMES.md": (None, 100, 18, 25),
-    "docs/SECURITY.md": (900, 100, 18, 25),
-    "integrations/samurai/README.md": (None, 300, 18, 25),
-    "include/nlog.h": (None, 80, 18, 25),
-    "man/nlog.1": (None, 80, 18, 25),
-    "man/nlog.3": (None, 80, 18, 25),
+# What the pages are, and their words at the most: of a page, of several together, and of all.
+PAGES = ("*.md", "docs/*.md", "crates/*/README.md", "integrations/*/README.md", "man/*.[13]", "include/*.h")
+WORDS = {
+    "README.md": 400,
+    "CHANGELOG.md": 1500,
+    "CONTRIBUTING.md": 2500,
+    "docs/ARCHITECTURE.md": 1000,
+    "docs/CLI.md": 7000,
+    "docs/DAMAGE.md": 800,
+    "docs/DECISIONS.md": 2500,
+    "docs/DESIGN.md": 1500,
+    "docs/DISK_MODEL.md": 3000,
+    "docs/FORMAT.md": 4000,
+    "docs/GATE.md": 600,
+    "docs/HELP.md": 4700,
+    "docs/LIBRARY.md": 3000,
+    "docs/BUILDS.md": 1250,
+    "docs/RELEASE.md": 700,
+    "docs/NINJA_TIMES.md": 700,
+    "docs/PERFORMANCE.md": 1200,
+    "docs/PROMISES.md": 4000,
+    "docs/RECIPES.md": 800,
+    "docs/REPLAY.md": 800,
+    "docs/SECURITY.md": 900,
+    "integrations/*/README.md": 2500,
+    "include/nlog.h": 4000,
+    "man/nlog.1": 2000,
+    "man/nlog.3": 2300,
+    "crates/*/README.md": 3000,
 }
+WHOLE = 55_000
+# The lines of a crate's page, at the most.
+LINES = 12
+# Each page has: its columns; the words of a sentence on average; those of the longest.
+LIMITS = {
+    "README.md": (100, 18, 25),
+    "docs/CLI.md": (100, 18, 25),
+    "docs/DAMAGE.md": (100, 18, 25),
+    "docs/HELP.md": (100, 18, 25),
+    "docs/REPLAY.md": (100, 18, 25),
+    "docs/RECIPES.md": (100, 18, 25),
+    "docs/DECISIONS.md": (100, 18, 25),
+    "docs/DESIGN.md": (100, 18, 25),
+    "docs/PROMISES.md": (100, 18, 25),
+    "docs/DISK_MODEL.md": (100, 18, 25),
+    "docs/FORMAT.md": (100, 18, 25),
+    "docs/ARCHITECTURE.md": (100, 18, 25),
+    "CONTRIBUTING.md": (100, 18, 25),
+    "docs/PERFORMANCE.md": (100, 18, 25),
+    "docs/GATE.md": (100, 18, 25),
+    "CHANGELOG.md": (100, 18, 25),
+    "docs/LIBRARY.md": (100, 18, 25),
+    "docs/BUILDS.md": (100, 18, 25),
+    "docs/RELEASE.md": (100, 18, 25),
+    "docs/NINJA_TIMES.md": (100, 18, 25),
+    "docs/SECURITY.md": (100, 18, 25),
+    "integrations/ninja/README.md": (115, 18, 25),
+    "integrations/samurai/README.md": (125, 18, 25),
+    "include/nlog.h": (80, 18, 25),
+    "man/nlog.1": (80, 18, 25),
+    "man/nlog.3": (80, 18, 25),
+}
+# With what no sentence begins: a reader has to go back for what it is of.
+BEGINNING = re.compile(r"\W*(?:So is|So it is|That of|Of)\b")
 # A paragraph of as many words stands on one page, once.
 REPEATED = 12
 ENDS = re.compile(r"(?<=[.?!])[)\"*]*\s+(?=[^a-z\s])|(?<=:)\s*$")
@@ -154,11 +195,29 @@ def words(sentence):
 
 
 def figures(page):
-    """The words of a page, its columns, the words of its average sentence, and of its longest."""
+    """The columns of a page, the words of its average sentence, and of its longest."""
     counts = [words(it) for it in sentences(read(page))]
     # A heading or a cell of a word or two is no sentence.
     whole = [it for it in counts if it > 3]
-    return sum(counts), kind_of(page)[1](text_of(page)), sum(whole) / max(1, len(whole)), max(counts, default=0)
+    return kind_of(page)[1](text_of(page)), sum(whole) / max(1, len(whole)), max(counts, default=0)
+
+
+def pages():
+    """The pages of the repository, by their paths."""
+    return sorted(os.path.relpath(it, TOP) for pattern in PAGES for it in glob(f"{TOP}/{pattern}"))
+
+
+def lengths(found):
+    """What is counted of the pages: its name, how much it is, and how much it may be, or None where no budget is of it."""
+    counts = {it: len(text_of(it).split()) for it in found}
+    for pattern, limit in WORDS.items():
+        yield f"{pattern}: words", sum(count for it, count in counts.items() if fnmatch(it, pattern)), limit
+    for page in found:
+        if not any(fnmatch(page, it) for it in WORDS):
+            yield f"{page}: words", counts[page], None
+        if page.startswith("crates/"):
+            yield f"{page}: lines", text_of(page).count("\n"), LINES
+    yield "all pages: words", sum(counts.values()), WHOLE
 
 
 def repeated(pages):
@@ -180,9 +239,12 @@ def main(given):
         return usage(__file__)
     trials = Trials("prose.py")
     for page in given or LIMITS:
-        found = figures(page)
-        for what, is_now, limit in zip(("words", "columns", "words of a sentence on average", "words of the longest sentence"), found, LIMITS[page]):
-            trials.check(f"{page}: {what}", limit is None or is_now <= limit, f"{is_now:.1f} in place of {limit} at most")
+        for what, is_now, limit in zip(("columns", "words of a sentence on average", "words of the longest sentence"), figures(page), LIMITS[page]):
+            trials.check(f"{page}: {what}", is_now <= limit, f"{is_now:.1f} in place of {limit} at most")
+        begun = [it for it in sentences(read(page)) if BEGINNING.match(it)]
+        trials.check(f"{page}: how sentences begin", not begun, "; ".join(begun))
+    for what, is_now, limit in [] if given else lengths(pages()):
+        trials.check(what, limit is not None and is_now <= limit, f"{is_now} in place of {limit} at most" if limit else "which has no budget")
     for part, where in repeated(LIMITS).items():
         trials.check("a paragraph stands once", False, f"{', '.join(where)}: {part}")
     return trials.end()

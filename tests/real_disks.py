@@ -36,11 +36,11 @@ from crash_rules import KINDS, Rules, State, Sweep, Worker, in_parts, lines_of
 from disk_model import File
 from log_format import HEADER, line_of, reading_of
 from recording_disk import LIBC, MS_RDONLY, Blocks, Recorded, RecordingDisk, Served, leave_mounts, loop_device, mount, unmount, unmount_below
-from trials import main, read, run, short, usage, write, writer_driver
+from trials import SECONDS, main, read, run, short, usage, write, writer_driver
 
 SEED = 20240229
-# How many images are made of a mode where the words don't say, and for how many seconds at most; else each may take a second.
-FEW, SECONDS = 30, 8
+# How many images are made of a mode where the words don't say.
+FEW = 30
 MEGA = 1 << 20
 # How the disk is made; as which file system it is mounted, and how; its size; whether a torn write loses its end or sectors anywhere, of
 # which size; what it may leave beside what the model allows; how many images may be mounted at one time.
@@ -345,7 +345,7 @@ class Images:
 class Task:
     """What the processes work on: set before they begin."""
 
-    mode, base, events, end = None, None, None, 0
+    mode, base, events = None, None, None
 
 
 def begin(program, room):
@@ -372,8 +372,6 @@ def judge(moments):
     os.makedirs(f"{folder}/mounted", exist_ok=True)
     images = Images(mode, Task.base, Task.events)
     for moment, seed in moments:
-        if time.monotonic() > Task.end:
-            break
         images.go_to(moment)
         images.image(random.Random(seed)).write_to(f"{folder}/image")
         found = read_all(f"{folder}/image", mode, f"{folder}/mounted", images.wanted)
@@ -417,7 +415,7 @@ def moments_of(events, images):
     return [sorted(it) for it in in_parts(chosen, 8)]
 
 
-def try_mode(trials, program, room, name, images, seconds):
+def try_mode(trials, program, room, name, images):
     """Tries one mode, and gives what its images left."""
     with multiprocessing.Pool(1, begin, (program, room)) as pool:
         recorded = pool.apply(record, ((name, f"{room}/{name}"),))
@@ -427,7 +425,7 @@ def try_mode(trials, program, room, name, images, seconds):
     base, events, wrong = recorded
     if not trials.check(f"{name}: the recording", not wrong, "; ".join(wrong)):
         return Counter()
-    Task.mode, Task.base, Task.events, Task.end = name, base, events, time.monotonic() + seconds
+    Task.mode, Task.base, Task.events = name, base, events
     total, logs = Counter(writes=sum(map(is_write, events))), {}
     with multiprocessing.Pool(MODES[name].at_once or os.cpu_count(), begin, (program, room)) as pool:
         sweep = Sweep(trials, pool)
@@ -478,7 +476,7 @@ def too_long(*_):
     raise TimeoutError("it takes too long")
 
 
-def trial(trials, program, room, images, seconds, names):
+def trial(trials, program, room, images, names):
     why = why_not_here(room)
     if why:
         return trials.skip("all of it", why)
@@ -492,8 +490,8 @@ def trial(trials, program, room, images, seconds, names):
             if why:
                 trials.skip(name, why)
                 continue
-            signal.alarm(300 + seconds)
-            it = try_mode(trials, program, room, name, images, seconds)
+            signal.alarm(SECONDS + images)
+            it = try_mode(trials, program, room, name, images)
             print(f"{trials.script}: " + ROW.format(name, it["writes"], it["images"], *(it[verdict] for verdict in VERDICTS)), flush=True)
     finally:
         signal.alarm(0)
@@ -502,13 +500,12 @@ def trial(trials, program, room, images, seconds, names):
 
 
 def begin_trial():
-    """Takes the words behind the program: how many images, in as many seconds, and of which modes."""
+    """Takes the words behind the program: how many images, and of which modes."""
     words, sys.argv[2:] = sys.argv[2:], []
     images, *names = words or [str(FEW), *COMMON]
     if not images.isdigit() or not set(names) <= set(MODES):
         return usage(__file__, f"PROGRAM [IMAGES [MODE..]], and a MODE is one of: {'; '.join(MODES)}")
-    seconds = int(images) if words else SECONDS
-    return main(__file__, lambda *it: trial(*it, int(images), seconds, names or MODES))
+    return main(__file__, lambda *it: trial(*it, int(images), names or MODES))
 
 
 if __name__ == "__main__":

@@ -14,11 +14,11 @@ import signal
 import struct
 import time
 
+from trials import SECONDS
+
 BLOCK = 4096
 ZEROS = bytes(BLOCK)
 MOST_WRITE = 1 << 20
-# Seconds in which whatever is in use has to be free.
-WAIT = 30
 LOOP_CTL_GET_FREE, LOOP_CONFIGURE, AUTOCLEAR = 0x4C82, 0x4C0A, 4
 MS_RDONLY, MS_NOSUID, MS_NODEV, MS_REC, MS_PRIVATE = 1, 2, 4, 16384, 1 << 18
 DETACH, CLONE_NEWNS, PR_SET_PDEATHSIG = 2, 0x20000, 1
@@ -44,7 +44,7 @@ def mount(source, folder, kind, flags=0, options=""):
 
 def unmount(folder):
     """Waits for a while where something is still in use."""
-    end = time.monotonic() + WAIT
+    end = time.monotonic() + SECONDS
     while LIBC.umount2(folder.encode(), 0) != 0:
         if ctypes.get_errno() != errno.EBUSY or time.monotonic() > end:
             raise failed(folder)
@@ -247,7 +247,7 @@ class RecordingDisk:
         """A loop device over the file, by its path. In the end nobody uses it any more."""
         with loop_device(f"{self.folder}/{NAME}") as path:
             yield path
-        end = time.monotonic() + WAIT
+        end = time.monotonic() + SECONDS
         while not self.ask("is_closed"):
             if time.monotonic() > end:
                 raise OSError(errno.EBUSY, "the disk is still in use", self.folder)

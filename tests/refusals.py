@@ -1,16 +1,22 @@
 #!/usr/bin/env python3
-"""Tries the runner of the edits, tests/edits.py, on a small crate that is made for it: python3 tests/refusals.py
+"""Tries what holds the gate: the runner of the edits, tests/edits.py, on a small crate that is made for it, and tests/counts.py on what a run may
+say: python3 tests/refusals.py
 
 Each edit of the table is put in beside the others, and must end as the table says: a bug is refused; a local that has another name is let
 through, also where another edit of the batch breaks what its function calls; an edit that doesn't compile, and one whose function or old text
 is gone, is an error of its own; one that names a clause which it doesn't break is refused elsewhere. With no edit in them all of these
-functions are let through. It wants `rt`. The last line is `N passed, M failed`.
+functions are let through. It wants `rt`. Of each row of tests/counts it fails if less was tried. The last line is `N passed, M failed`.
 """
+import contextlib
+import io
 import os
 import re
 import subprocess
 import sys
 import tempfile
+
+import counts
+from trials import Trials
 
 TOP = os.path.dirname(os.path.dirname(os.path.abspath(__file__)))
 
@@ -123,35 +129,79 @@ def made(room):
 
 
 def told(room, *words):
-    """What the runner says of each edit, and its last line."""
+    """What the runner says of each edit, and its last lines."""
     ran = subprocess.run([sys.executable, f"{TOP}/tests/edits.py", "--tree", room, *words], stdin=subprocess.DEVNULL, stdout=subprocess.PIPE, stderr=subprocess.STDOUT, text=True)
-    return dict(re.findall(r"^sums/(\w+): (.*)$", ran.stdout, re.M)), ran.stdout.strip().split("\n")[-1]
+    return dict(re.findall(r"^sums/(\w+): (.*)$", ran.stdout, re.M)), ran.stdout.strip().split("\n")
+
+
+def try_runner(trials, room):
+    made(room)
+    said, lines = told(room)
+    for name, _, _, end, word in EDITS:
+        found = said.get(name, "passed over")
+        trials.check(name, found.startswith(end) and word in found, f"it must be '{end}' with '{word}', and it is '{found}'")
+    # (beside them one check is made with no edit in it)
+    unedited = re.search(r"(?m)^edits.py: tried 1 check with no edit in it: (\d+) functions of sums$", "\n".join(lines))
+    well = sum(it[3] == "refused" for it in EDITS)
+    if trials.check("a check with no edit in it", unedited, lines[-4:]):
+        trials.want("the last line", lines[-1], f"{well + int(unedited[1])} passed, {len(EDITS) - well} failed")
+    # (an edit by itself ends as it does beside the others)
+    for name in ("a_neighbour_breaks_what_is_called", "a_sum_is_thrice"):
+        alone, _ = told(room, "--singly", "sums", name)
+        trials.want(f"{name}, alone", alone.get(name, "").split(" at ")[0], said.get(name, "").split(" at ")[0])
+    unedited, lines = told(room, "--unedited", "sums", "a_sum_is_thrice", "a_constant_is_larger", "the_other_clause_is_broken")
+    trials.want("with no edit in them", ({*unedited.values()}, lines[-1]), ({"LET THROUGH"}, "3 passed, 0 failed"))
+
+
+def said_of(rows, but=None, less=1, skip=None):
+    """What a run says that tries what tests/counts wants, but for one row, of which it tries less, or with None nothing, or of which it skips so much."""
+    parts, tried = [], []
+    for what, row in rows.items():
+        number, names = row.number, row.names
+        if what == but:
+            if less is None:
+                continue
+            number, names = number - less, names[less:] if less > 0 else names
+        if re.match(r"(python3|rt|integrations/\S+)( |$)", what):
+            parts += [f"part: {what} PROGRAM", *[f"trial: skipped: {skip}"] * (skip is not None and what == but), f"{number} passed, 0 failed"]
+        else:
+            tried.append(f"edits.py: tried {number} {what}{': ' if names else ''}{' '.join(names)}")
+    return "\n".join([*parts[:1], *tried, *parts[1:]])
+
+
+def try_counts(trials):
+    """That each row of tests/counts is held: where it is tried less, or not at all, that fails; and a part that has no row does, and a skip with
+    --strict."""
+    with open(f"{TOP}/tests/counts", encoding="utf-8") as it:
+        rows = counts.rows_of(it.read())
+
+    def fails(said, is_strict=False):
+        judged = Trials("counts.py")
+        with contextlib.redirect_stdout(io.StringIO()):
+            counts.judge(judged, rows, said, is_strict)
+        return judged.failed
+
+    trials.want("all of tests/counts", fails(said_of(rows)), 0)
+    trials.want("nothing", fails(""), len(rows))
+    for what, row in rows.items():
+        trials.want(f"one less: {what}", fails(said_of(rows, what)), 1)
+        trials.want(f"one more: {what}", fails(said_of(rows, what, -1)), bool(row.names))
+        trials.want(f"none: {what}", fails(said_of(rows, what, None)), 1)
+        for skip, number in row.skips.items():
+            for less, is_strict, failed in ((number, False, 0), (number + 1, False, 1), (number, True, 1)):
+                # (of a part that may be skipped as a whole there is no less)
+                if less <= row.number:
+                    trials.want(f"{what}, {less} less for {skip}, strict {is_strict}", fails(said_of(rows, what, less, f"{skip}: why"), is_strict), failed)
+    trials.want("another name", fails(re.sub(r"(tried \d+ axioms of \w+: )\S+", r"\1other::other", said_of(rows))), sum(bool(it.names) for it in rows.values()))
+    trials.want("a part without a row", fails(said_of(rows) + "\npart: python3 tests/other.py\n3 passed, 0 failed"), 1)
 
 
 def main():
-    failed = []
+    trials = Trials(__file__)
     with tempfile.TemporaryDirectory(prefix="nlog-refusals-") as room:
-        made(room)
-        said, last = told(room)
-        for name, _, _, end, word in EDITS:
-            if not said.get(name, "").startswith(end) or word not in said[name]:
-                failed.append(f"{name}: it must be '{end}' with '{word}', and it is '{said.get(name, 'passed over')}'")
-        well = sum(it[3] == "refused" for it in EDITS)
-        if last != f"{well} passed, {len(EDITS) - well} failed":
-            failed.append(f"the last line is '{last}'")
-        # (an edit by itself ends as it does beside the others)
-        for name in ("a_neighbour_breaks_what_is_called", "a_sum_is_thrice"):
-            alone, _ = told(room, "--singly", "sums", name)
-            if alone.get(name, "").split(" at ")[0] != said.get(name, "").split(" at ")[0]:
-                failed.append(f"{name}: beside others it is '{said.get(name)}', and alone '{alone.get(name)}'")
-        unedited, last = told(room, "--unedited", "sums", "a_sum_is_thrice", "a_constant_is_larger", "the_other_clause_is_broken")
-        if {*unedited.values()} != {"LET THROUGH"} or last != "3 passed, 0 failed":
-            failed.append(f"with no edit in them: {unedited}, {last}")
-    for it in failed:
-        print(f"FAILED: {it}")
-    checks = len(EDITS) + 4
-    print(f"{checks - len(failed)} passed, {len(failed)} failed")
-    return bool(failed)
+        try_runner(trials, room)
+    try_counts(trials)
+    return trials.end()
 
 
 if __name__ == "__main__":

@@ -14,8 +14,8 @@ import shutil
 import sys
 import tempfile
 
-from library import ALL_SECONDS, CRATE, LIBRARY, TEST, crates
-from trials import Trials, read, run, write
+from library import CRATE, LIBRARY, TEST, crates
+from trials import BUILD_SECONDS, SECONDS, Trials, read, run, write
 
 USES = "nl_lines nl_folder nl_files nl_tool_texts nl_os"
 SOURCE = "nl_os/src/os_system.rt"
@@ -192,7 +192,7 @@ def main():
         return trials.end()
     with tempfile.TemporaryDirectory() as room:
         names, folder = lay_out(room)
-        _, out, err = run(["rt", "try", "--test", "--seconds", "300"], cwd=folder, timeout=ALL_SECONDS)
+        _, out, err = run(["rt", "try", "--test", "--seconds", str(SECONDS)], cwd=folder, timeout=BUILD_SECONDS)
     text = (out + err).decode(errors="replace")
     ends = dict(re.findall(r"(?m)^test system::bugs::bug_(\w+) \.\.\. (\w+)$", text))
     if not trials.want("without a bug", ends.get("none"), "ok"):

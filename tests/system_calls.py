@@ -53,7 +53,7 @@ def lines_of(log):
 
 
 def effects_wanted(case):
-    """What the command does to the files and the folder, in order, by docs/DISK_MODEL.md and docs/ARCHITECTURE.md."""
+    """What the command does to the files and the folder, in order, by docs/DISK_MODEL.md."""
     log = Log(case.start or b"")
     sync = ["sync LOG", "sync folder", "look LOG"]
 

@@ -6,8 +6,12 @@ import shutil
 import subprocess
 import sys
 import tempfile
+import threading
+import time
 
-SECONDS = 120
+# After so many seconds of the clock what runs here has hung, and is ended; and what is proved or built. Neither is a bound of how long it may take.
+SECONDS, BUILD_SECONDS = 1200, 4 * 3600
+PAUSE = 0.02
 
 
 class Trials:
@@ -91,13 +95,63 @@ def seconds_of(words, most=SECONDS, **how):
     return ended, after.ru_utime + after.ru_stime - before.ru_utime - before.ru_stime
 
 
+def is_within(times, one, other):
+    """Whether one of two things takes at most so many times as long as the other; and how long each took. Each gives its seconds of processors, and
+    is done again, up to five times, since another process only ever makes that longer: the least of each counts."""
+    least = [float("inf")] * 2
+    for _ in range(5):
+        least = [min(was, it()) for was, it in zip(least, (one, other))]
+        if least[0] <= times * least[1]:
+            break
+    return least[0] <= times * least[1], f"{least[0]:.3f} s, beside {least[1]:.3f} s"
+
+
+class Pauses:
+    """A clock that counts pauses of its own, each of `PAUSE` seconds. So it is late by as much as whatever waits on a busy machine, and a bound above
+    goes by it, where one below goes by the system's clock."""
+
+    def __enter__(self):
+        self.seconds, self.since, self.is_over = 0.0, time.monotonic(), threading.Event()
+        threading.Thread(target=self.count, daemon=True).start()
+        return self
+
+    def count(self):
+        while not self.is_over.wait(PAUSE):
+            self.seconds += PAUSE
+
+    def __exit__(self, *_):
+        self.is_over.set()
+
+    def slower(self):
+        """How many times as long as it should a pause took."""
+        return max(1.0, (time.monotonic() - self.since) / max(self.seconds, PAUSE))
+
+
+def until_open(ran, path):
+    """Waits until a process, or a child of it, has a file open, or has ended."""
+    while ran.poll() is None and path not in opened_by(ran.pid):
+        time.sleep(0.001)
+
+
+def opened_by(pid):
+    """The files that a process and its children have open; fewer where one of them is just being closed."""
+    found = set()
+    try:
+        with open(f"/proc/{pid}/task/{pid}/children", encoding="ascii") as it:
+            for each in (pid, *it.read().split()):
+                found.update(os.readlink(f"/proc/{each}/fd/{fd}") for fd in os.listdir(f"/proc/{each}/fd"))
+    except OSError:
+        pass
+    return found
+
+
 def writer_driver(trials, room):
     """Builds the driver of the library's writer (tests/clib/driver.c), and gives its path; or None where there isn't what that takes."""
     top = os.path.dirname(os.path.dirname(os.path.abspath(__file__)))
     if shutil.which("rt") is None or shutil.which("cc") is None:
         return trials.skip("what the library's writer does", "rt or cc isn't there")
     archive, driver = f"{room}/libnlog.a", f"{room}/driver"
-    made = run([f"{top}/lib/archive.sh", archive], timeout=1800)
+    made = run([f"{top}/lib/archive.sh", archive], timeout=BUILD_SECONDS)
     if made[0] == 0:
         words = ["cc", "-std=c11", "-O2", "-D_POSIX_C_SOURCE=200809L", "-I", f"{top}/include", f"{top}/tests/clib/driver.c"]
         made = run([*words, archive, "-o", driver])

@@ -20,7 +20,7 @@ import time
 from concurrent.futures import ThreadPoolExecutor
 
 from log_format import HEADER, Log, line_of
-from trials import SECONDS, is_locked, main, read, write, writer_driver
+from trials import SECONDS, Pauses, is_locked, main, read, write, writer_driver
 
 ENTRY = (1, 2, 3, 4)
 START = HEADER + line_of(b"a", ENTRY) + line_of(b"b", ENTRY)
@@ -74,23 +74,24 @@ def try_both(trials, program, room, what):
 def try_held(trials, program, room):
     """A lock that isn't let go of."""
     fill(room, START)
-    with open(f"{room}/LOG", "rb") as held:
+    with open(f"{room}/LOG", "rb") as held, Pauses() as clock:
         fcntl.flock(held, fcntl.LOCK_EX)
         for what, (words, said) in REFUSED.items():
-            it, at = begin([program, *words], room), time.monotonic()
+            it, paused = begin([program, *words], room), clock.seconds
             trials.want(f"{what}: is refused", (*it.communicate(timeout=SECONDS), it.returncode), (b"", said, 1))
-            trials.check(f"{what}: at once", time.monotonic() - at < 5)
-        at, every = time.monotonic(), {what: begin([program, *words], room) for what, (words, _) in SECOND.items()}
+            trials.check(f"{what}: at once", clock.seconds - paused < 5)
+        at, paused = time.monotonic(), clock.seconds
+        every = {what: begin([program, *words], room) for what, (words, _) in SECOND.items()}
         told = {what: begin([program, words[0], "-v", *words[1:]], room) for what, (words, _) in SECOND.items()}
         for what, it in told.items():
             trials.want(f"{what}: it says that it waits", it.stderr.readline(), WAITING)
-        trials.check("after a second", 1 <= time.monotonic() - at < 6)
+        trials.check("after a second", time.monotonic() - at >= 1 and clock.seconds - paused < 6)
         for what, it in every.items():
             trials.want(f"{what}: is refused", (*it.communicate(timeout=SECONDS), it.returncode), (b"", FAILED, 1))
         for what, it in told.items():
             said = FAILED + b"nlog: LOG LOG: another process has it locked: an nlog, or a tool that keeps LOG\n"
             trials.want(f"{what}: and why it is refused", (*it.communicate(timeout=SECONDS), it.returncode), (b"", said, 1))
-        trials.check("after 10 seconds", 10 <= time.monotonic() - at < 20)
+        trials.check("after 10 seconds", time.monotonic() - at >= 10 and clock.seconds - paused < 20)
     trials.want("and the log stays", read(f"{room}/LOG"), START)
 
 
@@ -121,18 +122,18 @@ def try_stopped(trials, program, room):
         second.send_signal(signal.SIGSTOP)
         time.sleep(12)
         second.send_signal(signal.SIGCONT)
-        at = time.monotonic()
-        out, err = second.communicate(timeout=SECONDS)
+        with Pauses() as clock:
+            out, err = second.communicate(timeout=SECONDS)
         trials.want("a wait that is stopped: is refused", (out, err[: len(FAILED)], second.returncode), (b"", FAILED, 1))
         # (what is left by a count of pauses is 9 seconds)
-        trials.check("a wait that is stopped: after 10 seconds of the clock", time.monotonic() - at < 6, f"{time.monotonic() - at:.1f} s later")
+        trials.check("a wait that is stopped: after 10 seconds of the clock", clock.seconds < 6, f"{clock.seconds:.1f} s later")
 
 
 def always_busy(program, room):
-    """A lock that others have for more than a minute, who change the log all the while: how the second one ends, after how many seconds, and
-    what the others had written by then."""
+    """A lock that others have for more than a minute, who change the log all the while: how the second one ends, after how many seconds by the
+    clock and in pauses, and what the others had written by then."""
     fill(room, START)
-    with open(f"{room}/LOG", "ab") as held:
+    with open(f"{room}/LOG", "ab") as held, Pauses() as clock:
         fcntl.flock(held, fcntl.LOCK_EX)
         second, at, count = begin([program, *SECOND["record"][0]], room), time.monotonic(), 0
         while second.poll() is None and time.monotonic() - at < SECONDS:
@@ -140,12 +141,12 @@ def always_busy(program, room):
             held.flush()
             count += 1
             time.sleep(0.5)
-        return (*second.communicate(timeout=SECONDS), second.returncode), time.monotonic() - at, count
+        return (*second.communicate(timeout=SECONDS), second.returncode), (time.monotonic() - at, clock.seconds), count
 
 
 def try_always_busy(trials, room, ended, seconds, count):
     trials.want("a log that is changed for more than a minute: the second one is refused", ended, (b"", FAILED, 1))
-    trials.check("after a minute", 60 <= seconds < 75, f"{seconds:.1f} s")
+    trials.check("after a minute", seconds[0] >= 60 and seconds[1] < 75, f"{seconds} s")
     trials.want("and what the others wrote stands", read(f"{room}/LOG"), START + b"".join(line_of(b"by another %d" % it, ENTRY) for it in range(count)))
 
 

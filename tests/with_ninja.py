@@ -36,6 +36,15 @@ build b.o: copy b.c
 build app: link a.o b.o
 build note: copy {note}
 """
+SLOW = """rule slow
+  command = {wait}cat $in > $out
+  restat = 1
+build slow: slow {note}
+"""
+QUICK = """rule quick
+  command = cat $in > $out
+build quick: quick n1
+"""
 OUTPUTS = [b"a.o", b"b.o", b"app", b"note"]
 IDLE = b"ninja: no work to do.\n"
 LOG = ".ninja_log"
@@ -49,7 +58,7 @@ class Build:
     """A small build in a folder of its own, made once by a Ninja, which writes logs of this version."""
 
     def __init__(self, program, room, path="ninja", version=5):
-        self.program, self.room, self.path, self.version = program, room, path, version
+        self.program, self.room, self.path, self.version, self.took = program, room, path, version, 0.0
         os.makedirs(room)
         for name in ("a.c", "b.c", "n1", "n2"):
             write(f"{room}/{name}", name.encode())
@@ -62,8 +71,14 @@ class Build:
 
     def ninja(self, *words):
         """Runs Ninja: its status, and all that it says."""
+        begun = time.monotonic()
         status, out, err = run([self.path, *words], cwd=self.room)
+        self.took = max(self.took, time.monotonic() - begun)
         return status, out + err
+
+    def later(self):
+        """Waits for longer than any command took so far, and than the tick of a file system: what runs now has a newer file by each version."""
+        time.sleep(0.1 + self.took)
 
     def is_idle(self):
         return self.ninja() == (0, IDLE)
@@ -299,13 +314,9 @@ def try_other_command(trials, build):
     trials.want("A, torn B, A: the output is that of A", read(f"{build.room}/note"), b"n1")
 
 
-# Longer than a command here takes, and the tick of a file system: what runs later has a newer file by each version.
-LATER = 0.1
-
-
 def try_lost_whole(trials, build):
     """A, B, and B's line cut off whole: neither `damage` nor Ninja sees that it is lost. `doubt` does, and mend.sh has the output made again."""
-    time.sleep(LATER)
+    build.later()
     build.describe("n2")
     build.ninja()
     whole = build.text()
@@ -326,10 +337,32 @@ def try_lost_whole(trials, build):
     trials.want("a lost line: the doubt that is left", build.nlog("doubt", LOG), (3, b"newer\tbuild.ninja\n", b""))
 
 
+def try_long_restat(trials, build):
+    """A takes long and has `restat`, so MTIME is its file's own time; B is fast, and its line is lost. Ninja has no work to do over B's file,
+    which is newer than A can have left it, or unsure where no other command tells when A's build began."""
+    for more, why in (("", b"unsure"), (QUICK, b"newer")):
+        for wait, note in (("sleep 2 && ", "n1"), ("", "n2")):
+            build.took = 0.0
+            build.later()
+            write(f"{build.room}/build.ninja", (SLOW.format(wait=wait, note=note) + more).encode())
+            build.ninja()
+        whole = build.text()
+        build.write_log(whole[: whole[:-1].rindex(b"\n") + 1])
+        write(f"{build.room}/build.ninja", (SLOW.format(wait="sleep 2 && ", note="n1") + more).encode())
+        trials.check(f"a long restat, {why}: Ninja finds nothing to do", build.is_idle(), repr(build.why()))
+        trials.want(f"a long restat, {why}: over a stale file", read(f"{build.room}/slow"), b"n2")
+        # Ninja 1.11 has the file's own time for each output, as the later ones have it for a `restat`.
+        for version in (6, 7) if build.version == 5 else ():
+            write(f"{build.room}/later.log", as_version(build.text(), version))
+            trials.want(f"a long restat, as of version {version}: doubt", build.nlog("doubt", "later.log"), (3, why + b"\tslow\n", b""))
+        trials.want(f"a long restat: doubt, {why}", build.nlog("doubt", LOG), (3, (b"newer" if build.version == 5 else why) + b"\tslow\n", b""))
+        build.remove("slow")
+
+
 def try_cut_anywhere(trials, build):
     """A log of some builds, cut behind each of its bytes: `doubt` names just the outputs with an older entry whose last line was cut away."""
     for step in range(4):
-        time.sleep(LATER)
+        build.later()
         build.describe(("n2", "n1")[step % 2])
         write(f"{build.room}/{'ab'[step % 2]}.c", b"%d" % step)
         build.ninja()
@@ -714,6 +747,7 @@ PARTS = [
     try_torn,
     try_other_command,
     try_lost_whole,
+    try_long_restat,
     try_cut_anywhere,
     try_joined,
     try_joined_in_hash,
