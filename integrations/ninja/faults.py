@@ -621,10 +621,11 @@ def try_locked(trial, ninja, header):
         fcntl.flock(it, fcntl.LOCK_EX)
         began = time.monotonic()
         trial.want("locked: no work to do", ninja.run(), (0, IDLE))
-        trial.check("locked: at once", time.monotonic() - began < 5)
+        at_once = time.monotonic() - began
         touching("a", "b")
-        text = read(LOG)
+        text, began = read(LOG), time.monotonic()
         status, said = ninja.run()
+        trial.check("locked: and nothing to do was found at once", at_once < (time.monotonic() - began) / 2, at_once)
         trial.check("locked: refused, and says so", status == 1 and "build log .ninja_log: another process" in said, said)
         trial.check("locked: before a command runs", not os.path.exists("b"))
         trial.want("locked: the log", read(LOG), text)
