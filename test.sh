@@ -105,6 +105,13 @@ parts < <(
     done
 )
 
+# The program and the library for ARM64, which a program that plays that processor runs.
+if [[ -n $strict ]]; then
+    part python3 tests/targets.py
+else
+    printf 'skipped: all of it: it takes a quarter of an hour, and --strict runs it\n0 passed, 0 failed\n' > "$room/part"
+    count 0 "$room/part" python3 tests/targets.py
+fi
 peer ninja-1.11.1 integrations/ninja/try.sh 1.11.1
 peer ninja-1.13.2 integrations/ninja/try.sh 1.13.2
 peer muon-0.4.0 integrations/samurai/try.sh
