@@ -7,25 +7,10 @@ makes TO, as libnlog.a, from crates/nl_c and the C in lib/, and libnlog.so.VERSI
 TARGET is x86_64, which is taken without the option, or aarch64; CC=COMMAND takes another compiler for it, as musl-gcc"
 
 said_by=lib/archive.sh
-target=x86_64
-if [ "${1-}" = --target ] && [ $# -eq 3 ]; then
-    target=$2
-    shift 2
-fi
-if [ $# -ne 1 ] || [ "${1#-}" != "$1" ]; then
-    echo "$usage" >&2
-    exit 2
-fi
-
-if [ ! -d "$(dirname "$1")" ]; then
-    echo "$said_by: $(dirname "$1") isn't there, the folder of $1" >&2
-    exit 1
-fi
 # From any folder, by a link too.
 top=$(CDPATH='' cd -- "$(dirname "$(readlink -f "$0")")/.." && pwd)
 . "$top/lib/tools.sh"
-take_tools "$target"
-need_rt
+take_words "$@"
 need "$cc" "$ar" "$nm" "$objcopy"
 
 proved=$("$top/lib/proved.sh" nl_c "$target")
@@ -61,8 +46,8 @@ put() {
     cp "$1" "$2.new"
     mv -f "$2.new" "$2"
 }
-put "$room/libnlog.a" "$1"
-folder=$(dirname "$1")
+put "$room/libnlog.a" "$to"
+folder=$(dirname "$to")
 put "$room/$shared" "$folder/$shared"
 for link in "libnlog.so.$major" libnlog.so; do
     ln -sf "$shared" "$folder/$link.new"

@@ -8,25 +8,10 @@ TARGET is x86_64, which is taken without the option, or aarch64; CC=COMMAND take
 NLOG_OBJECT=FILE keeps there what is linked with the C library, so that it may be linked with another: \`cc -static FILE\`"
 
 said_by=lib/program.sh
-target=x86_64
-if [ "${1-}" = --target ] && [ $# -eq 3 ]; then
-    target=$2
-    shift 2
-fi
-if [ $# -ne 1 ] || [ "${1#-}" != "$1" ]; then
-    echo "$usage" >&2
-    exit 2
-fi
-
-if [ ! -d "$(dirname "$1")" ]; then
-    echo "$said_by: $(dirname "$1") isn't there, the folder of $1" >&2
-    exit 1
-fi
 # From any folder, by a link too.
 top=$(CDPATH='' cd -- "$(dirname "$(readlink -f "$0")")/.." && pwd)
 . "$top/lib/tools.sh"
-take_tools "$target"
-need_rt
+take_words "$@"
 need "$cc" "$objcopy" "$strip"
 
 proved=$("$top/lib/proved.sh" nlog "$target")
@@ -44,5 +29,5 @@ $cc -static-pie -Wl,-z,relro,-z,now,-z,noexecstack -o "$room/nlog" "$room/nlog.o
 "$strip" "$room/nlog"
 
 if [ -n "${NLOG_OBJECT-}" ]; then cp "$room/nlog.o" "$NLOG_OBJECT"; fi
-cp "$room/nlog" "$1.new"
-mv -f "$1.new" "$1"
+cp "$room/nlog" "$to.new"
+mv -f "$to.new" "$to"

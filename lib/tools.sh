@@ -1,4 +1,4 @@
-# For the scripts that make nlog for a processor: its names, and the tools that make code for it. They read this file, and call `take_tools`, with their name in said_by.
+# For the scripts that make nlog for a processor: its names, and the tools that make code for it. They read this file with their name in said_by.
 # shellcheck shell=sh disable=SC2034,SC2154
 
 # The processors of which nlog is proved and built.
@@ -31,4 +31,24 @@ need_rt() {
     command -v rt > /dev/null && return
     echo "$said_by: rt isn't there: the command of the Rattle toolchain, which proves and compiles nlog; README.md says what to do without it" >&2
     exit 1
+}
+
+# take_words [--target TARGET] TO: sets to and target, and takes that target's tools and rt. Other words end the script by its usage.
+take_words() {
+    target=x86_64
+    if [ "${1-}" = --target ] && [ $# -eq 3 ]; then
+        target=$2
+        shift 2
+    fi
+    if [ $# -ne 1 ] || [ "${1#-}" != "$1" ]; then
+        echo "$usage" >&2
+        exit 2
+    fi
+    to=$1
+    if [ ! -d "$(dirname "$to")" ]; then
+        echo "$said_by: $(dirname "$to") isn't there, the folder of $to" >&2
+        exit 1
+    fi
+    take_tools "$target"
+    need_rt
 }
