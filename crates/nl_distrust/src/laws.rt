@@ -1,4 +1,4 @@
-//! Laws of what can't be trusted, each the contract of a function that does nothing.
+//! Laws of what can't be trusted. Each is the contract of a function that does nothing.
 ghost use Rattle.std.specs.Prelude.{◌≡◌, ◌==◌, ◌&&◌, ◌++◌, ℕ, true, false, None, Some, List, [], All, IsSome, IsSomeAnd, drop, if◌then◌else◌};
 ghost use Rattle.nl_fields.specs.declared.entry.Entry.{Entry};
 ghost use Rattle.nl_fields.specs.Name.{IsName};
@@ -28,15 +28,15 @@ pub fn entries_are_read_alike()
         → IsSomeAnd (plain_texts line) (IsTold e) }
 {}
 
-/// A line that is no entry, and that plain Ninja takes for one, mentions that one's name.
+/// A line that is no entry, and that plain Ninja takes for one, mentions its name.
 pub fn what_is_taken_is_mentioned()
     ensures { (version : ℕ) (line : List ℕ) (t : Texts) → entry_on version line ≡ None
         → plain_texts line ≡ Some t → IsName t.name
         → holds (mentioned_on version line) t.name ≡ true }
 {}
 
-/// Wherever an entry's first four texts stand in a line, they name its output: at its beginning, behind a torn line, and
-/// before another one. So does a name behind which the line was torn.
+/// An entry's first four texts name its output wherever they stand in a line: at its beginning, behind a torn line, and before another
+/// one. So does a name behind which the line was torn.
 pub fn each_part_is_named()
     ensures within { (before behind : List ℕ) (e : Entry) → IsName e.name
         → holds (named_in (before ++ line_with e behind)) e.name ≡ true }
@@ -44,7 +44,7 @@ pub fn each_part_is_named()
         → holds (named_in (before ++ torn_behind_name e)) e.name ≡ true }
 {}
 
-/// Where each line is an entry, and nothing is torn, no name is mentioned.
+/// If each line is an entry, and nothing is torn, no name is mentioned.
 pub fn a_whole_log_is_trusted()
     ensures entries { (version : ℕ) (bytes : List ℕ)
         → All (λ line. IsSome (entry_on version line)) (drop 1 (lines_of bytes))
@@ -53,7 +53,6 @@ pub fn a_whole_log_is_trusted()
         → is_whole version bytes ≡ true → distrusted_in version bytes es ≡ [] }
 {}
 
-/// A log is whole exactly if its load skipped no line, and nothing is torn.
 pub fn a_whole_log_skips_no_line()
     ensures { (version : ℕ) (bytes : List ℕ) (es : List Entry) → log_of bytes ≡ Log version es
         → is_whole version bytes ≡ (torn_len bytes == 0 && skipped_count bytes == 0) }

@@ -3,7 +3,6 @@ use Rattle.std.specs.Prelude.{◌≡◌, ℕ, zero, suc, ◌+◌, ◌*◌, ◌/�
 use Rattle.std.specs.List.{concat}
 use Rattle.std.specs.Simd.{first_chunks}
 
--- the multiplier and the seed
 abbrev pub multiplier : ℕ
 multiplier = 0xc6a4a7935bd1e995
 
@@ -19,7 +18,6 @@ unfoldable pub differing : ℕ → ℕ → ℕ → ℕ
 differing zero a b = 0
 differing (suc k) a b = (a % 2 + b % 2) % 2 + 2 * differing k (a / 2) (b / 2)
 
--- the number whose binary digits are 1 where those of a and b differ
 abbrev pub xor : ℕ → ℕ → ℕ
 xor a b = differing 64 a b
 
@@ -32,16 +30,14 @@ little_endian (byte ∷ bytes) = byte + 256 * little_endian bytes
 abbrev pub mixed : ℕ → ℕ
 mixed n = xor n (n / 2 ^ 47)
 
--- the hash so far with one group of 8 bytes
 abbrev pub with_group : ℕ → List ℕ → ℕ
 with_group hash group = times (xor hash (times (mixed (times (little_endian group)))))
 
--- the hash so far with the rest, where there is one
 abbrev pub with_rest : ℕ → List ℕ → ℕ
 with_rest hash [] = hash
 with_rest hash (byte ∷ bytes) = times (xor hash (little_endian (byte ∷ bytes)))
 
--- the hash of a command of this many bytes, which are whole groups and a rest
+-- of a command of this many bytes, which are whole groups and a rest
 abbrev pub hash_over : ℕ → List (List ℕ) → List ℕ → ℕ
 hash_over len groups rest = mixed (times (mixed (with_rest (fold with_group (xor seed (times len)) groups) rest)))
 

@@ -30,7 +30,6 @@ last_digits (suc k) base n = if nat_lt n base then digit_of n ∷ [] else last_d
 unfoldable pub digits_of : ℕ → ℕ → List ℕ
 digits_of base n = last_digits 64 base n
 
--- the spelling in decimal
 abbrev pub decimal_of : ℤ → List ℕ
 decimal_of (pos n) = digits_of 10 n
 decimal_of (negsuc n) = 45 ∷ digits_of 10 (suc n)

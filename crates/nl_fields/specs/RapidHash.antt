@@ -3,7 +3,6 @@ use Rattle.std.specs.Prelude.{ℕ, ◌+◌, ◌-◌, ◌*◌, ◌/◌, ◌%◌, 
 use Rattle.std.specs.Simd.{first_chunks}
 use Rattle.nl_fields.specs.CommandHash.{xor, little_endian}
 
--- the seed and the three numbers of the secret
 abbrev pub rapid_seed : ℕ
 rapid_seed = 0xbdd89aa982704029
 
@@ -82,6 +81,5 @@ finished len hash first last =
 abbrev pub begun : ℕ → ℕ
 begun len = xor (xor rapid_seed (folded (xor rapid_seed secret_0) secret_1)) len
 
--- the hash of a command
 unfoldable pub rapid_hash_of : List ℕ → ℕ
 rapid_hash_of bytes = finished (length bytes) (over_bytes (begun (length bytes)) bytes) (end_first bytes) (end_last bytes)

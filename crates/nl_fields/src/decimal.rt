@@ -40,8 +40,7 @@ fn decimal_digit(byte: u8) -> Option<u64>
     if value < 10 { Some(value) } else { None }
 }
 
-// The number that the longest spelling at the front has, and the length of that spelling, or 0 where there is none. Where the
-// bytes are as many as `LONGEST` says, the loop is laid out digit by digit, which is why it is always inlined.
+// The number at the front by its longest spelling, and the spelling's length, or 0. Inlined, so that the loop of `LONGEST` turns is unrolled.
 #[inline(always)]
 fn leading_digits(bytes: &[u8]) -> (u64, usize)
     requires short { length bytes.now ≤ 19 }
@@ -69,7 +68,7 @@ fn leading_digits(bytes: &[u8]) -> (u64, usize)
     (number, bytes.len())
 }
 
-// The number that the longest spelling of at most `LONGEST` digits has at the front of any bytes, and the length of that spelling.
+// The same of any bytes, of which `LONGEST` are read at most.
 #[inline(always)]
 fn longest_digits(bytes: &[u8]) -> (u64, usize)
     ensures within { result.1 ≤ length bytes.now }
@@ -84,7 +83,6 @@ fn longest_digits(bytes: &[u8]) -> (u64, usize)
     }
 }
 
-// The number up to the first tab, and what follows the tab.
 #[inline(always)]
 fn split_digits(bytes: &[u8]) -> Option<(u64, &[u8])>
     ensures found { IfSome result (λ r. BeginsWith (IsDigits 10 r.0) bytes.now r.1.now) }
@@ -134,7 +132,7 @@ pub(crate) fn split_i64(bytes: &[u8]) -> Option<(i64, &[u8])>
     }
 }
 
-/// The number that bytes begin with, where it fits an `i32`, and the bytes behind it.
+/// The number at the front, if an `i32` holds it, and the bytes behind it.
 #[inline(always)]
 pub(crate) fn split_i32(bytes: &[u8]) -> Option<(i32, &[u8])>
     ensures found { IfSome result (λ r. BeginsWith (IsDecimal r.0) bytes.now r.1.now) }

@@ -2,8 +2,7 @@
 ghost use Rattle.std.specs.Prelude.{◌≡◌, ℕ, ◌^◌, ◌≤◌, ◌<◌, IfSome, Some};
 ghost use Rattle.nl_fields.specs.Digits.{IsDigit, IsDigits};
 
-// The value of each byte as a digit, and 255 at a byte that is none. Which digits come can't be foreseen, so a table is
-// quicker than a test for letters.
+// Each byte's value as a digit, and 255 for none. A table, because tests for letters would mispredict: which digits come can't be foreseen.
 static VALUES: [u8; 256] = [
     255, 255, 255, 255, 255, 255, 255, 255, 255, 255, 255, 255, 255, 255, 255, 255, 255, 255, 255,
     255, 255, 255, 255, 255, 255, 255, 255, 255, 255, 255, 255, 255, 255, 255, 255, 255, 255, 255,
@@ -30,7 +29,7 @@ fn digit_value(digit: u8, base: u64) -> Option<u64>
     if value < base { Some(value) } else { None }
 }
 
-// The length is looked at first, so that no digit needs a test of overflow.
+// It looks at the length first, so that no digit needs a test of overflow.
 #[inline(always)]
 pub(crate) fn read_digits(digits: &[u8], base: u64, longest: usize) -> Option<u64>
     requires base { base ≤ 16 }

@@ -18,14 +18,12 @@ fn mixed(n: u64) -> u64
     n ^ (n >> 47)
 }
 
-// The hash so far with one group of 8 bytes.
 fn with_group(hash: u64, group: [u8; 8]) -> u64
     ensures { result ≡ with_group hash group }
 {
     times(hash ^ times(mixed(times(u64::from_le_bytes(group)))))
 }
 
-// The bytes with zeros after them.
 fn padded(rest: &[u8]) -> [u8; 8]
     requires { length rest.now < 8 }
     ensures { result ≡ rest.now ++ replicate (8 - length rest.now) 0 }
@@ -35,7 +33,6 @@ fn padded(rest: &[u8]) -> [u8; 8]
     group
 }
 
-// The hash so far with the bytes after the last group.
 fn with_rest(hash: u64, rest: &[u8]) -> u64
     requires { length rest.now < 8 }
     ensures { result ≡ with_rest hash rest.now }

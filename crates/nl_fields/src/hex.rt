@@ -12,7 +12,7 @@ pub fn read_hex64(bytes: &[u8]) -> Option<u64>
     ensures value { IfSome result (λ n. IsDigits 16 n bytes.now) }
     ensures accepts { (n : ℕ) → n < 2 ^ 64 → IsDigits 16 n bytes.now → result ≡ Some n }
 {
-    // Most hashes have 16 digits, and for so many the loop is laid out digit by digit.
+    // Most hashes have 16 digits, and the loop over a known number of them is unrolled.
     if bytes.len() == 16 {
         read_digits(&bytes[..16], 16, 16)
     } else {
@@ -27,7 +27,7 @@ fn hex_digit(value: u64) -> u8
     DIGITS[value as usize]
 }
 
-// The digits stand at the end of the array, from the place on that is returned.
+// The digits stand at the end of the array, from the returned place on.
 fn hex_digits(number: u64) -> ([u8; 16], usize)
     ensures start { result.1 < 16 }
     ensures digits { drop result.1 result.0 ≡ digits_of 16 number }
@@ -49,7 +49,6 @@ pub fn append_hex64(number: u64, out: &mut Vec<u8>) -> Result<(), AllocError>
     ensures ok { OnOk result (out.new.items ≡ out.old.items ++ digits_of 16 number) }
     ensures unchanged { OnErr result (out.new.items ≡ out.old.items) }
 
-    // It succeeds where there is room, and the capacity never shrinks.
     ensures room { vec_len out.old + 16 ≤ vec_capacity out.old → IsOk result }
     ensures capacity { vec_capacity out.old ≤ vec_capacity out.new }
 {

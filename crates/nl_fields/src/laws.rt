@@ -13,7 +13,6 @@ ghost use Rattle.nl_fields.specs.RapidHash.{rapid_hash_of};
 use crate::header::HEADER;
 use crate::limits::{MAX_ENTRY_LINE, MAX_LINE, MAX_LOG, MAX_NAME};
 
-/// The limits are those of the format.
 pub fn the_limits()
     ensures name { MAX_NAME ≡ max_name }
     ensures line { MAX_LINE ≡ max_line }
@@ -21,14 +20,12 @@ pub fn the_limits()
     ensures log { MAX_LOG ≡ max_log }
 {}
 
-/// A number has one decimal spelling, and a spelling one number.
 pub fn one_decimal()
     ensures spelling { (n : ℤ) (k l : List ℕ) → IsDecimal n k → IsDecimal n l → k ≡ l }
     ensures number { (m n : ℤ) (bytes : List ℕ) → IsDecimal m bytes → IsDecimal n bytes → m ≡ n }
     ensures exists { (n : ℤ) → FitsSigned w64 n → IsDecimal n (decimal_of n) }
 {}
 
-/// A number has one hexadecimal spelling, and a spelling one number.
 pub fn one_hexadecimal()
     ensures spelling { (n : ℕ) (k l : List ℕ) → IsDigits 16 n k → IsDigits 16 n l → k ≡ l }
     ensures number { (m n : ℕ) (bytes : List ℕ) → IsDigits 16 m bytes
@@ -36,21 +33,18 @@ pub fn one_hexadecimal()
     ensures exists { (n : ℕ) → n < 2 ^ 64 → IsDigits 16 n (digits_of 16 n) }
 {}
 
-/// An entry has one line.
 pub fn one_line()
     ensures line { (e : Entry) (k l : List ℕ) → IsEntryLine e k → IsEntryLine e l → k ≡ l }
     ensures exists { (e : Entry) → IsEntry e → IsEntryLine e (line_of e) }
     ensures reads_back { (e : Entry) → IsEntry e → entry_of (line_of e) ≡ Some e }
 {}
 
-/// A line is the line of one entry at most.
 pub fn one_entry()
     ensures entry { (e f : Entry) (line : List ℕ) → IsEntryLine e line
         → IsEntryLine f line → e ≡ f }
     ensures decides { (e : Entry) (line : List ℕ) → (entry_of line ≡ Some e) ↔ IsEntryLine e line }
 {}
 
-/// A line is the version 4 line of one entry at most, and stays one line.
 pub fn one_entry_v4()
     ensures entry { (e f : Entry) (line : List ℕ) → IsEntryLineFour e line
         → IsEntryLineFour f line → e ≡ f }
@@ -60,33 +54,29 @@ pub fn one_entry_v4()
         → All (λ b. b ≢ 10) line }
 {}
 
-/// A line is short and stays one line.
 pub fn line_is_short()
     ensures length { (e : Entry) (line : List ℕ) → IsEntryLine e line
         → length line + 1 ≤ max_entry_line }
     ensures newline { (e : Entry) (line : List ℕ) → IsEntryLine e line → All (λ b. b ≢ 10) line }
 {}
 
-/// The header that is written is the line of version 5 and its newline, and reads as such.
 pub fn header_is_its_line()
     ensures line { HEADER.now ≡ header_line }
     ensures newline { All (λ b. b ≢ 10) version_five }
     ensures reads_back { header_of version_five ≡ Header.V5 }
 {}
 
-/// A first line tells one thing.
 pub fn one_header()
     ensures header { (line : List ℕ) (h k : Header) → IsHeader line h → IsHeader line k → h ≡ k }
     ensures exists { (line : List ℕ) → IsHeader line (header_of line) }
 {}
 
-/// A command has one hash.
 pub fn one_hash()
     ensures hash { (command : List ℕ) (h k : ℕ) → IsHash command h → IsHash command k → h ≡ k }
     ensures exists { (command : List ℕ) → IsHash command (hash_of command) }
 {}
 
-/// The definition of the hash of version 7 has the values that Ninja's own has: of no byte, and of texts of each kind of end.
+/// The values are those of Ninja's own function: of no byte, and of texts of each kind of end.
 pub fn rapid_hash_vectors()
     ensures nothing { rapid_hash_of [] ≡ 0x5a6ef77074ebc84b }
     ensures three { rapid_hash_of (codes "abc") ≡ 0x347080fbf5fcd81 }

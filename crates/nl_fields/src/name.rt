@@ -8,7 +8,6 @@ use std::alloc::{AllocError, Global};
 use std::marker::Model;
 use thiserror::Error;
 
-/// Why bytes are refused as a name.
 #[derive(Clone, Copy, Debug, PartialEq, Eq, Error)]
 pub enum NameFault {
     #[error("a name has at least one byte")]
@@ -41,7 +40,7 @@ fn first_forbidden(bytes: &[u8]) -> Option<usize>
     memchr3(0, b'\t', b'\n', bytes)
 }
 
-/// What is wrong with the bytes as a name; never want of memory.
+/// Never want of memory, because it takes none.
 pub fn name_fault(bytes: &[u8]) -> Option<NameFault>
     ensures accepts { IsNone result ↔ IsName bytes.now }
     ensures fault { IfSome result (HasFault bytes.now) }
@@ -110,7 +109,7 @@ impl Name {
         Name::from_checked(alloc, self.bytes())
     }
 
-    /// The vector that holds the bytes; takes no memory.
+    /// It takes no memory.
     pub fn into_vec(self) -> Vec<u8>
         ensures value { result.items ≡ self }
         ensures name { IsName self }
@@ -119,7 +118,7 @@ impl Name {
         bytes
     }
 
-    /// The name that the vector holds, in the same memory; a vector that is refused comes back.
+    /// The name takes the vector's memory. A vector that is refused comes back.
     pub fn from_vec(bytes: Vec<u8>) -> Result<Name, (Vec<u8>, NameFault)>
         ensures accepts { IsOk result ↔ IsName bytes.items }
         ensures value { IfOk result (λ name. name ≡ bytes.items) }

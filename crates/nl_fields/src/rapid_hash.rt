@@ -17,7 +17,7 @@ fn joined(a: u64, b: u64) -> u64
     a ^ b
 }
 
-// The two halves of a product in 128 bits, the lower one first.
+// The lower half of the product comes first.
 fn halves(x: u64, y: u64) -> (u64, u64)
     ensures low { result.0 ≡ x * y % 2 ^ 64 }
     ensures high { result.1 ≡ x * y / 2 ^ 64 }
@@ -50,7 +50,7 @@ fn narrow_at(bytes: &[u8], at: usize) -> u32
     u32::from_le_bytes(group)
 }
 
-// Two numbers of 4 bytes as one of 8, the first as its upper half.
+// Two numbers of 4 bytes as one, the first as its upper half.
 fn narrow_pair(bytes: &[u8], at: usize, then: usize) -> u64
     requires first { at + 4 ≤ length bytes.now }
     requires second { then + 4 ≤ length bytes.now }

@@ -15,8 +15,7 @@ use nl_files::{CrashableSystem, FileFolder, MemSystem, Plan};
 use nl_session::{Event, Outcome, Reply, run_events};
 use std::alloc::{AllocError, Global};
 
-/// The events on a new log over the files of a system, in order, as `run_events` has them. Err only where there is no memory for
-/// what the folder holds.
+/// The events as `run_events` has them, on a new log over the files of a system. Err only if memory is wanting for what the folder holds.
 pub fn run_over_system<S: CrashableSystem + Drop>(
     alloc: Global,
     system: S,
@@ -48,8 +47,7 @@ pub fn run_over_system<S: CrashableSystem + Drop>(
     Ok(run_events(alloc, folder, events))
 }
 
-/// The events on a new log over a system in memory without files, which fails and crashes as it is told. The headline holds of it
-/// without a premise.
+/// The same over a system in memory without files, which fails and crashes as it is told. The headline holds of it without a premise.
 pub fn run_in_memory(
     alloc: Global,
     plan: Plan,

@@ -28,7 +28,6 @@ impl Numbers {
         Numbers { all, next: 0 }
     }
 
-    /// The number that is taken next.
     pub fn first(&self) -> Option<u64>
         ensures { result ≡ slice_get self.now 0 }
     {
@@ -39,7 +38,7 @@ impl Numbers {
         }
     }
 
-    /// Takes a number, where one is left.
+    /// Where one is left.
     pub fn advance(&mut self)
         ensures { self.new ≡ drop 1 self.old }
     {
@@ -64,7 +63,7 @@ impl Choices {
     ghost use Rattle.nl_folder.specs.Fuse.{fails_at};
     ghost use Rattle.nl_folder.specs.Choices.{counted};
 
-    /// Counts a call, and answers whether it fails.
+    /// Answers whether the call fails.
     pub fn count(&mut self, call: Call) -> bool
         ensures fails { result ≡ fails_at self.old.fuse call }
         ensures counted { self.new ≡ counted call self.old }
@@ -73,7 +72,7 @@ impl Choices {
     }
 }
 
-/// How many bytes are added: as many as the number says, between `least` and `most`.
+/// As many as the number says, between `least` and `most`.
 pub fn amount(number: Option<u64>, least: u64, most: usize) -> usize
     ensures { result ≡ amount_of number least most }
 {
@@ -83,7 +82,7 @@ pub fn amount(number: Option<u64>, least: u64, most: usize) -> usize
     }
 }
 
-/// How long a text of `old` bytes stays: `len` bytes and as many more as the number says.
+/// Of a text of `old` bytes `len` stay, and as many more as the number says.
 pub fn kept_len(number: Option<u64>, len: u64, old: usize) -> usize
     ensures { result ≡ kept_len number len old }
 {
@@ -93,7 +92,7 @@ pub fn kept_len(number: Option<u64>, len: u64, old: usize) -> usize
     }
 }
 
-/// How many zero bytes stand behind the first `kept` of a text of `old` bytes, of which `durable` are durable.
+/// How many zero bytes stand behind the first `kept` of a text of `old` bytes.
 pub fn tail(number: Option<u64>, durable: usize, kept: usize, old: usize) -> usize
     requires { kept ≤ old }
     ensures { result ≡ tail_len number durable kept old }

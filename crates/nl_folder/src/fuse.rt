@@ -23,7 +23,7 @@ pub struct Fuse {
     pub nth: u64,
 }
 
-/// Counts a call, and answers whether it fails.
+/// Answers whether the call fails.
 pub fn burn(fuse: &mut Option<Fuse>, call: Call) -> bool
     ensures fails { result ≡ fails_at fuse.old call }
     ensures counted { fuse.new ≡ fuse_after fuse.old call }

@@ -8,22 +8,21 @@ ghost use Rattle.nl_folder.specs.CrashImages.{IsDisk, IsImage, IsImageOf, IsPref
 ghost use Rattle.nl_folder.specs.Calls.{log_grown, log_cut, log_synced, replaced_disk, not_replaced_disk, AppendsLog, CutsLog, SyncsLog, AppendsScratch, SyncsScratch, Replaces, Crashes};
 ghost use Rattle.nl_folder.specs.declared.folder.Fault.{Fault};
 
-/// A crash may leave what a read gives.
 pub fn what_a_read_gives_is_an_image()
     ensures { (disk : Disk) → IsDisk disk → IsImage disk disk.visible }
 {}
 
-/// No image is longer than a log may be, and none of the other file is.
+/// Nor is one of the other file.
 pub fn every_image_is_within_the_limit()
     ensures { (disk : Disk) (bs : List ℕ) → IsDisk disk → IsImage disk bs → length bs ≤ max_log }
 {}
 
-/// After a sync a crash leaves what a read gave, and nothing else.
+/// It is what a read gave.
 pub fn a_synced_log_has_one_image()
     ensures { (disk : Disk) (bs : List ℕ) → IsImage (log_synced disk) bs → bs ≡ disk.visible }
 {}
 
-/// A prefix image is an image. Where there is one prefix image alone, it is the only image.
+/// A prefix image is an image, and the only one if there is one prefix image alone.
 pub fn a_tail_may_be_empty()
     ensures image { (disk : Disk) (bs : List ℕ) → IsPrefixImage disk bs → IsImage disk bs }
     ensures one { (disk : Disk) (text : List ℕ)
@@ -31,21 +30,20 @@ pub fn a_tail_may_be_empty()
         → (bs : List ℕ) → IsImage disk bs → bs ≡ text }
 {}
 
-/// Up to its last newline an image is a prefix of the file's text: no newline stands in a tail.
+/// No newline stands in a tail.
 pub fn the_whole_lines_of_an_image_are_the_files()
     ensures { (file : File) (bs : List ℕ) → IsImageOf file bs
         → IsPrefix (joined (lines_of bs)) file.longest }
 {}
 
-/// After an append a prefix image is a prefix of the new text that has the durable bytes, and of no other text.
+/// It is a prefix of the new text that has the durable bytes.
 pub fn a_prefix_image_after_an_append_is_a_prefix()
     ensures { (disk : Disk) (n : ℕ) (bytes bs : List ℕ) → disk.other ≡ None
         → IsPrefixImage (log_grown n bytes disk) bs
         → IsPrefix bs (log_grown n bytes disk).visible × (disk.log.durable_len ≤ length bs) }
 {}
 
-/// After an append a prefix image is one from before, and else what a read gave and a prefix of what was added. Of an image
-/// this holds up to its tail, which may be longer than one from before.
+/// What goes on is what a read gave and a prefix of what was added. Of an image this holds up to its tail, which may be longer.
 pub fn a_prefix_image_after_an_append_is_an_old_one_or_goes_on()
     ensures { (disk : Disk) (n : ℕ) (bytes bs : List ℕ) → IsDisk disk
         → IsPrefixImage (log_grown n bytes disk) bs
@@ -53,27 +51,26 @@ pub fn a_prefix_image_after_an_append_is_an_old_one_or_goes_on()
         ⊎ ((more : List ℕ) × (bs ≡ disk.visible ++ more) × IsPrefix more (take n bytes)) }
 {}
 
-/// A log that is all durable is all that a crash may leave.
 pub fn a_durable_log_has_one_image()
     ensures { (text bs : List ℕ) (scratch : File) → IsImage (durable_disk text scratch) bs
         → bs ≡ text }
 {}
 
-/// After a cut a prefix image is one from before, or a prefix of one from the cut on.
+/// It is one from before, or a prefix of one from the cut on.
 pub fn a_prefix_image_after_a_cut_has_the_bytes_before_it()
     ensures { (disk : Disk) (n kept : ℕ) (bs : List ℕ) → disk.other ≡ None
         → n ≤ disk.log.durable_len
         → IsPrefixImage (log_cut n kept disk) bs → IsPrefix bs disk.log.longest × (n ≤ length bs) }
 {}
 
-/// After a replacement, and after one that failed, a crash may leave the scratch or the old log, each within its own lengths.
+/// Each within its own lengths, and after a replacement that failed too.
 pub fn a_replacement_leaves_either_file()
     ensures { (disk : Disk) (bs : List ℕ)
         → IsImage (replaced_disk disk) bs ⊎ IsImage (not_replaced_disk disk) bs
         → IsImageOf disk.scratch bs ⊎ IsImageOf disk.log bs }
 {}
 
-/// A folder without a record meets every row, whatever it answers.
+/// It meets every row, whatever it answers.
 pub fn nothing_is_said_of_a_folder_without_a_record()
     ensures appends { (bytes : List ℕ) (answer : Result ℕ Fault)
         → AppendsLog bytes answer None None }

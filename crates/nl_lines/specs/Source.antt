@@ -2,11 +2,10 @@
 use Rattle.std.proofs.Common.{arith}
 use Rattle.std.specs.Prelude.{ℕ, ◌+◌, ◌-◌, ◌^◌, ◌<◌, ◌≤◌, min}
 
--- where a count of failures stands still
+-- the count stands still here
 abbrev pub last_count : ℕ
 last_count = 2 ^ 64 - 1
 
--- a count of failures
 abbrev pub IsCount : ℕ → Type 0
 IsCount count = count ≤ last_count
 
@@ -14,7 +13,7 @@ IsCount count = count ≤ last_count
 abbrev pub one_more : ℕ → ℕ
 one_more count = count + min 1 (last_count - count)
 
--- it failed in between: its count rose, unless it stood at its last value already
+-- its count rose, unless it stood at its last value already
 abbrev pub FailedBetween : ℕ → ℕ → Type 0
 FailedBetween before after = before < last_count → before < after
 

@@ -9,39 +9,33 @@ ghost use Rattle.nl_lines.specs.declared.lines.Line.{Line};
 use crate::limits::{MAX_LINE, MAX_LOG};
 use crate::lines::LineFault;
 
-/// The limits are those of the format.
 pub fn the_limits()
     ensures line { MAX_LINE ≡ max_line }
     ensures log { MAX_LOG ≡ max_log }
 {}
 
-/// Each text is its lines and its rest.
 pub fn every_text_splits()
     ensures { (text : List ℕ) → SplitsInto text (lines_of text) (rest_of text) }
 {}
 
-/// There is no other way to split it.
 pub fn a_text_splits_one_way()
     ensures { (text : List ℕ) (lines : List (List ℕ)) (rest : List ℕ) → SplitsInto text lines rest
         → (lines_of text ≡ lines) × (rest_of text ≡ rest) }
 {}
 
-/// The two lengths are that of the text.
 pub fn whole_and_torn()
     ensures { (text : List ℕ) → whole_len text + torn_len text ≡ length text }
 {}
 
-/// The whole lines of a text are its prefix of that length.
 pub fn the_whole_lines_are_a_prefix()
     ensures { (text : List ℕ) → take (whole_len text) text ≡ joined (lines_of text) }
 {}
 
-/// A text of which no byte belongs to a whole line has none.
 pub fn without_whole_bytes_there_is_no_line()
     ensures { (text : List ℕ) → whole_len text ≡ 0 → lines_of text ≡ [] }
 {}
 
-/// Lines that are joined are read as these lines, and what stands after them as before.
+/// Whatever stands behind them.
 pub fn joined_lines_come_back()
     ensures lines { (lines : List (List ℕ)) (tail : List ℕ) → All NoNewline lines
         → lines_of (joined lines ++ tail) ≡ lines ++ lines_of tail }
@@ -49,7 +43,6 @@ pub fn joined_lines_come_back()
         → rest_of (joined lines ++ tail) ≡ rest_of tail }
 {}
 
-/// A text that ends in a newline has a line, and no rest.
 pub fn a_last_newline_leaves_no_rest()
     ensures lines { (text : List ℕ) → EndsInNewline text → 1 ≤ length (lines_of text) }
     ensures rest { (text : List ℕ) → EndsInNewline text → rest_of text ≡ [] }
@@ -65,7 +58,6 @@ pub fn a_cut_rest_leaves_the_lines()
         → IsPrefix (rest_of prefix) (rest_of text) }
 {}
 
-/// Bytes without a newline behind a text change no whole line of it, and go on with its rest.
 pub fn a_tail_without_a_newline_changes_no_line()
     ensures lines { (text tail : List ℕ) → NoNewline tail
         → lines_of (text ++ tail) ≡ lines_of text }
@@ -73,19 +65,17 @@ pub fn a_tail_without_a_newline_changes_no_line()
         → rest_of (text ++ tail) ≡ rest_of text ++ tail }
 {}
 
-/// The lines of a prefix are the first lines of the text.
 pub fn a_prefix_has_the_first_lines()
     ensures { (text prefix : List ℕ) → IsPrefix prefix text
         → IsPrefix (lines_of prefix) (lines_of text) }
 {}
 
-/// A prefix of a line and its newline is all of it, or has no newline.
 pub fn a_prefix_of_a_line_is_whole_or_torn()
     ensures { (line prefix : List ℕ) → NoNewline line → IsPrefix prefix (with_newline line)
         → (prefix ≡ with_newline line) ⊎ NoNewline prefix }
 {}
 
-/// A line that is given is the first line of the text that was still to be given, and the later ones are still to come.
+/// It is the first line of the text that was still to be given, and the later ones are still to come.
 pub fn a_line_is_the_first()
     ensures { (old : Reader) (a : Option (List ℕ)) (new : Reader) (b : Option (List ℕ))
         (line text : List ℕ)
@@ -94,7 +84,7 @@ pub fn a_line_is_the_first()
         × (lines_of text ≡ line ∷ lines_of left) × (rest_of text ≡ rest_of left) }
 {}
 
-/// Where the rest is given, no line was still to be given.
+/// No line was still to be given.
 pub fn the_rest_is_last()
     ensures { (old : Reader) (a : Option (List ℕ)) (new : Reader) (b : Option (List ℕ))
         (rest text : List ℕ)
@@ -102,7 +92,7 @@ pub fn the_rest_is_last()
         → (lines_of text ≡ []) × (rest_of text ≡ rest) }
 {}
 
-/// Calls of `next` up to the first `None` show the lines of a text in order and then its rest, however it comes in pieces.
+/// Calls of `next` up to the first `None` show the lines of a text in order and then its rest, in whatever pieces the text comes.
 pub fn a_run_shows_the_text()
     ensures { (text : List ℕ) (lines : List Line)
         (last : Reader) (b : Option (List ℕ)) (end : Reader) (c : Option (List ℕ))
@@ -110,7 +100,7 @@ pub fn a_run_shows_the_text()
         → map as_shown lines ≡ text_shown text }
 {}
 
-/// Such a run comes to its `None` only where the text is within the limit.
+/// A run comes to its `None` only then.
 pub fn a_text_that_is_shown_is_within_the_limit()
     ensures { (text : List ℕ) (lines : List Line)
         (last : Reader) (b : Option (List ℕ)) (end : Reader) (c : Option (List ℕ))
@@ -118,7 +108,7 @@ pub fn a_text_that_is_shown_is_within_the_limit()
         → length text ≤ max_log }
 {}
 
-/// It ends with `TooLarge` only where the text is not.
+/// A run ends with `TooLarge` only then.
 pub fn a_text_that_is_too_large_is_beyond_the_limit()
     ensures { (text : List ℕ) (lines : List Line)
         (last : Reader) (b : Option (List ℕ)) (end : Reader) (c : Option (List ℕ))

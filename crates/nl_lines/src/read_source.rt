@@ -5,7 +5,7 @@ ghost use Rattle.nl_lines.specs.Source.{IsCount};
 use crate::source::{Source, SourceFault};
 use std::io::Read;
 
-/// The bytes of a reader. Each error that it answers is a failure, `Interrupted` too.
+/// Each error of the reader is a failure, `Interrupted` too.
 #[derive(Drop)]
 pub struct ReadSource<R> {
     reader: R,

@@ -4,7 +4,7 @@ ghost use Rattle.nl_lines.specs.Source.{none_is_count};
 
 use crate::source::{Source, SourceFault};
 
-/// The bytes of a slice. It never fails.
+/// It never fails.
 #[derive(Drop)]
 pub struct SliceSource<'a> {
     rest: &'a [u8],

@@ -6,23 +6,20 @@ ghost use Rattle.nl_lines.specs.Source.{FailedBetween, IsCount};
 
 use thiserror::Error;
 
-/// A source failed.
 #[derive(Clone, Copy, Debug, PartialEq, Eq, Drop, Error)]
 #[error("the source of bytes failed")]
 pub struct SourceFault;
 
-/// A source of bytes.
 pub trait Source {
-    // The bytes that lie ahead, where they are known.
+    // None where nobody knows them.
     ghost ahead: { Self → Option (List ℕ) };
 
-    // How often it has failed, up to the last value of a `u64`.
     ghost failures: { Self → ℕ };
 
-    // What its reads leave alone: a relation of the source before them and after them.
+    // A relation of the source before its reads and after them: what they leave alone.
     ghost keeps: { Self → Self → Type 0 };
 
-    /// Reads a prefix of the bytes ahead into the front of `buf`: nothing only at their end or where `buf` is empty.
+    /// Reads a prefix of the bytes ahead into the front of `buf`: none only at their end, or if `buf` is empty.
     fn read_some(&mut self, buf: &mut [u8]) -> Result<usize, SourceFault>
         ensures bound { ReadsAtMost result buf.new }
         ensures bytes { ReadConsumes (ahead self.old) (ahead self.new) result buf.new }
@@ -31,16 +28,13 @@ pub trait Source {
         ensures rises { failures self.old ≤ failures self.new }
         ensures relation { keeps self.old self.new };
 
-    /// How often it has failed, up to `u64::MAX`.
+    /// How often it has failed. The count stops at `u64::MAX`.
     fn failures(&self) -> u64
         ensures { result ≡ failures self.now };
 
-    // The count stops at the last value of a `u64`.
     ghost is_count: { (s : Self) → IsCount (failures s) };
 
-    // Where nothing is read, the relation holds.
     ghost keeps_same: { (s : Self) → keeps s s };
 
-    // It joins over two reads.
     ghost keeps_joined: { (s t u : Self) → keeps s t → keeps t u → keeps s u };
 }

@@ -12,7 +12,6 @@ unfoldable pub mixed_blocks : List ℕ → ℕ → ℕ → ℕ → ℕ
 mixed_blocks bytes factor state zero = state
 mixed_blocks bytes factor state (suc n) = mixed bytes factor (mixed_blocks bytes factor state n) (16 * n) (16 * n + 8)
 
--- the state before a name of so many bytes
 abbrev pub first_state : Secret → ℕ → ℕ
 first_state secret n = (secret.state + (secret.factor * n) % 2 ^ 64) % 2 ^ 64
 

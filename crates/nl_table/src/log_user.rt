@@ -5,22 +5,18 @@ ghost use Rattle.nl_table.specs.LogUser.{is_dead_by};
 
 use nl_fields::Name;
 
-/// Says which paths are dead.
+/// Says which paths are dead: those that nothing builds any more.
 pub trait LogUser {
-    // Whether the path of these bytes is dead.
     ghost is_dead: { Self → List ℕ → Bool };
 
-    /// Whether the path of these bytes is dead.
     fn is_path_dead(&self, name: &[u8]) -> bool
         ensures { result ≡ is_dead self.now name.now };
 }
 
-/// The names that a recompaction keeps.
 #[derive(Drop)]
 pub enum KeepList {
-    /// Nothing is dead.
     All,
-    /// What isn't among these is dead.
+    /// Each other name is dead.
     Only(Vec<Name>),
 }
 

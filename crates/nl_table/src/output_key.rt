@@ -39,7 +39,6 @@ impl Hash for OutputKey {
     }
 }
 
-/// A name that is looked up.
 #[derive(Clone, Copy)]
 pub(crate) struct NameKey<'a> {
     pub bytes: &'a [u8],

@@ -5,22 +5,21 @@ ghost use Rattle.nl_table.specs.Hash.{mixed, mixed_blocks, hashed};
 
 use std::hash::{BuildHasher, Hasher};
 
-/// What the hash of a name begins with. It is the hasher too: std's `FoldHasher`, but with both numbers of each
-/// multiplication joined with a part of the secret.
+/// The hasher of names too: std's `FoldHasher`, but with both numbers of each multiplication joined with a part of the secret.
 #[derive(Clone, Copy)]
 pub struct Secret {
     state: u64,
     factor: u64,
 }
 
-/// No secret, for a caller without random numbers: whoever knows this program can then choose names of one hash.
+/// For a caller without random numbers: whoever knows this program can then choose names of one hash.
 pub const NO_SECRET: Secret = Secret {
     state: 0x243f_6a88_85a3_08d3,
     factor: 0x9e37_79b9_7f4a_7c15,
 };
 
 impl Secret {
-    /// The secret that is made of two random numbers.
+    /// Of two random numbers.
     pub fn of(key0: u64, key1: u64) -> Secret {
         Secret {
             state: key0 ^ NO_SECRET.state,
@@ -48,7 +47,7 @@ impl Hasher for Secret {
         self.state
     }
 
-    // The length is multiplied by what nobody knows. Else a name's hash could be that of another of another length.
+    // The length is multiplied by what nobody knows, because otherwise names of two lengths could be chosen to have one hash.
     fn write(&mut self, bytes: &[u8]) {
         let len = bytes.len();
         let factor = self.factor;

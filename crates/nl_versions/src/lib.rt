@@ -1,5 +1,4 @@
-//! Which version a log is of: those that there are, the one byte in which their texts differ, what a first line names, and logs of
-//! each seen as logs of version 5.
+//! Which version a log is of, and logs of each version seen as logs of version 5, from which they differ in one byte.
 #![tactic(auto)]
 
 mod beginning;

@@ -5,7 +5,7 @@ ghost use Rattle.nl_versions.specs.Version.{as_version, as_version_from};
 use crate::version::LogVersion;
 use nl_lines::{Source, SourceFault};
 
-/// The bytes of another source, with the digit of the version swapped. Its first byte is the first of a text.
+/// The source begins with the first byte of a text.
 #[derive(Drop)]
 pub struct VersionSource<S> {
     source: S,

@@ -5,20 +5,18 @@ ghost use Rattle.nl_versions.specs.declared.version.LogVersion.TheVariants.{Six,
 
 use crate::version::LogVersion;
 
-/// A version of a log, as a type.
 pub trait Version: Drop {
-    // Which it is.
     ghost version: { LogVersion };
 
     fn version(&self) -> LogVersion
         ensures { result ≡ version };
 }
 
-/// Version 6, which Ninja 1.12 writes.
+/// Ninja 1.12 writes it.
 #[derive(Clone, Copy, Debug, PartialEq, Eq, Drop)]
 pub struct VersionSix;
 
-/// Version 7, which Ninja 1.13 writes.
+/// Ninja 1.13 writes it.
 #[derive(Clone, Copy, Debug, PartialEq, Eq, Drop)]
 pub struct VersionSeven;
 
