@@ -2,6 +2,6 @@
 use Rattle.std.specs.Prelude.{ℕ, ◌+◌, ◌*◌, ◌^◌}
 use Rattle.nl_os.specs.declared.file_id.FileId.{FileId}
 
--- two files have one number only where both of their numbers are the same, since each is below 2^64
+-- two files have one number only if both of their numbers are the same, because each is below 2^64
 abbrev pub number_of : FileId → ℕ
 number_of id = id.device * 2 ^ 64 + id.number

@@ -3,7 +3,6 @@ ghost use Rattle.std.specs.Prelude.{◌≡◌, ◌<◌, is_some, true};
 
 use std::io::ErrorKind;
 
-/// A call of the operating system.
 #[derive(Clone, Copy, Debug, PartialEq, Eq, Drop)]
 pub enum SystemCall {
     Open,
@@ -19,7 +18,7 @@ pub enum SystemCall {
     SetMode,
 }
 
-/// Which file of a log a call was about, by the name that the file had when it was opened.
+/// The name is the one that the file had when it was opened.
 #[derive(Clone, Copy, Debug, PartialEq, Eq, Drop)]
 pub enum FileRole {
     Log,
@@ -28,19 +27,17 @@ pub enum FileRole {
     Folder,
 }
 
-/// A call that failed.
 #[derive(Clone, Copy, Debug, PartialEq, Eq, Drop)]
 pub struct FailedCall {
     pub call: SystemCall,
-    /// The file that it was about; of a rename the scratch.
+    /// Of a rename the scratch.
     pub file: FileRole,
     pub kind: ErrorKind,
-    /// The system's number of the error, none where the call didn't fail by one: a lock that another process holds, and a write
-    /// that took no byte.
+    /// The system's number of the error. None of a lock that another process holds, and of a write that took no byte.
     pub errno: Option<i32>,
 }
 
-// The last call that failed, and how many failed, up to the last value of a `u64`.
+// `count` stops at the last value of a `u64`.
 #[derive(Drop)]
 pub struct Failures {
     pub last: Option<FailedCall>,

@@ -2,7 +2,7 @@
 use crate::failed_call::FileRole;
 use std::io;
 
-/// A call that failed: which file it was of, and the system's error.
+/// Which file a call was of, and the system's error.
 #[derive(Clone, Copy)]
 pub struct Failure {
     pub file: FileRole,

@@ -4,7 +4,6 @@ ghost use Rattle.nl_os.specs.Paths.{ArePathsOf, folder_path_of};
 
 use std::alloc::{AllocError, Global};
 
-/// The paths of a log, of its scratch, and of the folder in which both stand.
 #[derive(Drop)]
 pub struct Paths {
     pub log: String,
@@ -13,7 +12,6 @@ pub struct Paths {
 }
 
 impl Paths {
-    /// Those of the log at `path`.
     pub fn new(alloc: Global, path: &str) -> Result<Paths, AllocError>
         ensures value { IfOk result (ArePathsOf path.now) }
     {
@@ -29,7 +27,6 @@ impl Paths {
     }
 }
 
-/// The folder in which the file of this path stands.
 pub fn folder_part(path: &str) -> &str
     ensures value { result.now ≡ folder_path_of path.now }
 {

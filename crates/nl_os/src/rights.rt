@@ -5,7 +5,6 @@ ghost use Rattle.nl_os.specs.Rights.{IsWithin};
 use std::fs::Metadata;
 use std::os::unix::fs::MetadataExt;
 
-/// The owner of a file, its group, and what they and all others may do.
 #[derive(Clone, Copy, Debug, PartialEq, Eq, Drop)]
 pub struct Rights {
     pub owner: u32,
@@ -13,7 +12,7 @@ pub struct Rights {
     pub mode: Mode,
 }
 
-/// What the owner of a file, its group and all others may do, three bits each. With whose rights it runs is left out: no log is run.
+/// Three bits each: what the owner of a file, its group and all others may do. Set-ID bits are left out, because no log is run.
 #[derive(Clone, Copy, Debug, PartialEq, Eq, Drop)]
 pub struct Mode {
     owner: u32,
@@ -51,15 +50,14 @@ impl Mode {
         (self.owner << 3 | self.group) << 3 | self.others
     }
 
-    /// Whether the group may do what the others may not.
     pub fn is_group_apart(self) -> bool
         ensures no { result ≡ false → IsWithin self.group self.others }
     {
         common(self.group, self.others) != self.group
     }
 
-    /// The mode of a new file in the place of one of this mode. Nobody may do more: who was in the old group may be one of the others
-    /// now, and the other way round, and the old owner may be either.
+    /// The mode of a new file in the place of one of this mode. Nobody may do more: who was in the old group may be one of the others now,
+    /// and the other way round, and the old owner may be either.
     pub fn kept(self, is_owner_kept: bool, is_group_kept: bool) -> Mode
         ensures same { is_owner_kept ≡ true → is_group_kept ≡ true → result ≡ self }
         ensures owner { result.owner ≡ self.owner }
@@ -74,7 +72,7 @@ impl Mode {
         of_group.for_owner(is_owner_kept)
     }
 
-    // The mode of a file of the same owner, and of this group or another.
+    // Of a file of the same owner, and of this group or another.
     fn for_group(self, is_kept: bool) -> Mode
         ensures same { is_kept ≡ true → result ≡ self }
         ensures owner { result.owner ≡ self.owner }
@@ -94,7 +92,6 @@ impl Mode {
         }
     }
 
-    // The mode of a file of this owner or another.
     fn for_owner(self, is_kept: bool) -> Mode
         ensures same { is_kept ≡ true → result ≡ self }
         ensures owner { result.owner ≡ self.owner }
@@ -114,7 +111,6 @@ impl Mode {
     }
 }
 
-// What both of two may do.
 fn common(one: u32, other: u32) -> u32
     ensures one { IsWithin result one }
     ensures other { IsWithin result other }

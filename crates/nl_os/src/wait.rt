@@ -5,19 +5,18 @@ use crate::file_id::FileId;
 use std::fs::Metadata;
 use std::os::unix::fs::MetadataExt;
 
-// The milliseconds after which a log that nobody changes is waited for no more, and those after which none is.
+// Milliseconds after which it waits no more for a log that nobody changes, and after which it waits for none.
 const STILL: u64 = 10_000;
 
 const ALL: u64 = 60_000;
 
-// The longest that is waited before a lock is asked for again.
+// Milliseconds at most before it asks again.
 const LONGEST_PAUSE: u64 = 20;
 
-/// How many times a lock is asked for at most: once a millisecond.
+/// It asks for a lock at most so many times: once a millisecond.
 pub const TURNS: u32 = 60_000;
 
-/// By what is seen that whoever has the lock changes the log: a record makes it longer, and a rewriting puts another file in its
-/// place.
+/// Shows that whoever has the lock changes the log: a record makes it longer, and a rewriting puts another file in its place.
 #[derive(Clone, Copy, Debug, PartialEq, Eq, Drop)]
 pub struct Sign {
     id: FileId,
@@ -37,14 +36,14 @@ impl Sign {
     }
 }
 
-/// The wait for one lock, which begins where it is found held for the first time.
+/// It begins when the lock is found held for the first time.
 #[derive(Drop)]
 pub struct Wait {
     sign: Option<Sign>,
-    // The moments in milliseconds at which it began, and at which the log was seen to have this sign.
+    // The moments in milliseconds at which the wait began, and at which the log was first seen with this sign.
     began: u64,
     since: u64,
-    // How long is waited next.
+    // The next pause.
     pause: u64,
     ghost some: { 0 < pause },
     ghost short: { pause ≤ 20 },
@@ -62,8 +61,8 @@ impl Wait {
         }
     }
 
-    /// How long to wait before the lock is asked for again, in milliseconds, where the log has this sign at this moment. None once it
-    /// was the same for 10 seconds, or after a minute.
+    /// Milliseconds before you ask for the lock again, if the log has this sign at this moment. None once it had the same for 10 seconds, or
+    /// after a minute.
     pub fn pause(&mut self, sign: Sign, now: u64) -> Option<u64>
         ensures begins { self.old.sign ≡ None → self.new.began ≡ now }
         ensures goes_on { self.old.sign ≢ None → self.new.began ≡ self.old.began }
