@@ -39,44 +39,39 @@ use Rattle.nl_tool_change.specs.Updates.{StaysRepaired, dead_but, none_dead}
 
 -- ---- what is asked
 
--- a change: the update that it is of a history, what it makes of the bytes of a log with this table, and the mtimes that it sets
+-- the update that it is of a history, what it makes of the bytes of a log with this table, and the mtimes that it sets
 pub record Meaning : Type 0 where
   pub update : History → Update
   pub bytes : List Entry → List ℕ → List ℕ
   pub times : List (List ℕ × ℤ)
 
--- an entry comes last
 abbrev pub adding : Entry → Meaning
 adding e = record { update = λ h. Enter e; bytes = λ es bs. bs ++ with_newline (line_of e); times = [] }
 
--- the dead leave the table, whose text is then the log
+-- the text of the table without them is the log
 abbrev pub dropping : (List ℕ → Bool) → Meaning
 dropping dead = record { update = forget_dead dead; bytes = λ es bs. text_of (survivors dead es); times = [] }
 
--- all but these do
 abbrev pub keeping : List (List ℕ) → Meaning
 keeping names = dropping (dead_but names)
 
--- none does
 abbrev pub keeping_all : Meaning
 keeping_all = dropping none_dead
 
--- an entry with the hash that the command has in logs of the version
 abbrev pub hashed : Entry → List ℕ → LogVersion → Entry
 hashed e command version = record e { hash = hash_as version command }
 
--- names get these mtimes, and the text of the table with them is the log
+-- the text of the table with these mtimes is the log
 abbrev pub touching : List (List ℕ × ℤ) → Meaning
 touching pairs = record { update = λ h. Touch pairs; bytes = λ es bs. text_of (touched_table pairs es); times = pairs }
 
--- the faults of a change: its first negative mtime, or those of adding an entry
+-- its first negative mtime, or the faults of adding an entry
 abbrev pub IsFaultBy : Meaning → ToolFault → Type 0
 IsFaultBy m (NegativeTime index) = IsFirstNegative m.times index
 IsFaultBy m fault = IsRecordFault fault
 
 -- ---- an open log
 
--- an open log is changed
 pub record Makes (m : Meaning) (result : Result (Unit {0}) LogFault) (old new : LogView) : Type 0 where
   pub stays_open : OnOk result (new.mode ≡ LogState.Open)
   pub contents : (d : Disk) → old.folder.disk ≡ Some d → OnOk result (IsSomeAnd new.folder.disk (λ e. e.visible ≡ m.bytes old.table d.visible))
@@ -90,8 +85,8 @@ pub record Makes (m : Meaning) (result : Result (Unit {0}) LogFault) (old new : 
 
 -- ---- the log of a folder
 
--- what is on disk then, of an honest folder: the change is made, or it isn't, or after a fault a crash decides; where an mtime is negative
--- the log was opened; and bytes that are no log stay as they are, whatever the answer
+-- of an honest folder: the change is made, or it isn't, or after a fault a crash decides; if an mtime is negative the log was opened; and
+-- bytes that are no log stay as they are, whatever the answer
 pub record ChangesDisk (m : Meaning) (result : Result (Unit {0}) ToolFault) (old new : Option Disk) : Type 0 where
   pub leaves : (start : History) → BeginsAt start old → UpdateLeaves m.update start result new
   pub contents : (d : Disk) → old ≡ Some d → OnOk result (IsUpdated m.bytes d.visible new)
@@ -101,18 +96,16 @@ pub record ChangesDisk (m : Meaning) (result : Result (Unit {0}) ToolFault) (old
   pub accepts : OnOk result ((index : ℕ) → ¬ IsFirstNegative m.times index)
   pub untouched : (d : Disk) → old ≡ Some d → ¬ IsLog d.visible → new ≡ old
 
--- bytes are refused for what they are
 pub record RefusesBytes (reading : List ℕ → LogReading) (result : Result (Unit {0}) ToolFault) (old : Option Disk) : Type 0 where
   pub not_a_log : (d : Disk) → old ≡ Some d → IsErrOf result NotALog → reading d.visible ≡ log_reading.NotALog
   pub other_version : (d : Disk) → old ≡ Some d → IsErrOf result OtherVersion → reading d.visible ≡ log_reading.OtherVersion
 
--- a fault of the folder has a failed call of it as its cause, and no other answer changes the count
+-- a fault has a failed call as its cause, and no other answer changes the count
 pub record IsCounted (result : Result (Unit {0}) ToolFault) (before after : ℕ) : Type 0 where
   pub cause : IsErrOf result Folder → FailedBetween before after
   pub steady : ¬ IsErrOf result Folder → after ≡ before
 
--- the log is opened and changed; after Ok the change is durable, no cut or rename awaits a sync, and there is no scratch that wasn't there
--- before
+-- after Ok the change is durable, no cut or rename awaits a sync, and there is no scratch that wasn't there before
 pub record ChangesLog (m : Meaning) (result : Result (Unit {0}) ToolFault) (old new : FolderView) : Type 0 where
   pub disk : ChangesDisk m result old.disk new.disk
   pub settled : OnOk result (IsTrue new.is_settled)
@@ -122,8 +115,7 @@ pub record ChangesLog (m : Meaning) (result : Result (Unit {0}) ToolFault) (old 
   pub count : IsCounted result old.failures new.failures
   pub refusals : IfErr result IsChangeFault
 
--- a change of a log that is seen as one of the version: bytes that are barred (a log of version 4) are refused, and left as they are, on
--- every exit
+-- bytes that are barred, those of a log of version 4, are refused, and left as they are on every exit
 pub record ChangesSeen (version : LogVersion) (m : Meaning) (result : Result (Unit {0}) ToolFault) (old new : FolderView) : Type 0 where
   pub disk : ChangesDisk m result (seen_as_version version old.disk) (seen_as_version version new.disk)
   pub settled : OnOk result (IsTrue new.is_settled)
@@ -133,30 +125,30 @@ pub record ChangesSeen (version : LogVersion) (m : Meaning) (result : Result (Un
   pub count : old.failures ≡ 0 → IsCounted result old.failures new.failures
   pub refusals : IfErr result IsChangeFault
 
--- a change of a log of the version that is asked for; of version 5 it is that of a log as it stands, no more and no less
+-- of version 5 it is that of a log as it stands, no more and no less
 pub record ChangesLogAs (version : LogVersion) (m : Meaning) (result : Result (Unit {0}) ToolFault) (old new : FolderView) : Type 0 where
   pub seen : ChangesSeen version m result old new
   pub five : version ≡ Five → ChangesLog m result old new
 
 -- ---- which version
 
--- the version is the one that is asked for; where none is, it's the one that the bytes of an honest folder name
+-- the one that is asked for, or else the one that the bytes of an honest folder name
 abbrev pub IsVersionFor : Option LogVersion → Option Disk → LogVersion → Type 0
 IsVersionFor (Some asked) disk version = version ≡ asked
 IsVersionFor None disk version = (d : Disk) → disk ≡ Some d → version ≡ version_of d.visible
 
--- the log isn't barred where it's taken for one of the version
+-- the log may be taken for one of the version
 abbrev pub IsFree : Option Disk → LogVersion → Type 0
 IsFree disk version = (d : Disk) → disk ≡ Some d → is_barred version d.visible ≡ false
 
--- why a log is taken for none: the look at its folder failed; or 6 or 7 is asked for, and it's of version 4
+-- the look at its folder failed; or 6 or 7 is asked for, and the log is of version 4
 abbrev pub IsReason : Option LogVersion → Option Disk → ℕ → ℕ → LogFault → Type 0
 IsReason asked disk before after refusal.Fault = FailedBetween before after
 IsReason asked disk before after refusal.OtherVersion = (after ≡ before)
     × IsSomeAnd asked (λ version. (version ≢ Five) × ((d : Disk) → disk ≡ Some d → is_barred version d.visible ≡ true))
 IsReason asked disk before after _ = ⊥
 
--- a folder was looked at for the version of its log, and stays as it is
+-- the folder stays as it is
 pub record Looks (asked : Option LogVersion) (old new : FolderView) (result : Result LogVersion LogFault) : Type 0 where
   pub same : SameState old new
   pub rises : old.failures ≤ new.failures
@@ -165,7 +157,7 @@ pub record Looks (asked : Option LogVersion) (old new : FolderView) (result : Re
   pub free : IfOk result (IsFree old.disk)
   pub refusals : IfErr result (IsReason asked old.disk old.failures new.failures)
 
--- a change of a log of the version that is asked for, or else of the one that it has, by what that makes of the change
+-- of the version that is asked for, or else of the one that the log has
 pub record ChangesLogFor (asked : Option LogVersion) (m : LogVersion → Meaning) (result : Result (Unit {0}) ToolFault)
     (old new : FolderView) : Type 0 where
   pub version : LogVersion
@@ -174,25 +166,24 @@ pub record ChangesLogFor (asked : Option LogVersion) (m : LogVersion → Meaning
 
 -- ---- what stands about it
 
--- a file couldn't be read, or has this bad line, and the folder is as it came
+-- or has this bad line; the folder is as it came
 pub record IsUnread {T F : Type 0} (reading : List ℕ → FileReading T) (known : Option (List ℕ)) (result : Result (Unit {0}) ToolFault)
     (old new : F) : Type 0 where
   pub refused : IsErrAnd result IsFileFault
   pub bad_line : (number : ℕ) → IsErrOf result (BadLine number) → OfBytes known (λ bytes. reading bytes ≡ BadAt number)
   pub stays : new ≡ old
 
--- a file is read first: nothing else was done, or this holds of what it says
+-- nothing else was done, or this holds of what the file says
 abbrev pub ReadsFirst : {T F : Type 0} → (List ℕ → FileReading T) → Option (List ℕ) → (List T → Type 0) → Result (Unit {0}) ToolFault
     → F → F → Type 0
 ReadsFirst reading known Holds result old new = IsUnread reading known result old new ⊎ AsSaid reading known Holds
 
--- the log of a folder is changed by what a file says, which is read first
 abbrev pub ChangesAsRead : {T F : Type 0} → Ghosts F → (List ℕ → FileReading T) → (List T → Meaning) → Option (List ℕ)
     → Result (Unit {0}) ToolFault → F → F → Type 0
 ChangesAsRead g reading meaning known result old new =
     ReadsFirst reading known (λ parts. ChangesLog (meaning parts) result (folder_view g old) (folder_view g new)) result old new
 
--- what each answer then says: nothing was done, or it is of what the file says
+-- nothing was done, or the answer is of what the file says
 pub record SaysAsRead {T : Type 0} (reading : List ℕ → FileReading T) (meaning : List T → Meaning) (known : Option (List ℕ))
     (result : Result (Unit {0}) ToolFault) (old new : FolderView) : Type 0 where
   pub leaves : (start : History) → BeginsAt start old.disk
@@ -215,13 +206,13 @@ pub record SaysAsRead {T : Type 0} (reading : List ℕ → FileReading T) (meani
   pub unchanged : IsErrAnd result IsNoLogFault → SameState old new
   pub count : IsCounted result old.failures new.failures
 
--- a repair: whatever is found has the table that was found before; on Ok the log is the text of that, which a repair leaves as it is
+-- whatever is found has the table that was found before; on Ok the log is its text, which a repair leaves as it is
 pub record Repairs (result : Result (Unit {0}) ToolFault) (old new : Option Disk) : Type 0 where
   pub keeps : (start : History) → BeginsAt start old → OfAllFound (HasTable start) new
   pub contents : (d : Disk) → old ≡ Some d → OnOk result (IsRepaired d.visible new)
   pub again : (d : Disk) → old ≡ Some d → OnOk result (StaysRepaired new)
 
--- a repair of a log of the version that is asked for, or else of the one that it has
+-- of the version that is asked for, or else of the one that the log has
 pub record RepairsFor (asked : Option LogVersion) (result : Result (Unit {0}) ToolFault) (old new : Option Disk) : Type 0 where
   pub version : LogVersion
   pub chosen : IsVersionFor asked old version

@@ -7,26 +7,21 @@ use Rattle.nl_table.specs.declared.log_user.KeepList.TheVariants.{All, Only}
 use Rattle.nl_session.specs.declared.events.Event.{Event}
 use Rattle.nl_session.specs.declared.events.Event.TheVariants.{Open as OpenLog, Recompact}
 
--- the list calls dead what isn't among these names
 abbrev pub IsDeadBut : List (List ℕ) → KeepList → Type 0
 IsDeadBut names keep = (λ (name : List ℕ). not (holds names name)) ≡ is_dead_by keep
 
--- so does the list of an event
 abbrev pub KeepsThese : Event → List (List ℕ) → Type 0
 KeepsThese (OpenLog keep) names = IsDeadBut names keep
 KeepsThese (Recompact keep) names = IsDeadBut names keep
 KeepsThese _ names = ⊤
 
--- a set that is made for an event has the names that this keeps
 abbrev pub SetsFor : Event → Option (List (List ℕ)) → Type 0
 SetsFor event kept = IfSome kept (KeepsThese event)
 
--- the list has names
 abbrev pub HasNames : KeepList → Type 0
 HasNames All = ⊥
 HasNames (Only names) = ⊤
 
--- the event has a list of names that it keeps
 abbrev pub KeepsNames : Event → Type 0
 KeepsNames (OpenLog keep) = HasNames keep
 KeepsNames (Recompact keep) = HasNames keep

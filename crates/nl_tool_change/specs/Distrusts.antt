@@ -12,15 +12,14 @@ use Rattle.nl_session.specs.declared.fault.LogFault.{LogFault}
 use Rattle.nl_session.specs.declared.fault.LogFault.TheVariants as refusal
 use Rattle.nl_folder.specs.FolderView.{FolderView, SameState}
 
--- the bytes are a log, where one of a version may be asked for, and these are the entries of its table that can't be trusted
+-- the bytes are a log of the version, if one is asked for, and these are the entries of its table that can't be trusted
 pub record AreDistrusted (asked : Option LogVersion) (bytes : List ℕ) (es : List Entry) : Type 0 where
   pub version : ℕ
   pub entries : List Entry
   pub is_log : log_for asked bytes ≡ Log version entries
   pub are : es ≡ distrusted_in version bytes (table (logged version entries))
 
--- why it isn't known which: the folder failed meanwhile, the bytes of an honest one are no log or one of another version, or memory was
--- wanting
+-- the folder failed meanwhile, the bytes of an honest one are no log or one of another version, or memory was wanting
 abbrev pub IsUntold : Option LogVersion → Option Disk → ℕ → ℕ → LogFault → Type 0
 IsUntold asked disk before after refusal.Fault = FailedBetween before after
 IsUntold asked disk before after refusal.NotALog = (d : Disk) → disk ≡ Some d → log_for asked d.visible ≡ NotALog
@@ -28,7 +27,7 @@ IsUntold asked disk before after refusal.OtherVersion = (d : Disk) → disk ≡ 
 IsUntold asked disk before after refusal.OutOfMemory = ⊤
 IsUntold asked disk before after _ = ⊥
 
--- the log of a folder was read, which stays as it is
+-- the folder stays as it is
 pub record Distrusts (asked : Option LogVersion) (old new : FolderView) (result : Result (List Entry) LogFault) : Type 0 where
   pub same : SameState old new
   pub rises : old.failures ≤ new.failures

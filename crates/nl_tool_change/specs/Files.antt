@@ -8,68 +8,58 @@ use Rattle.nl_fields.specs.Name.{is_name}
 use Rattle.nl_lines.specs.Lines.{max_line}
 use Rattle.nl_tool_texts.specs.Files.{file_lines}
 
--- what the lines of a file say: a part each, in order, or nothing, where the line of this number is the first bad one
+-- a part each, in order, or nothing, if the line of this number is the first bad one
 pub data FileReading (T : Type 0) : Type 0 where
   Says : List T → FileReading T
   BadAt : ℕ → FileReading T
 
--- what lines say with this part before it
 abbrev pub before : {T : Type 0} → T → FileReading T → FileReading T
 before part (Says parts) = Says (part ∷ parts)
 before part (BadAt number) = BadAt number
 
--- what the line of this number says before what the later ones say
 abbrev pub said_before : {T : Type 0} → Option T → ℕ → FileReading T → FileReading T
 said_before None number later = BadAt number
 said_before (Some part) number later = before part later
 
--- the part that a line is, if it isn't too long
+-- none of a line that is too long
 abbrev pub part_on : {T : Type 0} → (List ℕ → Option T) → List ℕ → Option T
 part_on part_of line = if nat_le (length line) max_line then part_of line else None
 
--- what lines say that are numbered from this number on, by the part that a line is; an empty one says nothing
+-- an empty line says nothing
 abbrev pub said_from : {T : Type 0} → (List ℕ → Option T) → ℕ → List (List ℕ) → FileReading T
 said_from part_of number [] = Says []
 said_from part_of number ([] ∷ lines) = said_from part_of (number + 1) lines
 said_from part_of number ((b ∷ line) ∷ lines) = said_before (part_on part_of (b ∷ line)) number (said_from part_of (number + 1) lines)
 
--- what lines say with the line of this number behind them
 abbrev pub said_after : {T : Type 0} → (List ℕ → Option T) → ℕ → List ℕ → FileReading T → FileReading T
 said_after part_of number line (BadAt earlier) = BadAt earlier
 said_after part_of number [] (Says parts) = Says parts
 said_after part_of number (b ∷ line) (Says parts) =
     elim (part_on part_of (b ∷ line)) [ None ↦ BadAt number | Some part ↦ Says (parts ++ part ∷ []) ]
 
--- what parts say, or the number of a bad line
 abbrev pub said_of : {T : Type 0} → List T → Option ℕ → FileReading T
 said_of parts None = Says parts
 said_of parts (Some number) = BadAt number
 
--- what a file says
 abbrev pub said_by : {T : Type 0} → (List ℕ → Option T) → List ℕ → FileReading T
 said_by part_of bytes = said_from part_of 1 (file_lines bytes)
 
--- a line of KEEP is a name
 abbrev pub name_on : List ℕ → Option (List ℕ)
 name_on line = if is_name line then Some line else None
 
--- the text before the first tab is an mtime in its one spelling, what follows the tab is a name
+-- what stands before the first tab is an mtime in its one spelling, and what follows the tab a name
 abbrev pub is_pair : List ℕ → List ℕ → Bool
 is_pair time name = is_within 63 (integer_of time) && (bytes_eq (decimal_of (integer_of time)) time && is_name name)
 
--- a line of TIMES is an mtime, a tab and a name
 abbrev pub pair_on : List ℕ → Option (List ℕ × ℤ)
 pair_on line = if is_pair (before_tab line) (after_tab line) then Some (after_tab line, integer_of (before_tab line)) else None
 
--- the names that KEEP holds
 abbrev pub keep_of : List ℕ → FileReading (List ℕ)
 keep_of bytes = said_by name_on bytes
 
--- the pairs that TIMES holds
 abbrev pub times_of : List ℕ → FileReading (List ℕ × ℤ)
 times_of bytes = said_by pair_on bytes
 
--- no byte is a space
 abbrev pub has_no_space : List ℕ → Bool
 has_no_space bytes = list_all (λ b. not (b == 32)) bytes
 
@@ -78,26 +68,25 @@ abbrev pub begins_rule : List ℕ → Bool
 begins_rule [] = false
 begins_rule (b ∷ bytes) = b == 32 && has_no_space bytes
 
--- what stands before the last space of a line, where that is this much of the bytes behind the first one
+-- before the last space of a line, if that is this much of the bytes behind the first one
 abbrev pub cut_behind : ℕ → List ℕ → Option (List ℕ) → Option (List ℕ)
 cut_behind b bytes (Some front) = Some (b ∷ front)
 cut_behind b bytes None = if b == 58 && begins_rule bytes then Some [] else None
 
--- what stands before the last space of a line, without the colon that has to stand there
+-- a colon must stand behind it, which is left out
 abbrev pub before_rule : List ℕ → Option (List ℕ)
 before_rule [] = None
 before_rule (b ∷ bytes) = cut_behind b bytes (before_rule bytes)
 
--- a line of the targets of a build is a name, `: ` and a rule, which has no space
+-- a name, `: ` and a rule, which has no space
 abbrev pub target_on : List ℕ → Option (List ℕ)
 target_on line = option_and_then name_on (before_rule line)
 
--- the targets are those of the lines, and there is one: a Ninja that fails prints none
+-- there must be one, because a Ninja that fails prints none
 abbrev pub some_said : FileReading (List ℕ) → FileReading (List ℕ)
 some_said (Says []) = BadAt 1
 some_said (Says (name ∷ names)) = Says (name ∷ names)
 some_said (BadAt number) = BadAt number
 
--- the targets of a build, as Ninja prints them
 abbrev pub manifest_of : List ℕ → FileReading (List ℕ)
 manifest_of bytes = some_said (said_by target_on bytes)

@@ -22,20 +22,20 @@ use Rattle.nl_tool_change.specs.Faults.{IsRecordFault}
 
 -- ---- a log that is read
 
--- why the bytes of a log weren't read: the folder failed meanwhile, or memory was wanting
+-- the folder failed meanwhile, or memory was wanting
 abbrev pub IsNoRead : ℕ → ℕ → LogFault → Type 0
 IsNoRead before after refusal.Fault = FailedBetween before after
 IsNoRead before after refusal.OutOfMemory = ⊤
 IsNoRead before after _ = ⊥
 
--- the bytes of the log of a folder were read, which stays as it is
+-- the folder stays as it is
 pub record ReadsLog (old new : FolderView) (result : Result (Vec ℕ) LogFault) : Type 0 where
   pub same : SameState old new
   pub rises : old.failures ≤ new.failures
   pub value : IfOk result (λ bytes. (d : Disk) → old.disk ≡ Some d → d.visible ≡ bytes.items)
   pub refusals : IfErr result (IsNoRead old.failures new.failures)
 
--- the same, with the fault that is said of it
+-- as it is said
 abbrev pub IsNoWhole : ℕ → ℕ → ToolFault → Type 0
 IsNoWhole before after Folder = FailedBetween before after
 IsNoWhole before after Memory = ⊤
@@ -49,8 +49,8 @@ pub record ReadsWhole (old new : FolderView) (result : Result (Vec ℕ) ToolFaul
 
 -- ---- a log that is mended
 
--- what is on disk then, of an honest folder: on Ok the text of the table with the intents, whatever crash comes; after any answer whatever
--- is found could be found before, or is that text; and bytes that are no log stay as they are
+-- of an honest folder: on Ok the text of the table with the intents, whatever crash comes; after any answer whatever is found could be found
+-- before, or is that text; and bytes that are no log stay as they are
 pub record MendsDisk (names : List (List ℕ)) (result : Result (Unit {0}) ToolFault) (old new : Option Disk) : Type 0 where
   pub contents : OnOk result (Rewrites (with_intents names) old new)
   pub left : IsErrOf result Folder → MendFaults names old new
@@ -58,7 +58,7 @@ pub record MendsDisk (names : List (List ℕ)) (result : Result (Unit {0}) ToolF
   pub either : IsOldOrMended names old new
   pub untouched : (d : Disk) → old ≡ Some d → ¬ IsLog d.visible → new ≡ old
 
--- the outputs of these names get intents over their entries; after Ok no cut or rename awaits a sync, and there is no scratch
+-- after Ok no cut or rename awaits a sync, and there is no scratch
 pub record MendsLog (names : List (List ℕ)) (result : Result (Unit {0}) ToolFault) (old new : FolderView) : Type 0 where
   pub disk : MendsDisk names result old.disk new.disk
   pub settled : OnOk result (IsTrue new.is_settled)

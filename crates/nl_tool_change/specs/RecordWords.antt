@@ -9,7 +9,7 @@ use Rattle.nl_fields.specs.Name.{HasFault, IsName}
 use Rattle.nl_tool_texts.specs.declared.fault.ToolFault.{ToolFault}
 use Rattle.nl_tool_texts.specs.declared.fault.ToolFault.TheVariants.{Memory, BadNumber, EmptyName, BadByte, LongName}
 
--- the three texts spell numbers in their ranges
+-- in their ranges
 pub record AreNumbers (start end mtime : List ℕ) : Type 0 where
   pub start_ms : ℤ
   pub start_fits : FitsSigned w32 start_ms
@@ -21,26 +21,23 @@ pub record AreNumbers (start end mtime : List ℕ) : Type 0 where
   pub time_fits : FitsSigned w64 time
   pub time_is : IsDecimal time mtime
 
--- the words give an entry: three numbers and a name
+-- three numbers and a name
 pub record GiveEntry (start end mtime name : List ℕ) : Type 0 where
   pub numbers : AreNumbers start end mtime
   pub named : IsName name
 
--- the entry has these numbers and this name
 pub record IsEntryOf (start end mtime name : List ℕ) (e : Entry) : Type 0 where
   pub start_is : IsDecimal e.start_ms start
   pub end_is : IsDecimal e.end_ms end
   pub mtime_is : IsDecimal e.mtime mtime
   pub name_is : e.name ≡ name
 
--- the fault of a word that is no name
 abbrev pub of_name_fault : NameFault → ToolFault
 of_name_fault name.Empty = EmptyName
 of_name_fault (name.BadByte at) = BadByte at
 of_name_fault name.TooLong = LongName
 of_name_fault name.OutOfMemory = Memory
 
--- the text is no name, for this reason
 pub record IsNoName (bytes : List ℕ) (fault : ToolFault) : Type 0 where
   pub why : NameFault
   pub has : HasFault bytes why

@@ -10,7 +10,6 @@ use Rattle.nl_tool_change.specs.declared.seen.AnyLog.{AnyLog}
 use Rattle.nl_tool_change.specs.declared.seen.AnyLog.TheVariants.{OfFive, OfSix, OfSeven}
 use Rattle.nl_folder.specs.FolderView.{FolderView}
 
--- the version, and what is seen as of it
 pub record Seen : Type 0 where
   pub version : LogVersion
   pub view : LogView
@@ -20,8 +19,7 @@ seen_of (OfFive log) = record { version = Five; view = view_of log }
 seen_of (OfSix log) = record { version = Six; view = view_of log }
 seen_of (OfSeven log) = record { version = Seven; view = view_of log }
 
--- a closed log over a folder that is seen as of its version: through a folder that asks for a sync first, and knows of no scratch, where that
--- isn't 5
+-- a closed log; a version other than 5 is seen through a folder that asks for a sync first, and knows of no scratch
 pub record Begins (found : FolderView) (seen : Seen) : Type 0 where
   pub closed : seen.view.mode ≡ Closed
   pub disk : seen.view.folder.disk ≡ seen_as_version seen.version found.disk
@@ -29,7 +27,6 @@ pub record Begins (found : FolderView) (seen : Seen) : Type 0 where
   pub five : seen.version ≡ Five → seen.view.folder ≡ found
   pub other : (seen.version ≡ Five → ⊥) → (seen.view.folder.is_settled ≡ false) × (seen.view.folder.has_scratch ≡ false)
 
--- the folder below a log, as it is handed back
 pub record HandsBack (seen : Seen) (left : FolderView) : Type 0 where
   pub disk : left.disk ≡ seen_as_version seen.version seen.view.folder.disk
   pub settled : IsTrue seen.view.folder.is_settled → IsTrue left.is_settled

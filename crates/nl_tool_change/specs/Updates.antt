@@ -17,62 +17,58 @@ use Rattle.nl_session.specs.States.{IsAt}
 use Rattle.nl_tool_texts.specs.Files.{OfBytes}
 use Rattle.nl_tool_change.specs.Files.{FileReading, Says}
 
--- no output is dead
 abbrev pub none_dead : List ℕ → Bool
 none_dead name = false
 
--- what isn't among the names is dead
 abbrev pub dead_but : List (List ℕ) → List ℕ → Bool
 dead_but names name = not (holds names name)
 
--- the history that an open leaves, which drops nothing
+-- it drops nothing
 abbrev pub history_kept : History → History
 history_kept h = history_opened none_dead h
 
--- that history and then the update, which depends on it
+-- the update depends on that history
 abbrev pub history_updated : (History → Update) → History → History
 history_updated update start = Then (history_kept start) (update (history_kept start))
 
--- this holds of whatever is found, also after a crash
+-- also after a crash
 abbrev pub OfAllFound : (List ℕ → Type 0) → Option Disk → Type 0
 OfAllFound Holds disk = IsSomeAnd disk (λ d. (bs : List ℕ) → IsImage d bs → Holds bs)
 
--- the bytes represent the history that was found, the one that an open leaves, or that and then the update
+-- the history that was found, the one that an open leaves, or that and then the update
 abbrev pub MayRepresent : (History → Update) → History → List ℕ → Type 0
 MayRepresent update start bs = Represents bs start ⊎ Represents bs (history_kept start) ⊎ Represents bs (history_updated update start)
 
--- what is found after the answer to an update of a log with this history
+-- after the answer to an update of a log with this history
 abbrev pub UpdateLeaves : {E : Type 0} → (History → Update) → History → Result Unit E → Option Disk → Type 0
 UpdateLeaves update start (Ok done) disk = OfAllFound (λ bs. Represents bs (history_updated update start)) disk
 UpdateLeaves update start (Err fault) disk = OfAllFound (MayRepresent update start) disk
 
--- the bytes that are made of opened ones and their table are the log, and every crash leaves them so
+-- every crash leaves them so
 abbrev pub IsUpdated : (List Entry → List ℕ → List ℕ) → List ℕ → Option Disk → Type 0
 IsUpdated bytes found disk =
     IsSomeAnd (history_of (opened_bytes none_dead found)) (λ h. IsDurable (bytes (table h) (opened_bytes none_dead found)) disk)
 
--- the text that a repair leaves of the bytes of a log: the header line, and the line of each entry of its table, in order
+-- the header line, and the line of each entry of its table, in order
 abbrev pub repaired_text : List ℕ → Option (List ℕ)
 repaired_text bytes = option_map (λ (h : History). text_of (table h)) (history_of bytes)
 
--- the bytes were a log, and what a repair leaves of them is the log, whatever crash comes
+-- the bytes were a log, and the repaired text is the log, whatever crash comes
 abbrev pub IsRepaired : List ℕ → Option Disk → Type 0
 IsRepaired found disk = IsSomeAnd (repaired_text found) (λ text. IsDurable text disk)
 
--- a repair leaves the log as it is
 abbrev pub StaysRepaired : Option Disk → Type 0
 StaysRepaired disk = IsSomeAnd disk (λ d. repaired_text d.visible ≡ Some d.visible)
 
--- the bytes are a log with the table of this history
 abbrev pub HasTable : History → List ℕ → Type 0
 HasTable h bs = IsSomeAnd (history_of bs) (λ (found : History). table found ≡ table h)
 
--- the bytes were a log, and the log is what an open leaves of it, whatever crash comes
+-- of bytes that were a log, whatever crash comes
 pub record IsOpenLeft (found : Disk) (disk : Option Disk) : Type 0 where
   pub log : IsLog found.visible
   pub left : IsDurable (opened_bytes none_dead found.visible) disk
 
--- nothing of an update was made: the disk is as it was, or opened
+-- the disk is as it was, or opened
 abbrev pub IsUnmade : Disk → Option Disk → Type 0
 IsUnmade found disk = (disk ≡ Some found) ⊎ IsOpenLeft found disk
 
@@ -82,12 +78,11 @@ pub record AsSaid {T : Type 0} (reading : List ℕ → FileReading T) (known : O
   pub said : OfBytes known (λ bytes. reading bytes ≡ Says parts)
   pub holds : Holds parts
 
--- where an open log goes by its answer to this update
 abbrev pub GoesBy : Update → Result Unit LogFault → State → State → Type 0
 GoesBy update (Ok done) s t = (t ≡ gained_state s update) ⊎ (t ≡ durable_at (Then (all_of s) update) Open)
 GoesBy update (Err why) s t = (t ≡ s) ⊎ MayHaveGained s update t
 
--- the log goes there from the state at which it was
+-- from the state at which the log was
 pub record Changes (update : Update) (result : Result Unit LogFault) (s : State) (disk : Option Disk) (settled : Bool) (mode : LogState)
     (entries : List Entry) : Type 0 where
   pub next : State

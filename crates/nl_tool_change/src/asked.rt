@@ -12,7 +12,7 @@ use nl_table::Secret;
 use nl_tool_script::{LineRefusal, read_event_line, read_names, split_tab};
 use std::alloc::Global;
 
-/// A command that begins: the moment in the build, its hash, and its outputs.
+/// The moment in the build, the command's hash, and its outputs.
 #[derive(Drop)]
 pub struct Begin {
     pub moment_ms: i32,
@@ -20,7 +20,6 @@ pub struct Begin {
     pub names: Vec<Name>,
 }
 
-/// What a line asks for.
 #[derive(Drop)]
 pub enum Asked<'a> {
     Does(Deed),
@@ -30,15 +29,13 @@ pub enum Asked<'a> {
     Lists,
     /// The outputs of a closed log that can't be trusted.
     Doubts,
-    /// The intents of a command.
     Begins(Begin),
-    /// Nothing that there is.
     Bad,
-    /// It isn't known: memory was wanting.
+    /// Memory was wanting, so nobody knows.
     Unread,
 }
 
-/// What a line asks for. A crash isn't asked for.
+/// No line asks for a crash.
 pub fn read_asked(alloc: Global, secret: Secret, line: &[u8]) -> Asked<'_>
     ensures asks { Asks line.now result }
 {
@@ -49,7 +46,6 @@ pub fn read_asked(alloc: Global, secret: Secret, line: &[u8]) -> Asked<'_>
     }
 }
 
-// What another line asks for.
 fn read_other(alloc: Global, secret: Secret, line: &[u8]) -> Asked<'_>
     requires other { line.now ≢ codes "distrusted" }
     ensures asks { Asks line.now result }
@@ -68,7 +64,6 @@ fn read_other(alloc: Global, secret: Secret, line: &[u8]) -> Asked<'_>
     }
 }
 
-// What is asked for by an event.
 fn does(alloc: Global, secret: Secret, event: Event) -> Asked<'static>
     requires no_crash { event ≢ Crash }
     requires some { KeepsSome event }
@@ -80,7 +75,7 @@ fn does(alloc: Global, secret: Secret, event: Event) -> Asked<'static>
     }
 }
 
-// What is asked for by bytes in the place of a name.
+// `name` may be no name.
 fn gets(name: &[u8]) -> Asked<'_>
     ensures asks { Asks (codes "get" ++ 9 ∷ name.now) result }
 {
@@ -90,7 +85,7 @@ fn gets(name: &[u8]) -> Asked<'_>
     }
 }
 
-// What is asked for by bytes in the place of a moment, a hash and names.
+// `fields` may be no moment, hash and names.
 fn begins(alloc: Global, fields: &[u8]) -> Asked<'_>
     ensures asks { Asks (codes "begin" ++ 9 ∷ fields.now) result }
 {
@@ -101,7 +96,6 @@ fn begins(alloc: Global, fields: &[u8]) -> Asked<'_>
     }
 }
 
-// A moment, a hash, and names behind them.
 fn read_begin(alloc: Global, fields: &[u8]) -> Result<Begin, LineRefusal>
     ensures value { IfOk result
         (λ begin. BeginsBy begin.moment_ms begin.hash begin.names.items fields.now) }

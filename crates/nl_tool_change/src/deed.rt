@@ -1,4 +1,4 @@
-//! An event that a line asks for, with the names that it keeps as a set: the memory of that is taken before the log is touched.
+//! An event that a line asks for, with the names that it keeps as a set, which takes its memory before the log is touched.
 ghost use Rattle.std.specs.Prelude.{◌≡◌, ◌≢◌, IfOk, IfSome, IsErr};
 ghost use Rattle.nl_table.specs.History.{holds};
 ghost use Rattle.nl_table.specs.Table.{each_once};
@@ -16,7 +16,7 @@ use nl_table::{KeepList, NameSet, Secret};
 use std::alloc::{AllocError, Global};
 use std::marker::Model;
 
-/// An event, and the set of the names that it keeps, where it has a list of them.
+/// `kept` is the set of the names that the event keeps, if it has a list of them.
 #[derive(Drop)]
 pub struct Deed {
     event: Event,
@@ -50,7 +50,7 @@ impl Deed {
         &self.event
     }
 
-    /// Asks it of a log. No name is compared with each of those that are kept.
+    /// It looks names up in the set, because comparing each with each would take too long.
     pub(crate) fn ask<F: Folder>(&self, log: &mut Log<F>) -> Reply
         requires no_crash { self.now ≢ Event.Crash }
         ensures answered { Answered self.now result (view_of log.old) (view_of log.new) }
@@ -63,7 +63,7 @@ impl Deed {
     }
 }
 
-// The set of the names that an event keeps, where it has a list of them.
+// None without a list.
 fn set_for(alloc: Global, secret: Secret, event: &Event) -> Result<Option<NameSet>, AllocError>
     ensures value { IfOk result (SetsFor event.now) }
     ensures memory { IsErr result → KeepsNames event.now }
@@ -75,7 +75,6 @@ fn set_for(alloc: Global, secret: Secret, event: &Event) -> Result<Option<NameSe
     }
 }
 
-// The set of the names that a list keeps, where it has some.
 fn kept_by(alloc: Global, secret: Secret, keep: &KeepList) -> Result<Option<NameSet>, AllocError>
     ensures value { IfOk result (λ kept. IfSome kept (λ names. IsDeadBut names keep.now)) }
     ensures memory { IsErr result → HasNames keep.now }

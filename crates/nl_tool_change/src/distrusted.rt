@@ -15,8 +15,8 @@ use nl_table::{LoadFault, Secret, Table};
 use nl_versions::{LogVersion, load_seen};
 use std::alloc::Global;
 
-/// The entries whose outputs can't be trusted, of a log of the version that is asked for, or where none is, of the one
-/// that its first line names. It takes the memory of the log's bytes, and of its table.
+/// Of a log of the version that is asked for, or else of the one that its first line names. It takes the memory of the log's bytes, and of
+/// its table.
 pub fn distrusted_for<F: Folder>(
     alloc: Global,
     secret: Secret,
@@ -36,7 +36,6 @@ pub fn distrusted_for<F: Folder>(
     }
 }
 
-// Those of the log that the bytes are.
 fn distrusted_of(
     alloc: Global,
     secret: Secret,

@@ -25,7 +25,7 @@ impl Part for Name {
     }
 }
 
-/// Reads KEEP. It takes the memory of the names, and of an index over them, by hashes under a secret.
+/// It takes the memory of the names, and of an index over them, by hashes under the secret.
 pub fn read_keep<R: Read + Drop>(
     alloc: Global,
     secret: Secret,

@@ -1,4 +1,4 @@
-//! Laws of a repaired log, of one that is damaged, and of a change by a file, each the contract of a function that does nothing.
+//! Laws of a repaired log, of a damaged one, and of a change by a file. Each is the contract of a function that does nothing.
 ghost use Rattle.std.specs.Prelude.{◌≡◌, ◌↔◌, [], ℕ, List, Option, Some, Result};
 ghost use Rattle.nl_lines.specs.Split.{torn_len};
 ghost use Rattle.nl_table.specs.Log.{skipped_count};
@@ -11,18 +11,17 @@ ghost use Rattle.nl_tool_change.specs.Updates.{repaired_text};
 
 use nl_folder::Folder;
 
-/// `damage` prints nothing of a log exactly where `check` counts no skipped line and no torn byte.
+/// `damage` prints nothing of a log exactly if `check` counts no skipped line and no torn byte.
 pub fn damage_is_what_check_counts()
     ensures { (bytes text : List ℕ) → damage_text_of bytes ≡ Some text
         → (text ≡ []) ↔ ((skipped_count bytes ≡ 0) × (torn_len bytes ≡ 0)) }
 {}
 
-/// Of a log that a repair leaves as it is `damage` prints nothing.
 pub fn a_repaired_log_has_no_damage()
     ensures { (bytes : List ℕ) → repaired_text bytes ≡ Some bytes → damage_text_of bytes ≡ Some [] }
 {}
 
-/// Where KEEP is read first, each answer of a change by it is of the names that it holds, or nothing was done.
+/// Each answer of a change by KEEP is of the names that it holds, or nothing was done.
 pub fn keep_is_read_first<F: Folder>()
     ensures { (known : Option (List ℕ)) (result : Result (Unit {0}) ToolFault) (old new : F)
         → ChangesAsRead F.Folder keep_of keeping known result old new
@@ -30,7 +29,7 @@ pub fn keep_is_read_first<F: Folder>()
         (folder_view F.Folder new) }
 {}
 
-/// Where TIMES is read first, each answer of a change by it is of the pairs that it holds, or nothing was done.
+/// Each answer of a change by TIMES is of the pairs that it holds, or nothing was done.
 pub fn times_are_read_first<F: Folder>()
     ensures { (known : Option (List ℕ)) (result : Result (Unit {0}) ToolFault) (old new : F)
         → ChangesAsRead F.Folder times_of touching known result old new

@@ -1,7 +1,7 @@
-//! The version of the log in a folder, by its first line: it is looked at once, before anything else is asked of the folder.
+//! The version of the log in a folder, by its first line, which is looked at once, before anything else is asked of the folder.
 //!
-//! A log of version 6 or 7 is changed through a folder that sees it as one of version 5. That one would take a log of
-//! version 4 too, and write it anew as one of the version: so where 6 or 7 is asked for, a log of version 4 is of another.
+//! A log of version 6 or 7 is changed through a folder that sees it as one of version 5. That folder would take a log of version 4 too, and
+//! write it anew as one of the version, so if 6 or 7 is asked for, a log of version 4 is of another.
 ghost use Rattle.std.specs.Prelude.{◌≢◌, None, Some};
 ghost use Rattle.nl_versions.specs.declared.version.LogVersion.{LogVersion};
 ghost use Rattle.nl_tool_change.specs.Calls.{Looks};
@@ -11,8 +11,8 @@ use nl_folder::Folder;
 use nl_session::LogFault;
 use nl_versions::{LogVersion, first_line_in};
 
-/// The version as one of which the log of a folder is taken: the one that is asked for, or else the one that its first
-/// line names. The folder stays as it is, and isn't looked at where 5 is asked for.
+/// The version that is asked for, or else the one that the log's first line names. The folder stays as it is, and isn't looked at if 5 is
+/// asked for.
 pub fn look_for<F: Folder>(
     asked: Option<LogVersion>,
     folder: F,

@@ -12,7 +12,6 @@ use std::alloc::{AllocError, Global};
 use std::io::Read;
 use std::marker::Model;
 
-/// The name of a target.
 #[derive(Drop)]
 pub struct Target {
     name: Name,
@@ -38,7 +37,7 @@ impl Part for Target {
     }
 }
 
-// What stands before the last space of a line, without the colon that has to stand there.
+// A colon must stand behind it, which is left out.
 fn before_rule(line: &[u8]) -> Option<&[u8]>
     ensures value { option_map (λ target. target.now) result ≡ before_rule line.now }
 {
@@ -52,7 +51,6 @@ fn before_rule(line: &[u8]) -> Option<&[u8]>
     None
 }
 
-// What stands before a colon at the end.
 fn before_colon(bytes: &[u8]) -> Option<&[u8]>
     ensures found { IfSome result (λ front. bytes.now ≡ front.now ++ 58 ∷ []) }
     ensures none { IsNone result → (front : List ℕ) → bytes.now ≡ front ++ 58 ∷ [] → ⊥ }
@@ -63,7 +61,7 @@ fn before_colon(bytes: &[u8]) -> Option<&[u8]>
     }
 }
 
-/// Reads the targets of a build. There has to be one: a Ninja that fails prints none. It takes the memory of the names.
+/// There must be one, because a Ninja that fails prints none. It takes the memory of the names.
 pub fn read_manifest<R: Read + Drop>(alloc: Global, reader: R) -> Result<Vec<Name>, ToolFault>
     ensures value { IfOk result (λ names.
         OfBytes (R.remaining reader) (λ bytes. manifest_of bytes ≡ Says names.items)) }

@@ -15,8 +15,7 @@ use nl_tool_texts::ToolFault;
 use nl_versions::{LogVersion, Version, VersionFolder, VersionSeven, VersionSix};
 use std::alloc::Global;
 
-/// Puts an intent over the entry of each output that is named, in the log of a folder, and makes it durable. What is damaged is
-/// gone after it.
+/// Puts an intent over the entry of each output that is named, and makes that durable. What was damaged is gone then.
 pub fn mend_on<F: Folder>(
     alloc: Global,
     place: FoundFolder<F>,
@@ -39,7 +38,6 @@ pub fn mend_on<F: Folder>(
     }
 }
 
-// Mends the log of a folder as it is.
 fn mend_log<F: Folder>(
     alloc: Global,
     secret: Secret,
@@ -57,7 +55,7 @@ fn mend_log<F: Folder>(
     }
 }
 
-// Mends it through a folder that sees the log as one of version 5.
+// Through a folder that sees the log as one of version 5.
 fn mend_seen<F: Folder, V: Version>(
     alloc: Global,
     secret: Secret,

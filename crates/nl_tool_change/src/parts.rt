@@ -11,26 +11,23 @@ use nl_tool_texts::ToolFault;
 use std::alloc::{AllocError, Global};
 use std::io::Read;
 
-/// What a line of a file says.
 pub trait Part: Drop {
-    // The part that a line is, where it is one.
     ghost part_of: { List ℕ → Option Self };
 
     fn read(alloc: Global, line: &[u8]) -> Result<Option<Self>, AllocError>
         ensures value { IfOk result (λ part. part ≡ part_of line.now) };
 }
 
-// What the lines so far say.
 #[derive(Drop)]
 struct SoFar<P: Part> {
     parts: Vec<P>,
-    // How many lines there were, with those that say nothing.
+    // With the lines that say nothing.
     count: u64,
-    // The number of the first bad one.
+    // The number of the first bad line.
     bad: Option<u64>,
 }
 
-/// The parts of the file that a reader gives, which is read to its end.
+/// It reads the file to its end.
 pub fn read_parts<P: Part, R: Read + Drop>(alloc: Global, reader: R) -> Result<Vec<P>, ToolFault>
     ensures value { IfOk result (λ parts.
         OfBytes (R.remaining reader) (λ bytes. said_by P.part_of bytes ≡ Says parts.items)) }
@@ -42,7 +39,6 @@ pub fn read_parts<P: Part, R: Read + Drop>(alloc: Global, reader: R) -> Result<V
     parts_of(so_far)
 }
 
-// What all lines of a source say.
 fn read_lines<P: Part, S: Source>(alloc: Global, source: &mut S) -> Result<SoFar<P>, ToolFault>
     ensures value { IfOk result (λ so_far. OfBytes (S.ahead source.old)
         (λ bytes. said_by P.part_of bytes ≡ said_of so_far.parts.items so_far.bad)) }
@@ -67,7 +63,6 @@ fn read_lines<P: Part, S: Source>(alloc: Global, source: &mut S) -> Result<SoFar
     }
 }
 
-// Takes in a line of up to the length of a line.
 fn take<P: Part>(alloc: Global, line: &[u8], so_far: &mut SoFar<P>) -> Result<(), AllocError>
     requires short { length line.now ≤ max_line }
     requires room { so_far.old.count < 2 ^ 63 }
@@ -86,7 +81,7 @@ fn take<P: Part>(alloc: Global, line: &[u8], so_far: &mut SoFar<P>) -> Result<()
     Ok(())
 }
 
-// Takes in a line that is too long.
+// A line that is too long.
 fn refuse<P: Part>(so_far: &mut SoFar<P>)
     requires room { so_far.old.count < 2 ^ 63 }
     ensures value { (line : List ℕ) → max_line < length line
@@ -100,7 +95,7 @@ fn refuse<P: Part>(so_far: &mut SoFar<P>)
     }
 }
 
-// Takes in what follows the last newline, as it is lent.
+// What follows the last newline, as it is lent.
 fn take_rest<P: Part>(
     alloc: Global,
     len: u64,
@@ -121,7 +116,6 @@ fn take_rest<P: Part>(
     take(alloc, lent, so_far)
 }
 
-// The parts, unless a line was bad.
 fn parts_of<P: Part>(so_far: SoFar<P>) -> Result<Vec<P>, ToolFault>
     ensures value { MatchResult result (λ parts. (so_far.bad ≡ None) × (parts ≡ so_far.parts))
         (λ e. IsSomeAnd so_far.bad (λ number. e ≡ ToolFault.BadLine number)) }

@@ -15,26 +15,23 @@ use nl_tool_texts::ToolFault;
 use nl_versions::{LogVersion, Version, VersionFolder, VersionSeven, VersionSix};
 use std::alloc::Global;
 
-/// Where a log stands that is changed: each folder is a place, whose log is changed as it is.
+/// Each folder is a place, whose log is changed as it is.
 pub trait LogPlace: Sized {
-    // What a change does, by what it means and by its answer.
+    // By what the change means, and by its answer.
     ghost changes: { Meaning → Result (Unit {0}) ToolFault → Self → Self → Type 0 };
 
-    // What a change that drops nothing leaves, by its answer.
+    // Of a change that drops nothing.
     ghost repairs: { Result (Unit {0}) ToolFault → Self → Self → Type 0 };
 
-    /// The secret under which names are hashed.
     fn secret(&self) -> Secret;
 
-    /// Makes a change of the log durable.
     fn change<C: Change>(self, alloc: Global, change: &C) -> (Self, Result<(), ToolFault>)
         ensures call { changes (C.meaning change.now) result.1 self result.0 }
         ensures repairs { C.meaning change.now ≡ keeping_all → repairs result.1 self result.0 }
         ensures faults { IfErr result.1 (IsFaultBy (C.meaning change.now)) };
 }
 
-/// A folder whose log is one of the version that is asked for, or where none is, of the one that its first line names. Names
-/// are hashed under a secret.
+/// The log is one of the version that is asked for, or else of the one that its first line names. Names are hashed under the secret.
 #[derive(Drop)]
 pub struct AskedFolder<F> {
     pub secret: Secret,
@@ -42,7 +39,7 @@ pub struct AskedFolder<F> {
     pub folder: F,
 }
 
-/// A folder whose log was found to be one of the version, or is taken for one. Names are hashed under a secret.
+/// The log was found to be one of the version, or is taken for one. Names are hashed under the secret.
 #[derive(Drop)]
 pub struct FoundFolder<F> {
     pub secret: Secret,
@@ -64,7 +61,6 @@ impl<F: Folder> LogPlace for F {
     }
 }
 
-// Makes a change of the log of a folder durable.
 fn change_on<F: Folder, C: Change>(
     alloc: Global,
     secret: Secret,
@@ -138,7 +134,7 @@ impl<F: Folder> LogPlace for FoundFolder<F> {
     }
 }
 
-// Makes a change durable through a folder that sees the log as one of version 5.
+// Through a folder that sees the log as one of version 5.
 fn change_seen<F: Folder, V: Version, C: Change>(
     alloc: Global,
     secret: Secret,

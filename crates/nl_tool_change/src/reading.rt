@@ -12,10 +12,10 @@ use nl_session::LogFault;
 use nl_tool_texts::ToolFault;
 use std::alloc::Global;
 
-// How many bytes are asked for at a time.
+// Bytes of one read.
 const ASKED_LEN: usize = 65_536;
 
-/// All bytes of the log of a folder, which stays as it is. It takes their memory.
+/// The folder stays as it is. It takes the memory of the bytes.
 pub fn read_log<F: Folder>(alloc: Global, folder: F) -> (F, Result<Vec<u8>, ToolFault>)
     ensures reads { ReadsWhole (folder_view F.Folder folder) (folder_view F.Folder result.0)
         result.1 }
@@ -27,7 +27,6 @@ pub fn read_log<F: Folder>(alloc: Global, folder: F) -> (F, Result<Vec<u8>, Tool
     }
 }
 
-/// The same, with the fault of a log.
 pub(crate) fn read_bytes<F: Folder>(alloc: Global, folder: F) -> (F, Result<Vec<u8>, LogFault>)
     ensures reads { ReadsLog (folder_view F.Folder folder) (folder_view F.Folder result.0)
         result.1 }
@@ -38,7 +37,6 @@ pub(crate) fn read_bytes<F: Folder>(alloc: Global, folder: F) -> (F, Result<Vec<
     (reader.folder, answer)
 }
 
-// All bytes that a source has left.
 fn read_all<S: Source>(alloc: Global, source: &mut S) -> Result<Vec<u8>, LogFault>
     ensures value { IfOk result (λ all. IfSome (S.ahead source.old) (λ bytes. bytes ≡ all.items)) }
     ensures cause { IsErrOf result LogFault.Fault

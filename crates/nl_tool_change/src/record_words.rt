@@ -5,7 +5,7 @@ ghost use Rattle.nl_tool_change.specs.RecordWords.{GiveEntry, IsEntryOf, IsWordF
 use nl_fields::{EntryRef, NameFault, read_i32, read_i64};
 use nl_tool_texts::ToolFault;
 
-/// The entry with these values, which has no hash yet. The numbers are read first, and then the name.
+/// The entry has no hash yet. The numbers are read first, and then the name.
 pub fn entry_of<'a>(
     start: &str,
     end: &str,

@@ -3,7 +3,7 @@ use Rattle.std.specs.Prelude.{⊤}
 use Rattle.nl_tool_texts.specs.declared.fault.ToolFault.{ToolFault}
 use Rattle.nl_tool_texts.specs.declared.fault.ToolFault.TheVariants.{NotALog, OtherVersion, Read, Memory, Write}
 
--- the faults of a command that reads a log
+-- of a command that reads a log
 abbrev pub IsLogFault : ToolFault → Type 0
 IsLogFault NotALog = ⊤
 IsLogFault OtherVersion = ⊤
@@ -12,13 +12,11 @@ IsLogFault Memory = ⊤
 IsLogFault Write = ⊤
 IsLogFault _ = ⊥
 
--- the faults of a command that reads no file
 abbrev pub IsHashFault : ToolFault → Type 0
 IsHashFault Memory = ⊤
 IsHashFault Write = ⊤
 IsHashFault _ = ⊥
 
--- the faults of one that hashes what a file holds
 abbrev pub IsHashFileFault : ToolFault → Type 0
 IsHashFileFault Read = ⊤
 IsHashFileFault fault = IsHashFault fault

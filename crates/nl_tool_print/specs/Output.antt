@@ -9,19 +9,19 @@ use Rattle.nl_table.specs.Due.{is_due}
 use Rattle.nl_table.specs.History.{logged, table}
 use Rattle.nl_table.specs.Log.{LogReading, Log, NotALog, OtherVersion, log_of, skipped_count}
 
--- a text is held but for its prefix, by which known bytes grew
+-- known bytes grew by a prefix of the text, and the rest is held
 pub record HoldsAllBut (old new : Option (List ℕ)) (text held : List ℕ) : Type 0 where
   pub written : List ℕ
   pub is : text ≡ written ++ held
   pub appended : Appends old new written
 
--- the text of `hash`: the hash in its one spelling, and a newline
+-- in its one spelling, and a newline
 pub record IsHashText (command text : List ℕ) : Type 0 where
   pub hash : ℕ
   pub is_hash : IsHash command hash
   pub is : text ≡ digits_of 16 hash ++ 10 ∷ []
 
--- the text of `show`: the line of each entry of the table, in order; none where there is no log
+-- the line of each entry of the table, in order; none if there is no log
 abbrev pub show_text : LogReading → Option (List ℕ)
 show_text (Log version entries) = Some (joined (map line_of (table (logged version entries))))
 show_text OtherVersion = None
@@ -39,11 +39,10 @@ report_lines version total unique skipped torn due = codes "version " ++ decimal
     ++ codes "\nunique " ++ decimal unique ++ codes "\nskipped " ++ decimal skipped ++ codes "\ntorn " ++ decimal torn
     ++ codes "\ndue " ++ due ++ codes "\n"
 
--- the six lines of `check`, by the counts
 abbrev pub report : ℕ → ℕ → ℕ → ℕ → ℕ → List ℕ
 report version total unique skipped torn = report_lines version total unique skipped torn (yes_or_no (is_due version total unique))
 
--- the text of `check`, by the numbers of skipped lines and of torn bytes; none where there is no log
+-- by the numbers of skipped lines and of torn bytes; none if there is no log
 abbrev pub checked_of : ℕ → ℕ → LogReading → Option (List ℕ)
 checked_of skipped torn (Log version entries) =
     Some (report version (length entries) (length (table (logged version entries))) skipped torn)
@@ -53,7 +52,7 @@ checked_of skipped torn NotALog = None
 abbrev pub check_text_of : List ℕ → Option (List ℕ)
 check_text_of bytes = checked_of (skipped_count bytes) (torn_len bytes) (log_of bytes)
 
--- the text is that of the bytes which a reader gave: the known ones where they are known
+-- of the bytes that a reader gave, where they are known
 pub record IsTextAsRead (text_of : List ℕ → Option (List ℕ)) (known : Option (List ℕ)) (text : List ℕ) : Type 0 where
   pub bytes : List ℕ
   pub given : IfSome known (λ bs. bs ≡ bytes)

@@ -1,5 +1,4 @@
--- What the commands print that go through a log line by line (docs/CLI.md, "`entries`" and "`damage`"), and what a writer
--- holds after them.
+-- What the commands print that go through a log line by line, and what a writer then holds (docs/CLI.md, "`entries`" and "`damage`").
 use Rattle.std.specs.Prelude.{◌≡◌, ℕ, ◌+◌, ◌==◌, ◌&&◌, nat_le, nat_lt, Bool, false, List, [], ◌∷◌, ◌++◌, length, drop, Option, None, Some}
 use Rattle.std.specs.Prelude.{IfSome, Result, Ok, Err, codes, decimal, count_by, if◌then◌else◌}
 use Rattle.std.specs.Io.KnownBytes.{Appends}
@@ -18,12 +17,12 @@ use Rattle.nl_tool_print.specs.Output.{IsTextAsRead}
 
 -- ---- the text of a log that is told line by line
 
--- the text of each line in order, where the first has this number
+-- the first line has this number
 abbrev pub texts_from : (ℕ → List ℕ → List ℕ) → ℕ → List (List ℕ) → List ℕ
 texts_from of_line number [] = []
 texts_from of_line number (line ∷ lines) = of_line number line ++ texts_from of_line (number + 1) lines
 
--- the text of each line after the first, and that of the rest, by the version and by their numbers; none where there is no log
+-- of each line after the first, and of the rest, by the version and by their numbers; none if there is no log
 abbrev pub text_by_parts : (ℕ → ℕ → List ℕ → List ℕ) → (ℕ → ℕ → List ℕ → List ℕ) → List (List ℕ) → List ℕ → LogReading → Option (List ℕ)
 text_by_parts of_line of_rest lines rest (Log version entries) =
     Some (texts_from (of_line version) 2 (drop 1 lines) ++ of_rest version (length lines + 1) rest)
@@ -35,7 +34,7 @@ text_by_lines of_line of_rest bytes = text_by_parts of_line of_rest (lines_of by
 
 -- ---- `entries`
 
--- the line of each entry, in the order of the file; none where there is no log
+-- the line of each entry, in the order of the file; none if there is no log
 abbrev pub entries_text : LogReading → Option (List ℕ)
 entries_text (Log version entries) = Some (lines_of_entries entries)
 entries_text OtherVersion = None
@@ -44,12 +43,12 @@ entries_text NotALog = None
 abbrev pub entries_text_of : List ℕ → Option (List ℕ)
 entries_text_of bytes = entries_text (log_of bytes)
 
--- the line of the entry that a line is, and nothing where it is none
+-- nothing of a line that is no entry
 abbrev pub entry_text : Option Entry → List ℕ
 entry_text None = []
 entry_text (Some e) = with_newline (line_of e)
 
--- what the first line of a log names that a reader gave, where its bytes are known
+-- of the log that a reader gave, where its bytes are known
 abbrev pub IsFirstLine : Option (List ℕ) → FirstLine → Type 0
 IsFirstLine known line = IfSome known (λ bs. (line.version ≡ version_of bs) × (line.is_four ≡ names_four bs))
 
@@ -63,17 +62,17 @@ damage_line number kind len last first = decimal number ++ codes "\t" ++ kind ++
 abbrev pub tabs_in : List ℕ → ℕ
 tabs_in bytes = count_by (λ b. b == 9) bytes
 
--- these bytes begin with a tab, and have four
+-- they begin with a tab, and have four
 abbrev pub has_four_tabs : List ℕ → Bool
 has_four_tabs [] = false
 has_four_tabs (b ∷ bytes) = b == 9 && tabs_in (b ∷ bytes) == 4
 
--- the last five fields of a line, of the first of them the last byte alone; nothing where there are fewer
+-- of the first of them the last byte alone; nothing if there are fewer
 abbrev pub last_five : List ℕ → List ℕ
 last_five [] = []
 last_five (b ∷ bytes) = if has_four_tabs bytes then b ∷ bytes else last_five bytes
 
--- the output of the entry that these are in a log of this version, and `-` where they are none
+-- of the entry that these are, and `-` if they are none
 abbrev pub output_of : Option Entry → List ℕ
 output_of None = codes "-"
 output_of (Some e) = e.name
@@ -81,12 +80,12 @@ output_of (Some e) = e.name
 abbrev pub named_last : ℕ → List ℕ → List ℕ
 named_last version line = output_of (entry_by version (last_five line))
 
--- a name, and `-` where it has no byte
+-- `-` for a name without a byte
 abbrev pub or_dash : List ℕ → List ℕ
 or_dash [] = codes "-"
 or_dash (b ∷ bytes) = b ∷ bytes
 
--- the output that plain Ninja takes a line for an entry of, and `-` where it takes it for none
+-- of the entry that plain Ninja takes a line for, and `-` if it takes it for none
 abbrev pub first_of : Option Texts → List ℕ
 first_of None = codes "-"
 first_of (Some t) = or_dash t.name
@@ -99,24 +98,22 @@ abbrev pub skipped_text : ℕ → ℕ → List ℕ → Option Entry → List ℕ
 skipped_text version number line None = damage_line number (codes "skipped") (length line) (named_last version line) (named_first line)
 skipped_text version number line (Some e) = []
 
--- what is said of a line
 abbrev pub damage_on : ℕ → ℕ → List ℕ → List ℕ
 damage_on version number line = if nat_le (length line) max_line then skipped_text version number line (entry_by version line)
     else damage_line number (codes "long") (length line) (codes "-") (codes "-")
 
--- what is said of the bytes after the last newline
 abbrev pub torn_on : ℕ → ℕ → List ℕ → List ℕ
 torn_on version number [] = []
 torn_on version number (b ∷ bytes) = damage_line number (codes "torn") (length (b ∷ bytes)) (named_last version (lent_rest (b ∷ bytes)))
     (named_first (lent_rest (b ∷ bytes)))
 
--- the text of `damage`; none where there is no log
+-- none if there is no log
 abbrev pub damage_text_of : List ℕ → Option (List ℕ)
 damage_text_of bytes = text_by_lines damage_on torn_on bytes
 
 -- ---- what a writer holds
 
--- a part was written of the text of what was read so far
+-- a part of the text of what was read so far
 pub record IsSoFar (text_of : List ℕ → Option (List ℕ)) (known old new : Option (List ℕ)) : Type 0 where
   pub read : List ℕ
   pub given : IfSome known (λ bs. IsPrefix read bs)
@@ -126,12 +123,12 @@ pub record IsSoFar (text_of : List ℕ → Option (List ℕ)) (known old new : O
   pub part : IsPrefix written text
   pub appended : Appends old new written
 
--- after a command that writes while it reads: on Ok all of the text, after a refusal a part of that of what was read so far
+-- of a command that writes while it reads: on Ok all of the text, after a refusal a part of that of what was read so far
 abbrev pub Streams : (List ℕ → Option (List ℕ)) → Option (List ℕ) → Option (List ℕ) → Option (List ℕ) → Result (Unit {0}) ToolFault → Type 0
 Streams text_of known old new (Ok done) = (text : List ℕ) × IsTextAsRead text_of known text × Appends old new text
 Streams text_of known old new (Err fault) = IsSoFar text_of known old new
 
--- a text is written as it is read, and the answer says whether there was any
+-- the answer says whether there was any text
 abbrev pub StreamsSome : (List ℕ → Option (List ℕ)) → Option (List ℕ) → Option (List ℕ) → Option (List ℕ) → Result Bool ToolFault → Type 0
 StreamsSome text_of known old new (Ok any) =
     (text : List ℕ) × IsTextAsRead text_of known text × Appends old new text × (any ≡ nat_lt 0 (length text))

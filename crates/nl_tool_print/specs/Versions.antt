@@ -10,31 +10,30 @@ use Rattle.nl_versions.specs.declared.version.LogVersion.{LogVersion}
 use Rattle.nl_tool_print.specs.Output.{IsTextAsRead, report, show_text}
 use Rattle.nl_tool_texts.specs.Files.{OfBytes}
 
--- the text of `hash` for logs of the version: the hash in its one spelling, and a newline
 abbrev pub hash_text_as : LogVersion → List ℕ → List ℕ
 hash_text_as version command = digits_of 16 (hash_as version command) ++ 10 ∷ []
 
--- the text of `hash-file` for them: that of `hash`, of the bytes which a reader gave
+-- of the bytes that a reader gave
 abbrev pub IsFileHashAs : LogVersion → Option (List ℕ) → List ℕ → Type 0
 IsFileHashAs version known text = OfBytes known (λ command. text ≡ hash_text_as version command)
 
--- the text of `show` for a log of the version that is asked for, or where none is, of the one that its first line names
+-- of the version that is asked for, or else of the one that the first line names
 abbrev pub show_text_for : Option LogVersion → List ℕ → Option (List ℕ)
 show_text_for asked bytes = show_text (log_for asked bytes)
 
--- the six lines of `check` for a log of the version, by what is seen of it
+-- by what is seen of the log
 abbrev pub checked_by : LogVersion → ℕ → ℕ → LogReading → Option (List ℕ)
 checked_by version skipped torn (Log seen entries) =
     Some (report (numbered version seen) (length entries) (length (table (logged seen entries))) skipped torn)
 checked_by version skipped torn OtherVersion = None
 checked_by version skipped torn NotALog = None
 
--- the six lines of `check`, with the number of this version
+-- with the number of this version
 abbrev pub check_text_for : Option LogVersion → LogVersion → List ℕ → Option (List ℕ)
 check_text_for asked version bytes =
     checked_by version (skipped_count (seen_for asked bytes)) (torn_len (seen_for asked bytes)) (log_for asked bytes)
 
--- the text of `check` for the bytes that a reader gave, with the number of the version as one of which they are taken
+-- of a reader's bytes, with the number of the version as one of which they are taken
 pub record IsReportFor (asked : Option LogVersion) (known : Option (List ℕ)) (text : List ℕ) : Type 0 where
   pub version : LogVersion
   pub names : IsNamedFor asked known version

@@ -15,8 +15,7 @@ use nl_versions::LogVersion;
 use std::alloc::{AllocError, Global};
 use std::io::{Read, Write};
 
-/// Writes six lines on the log that the reader gives: its version, how many entry lines, outputs, skipped lines and
-/// torn bytes it has, and whether it is due for recompaction.
+/// Writes six lines: the log's version, its counts of entry lines, outputs, skipped lines and torn bytes, and whether it is due.
 pub fn check_to<R: Read + Drop, W: Write>(
     alloc: Global,
     reader: R,
@@ -33,8 +32,8 @@ pub fn check_to<R: Read + Drop, W: Write>(
     check_log(alloc, NO_SECRET, Some(LogVersion::Five), reader, writer)
 }
 
-/// Writes the six lines on a log of the version that is asked for, or where none is, of the one that its first line names: its
-/// number is the first line. Names are hashed under a secret.
+/// The six lines on a log of the version that is asked for, or else of the one that its first line names, whose number comes first.
+/// Names are hashed under the secret.
 pub fn check_log<R: Read + Drop, W: Write>(
     alloc: Global,
     secret: Secret,

@@ -15,7 +15,7 @@ use nl_versions::{FirstLine, LogVersion};
 use std::alloc::{AllocError, Global};
 use std::io::{Read, Write};
 
-// Of a line the entry that it is, in the spelling of version 5.
+// In the spelling of version 5.
 #[derive(Drop)]
 struct EntryLines;
 
@@ -62,7 +62,7 @@ impl LineText for EntryLines {
     }
 }
 
-// Appends a line as it stands: that of an entry of version 5 is the one spelling which the entry has.
+// As it stands, because an entry of version 5 has one spelling.
 fn append_whole(line: &[u8], out: &mut Vec<u8>) -> Result<(), AllocError>
     ensures items { OnOk result (out.new.items ≡ out.old.items ++ with_newline line.now) }
     ensures capacity { vec_capacity out.old ≤ vec_capacity out.new }
@@ -72,7 +72,7 @@ fn append_whole(line: &[u8], out: &mut Vec<u8>) -> Result<(), AllocError>
     Ok(())
 }
 
-/// Writes the line of each entry of the log that the reader gives, older ones included, in the order of the file.
+/// Writes the line of each entry, older ones included, in the order of the file.
 pub fn entries_to<R: Read + Drop, W: Write>(
     alloc: Global,
     reader: R,
@@ -93,7 +93,7 @@ pub fn entries_to<R: Read + Drop, W: Write>(
     entries_named(alloc, reader, writer, &mut first)
 }
 
-/// Does what `entries_to` does, and tells what the first line of the log names.
+/// As `entries_to`, and tells what the first line of the log names.
 pub fn entries_named<R: Read + Drop, W: Write>(
     alloc: Global,
     reader: R,

@@ -12,7 +12,7 @@ use nl_versions::{LogVersion, command_hash_in};
 use std::alloc::{AllocError, Global};
 use std::io::Write;
 
-/// Writes the hash of a command as a log spells it, and a newline.
+/// As a log spells it, and a newline.
 pub fn hash_to<W: Write>(alloc: Global, command: &[u8], writer: &mut W) -> Result<(), ToolFault>
     ensures prints { Prints (IsHashText command.now) (W.contents writer.old)
         (W.contents writer.new) result }
@@ -21,7 +21,7 @@ pub fn hash_to<W: Write>(alloc: Global, command: &[u8], writer: &mut W) -> Resul
     hash_for(alloc, LogVersion::Five, command, writer)
 }
 
-/// Writes the hash of a command as a log of the version spells it, and a newline.
+/// As a log of the version spells it, and a newline.
 pub fn hash_for<W: Write>(
     alloc: Global,
     version: LogVersion,
@@ -36,7 +36,6 @@ pub fn hash_for<W: Write>(
     write_out(text.as_slice(), writer)
 }
 
-// A hash as a log spells it, and a newline.
 fn hash_line(alloc: Global, hash: u64) -> Result<Vec<u8>, AllocError>
     ensures value { IfOk result (λ text. text.items ≡ digits_of 16 hash ++ 10 ∷ []) }
 {

@@ -12,11 +12,10 @@ use nl_versions::LogVersion;
 use std::alloc::Global;
 use std::io::{Read, Write};
 
-// How many bytes are asked for at a time.
+// Bytes of one read.
 const PIECE: usize = 65_536;
 
-/// Writes the hash of the command whose bytes the reader gives, up to its end, as a log of the version spells it, and a newline.
-/// It takes the memory of the command.
+/// Writes the hash of the command that the reader's bytes are, as a log of the version spells it. It takes the memory of the command.
 pub fn hash_read<R: Read + Drop, W: Write>(
     alloc: Global,
     version: LogVersion,
@@ -31,7 +30,7 @@ pub fn hash_read<R: Read + Drop, W: Write>(
     hash_for(alloc, version, command.as_slice(), writer)
 }
 
-// All bytes that a reader gives. A read that was interrupted has failed.
+// A read that was interrupted has failed.
 fn read_all<R: Read + Drop>(alloc: Global, reader: R) -> Result<Vec<u8>, ToolFault>
     ensures value { IfOk result (λ all. OfBytes (R.remaining reader) (λ bytes. bytes ≡ all.items)) }
     ensures faults { IfErr result (λ e. (e ≡ ToolFault.Read) ⊎ (e ≡ ToolFault.Memory)) }

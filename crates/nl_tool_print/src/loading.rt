@@ -13,8 +13,8 @@ use nl_versions::{LogVersion, load_seen};
 use std::alloc::Global;
 use std::io::Read;
 
-/// The table and the counts of the bytes that the reader has left, and the version as one of which they are taken: the one that
-/// is asked for, or where none is, the one that their first line names. Names are hashed under a secret.
+/// Loads the bytes that the reader has left as a log of the version that is asked for, or else of the one that their first line names.
+/// Names are hashed under the secret.
 pub fn load_read<R: Read + Drop>(
     alloc: Global,
     secret: Secret,

@@ -19,10 +19,10 @@ use nl_versions::LogVersion;
 use std::alloc::Global;
 use std::io::{Read, Write};
 
-// The bytes of lines that are held before they are written: more than the longest line.
+// More than the longest line, so that lines are held before they are written.
 pub const PIECE: usize = 262_144;
 
-/// Writes the last entry of each output of the log that the reader gives, a line each.
+/// A line for the last entry of each output.
 pub fn show_to<R: Read + Drop, W: Write>(
     alloc: Global,
     reader: R,
@@ -39,8 +39,7 @@ pub fn show_to<R: Read + Drop, W: Write>(
     show_log(alloc, NO_SECRET, Some(LogVersion::Five), reader, writer)
 }
 
-/// Writes the last entry of each output of a log of the version that is asked for, or where none is, of the one that its first
-/// line names, a line each. Names are hashed under a secret.
+/// Of a log of the version that is asked for, or else of the one that its first line names. Names are hashed under the secret.
 pub fn show_log<R: Read + Drop, W: Write>(
     alloc: Global,
     secret: Secret,
@@ -57,12 +56,12 @@ pub fn show_log<R: Read + Drop, W: Write>(
     ensures faults { IfErr result IsLogFault }
 {
     let (_, loaded) = load_read(alloc, secret, asked, reader)?;
-    // All that the output takes is taken before the first write, so what can fail from here on is a write.
+    // All memory is taken before the first write, so only a write can fail from here on.
     let mut piece = Vec::with_capacity(alloc, PIECE)?;
     write_lines(&loaded.table, &mut piece, writer)
 }
 
-// Writes the line of each entry, in order, as many at a time as the piece has room for.
+// As many at a time as the piece has room for.
 pub fn write_lines<W: Write>(
     table: &Table,
     piece: &mut Vec<u8>,
@@ -86,7 +85,7 @@ pub fn write_lines<W: Write>(
     write_out(piece.as_slice(), writer)
 }
 
-// Writes what is held where the longest line might not fit after it.
+// Writes what is held if the longest line might not fit behind it.
 pub fn make_room<W: Write>(held: &mut Vec<u8>, writer: &mut W) -> Result<(), ToolFault>
     requires { MAX_ENTRY_LINE ≤ vec_capacity held.old }
     ensures room { OnOk result (vec_len held.new + MAX_ENTRY_LINE ≤ vec_capacity held.new) }

@@ -3,20 +3,18 @@ use Rattle.std.specs.Prelude.{◌≡◌, ◌<◌, ℕ, ⊤}
 use Rattle.nl_tool_texts.specs.declared.fault.ToolFault.{ToolFault}
 use Rattle.nl_tool_texts.specs.declared.fault.ToolFault.TheVariants.{Read, Memory, Write, BadLine}
 
--- the faults of a script that wasn't taken; lines are numbered from 1
+-- lines are numbered from 1
 abbrev pub IsScriptFault : ToolFault → Type 0
 IsScriptFault Read = ⊤
 IsScriptFault Memory = ⊤
 IsScriptFault (BadLine number) = 0 < number
 IsScriptFault _ = ⊥
 
--- the faults of one line of it
 abbrev pub IsFaultOfLine : ℕ → ToolFault → Type 0
 IsFaultOfLine number Memory = ⊤
 IsFaultOfLine number (BadLine n) = n ≡ number
 IsFaultOfLine number _ = ⊥
 
--- the faults of a command that reads a script
 abbrev pub IsReplayFault : ToolFault → Type 0
 IsReplayFault Write = ⊤
 IsReplayFault fault = IsScriptFault fault

@@ -12,16 +12,14 @@ use Rattle.nl_tool_script.specs.Replay.{KeepsSome, event_line, keep_fields, name
 use Rattle.nl_tool_script.specs.declared.script.Word.{Word}
 use Rattle.nl_tool_script.specs.declared.script.Word.TheVariants as word
 
--- the names to keep are names
 abbrev pub AreNames : KeepList → Type 0
 AreNames All = ⊤
 AreNames (Only names) = Each IsName names.items
 
--- a name, and an mtime in its range
 abbrev pub IsTime : List ℕ × ℤ → Type 0
 IsTime pair = IsName pair.0 × FitsSigned w64 pair.1
 
--- the names of an event are names, and its numbers are in their ranges
+-- its names are names, and its numbers are in their ranges
 abbrev pub IsReadable : Event → Type 0
 IsReadable (OpenLog keep) = AreNames keep
 IsReadable (Record e) = IsEntry e
@@ -29,7 +27,7 @@ IsReadable (Recompact keep) = AreNames keep
 IsReadable (Restat times) = Each IsTime times.items
 IsReadable _ = ⊤
 
--- the line is that of an event, which keeps all names or some
+-- an event that keeps names keeps all, or some
 pub record IsLineOf (event : Event) (line : List ℕ) : Type 0 where
   pub readable : IsReadable event
   pub some : KeepsSome event
@@ -52,15 +50,13 @@ fields_of_event (Recompact keep) = keep_fields keep
 fields_of_event (Restat times) = flat_map time_fields times.items
 fields_of_event _ = []
 
--- the text is names, each behind a tab
 abbrev pub SaysNames : List ℕ → Type 0
 SaysNames text = (names : List (List ℕ)) × Each IsName names × (text ≡ flat_map name_field names)
 
--- the text is mtimes and names, each behind a tab
 abbrev pub SaysTimes : List ℕ → Type 0
 SaysTimes text = (times : List (List ℕ × ℤ)) × Each IsTime times × (text ≡ flat_map time_fields times)
 
--- the word of an event that holds names, and a tab behind it: what is read then takes memory
+-- such a line takes memory
 abbrev pub HoldsNames : List ℕ → Type 0
 HoldsNames line = (rest : List ℕ) × ((line ≡ codes "open" ++ 9 ∷ rest) ⊎ (line ≡ codes "record" ++ 9 ∷ rest)
     ⊎ (line ≡ codes "recompact" ++ 9 ∷ rest) ⊎ (line ≡ codes "restat" ++ 9 ∷ rest))

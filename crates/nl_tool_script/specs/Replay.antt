@@ -26,7 +26,6 @@ use Rattle.nl_tool_script.specs.declared.script.Script.{Script}
 use Rattle.nl_tool_script.specs.declared.script.Word.{Word}
 use Rattle.nl_tool_script.specs.declared.script.Word.TheVariants as word
 
--- the word of a call in a script
 abbrev pub word_of : Call → List ℕ
 word_of ReadLog = codes "read_log"
 word_of AppendLog = codes "append_log"
@@ -38,7 +37,6 @@ word_of SyncScratch = codes "sync_scratch"
 word_of Replace = codes "replace"
 word_of Any = codes "any"
 
--- the word of a line
 abbrev pub text_of_word : Word → List ℕ
 text_of_word word.Writes = codes "writes"
 text_of_word word.Fates = codes "fates"
@@ -64,23 +62,21 @@ name_field name = 9 ∷ name
 abbrev pub time_fields : List ℕ × ℤ → List ℕ
 time_fields pair = 9 ∷ decimal_of pair.1 ++ 9 ∷ pair.0
 
--- the names to keep; nothing where all are kept
+-- nothing, if all are kept
 abbrev pub keep_fields : KeepList → List ℕ
 keep_fields All = []
 keep_fields (Only names) = flat_map name_field names.items
 
--- where some names are kept alone, there is one: a line without names keeps all
+-- a line without names keeps all
 abbrev pub NamesSome : KeepList → Type 0
 NamesSome All = ⊤
 NamesSome (Only names) = 0 < length names.items
 
--- an event that keeps names keeps all, or some
 abbrev pub KeepsSome : Event → Type 0
 KeepsSome (OpenLog keep) = NamesSome keep
 KeepsSome (Recompact keep) = NamesSome keep
 KeepsSome _ = ⊤
 
--- the line of an event
 abbrev pub event_line : Event → List ℕ
 event_line (OpenLog keep) = codes "open" ++ keep_fields keep
 event_line (Record e) = codes "record" ++ 9 ∷ line_of e
@@ -90,35 +86,31 @@ event_line (Restat times) = codes "restat" ++ flat_map time_fields times.items
 event_line Stop = codes "stop"
 event_line Crash = codes "crash"
 
--- a line that sets what the folder does
 abbrev pub IsSetting : List ℕ → Type 0
 IsSetting line = (rest : List ℕ) × ((line ≡ codes "writes" ++ 9 ∷ rest) ⊎ (line ≡ codes "fates" ++ 9 ∷ rest)
     ⊎ (line ≡ codes "tails" ++ 9 ∷ rest) ⊎ (line ≡ codes "fuse" ++ 9 ∷ rest))
 
--- a line that says something
 abbrev pub is_filled : List ℕ → Bool
 is_filled [] = false
 is_filled (b ∷ line) = true
 
--- a script of these lines has these events: but for empty ones, its lines are some that set something, and then a line for each event,
--- which keeps all names where its line has none
+-- but for empty ones, its lines are some that set something, and then one for each event, which keeps all names if it has none
 pub record IsScript (lines : List (List ℕ)) (events : List Event) : Type 0 where
   pub settings : List (List ℕ)
   pub set : Each IsSetting settings
   pub is : filter is_filled lines ≡ settings ++ map event_line events
   pub some : Each KeepsSome events
 
--- what a line that isn't empty says: a setting, where no event was there yet, or the next event
+-- a setting, if no event was there yet, or the next event
 abbrev pub SaysMore : List Event → List Event → List ℕ → Type 0
 SaysMore old new line =
     (IsSetting line × (old ≡ []) × (new ≡ [])) ⊎ ((event : Event) × (line ≡ event_line event) × KeepsSome event × (new ≡ old ++ event ∷ []))
 
--- a line was taken in; an empty one says nothing
+-- an empty line says nothing
 abbrev pub TakesScriptLine : List Event → List Event → List ℕ → Type 0
 TakesScriptLine old new [] = new ≡ old
 TakesScriptLine old new (b ∷ line) = SaysMore old new (b ∷ line)
 
--- what a script tells a folder in memory
 abbrev pub told_by : Script → Choices
 told_by script = record {
   writes = script.writes.items;
@@ -143,16 +135,14 @@ reply_words (Refused Fault) = codes "S8 Fault"
 abbrev pub reply_line : Reply → List ℕ
 reply_line reply = reply_words reply ++ 10 ∷ []
 
--- the line before a log
 abbrev pub log_line : List ℕ → List ℕ
 log_line bytes = codes "log " ++ decimal (length bytes) ++ 10 ∷ []
 
--- the text of these replies and this log: the replies, a line each, and then the log behind a line with its length
+-- a line a reply, and then the log behind a line with its length
 abbrev pub printed : List Reply → List ℕ → List ℕ
 printed replies log = flat_map reply_line replies ++ log_line log ++ log
 
--- The text of `replay` for these events: they had these replies, one each, over a folder whose log was empty; the machine may
--- so answer, and the headline holds of what they left on the disk.
+-- the events had these replies, one each, over a folder whose log was empty; the machine may so answer, and the headline holds of the disk
 pub record IsReplayOf (events : List Event) (text : List ℕ) : Type 0 where
   pub replies : List Reply
   pub disk : Disk
@@ -163,6 +153,6 @@ pub record IsReplayOf (events : List Event) (text : List ℕ) : Type 0 where
   pub headline : Headline (Began 5) (zip events replies) disk
   pub is : text ≡ printed replies disk.visible
 
--- the text of `replay`: that for the events of the script which a reader gave, in its known bytes where they are known
+-- of the script in a reader's bytes, where they are known
 abbrev pub IsReplayText : Option (List ℕ) → List ℕ → Type 0
 IsReplayText known text = OfBytes known (λ bytes. (events : List Event) × IsScript (file_lines bytes) events × IsReplayOf events text)

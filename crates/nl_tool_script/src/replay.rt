@@ -13,8 +13,7 @@ use std::alloc::{AllocError, Global};
 use std::fmt;
 use std::io::{Read, Write};
 
-/// Runs the events of the script that the reader gives, over a folder in memory whose log is empty, and writes the replies
-/// and the log that they leave.
+/// Runs the script's events over a folder in memory whose log is empty, and writes the replies and the log that they leave.
 pub fn replay_to<R: Read + Drop, W: Write>(
     alloc: Global,
     reader: R,
@@ -29,7 +28,7 @@ pub fn replay_to<R: Read + Drop, W: Write>(
     write_out(text.as_slice(), writer)
 }
 
-// A folder in memory whose log is empty, which is told what the script sets, and the events.
+// The log is empty, and the folder is told what the script sets.
 fn set_up(alloc: Global, script: Script) -> (MemFolder, Vec<Event>)
     ensures state { mem_view_of result.0 ≡ durable_view [] }
     ensures failures { failure_count result.0 ≡ 0 }
@@ -48,7 +47,6 @@ fn set_up(alloc: Global, script: Script) -> (MemFolder, Vec<Event>)
     (folder, events)
 }
 
-// What is printed of a script.
 fn run_script(alloc: Global, script: Script) -> Result<Vec<u8>, AllocError>
     ensures value { IfOk result (λ text. IsReplayOf script.events.items text.items) }
 {
@@ -60,7 +58,7 @@ fn run_script(alloc: Global, script: Script) -> Result<Vec<u8>, AllocError>
     }
 }
 
-// The replies, a line each, and the log behind a line with its length.
+// A line a reply, and the log behind a line with its length.
 fn text_of(alloc: Global, replies: &[Reply], log: &[u8]) -> Result<Vec<u8>, AllocError>
     ensures value { IfOk result (λ text. text.items ≡ printed replies.now log.now) }
 {
@@ -75,7 +73,6 @@ fn text_of(alloc: Global, replies: &[Reply], log: &[u8]) -> Result<Vec<u8>, Allo
     Ok(text)
 }
 
-// A reply as it is printed.
 #[derive(Clone, Copy)]
 struct Answer(Reply);
 

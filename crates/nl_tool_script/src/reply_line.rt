@@ -1,4 +1,4 @@
-//! The line of a reply, in room that may be there before it is known.
+//! The line of a reply, which may have its room before the reply is known.
 ghost use Rattle.std.specs.Prelude.{◌≡◌, ◌+◌, ◌≤◌, ◌++◌, IsOk, OnErr, OnOk, length, vec_capacity, vec_len};
 ghost use Rattle.nl_session.specs.declared.events.Reply.{Reply};
 ghost use Rattle.nl_session.specs.declared.fault.LogFault.{LogFault};
@@ -8,15 +8,13 @@ use itoa::Buffer;
 use nl_session::{LogFault, Reply};
 use std::alloc::AllocError;
 
-/// The most bytes of the line of a reply.
+/// Bytes, with the newline.
 pub const MAX_REPLY_LINE: usize = 64;
 
-/// Appends the line of a reply, and its newline.
 pub fn append_reply(reply: Reply, out: &mut Vec<u8>) -> Result<(), AllocError>
     ensures ok { OnOk result (out.new.items ≡ out.old.items ++ reply_line reply) }
     ensures unchanged { OnErr result (out.new.items ≡ out.old.items) }
 
-    // It succeeds where there is room, and the capacity never shrinks.
     ensures room { vec_len out.old + MAX_REPLY_LINE ≤ vec_capacity out.old → IsOk result }
     ensures capacity { vec_capacity out.old ≤ vec_capacity out.new }
 {
@@ -33,7 +31,6 @@ pub fn append_reply(reply: Reply, out: &mut Vec<u8>) -> Result<(), AllocError>
     }
 }
 
-// Appends the line of the refusal of a negative time.
 fn append_place(index: usize, out: &mut Vec<u8>) -> Result<(), AllocError>
     ensures ok { OnOk result (out.new.items
         ≡ out.old.items ++ reply_line (Reply.Refused (LogFault.NegativeTime index))) }

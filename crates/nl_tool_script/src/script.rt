@@ -27,10 +27,10 @@ use std::alloc::{AllocError, AllocFailed, Global};
 use std::io::Read;
 use std::str;
 
-/// What a script says: the settings of a folder in memory, and the events for a log over it.
+/// The settings of a folder in memory, and the events for a log over it.
 #[derive(Drop)]
 pub struct Script {
-    /// Empty where the script does not set it, as `fates` and `tails` are: a line that sets it gives one number at least.
+    /// Empty unless the script sets it, as `fates` and `tails` are, because a line that sets it gives one number at least.
     pub writes: Vec<u64>,
     pub fates: Vec<u64>,
     pub tails: Vec<u64>,
@@ -38,7 +38,6 @@ pub struct Script {
     pub events: Vec<Event>,
 }
 
-/// What a line says, by its word.
 #[derive(Clone, Copy, Drop)]
 pub enum Word {
     Writes,
@@ -54,7 +53,6 @@ pub enum Word {
     Crash,
 }
 
-/// Why a line isn't taken.
 #[derive(Clone, Copy, Drop)]
 pub enum LineRefusal {
     BadLine,
@@ -88,7 +86,7 @@ impl From<NameFault> for LineRefusal {
     }
 }
 
-/// Reads the script that the reader gives, up to its first bad line.
+/// It stops at the first bad line.
 pub fn read_script<R: Read + Drop>(alloc: Global, reader: R) -> Result<Script, ToolFault>
     ensures value { IfOk result (λ script.
         OfBytes (R.remaining reader) (λ bytes. IsScript (file_lines bytes) script.events.items)) }
@@ -97,7 +95,6 @@ pub fn read_script<R: Read + Drop>(alloc: Global, reader: R) -> Result<Script, T
     read_lines(alloc, &mut ReadSource::new(reader))
 }
 
-// What the lines of a source say, up to the first bad one.
 fn read_lines<S: Source>(alloc: Global, source: &mut S) -> Result<Script, ToolFault>
     ensures value { IfOk result (λ script.
         OfBytes (S.ahead source.old) (λ bytes. IsScript (file_lines bytes) script.events.items)) }
@@ -117,7 +114,7 @@ fn read_lines<S: Source>(alloc: Global, source: &mut S) -> Result<Script, ToolFa
     }
 }
 
-// The script with its last line, which has no newline, and is empty only where it was too long to be lent.
+// The last line has no newline, and is empty only if it was too long to be lent.
 fn with_last(
     alloc: Global,
     mut script: Script,
@@ -135,7 +132,7 @@ fn with_last(
     Ok(script)
 }
 
-// Takes in a line with this number, or passes over an empty one.
+// It passes over an empty line.
 fn take_line(alloc: Global, line: &[u8], number: u64, script: &mut Script) -> Result<(), ToolFault>
     ensures ok { OnOk result
         (TakesScriptLine script.old.events.items script.new.events.items line.now) }
@@ -164,7 +161,7 @@ impl Script {
         }
     }
 
-    // Takes in a setting, where it is the first of its kind and no event came yet, or an event.
+    // A setting must be the first of its kind, and stand before any event.
     fn take(&mut self, alloc: Global, line: &[u8]) -> Result<(), LineRefusal>
         ensures ok { OnOk result (SaysMore self.old.events.items self.new.events.items line.now) }
     {
@@ -192,7 +189,6 @@ impl Script {
     }
 }
 
-/// The event that a line says, as one of a script.
 pub fn read_event_line(alloc: Global, line: &[u8]) -> Result<Event, LineRefusal>
     ensures line { IfOk result (λ event. event_line event ≡ line.now) }
     ensures some { IfOk result KeepsSome }
@@ -207,7 +203,7 @@ pub fn read_event_line(alloc: Global, line: &[u8]) -> Result<Event, LineRefusal>
     }
 }
 
-/// What stands before the first tab, and what stands behind it, where there is one.
+/// None stands behind if there is no tab.
 pub fn split_tab(text: &[u8]) -> (&[u8], Option<&[u8]>)
     ensures line { text.now ≡ result.0.now ++ behind_tab result.1 }
     ensures no_tab { HasNoTab result.0.now }
@@ -228,7 +224,6 @@ fn read_word(text: &[u8]) -> Option<Word>
     }
 }
 
-// The word of this name.
 fn word_named(name: &str) -> Option<Word>
     ensures value { IfSome result (λ word. name.now ≡ text_of_word word) }
     ensures accepts { (word : Word) → name.now ≡ text_of_word word → result ≡ Some word }
@@ -271,7 +266,7 @@ fn read_event(alloc: Global, word: Word, rest: Option<&[u8]>) -> Result<Event, L
     }
 }
 
-// The names that a recompaction keeps: all of them where none is given.
+// All names, if none is given.
 fn read_keep(alloc: Global, text: Option<&[u8]>) -> Result<KeepList, LineRefusal>
     ensures line { IfOk result (λ keep. keep_fields keep ≡ behind_tab text.entry) }
     ensures some { IfOk result NamesSome }
@@ -285,7 +280,6 @@ fn read_keep(alloc: Global, text: Option<&[u8]>) -> Result<KeepList, LineRefusal
     }
 }
 
-/// The names that stand between tabs.
 pub fn read_names(alloc: Global, text: &[u8]) -> Result<Vec<Name>, LineRefusal>
     ensures line { IfOk result (λ names. flat_map name_field names.items ≡ name_field text.now) }
     ensures names { IfOk result (λ names. Each IsName names.items) }
@@ -302,7 +296,6 @@ pub fn read_names(alloc: Global, text: &[u8]) -> Result<Vec<Name>, LineRefusal>
     Ok(names)
 }
 
-// Pairs of an mtime and a name.
 fn read_times(alloc: Global, text: Option<&[u8]>) -> Result<Vec<(Name, i64)>, LineRefusal>
     ensures line { IfOk result (λ times. flat_map time_fields times.items ≡ behind_tab text.entry) }
     ensures accepts { SaysTimes (behind_tab text.entry)
@@ -359,7 +352,6 @@ fn read_call(word: &[u8]) -> Option<Call>
     }
 }
 
-// The call of this name.
 fn call_named(name: &str) -> Option<Call>
     ensures value { IfSome result (λ call. name.now ≡ word_of call) }
     ensures accepts { (call : Call) → name.now ≡ word_of call → result ≡ Some call }
@@ -378,7 +370,7 @@ fn call_named(name: &str) -> Option<Call>
     }
 }
 
-// A number of 0 up to 2^63 - 1, in its one spelling.
+// From 0 up to 2^63 - 1, in its one spelling.
 fn read_number(text: &[u8]) -> Option<u64>
     ensures value { IfSome result (λ n. IsDecimal (pos n) text.now) }
     ensures accepts { (n : ℕ) → n < 2 ^ 63 → IsDecimal (pos n) text.now → result ≡ Some n }
