@@ -19,12 +19,12 @@ use Rattle.nl_builds.specs.declared.stamps.Stamps.{Stamps}
 
 -- ---- the builds of commands that stand in an order
 
--- the end of a build, which tells of the next one where they stand as Ninja wrote them
+-- it tells of the next build only if they stand as Ninja wrote them
 abbrev pub past_in : Order → Seen → Option Past
 past_in Written s = past_of s
 past_in ByMoment s = None
 
--- a command begins another build where a border stands before it, and else is of the build so far
+-- a command behind a border begins another build, and any other is of the build so far
 abbrev pub walk_from : Order → Stamps → ℕ → Seen → List Command → List Seen
 walk_from order stamps place s [] = s ∷ []
 walk_from order stamps place s (c ∷ cs) =
@@ -32,42 +32,42 @@ walk_from order stamps place s (c ∷ cs) =
     if is_border m then s ∷ walk_from order stamps (place + 1) (begun stamps (place + 1) (is_sure m) (past_in order s) c) cs
     else walk_from order stamps (place + 1) (with_command s stamps (place + 1) (is_doubtful m) c) cs
 
--- of those behind a place, where it is said whether the border before the first is sure
+-- behind a place, with a border before the first command that is sure or not
 abbrev pub walk : Order → Stamps → ℕ → Bool → List Command → List Seen
 walk order stamps place sure [] = []
 walk order stamps place sure (c ∷ cs) = walk_from order stamps (place + 1) (begun stamps (place + 1) sure None c) cs
 
 -- ---- whether the log was written anew, and how far
 
--- the place before the first build that can't stand behind the one that it follows
+-- before the first build that can't stand behind the one before it
 abbrev pub first_back : Stamps → Option Past → ℕ → List Seen → Option ℕ
 first_back stamps end place [] = None
 first_back stamps end place (s ∷ ss) = if is_back stamps end s then Some place else first_back stamps (before s) s.to ss
 
--- how many entries stand before the first whose name came before: no more were written anew
+-- before the first whose name came before, because no more entries were written anew
 abbrev pub new_names : List (List ℕ) → List Entry → ℕ
 new_names names [] = 0
 new_names names (e ∷ es) = if holds names e.name then 0 else 1 + new_names (with_name names e.name) es
 
--- how many commands are of so many entries
+-- that are whole within so many entries
 abbrev pub whole_commands : ℕ → List Command → ℕ
 whole_commands count [] = 0
 whole_commands count (c ∷ cs) = if nat_le c.to count then 1 + whole_commands count cs else 0
 
 -- ---- the builds
 
--- those as written: a build is sure if both its borders are, and no border can hide in it or, where that counts, in one beside it
+-- a build is sure if both its borders are, and no border can hide in it or, where that counts, in one beside it
 abbrev pub next_is_sure : List Seen → Bool
 next_is_sure [] = true
 next_is_sure (s ∷ ss) = s.is_sure
 
--- so many commands are of new names: as far as that the log may have been written anew
+-- the log may have been written anew as far as commands are of new names
 abbrev pub next_doubts : Stamps → ℕ → ℕ → List Seen → Bool
 next_doubts stamps new from [] = false
 next_doubts stamps new from (s ∷ ss) = doubts stamps (nat_lt from new) s
 
--- what hides in the build before one that begins at a place, or in the one behind it. Where MTIME is of the end, it counts only as far as the log
--- may have been written anew, since elsewhere END that falls is a border whatever hides behind it
+-- in the build before this one, or the one behind it; if MTIME is of the end only where the log may have been written anew, because elsewhere
+-- END that falls is a border whatever hides behind it
 abbrev pub beside_doubts : Stamps → ℕ → ℕ → Bool → Seen → List Seen → Bool
 beside_doubts stamps new from beside s ss = (is_start stamps || nat_lt from new) && (beside || next_doubts stamps new s.to ss)
 
@@ -85,13 +85,13 @@ written_builds stamps new from beside [] = []
 written_builds stamps new from beside (s ∷ ss) =
     written_build stamps new from beside s ss ∷ written_builds stamps new s.to (doubts stamps (nat_lt from new) s) ss
 
--- one of so many entries that is found again: later builds have taken at most the outputs that stand behind it
+-- later builds took at most the outputs that stand behind it, of so many entries
 abbrev pub found_build : ℕ → Seen → Build
 found_build count s = record { to = s.to; began = s.began; how = FoundAgain (count - s.last.to); is_sure = false }
 
 -- ---- a log
 
--- its entries, their commands and the builds of these, one behind another
+-- one behind another
 pub record Told : Type 0 where
   pub entries : List Entry
   pub commands : List Command
@@ -100,7 +100,6 @@ pub record Told : Type 0 where
 abbrev pub as_written : Stamps → ℕ → List Entry → List Command → List Seen → Told
 as_written stamps new es cs seen = record { entries = es; commands = cs; builds = written_builds stamps new 0 false seen }
 
--- END falls from the command before a place to the one behind it
 abbrev pub falls_by : Option Command → Option Command → Bool
 falls_by (Some a) (Some b) = falls a b
 falls_by (Some a) None = false
@@ -109,7 +108,6 @@ falls_by None b = false
 abbrev pub falls_at : ℕ → List Command → Bool
 falls_at place cs = falls_by (slice_get cs (place - 1)) (slice_get cs place)
 
--- how many entries so many commands have
 abbrev pub entries_to : Option Command → ℕ
 entries_to None = 0
 entries_to (Some c) = c.to
@@ -117,7 +115,7 @@ entries_to (Some c) = c.to
 abbrev pub entries_of : ℕ → List Command → ℕ
 entries_of count cs = entries_to (slice_get cs (count - 1))
 
--- so many commands were written anew, which these builds of others come before
+-- the entries of so many commands were written anew
 abbrev pub again_with : Stamps → ℕ → ℕ → List Entry → List Command → List Entry → List Command → Told
 again_with stamps count k es cs moved fs = record {
   entries = moved ++ drop k es;
@@ -132,7 +130,6 @@ again stamps count es cs =
     let moved = by_moment stamps (take k es) in
     again_with stamps count k es cs moved (commands moved)
 
--- how many commands are of new names, where that counts
 abbrev pub new_commands : Bool → List Entry → List Command → ℕ
 new_commands counts es cs = if counts then whole_commands (new_names [] es) cs else 0
 
@@ -140,7 +137,7 @@ abbrev pub is_before : Option ℕ → ℕ → Bool
 is_before None count = false
 is_before (Some back) count = nat_lt back count
 
--- so many were written anew, if the first build that contradicts the order begins among them
+-- so many commands were written anew, if the first build that contradicts the order begins among them
 abbrev pub told_with : Stamps → List Entry → List Command → List Seen → Option ℕ → Told
 told_with stamps es cs seen back =
     let count = new_commands (is_some back || is_end stamps) es cs in
@@ -151,10 +148,9 @@ told_by stamps es cs =
     let seen = walk Written stamps 0 true cs in
     told_with stamps es cs seen (first_back stamps None 0 seen)
 
--- what entries of commands tell
+-- by the entries of its commands
 abbrev pub builds_of : Stamps → List Entry → Told
 builds_of stamps es = told_by stamps es (row_commands es)
 
--- what was told is this
 abbrev pub IsTold : Told → List Entry → List Command → List Build → Type 0
 IsTold t es cs bs = (es ≡ t.entries) × (cs ≡ t.commands) × (bs ≡ t.builds)

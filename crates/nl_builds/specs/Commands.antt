@@ -8,30 +8,29 @@ use Rattle.nl_fields.specs.declared.entry.Entry.{Entry}
 use Rattle.nl_builds.specs.Moments.{least, moment_at}
 use Rattle.nl_builds.specs.declared.command.Command.{Command}
 
--- the milliseconds from the earliest START that an entry can have to this one
+-- milliseconds from the earliest START that an entry can have
 abbrev pub moment : ℤ → ℕ
 moment ms = unsigned_abs (ms -ℤ negsuc 2147483647)
 
--- when a build began in which MTIME is of this moment; an MTIME that isn't above 0 tells nothing
+-- when a build began, if MTIME is at `ms` of it; an MTIME that isn't above 0 tells nothing
 abbrev pub latest : ℤ → ℕ → Option ℕ
 latest mtime ms = if int_lt (pos 0) mtime then Some (moment_at (unsigned_abs mtime) ms) else None
 
--- the build of a command began at this moment or before, and at that one or behind
+-- the build of a command began at `hi` or before, and at `lo` or behind
 abbrev pub hi : Command → Option ℕ
 hi c = latest c.mtime c.began
 
 abbrev pub lo : Command → Option ℕ
 lo c = latest c.mtime c.ended
 
--- it tells of one
 abbrev pub tells : Command → Bool
 tells c = int_lt (pos 0) c.mtime
 
--- the manifest, behind which Ninja begins anew
+-- Ninja begins anew once it made the manifest
 abbrev pub is_manifest_name : List ℕ → Bool
 is_manifest_name name = bytes_eq name (codes "build.ninja")
 
--- the command of an entry, which stands before a place
+-- the entry stands before a place
 abbrev pub one : ℕ → Entry → Command
 one to e = record {
   began = moment e.start_ms;
@@ -45,11 +44,11 @@ one to e = record {
   is_manifest = is_manifest_name e.name;
 }
 
--- an entry is of a command that has its START, END and hash, up to where the name of its first output comes again, or of its last
+-- START, END and hash are those of the command, and the name is neither that of its first output nor of its last
 abbrev pub is_more : Command → List ℕ → List ℕ → Entry → Bool
 is_more c first last e = c.began == moment e.start_ms && c.ended == moment e.end_ms && c.hash == e.hash && not (bytes_eq e.name first || bytes_eq e.name last)
 
--- with an entry more; where the MTIMEs of its entries differ it tells nothing, since they may be of two runs
+-- entries whose MTIMEs differ tell nothing, because they may be of two runs
 abbrev pub agreed : ℤ → ℤ → ℤ
 agreed a b = if int_eq a b then a else pos 0
 
@@ -61,30 +60,29 @@ longer c to e = record c {
   is_manifest = c.is_manifest || is_manifest_name e.name;
 }
 
--- the commands of the entries behind a place, the first of them with more of these
+-- those of entries behind a place, of which the first ones are of the command so far
 abbrev pub commands_from : ℕ → Command → List ℕ → List ℕ → List Entry → List Command
 commands_from place c first last [] = c ∷ []
 commands_from place c first last (e ∷ es) =
     if is_more c first last e then commands_from (place + 1) (longer c (place + 1) e) first e.name es
     else c ∷ commands_from (place + 1) (one (place + 1) e) e.name e.name es
 
--- the commands, each of neighbours
+-- each of neighbours
 abbrev pub commands : List Entry → List Command
 commands [] = []
 commands (e ∷ es) = commands_from 1 (one 1 e) e.name e.name es
 
--- END falls from one to the next, and both have one START, END and hash
 abbrev pub falls : Command → Command → Bool
 falls a b = nat_lt b.ended a.ended
 
 abbrev pub is_same : Command → Command → Bool
 is_same a b = a.began == b.began && a.ended == b.ended && a.hash == b.hash
 
--- a command that begins at this START waited for one of this END: it began as that ended, or a millisecond later
+-- a command that begins as another ended, or a millisecond later, waited for it
 abbrev pub is_at_once : ℕ → ℕ → Bool
 is_at_once began ended = nat_le ended began && nat_le began (ended + 1)
 
--- its START, where it waited for one of a row, which has these ENDs
+-- START of a command, if it waited for one of a row with these ENDs
 abbrev pub waited : List ℕ → Command → Option ℕ
 waited row c = if list_any (is_at_once c.began) row then Some c.began else None
 
@@ -92,14 +90,14 @@ waited row c = if list_any (is_at_once c.began) row then Some c.began else None
 abbrev pub row_to : List ℕ → ℕ → List ℕ
 row_to row ended = if list_any (nat_lt ended) row then [] else row
 
--- each command with its START, where it waited for one before it in its row
+-- each with its START, if it waited for one before it in its row
 abbrev pub with_waits : List ℕ → List Command → List Command
 with_waits row [] = []
 with_waits row (c ∷ cs) =
     let before = row_to row c.ended in
     record c { has_waited = is_some (waited before c); wait = waited before c } ∷ with_waits (before ++ c.ended ∷ []) cs
 
--- the least `hi`, and the least START of one that waited, of a command and of those behind it in its row
+-- of it and of those behind it in its row the least `hi`, and the least START of one that waited
 abbrev pub with_next : Command → Option Command → Command
 with_next c None = c
 with_next c (Some d) = if falls c d then c else record c { up = least c.up d.up; wait = least c.wait d.wait }
@@ -112,6 +110,6 @@ abbrev pub with_rows : List Command → List Command
 with_rows [] = []
 with_rows (c ∷ cs) = with_next c (first_of (with_rows cs)) ∷ with_rows cs
 
--- the commands of entries, with what those beside them in their rows tell
+-- with what those beside them in their rows tell
 abbrev pub row_commands : List Entry → List Command
 row_commands es = with_rows (with_waits [] (commands es))

@@ -7,24 +7,23 @@ use Rattle.nl_builds.specs.declared.build.How.TheVariants.{AsWritten, FoundAgain
 use Rattle.nl_builds.specs.declared.command.Command.{Command}
 use Rattle.nl_builds.specs.declared.seen.Seen.{Seen}
 
--- each of these ends behind the one before it, and the last at this place
+-- each ends behind the one before it, and the last at this place
 abbrev pub Share : {A : Type 0} → (A → ℕ) → ℕ → List A → ℕ → Type 0
 Share to from [] end = from ≡ end
 Share to from (x ∷ xs) end = (from < to x) × Share to (to x) xs end
 
--- each command has one entry at least behind those of the one before it, and the last ends at this place
+-- each has one entry at least
 abbrev pub ShareEntries : ℕ → List Command → ℕ → Type 0
 ShareEntries from cs end = Share (λ (c : Command). c.to) from cs end
 
--- so has each build of commands
+-- each has one command at least
 abbrev pub ShareCommands : ℕ → List Seen → ℕ → Type 0
 ShareCommands from ss end = Share (λ (s : Seen). s.to) from ss end
 
--- places rise in what is told, up to the number of entries and to that of commands
+-- up to the number of entries and to that of commands
 abbrev pub PlacesRise : Told → Type 0
 PlacesRise t = ShareEntries 0 t.commands (length t.entries) × Share (λ (b : Build). b.to) 0 t.builds (length t.commands)
 
--- a build that is found again isn't sure
 abbrev pub is_modest_by : How → Bool → Bool
 is_modest_by AsWritten sure = true
 is_modest_by (FoundAgain taken) sure = not sure

@@ -1,11 +1,10 @@
 -- When a build began, in nanoseconds from before all that there can be, and how two such moments stand (docs/BUILDS.md, "When a build began").
 use Rattle.std.specs.Prelude.{ℕ, ◌+◌, ◌*◌, ◌-◌, ◌^◌, Bool, nat_lt, min, max, Option, None, Some}
 
--- nanoseconds of milliseconds
 abbrev pub nanos : ℕ → ℕ
 nanos ms = ms * 1000000
 
--- by how many nanoseconds the clocks of a file system and of a build may differ, and two that tell of one moment by START and by END
+-- nanoseconds by which the clocks of a file system and of a build may differ, and two that tell of one moment by START and by END
 abbrev pub slack : ℕ
 slack = 20000000
 
@@ -15,11 +14,11 @@ agreement = 6000000
 abbrev pub one_moment : ℕ
 one_moment = 10000000
 
--- when a build began in which this MTIME is that of this START or END, which counts from the earliest that there can be
+-- when a build began, if MTIME is at `ms` of it
 abbrev pub moment_at : ℕ → ℕ → ℕ
 moment_at mtime ms = mtime + nanos (2 ^ 32 - ms)
 
--- the second is behind the first by more than so much
+-- by more than so much
 abbrev pub is_past : ℕ → ℕ → ℕ → Bool
 is_past much from to = nat_lt (from + much) to
 
@@ -27,7 +26,7 @@ is_past much from to = nat_lt (from + much) to
 abbrev pub reaches : ℕ → ℕ → ℕ → Bool
 reaches began ended moment = nat_lt (began + nanos ended) (moment + nanos (2 ^ 31) + slack)
 
--- the earlier one of two where both are known, and the later one
+-- the one that is known, if only one is
 abbrev pub least : Option ℕ → Option ℕ → Option ℕ
 least (Some x) (Some y) = Some (min x y)
 least (Some x) None = Some x

@@ -4,7 +4,7 @@ use Rattle.std.specs.Ordering.{int_eq}
 use Rattle.nl_fields.specs.declared.entry.Entry.{Entry}
 use Rattle.nl_table.specs.Table.{all_entered_table, entered_table, entry_named, entry_names}
 
--- the form of an intent: it ends when it begins, and its mtime is 0
+-- it ends when it begins, and its mtime is 0
 abbrev pub is_intent : Entry → Bool
 is_intent e = int_eq e.start_ms e.end_ms && int_eq e.mtime (pos 0)
 
@@ -12,7 +12,7 @@ abbrev pub any_intent : List Entry → Bool
 any_intent [] = false
 any_intent (e ∷ es) = is_intent e || any_intent es
 
--- the outputs that have an intent for their last entry, in the order of the table of last entries: their command didn't end
+-- their last entry is an intent, because their command didn't end; in the order of the table of last entries
 abbrev pub unfinished : List Entry → List (List ℕ)
 unfinished entries = entry_names (filter is_intent (all_entered_table entries []))
 
@@ -20,23 +20,22 @@ abbrev pub is_some_intent : Option Entry → Bool
 is_some_intent None = false
 is_some_intent (Some e) = is_intent e
 
--- this one, but for its name
+-- but for its name
 abbrev pub is_some_equal : Option Entry → Entry → Bool
 is_some_equal None e = false
 is_some_equal (Some old) e = int_eq old.start_ms e.start_ms && int_eq old.end_ms e.end_ms && int_eq old.mtime e.mtime && old.hash == e.hash
 
--- an entry is withdrawn to: its name's last entry is an intent, and the one that stood before equals it
+-- its name's last entry is an intent, and the one that stood before equals it
 abbrev pub is_withdrawn : List Entry → List Entry → Entry → Bool
 is_withdrawn last stood e = is_some_intent (entry_named last e.name) && is_some_equal (entry_named stood e.name) e
 
--- an entry tells of no command if it is an intent or withdrawn to
 abbrev pub is_of_none : List Entry → List Entry → Entry → Bool
 is_of_none last stood e = is_intent e || is_withdrawn last stood e
 
 abbrev pub kept_of : List Entry → List Entry → Entry → List Entry
 kept_of last stood e = if is_of_none last stood e then [] else e ∷ []
 
--- the name of an entry, if none of that name came before
+-- none if an entry of that name came before
 abbrev pub name_of_new : Option Entry → Entry → List (List ℕ)
 name_of_new None e = e.name ∷ []
 name_of_new (Some old) e = []

@@ -33,14 +33,14 @@ is_doubtful Sure = false
 
 -- ---- what a command tells
 
--- a moment isn't of before an end, where both are known
+-- or one of the two isn't known
 abbrev pub is_after : Option Past → Option ℕ → Bool
 is_after (Some p) (Some m) = reaches p.began p.ended m
 is_after (Some p) None = true
 is_after None m = true
 
--- the moment of the beginning of its build by which borders go: where MTIME is of the start, the earliest `hi` from it to where END next falls;
--- where it is of the end, `lo`, unless MTIME is of before the end of the build before
+-- when its build began, as borders go by it: if MTIME is of the start, the earliest `hi` from it to where END next falls; if it is of the end,
+-- `lo`, unless `hi` is before the end of the build before
 abbrev pub told_by : Stamps → Option Past → Command → Option ℕ
 told_by Unknown past c = None
 told_by OfStart past c = c.up
@@ -49,7 +49,6 @@ told_by OfEnd past c = if is_after past (hi c) then lo c else None
 abbrev pub told : Stamps → Option Past → Command → Option ℕ
 told stamps past c = if tells c then told_by stamps past c else None
 
--- when a build began by two moments
 abbrev pub better : Stamps → Option ℕ → Option ℕ → Option ℕ
 better OfStart a b = least a b
 better OfEnd a b = greatest a b
@@ -61,7 +60,7 @@ only false m = None
 
 -- ---- a build so far
 
--- of one command, which stands before a place
+-- the command stands before a place
 abbrev pub begun : Stamps → ℕ → Bool → Option Past → Command → Seen
 begun stamps to sure past c = record {
   to = to;
@@ -79,7 +78,7 @@ begun stamps to sure past c = record {
   oldest = only (not c.has_waited) (hi c);
 }
 
--- a command is tied to those before it in its row: it, or one behind it there, waited, and began as the last of them ended, or before
+-- it, or a command behind it in its row, waited, and began 1 ms after the command before it ended, or earlier
 abbrev pub is_tied_by : Option ℕ → ℕ → Bool
 is_tied_by None ended = false
 is_tied_by (Some began) ended = nat_le began (ended + 1)
@@ -87,9 +86,8 @@ is_tied_by (Some began) ended = nat_le began (ended + 1)
 abbrev pub is_tied : Seen → Command → Bool
 is_tied s c = is_tied_by c.wait s.last.ended
 
--- a command that isn't tied begins a piece of the build. A piece tells its greatest `lo`, and those before it the least of theirs
+-- a command that isn't tied begins a piece of the build, whose moment is its greatest `lo`; `pieces` is the least moment of those before
 
--- with a command more
 abbrev pub with_command : Seen → Stamps → ℕ → Bool → Command → Seen
 with_command s stamps to doubtful c = record {
   to = to;
@@ -107,7 +105,7 @@ with_command s stamps to doubtful c = record {
   oldest = least s.oldest (only (not c.has_waited) (hi c));
 }
 
--- the end of a build, or of the last one before of which that is known
+-- or of the last build before of which that is known
 abbrev pub past_by : Option ℕ → ℕ → Option Past → Option Past
 past_by None ended past = past
 past_by (Some began) ended past = Some (record { began = began; ended = ended })
@@ -115,19 +113,18 @@ past_by (Some began) ended past = Some (record { began = began; ended = ended })
 abbrev pub past_of : Seen → Option Past
 past_of s = past_by s.began s.ended s.past
 
--- the earliest end of a build
 abbrev pub before : Seen → Option Past
 before s = past_by s.earliest s.ended None
 
 -- ---- whether another build begins
 
--- the second moment is behind the first by more than this, where both are known
+-- the second moment is behind the first by more than this, and both are known
 abbrev pub differs_by : ℕ → Option ℕ → Option ℕ → Bool
 differs_by much (Some x) (Some y) = is_past much x y
 differs_by much (Some x) None = false
 differs_by much None y = false
 
--- by this moment another build had begun: it is behind the beginning of this one, and behind its end
+-- a moment tells of another build if it is behind the beginning of this one, and behind its end
 abbrev pub is_behind_by : ℕ → Option ℕ → Option ℕ → Bool
 is_behind_by ended (Some began) (Some m) = is_past slack began m && reaches began ended m
 is_behind_by ended (Some began) None = false
@@ -136,19 +133,19 @@ is_behind_by ended None m = false
 abbrev pub is_behind : Seen → Option ℕ → Bool
 is_behind s m = is_behind_by s.ended s.began m
 
--- a border by the moment is sure only where MTIME is of the start, if it is one by MTIME less END too; none is taken before what is tied
+-- a border is sure only if MTIME is of the start, and `lo` tells of another build too; before a tied command only a sure one is taken
 abbrev pub mark_behind : Stamps → Seen → Command → Mark
 mark_behind stamps s c = if is_start stamps && is_behind s (lo c) then Sure else if is_tied s c then Doubtful else Unsure
 
--- one may hide before a command of the hash of the one before it, which may be that one again, and, where MTIME is of the start, before one whose
--- moment is a little behind
+-- a border may hide before a command of the hash of the one before it, which may be that one again, and if MTIME is of the start before one
+-- whose moment is a little behind
 abbrev pub mark_told : Stamps → Seen → Command → Mark
 mark_told stamps s c =
     let moment = told stamps s.past c in
     if is_behind s moment then mark_behind stamps s c
     else if s.last.hash == c.hash || is_start stamps && differs_by agreement s.began moment then Doubtful else Inside
 
--- between lines as Ninja wrote them: END that falls is a border, and so is a command that ran again; the manifest ends its build
+-- between lines as Ninja wrote them: a border stands where END falls, before a command that ran again, and behind the manifest
 abbrev pub mark_written : Stamps → Seen → Command → Mark
 mark_written stamps s c =
     if falls s.last c || is_same s.last c then Sure
@@ -165,27 +162,27 @@ mark ByMoment stamps s c = mark_by_moment stamps s c
 
 -- ---- what can't be so
 
--- the commands of a build tell of no moment that they have in common, to so much
+-- its commands have no moment in common, to so much
 abbrev pub is_disjoint : ℕ → Seen → Bool
 is_disjoint much s = differs_by much s.latest s.earliest
 
--- where MTIME is of the end, a piece of a build doesn't tell its moment, or, where its lines may be in another order, a command that waited for none
+-- if MTIME is of the end: a piece doesn't tell the build's moment, or, if the lines may be in another order, a command that waited for none
 -- has an MTIME of before it
 abbrev pub is_mixed : Bool → Seen → Bool
 is_mixed early s = differs_by one_moment (least s.pieces s.piece) s.earliest || early && differs_by one_moment s.oldest s.earliest
 
--- a border may hide in a build
+-- a border may hide in it
 abbrev pub doubts : Stamps → Bool → Seen → Bool
 doubts stamps early s = s.is_doubtful || is_end stamps && is_mixed early s
 
--- a moment is that of a build with this end, which took 10 ms at the least
+-- of a build with this end, which took 10 ms at the least
 abbrev pub is_moment_of : Option Past → Option ℕ → Bool
 is_moment_of (Some p) (Some m) = nat_le (2 ^ 31 + 10) p.ended && not (is_past one_moment p.began m) && not (is_past one_moment m p.began)
 is_moment_of (Some p) None = false
 is_moment_of None m = false
 
--- a build can't stand behind one with this earliest end. Where MTIME is of the end, a command may tell of before its build, but not all do; and
--- no two builds have one moment
+-- behind one with this earliest end; if MTIME is of the end, a command may tell of before its build, but not all do, and no two builds have
+-- one moment
 abbrev pub is_back : Stamps → Option Past → Seen → Bool
 is_back Unknown end s = false
 is_back OfEnd end s = not (is_after end s.top) || is_moment_of end s.earliest

@@ -6,30 +6,29 @@ use Rattle.nl_builds.specs.Commands.{latest, moment}
 use Rattle.nl_builds.specs.declared.stamps.Stamps.{Stamps}
 use Rattle.nl_builds.specs.declared.stamps.Stamps.TheVariants.{Unknown, OfEnd, OfStart}
 
--- an element more: it stands before the first that ranks no higher
+-- before the first element that ranks no higher
 abbrev pub put : {A : Type 0} → (A → ℕ) → A → List A → List A
 put rank x [] = x ∷ []
 put rank x (y ∷ ys) = if nat_le (rank y) (rank x) then x ∷ y ∷ ys else y ∷ put rank x ys
 
--- the elements by rank, the highest first, and those of one rank in their order
+-- the highest rank first, and those of one rank in their order
 abbrev pub falling : {A : Type 0} → (A → ℕ) → List A → List A
 falling rank [] = []
 falling rank (x ∷ xs) = put rank x (falling rank xs)
 
--- those of a rank
 abbrev pub ranked : {A : Type 0} → (A → ℕ) → ℕ → List A → List A
 ranked rank v xs = filter (λ x. rank x == v) xs
 
--- the earlier it ended, the higher, and by its hash: so the outputs of a command come to stand beside each other
+-- the earlier an entry's END, the higher, and then by its hash, so that the outputs of a command stand beside each other
 abbrev pub span_rank : Entry → ℕ
 span_rank e = 2 ^ 128 - 1 - (moment e.end_ms * 2 ^ 64 + e.hash)
 
--- the earlier, the higher, and the highest where it tells nothing
+-- the earlier, the higher, and the highest if it tells nothing
 abbrev pub rank_by : Option ℕ → ℕ
 rank_by None = 2 ^ 64 - 1
 rank_by (Some m) = 2 ^ 64 - 1 - m
 
--- by MTIME less START; where MTIME is of the end, by MTIME: a build that follows wrote its outputs later
+-- by MTIME less START; if MTIME is of the end, by MTIME, because a build that follows wrote its outputs later
 abbrev pub moment_rank : Stamps → Entry → ℕ
 moment_rank OfEnd e = rank_by (latest e.mtime (2 ^ 32 - 1))
 moment_rank OfStart e = rank_by (latest e.mtime (moment e.start_ms))

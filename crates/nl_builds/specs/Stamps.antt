@@ -6,12 +6,11 @@ use Rattle.nl_versions.specs.declared.version.LogVersion.{LogVersion}
 use Rattle.nl_builds.specs.declared.stamps.Stamps.{Stamps}
 use Rattle.nl_builds.specs.declared.stamps.Stamps.TheVariants.{Unknown, OfEnd, OfStart}
 
--- what MTIME is in a log of this version, and in one of version 4, where it isn't known
+-- nobody knows in a log of version 4
 abbrev pub stamps_by : Bool → LogVersion → Stamps
 stamps_by true version = Unknown
 stamps_by false version = if has_starts version then OfStart else OfEnd
 
--- MTIME is of the start, and of the end
 abbrev pub is_start : Stamps → Bool
 is_start Unknown = false
 is_start OfEnd = false

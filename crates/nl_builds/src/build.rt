@@ -5,16 +5,15 @@
 pub enum How {
     /// By its lines, which stand as Ninja wrote them.
     AsWritten,
-    /// By the moments that its lines tell, since the log was written anew. Later builds have taken at most so many of its outputs.
+    /// By the moments that its lines tell, because the log was written anew. Later builds took at most so many of its outputs.
     FoundAgain { taken: usize },
 }
 
-/// A build.
 #[derive(Clone, Copy, Drop)]
 pub struct Build {
     /// The place behind its last command.
     pub to: usize,
-    /// When it began, as [`Command::latest`](crate::Command::latest) counts. None where nothing tells.
+    /// As [`Command::latest`](crate::Command::latest) counts. None if nothing tells.
     pub began: Option<u64>,
     pub how: How,
     /// Whether these are surely the commands of one build, and all that the log has of it.

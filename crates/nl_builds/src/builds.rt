@@ -14,8 +14,8 @@ use nl_fields::EntryRef;
 use nl_table::Secret;
 use std::alloc::{AllocError, Global};
 
-/// The builds of a log, the commands of these, and the entries of their outputs. Each stands behind the one before it, and tells the
-/// place behind its own: the commands of a build are those from the place of the build before, and the entries of a command likewise.
+/// The builds of a log, their commands, and the entries of these. Each has the place behind its last part: the commands of a build are
+/// those from the place of the build before, and the entries of a command likewise.
 #[derive(Drop)]
 pub struct Builds<'a> {
     pub entries: Vec<EntryRef<'a>>,
@@ -23,8 +23,8 @@ pub struct Builds<'a> {
     pub builds: Vec<Build>,
 }
 
-/// The builds that the entries of commands tell. Names are hashed under a secret, and only where the log was written anew. It takes
-/// time in proportion to the entries, and where the log was written anew to sort them.
+/// It takes time in proportion to the entries, and if the log was written anew also that of sorting them. Only then it hashes names, under
+/// the secret.
 pub fn builds_of<'a>(
     alloc: Global,
     secret: Secret,
@@ -56,7 +56,6 @@ pub fn builds_of<'a>(
     })
 }
 
-// How many commands are of new names, where that counts.
 fn new_commands(
     alloc: Global,
     secret: Secret,
@@ -72,7 +71,7 @@ fn new_commands(
     Ok(whole_commands(new_names(alloc, secret, entries)?, commands))
 }
 
-// Those of which the entries of so many commands were written anew.
+// The entries of so many commands were written anew.
 fn again<'a>(
     alloc: Global,
     stamps: Stamps,
@@ -102,7 +101,6 @@ fn again<'a>(
     })
 }
 
-// The entries before a place, and those behind it.
 fn split<'a>(
     alloc: Global,
     place: usize,
@@ -119,7 +117,6 @@ fn split<'a>(
     Ok((front, rest))
 }
 
-// How many entries so many commands have.
 fn entries_of(count: usize, commands: &[Command]) -> usize
     ensures { result ≡ entries_of count commands.now }
 {
@@ -132,7 +129,6 @@ fn commands_from(count: usize, commands: &[Command]) -> &[Command]
     &commands[count.min(commands.len())..]
 }
 
-// Whether END falls from the command before a place to the one behind it.
 fn falls_at(place: usize, commands: &[Command]) -> bool
     ensures { result ≡ falls_at place commands.now }
 {
@@ -142,7 +138,6 @@ fn falls_at(place: usize, commands: &[Command]) -> bool
     }
 }
 
-// Builds of so many entries that are found again.
 fn found_builds(alloc: Global, count: usize, seen: &[Seen]) -> Result<Vec<Build>, AllocError>
     ensures value { IfOk result (λ builds. builds.items ≡ map (found_build count) seen.now) }
 {
@@ -159,7 +154,7 @@ fn found_builds(alloc: Global, count: usize, seen: &[Seen]) -> Result<Vec<Build>
     Ok(builds)
 }
 
-// Builds as they are written behind a place. So many commands are of new names.
+// The builds stand behind a place. So many commands are of new names.
 fn written_builds(
     alloc: Global,
     stamps: Stamps,
@@ -204,7 +199,7 @@ fn written_build(
     }
 }
 
-// Where MTIME is of the end, what hides beside a build counts only where the log may have been written anew.
+// If MTIME is of the end, what hides beside a build counts only where the log may have been written anew.
 fn beside_doubts(
     stamps: Stamps,
     new: usize,

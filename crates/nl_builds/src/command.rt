@@ -5,33 +5,32 @@ ghost use Rattle.nl_builds.specs.Commands.{agreed, falls, is_manifest_name, is_m
 use crate::moment::{least, moment_at};
 use nl_fields::EntryRef;
 
-// The manifest, behind which Ninja begins anew.
+// Ninja begins anew once it made the manifest.
 const MANIFEST: &[u8; 11] = b"build.ninja";
 
-/// A command: the entries of its outputs stand beside each other, and have one START, END and hash.
+/// The entries of its outputs stand beside each other, and have one START, END and hash.
 #[derive(Clone, Copy, Drop)]
 pub struct Command {
-    /// START: milliseconds from 2^31 before the build began, so that none is negative.
+    /// START, in milliseconds from 2^31 before the build began, so that none is negative.
     pub began: u32,
-    /// END, counted so.
+    /// END, from there too.
     pub ended: u32,
-    /// The MTIME of its outputs; 0 where they differ, as those of two runs do.
+    /// Of its outputs; 0 if theirs differ, because they are then of two runs.
     pub mtime: i64,
     pub hash: u64,
     /// The place behind the entry of its last output.
     pub to: usize,
-    /// The least [`latest`](Command::latest) of it and of those behind it, up to where END next falls; where the log was written anew, its own.
+    /// The least [`latest`](Command::latest) of it and of those behind it in its row; in a log that was written anew its own.
     pub up: Option<u64>,
-    /// Whether it began as one before it ended, from where END last fell.
+    /// Whether it began as one before it in its row ended.
     pub has_waited: bool,
-    /// The least START of it and of those behind it, up to where END next falls, of one that so waited.
+    /// The least START of those that so waited, of it and of those behind it in its row.
     pub wait: Option<u64>,
-    /// Whether it made the manifest.
     pub is_manifest: bool,
 }
 
 impl Command {
-    // That of an entry, which stands before a place.
+    // The entry stands before place `to`.
     pub(crate) fn one(to: usize, entry: &EntryRef) -> Command
         ensures value { result ≡ one to entry.now }
     {
@@ -50,7 +49,7 @@ impl Command {
         }
     }
 
-    // Whether the entry is of it, where these are the names of its first output and of its last.
+    // `first` and `last` are the names of its first output and of its last.
     pub(crate) fn is_more(&self, first: &[u8], last: &[u8], entry: &EntryRef) -> bool
         ensures { result ≡ is_more self.now first.now last.now entry.now }
     {
@@ -61,7 +60,7 @@ impl Command {
             && !(entry.name() == first || entry.name() == last)
     }
 
-    // With an entry more, which stands before a place.
+    // The entry stands before place `to`.
     pub(crate) fn longer(self, to: usize, entry: &EntryRef) -> Command
         ensures value { result ≡ longer self to entry.now }
     {
@@ -75,7 +74,7 @@ impl Command {
         }
     }
 
-    // With what the next one tells, and those behind it, up to where END next falls.
+    // The next one has what it and those behind it in its row tell.
     pub(crate) fn with_next(self, next: Option<Command>) -> Command
         ensures value { result ≡ with_next self next }
     {
@@ -89,36 +88,35 @@ impl Command {
         }
     }
 
-    /// The moment at which its build began, or before which it did: MTIME less START, in nanoseconds from 2^31 milliseconds before MTIME's
-    /// zero, so that none is negative. None where MTIME isn't above 0.
+    /// Its build began at this moment or before: MTIME less START, in nanoseconds from 2^31 milliseconds before MTIME's zero, so that none is
+    /// negative. None unless MTIME is above 0.
     pub fn latest(&self) -> Option<u64>
         ensures value { result ≡ latest self.now.mtime self.now.began }
     {
         latest(self.mtime, self.began)
     }
 
-    /// The moment at which its build began, or behind which it did: MTIME less END.
+    /// Its build began at this moment or behind: MTIME less END.
     pub fn earliest(&self) -> Option<u64>
         ensures value { result ≡ latest self.now.mtime self.now.ended }
     {
         latest(self.mtime, self.ended)
     }
 
-    /// Whether it tells of such moments.
+    /// Whether it has such moments.
     pub fn tells(&self) -> bool
         ensures { result ≡ tells self.now }
     {
         self.mtime > 0
     }
 
-    // Whether END falls from this one to the other.
+    // END falls from this one to the other.
     pub(crate) fn falls(&self, other: &Command) -> bool
         ensures { result ≡ falls self.now other.now }
     {
         other.ended < self.ended
     }
 
-    // Whether both have one START, END and hash.
     pub(crate) fn is_same(&self, other: &Command) -> bool
         ensures { result ≡ is_same self.now other.now }
     {
@@ -132,7 +130,7 @@ pub(crate) fn moment(ms: i32) -> u32
     ms.abs_diff(i32::MIN)
 }
 
-// When a build began in which MTIME is of this moment.
+// When a build began, if MTIME is at `ms` of it.
 pub(crate) fn latest(mtime: i64, ms: u32) -> Option<u64>
     ensures value { result ≡ latest mtime ms }
 {

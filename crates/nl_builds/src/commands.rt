@@ -8,7 +8,6 @@ use crate::command::Command;
 use nl_fields::EntryRef;
 use std::alloc::{AllocError, Global};
 
-/// The commands that these entries tell, in order.
 pub fn commands_of(alloc: Global, entries: &[EntryRef]) -> Result<Vec<Command>, AllocError>
     ensures value { IfOk result (λ found. found.items ≡ commands entries.now) }
 {
@@ -35,7 +34,7 @@ pub fn commands_of(alloc: Global, entries: &[EntryRef]) -> Result<Vec<Command>, 
     Ok(found)
 }
 
-/// Each command with its START, where it waited for one before it in its row, where END doesn't fall.
+/// Each with its START, if it waited for one before it in its row.
 pub(crate) fn with_waits(alloc: Global, commands: &[Command]) -> Result<Vec<Command>, AllocError>
     ensures value { IfOk result (λ found. found.items ≡ with_waits [] commands.now) }
 {
@@ -55,7 +54,7 @@ pub(crate) fn with_waits(alloc: Global, commands: &[Command]) -> Result<Vec<Comm
     Ok(found)
 }
 
-// Begins a row anew where END falls to this one.
+// A row ends where END falls.
 fn cut_row(row: &mut Vec<u32>, ended: u32)
     requires { IsNonDecreasing row.old.items }
     ensures row { row.new.items ≡ row_to row.old.items ended }
@@ -70,7 +69,7 @@ fn cut_row(row: &mut Vec<u32>, ended: u32)
     row.clear();
 }
 
-// START of a command that waited for one of the row, whose ENDs rise.
+// START, if it waited for one of the row. ENDs in a row rise.
 fn waited(row: &[u32], command: &Command) -> Option<u64>
     requires { IsNonDecreasing row.now }
     ensures value { result ≡ waited row.now command.now }
@@ -83,7 +82,7 @@ fn waited(row: &[u32], command: &Command) -> Option<u64>
     Some(began)
 }
 
-/// Each command with what it and those behind it in its row tell.
+/// Each with what it and those behind it in its row tell.
 pub(crate) fn with_rows(alloc: Global, commands: Vec<Command>) -> Result<Vec<Command>, AllocError>
     ensures value { IfOk result (λ found. found.items ≡ with_rows commands.items) }
 {

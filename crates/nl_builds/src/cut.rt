@@ -1,4 +1,4 @@
-//! How far a log can have been written anew: no name comes twice there.
+//! How far a log may have been written anew: no name comes twice there.
 ghost use Rattle.std.specs.Prelude.{◌≡◌, [], IfOk};
 ghost use Rattle.nl_builds.specs.Builds.{new_names, whole_commands};
 
@@ -27,7 +27,7 @@ pub(crate) fn new_names(
     Ok(count)
 }
 
-/// How many commands are of so many entries.
+/// How many commands are whole within so many entries.
 pub(crate) fn whole_commands(count: usize, commands: &[Command]) -> usize
     ensures { result ≡ whole_commands count commands.now }
 {

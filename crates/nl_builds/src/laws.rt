@@ -1,4 +1,4 @@
-//! Laws of commands and builds, each the contract of a function that does nothing.
+//! Laws of commands and builds. Each is the contract of a function that does nothing.
 ghost use Rattle.std.specs.Prelude.{◌≡◌, ◌+◌, ℕ, Bool, List, false, length, true};
 ghost use Rattle.std.specs.List.Sorted.{IsPermutation};
 ghost use Rattle.nl_fields.specs.declared.entry.Entry.{Entry};
@@ -13,18 +13,18 @@ ghost use Rattle.nl_builds.specs.declared.seen.Order.{Order};
 ghost use Rattle.nl_builds.specs.declared.seen.Seen.{Seen};
 ghost use Rattle.nl_builds.specs.declared.stamps.Stamps.{Stamps};
 
-/// Each entry is of one command: the first commands have the first entries, and so on to the last.
+/// The first commands have the first entries, and so on to the last.
 pub fn each_entry_is_of_one_command()
     ensures { (es : List Entry) → ShareEntries 0 (row_commands es) (length es) }
 {}
 
-/// Each command is of one build, likewise.
+/// The first builds have the first commands, and so on to the last.
 pub fn each_command_is_of_one_build()
     ensures { (order : Order) (stamps : Stamps) (place : ℕ) (sure : Bool) (cs : List Command)
         → ShareCommands place (walk order stamps place sure cs) (place + length cs) }
 {}
 
-/// In what is told, also where the log was written anew, each entry is of one command and each command of one build.
+/// Also if the log was written anew, each entry is of one command and each command of one build.
 pub fn places_rise()
     ensures { (stamps : Stamps) (es : List Entry) → PlacesRise (builds_of stamps es) }
 {}
@@ -34,7 +34,6 @@ pub fn the_entries_are_those_of_the_log()
     ensures { (stamps : Stamps) (es : List Entry) → IsPermutation es (builds_of stamps es).entries }
 {}
 
-/// Nothing that is found again is sure.
 pub fn nothing_found_again_is_sure()
     ensures { (stamps : Stamps) (es : List Entry) → AreModest (builds_of stamps es).builds }
 {}
@@ -46,7 +45,7 @@ pub fn a_sure_build_has_sure_borders()
         → (s.is_sure ≡ true) × (next_is_sure ss ≡ true) }
 {}
 
-/// END that falls is a sure border between lines as Ninja wrote them, and so is a command that comes again.
+/// Between lines as Ninja wrote them. So is a command that comes again.
 pub fn an_end_that_falls_is_a_sure_border()
     ensures falls { (stamps : Stamps) (s : Seen) (c : Command) → falls s.last c ≡ true
         → mark_written stamps s c ≡ Sure }
@@ -54,7 +53,6 @@ pub fn an_end_that_falls_is_a_sure_border()
         → mark_written stamps s c ≡ Sure }
 {}
 
-/// Where none of them is an intent, all entries are of commands.
 pub fn entries_without_intents_are_of_commands()
     ensures { (es : List Entry) → any_intent es ≡ false → recorded es ≡ es }
 {}

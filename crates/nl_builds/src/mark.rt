@@ -6,7 +6,7 @@ ghost use Rattle.nl_versions.specs.VersionOf.{as_five};
 // The first line of each log begins so, and has a byte more at the least.
 const MARK: &[u8; 13] = b"# ninja log v";
 
-/// Whether bytes may be the beginning of a log. It takes no longer for many bytes than for few.
+/// It takes no longer for many bytes than for few.
 #[tactic(auto, using(crate::proofs::MarkLemmas::no_log))]
 pub fn may_be_log(text: &[u8]) -> bool
     ensures not_a_log { (more : List ℕ) → result ≡ false → log_of (as_five (text.now ++ more)) ≡ NotALog }

@@ -3,23 +3,22 @@ ghost use Rattle.std.specs.Prelude.{◌≡◌, ◌<◌, ◌+◌, ◌^◌};
 ghost use Rattle.std.specs.Int.RustNames.{unsigned_abs};
 ghost use Rattle.nl_builds.specs.Moments.{greatest, is_past, least, moment_at, nanos, reaches};
 
-// Nanoseconds in a millisecond.
 const NANOS: u64 = 1_000_000;
 
-// By how many nanoseconds the clocks of a file system and of a build may differ (docs/BUILDS.md).
+// Nanoseconds by which the clocks of a file system and of a build may differ (docs/BUILDS.md).
 pub(crate) const SLACK: u64 = 20_000_000;
 
-// By how many two moments may that are one, by START and by END.
+// Nanoseconds by which two moments may differ that are one, by START and by END.
 pub(crate) const AGREEMENT: u64 = 6_000_000;
 
 pub(crate) const ONE_MOMENT: u64 = 10_000_000;
 
-// How many milliseconds count from the earliest START or END to the moment of 0, and what no moment of one reaches.
+// START and END count from so many milliseconds before the build began, so that none is negative.
 const ZERO: u64 = 1 << 31;
 
 const NONE: u64 = 1 << 32;
 
-/// When a build began in which this MTIME is that of this START or END: nanoseconds from before all that there can be.
+/// When a build began, if MTIME is at `ms` of it, in nanoseconds from before all that there can be.
 pub(crate) fn moment_at(mtime: i64, ms: u32) -> u64
     ensures value { result ≡ moment_at (unsigned_abs mtime) ms }
 {
@@ -33,14 +32,14 @@ fn nanos(ms: u64) -> u128
     u128::from(ms) * u128::from(NANOS)
 }
 
-/// Whether the second moment is behind the first by more than this.
+/// `to` is behind `from` by more than `much`.
 pub(crate) fn is_past(much: u64, from: u64, to: u64) -> bool
     ensures { result ≡ is_past much from to }
 {
     u128::from(from) + u128::from(much) < u128::from(to)
 }
 
-/// Whether a moment, and the slack, reaches the END of a build that began by another.
+/// Whether a moment and the slack reach the END of a build that began at another.
 pub(crate) fn reaches(began: u64, ended: u32, moment: u64) -> bool
     ensures { result ≡ reaches began ended moment }
 {
@@ -48,7 +47,7 @@ pub(crate) fn reaches(began: u64, ended: u32, moment: u64) -> bool
         < u128::from(moment) + nanos(ZERO) + u128::from(SLACK)
 }
 
-/// The earlier one of two where both are known.
+/// The one that is known, if only one is.
 pub(crate) fn least(a: Option<u64>, b: Option<u64>) -> Option<u64>
     ensures { result ≡ least a b }
 {
@@ -58,7 +57,7 @@ pub(crate) fn least(a: Option<u64>, b: Option<u64>) -> Option<u64>
     }
 }
 
-/// The later one of two where both are known.
+/// The one that is known, if only one is.
 pub(crate) fn greatest(a: Option<u64>, b: Option<u64>) -> Option<u64>
     ensures { result ≡ greatest a b }
 {

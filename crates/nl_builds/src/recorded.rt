@@ -1,4 +1,4 @@
-//! Entries that stand for outputs while their command runs, and what else tells of no command.
+//! Which entries are of commands: not those that stand for outputs while their command runs, nor those that stand again when it doesn't.
 ghost use Rattle.std.specs.Prelude.{◌≡◌, ◌++◌, ◌∷◌, [], filter, map, if◌then◌else◌, IfOk, OnOk};
 ghost use Rattle.nl_table.specs.Table.{entry_named};
 ghost use Rattle.nl_builds.specs.Recorded.{any_intent, is_intent, is_of_none, is_some_equal, is_some_intent, is_withdrawn, name_of_new, recorded, stood_with, unfinished};
@@ -7,15 +7,15 @@ use nl_fields::EntryRef;
 use nl_table::{Secret, Table};
 use std::alloc::{AllocError, Global};
 
-/// The entries that are of commands, and the outputs that have an intent for their last entry, each where its first entry stands.
+/// The entries that are of commands, and the outputs whose last entry is an intent, each where its first entry stands.
 #[derive(Drop)]
 pub struct Recorded<'a> {
     pub entries: Vec<EntryRef<'a>>,
     pub unfinished: Vec<&'a [u8]>,
 }
 
-/// Those of these entries that are of commands. Where none is an intent, it takes no memory; else it takes that of a list of the names
-/// and of two tables, whose names are hashed under a secret.
+/// If none is an intent, it takes no memory. Otherwise it takes that of a list of the names and of two tables, which hash names under the
+/// secret.
 pub fn keep_recorded<'a>(
     alloc: Global,
     secret: Secret,
@@ -59,7 +59,6 @@ fn recorded_among<'a>(
     })
 }
 
-// Appends the name of an entry, if none of that name is in the table.
 fn push_new<'a>(
     entry: &EntryRef<'a>,
     last: &Table,
@@ -74,14 +73,14 @@ fn push_new<'a>(
     Ok(())
 }
 
-// Keeps the names of which the last entry is an intent.
+// Those whose last entry is an intent.
 fn keep_waiting(last: &Table, names: &mut Vec<&[u8]>)
     ensures items { names.new.items ≡ filter (λ n. is_some_intent (entry_named last.now n.now)) names.old.items }
 {
     names.retain(|name| is_some_intent(&last.get(name)));
 }
 
-// Whether an entry is of no command, where these are the last entries of each name, and the last ones that are no intents.
+// `last` has the last entry of each name, and `stood` the last that is no intent.
 fn is_of_none(last: &Table, stood: &Table, entry: &EntryRef) -> bool
     ensures { result ≡ is_of_none last.now stood.now entry.now }
 {

@@ -12,9 +12,7 @@ const LASTED: u32 = (1 << 31) + 10;
 /// How commands stand in a list.
 #[derive(Clone, Copy, Drop)]
 pub(crate) enum Order {
-    /// As Ninja wrote their lines.
     Written,
-    /// By the moments at which their builds began.
     ByMoment,
 }
 
@@ -22,7 +20,7 @@ pub(crate) enum Order {
 #[derive(Clone, Copy, Drop)]
 pub(crate) enum Mark {
     Inside,
-    /// No border, but one may be there.
+    /// No border, but one may hide here.
     Doubtful,
     Unsure,
     Sure,
@@ -42,27 +40,27 @@ pub(crate) struct Seen {
     pub to: usize,
     /// Whether the border before it is sure.
     pub is_sure: bool,
-    /// Whether a border may be in it, or a command tells nothing.
+    /// A border may hide in it, or a command tells nothing.
     pub is_doubtful: bool,
     pub began: Option<u64>,
     /// The end of the last build before of which that is known.
     pub past: Option<Past>,
-    /// It began at the first of these moments or behind, at the second or before, and no command says that it began behind the third.
+    /// It began at `earliest` or behind, and at `latest` or before. No command tells that it began behind `top`.
     pub earliest: Option<u64>,
     pub latest: Option<u64>,
     pub top: Option<u64>,
     /// The greatest END.
     pub ended: u32,
     pub last: Command,
-    /// The moment that the commands tell from the last one on that isn't tied to those before it, and the least that such a piece before tells.
+    /// The moment of the last piece, which begins at the last command that isn't tied, and the least of those before.
     pub piece: Option<u64>,
     pub pieces: Option<u64>,
-    /// The first moment before which it began by a command that waited for none.
+    /// The least `latest` of the commands that waited for none.
     pub oldest: Option<u64>,
 }
 
 impl Seen {
-    /// A build that a command begins, which stands before a place.
+    /// The command stands before place `to`.
     pub(crate) fn begun(
         stamps: Stamps,
         to: usize,
@@ -89,7 +87,7 @@ impl Seen {
         }
     }
 
-    /// With a command more, which stands before a place.
+    /// The command stands before place `to`.
     pub(crate) fn with_command(
         self,
         stamps: Stamps,
@@ -117,7 +115,7 @@ impl Seen {
         }
     }
 
-    /// What stands before a command that follows this build.
+    /// What stands before a command behind this build.
     pub(crate) fn mark(&self, order: Order, stamps: Stamps, command: &Command) -> Mark
         ensures { result ≡ mark order stamps self.now command.now }
     {
@@ -140,7 +138,7 @@ impl Seen {
         if self.is_behind(moment) {
             return self.mark_behind(stamps, command);
         }
-        // Of one hash, it may be the command before it, which ran again.
+        // A command of the hash of the one before it may be that one again.
         let hides = stamps.is_start() && differs_by(AGREEMENT, self.began, moment);
         if self.last.hash == command.hash || hides {
             Mark::Doubtful
@@ -149,7 +147,7 @@ impl Seen {
         }
     }
 
-    // What stands before a command by whose moment another build had begun.
+    // By the command's moment another build had begun.
     fn mark_behind(&self, stamps: Stamps, command: &Command) -> Mark
         ensures { result ≡ mark_behind stamps self.now command.now }
     {
@@ -175,7 +173,7 @@ impl Seen {
         }
     }
 
-    // Whether by this moment another build had begun, behind the end of this one.
+    // By this moment another build had begun, behind the end of this one.
     fn is_behind(&self, moment: Option<u64>) -> bool
         ensures { result ≡ is_behind self.now moment }
     {
@@ -187,7 +185,7 @@ impl Seen {
         }
     }
 
-    // Whether the command, or one behind it in its row, waited for one of the row before it.
+    // It, or one behind it in its row, waited for one of the row before it.
     fn is_tied(&self, command: &Command) -> bool
         ensures { result ≡ is_tied self.now command.now }
     {
@@ -195,7 +193,7 @@ impl Seen {
         command.wait.is_some_and(|began| began <= ended + 1)
     }
 
-    /// The end of this build by one moment of its beginning, or an earlier one where that isn't known.
+    /// The end of this build, if it began at `began`, or an earlier end if that isn't known.
     pub(crate) fn end(&self, began: Option<u64>, past: Option<Past>) -> Option<Past>
         ensures value { result ≡ past_by began self.now.ended past }
     {
@@ -203,14 +201,14 @@ impl Seen {
         began.map(|began| Past { began, ended }).or(past)
     }
 
-    /// Whether a border may hide in it, where the order of its lines may be another.
+    /// A border may hide in it. `early` says whether its lines may be in another order.
     pub(crate) fn doubts(&self, stamps: Stamps, early: bool) -> bool
         ensures { result ≡ doubts stamps early self.now }
     {
         self.is_doubtful || stamps.is_end() && self.is_mixed(early)
     }
 
-    // Whether not all of it tells its moment.
+    // Not all of it tells its moment.
     fn is_mixed(&self, early: bool) -> bool
         ensures { result ≡ is_mixed early self.now }
     {
@@ -218,7 +216,7 @@ impl Seen {
             || early && differs_by(ONE_MOMENT, self.oldest, self.earliest)
     }
 
-    /// Whether it can't stand behind a build with this earliest end.
+    /// It can't stand behind a build with this earliest end.
     pub(crate) fn is_back(&self, stamps: Stamps, before: Option<Past>) -> bool
         ensures { result ≡ is_back stamps before self.now }
     {
@@ -246,7 +244,7 @@ fn differs_by(much: u64, from: Option<u64>, to: Option<u64>) -> bool
     }
 }
 
-// Whether a moment isn't of before the end, where both are known.
+// A moment isn't before the end, or one of the two isn't known.
 fn is_after(end: Option<Past>, moment: Option<u64>) -> bool
     ensures { result ≡ is_after end moment }
 {
@@ -256,7 +254,7 @@ fn is_after(end: Option<Past>, moment: Option<u64>) -> bool
     }
 }
 
-// Whether a moment is that of a build with this end, which took long enough.
+// The build with this end began at this moment, and took long enough.
 fn is_moment_of(end: Option<Past>, moment: Option<u64>) -> bool
     ensures { result ≡ is_moment_of end moment }
 {
@@ -268,7 +266,7 @@ fn is_moment_of(end: Option<Past>, moment: Option<u64>) -> bool
     }
 }
 
-// The moment of the beginning of a build that a command tells, by which borders go.
+// When its build began, as borders go by it.
 fn told(stamps: Stamps, past: Option<Past>, command: &Command) -> Option<u64>
     ensures value { result ≡ told stamps past command.now }
 {

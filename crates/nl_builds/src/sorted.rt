@@ -7,7 +7,7 @@ use crate::stamps::Stamps;
 use nl_fields::EntryRef;
 use std::alloc::AllocError;
 
-/// The entries by the moments of their builds, and those of one moment by END and hash.
+/// Entries of one moment by END and hash.
 pub(crate) fn by_moment<'a>(
     stamps: Stamps,
     entries: Vec<EntryRef<'a>>,

@@ -4,10 +4,9 @@ ghost use Rattle.nl_builds.specs.Stamps.{is_end, is_start, stamps_by};
 
 use nl_versions::FirstLine;
 
-/// What MTIME is in a log.
 #[derive(Clone, Copy, Drop)]
 pub enum Stamps {
-    /// It isn't known, as in a log of version 4.
+    /// Nobody knows, as in a log of version 4.
     Unknown,
     /// When the output was written, so mostly when the command ended.
     OfEnd,
@@ -16,7 +15,6 @@ pub enum Stamps {
 }
 
 impl Stamps {
-    /// What it is in a log that begins so.
     pub fn of(first: FirstLine) -> Stamps
         ensures value { result ≡ stamps_by first.is_four first.version }
     {

@@ -7,7 +7,7 @@ use crate::seen::{Mark, Order, Past, Seen};
 use crate::stamps::Stamps;
 use std::alloc::{AllocError, Global};
 
-/// The builds of these commands, of which the first stands behind a place, with this border before it.
+/// The first command stands behind `place`, and `is_sure` is whether the border before it is.
 pub(crate) fn walk(
     alloc: Global,
     order: Order,
@@ -40,7 +40,7 @@ pub(crate) fn walk(
     Ok(found)
 }
 
-// The end of a build, which tells of the next one where they stand as Ninja wrote them.
+// It tells of the next build only if they stand as Ninja wrote them.
 fn past_in(order: Order, seen: &Seen) -> Option<Past>
     ensures { result ≡ past_in order seen.now }
 {
@@ -50,7 +50,7 @@ fn past_in(order: Order, seen: &Seen) -> Option<Past>
     }
 }
 
-/// The place before the first build that contradicts the order.
+/// The place before the first build that can't stand behind the one before it.
 pub(crate) fn first_back(stamps: Stamps, builds: &[Seen]) -> Option<usize>
     ensures { result ≡ first_back stamps None 0 builds.now }
 {

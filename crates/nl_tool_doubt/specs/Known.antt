@@ -1,4 +1,4 @@
--- What is kept of the lines of a log, so that their moments are found.
+-- What is kept of the lines of a log to find their moments.
 use Rattle.std.specs.Prelude.{◌≡◌, Bool, List, map}
 use Rattle.std.specs.List.{list_all}
 use Rattle.nl_fields.specs.declared.entry.Entry.{Entry}

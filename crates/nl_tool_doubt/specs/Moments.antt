@@ -13,13 +13,12 @@ use Rattle.nl_builds.specs.declared.stamps.Stamps.TheVariants.{Unknown, OfEnd, O
 abbrev pub tells : Entry → Bool
 tells e = int_lt (pos 0) e.mtime
 
--- the lines that tell, which those of a log of version 4 or 5 don't
+-- those of a log of version 4 or 5 don't
 abbrev pub lines_that_tell : Stamps → List Entry → List Entry
 lines_that_tell OfStart es = filter tells es
 lines_that_tell OfEnd es = []
 lines_that_tell Unknown es = []
 
--- MTIME
 abbrev pub at_of : Entry → ℕ
 at_of e = unsigned_abs e.mtime / 1000000
 
@@ -31,13 +30,13 @@ m_of e = at_of e + (2 ^ 32 - moment e.start_ms)
 abbrev pub lo_of : Entry → ℕ
 lo_of e = at_of e + (2 ^ 32 - moment e.end_ms)
 
--- how long its command ran: not at all, if it ended before it began
+-- 0, if it ended before it began
 abbrev pub length_of : Entry → ℕ
 length_of e = moment e.end_ms - moment e.start_ms
 
 -- ---- what all lines tell of one
 
--- the file system counts whole seconds, if each MTIME is of one: then a time may be a second early
+-- if each MTIME is of a whole second, the file system counts seconds, and a time may be a second early
 abbrev pub is_whole : Entry → Bool
 is_whole e = unsigned_abs e.mtime % 1000000000 == 0
 
@@ -49,26 +48,26 @@ abbrev pub bound : List Entry → ℕ → ℕ
 bound [] at = 0
 bound (x ∷ xs) at = if nat_le (at_of x) at then max (lo_of x) (bound xs at) else bound xs at
 
--- how long the commands ran whose MTIME less START is from one moment up to another
+-- of the commands whose MTIME less START is from one moment up to another
 abbrev pub lengths_between : ℕ → ℕ → List Entry → List ℕ
 lengths_between from to [] = []
 lengths_between from to (x ∷ xs) =
     if nat_le from (m_of x) && nat_le (m_of x) to then length_of x ∷ lengths_between from to xs else lengths_between from to xs
 
--- two of these lengths differ: one is above what the other allows
+-- one of two lengths is above what the other allows
 abbrev pub differ : (ℕ → ℕ) → List ℕ → Bool
 differ allows ns = list_any (λ a. list_any (λ b. nat_lt (allows a) b) ns) ns
 
--- the least of some moments from one on, and at most a line's own
+-- from one moment on, and at most a line's own
 abbrev pub least_from : ℕ → ℕ → List ℕ → ℕ
 least_from from own [] = own
 least_from from own (m ∷ ms) = if nat_le from m then min m (least_from from own ms) else least_from from own ms
 
--- commands within 8 ms of a line's own moment differ by more than 12 ms and a fifth: then its MTIME is when it started
+-- commands within 8 ms of a line's own moment differ by more than 12 ms and a fifth, so its MTIME is when its command started
 abbrev pub is_start : List Entry → ℕ → Bool
 is_start ls own = differ (λ a. a + max 12 (a / 5)) (lengths_between (own - 8) (own + 8) ls)
 
--- and no moment counts for it that is more than 8 ms before its own
+-- then no moment counts for the line that is more than 8 ms before its own
 abbrev pub nearest : List Entry → ℕ → ℕ
 nearest ls own = if is_start ls own then own - 8 else 0
 
@@ -79,7 +78,7 @@ begun_by ls at own = least_from (max (bound ls at - (5 + tick_of ls)) (nearest l
 abbrev pub begun : List Entry → Entry → ℕ
 begun ls e = begun_by ls (at_of e) (m_of e)
 
--- M is surely when a build began: within 6 ms behind it a command of at most 12 ms began, or two that differ by more
+-- within 6 ms behind M a command of at most 12 ms began, or two whose lengths differ by more
 abbrev pub is_sure : List Entry → ℕ → Bool
 is_sure ls m =
     let ns = lengths_between m (m + 6) ls in

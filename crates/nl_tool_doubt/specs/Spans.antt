@@ -4,7 +4,6 @@ use Rattle.std.specs.List.{All}
 use Rattle.std.specs.List.Sorted.{IsNonDecreasingBy}
 use Rattle.nl_tool_doubt.specs.declared.spans.Span.{Span}
 
--- one value at a place
 abbrev pub one : ℕ → ℕ → Span
 one place value = record { first = place; least = value; greatest = value }
 
@@ -14,11 +13,9 @@ both (Some x) (Some y) = Some (record { first = min x.first y.first; least = min
 both (Some x) None = Some x
 both None y = y
 
--- one, if it stands between two places
 abbrev pub if_within : ℕ → ℕ → Span → Option Span
 if_within from to s = if nat_le from s.first && nat_le s.first to then Some s else None
 
--- those that do
 abbrev pub within : ℕ → ℕ → List Span → Option Span
 within from to [] = None
 within from to (s ∷ ss) = both (if_within from to s) (within from to ss)
@@ -27,7 +24,6 @@ within from to (s ∷ ss) = both (if_within from to s) (within from to ss)
 abbrev pub Alike : List Span → List Span → Type 0
 Alike ss ts = (from to : ℕ) → within from to ss ≡ within from to ts
 
--- they stand in order
 abbrev pub Rises : List Span → Type 0
 Rises ss = IsNonDecreasingBy (λ (s : Span). s.first) ss
 
@@ -40,7 +36,7 @@ abbrev pub greatest_of : Option Span → ℕ
 greatest_of None = 0
 greatest_of (Some s) = s.greatest
 
--- one was added behind those of earlier places, or to that of its own
+-- behind those of earlier places, or to that of its own
 pub record Joins (old : List Span) (span : Span) (new : List Span) : Type 0 where
   pub alike : (from to : ℕ) → within from to new ≡ both (within from to old) (if_within from to span)
   pub rises : Rises old → All (λ (s : Span). s.first ≤ span.first) old → Rises new

@@ -10,28 +10,26 @@ use Rattle.nl_tool_doubt.specs.declared.files.FileState.{FileState}
 use Rattle.nl_tool_doubt.specs.declared.files.FileState.TheVariants.{Missing, Written}
 use Rattle.nl_tool_doubt.specs.declared.files.Looked.{Looked}
 
--- the last entry of each output, in the order of first appearance; none where there is no log
+-- in the order of first appearance; none if there is no log
 abbrev pub table_in : LogReading → Option (List Entry)
 table_in (Log version entries) = Some (table (logged version entries))
 table_in OtherVersion = None
 table_in NotALog = None
 
--- the name of an output whose file isn't missing
+-- none if its file is missing
 abbrev pub name_by : List ℕ → FileState → List (List ℕ)
 name_by name Missing = []
 name_by name file = name ∷ []
 
--- an output with the time of its file, where that has one
+-- none if its file has no time
 abbrev pub pair_by : List ℕ → FileState → List (List ℕ × ℤ)
 pair_by name (Written t) = (name, t.written) ∷ []
 pair_by name file = []
 
--- what is learned of one
 abbrev pub learned : {X : Type 0} → (List ℕ → FileState → List X) → Looked → List X
 learned by l = by l.entry.name l.file
 
--- the file of the last entry's output was looked at, of each output of the log that a reader gave, the known one where it is known, and
--- what is learned by what was said of it was added
+-- for the last entry of each output of the log that a reader gave, where that is known: what is learned of its file was added
 pub record AddsFor {X : Type 0} (by : List ℕ → FileState → List X) (known : Option (List ℕ)) (states : Option (List ℕ → FileState))
     (old new : List X) : Type 0 where
   pub bytes : List ℕ

@@ -7,7 +7,6 @@ use crate::moments::{Moments, NANOSECONDS, NONE, length_of, moment, tells};
 use nl_builds::Stamps;
 use nl_fields::EntryRef;
 
-/// Why an output can't be trusted.
 #[derive(Clone, Copy, Drop)]
 pub enum Doubt {
     /// A damaged or torn line may be about it.
@@ -16,17 +15,15 @@ pub enum Doubt {
     Newer,
     /// It may have been: the log doesn't tell when the entry's build began.
     Unsure,
-    /// There is no file.
     Gone,
     /// The output is a directory, whose time says nothing of the command.
     Folder,
     /// The entry has no time, so no file can be compared with it.
     NoTime,
-    /// Nothing could be learned of the file.
     Untold,
 }
 
-/// What the file of an output says against its entry, where change times count or don't.
+/// `counts` says whether change times count.
 pub fn doubt_of(counts: bool, stamps: Stamps, moments: &Moments, looked: &Looked) -> Option<Doubt>
     ensures value { result ≡ doubt_of counts stamps moments.now looked.now.entry looked.now.file }
 {
@@ -53,7 +50,7 @@ fn last_of(counts: bool, stamps: Stamps, times: FileTimes) -> i64
     }
 }
 
-// Of a file that was written then, by its last time that counts.
+// By the file's last time that counts.
 fn doubt_by(
     stamps: Stamps,
     moments: &Moments,
@@ -93,7 +90,7 @@ fn doubt_from(moments: &Moments, entry: &EntryRef, time: i64, last: i64) -> Opti
     None
 }
 
-// When a command ended whose build began then.
+// Of a command whose build began then.
 fn ended(begun: u64, entry: &EntryRef) -> u64
     requires small { begun < 2 ^ 45 }
     ensures value { result ≡ ended begun entry.now }
@@ -109,7 +106,7 @@ fn written(time: i64) -> u64
     time.unsigned_abs() / NANOSECONDS + NONE
 }
 
-// 8 ms or more behind the end.
+// By 8 ms and a tick.
 fn is_newer(tick: u64, ended: u64, written: u64) -> bool
     requires small { (tick ≤ 1000) × (ended < 2 ^ 46) }
     ensures { result ≡ is_newer tick ended written }
@@ -117,7 +114,7 @@ fn is_newer(tick: u64, ended: u64, written: u64) -> bool
     ended + 8 + tick <= written
 }
 
-// Before the end by more than 20 ms, and by more than a quarter of the command's length.
+// By more than 20 ms, and by more than a quarter of the command's length.
 fn is_early(tick: u64, length: u64, ended: u64, written: u64) -> bool
     requires small { (tick ≤ 1000) × (length < 2 ^ 32) × (written < 2 ^ 46) }
     ensures { result ≡ is_early tick length ended written }

@@ -1,4 +1,4 @@
-//! Laws of doubt, each the contract of a function that does nothing.
+//! Laws of doubt. Each is the contract of a function that does nothing.
 ghost use Rattle.std.specs.Prelude.{◌≡◌, ◌+◌, ◌≤◌, ℤ, List, Option, Some, None, true, false, int_lt, map, pos, if◌then◌else◌};
 ghost use Rattle.std.specs.List.{Contains};
 ghost use Rattle.std.specs.Ordering.{int_eq};
@@ -8,13 +8,13 @@ ghost use Rattle.nl_tool_doubt.specs.Judging.{doubt_by, ended, is_newer, written
 ghost use Rattle.nl_tool_doubt.specs.Moments.{begun, lo_of, m_of, tells, tick_of};
 ghost use Rattle.nl_tool_doubt.specs.declared.judge.Doubt.{Doubt};
 
-/// A file that isn't behind MTIME is neither newer nor unsure, whatever other lines tell.
+/// It is neither newer nor unsure, whatever other lines tell.
 pub fn a_file_that_is_not_behind_mtime_agrees()
     ensures { (stamps : Stamps) (ls : List Entry) (e : Entry) (time last : ℤ) → int_lt e.mtime last ≡ false
         → doubt_by stamps ls e time last ≡ (if int_eq e.mtime (pos 0) then Some Doubt.NoTime else None) }
 {}
 
-/// In a log of version 4 or 5 a file is newer exactly if it is behind MTIME, and none is unsure.
+/// A file is newer exactly if it is behind MTIME, and none is unsure.
 pub fn a_log_of_version_5_has_no_slack()
     ensures four { (ls : List Entry) (e : Entry) (time last : ℤ) → doubt_by Stamps.Unknown ls e time last
         ≡ (if int_eq e.mtime (pos 0) then Some Doubt.NoTime
@@ -24,8 +24,8 @@ pub fn a_log_of_version_5_has_no_slack()
         else if int_lt e.mtime last then Some Doubt.Newer else None) }
 {}
 
-/// The build of a line began no later than its own moment, and at the moment of a line of the log. It began no more than 5 ms,
-/// and a tick, before MTIME less END, unless the command ended before it began.
+/// The build of a line began no later than its own moment, at the moment of a line of the log, and no more than 5 ms and a tick before
+/// MTIME less END, unless the command ended before it began.
 pub fn the_moment_of_a_build()
     ensures late { (ls : List Entry) (e : Entry) → begun ls e ≤ m_of e }
     ensures of_a_line { (ls : List Entry) (e : Entry) → Contains ls e → Contains (map m_of ls) (begun ls e) }
@@ -33,7 +33,7 @@ pub fn the_moment_of_a_build()
         → lo_of e ≤ begun ls e + 5 + tick_of ls }
 {}
 
-/// A file is newer if it is behind its command's end by 8 ms and a tick, were its MTIME when the command started.
+/// By 8 ms and a tick, if MTIME is when the command started.
 pub fn a_file_behind_its_command_is_newer()
     ensures { (ls : List Entry) (e : Entry) (time last : ℤ) → tells e ≡ true → int_lt e.mtime last ≡ true
         → is_newer (tick_of ls) (ended (m_of e) e) (written last) ≡ true

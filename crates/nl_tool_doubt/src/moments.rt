@@ -11,15 +11,14 @@ use nl_fields::EntryRef;
 use std::alloc::{AllocError, Global};
 use std::marker::Model;
 
-/// Nanoseconds in a millisecond.
 pub const NANOSECONDS: u64 = 1_000_000;
 
 const SECOND: u64 = 1_000_000_000;
 
-/// No START or END is so many milliseconds behind the earliest that there can be.
+/// Milliseconds: no START or END is so far behind the earliest that there can be.
 pub const NONE: u64 = 1 << 32;
 
-// What a line tells: MTIME, and it less START and less END.
+// MTIME, and it less START and less END.
 #[derive(Clone, Copy, Drop)]
 struct Line {
     at: u64,
@@ -41,7 +40,7 @@ impl Line {
     }
 }
 
-/// How long a command ran: not at all, if it ended before it began.
+/// 0, if it ended before it began.
 pub fn length_of(entry: &EntryRef) -> u64
     ensures value { result ≡ length_of entry.now }
     ensures bound { result < 2 ^ 32 }
@@ -49,7 +48,6 @@ pub fn length_of(entry: &EntryRef) -> u64
     u64::from(moment(entry.end_ms).saturating_sub(moment(entry.start_ms)))
 }
 
-/// Whether MTIME tells anything.
 pub fn tells(entry: &EntryRef) -> bool
     ensures { result ≡ tells entry.now }
 {
@@ -63,7 +61,7 @@ pub fn moment(ms: i32) -> u32
     ms.abs_diff(i32::MIN)
 }
 
-/// What the lines of a log tell of when their builds began. It is asked in time by the logarithm of their number.
+/// What the lines of a log tell of when their builds began. Each question takes time by the logarithm of their number.
 #[derive(Drop)]
 pub struct Moments<'a> {
     stamps: Stamps,
@@ -89,7 +87,7 @@ impl<'a> Model for Moments<'a> {
 }
 
 impl<'a> Moments<'a> {
-    /// What these entries of a log tell. They are sorted.
+    /// It sorts the entries.
     pub fn of(
         alloc: Global,
         stamps: Stamps,
@@ -113,7 +111,7 @@ impl<'a> Moments<'a> {
         })
     }
 
-    /// By how many milliseconds the times of the file system may be early.
+    /// Milliseconds by which the times of the file system may be early.
     pub fn tick(&self) -> u64
         ensures value { result ≡ tick_of self.now }
         ensures bound { result ≤ 1000 }
@@ -121,7 +119,7 @@ impl<'a> Moments<'a> {
         if self.is_coarse { 1000 } else { 0 }
     }
 
-    /// When the build of an entry began, at the latest at its own moment.
+    /// At the latest at the entry's own moment.
     pub fn begun(&self, entry: &EntryRef) -> u64
         ensures value { result ≡ begun self.now entry.now }
         ensures bound { result < 2 ^ 45 }
@@ -133,7 +131,7 @@ impl<'a> Moments<'a> {
         least_from(self.starts.as_slice(), from, line.m)
     }
 
-    // No more than 8 ms before this moment, if it is surely when a command started.
+    // At most 8 ms before this moment, if that is surely when a command started.
     fn nearest(&self, own: u64) -> u64
         requires bound { own < 2 ^ 45 }
         ensures value { result ≡ nearest self.now own }
@@ -144,7 +142,7 @@ impl<'a> Moments<'a> {
         }
     }
 
-    /// Whether a build began surely at this moment.
+    /// Whether a build surely began at this moment.
     pub fn is_sure(&self, moment: u64) -> bool
         requires { moment < 2 ^ 45 }
         ensures value { result ≡ is_sure self.now moment }
@@ -156,7 +154,7 @@ impl<'a> Moments<'a> {
     }
 }
 
-// In a log of version 4 or 5 no line tells when its build began.
+// None of a log of version 4 or 5, because no line there tells when its build began.
 fn lines_of<'e, 'a>(stamps: Stamps, entries: &'e [EntryRef<'a>]) -> &'e [EntryRef<'a>]
     ensures value { filter tells result.now ≡ lines_that_tell stamps entries.now }
 {
@@ -166,7 +164,7 @@ fn lines_of<'e, 'a>(stamps: Stamps, entries: &'e [EntryRef<'a>]) -> &'e [EntryRe
     }
 }
 
-// Whether each MTIME that tells is of a whole second.
+// Of whole seconds, each MTIME that tells.
 fn are_whole(lines: &[EntryRef]) -> bool
     ensures { result ≡ list_all is_whole (filter tells lines.now) }
 {
@@ -178,7 +176,6 @@ fn are_whole(lines: &[EntryRef]) -> bool
     true
 }
 
-// Adds what the lines tell.
 fn add_spans(
     lines: &[EntryRef],
     ends: &mut Vec<Span>,

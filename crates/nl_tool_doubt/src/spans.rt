@@ -15,7 +15,6 @@ pub struct Span {
 }
 
 impl Span {
-    /// One value.
     pub fn one(first: u64, value: u64) -> Span
         ensures value { result ≡ one first value }
     {
@@ -34,7 +33,7 @@ impl Span {
     }
 }
 
-/// These in the order of their places.
+/// In the order of their places.
 pub fn rising(spans: Vec<Span>) -> Vec<Span>
     ensures alike { Alike result.items spans.items }
     ensures rises { Rises result.items }
@@ -60,7 +59,7 @@ pub fn summed(alloc: Global, spans: &[Span]) -> Result<Vec<Span>, AllocError>
     Ok(all)
 }
 
-/// One for each place of some in order.
+/// One for each place. `spans` stand in order.
 pub fn merged(alloc: Global, spans: &[Span]) -> Result<Vec<Span>, AllocError>
     requires rises { Rises spans.now }
     ensures alike { IfOk result (λ all. Alike all.items spans.now) }
@@ -73,7 +72,7 @@ pub fn merged(alloc: Global, spans: &[Span]) -> Result<Vec<Span>, AllocError>
     Ok(all)
 }
 
-// Adds one behind those of earlier places, or to that of its own.
+// Behind those of earlier places, or to that of its own.
 fn join(span: Span, all: &mut Vec<Span>) -> Result<(), AllocError>
     ensures ok { OnOk result (Joins all.old.items span all.new.items) }
 {
@@ -88,7 +87,6 @@ fn join(span: Span, all: &mut Vec<Span>) -> Result<(), AllocError>
     Ok(())
 }
 
-// What two span together.
 fn both(a: Option<Span>, b: Span) -> Span
     ensures value { Some result ≡ both a (Some b) }
 {
@@ -102,7 +100,7 @@ fn both(a: Option<Span>, b: Span) -> Span
     }
 }
 
-/// What those span together, of some in order, that stand between two places.
+/// What those between two places span together. `spans` stand in order.
 pub fn within(spans: &[Span], from: u64, to: u64) -> Option<Span>
     requires rises { Rises spans.now }
     ensures value { result ≡ within from to spans.now }
@@ -125,7 +123,7 @@ fn up_to(spans: &[Span], to: u64) -> Option<Span>
     found
 }
 
-/// The least place from one on, of some in order, and at most this one.
+/// At most `own`. `spans` stand in order.
 pub fn least_from(spans: &[Span], from: u64, own: u64) -> u64
     requires rises { Rises spans.now }
     ensures value { result ≡ least_from from own (map (λ s. s.first) spans.now) }
@@ -137,7 +135,7 @@ pub fn least_from(spans: &[Span], from: u64, own: u64) -> u64
     own
 }
 
-/// The greatest value of those up to a place, where each has the greatest up to it.
+/// Each of `spans` has the greatest value up to it.
 pub fn greatest_up_to(spans: &[Span], to: u64) -> u64
     ensures value { (ss : List Span) → Rises ss → spans.now ≡ sums 0 ss
         → result ≡ greatest_of (within 0 to ss) }
