@@ -87,7 +87,7 @@ impl<'a> Model for Moments<'a> {
 }
 
 impl<'a> Moments<'a> {
-    /// It sorts the entries.
+    /// It takes the time of sorting what the entries tell.
     pub fn of(
         alloc: Global,
         stamps: Stamps,
