@@ -1,5 +1,4 @@
--- Laws of the spelling of numbers: a spelling has one number, a number has one spelling, and each prefix of a
--- spelling is the spelling of a number that is no larger.
+-- Laws of the spelling of numbers: it is unique both ways, and a prefix of a spelling spells a number that is no larger.
 use Rattle.std.proofs.Common.{◌≡◌, ℕ, suc, ◌+◌, ◌-◌, ◌*◌, ◌%◌, ◌^◌, ◌<◌, ◌≤◌, List, [], ◌∷◌, ◌++◌, length, take, drop, get_or, refl, sym}
 use Rattle.std.proofs.Common.{◌∙◌, ap, subst, inl, inr, ◌⊎◌, arith, length-append, add-one, ℤ, pos, negsuc, ◌-ℤ◌, Option, Some, None}
 use Rattle.std.proofs.Common.{FitsSigned, SomeIff, w64}

@@ -1,5 +1,4 @@
--- Digits that are read: the table of their values, held against the definition at each of the 256 bytes by computing, and room for one
--- more.
+-- Digits that are read: the table of their values at each of the 256 bytes, by computing, and room for one more.
 use Rattle.std.proofs.Common.{◌≡◌, ℕ, zero, suc, ◌+◌, ◌-◌, ◌*◌, ◌^◌, ◌<◌, ◌≤◌, Bool, true, false, ◌&&◌, nat_lt, if◌then◌else◌, get_or, List}
 use Rattle.std.proofs.Common.{refl, arith, inl, inr, ◌∙◌}
 use Rattle.std.proofs.Math.Dec.{eqb}

@@ -3,8 +3,7 @@ use Rattle.nl_lines.specs.Lines.{IsReading, max_log}
 use Rattle.nl_tool_script.proofs.ScriptLemmas.{Scripted}
 use Rattle.nl_tool_script.proofs.script.read_lines.Given as goal
 
--- the lines so far are a script with the events so far; each that was taken has a newline, so its number is no larger than the
--- bytes of all so far
+-- the lines so far are a script with the events so far; each has a newline, so its number is no larger than the bytes of all so far
 abbrev pub invariant-lines : goal.invariant-lines
 invariant-lines g l = record {
   scripted : Scripted (g.S.Source.ahead l.initial.source) l.lines (g.S.Source.ahead l.source) l.script.events.items;
