@@ -16,7 +16,7 @@ LOG = ".ninja_log"
 
 # A line of the log, and where it ends in the file.
 Entry = collections.namedtuple("Entry", "start end mtime name hash to")
-# What one run of Ninja added to the log: where its lines begin and end, when it was started, and the time of each output as it ended.
+# One run of Ninja: where its lines in the log begin and end, when it started, and the time of each output at its end.
 Ran = collections.namedtuple("Ran", "at to started times")
 
 RULES = """rule cc
@@ -92,7 +92,7 @@ class Builds:
             return b""
 
     def build(self, *words, stop_after=None):
-        """Waits some time, runs Ninja, and keeps what it added. A log that Ninja wrote anew on its way has its runs forgotten."""
+        """Waits some time, runs Ninja, and keeps what it added. If Ninja wrote the log anew, the runs before are forgotten."""
         time.sleep(self.random.expovariate(1 / self.pause) if self.pause else 0)
         before, started = self.log(), time.time_ns()
         with subprocess.Popen([self.ninja, "-j", f"{self.jobs}", *words], cwd=self.folder, stdin=subprocess.DEVNULL, stdout=subprocess.DEVNULL,

@@ -89,7 +89,7 @@ def measure_neighbours(all_builds):
 
 
 def entries_of_runs(builds, first=False):
-    """Each entry that a run added, when that was started, and its file's time as it ended. `first`: none behind a manifest made again."""
+    """Each entry of a run, the run's start, and the file's time at its end. `first`: none behind a manifest that was made again."""
     entries = entries_of(builds.log())
     for ran in builds.runs:
         for it in entries:
@@ -122,8 +122,8 @@ def start_differs(entries, slack):
 def rises(at):
     """Where END falls, or MTIME less END (or START) has risen by as much as the build so far has lasted, and by more than the slack.
 
-    A build begins when the one before it has ended, so its clock is at least that much behind. The greatest MTIME less END of a build is taken,
-    or the least MTIME less START: a command writes its output between the two. A time stamp of before the build says nothing.
+    A build begins once the one before has ended, so its moments are at least as much later. A build's moment is the greatest MTIME less END,
+    or the least MTIME less START, because a command writes its output between the two. A time stamp of before the build says nothing.
     """
 
     def rule(entries, slack):

@@ -22,7 +22,7 @@ HEADER = b"# ninja log v5\n"
 A, B = b"1\t2\t3\ta\taa\n", b"4\t5\t6\tb\tbb\n"
 LONGEST = b"1\t2\t3\t" + b"n" * 65536 + b"\taa\n"
 KEPT = b"recompact\ta" + b"".join(b"\t" + it * 65536 for it in (b"x", b"y", b"z")) + b"\t" + b"w" * 65520
-# A line that was torn behind its name, and the next one joined to it.
+# A line that was torn behind its name, with the next line joined to it.
 JOINED = b"7\t8\t9\ta\tc4\t5\t6\tb\tcc\n"
 LONG = b"get\t" + b"x" * 262140
 # A line of 262,143 bytes that begins a command, with one output that has an entry.
@@ -80,11 +80,11 @@ TURNS = [
     # What is no moment, no hash in its one spelling, and no name.
     (HEADER + A, b"open\nbegin\nbegin\t\nbegin\t7\tab\nbegin\t7\tab\t\nbegin\t07\tab\ta\nbegin\t7\tAB\ta\nbegin\t7\t0ab\ta\nbegin\t2147483648\tab\ta\nbegin\t7\tab\ta\t\n",
      b"ok\n" + b"bad line\n" * 9, 0, b"", HEADER + A),
-    # What can't be trusted is told of a closed log alone, and nothing is changed: behind the open nothing tells of it.
+    # A closed log alone tells what can't be trusted, and nothing is changed. After the open no line tells of it.
     (HEADER + A + B + b"7\t8\t9\ta", b"distrusted\ndistrusted\n", (A + b"end\n") * 2, 0, b"", HEADER + A + B + b"7\t8\t9\ta"),
     (HEADER + A + B + b"7\t8\t9\ta", b"distrusted\nopen\ndistrusted\nget\ta\nstop\ndistrusted\nget\ta\n",
      A + b"end\nok\nS2 AlreadyOpen\n" + A + b"ok\nend\nS1 NotOpen\n", 0, b"", HEADER + A + B),
-    # Of a joined line both outputs, in its order; none of which an entry follows, and none that has no entry.
+    # Both outputs of a joined line, in its order, but none that has no entry, or one behind the line.
     (HEADER + B + A + JOINED, b"distrusted\nopen\nstop\ndistrusted\n", A + B + b"end\nok\nok\n" + A + B + b"end\n", 0, b"", HEADER + B + A + JOINED),
     (HEADER + B + A + JOINED + A, b"distrusted\n", B + b"end\n", 0, b"", HEADER + B + A + JOINED + A),
     (HEADER + B + JOINED, b"distrusted\n", B + b"end\n", 0, b"", HEADER + B + JOINED),
@@ -148,7 +148,7 @@ def keeps_many(trials, program, room):
         return seconds_of([program, "recompact", log, keep])
 
     trials.want("many names: nlog recompact", (alone()[0], read(log)), ((0, b"", b""), left))
-    # A log of version 4 is due, and has commands: the hash of an empty one is known. A name that comes twice is as one that comes once.
+    # A log of version 4 is due, and has commands: the hash of an empty command is known. A name may come twice.
     of_four, left_of_four = ([it[:-2] + end for it in lines] for end in (b"\n", b"87c2bc0beaf1d91d\n"))
     for header, text, left, words, answers in (
         (HEADER, lines, left, b"open\nrecompact", b"ok\nok\n"),
@@ -274,8 +274,8 @@ def distrusts(trials, program, room):
 
 
 def joined_writers(trials, program, room):
-    """A writer that begins no command is cut off within the last field of a line, and the line of the next one may be joined to it. A client that
-    asks and removes these files builds on none of theirs; one that doesn't ask does. Then it comes back to the commands of before."""
+    """A writer without `begin` is cut off within the last field of a line, and the next writer may join its line to that. A client that asks
+    what can't be trusted, and removes those files, never builds on them; a client that doesn't ask does. Then both go back to the old commands."""
     log, names = f"{room}/joined.log", [b"out%d" % i for i in range(6)]
     for asks in (True, False):
         stale = 0
@@ -302,7 +302,7 @@ def joined_writers(trials, program, room):
 
 
 def asked(trials, program, room):
-    """A log that is new, or has no whole first line, is made one of the version that is asked for; one of another is refused, and stays."""
+    """A log that is new, or has no whole first line, gets the version that is asked for. A log of another version is refused, and stays."""
     log = f"{room}/asked.log"
     lines = b"open\nhash\tcc\nrecord\t" + A + b"stop\nopen\nget\ta\n"
     for version in (5, 6, 7):
@@ -349,7 +349,7 @@ def reopened(trials, program, room):
 
 
 def again(trials, program, room, found, held, then, table, is_new):
-    """A log of the version `found` has these bytes, in another file where that is new, before it's opened again; as of the version `then`."""
+    """A log of version `found`, in a new file if `is_new`, has these bytes before it is opened again, as one of version `then`."""
     log, new = f"{room}/again.log", f"{room}/again.new"
     what = f"version {found}, and then {held!r}" + (" of another file" if is_new else "")
     write(log, b"# ninja log v%d\n" % found + A)
@@ -468,7 +468,7 @@ def wanted(count):
 
 
 def killed(trials, program, room):
-    """A build of 10,000 commands that is killed at random moments, with its nlog, without it, or its nlog alone, and then goes on."""
+    """A build of 10,000 commands goes on after kills at random moments: of the build, of its nlog, or of both."""
     log, count, chance = f"{room}/build.log", 10000, random.Random(25)
     lines = wanted(count)
     kills = stood = 0

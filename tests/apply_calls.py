@@ -143,7 +143,7 @@ def disturbed(program, kind, room, how, call):
         return [*wrong, f"it left what is no log: {left!r}"]
     allowed = kind.tables[count : count + 2]
     if SCRIPT[count : count + 1] and SCRIPT[count][0] == BEGIN:
-        # Its intents are lines that are written one by one.
+        # Its intents are written line by line.
         allowed.append(begun(b"x")(kind.tables[count]))
     if found not in allowed:
         wrong.append(f"behind {count} answers the log has {found!r}")

@@ -65,7 +65,7 @@ class Watched(build.Log):
 
 
 class Life:
-    """A folder: its log, and which command's file each output is; those that a power cut may leave of it."""
+    """A folder: its log, which command made each output's file, and what a power cut may leave of both."""
 
     def __init__(self, program, room, seed, how, leaves_out):
         self.program, self.log, self.chance = program, f"{room}/{LOG}", random.Random(seed)

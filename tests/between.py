@@ -199,7 +199,7 @@ class Play:
 
     def __init__(self, speaker, others):
         self.speaker, self.others, self.log = speaker, others, others.log
-        # The table that a load has to find once it is acknowledged, but for the names that others wrote since the open; and whether
+        # The table that a load must find once it is acknowledged, but for names that others wrote since the open; and whether
         # anything of it is yet to be acknowledged.
         self.wanted, self.theirs, self.is_pending = {}, set(), False
         # Whether the log is open; whether it may be another file by now; whether it was cut while it was open.

@@ -106,7 +106,7 @@ def waited(c, it):
 
 
 def waits(commands):
-    """Of each command whether it waited for one before it, of those from where END last fell."""
+    """Whether each command waited for one before it in its row."""
     found, ends = [], set()
     for k, c in enumerate(commands):
         if k and c.end < commands[k - 1].end:
@@ -117,7 +117,7 @@ def waits(commands):
 
 
 def ties(commands):
-    """Of each command whether it, or one behind it up to where END next falls, waited for one before it, of those from where END last fell."""
+    """Whether each command is tied: it, or one behind it in its row, waited for one before it."""
     first, row, ends = [], 0, [it.end for it in commands]
     for k, c in enumerate(commands):
         row = k if k and c.end < commands[k - 1].end else row
@@ -199,7 +199,7 @@ def written(late, commands, tied, waited_for, sure=True):
 
 
 def is_back(late, end, b):
-    """Whether its commands tell that it began before the one that it follows had ended, or of no moment that they have in common."""
+    """Whether its commands tell that it began before the build before it had ended, or have no moment in common."""
     if late:
         return b.hi is not None and (b.hi + SLACK < b.lo or end is not None and b.hi + SLACK <= end)
     return end is not None and b.top is not None and b.top + SLACK <= end
@@ -211,7 +211,7 @@ def is_same(last, b):
 
 
 def first_back(late, seen):
-    """How many commands stand before the first build of which that is so."""
+    """How many commands stand before the first build that is back."""
     end, last = None, None
     for it in seen:
         if is_back(late, end, it) or late is False and last is not None and is_same(last, it):
@@ -254,9 +254,9 @@ def again(late, entries):
 
 
 def sure_builds(late, seen, new=0):
-    """Those as written, with whether both borders are sure, and none can hide in it or beside it. So many commands are of new names.
+    """Each build as written, and whether its borders are sure and none can hide in it or beside it. `new` commands are of new names.
 
-    In version 5, what hides behind END that falls is beside it only where the log may have been written anew.
+    In version 5 what hides behind END that falls counts only where the log may have been written anew.
     """
     doubt = [it.doubtful(late, it.first < new) for it in seen]
     for i, it in enumerate(seen):

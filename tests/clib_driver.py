@@ -25,7 +25,7 @@ STATUS = {"log": "NLOG_OK", "not a ninja log": "NLOG_NOT_A_LOG", "log version no
 
 
 def version_seen(text):
-    """The version as of which a text is seen: 6 or 7 where its first line is that of one."""
+    """The version as one of which a text is seen: 6 or 7 if its first line says so."""
     return {b"# ninja log v6": 6, b"# ninja log v7": 7}.get(text.partition(b"\n")[0], 5)
 
 

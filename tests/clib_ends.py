@@ -13,7 +13,7 @@ TORN = HEADER + A + B + b"7\t8\t9\ta\tc"
 
 
 def files_that_fail(trials, made, room):
-    """A rename that fails, and a log that ends early while it is copied: the log is as it was, and the next open goes on."""
+    """After a rename that fails, or a log that ends early while it is copied, the log is as it was, and the next open goes on."""
     log = f"{room}/ends"
     for begin in (["open"], ["shared", "open"], ["look"]):
         write(log, HEADER + A + B)

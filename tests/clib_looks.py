@@ -20,7 +20,7 @@ MANY = HEADER + b"".join(line_of(b"out%d" % i, (i, i + 1, i * 7, i)) for i in ra
 # Lines of more than a block.
 LINES = b"".join(line_of(b"%d" % i + LONG[1:], (i, i, i, i)) for i in range(5))
 
-# A log, the version that is asked for, lines to the writer, what each is answered, and the log that is left: None where there is none.
+# A log, the version that is asked for, lines to the writer with their answers, and the log that is left, if any.
 LOOKS = [
     # Nothing is made, written or locked; and a close does nothing.
     (None, 0, ["look", "count", FIND, "version", "rewrote", "is_due", "is_open", "close", "is_open"], ["OK", "OK 0", "NOT_FOUND", "OK 5", "OK 0", "OK 0", "OK 1", "OK", "OK 0"], None),
@@ -96,7 +96,7 @@ def begun(driver, path, version=0, **more):
 
 
 def unreadable(trials, made, room):
-    """What can't be read, by which call and of which file: as of an open, and the writer is closed."""
+    """Which call and which file can't be read is told as by an open, and the writer is closed."""
     os.mkdir(f"{room}/looks/folder")
     os.symlink("loop", f"{room}/looks/loop")
     write(f"{room}/looks/file", b"")
@@ -352,7 +352,7 @@ def in_its_place(trials, made, room):
                     left = opened(whole + new, 0)[2]
                     left = left + A if line == RECORD else text_of(Log(left).table) if line == "recompact" else left
                     trials.want(f"{way}: a torn line of {len(torn)} bytes, {new[:30]!r} in its place, {line[:9]}", (said, read(log)), (["OK"] * 3, left))
-        # What the writer can't trust is told by the bytes of the torn line, and so is whether there is a log at all.
+        # The bytes of the torn line tell what the writer can't trust, and whether there is a log at all.
         for text, new, lines, answers, left in (
             (HEADER + A + B + b"1\t2\t3\ta\t", HEADER + A + B + b"1\t2\t3\tb\t", ["wary", "look", "open", "close"], ["OK"] * 4, HEADER + A),
             (HEADER[:9], b"hello, wo", ["look", RECORD, "close"], ["OK", "NOT_A_LOG", "BROKEN"], b"hello, wo"),

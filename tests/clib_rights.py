@@ -15,7 +15,7 @@ from log_format import HEADER
 from trials import SECONDS, read, run, write
 
 OWNER, WRITER, THIRD, SHARED = 12001, 12002, 12003, 13001
-# Persons by their number and their groups, of which the first is their own.
+# Persons by their number and their groups, their own first.
 PERSONS = {
     "the owner": (OWNER, [OWNER]),
     "the owner, of the group": (OWNER, [OWNER, SHARED]),
@@ -228,7 +228,7 @@ def refused(trials, room):
 
 
 def watched(trials, room):
-    """Until it is whole the scratch is its owner's alone; its owner is given it before the rest of its rights, and all of these before its sync."""
+    """Nobody but its owner may use a scratch until it is whole. It gets its owner, then its other rights, and then its sync."""
     for mode in (0o666, 0o644, 0o4777):
         room.log_of(mode)
         words = ["strace", "-o", f"{room.folder}/TRACE", "-e", "trace=openat,write,fchown,fchmod,fsync,renameat", "-e", "inject=fchmod:delay_enter=1500000"]
@@ -259,7 +259,7 @@ def watched(trials, room):
 
 
 def kept(trials, made, room):
-    """The permissions of a log of one's own: those that it has when it is rewritten."""
+    """A rewriting keeps the permissions of a log of one's own."""
     log = f"{room}/modes"
     for way, driver in drivers(made):
         for mode in (0o600, 0o640, 0o644, 0o664, 0o666, 0o755, 0o4755):

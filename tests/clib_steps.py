@@ -94,8 +94,8 @@ def records_of(path):
 
 
 def steps_taken(calls):
-    """Calls of the system as steps, each with whether it was done: a sync of the log is one of its folder and then of its file, a scratch is made
-    where its name is free, and writes in a row are one."""
+    """Calls of the system as steps, each with whether it was done. A sync of the log is that of its folder and then of its file, a scratch is
+    made if its name is free, and writes in a row are one."""
     taken = []
     for (what, file, number, is_done), data in calls:
         done = is_done == "1"
@@ -224,7 +224,7 @@ class Held:
 
 
 def is_begun(taken, told):
-    """Whether the steps are the first ones of those that were told, of which the last may have failed, or done a part of a write."""
+    """Whether the steps are the first that were told. The last may have failed, or have written a part."""
     for at, (step, done) in enumerate(taken):
         if at >= len(told):
             return False

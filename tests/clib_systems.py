@@ -264,7 +264,7 @@ def in_the_root(trials, made, room):
 
 
 def grown_in_a_read(trials, made, room):
-    """A file that grows while it is read is taken with what it has by then; and one that gets shorter is one that ends there."""
+    """A file that grows while it is read counts with what it has by then, and a file that shrinks ends where it then does."""
     log, many = f"{room}/growing", b"".join(line_of(b"%d" % i, (i, i, i, i)) for i in range(30000))
     for what, begin, end in (("load", ["load"], "load"), ("open", ["open", "count", "close"], "write"), ("look", ["look", "count", "close"], "write")):
         for change, wanted in ((lambda: append(log, A + D), 3), (lambda: append(log, many), 30001), (lambda: os.truncate(log, len(HEADER)), 0)):
@@ -307,7 +307,7 @@ GIB = 2**30
 
 
 def large(trials, made, room):
-    """A log of more than 4 GiB, most of which is one long line that no block of the disk holds: its length is told, kept and cut to in full."""
+    """A log of more than 4 GiB, mostly one long line without a block on the disk: its length is told, kept and cut to in full."""
     log = f"{room}/large"
     free = int(re.search(r"MemAvailable:\s+(\d+) kB", read("/proc/meminfo").decode())[1]) * 1024 if os.path.exists("/proc/meminfo") else 0
     if free < 6 * GIB:

@@ -28,7 +28,7 @@ from log_format import HEADER
 from trials import main, read, run, short
 
 SEED = 20240229
-# How many of the states that a crash left are recovered with a crash in the recovery, and how many of those that this leaves are tried.
+# How many states of a crash are recovered with a crash in the recovery, and how many states of that crash are tried.
 RECOVERIES, RECOVERED = 1000, 10_000
 # What an earlier crash may have left of a scratch: nothing, or bytes that no log has.
 SCRATCHES = [None, HEADER + b"1\t1\t1\tgone\tff\n2\t2"]

@@ -145,7 +145,7 @@ HASHES = [
     (b"10000000000000000", False),
 ]
 
-# That of a line of version 4, which is a command whatever it holds, and its hash. All but the last are those of docs/FORMAT.md.
+# The last field of a line of version 4 is a command, whatever it holds; its hash. All but the last are those of docs/FORMAT.md.
 COMMANDS = [
     (b"", b"87c2bc0beaf1d91d"),
     (b"cc\tx", b"72274e7a30810c7b"),
@@ -246,7 +246,7 @@ def counts(version, total, unique, skipped, torn, due):
 
 
 def pieces(text):
-    """The text in pieces of one byte. Those of a text past LONG bytes have 997 between its first 1,000 bytes and its last."""
+    """The text in pieces of one byte, or past LONG bytes of 997 between its first and its last 1,000 bytes."""
     at = 0
     while at < len(text):
         size = 997 if len(text) > LONG and 1000 <= at < len(text) - 2000 else 1
@@ -433,7 +433,7 @@ def found(told):
 
 
 def answers_through(text, version=None):
-    """What the words have to answer that go through a text and keep no table of it, where it is one of version 5 or, with its digit, of this one."""
+    """What the words that keep no table must answer of a text of version 5 or, with its digit, of this version."""
     reading = reading_of(text)
     hashed = b"%x\n" % command_hash(text)
     if reading != "log":
@@ -475,7 +475,7 @@ def try_replaced(readings):
 
 
 def try_line(readings, version, line, shown):
-    """A line between two others: an entry of which this is shown, or None. So those around it stay what they are."""
+    """A line between two entries, which stay what they are. `shown`: the entry that the line is, or None."""
     before, after, z = b"1\t2\t3\ty\t0\n", b"1\t2\t3\tz\t0\n", b"1\t2\t3\t%s\t0\n"
     if version == 4:
         before, after, z = b"1\t2\t3\ty\t\n", b"1\t2\t3\tz\t\n", b"1\t2\t3\t%s\t87c2bc0beaf1d91d\n"
@@ -600,7 +600,7 @@ HOSTILE, TIMES_AS_LONG = 5_000_000, 3
 
 
 def words_on(program, room, names):
-    """Each word that reads a log, of one whose outputs have these names: a call that runs it, and gives its status and its seconds of processors."""
+    """Each word that reads a log, on one with these outputs: a call that runs it, and gives its status and its seconds of processors."""
     os.mkdir(room)
     log, other, keep, times, targets, graph, script = (f"{room}/{it}" for it in ("LOG", "OTHER", "KEEP", "TIMES", "TARGETS", "GRAPH", "SCRIPT"))
     text = HEADERS[5] + b"".join(b"%d\t%d\t3\t%s\ta\n" % (at % 9, at % 9 + 1, name) for at, name in enumerate(names))

@@ -113,7 +113,7 @@ class Process:
         return FOLDER if path == self.room else None
 
     def do(self, call, words, answer):
-        """Does a call. Where it changes the disk or makes it durable it gives what is wrong with that, mostly no text, and else None."""
+        """Does a call. If it changes the disk or makes it durable, it gives what is wrong with that, mostly an empty text, and otherwise None."""
         texts = [bytes.fromhex(it.replace("\\x", "")) for it in TEXT.findall(words)]
         names = [self.name_of(it) for it in texts[:2]]
         number = re.match(r"\d+", words)
@@ -183,8 +183,8 @@ class Process:
 
 
 def follow(disk, trace, room):
-    """Does to a disk what the calls of a trace did in a folder. After each that changed it or made it durable it yields that call, and
-    what is wrong with it."""
+    """Does to a disk what the calls of a trace did in a folder. Yields each call that changed it or made it durable, and what is wrong
+    with it."""
     process = Process(disk, room)
     for line in trace.split("\n"):
         parts = CALL.match(line)

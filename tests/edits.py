@@ -86,8 +86,8 @@ def type_name(text, parameters):
 
 
 def of_impl(head, others):
-    """What a check calls an impl block: its type, or its type (`Any`, of each one) and its trait; by another name of a type (`others`) that and
-    what it is of."""
+    """What a check calls an impl block: its type (`Any` of a block for each type) and its trait. `others`: other names of types, with what
+    these are of."""
     head = re.sub(r"\s+where\b.*|\s*\{.*", "", head).strip()
     parameters = set()
     if head.startswith("<"):
@@ -113,7 +113,7 @@ def end_of(head):
 
 
 class Function:
-    """A function of a file as rt fmt lays it out: the path that a check prints, and its first line, the first of its body, and its last."""
+    """A function as `rt fmt` lays it out: the path that a check prints, its first line, the first of its body, and its last."""
 
     def __init__(self, path, file, first, body, last, lines):
         self.path, self.file, self.first, self.body, self.last = path, file, first, body, last
@@ -121,7 +121,7 @@ class Function:
         self.clauses = CLAUSE.findall("\n".join(self.head))
 
     def calls(self, other, text):
-        """Whether a text of this function's body may call the other one: by its name, and by that of its type where it has one."""
+        """Whether a text of this function's body may call the other function, by its name, and by its type's if it has one."""
         *_, of, name = ["", *other.path.split("::")]
         if not of[:1].isupper():
             return bool(re.search(rf"(?<![.\w]){name}\b", text))
@@ -185,7 +185,7 @@ class Crate:
         return f"{self.top}/crates/{name}/out/rlib/{name}.rlib"
 
     def is_built(self, name):
-        """Whether a library is there that is not older than the sources of its crate, and of those below that."""
+        """Whether a library is there, and no older than the sources of its crate and of the crates below."""
         if not os.path.isdir(self.library(name)):
             return False
         folders = [f"{self.top}/crates/{it}/{part}" for it in (name, *self.below_of(name)) for part in ("src", "specs", "proofs")]
@@ -234,7 +234,7 @@ def crates(top):
 
 
 class Edit:
-    """An edit of a crate: the texts that it makes, the function that it changes, the one that must be refused, and at which clauses."""
+    """An edit of a crate: the texts that it makes, the function that it changes, and the one that must be refused, with the clauses."""
 
     def __init__(self, crate, name):
         self.crate, self.name, self.texts, self.lines, why, file, old = crate, name, {}, {}, "", None, None
@@ -269,7 +269,7 @@ class Edit:
         return {next((it for it in self.crate.functions.values() if it.file == file and it.body <= row <= it.last), None)}
 
     def named(self, why, changed):
-        """Finds the function that the first line names, which is the one that is changed, if one is."""
+        """Finds the function that the first line names: the changed function, if one is changed."""
         found = NAMED.search(why)
         if not found:
             raise BadEdit("its first line isn't 'why: ..; refused at `PLACE`, clause `LABEL`'")
@@ -470,7 +470,7 @@ def tried(crate, edits, kit, given, say):
 
 
 def sampled(top, work):
-    """A crate and the edits that one check tries: which, the hash of the last commit says, and where there is none it is the first."""
+    """A crate and the edits of one check, by the hash of the last commit, or the first ones if there is no commit."""
     made = [(crate, batch) for crate, edits in work for batch in batches(edits, False)]
     said = subprocess.run(["git", "rev-parse", "HEAD"], cwd=top, **QUIET)
     crate, batch = made[int(said.stdout, 16) % len(made) if said.returncode == 0 else 0]

@@ -166,7 +166,7 @@ def commands_of(program):
 
 
 def lacking(page, examples, commands):
-    """The words of which a page shows no example that it owes."""
+    """The words that a page owes an example of, and shows none."""
     # The page of the command line shows each, that of the help screens each one's; the first page shows a few.
     owed = {"docs/CLI.md": [*commands, "--version"], "docs/HELP.md": ["--help", *(f"{it} --help" for it in commands)]}
     for word in owed.get(page, []):

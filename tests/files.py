@@ -184,7 +184,7 @@ def times_by(entry, lines):
 
 
 def made(path, kind, time):
-    """Makes a file or a folder of a time, or of now if that is None, and gives its time and that of its last change."""
+    """Makes a file or a folder of a time, None for now, and gives its time and the time of its last change."""
     if kind == "file":
         write(path, b"")
     if time is not None:
@@ -197,9 +197,9 @@ KINDS = {b"folder": "folder", b"n" * 256: "unknown", b"no UTF-8 \xff": "unknown"
 
 
 def a_case(chance, room):
-    """A log, its version, the files of its outputs by their kind and times, which are made in a room of their own, some targets, and the log's entries.
+    """A log, its version, its outputs' files by kind and times, which are made in a room of their own, some targets, and the log's entries.
 
-    A file has a time of its own, or that of its writing, which is now, as its change time always is: then the log is of now too.
+    A file has a time of its own, or that of its writing, which is now, as its change time always is. Then the log is of now too.
     """
     version, entries = chance.choice([4, 5, 6, 6, 7, 7]), []
     shutil.rmtree(room, ignore_errors=True)

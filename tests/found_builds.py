@@ -79,7 +79,7 @@ def told_by(program, path):
 
 
 class Judge:
-    """What is told of logs, beside what is true of them."""
+    """What the program tells of logs, beside the truth."""
 
     def __init__(self, trials, program):
         self.trials, self.program = trials, program

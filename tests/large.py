@@ -211,7 +211,7 @@ def summed(commands, *counts):
 
 
 def listed(by_time, by_weight):
-    """The lists behind that: of each command its milliseconds, its weighted ones as a text, and its output."""
+    """The lists behind: each command's milliseconds, its weighted milliseconds as a text, and its output."""
     rows = [(b"time", *it) for it in by_time] + [(b"weight", *it) for it in by_weight]
     return b"".join(b"by-%s\t%d\t%s\t%s\n" % it for it in rows)
 
@@ -248,8 +248,8 @@ def many_traced():
 
 
 def graph_lines():
-    """The graph of a build in which each command needs the one that ends as it begins: seven paths side by side, of which the first is the
-    longest, as the second begins only with its second command. Ninja prints a graph from the end of each path on."""
+    """The graph of a build in which each command needs the one that ends as it begins. Of its seven paths the first is the longest, because
+    the second begins only with its second command. Ninja prints a graph from the end of each path on."""
     yield b"digraph ninja {\n"
     for number in reversed(range(ENTRIES)):
         yield b'"0x%x" [label="%s"]\n' % (number, name_of(number))
@@ -318,7 +318,7 @@ def try_many(trials, program, room):
     trials.want(f"{large.what}: a graph", streamed([program, *words, large.log]), (0, sum_of(chain(told, path_lines())), b""))
     trials.want(f"{large.what}: a graph, and no log", streamed([program, *words, os.devnull]), (0, sum_of([]), b""))
     make(other, chain([HEADER], slower_lines()))
-    # Of three commands one took as long as before, one 1 ms more, and one 2 ms more: the first of these are told.
+    # Of three commands one took as long as before, one 1 ms more, and one 2 ms more. The first of the later two are told.
     counts_of = [len(everything[at::3]) for at in range(3)]
     rows = (b"slower\t2\t7\t9\t%s\n" % name_of(it) for it in range(2, 32, 3))
     wanted = chain(compared(7, (b"slower", counts_of[1] + counts_of[2], counts_of[1] + 2 * counts_of[2]), (b"same", counts_of[0], 0)), rows)
@@ -455,8 +455,8 @@ def try_long(trials, program, room):
 
 
 def joined_lines(version, count):
-    """Each line with what `entries` prints of it, or None and the output that `damage` names: one in four is an entry, one stands behind the
-    half of a line and one behind a byte, and one has no fifth field."""
+    """Each line with what `entries` prints of it, or None and the output that `damage` names. Of four lines one is an entry, one stands
+    behind the half of a line, one behind a byte, and one has no fifth field."""
     for number in range(count):
         name, (start, end, mtime, _) = name_of(number), numbers_of(number)
         first = b"%d\t%d\t%d\t%s" % (start, end, mtime, name)
@@ -503,7 +503,7 @@ def try_builds(trials, program, room):
 
 
 def wide_name(number):
-    """A name of which most bytes take three in a picture, and six in JSON."""
+    """A name whose bytes mostly take three in a picture, and six in JSON."""
     return b"\1" * 60 + b"%07d" % number
 
 
@@ -515,8 +515,8 @@ def wide_traced():
 
 
 def try_wide(trials, program, room):
-    """Commands that all run at one time, so that each has a bar of its own. The texts are written as they are made: beside the commands there is
-    no room for either, and where nobody reads on, the program ends before it has made most of it."""
+    """Commands that all run at one time, so that each has a bar of its own. The program writes its texts as it makes them, because beside the
+    commands there is no room for either. If nobody reads on, it ends before it made most of the text."""
     large = Large(trials, program, room, f"a log of {WIDE:,} commands at one time")
     make(large.log, chain([HEADER], (line_of(wide_name(it), (0, 1000, 1_700_000_000_000_000_000 + it, it)) for it in range(WIDE))))
     pictured = drawn([(0, 1000, it, [wide_name(it)]) for it in range(WIDE)], range(WIDE))

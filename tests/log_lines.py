@@ -11,7 +11,7 @@ from log_format import MAX_LINE, entry_of, line_of, lines_of
 
 # A millisecond has so many parts, which each number up to 22 divides.
 PARTS = 232_792_560
-# A command of a build. A build is its commands, how many of its outputs later ones may have taken, if it was found again, and whether it is sure.
+# A command of a build. A build is its commands, how many outputs later builds may have taken if it was found again, and whether it is sure.
 Job = collections.namedtuple("Job", "start end hash outputs")
 Build = collections.namedtuple("Build", "jobs taken sure")
 
@@ -83,7 +83,7 @@ def entries_of(text):
 
 
 def told_of(text, version=None):
-    """The builds of a log, and the outputs that wait for a command which didn't end. `version`: that of the log, where it is told as one of version 5."""
+    """The builds of a log, and the outputs whose command didn't end. `version`: the log's, if it is seen here as one of version 5."""
     seen, lines = model.read(text.decode(errors="surrogateescape"))
     entries, commands, builds = model.builds_of(version if version and seen == 5 else seen, lines)
     names = (it.name.encode(errors="surrogateescape") for it in entries)
@@ -108,7 +108,7 @@ def lasting(builds, waiting):
 
 
 def last_of(builds):
-    """The last build that isn't the manifest's alone, or else the last one, with its number; as a list of one, or of none."""
+    """The last build that isn't the manifest's alone, or else the last one, with its number, as a list of one or none."""
     others = [it for it in enumerate(builds, 1) if len(it[1].jobs) > 1 or b"build.ninja" not in it[1].jobs[0].outputs]
     return (others or list(enumerate(builds, 1)))[-1:]
 
@@ -165,7 +165,7 @@ def time_where(jobs, holds):
 
 
 def told_commands(jobs):
-    """Each of these commands: its milliseconds, its weighted ones in parts of one, and its first output."""
+    """Each command's milliseconds, its weighted milliseconds in parts of one, and its first output."""
     moments = sorted({it for job in jobs for it in job[:2]})
     running = [(at, to, sum(it.start <= at < it.end for it in jobs)) for at, to in zip(moments, moments[1:])]
     told = []
@@ -267,8 +267,8 @@ def picture_of(text, version=None):
 
 
 def drawn(commands, lanes, taken=None):
-    """The picture of commands in their lanes, in tenths of a pixel: all of the build is 14,400 wide, from 600 on. A command is its START, its END,
-    anything, and its outputs. `taken`: how many of its outputs later builds may have taken, if it was found again."""
+    """The picture of commands in their lanes, in tenths of a pixel: the build is 14,400 wide, from 600 on. A command is its START, its END,
+    anything, and its outputs. `taken`: how many outputs of the build later ones may have taken, if it was found again."""
     times, out, short = {}, [], collections.Counter()
     began, top = commands[0][0] if commands else 0, max(lanes, default=0)
     wall = max([max(it[:2]) for it in commands], default=0) - began
@@ -392,7 +392,7 @@ def lines_of_cycles(edges):
 
 
 def bad_graph_lines(text):
-    """The lines of a graph of which one is told as bad: the first bad one, or else those of cycles; none where the graph is read."""
+    """The lines of a graph one of which is told as bad: the first bad one, or those of cycles; none if the graph is read."""
     graph = graph_of(text)
     return [graph] if isinstance(graph, int) else lines_of_cycles(graph[1])
 
@@ -414,7 +414,7 @@ def paths_of(graph, text, number=None, of_all=False, version=None):
     found = {}
 
     def longest(own):
-        """How long the longest paths from a node on are, and what is told of each of them."""
+        """The length of the longest paths from a node on, and what is told of each."""
         if own not in found:
             start, end = ran.get(names.get(own), (0, 0))
             time = max(0, end - start)
@@ -444,7 +444,7 @@ def class_of(old, new, hashes, least):
 
 
 def compare_of(old, new, versions=(None, None), most=10, least=0):
-    """What `compare` prints of two logs, of these versions where they are told as version 5."""
+    """What `compare` prints of two logs of these versions, which are seen here as of version 5."""
     (before, waited), (after, waits) = (told_of(*it) for it in zip((old, new), versions))
     before, after = ([job for it in lasting(*told) for job in it.jobs] for told in ((before, waited), (after, waits)))
     hashes = len({(version or lines_of(text)[0]) == 7 for text, version in zip((old, new), versions)}) == 1

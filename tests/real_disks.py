@@ -42,8 +42,8 @@ SEED = 20240229
 # How many images are made of a mode where the words don't say.
 FEW = 30
 MEGA = 1 << 20
-# How the disk is made; as which file system it is mounted, and how; its size; whether a torn write loses its end or sectors anywhere, of
-# which size; what it may leave beside what the model allows; how many images may be mounted at one time.
+# How the disk is made, and mounted as which file system; its size; whether a torn write loses its end or sectors anywhere, of which size;
+# what a crash may leave beside what the model allows; how many images may be mounted at one time.
 Mode = namedtuple("Mode", "make kind options size torn sector leaves at_once")
 EXT4 = ["mkfs.ext4", "-q", "-F", "-b", "4096", "-E", "nodiscard,lazy_itable_init=0,lazy_journal_init=0"]
 EXT3 = ["mkfs.ext3", *EXT4[1:]]
@@ -67,9 +67,9 @@ CASES = [*itertools.product(CHANGES, KINDS), *[("record", "a missing log")] * 12
 SETS, LINES = 8, 20
 # The driver of the library's writer, where it can be built.
 DRIVER = {"path": None}
-# What a log of an image is. `prefix`, and with a tail `zeros` or `tail` (other bytes): as the model allows. `new tail`: it has a tail, and
-# nobody ever synced it; `new zeros`: and by that it is no log. `no log`: it is zeros alone, and a command was about to make it. `outside`:
-# lost bytes have others of the log behind them. `lost`: none of these.
+# What a log of an image is. As the model allows: `prefix`, and with a tail `zeros` or `tail` (other bytes). `new tail`: a log with a tail that
+# nobody ever synced; `new zeros`: such a tail makes it no log. `no log`: zeros alone, which a command was about to make a log. `outside`: bytes
+# of the log stand behind lost ones. `lost`: none of these.
 VERDICTS = ["prefix", "zeros", "tail", "new tail", "new zeros", "no log", "outside", "lost"]
 ROW = "{:<31}{:>7}{:>7}" + "{:>10}" * len(VERDICTS)
 
@@ -285,8 +285,8 @@ class Recording:
             self.wrong.append(f"{who} left another log than it was asked for")
 
     def after(self, name, file):
-        """What comes behind a line: mostly nothing; or the system writes the file, as it does when its bytes have waited for long, and
-        doesn't wait for that; or somebody syncs it with its folder."""
+        """What comes behind a line: mostly nothing; or the system begins to write the file, because its bytes have waited for long; or
+        somebody syncs the file with its folder."""
         chance = self.chance.random()
         if 0.03 < chance < 0.1:
             self.sync(self.path(name), lambda it: LIBC.sync_file_range(it, ctypes.c_long(0), ctypes.c_long(0), 2))
@@ -349,7 +349,7 @@ class Task:
 
 
 def begin(program, room):
-    """Begins a process, which ends when it is told to, also where it waits for a disk."""
+    """Begins a process that can be ended even while it waits for a disk."""
     signal.signal(signal.SIGTERM, signal.SIG_DFL)
     signal.signal(signal.SIGINT, signal.SIG_IGN)
     Worker.begin(program, room)
@@ -408,7 +408,7 @@ def judge_image(it, what, found, wanted, counts, logs):
 
 
 def moments_of(events, images):
-    """So many moments behind writes, each with a seed: some lists, in each of which they are in order."""
+    """So many moments behind writes, each with a seed, in some lists, each in order."""
     chance = random.Random(SEED)
     behind = [at for at, event in enumerate(events, 1) if is_write(event)]
     chosen = [(chance.choice(behind), chance.randrange(2**32)) for _ in range(images)]

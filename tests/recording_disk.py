@@ -68,7 +68,7 @@ def leave_mounts():
 
 
 class Blocks:
-    """The bytes of a disk of this size: those that were written, over those of a disk below, over zeros."""
+    """The bytes of a disk of this size: what was written, over a disk below, over zeros."""
 
     def __init__(self, size, below=None):
         self.size, self.below, self.blocks = size, below, {}
@@ -104,7 +104,7 @@ class Blocks:
 
 
 class Served:
-    """What a disk holds, in the process that serves it. That which made it calls its other functions by `RecordingDisk.ask`."""
+    """What a disk holds, in the process that serves it. The process that made the disk calls its other functions by `RecordingDisk.ask`."""
 
     def __init__(self, blocks):
         self.blocks, self.is_open = blocks, False
@@ -255,7 +255,7 @@ class RecordingDisk:
 
 
 def serve_and_end(folder, served, asked):
-    """The life of a process that serves a disk. It ends with the one that made it."""
+    """The life of a process that serves a disk. It ends with its parent."""
     LIBC.prctl(PR_SET_PDEATHSIG, signal.SIGKILL)
     signal.signal(signal.SIGINT, signal.SIG_IGN)
     signal.signal(signal.SIGTERM, signal.SIG_DFL)

@@ -96,7 +96,7 @@ pub fn larger(a: u32, b: u32) -> u32
 }
 """
 
-# Each edit: its name, what its first line names, its old and new texts, how it must end, and a word of what is said of it.
+# Each edit: its name, what its first line names, its old and new texts, how it must end, and a word of the message.
 EDITS = [
     ("a_sum_is_thrice", "`twice`, clause `value`", [("    let sum = number + number;", "    let sum = number + number + number;")], "refused", "clause-value"),
     ("a_local_has_another_name", "`next`, clause `value`", [("    let sum = number + 1;", "    let after = number + 1; let sum = after;")], "LET THROUGH", ""),
@@ -154,7 +154,7 @@ def try_runner(trials, room):
 
 
 def said_of(rows, but=None, less=1, skip=None):
-    """What a run says that tries what tests/counts wants, but for one row, of which it tries less, or with None nothing, or of which it skips so much."""
+    """What a run says that tries what tests/counts wants, but of one row less, nothing (None), or with so many skips."""
     parts, tried = [], []
     for what, row in rows.items():
         number, names = row.number, row.names
@@ -170,8 +170,8 @@ def said_of(rows, but=None, less=1, skip=None):
 
 
 def try_counts(trials):
-    """That each row of tests/counts is held: where it is tried less, or not at all, that fails; and a part that has no row does, and a skip with
-    --strict."""
+    """Each row of tests/counts is held: a run fails if it tries less, or nothing, if a part has no row, and with --strict if it skips
+    something."""
     with open(f"{TOP}/tests/counts", encoding="utf-8") as it:
         rows = counts.rows_of(it.read())
 

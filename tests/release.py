@@ -322,7 +322,7 @@ def older(version):
 
 
 def install(root, packages, library):
-    """Installs packages in a root of which dpkg knows that it has this C library, or none."""
+    """Installs packages in a root that has this C library for dpkg, or none."""
     folder = f"{root.folder}/var/lib/dpkg"
     for it in ("info", "updates", "triggers"):
         os.makedirs(f"{folder}/{it}", exist_ok=True)

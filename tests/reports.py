@@ -76,7 +76,7 @@ LOGS = {
     "many builds": HEADER + b"".join(line_of(b"o%d" % (it % 7), (it % 10, it % 10 + 5, NANO + it, it)) for it in range(995)),
 }
 ODD_NAMES = b"1\t2\t2\t9001\t9001\t%b\n2\t%d\t%d\t%d\t%d\t%b\n"
-# What `builds` has to print of each, by hand, and of which logs another in version 6 and 7: there MTIME less START tells.
+# What `builds` must print of each, by hand; and another text for version 6 and 7, where MTIME less START tells.
 BUILT = {
     "no bytes": b"",
     "a header": b"",
@@ -310,7 +310,7 @@ def try_builds(trials, program, room):
         about = f"{kind}, version {version}"
         write(f"{room}/LOG", as_version(text, version))
         built = by_hand(BUILT, BUILT_LATE, kind, version)
-        # By hand: which of its builds were found again, and of which of them the last is told.
+        # By hand: which of its builds were found again, and which of them the last is.
         again = [b"again" in it for it in built.splitlines()]
         said = [b"nlog: %s: it was written anew, so builds were found again by their time stamps\n" % place if it else b"" for it in (any(again), again[-1:] == [True])]
         trials.want(f"{about}: builds by docs/BUILDS.md", builds_of(as_version(text, version)), built)
@@ -392,7 +392,7 @@ def bars_of(picture):
 
 
 def want_drawn(trials, what, picture, count, short):
-    """A picture is XML. It has so many bars of one command, and so many bars of short ones, of which each tells how many they are."""
+    """A picture is XML with so many bars of one command, and so many of short commands, which tell their number."""
     try:
         bars = bars_of(picture)
     except ElementTree.ParseError as why:
@@ -439,7 +439,7 @@ def try_many(trials, program, room):
 
 
 def try_ninja(trials, program, room):
-    """What `trace` and `picture` print of the log of a real build, four commands at a time, of which one has two outputs."""
+    """What `trace` and `picture` print of the log of a real build of four commands at a time, one with two outputs."""
     if shutil.which("ninja") is None:
         return trials.skip("a trace of a real build", "Ninja isn't there")
     os.makedirs(f"{room}/built")

@@ -15,14 +15,14 @@ HEADER = b"# ninja log v5\n"
 A, B, C = (b"1\t2\t3\t%s\tf\n" % name for name in (b"a", b"b", b"c"))
 RECORDS = b"record\t" + A + b"record\t" + B
 X = b"1\t2\t3\tx\ta\n"
-# A record that is written at once, a synced one, and then one that is written in pieces: three bytes, and then one by one.
+# A record written at once, a synced one, and one written in pieces: three bytes, and then one by one.
 PIECES = b"writes\t100\t3\t1\t1\t1\t1\t1\t1\t1\t1\t1\t1\nfates\t5\nopen\nrecord\t" + X + b"sync\nrecord\t4\t5\t6\ty\tb\ncrash\n"
 LOST = b"open\nrecord\t" + X + b"sync\nrecord\t4\t5\t6\ty\tb\ncrash\n"
 RENAME = b"fuse\tsync_log\t3\nopen\n" + RECORDS + b"record\t" + C + b"recompact\ta\tc\ncrash\nopen\n"
 APPEND = b"fuse\tappend_log\t2\nopen\n" + RECORDS + b"stop\nopen\n"
 SCRATCH = b"fates\t100\nfuse\tappend_scratch\t1\nopen\n" + RECORDS + b"recompact\ta\n"
 REPLACE = b"fuse\treplace\t1\nopen\n" + RECORDS + b"recompact\ta\nstop\nopen\n"
-# A line of which a crash leaves three bytes, and a cut that fails over them.
+# A crash leaves three bytes of a line, and a cut of them fails.
 CUT = b"fuse\tcut_log\t1\nopen\nrecord\t" + X + b"sync\nrecord\t4\t5\t6\ty\tb\ncrash\nopen\n"
 
 
@@ -41,7 +41,7 @@ RUNS = [
     (b"", [], b""),
     (b"\n\n", [], b""),
     (b"open\n", [OK], HEADER),
-    # A crash takes the second record, of which it leaves five bytes, and an open cuts them away.
+    # A crash leaves five bytes of the second record, and an open cuts them away.
     (PIECES + b"open\n", [OK] * 6, HEADER + X),
     # No crash syncs first: the five bytes are there before the open.
     (PIECES, [OK] * 5, HEADER + X + b"4\t5\t6"),
@@ -79,7 +79,7 @@ RUNS = [
     (b"fates\t5\t0\ntails\t3\n" + LOST + b"open\nrecord\t" + A + b"crash\n", [OK] * 8, HEADER + X),
     # A cut that isn't durable comes back as a byte of the torn line and zero bytes.
     (b"fates\t3\t1\t1\ntails\t0\t100\n" + CUT + b"crash\n", [OK, OK, OK, OK, OK, FAULT, OK], HEADER + X + b"4" + bytes(2)),
-    # A header of which nothing is durable has no tail, and a new log that is durable as a whole none; the old one behind a rename has.
+    # A header without a durable byte has no tail, nor has a new log that is all durable. The old log behind a rename has.
     (b"fuse\tsync_log\t2\nfates\t7\ntails\t100\nopen\ncrash\n", [FAULT, OK], b"# ninja"),
     (b"fates\t1\t0\ntails\t100\n" + RENAME, [OK, OK, OK, OK, FAULT, OK, OK], HEADER + A + C),
     (b"fates\t0\t3\ntails\t100\n" + RENAME[: -len(b"open\n")], [OK, OK, OK, OK, FAULT, OK], HEADER + b"1\t2" + bytes(27)),

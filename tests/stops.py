@@ -60,7 +60,7 @@ LEFT = [
 ]
 
 
-# What a power loss is told of its tail: none, or as long as there is place.
+# The tail that a power loss is told to leave: none, or as long a one as fits.
 TAILS = (), (100,)
 
 # Logs in which the lost bytes of a line came back as zero bytes: some of the line, all of it, and behind a log that is due.

@@ -19,7 +19,7 @@ from trials import BUILD_SECONDS, SECONDS, Trials, read, run, write
 
 USES = "nl_lines nl_folder nl_files nl_tool_texts nl_os"
 SOURCE = "nl_os/src/os_system.rt"
-# A text that stands once in the source, the part of it in whose place the bugs are, and for each bug what it is and its code.
+# A text that stands once in the source, the part of it that the bugs replace, and for each bug what it does and its code.
 SITES = [
     ("let answer = file.file.sync_all();", "file.file.sync_all()", {
         "a file is not synced": "Ok(())",
@@ -153,7 +153,7 @@ def without_asserts(text):
 
 
 def bug_tests(names, bodies, texts):
-    """A test for each bug, and one without, of which each calls all the others, once what another left is removed."""
+    """A test for each bug, and one without, each of which calls all the others, once what another left is removed."""
     folders = {"planted", *re.findall(r'"(\w+)/', texts), *re.findall(r'create_dir\(&rt, "(\w+)"', texts)}
     files = {f"{it}{end}" for it in re.findall(r'"([\w.]+\.(?:log|new))"', texts) for end in ("", ".recompact")}
     begins = [f'    let _ = fs::remove_dir_all(&rt, "{it}");' for it in sorted(folders)]

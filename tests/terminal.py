@@ -28,7 +28,7 @@ SUMMARY = (
     b"by-time    60  60.00  lib/\xc3\xa4 b.o\nby-weight  60  60.00  lib/\xc3\xa4 b.o\n"
     b"kinds-by-time    1  60  60.00  .o\nkinds-by-weight  1  60  60.00  .o\n"
 )
-# One build, of which the first output is the slowest: its name has three characters, of five bytes.
+# One build, whose first output is the slowest: its name has three characters, of five bytes.
 WIDE = b"# ninja log v7\n0\t9\t1\t\xe2\x82\xac.o\tbb\n0\t9\t1\tlonger.o\tcc\n"
 # Names that a terminal would obey: an escape sequence, each control character of one byte that a name may have, a carriage return and
 # a backspace over what stands before, one of two bytes; and what stays as it is: umlauts, a backslash, bytes that are no UTF-8.
@@ -165,7 +165,7 @@ def try_controls(trials, program, room):
 
 
 def try_progress(trials, program):
-    """A log that comes in two halves is told of where the second one comes late."""
+    """Progress is told of a log whose second half comes late."""
     text = b"# ninja log v5\n" + b"".join(b"%d\t%d\t1\tout%d\t%x\n" % (at, at + 1, at, at) for at in range(100_000))
     for word in ("show", "check", "builds", "summary", "trace", "picture", "doubt"):
         words = [program, word]
@@ -178,7 +178,7 @@ def try_progress(trials, program):
         trials.want(f"{word}: the line is taken away", (said.endswith(b"\r"), lines[-2].strip()), (True, b""))
     for words, why in ((["show"], "at once"), (["builds"], "at once")):
         trials.want(f"{words[0]}: a log that comes {why}", at_terminal([program, *words], False, text[:10_000])[2], b"")
-    # Where standard error is no terminal, nothing is told.
+    # Nothing is told if standard error is no terminal.
     ran = subprocess.Popen([program, "check"], stdin=subprocess.PIPE, stdout=subprocess.PIPE, stderr=subprocess.PIPE)
     ran.stdin.write(text[:1000])
     ran.stdin.flush()

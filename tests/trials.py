@@ -44,7 +44,7 @@ class Trials:
 
 
 def short(it):
-    """A value as a message shows it, without its middle where it is long."""
+    """A value as a message shows it, without the middle of a long one."""
     text = repr(it)
     return text if len(text) < 400 else f"{text[:200]} .. {text[-180:]}"
 
@@ -96,8 +96,8 @@ def seconds_of(words, most=SECONDS, **how):
 
 
 def is_within(times, one, other):
-    """Whether one of two things takes at most so many times as long as the other; and how long each took. Each gives its seconds of processors, and
-    is done again, up to five times, since another process only ever makes that longer: the least of each counts."""
+    """Whether one of two things takes at most so many times as long as the other, and how long each took, in seconds of processors. Each is done
+    up to five times, and its least time counts, because another process can only lengthen it."""
     least = [float("inf")] * 2
     for _ in range(5):
         least = [min(was, it()) for was, it in zip(least, (one, other))]
@@ -107,8 +107,8 @@ def is_within(times, one, other):
 
 
 class Pauses:
-    """A clock that counts pauses of its own, each of `PAUSE` seconds. So it is late by as much as whatever waits on a busy machine, and a bound above
-    goes by it, where one below goes by the system's clock."""
+    """A clock that counts pauses of its own, each of `PAUSE` seconds. On a busy machine it is as late as whatever waits, so upper bounds go by it,
+    and lower bounds by the system's clock."""
 
     def __enter__(self):
         self.seconds, self.since, self.is_over = 0.0, time.monotonic(), threading.Event()

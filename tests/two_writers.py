@@ -239,7 +239,7 @@ NAMES = [b"first", b"second", b"third", b"fourth"]
 
 
 def play(program, room, start, others, kills, chance):
-    """Four records at once, with other commands among them, some of which are killed: what is wrong with how it ended, or None."""
+    """Four records at once, with other commands, some of which are killed: what is wrong at the end, or None."""
     os.makedirs(room)
     if start is not None:
         write(f"{room}/LOG", start)
