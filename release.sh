@@ -62,7 +62,7 @@ sums() {
 release() {
     local tree=$1 glibc on needs musl=''
     [[ ! -d $tree/lib/musl ]] || musl="lib/musl has both for musl. "
-    # The newest version of the C library of which the shared library asks for a name.
+    # The newest version of the C library that the shared library asks a name of.
     glibc=$("$objdump" -T "$tree/lib/libnlog.so.$library" | sed -n 's/.*[( ]GLIBC_\([0-9.]*\)[) ].*/\1/p' | sort -V | tail -n 1)
     case $target in
         x86_64) on=x86-64 needs="a processor of level v2, as all since 2009 are" ;;
@@ -233,7 +233,7 @@ for target in "${targets[@]}"; do
     cp "$top"/docs/*.md "$top"/docs/*.svg "$tree/share/doc/nlog/docs"
     release "$tree" > "$tree/share/doc/nlog/RELEASE"
 
-    # The archive: the flags of pkg-config go by where its file lies, in which it marks each space itself.
+    # The archive: pkg-config's flags go by where its file lies, and it escapes each space of that itself.
     cp -r "$tree" "$here/$name"
     # shellcheck disable=SC2016
     sed -i -e 's|^prefix=.*|prefix=${pcfiledir}/../..|' -e '/^\(Cflags\|Libs\):/s/"//g' "$here/$name/lib/pkgconfig/nlog.pc"

@@ -1,7 +1,7 @@
 #!/bin/sh
 # Times the library for C on a log: clib.sh PROGRAM LOG [ROUNDS]
-# A load, each in a process of its own, in turn with `check` of PROGRAM on the same log; look-ups of each output; and records by the writer, in
-# turn with fprintf and fflush of the same lines, as Ninja calls them: of outputs that come again, and of new ones, by which the table grows.
+# A load in a process of its own, in turn with `check` of PROGRAM; look-ups of each output; and records by the writer, in turn with Ninja's
+# fprintf and fflush of the same lines: of outputs that come again, and of new ones, which grow the table.
 set -eu
 top=$(cd "$(dirname "$0")/.." && pwd)
 program=$1

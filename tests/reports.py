@@ -98,8 +98,8 @@ BUILT = {
 }
 BUILT_LATE = {
     "odd names": ODD_NAMES % (b"sure", len(NAMES), len(NAMES), 10 * len(NAMES) - 10, 60 + 35 * (len(NAMES) - 4), b"sure"),
-    # Its last line began before its fourth can have, so it was written anew. Those that tell nothing come first, by END: `least`, `x` and `none`. Behind
-    # them come `early`, `back`, which began within the 2147483647 ms of these, and `last`.
+    # The last line began before the fourth can have, so the log was written anew. Lines that tell nothing come first, by END: `least`, `x` and
+    # `none`. Behind them come `early`, `back`, which began within the 2147483647 ms of these, and `last`.
     "odd numbers": b"1\t5\t5\t4294967295\t6442450934\tagain\t1\n2\t1\t1\t2147483647\t2147483647\tagain\t0\n",
     "a later build": b"1\t1\t1\t90\t90\tsure\n2\t2\t2\t45\t80\tsure\n3\t1\t1\t45\t45\tsure\n",
 }
