@@ -36,14 +36,14 @@ with_groups hash groups =
     xor (xor (fold (with_sixteen secret_0 0) hash groups) (fold (with_sixteen secret_1 16) hash groups))
     (fold (with_sixteen secret_2 32) hash groups)
 
--- a number with what is after the groups: 16 bytes of it where it has more, and 16 more where it has more than 32
+-- a number with what is after the groups: 16 bytes of it if it has more, and 16 more if it has more than 32
 abbrev pub with_first : ℕ → List ℕ → ℕ
 with_first hash rest = if nat_lt 16 (length rest) then with_sixteen secret_2 0 (xor hash secret_1) rest else hash
 
 abbrev pub with_last : ℕ → List ℕ → ℕ
 with_last hash rest = if nat_lt 32 (length rest) then with_sixteen secret_2 16 hash rest else hash
 
--- the number over all but the end: groups of 48 bytes where there are more than 48
+-- the number over all but the end: groups of 48 bytes if there are more than 48
 abbrev pub over_bytes : ℕ → List ℕ → ℕ
 over_bytes hash bytes =
     if nat_lt 48 (length bytes)
@@ -59,7 +59,7 @@ of_three bytes = get_or bytes 0 0 * 2 ^ 56 + get_or bytes (length bytes / 2) 0 *
 abbrev pub inset : List ℕ → ℕ
 inset bytes = if nat_lt (length bytes) 8 then 0 else 4
 
--- the two numbers of the end: of the last 16 bytes, or of all where there are no more
+-- the two numbers of the end: of the last 16 bytes, or of all if there are no more
 abbrev pub end_first : List ℕ → ℕ
 end_first bytes =
     if nat_lt 16 (length bytes) then wide_at (length bytes - 16) bytes

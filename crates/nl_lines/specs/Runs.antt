@@ -21,7 +21,7 @@ as_shown (Torn at len bytes) = ARest at len bytes.now
 abbrev pub line_shown : List ℕ → Shown
 line_shown line = if nat_le (length line) max_line then ALine line else ALongLine
 
--- how the rest of a text is shown, which stands after `at` bytes: not at all where it is empty
+-- of a rest that stands after `at` bytes; an empty one isn't shown
 abbrev pub rest_shown : ℕ → List ℕ → List Shown
 rest_shown at [] = []
 rest_shown at (b ∷ rest) = ARest at (length (b ∷ rest)) (lent_rest (b ∷ rest)) ∷ []
