@@ -73,7 +73,6 @@ module _ {E : Type 0} (old new : FolderView) (r : Result FirstLine E) (same : Sa
         refusals = tt;
       }
 
-  -- it failed
   pub looks_failed : (asked : Option LogVersion) → OnErr r (FailedBetween old.failures new.failures) → (why : E) → r ≡ Err why
       → Looks asked old new (Err refusal.Fault)
   looks_failed asked cause why is =

@@ -74,7 +74,6 @@ prints_as P Q is old new (Err OtherGraph) printed = printed
 
 -- ---- where 5 is asked for
 
--- what is refused
 pub refused_five : (known : Option (List ℕ)) (reading : LogReading) → IfSome known (λ bs. log_as Five bs ≡ reading)
     → IfSome known (λ bs. log_of bs ≡ reading)
 refused_five None reading is = tt
