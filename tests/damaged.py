@@ -604,6 +604,8 @@ def words_on(program, room, names):
     os.mkdir(room)
     log, other, keep, times, targets, graph, script = (f"{room}/{it}" for it in ("LOG", "OTHER", "KEEP", "TIMES", "TARGETS", "GRAPH", "SCRIPT"))
     text = HEADERS[5] + b"".join(b"%d\t%d\t3\t%s\ta\n" % (at % 9, at % 9 + 1, name) for at, name in enumerate(names))
+    # Where one line is an intent, the words that tell builds look each name up, because a line may stand again over its name's intent.
+    text += b"9\t9\t0\t%s\t5\n" % names[0]
     # The text ends in half a line, which may be about each output.
     torn = text + b"1\t2\t3\t" + names[0]
     for path, lines in ((keep, names), (times, [b"7\t" + it for it in names]), (targets, [it + b": cc" for it in names])):
