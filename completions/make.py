@@ -13,7 +13,7 @@ import sys
 
 FOLDER = os.path.dirname(os.path.abspath(__file__))
 # The values that are files. A log is one, whatever else the usage calls it.
-FILES = {"LOG", "OLD", "NEW", "KEEP", "TIMES", "SCRIPT", "FILE"}
+FILES = {"LOG", "OLD", "NEW", "KEEP", "TIMES", "SCRIPT", "FILE", "DIR"}
 
 
 class Option:
@@ -40,7 +40,7 @@ def said(program, *words):
 def options_of(program, screen, words=(), values=()):
     """The options of a help screen, which these words print. What an option takes is what the refusal of a word that none takes says."""
     part = screen[screen.index("\nOptions:\n") + 1 :].split("\n\n")[0]
-    for short, long, value, does in re.findall(r"(?m)^ +(?:(-[A-Za-z]),? )? *(--[a-z-]+)(?: <([A-Z]+)>)? +(.*)$", part):
+    for short, long, value, does in re.findall(r"(?m)^ +(?=-)(?:(-[A-Za-z]),? ?)? *(--[a-z-]+)?(?: ?<([A-Z]+)>)? +(.*)$", part):
         asks = value and value not in FILES
         names = re.search(r": it is ([a-z0-9, ]+)$", said(program, *words, f"{long}=?", *values).split("\n")[0]) if asks else None
         yield Option(short, long, value, does, re.split(r", | or ", names[1]) if names else [])
@@ -125,7 +125,7 @@ def fish(own, commands):
 
 
 def fish_option(when, option):
-    words = ["complete -c nlog", "-n", fish_quoted(when), *[f"-s {it[1:]}" for it in [option.short] if it], f"-l {option.long[2:]}"]
+    words = ["complete -c nlog", "-n", fish_quoted(when), *[f"-s {it[1:]}" for it in [option.short] if it], *[f"-l {it[2:]}" for it in [option.long] if it]]
     if option.value:
         words += ["-r -F" if option.value in FILES else "-x"]
         words += [f"-a {fish_quoted(' '.join(option.words))}"] if option.words else []

@@ -4,7 +4,7 @@ _nlog() {
     local word=${COMP_WORDS[COMP_CWORD]} values=0 dashes='' at
     COMPREPLY=()
     if ((COMP_CWORD == 1)); then
-        mapfile -t COMPREPLY < <(compgen -W 'show check hash entries damage doubt builds summary compare trace picture hash-file record recompact restat repair replay apply
+        mapfile -t COMPREPLY < <(compgen -W 'show check hash entries damage doubt builds summary compare trace picture hash-file mend record recompact restat repair replay apply
             --help -h --version -V' -- "$word")
         return
     fi
@@ -30,6 +30,12 @@ _nlog() {
                 mapfile -t COMPREPLY < <(compgen -f -- "$word")
                 return
             fi
+        elif [[ ! $dashes && ${COMP_WORDS[1]} == mend && ${COMP_WORDS[at]} == -C ]]; then
+            if ((++at >= COMP_CWORD)); then
+                compopt -o filenames 2> /dev/null
+                mapfile -t COMPREPLY < <(compgen -d -- "$word")
+                return
+            fi
         elif [[ ! $dashes && ${COMP_WORDS[1]} == summary && ${COMP_WORDS[at]} == --kind ]]; then
             [[ ${COMP_WORDS[at + 1]} == '=' ]] && at=$((at + 1))
             if ((++at >= COMP_CWORD)); then
@@ -53,6 +59,7 @@ _nlog() {
     if [[ ! $dashes && $word == -* ]]; then
         case ${COMP_WORDS[1]} in
             replay) mapfile -t COMPREPLY < <(compgen -W '--verbose -v --help -h' -- "$word") ;;
+            mend) mapfile -t COMPREPLY < <(compgen -W '-C --dry-run --all --verbose -v --help -h' -- "$word") ;;
             builds) mapfile -t COMPREPLY < <(compgen -W '--log-version --missing-ok --tabs --verbose -v --help -h' -- "$word") ;;
             entries | damage | trace | picture | repair) mapfile -t COMPREPLY < <(compgen -W '--log-version --missing-ok --verbose -v --help -h' -- "$word") ;;
             summary) mapfile -t COMPREPLY < <(compgen -W '--log-version --missing-ok --build --all --kind --lines -n --graph --tabs --verbose -v --help -h' -- "$word") ;;
@@ -64,7 +71,7 @@ _nlog() {
         return
     fi
     case ${COMP_WORDS[1]}:$values in
-        show:0 | check:0 | entries:0 | damage:0 | doubt:0 | builds:0 | summary:0 | compare:[01] | trace:0 | picture:0 | hash-file:0 | record:0 | recompact:[01] | restat:[01] | repair:0 | replay:0 | apply:[01])
+        show:0 | check:0 | entries:0 | damage:0 | doubt:0 | builds:0 | summary:0 | compare:[01] | trace:0 | picture:0 | hash-file:0 | mend:0 | record:0 | recompact:[01] | restat:[01] | repair:0 | replay:0 | apply:[01])
             compopt -o filenames 2> /dev/null
             mapfile -t COMPREPLY < <(compgen -f -- "$word")
             ;;

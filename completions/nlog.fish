@@ -13,13 +13,13 @@ function __nlog_takes_file
             set is_of_option no
         else if test $is_behind = no -a "$word" = --
             set is_behind yes
-        else if test $is_behind = no; and contains -- $word --at-least --build --graph --kind --lines --log-version --manifest -n
+        else if test $is_behind = no; and contains -- $word --at-least --build --graph --kind --lines --log-version --manifest -C -n
             set is_of_option yes
         else if test $is_behind = yes; or not string match -qr -- '^-.' $word
             set values (math $values + 1)
         end
     end
-    contains -- $command:$values show:0 check:0 entries:0 damage:0 doubt:0 builds:0 summary:0 compare:0 compare:1 trace:0 picture:0 hash-file:0 record:0 recompact:0 recompact:1 restat:0 restat:1 repair:0 replay:0 apply:0 apply:1
+    contains -- $command:$values show:0 check:0 entries:0 damage:0 doubt:0 builds:0 summary:0 compare:0 compare:1 trace:0 picture:0 hash-file:0 mend:0 record:0 recompact:0 recompact:1 restat:0 restat:1 repair:0 replay:0 apply:0 apply:1
 end
 
 function __nlog_has_command
@@ -45,6 +45,7 @@ complete -c nlog -n 'not __nlog_has_command' -a compare -d 'Prints which command
 complete -c nlog -n 'not __nlog_has_command' -a trace -d 'Prints the last build as JSON for a trace viewer: a lane for what ran beside others'
 complete -c nlog -n 'not __nlog_has_command' -a picture -d 'Draws the last build as SVG: a bar for each command, and how many ran at a time'
 complete -c nlog -n 'not __nlog_has_command' -a hash-file -d 'Prints the hash of a command that stands in a file: of each of its bytes'
+complete -c nlog -n 'not __nlog_has_command' -a mend -d 'Has Ninja make each output anew that a log can\'t vouch for; run it after a crash'
 complete -c nlog -n 'not __nlog_has_command' -a record -d 'Adds one entry to a log; prints nothing'
 complete -c nlog -n 'not __nlog_has_command' -a recompact -d 'Rewrites a log with the last entry of each output that KEEP names; prints nothing'
 complete -c nlog -n 'not __nlog_has_command' -a restat -d 'Rewrites a log with the time stamps that TIMES gives; prints nothing'
@@ -106,6 +107,11 @@ complete -c nlog -n '__nlog_is picture' -s h -l help -d 'Print help'
 complete -c nlog -n '__nlog_is hash-file' -l log-version -x -a '5 6 7 auto' -d '5, 6 or 7: the version of the logs that hold the hash; auto: 5, as where it is left out'
 complete -c nlog -n '__nlog_is hash-file' -s v -l verbose -d 'Says which file or value a refusal is of, and why; also that LOG is missing, or locked'
 complete -c nlog -n '__nlog_is hash-file' -s h -l help -d 'Print help'
+complete -c nlog -n '__nlog_is mend' -s C -r -F -d 'The folder of the build, as for Ninja: where it is left out, the one in which you run it'
+complete -c nlog -n '__nlog_is mend' -l dry-run -d 'Prints the same, and changes nothing'
+complete -c nlog -n '__nlog_is mend' -l all -d 'Has Ninja make those anew, too, that may be well'
+complete -c nlog -n '__nlog_is mend' -s v -l verbose -d 'Says which file or value a refusal is of, and why; also that LOG is missing, or locked'
+complete -c nlog -n '__nlog_is mend' -s h -l help -d 'Print help'
 complete -c nlog -n '__nlog_is record' -l log-version -x -a '5 6 7 auto' -d '5, 6 or 7: the version of LOG; auto: the one that its first line names; 4 or 5 where it is left out'
 complete -c nlog -n '__nlog_is record' -s v -l verbose -d 'Says which file or value a refusal is of, and why; also that LOG is missing, or locked'
 complete -c nlog -n '__nlog_is record' -s h -l help -d 'Print help'

@@ -17,6 +17,7 @@ _nlog() {
     'trace:Prints the last build as JSON for a trace viewer: a lane for what ran beside others'
     'picture:Draws the last build as SVG: a bar for each command, and how many ran at a time'
     'hash-file:Prints the hash of a command that stands in a file: of each of its bytes'
+    'mend:Has Ninja make each output anew that a log can'\''t vouch for; run it after a crash'
     'record:Adds one entry to a log; prints nothing'
     'recompact:Rewrites a log with the last entry of each output that KEEP names; prints nothing'
     'restat:Rewrites a log with the time stamps that TIMES gives; prints nothing'
@@ -161,6 +162,17 @@ _nlog() {
             '(- *)-h[Print help]' \
             '(- *)--help[Print help]' \
             ':FILE:_files' && ret=0
+          ;;
+        mend)
+          _arguments -S -s \
+            '(-C)-C+[The folder of the build, as for Ninja\: where it is left out, the one in which you run it]:DIR:_files' \
+            '(--dry-run)--dry-run[Prints the same, and changes nothing]' \
+            '(--all)--all[Has Ninja make those anew, too, that may be well]' \
+            '(-v --verbose)-v[Says which file or value a refusal is of, and why; also that LOG is missing, or locked]' \
+            '(-v --verbose)--verbose[Says which file or value a refusal is of, and why; also that LOG is missing, or locked]' \
+            '(- *)-h[Print help]' \
+            '(- *)--help[Print help]' \
+            ':LOG:_files' && ret=0
           ;;
         record)
           _arguments -S -s \

@@ -48,6 +48,10 @@ ROWS = [
     # Its rewriting finds no room, and the torn line is cut off before that.
     (["repair", "LOG"], TORN, 20, 1, LOG),
     (["repair", "LOG"], NO_LOG, ROOMY, 1, NO_LOG),
+    (["mend", "LOG"], TORN, ROOMY, 1, TORN),
+    (["mend", "LOG"], HEADER + b"x\n", ROOMY, 0, HEADER),
+    (["mend", "LOG"], HEADER + b"x\n", 0, 1, HEADER + b"x\n"),
+    (["mend", "LOG"], NO_LOG, ROOMY, 1, NO_LOG),
     # What these print goes nowhere where standard output is closed. Their status isn't compared: it tells of the write.
     (["show", "LOG"], LOG, ROOMY, None, LOG),
     (["check", "LOG"], NO_LOG, ROOMY, None, NO_LOG),

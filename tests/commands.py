@@ -954,6 +954,117 @@ def try_doubt(trials, program, room):
     try_settling(trials, program, room)
 
 
+# Entries of version 5, of a file that is as old as its entry, of a newer one, of none, of a folder, of an intent and of one without a time; and each
+# with an intent over it: the end twice, the time 0, and the complement of the hash, by hand.
+MENDS = {
+    "old": (b"0\t7\t5000000000\told\ta1\n", b"7\t7\t0\told\tffffffffffffff5e\n"),
+    "new": (b"0\t9\t5000000000\tnew\tb2\n", b"9\t9\t0\tnew\tffffffffffffff4d\n"),
+    "gone": (b"3\t4\t5000000000\tgone\tc3\n", b"4\t4\t0\tgone\tffffffffffffff3c\n"),
+    "folder": (b"-5\t-2\t5000000000\tfolder\t0\n", b"-2\t-2\t0\tfolder\tffffffffffffffff\n"),
+    "intent": (b"2\t2\t0\tintent\te5\n", b"2\t2\t0\tintent\te5\n"),
+    "timeless": (b"2\t3\t0\ttimeless\tffffffffffffffff\n", b"3\t3\t0\ttimeless\t0\n"),
+}
+ELSEWHERE = b"nlog: no output of LOG is here\nnlog: run it in the folder of the build, or name that by -C\n"
+
+
+def mends(intents, names="old new gone folder intent timeless"):
+    """The lines of these entries, with an intent over each of some."""
+    return HEADER + b"".join(MENDS[it][it in intents.split()] for it in names.split())
+
+
+# What `mend` prints of a log, with which status, and the log that it leaves.
+MEND_ROWS = [
+    ([], mends(""), 3, b"newer\tnew\nunsure\tfolder\nunsure\ttimeless\n", mends("new")),
+    (["--dry-run"], mends(""), 3, b"newer\tnew\nunsure\tfolder\nunsure\ttimeless\n", mends("")),
+    (["--all"], mends(""), 3, b"newer\tnew\nunsure\tfolder\nunsure\ttimeless\n", mends("new folder timeless")),
+    (["--all", "--dry-run"], mends(""), 3, b"newer\tnew\nunsure\tfolder\nunsure\ttimeless\n", mends("")),
+    ([], mends("new"), 3, b"unsure\tfolder\nunsure\ttimeless\n", mends("new")),
+    (["--all"], mends("new folder timeless"), 0, b"", mends("new folder timeless")),
+    ([], mends("", "old"), 0, b"", mends("", "old")),
+    # A torn line that names an output, one that doesn't, and one that names no output whole.
+    ([], mends("", "old") + b"3\t4\t9\told\tb", 3, b"damaged\told\n", mends("old", "old")),
+    ([], mends("", "old gone") + b"3\t4\t9\tgone", 3, b"damaged\tgone\n", mends("gone", "old gone")),
+    ([], mends("", "old") + b"3\t4\t9\tol", 0, b"", mends("", "old")),
+    ([], mends("", "old") + b"3\t4", 0, b"", mends("", "old")),
+    (["--dry-run"], mends("", "old") + b"3\t4\t9\told\tb", 3, b"damaged\told\n", mends("", "old") + b"3\t4\t9\told\tb"),
+    (["--dry-run"], mends("", "old") + b"3\t4", 0, b"", mends("", "old") + b"3\t4"),
+    # A damaged line behind which its output has an entry, and one of an intent.
+    ([], HEADER + b"x\ty\tz\told\tb\n" + MENDS["old"][0], 0, b"", mends("", "old")),
+    ([], mends("", "old intent") + b"3\t4\t9\tintent\tb", 0, b"", mends("", "old intent")),
+    # Two lines joined, and zero bytes.
+    ([], mends("", "old gone") + b"3\t4\t9\told\tb3\t4\t9\tgone\tc3\n", 3, b"damaged\told\ndamaged\tgone\n", mends("old gone", "old gone")),
+    ([], mends("", "old") + b"3\t4\t9\told\0\0\0\0", 3, b"damaged\told\n", mends("old", "old")),
+    # The last entry of an output counts. A whole log that has older ones stays as it is.
+    ([], mends("", "old new old"), 3, b"newer\tnew\n", mends("new", "old new")),
+    ([], mends("", "old old"), 0, b"", mends("", "old old")),
+    ([], HEADER, 0, b"", HEADER),
+    ([], b"", 0, b"", b""),
+    ([], HEADER[:9], 0, b"", HEADER),
+    (["--all"], b"# ninja log v4\n0\t7\t5000000000\tnew\tcc\tx\n", 3, b"newer\tnew\n", HEADER + b"7\t7\t0\tnew\t8dd8b185cf7ef384\n"),
+]
+
+
+def try_mend(trials, program, room):
+    """What `mend` prints, its status, and the log that it leaves; where LOG and the outputs are; what is refused."""
+    here, other = f"{room}/mended", f"{room}/mended elsewhere"
+    os.makedirs(f"{here}/folder")
+    os.makedirs(other)
+    for name, time in (("old", 5), ("new", 100), ("intent", 100), ("timeless", 100)):
+        write(f"{here}/{name}", b"")
+        os.utime(f"{here}/{name}", (time, time))
+    log = f"{here}/.ninja_log"
+    for version in (5, 6, 7):
+        for words, text, status, out, left in MEND_ROWS:
+            if version > 5 and (text.startswith(b"# ninja log v4") or len(text) < len(HEADER)):
+                continue
+            # By each way to say where LOG and its outputs are.
+            for way, folder in (([], here), (["-C", here], other), ([".ninja_log"], here), ([log, "-C", "../mended"], other), (["-C", "mended", "mended/.ninja_log"], room)):
+                write(log, as_version(text, version))
+                what = f"mend {words + way}, version {version}, {text!r}"
+                trials.want(what, run([program, "mend", *words, *way], cwd=folder), (status, out, b""))
+                trials.want(f"{what}: the log", read(log), as_version(left, version))
+    trials.want("mend leaves no other file", sorted(os.listdir(here)), [".ninja_log", "folder", "intent", "new", "old", "timeless"])
+    # A whole log that needs nothing isn't written.
+    write(log, mends("", "old"))
+    was = os.stat(log)
+    run([program, "mend"], cwd=here)
+    trials.want("mend of a log that is well: its file", (os.stat(log).st_ino, os.stat(log).st_mtime_ns), (was.st_ino, was.st_mtime_ns))
+    # In another folder.
+    for text in (mends(""), mends("", "old") + b"3\t4\t9\told\tb", mends("", "gone")):
+        write(log, text)
+        for words in ([log], [log, "--all"], [log, "--dry-run"], [log, "-v"], [log, "-C", other]):
+            trials.want(f"mend {words} elsewhere, {text!r}", run([program, "mend", *words], cwd=other), (1, b"", ELSEWHERE))
+            trials.want(f"mend {words} elsewhere, {text!r}: the log", read(log), text)
+    # Where few of the outputs are.
+    for count in (9, 10, 19, 20):
+        write(log, mends("", "old") + b"".join(b"0\t1\t2\tout%d\ta\n" % it for it in range(count - 1)))
+        said = b"nlog: LOG .ninja_log: 1 of %d outputs are here\n" % count if count > 19 else b""
+        trials.want(f"mend, where one of {count} outputs is", run([program, "mend"], cwd=here), (0, b"", said))
+    for name, words, wanted in (
+        ("a missing log", ["none"], (0, b"", b"")),
+        ("a missing log, and more", ["-v", "none"], (0, b"", b"nlog: LOG none: it is missing, and was read as empty\n")),
+        ("a missing log in a folder, and more", ["-v", "-C", "folder"], (0, b"", b"nlog: LOG folder/.ninja_log: it is missing, and was read as empty\n")),
+        ("a missing folder", ["-C", "none"], (1, b"", CANNOT_READ)),
+        ("a missing folder, and more", ["-v", "-C", "none"], (1, b"", CANNOT_READ + b"nlog: folder none: " + NO_FILE)),
+        ("an empty folder's name", ["-C", ""], (1, b"", CANNOT_READ)),
+        ("a folder as LOG", ["-v", "folder"], (1, b"", b"nlog: the folder failed\nnlog: LOG folder: " + A_FOLDER)),
+        ("no log", ["../no log"], (1, b"", NO_LOG)),
+        ("no log, and more", ["../no log", "-v"], (1, b"", NO_LOG + b'nlog: LOG ../no log: it begins with "hello\\x0a"\n')),
+        ("another version", ["../eight log", "-v"], (1, b"", OTHER_VERSION + b"nlog: LOG ../eight log: version 8\n")),
+    ):
+        write(f"{room}/no log", b"hello\n")
+        write(f"{room}/eight log", b"# ninja log v8\n")
+        trials.want(f"mend of {name}", run([program, "mend", *words], cwd=here), wanted)
+    trials.want("mend makes no log", os.path.exists(f"{here}/none"), False)
+    # The names as they are, and a name that begins with `/`.
+    odd = [b"no UTF-8 \xff", b"two words", os.fsencode(f"{here}/old"), b"old/below"]
+    write(f"{here}/two words", b"")
+    write(log, HEADER + b"".join(b"0\t1\t5000000000\t%s\ta\n" % it for it in odd))
+    trials.want("mend of odd names", run([program, "mend", "-C", here], cwd=other), (3, b"unsure\t%s\nnewer\ttwo words\n" % odd[0], b""))
+    left = HEADER + b"".join((b"1\t1\t0\t%s\tfffffffffffffff5\n" if it == b"two words" else b"0\t1\t5000000000\t%s\ta\n") % it for it in odd)
+    trials.want("mend of odd names: the log", read(log), left)
+
+
 # What stands in FILE of `recompact --manifest`, and how it is refused, or the names that it keeps of `a`, `b: c`, ` led`, `x.o`, whose files aren't there.
 MANIFESTS = [
     (b"a: cc\n", [b"a"]),
@@ -1214,7 +1325,7 @@ def try_own(trials, program, room):
 
 
 def trial(trials, program, room):
-    for part in (try_refused, try_doubt, try_changes, try_through, try_words, try_own):
+    for part in (try_refused, try_doubt, try_mend, try_changes, try_through, try_words, try_own):
         folder = f"{room}/{part.__name__}"
         os.mkdir(folder)
         part(trials, program, folder)

@@ -98,7 +98,7 @@ class Zsh:
 
 def options_of(help_text):
     """The options of a help, long and short."""
-    found = re.findall(r"(?m)^ +(-[A-Za-z])?(?:, )? *(--[a-z]+(?:-[a-z]+)*)", help_text[help_text.index("Options:") :].split("\n\n")[0])
+    found = re.findall(r"(?m)^ +(?=-)(-[A-Za-z])?(?:, )? *(--[a-z]+(?:-[a-z]+)*)?", help_text[help_text.index("Options:") :].split("\n\n")[0])
     return [it for both in found for it in both if it]
 
 

@@ -1,5 +1,5 @@
 #!/usr/bin/env python3
-"""The words that look at the files of outputs, against a model of its own: `doubt`, `recompact --manifest` and `restat --files`.
+"""The words that look at the files of outputs, against a model of its own: `doubt`, `recompact --manifest`, `restat --files` and `mend`.
 
     python3 tests/files.py PROGRAM [CASES [SEED]]
 
@@ -15,7 +15,8 @@ import shutil
 import sys
 import tempfile
 
-from log_format import HEADER, Log, as_version, line_of, text_of
+from log_format import HEADER, WORD, Log, as_version, line_of
+from log_lines import distrusted_of
 from trials import Trials, in_memory, read, run, short, usage, write
 
 CASES, SEED = 1200, 20240229
@@ -31,6 +32,9 @@ FAULTS = {
               "change times count in each version"],
     "recompact": ["a target without a file goes", "a file that is no target goes", "a folder is no file", "what can't be looked at goes", "what is missing stays"],
     "restat": ["a file of 1970 has its own time", "a folder is a file", "what is missing is of 0", "only later times are taken"],
+    "mend": ["damage tells nothing", "what is damaged is newer", "what is missing is told of", "an intent is told of", "what is unsure is passed over", "what is unsure is taken",
+             "--all is passed over", "--dry-run is passed over", "one name is taken", "what is taken is dropped", "the moment is START", "MTIME stands", "the hash stands",
+             "a whole log is written anew", "damage alone is left", "no file has to be here"],
 }
 
 
@@ -152,6 +156,43 @@ def restat_of(table, version, files, targets, lines, fault=None):
         yield line_of(name, (start, end, mtime, command))
 
 
+def reasons_of(table, version, files, lines, damaged, fault):
+    """Which outputs `mend` tells of, and why. No command passes for an intent, so a file that it is about tells nothing."""
+    doubts = dict(reversed(it[:-1].split(b"\t", 1)) for it in doubt_of(table, version, files, (), lines))
+    for name, (start, end, mtime, _) in table.items():
+        why = doubts.get(name)
+        if name in damaged and fault != "damage tells nothing":
+            why = b"newer" if fault == "what is damaged is newer" else b"damaged"
+        if (start, mtime) == (end, 0) and fault != "an intent is told of" or why == b"missing" and fault != "what is missing is told of":
+            continue
+        if why not in (None, b"damaged", b"newer"):
+            why = None if fault == "what is unsure is passed over" else b"unsure"
+        if why:
+            yield name, why
+
+
+def mend_of(log, text, version, files, lines, damaged, options, fault=None):
+    """The status of `mend`, what it prints, and the log that it leaves."""
+    table = log.table
+    if table and all(files[name][0] == "missing" for name in table) and fault != "no file has to be here":
+        return 1, b"", text
+    told = dict(reasons_of(table, version, files, lines, damaged, fault))
+    has_all = "--all" in options and fault != "--all is passed over" or fault == "what is unsure is taken"
+    taken = [name for name, why in told.items() if why != b"unsure" or has_all][: 1 if fault == "one name is taken" else None]
+    is_due = taken or (log.torn or log.skipped) and fault != "damage alone is left" or fault == "a whole log is written anew"
+    left = text
+    if is_due and ("--dry-run" not in options or fault == "--dry-run is passed over"):
+        after = dict(table)
+        for name in taken:
+            start, end, mtime, number = table[name]
+            moment = start if fault == "the moment is START" else end
+            after[name] = moment, moment, mtime if fault == "MTIME stands" else 0, number if fault == "the hash stands" else WORD - number
+            if fault == "what is taken is dropped":
+                del after[name]
+        left = as_version(HEADER + b"".join(line_of(*it) for it in after.items()), max(version, 5))
+    return 3 if told else 0, b"".join(b"%s\t%s\n" % (why, name) for name, why in told.items()), left
+
+
 MODELS = {"doubt": doubt_of, "recompact": recompact_of, "restat": restat_of}
 
 
@@ -235,6 +276,20 @@ def a_case(chance, room):
     return text, version, files, [it for it in NAMES[:-2] if chance.random() < 0.3] or [b"other"], entries
 
 
+def harmed(text, version, table, lines, chance):
+    """A log with an intent behind its lines, or damage, or both, and all its entries: a line is torn, or two stand in one."""
+    name = chance.choice([*table])
+    if chance.random() < 0.3:
+        moment = chance.randrange(9)
+        lines = [*lines, (moment, moment, 0, 7)]
+        text += b"%d\t%d\t0\t%s\t7\n" % (moment, moment, name)
+    if chance.random() < 0.6:
+        line = line_of(chance.choice([*table]), (1, 2, 3, 4))
+        is_joined = version > 4 and chance.random() < 0.5
+        text += b"5\t6\t7" + line if is_joined else line[: chance.randrange(1, len(line))]
+    return text, lines
+
+
 class Rivals:
     """Compares the words with the models, and keeps which faults no case has seen."""
 
@@ -266,6 +321,22 @@ class Rivals:
             got = ended if word == "doubt" else (*ended, read(f"{self.room}/log"))
             self.trials.check(f"{what}, {' '.join(words)} of {short(text)} with {short(files)}", got == wanted(), f"{short(got)} in place of {short(wanted())}")
             self.unseen -= {(word, fault) for fault in FAULTS[word] if wanted(fault) != got}
+        self.mend(what, text, version, table, files, lines, random.Random(f"{SEED} {what}"))
+
+    def mend(self, what, text, version, table, files, lines, chance):
+        text, lines = harmed(text, version, table, lines, chance)
+        seen = as_version(text, version) if version > 5 else text
+        log, damaged = Log(seen), {it.split(b"\t")[3] for it in distrusted_of(seen).splitlines()}
+        options = [it for it in ("--all", "--dry-run") if chance.random() < 0.3]
+        write(f"{self.room}/log", text)
+        ended = run([self.program, "mend", "../log", *options], cwd=f"{self.room}/files")
+        got = ended[0], ended[1], read(f"{self.room}/log")
+
+        def wanted(fault=None):
+            return mend_of(log, text, version, files, lines, damaged, options, fault)
+
+        self.trials.check(f"{what}, mend {' '.join(options)} of {short(text)} with {short(files)}", got == wanted(), f"{short(got)} in place of {short(wanted())}")
+        self.unseen -= {("mend", fault) for fault in FAULTS["mend"] if wanted(fault) != got}
 
 
 def main(words):

@@ -5,8 +5,7 @@
 
 Wants the right to mount a tmpfs, at least in a name space of its own (unshare). Each command has to end with `nlog: the folder
 failed` and status 1, `check` still reads all that the log held, and once there is room the same command does its work. So
-does the repair that README.md names. So do the words that ask the files of the outputs. And the scripts of docs/DAMAGE.md, as they stand
-there: where the disk of their own files is full at first, or after some of them, the log stays as it was.
+does the repair that docs/DAMAGE.md names. So do the words that ask the files of the outputs, and `mend`.
 """
 import os
 import re
@@ -15,7 +14,7 @@ import subprocess
 import sys
 
 from changes import CHANGES, FAILED, left_by
-from examples import TOP, read_page
+from examples import TOP
 from log_format import HEADER, Log, line_of, text_of
 from trials import fill_up, main, read, run, write
 
@@ -58,8 +57,8 @@ def try_full(trials, program, disk, command, end):
 
 
 def repair():
-    """The words of the repair that README.md names."""
-    return re.search(r"Then `nlog (repair LOG)`", read(f"{TOP}/README.md").decode())[1].split()
+    """The words of the repair that docs/DAMAGE.md names."""
+    return re.search(r"repeat `nlog (repair LOG)`", read(f"{TOP}/docs/DAMAGE.md").decode())[1].split()
 
 
 def try_repair(trials, program, disk, kind, start):
@@ -88,71 +87,45 @@ REPAIRS = {
     "a log of version 4": b"# ninja log v4\n1\t2\t3\ta\tcc\tx\n4\t5\t6\tb\t\n",
 }
 
-# By docs/DAMAGE.md, in a folder with the files `a` and `b`, where Ninja has an edge for `edge`: what each script leaves of a log.
+# In a folder with the files `a` and `b`.
 LONG = (b"n" * 3000, (1, 2, 3, 4))
 PART = b"3\t4\t2"
 JOINED = HEADER + line_of(*LONG) + line_of(b"a", (1, 2, 10, 0xAA)) + PART + line_of(b"a", (5, 6, 30, 0xBB)) + line_of(b"edge", (1, 2, 3, 4))
 WHOLE = JOINED.replace(PART, b"")
-SCRIPTS = {
-    "mend.sh": (JOINED, text_of(dict([LONG, (b"a", (1, 2, 10, 0xAA)), (b"edge", (1, 2, 3, 4))]))),
-    "forget.sh": (JOINED, text_of(dict([LONG, (b"edge", (1, 2, 3, 4))]))),
-}
-
 
 # What the words that ask the files leave of WHOLE, in such a folder.
 SETTLED = {
     # A name that the system can't look up stays, as in Ninja.
     "--manifest": text_of(dict([LONG, (b"a", (5, 6, 30, 0xBB)), (b"edge", (1, 2, 3, 4))])),
     "--files": text_of(dict([LONG, (b"a", (5, 6, 1_700_000_000_000_000_000, 0xBB)), (b"edge", (1, 2, 3, 4))])),
+    "mend": text_of(dict([LONG, (b"a", (2, 2, 0, 2**64 - 1 - 0xAA)), (b"edge", (1, 2, 3, 4))])),
 }
+# What it prints, and with which status it ends: of a name that the system can't look up nothing is known.
+MENDED = (3, b"unsure\t%s\ndamaged\ta\n" % LONG[0], b"")
 
 
 def try_settled(trials, program, disk, room, option):
     """A log on a full disk stays as it was, and once there is room the same command does its work."""
-    words = [program, *(["recompact", f"{disk}/LOG", option, "targets"] if option == "--manifest" else ["restat", f"{disk}/LOG", option])]
+    words = {"--manifest": ["recompact", f"{disk}/LOG", option, "targets"], "--files": ["restat", f"{disk}/LOG", option], "mend": ["mend", f"{disk}/LOG"]}[option]
+    words, start, done = [program, *words], JOINED if option == "mend" else WHOLE, MENDED if option == "mend" else (0, b"", b"")
     write(f"{room}/targets", b"target: cc\nedge: cc\n")
-    write(f"{disk}/LOG", WHOLE)
+    write(f"{disk}/LOG", start)
     fill_up(f"{disk}/fill")
     trials.want(f"{option} on a full disk: ends", run(words, cwd=room), (1, b"", FAILED))
-    trials.want(f"{option} on a full disk: the log", read(f"{disk}/LOG"), WHOLE)
+    trials.want(f"{option} on a full disk: the log", read(f"{disk}/LOG"), start)
     os.remove(f"{disk}/fill")
-    trials.want(f"{option}: ends once there is room", run(words, cwd=room), (0, b"", b""))
+    trials.want(f"{option}: ends once there is room", run(words, cwd=room), done)
     trials.want(f"{option}: the log once there is room", read(f"{disk}/LOG"), SETTLED[option])
     trials.want(f"{option}: what is there", os.listdir(disk), ["LOG"])
     os.remove(f"{disk}/LOG")
 
 
-def try_script(trials, program, disk, room, name):
-    """A script whose own files find no room, room for some of them, or for all: the log stays, or all is done."""
-    start, left = SCRIPTS[name]
-    write(f"{room}/{name}", read_page("docs/DAMAGE.md")[0][name])
-    path = f"{room}/bin:{os.path.dirname(program)}:{os.environ.get('PATH', os.defpath)}"
-    stopped = done = 0
-    for pages in range(PAGES + 1):
-        write(f"{room}/LOG", start)
-        fill_up(f"{disk}/fill")
-        os.truncate(f"{disk}/fill", (PAGES - pages) * PAGE)
-        status = run(["sh", name, "LOG"], cwd=room, env={**os.environ, "PATH": path, "TMPDIR": disk})[0]
-        wanted = left if status == 0 else start
-        trials.want(f"{name} with room for {pages} pages, ended with {status}: the log", read(f"{room}/LOG"), wanted)
-        trials.want(f"{name} with room for {pages} pages: what it leaves", os.listdir(disk), ["fill"])
-        stopped, done = stopped + (status != 0), done + (status == 0)
-        os.remove(f"{disk}/fill")
-    trials.check(f"{name}: stopped, and done", stopped > 1 and done > 1, f"{stopped} times, {done} times")
-
-
-def try_scripts(trials, program, disk, room):
-    os.makedirs(f"{room}/bin")
-    # So many targets that they take some pages, and the one that is wanted last.
-    write(f"{room}/bin/ninja", b"#!/bin/sh\nseq -f 'target%g: cc' 1000\necho 'edge: cc'\n")
-    os.chmod(f"{room}/bin/ninja", 0o755)
+def try_by_files(trials, program, disk, room):
     for name in ("a", "b"):
         write(f"{room}/{name}", b"")
         os.utime(f"{room}/{name}", ns=(0, 1_700_000_000_000_000_000))
     for option in SETTLED:
         try_settled(trials, program, disk, room, option)
-    for name in SCRIPTS:
-        try_script(trials, program, disk, room, name)
 
 
 def mount(disk):
@@ -173,7 +146,7 @@ def trial(trials, program, room):
                 try_full(trials, program, disk, command, end)
         for kind, start in REPAIRS.items():
             try_repair(trials, program, disk, kind, start)
-        try_scripts(trials, program, disk, room)
+        try_by_files(trials, program, disk, room)
     finally:
         run(["umount", disk])
     return None

@@ -43,6 +43,8 @@ ENDS = {
     "opening::an_empty_log_that_was_refused_is_opened": (BOTH, 4),
     "opening::an_empty_log_that_was_refused_is_opened_after_a_crash": (BOTH, 4),
     "opening::a_torn_log_that_was_refused_is_opened": (REFUSED, 9),
+    "opening::a_torn_log_that_was_refused_is_mended": (BOTH, 13),
+    "opening::a_torn_log_that_was_refused_is_mended_after_a_crash": (BOTH, 13),
     "opening::a_log_that_is_due_and_was_refused_is_opened": (BOTH, 12),
     "opening::a_log_that_is_due_and_was_refused_is_opened_after_a_crash": (BOTH, 12),
     "opening::a_log_of_version_4_that_was_refused_is_opened": (BOTH, 13),

@@ -24,7 +24,7 @@ from trials import main, read, run, write
 CANNOT_READ = (1, b"", b"nlog: cannot read\n")
 FOLDER_FAILED = (1, b"", b"nlog: the folder failed\n")
 DONE = (0, b"", b"")
-COMMANDS = ("show", "check", "hash", "entries", "damage", "doubt", "builds", "summary", "compare", "trace", "picture", "hash-file", "record", "recompact", "restat", "repair", "replay", "apply")
+COMMANDS = ("show", "check", "hash", "entries", "damage", "doubt", "builds", "summary", "compare", "trace", "picture", "hash-file", "mend", "record", "recompact", "restat", "repair", "replay", "apply")
 SMALL = HEADER + b"1\t2\t3\ta\taa\n4\t5\t6\tb\tbb\n"
 # By docs/FORMAT.md: the hash of the command `cc<TAB>x`.
 COMMAND, HASH = "cc\tx", 0x72274E7A30810C7B
@@ -146,6 +146,7 @@ def try_words(trials, program, room):
         ["trace", "--", "LOG", "b"],
         ["picture", "--", "LOG", "b"],
         ["hash-file", "--", "FILE", "b"],
+        ["mend", "--", "LOG", "b"],
         ["repair", "--", "LOG", "b"],
         ["replay", "--", "SCRIPT", "b"],
         ["apply", "--", "LOG", "SCRIPT", "b"],

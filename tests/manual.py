@@ -48,7 +48,7 @@ def messages():
 
 def options_of(help_text):
     """The options of a help, long and short."""
-    found = re.findall(r"(?m)^ +(-[A-Za-z])?(?:, )? *(--[a-z]+(?:-[a-z]+)*)", help_text[help_text.index("Options:") :].split("\n\n")[0])
+    found = re.findall(r"(?m)^ +(-[A-Za-z])?(?:, )? *(--[a-z]+(?:-[a-z]+)*|(?<=-C ))", help_text[help_text.index("Options:") :].split("\n\n")[0])
     return [it for both in found for it in both if it]
 
 
@@ -148,7 +148,7 @@ def trial(trials, program, room):
     text = plain(page)
     help_text = run([program, "--help"])[1].decode()
     commands = re.findall(r"(?m)^  ([a-z-]+) ", help_text[help_text.index("Commands:") : help_text.index("Options:")])
-    trials.want("the number of commands", len(commands), 18)
+    trials.want("the number of commands", len(commands), 19)
     for name in commands:
         usage = re.search(r"Usage: (.*)", run([program, name, "--help"])[1].decode())[1]
         trials.check(f"the synopsis of {name}", re.sub("[<>]", "", usage.replace("[OPTIONS] ", "")).split(" ", 1)[1] in text, usage)
@@ -156,7 +156,7 @@ def trial(trials, program, room):
             trials.check(f"the option {option} of {name}", option == "-h" or option in text)
     for option in re.findall(r"--[a-z]+", help_text[help_text.index("Options:") : help_text.index("\n\n", help_text.index("Options:"))]):
         trials.check(f"the option {option}", option in text)
-    trials.want("the number of messages", len(messages()), 13)
+    trials.want("the number of messages", len(messages()), 14)
     for it in messages():
         trials.check(f"the message {it!r}", it in text[text.index("Each comes as") :])
     for it in ("recompact LOG --manifest FILE", "restat LOG --files", "ninja -t targets all > targets && nlog recompact .ninja_log --manifest targets"):

@@ -29,7 +29,7 @@ from trials import main, read, run, write
 
 AWKS = {"mawk": ["mawk"], "gawk": ["gawk"], "busybox": ["busybox", "awk"], "original-awk": ["original-awk"]}
 PAGE = "docs/RECIPES.md"
-SCRIPTS = ("last.sh", "dates.sh", "compare.sh")
+SCRIPTS = ("last.sh", "dates.sh")
 NANO = 1_700_000_000_000_000_000
 
 # Names that JSON, a shell or an awk may take for something else. A name holds any byte but NUL, tab and newline.
@@ -162,12 +162,8 @@ DRAWN_LATE = {"odd numbers": (1, [])}
 BROWSERS = ("chromium", "chromium-browser", "google-chrome")
 SVG = "{http://www.w3.org/2000/svg}"
 KEYS = b"commands\t%d\noutputs\t%d\nwall\t%d\ntotal\t%d\nbusy\t%d\nalone\t%d\nparallel\t%s\nslowest\t%d\t%s\n"
-# Two logs, by the lines that differ: hashes that an awk may take for one number, names that are numbers.
+# A log of hashes that an awk may take for one number, and of names that are numbers.
 OLD = HEADER + b"0\t5\t1\ta\t1e5\n0\t5\t1\tb\t100\n0\t5\t1\tc\tab\n0\t5\t1\t1e5\t7\n0\t5\t1\tgone\t0\n"
-NEW = HEADER + b"0\t7\t1\ta\t100000\n0\t7\t1\tb\t100\n-4\t7\t9\tc\tac\n0\t7\t1\t100000\t7\n0\t0\t1\tnew\t0\n"
-SCRIPT_COMPARED = (
-    b"changed\t5\t7\ta\nsame\t5\t7\tb\nchanged\t5\t11\tc\nnew\t-\t7\t100000\nnew\t-\t0\tnew\ngone\t5\t-\t1e5\ngone\t5\t-\tgone\n"
-)
 
 
 class Entry:
@@ -239,19 +235,11 @@ class Reports:
         shown = [Entry(it) for it in Log(text).shown().split(b"\n")[:-1]]
         dates = b"".join(b"%s\t%s\n" % (date_of(it.mtime), it.name) for it in shown)
         self.want(f"{kind}: dates", self.script("dates.sh", "LOG"), (0, dates, b""))
-        same = b"".join(b"same\t%d\t%d\t%s\n" % (it.took, it.took, it.name) for it in shown)
-        self.want(f"{kind}: compared with itself", self.script("compare.sh", "LOG", "LOG"), (0, same, b""))
-        write(f"{self.room}/OTHER", HEADER)
-        gone = b"".join(b"gone\t%d\t-\t%s\n" % (it.took, it.name) for it in shown)
-        self.want(f"{kind}: compared with none", self.script("compare.sh", "LOG", "OTHER"), (0, gone, b""))
-        new = b"".join(b"new\t-\t%d\t%s\n" % (it.took, it.name) for it in shown)
-        self.want(f"{kind}: none compared with it", self.script("compare.sh", "OTHER", "LOG"), (0, new, b""))
 
     def try_versions(self):
         """A log of version 6 or 7 gives the reports of the same log of version 5, and so does one whose name begins with `-`."""
         write(f"{self.room}/LOG", OLD)
-        write(f"{self.room}/OTHER", NEW)
-        rows = [("last.sh", "{}"), ("dates.sh", "{}"), ("compare.sh", "{}", "OTHER"), ("compare.sh", "OTHER", "{}"), ("compare.sh", "{}", "{}")]
+        rows = [("last.sh", "{}"), ("dates.sh", "{}")]
         for version, name in ((5, "-LOG"), (5, "LO=G"), (6, "six"), (7, "seven"), (7, "-seven")):
             write(f"{self.room}/{name}", as_version(OLD, version))
             for words in rows:
@@ -263,10 +251,8 @@ class Reports:
     def try_failures(self):
         """A script that can't do its work prints nothing, and says so by its status."""
         write(f"{self.room}/LOG", OLD)
-        write(f"{self.room}/OTHER", NEW)
         write(f"{self.room}/NONE", b"hello\n")
-        self.want("two logs compared", self.script("compare.sh", "LOG", "OTHER"), (0, SCRIPT_COMPARED, b""))
-        rows = [("last.sh", "{}"), ("dates.sh", "{}"), ("compare.sh", "{}", "OTHER"), ("compare.sh", "LOG", "{}")]
+        rows = [("last.sh", "{}"), ("dates.sh", "{}")]
         for words in rows:
             name = " ".join(words)
             for log, said in (("missing", b""), ("NONE", b"nlog: not a ninja log\n"), ("bin", b"nlog: cannot read\n")):

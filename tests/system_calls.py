@@ -274,6 +274,61 @@ def sweep_readers(trials, program, room, pool):
     return count
 
 
+# A log that `mend` finds damaged, an output of which has a file; what it leaves, and what it prints.
+MENDING = HEADER + b"1\t2\t10\ta\taa\n1\t3\t10\tb\tbb\n3\t4\t20\ta\tc"
+MENDED = HEADER + b"2\t2\t0\ta\tffffffffffffff55\n1\t3\t10\tb\tbb\n"
+TOLD = b"damaged\ta\n"
+
+
+def mend_traced(program, room, inject=()):
+    """Runs `mend` in a new folder: how it ended, and its system calls."""
+    os.makedirs(room)
+    write(f"{room}/LOG", MENDING)
+    write(f"{room}/a", b"")
+    ended = run(["strace", "-y", "-o", f"{room}/TRACE", "-e", "signal=none", *inject, program, "mend", "-v", f"{room}/LOG", "-C", room], cwd="/")
+    return ended, [it for it in (read(f"{room}/TRACE") or b"").decode(errors="replace").split("\n") if re.match(r"\w+\(", it)]
+
+
+def mend_disturbed(program, room, how, call):
+    """What is wrong with what `mend` leaves with one call disturbed: LOG is as it was or mended, and the same command then does its work."""
+    name, count, line = call
+    (ended, out, err), _ = mend_traced(program, room, ["-e", f"inject={name}:{WAYS[how]}:when={count}"])
+    left, wrong = read(f"{room}/LOG"), []
+    if left not in (MENDING, MENDED):
+        wrong.append(f"it left {left!r}")
+    if read(f"{room}/a") != b"":
+        wrong.append("it changed a file")
+    if how != "kill" and ended in (0, 3) and left != MENDED:
+        wrong.append(f"status {ended}, {err!r} over {left!r}")
+    if how != "kill" and ended == 3 and out != TOLD:
+        wrong.append(f"it printed {out!r}")
+    again = run([program, "mend", f"{room}/LOG", "-C", room], cwd="/")
+    if again not in ((3, TOLD, b""), (0, b"", b"")) or read(f"{room}/LOG") != MENDED or again[0] != (3 if left == MENDING else 0):
+        wrong.append(f"again: {again!r} and {read(f'{room}/LOG')!r}")
+    return wrong
+
+
+def sweep_mend(trials, program, room, pool):
+    """Disturbs each call of `mend`, from the one on that opens LOG."""
+    ended, calls = mend_traced(program, f"{room}/mend")
+    trials.want("mend ends", (ended, read(f"{room}/mend/LOG")), ((3, TOLD, b""), MENDED))
+    steps = [it for it in (effect(call, f"{room}/mend", False) for call in calls) if it and not it.startswith(("look", "lock"))]
+    rewrite = ["make LOG.recompact 0600", f"write LOG.recompact {len(MENDED)}", *[f"mode LOG.recompact 0{NEW_MODE:o}"] * (NEW_MODE != 0o600), "sync LOG.recompact", "rename"]
+    trials.want("mend: what it does, in order", steps, ["sync LOG", "sync folder", *rewrite, "sync LOG", "sync folder"])
+    counts, chosen = {}, []
+    for call in calls:
+        name = call.split("(")[0]
+        counts[name] = counts.get(name, 0) + 1
+        chosen.append((name, counts[name], call.replace(f"{room}/mend", "ROOM")))
+    begin = next(i for i, call in enumerate(chosen) if call[0] != "execve" and "ROOM/LOG" in call[2])
+    # Where the look at an output's file fails, nothing is known of it.
+    runs = [(how, call) for how in WAYS for call in chosen[begin:] if (how == "kill" or call[0] not in NO_ERROR) and not re.search("ROOM/[ab]", call[2])]
+    found = pool.map(lambda one: mend_disturbed(program, f"{room}/mend{one[0]}", *one[1]), enumerate(runs))
+    for (how, call), wrong in zip(runs, found):
+        trials.check(f"mend: {how} at {call[2][:120]}", not wrong, "; ".join(wrong))
+    return len(chosen) - begin
+
+
 def try_folders(trials, program, room):
     """A folder that can't be synced: the command does its work, and says so once, if asked. Any other error of that sync is a failure."""
     for number, case in enumerate(CASES):
@@ -307,6 +362,7 @@ def trial(trials, program, room):
             count += sweep(trials, program, case, f"{room}/{number}", pool, word not in commands)
             commands.add(word)
         count += sweep_readers(trials, program, f"{room}/readers", pool)
+        count += sweep_mend(trials, program, f"{room}/mends", pool)
     try_folders(trials, program, f"{room}/folders")
     print(f"system_calls.py: {count} calls of {len(CASES) + len(READERS)} runs were disturbed, each in {len(WAYS)} ways")
     return None

@@ -7,8 +7,8 @@ Takes the machine's own Ninja and each FOLDER/*/ninja, with the version of the l
 What Ninja makes of a log is told by what it says of a build: `no work to do`, or why an output is to be made again; and by what
 `ninja -t recompact` keeps of the log.
 
-`recompact --manifest` and `restat --files` are run beside a copy of the build that Ninja itself recompacts or restats. The scripts of
-docs/DAMAGE.md are read from that page and run as they stand there. And what the pages say of Ninja is tried: what a build loses whose log is rewritten, and which time
+`recompact --manifest` and `restat --files` are run beside a copy of the build that Ninja itself recompacts or restats. `mend` is run on logs
+whose lines are lost, torn or joined. And what the pages say of Ninja is tried: what a build loses whose log is rewritten, and which time
 stamps it records.
 """
 import os
@@ -18,12 +18,9 @@ import shutil
 import sys
 import time
 
-from examples import read_page
 from log_format import HEADER, Log, as_version, line_of
 from log_lines import damage_of, distrusted_of, plain_of
 from trials import fill_up, main, read, run, write
-
-RECIPES = read_page("docs/DAMAGE.md")[0]
 
 MANIFEST = """rule copy
   command = cat $in > $out
@@ -52,6 +49,12 @@ LOG = ".ninja_log"
 UNKNOWN = b"ninja explain: command line not found in log for %s"
 OTHER = b"ninja explain: command line changed for %s"
 OLDER = b"ninja explain: recorded mtime of %s older than most recent input"
+
+
+def intent(line):
+    """The line of the intent over the entry of a line."""
+    start, end, mtime, name, value = line[:-1].split(b"\t")
+    return line_of(name, (int(end), int(end), 0, 2**64 - 1 - int(value, 16)))
 
 
 class Build:
@@ -92,14 +95,8 @@ class Build:
         return [] if self.version == 5 else ["--log-version", f"{self.version}"]
 
     def nlog(self, word, *words):
-        option = [] if word in ("damage", "doubt", "repair") else self.option()
+        option = [] if word in ("damage", "doubt", "mend", "repair") else self.option()
         return run([self.program, word, *option, *words], cwd=self.room)
-
-    def recipe(self, name, *words, folder=None):
-        """Runs a script of docs/DAMAGE.md, with the programs of this folder in place of others."""
-        write(f"{self.room}/../{name}", RECIPES[name])
-        path = ":".join(it for it in (folder, os.path.dirname(self.program), os.environ.get("PATH", os.defpath)) if it)
-        return run(["sh", f"../{name}", *words], cwd=self.room, env={**os.environ, "PATH": path})
 
     def prune(self, log=LOG):
         """Recompacts the log by what Ninja builds, as docs/RECIPES.md says."""
@@ -315,7 +312,7 @@ def try_other_command(trials, build):
 
 
 def try_lost_whole(trials, build):
-    """A, B, and B's line cut off whole: neither `damage` nor Ninja sees that it is lost. `doubt` does, and mend.sh has the output made again."""
+    """A, B, and B's line cut off whole: neither `damage` nor Ninja sees that it is lost. `doubt` does, and `mend` has the output made again."""
     build.later()
     build.describe("n2")
     build.ninja()
@@ -329,12 +326,15 @@ def try_lost_whole(trials, build):
     # Somebody has made the manifest by hand since.
     build.write_log(build.text() + line_of(b"build.ninja", (0, 1, 1, 1)))
     trials.want("a lost line: doubt of the manifest", build.nlog("doubt", LOG), (3, b"newer\tnote\nnewer\tbuild.ninja\n", b""))
-    trials.want("a lost line: mend.sh ends", build.recipe("mend.sh"), (0, b"", b""))
-    trials.want("a lost line: mend.sh removes the file", os.path.exists(f"{build.room}/note"), False)
-    trials.want("a lost line: mend.sh leaves the manifest", os.path.exists(f"{build.room}/build.ninja"), True)
+    others = {name: it for name, it in build.log().table.items() if name not in (b"note", b"build.ninja")}
+    trials.want("a lost line: mend", build.nlog("mend"), (3, b"newer\tnote\nnewer\tbuild.ninja\n", b""))
+    trials.want("a lost line: mend removes no file", [os.path.exists(f"{build.room}/{it}") for it in ("note", "build.ninja")], [True, True])
+    trials.want("a lost line: mend changes no other entry", {name: it for name, it in build.log().table.items() if name in others}, others)
+    trials.check("a lost line: Ninja makes the output again", OTHER % b"note" in build.why(), repr(build.why()))
     build.ninja()
     trials.want("a lost line: the output is that of A", read(f"{build.room}/note"), b"n1")
-    trials.want("a lost line: the doubt that is left", build.nlog("doubt", LOG), (3, b"newer\tbuild.ninja\n", b""))
+    trials.want("a lost line: the doubt that is left", build.nlog("doubt", LOG), (3, b"no-time\tbuild.ninja\n", b""))
+    trials.want("a lost line: to mend again", build.nlog("mend"), (0, b"", b""))
 
 
 def try_long_restat(trials, build):
@@ -376,7 +376,7 @@ def try_cut_anywhere(trials, build):
 
 
 def try_joined(trials, build):
-    """A, torn B, a line of Ninja's behind it: what `check` tells of it, and the script that has the output made again."""
+    """A, torn B, a line of Ninja's behind it: what `check` tells of it, and that `mend` has the output made again."""
     build.describe("n2")
     build.ninja()
     build.tear(b"note")
@@ -388,16 +388,16 @@ def try_joined(trials, build):
     others = {name: it for name, it in build.log().table.items() if name != b"note"}
     if build.version == 5:
         trials.want("a joined line: doubt", build.nlog("doubt", LOG), (3, b"newer\tnote\n", b""))
-    trials.want("forget.sh: ends", build.recipe("forget.sh"), (0, b"", b""))
-    trials.want("forget.sh: the entries that are left", build.log().table, others)
-    trials.check("forget.sh: Ninja makes the output again", UNKNOWN % b"note" in build.why(), repr(build.why()))
+    trials.want("a joined line: mend", build.nlog("mend"), (3, b"damaged\tnote\n", b""))
+    trials.want("a joined line: the other entries", {name: it for name, it in build.log().table.items() if name != b"note"}, others)
+    trials.check("a joined line: Ninja makes the output again", OTHER % b"note" in build.why(), repr(build.why()))
     build.ninja()
-    trials.want("forget.sh: and it is that of A", read(f"{build.room}/note"), b"n1")
+    trials.want("a joined line: it is that of A", read(f"{build.room}/note"), b"n1")
 
 
 def try_joined_in_hash(trials, build):
     """A, B torn in its hash, A again, and the line of another output behind the part. `damage` names both. Ninja takes the line for
-    an entry of the first, with another hash; a rewriting drops it, and A's entry counts. forget.sh doubts both."""
+    an entry of the first, with another hash; a rewriting drops it, and A's entry counts. `mend` doubts both."""
     for zeros in (b"", bytes(100)):
         what = f"torn in its hash, with {len(zeros)} zero bytes"
         build.describe("n2")
@@ -414,21 +414,21 @@ def try_joined_in_hash(trials, build):
         trials.check(f"{what}: repaired, Ninja lets it be", b"note" not in mirror.why(), repr(mirror.why()))
         trials.want(f"{what}: a stale file", read(f"{mirror.room}/note"), b"n2")
         others = {name: it for name, it in build.log().table.items() if name not in (b"note", b"a.o")}
-        trials.want(f"{what}: forget.sh ends", build.recipe("forget.sh"), (0, b"", b""))
-        trials.want(f"{what}: the entries that are left", build.log().table, others)
+        trials.want(f"{what}: mend", build.nlog("mend"), (3, b"damaged\ta.o\ndamaged\tnote\n", b""))
+        trials.want(f"{what}: the other entries", {name: it for name, it in build.log().table.items() if name in others}, others)
         build.ninja()
         trials.want(f"{what}: the output is that of A", read(f"{build.room}/note"), b"n1")
 
 
 def try_zeros(trials, build):
-    """A, B torn in its hash, and zero bytes in place of the rest: `damage` names the output in its last column, and forget.sh drops its entry."""
+    """A, B torn in its hash, and zero bytes in place of the rest: `damage` names the output in its last column, and `mend` has it made again."""
     build.describe("n2")
     build.ninja()
     build.cut_hash(b"note", bytes(5000))
     build.describe("n1")
     trials.check("zeros: damage names the output", build.nlog("damage", LOG)[1].endswith(b"\t-\tnote\n"))
     trials.check("zeros: Ninja finds nothing to do", build.is_idle(), repr(build.why()))
-    trials.want("zeros: forget.sh ends", build.recipe("forget.sh"), (0, b"", b""))
+    trials.want("zeros: mend", build.nlog("mend"), (3, b"damaged\tnote\n", b""))
     build.ninja()
     trials.want("zeros: the output is that of A", read(f"{build.room}/note"), b"n1")
 
@@ -469,10 +469,11 @@ def try_plain_reading(trials, build):
 
 
 def try_joined_anywhere(trials, build):
-    """A line that is torn at each of its bytes, with each of these behind it: where the two are no entry, forget.sh drops the last name, and
-    that of the part where its end can be told."""
+    """A line that is torn at each of its bytes, with each of these behind it: where the two are no entry, `mend` has the last name made again, and
+    that of the part where its end can be told. `out/x` has no file, and that of `a.o` is newer than its entry."""
     kept, was = line_of(b"a.o", (0, 1, 2, 3)), line_of(b"out/x", (0, 9, 1_700_000_000_000_000_000, 0xA2))
-    first = HEADER + kept + was + line_of(b"note", (0, 9, 1_700_000_000_000_000_000, 0xA1))
+    note = line_of(b"note", (0, 9, 1_700_000_000_000_000_000, 0xA1))
+    first = HEADER + kept + was + note
     behind = [line_of(b"note", (it, 3_000_000, 1_700_000_000_000_000_002, 0xC3)) for it in (0, 5, 1234567)]
     for start in (0, 7, 1234567):
         torn = line_of(b"out/x", (start, 2_000_000, 1_700_000_000_000_000_001, 0xB2))
@@ -484,17 +485,18 @@ def try_joined_anywhere(trials, build):
                     continue
                 is_told = torn[:cut].count(b"\t") == 4 or b"\0" in rest and torn[:cut].endswith(b"out/x")
                 build.write_log(text)
-                build.recipe("forget.sh")
-                trials.want(f"forget.sh on {text!r}", build.text(), HEADER + kept + (b"" if is_told else was))
+                build.nlog("mend")
+                left = intent(kept) + (intent(was) if is_told else was) + intent(note)
+                trials.want(f"mend of {text!r}", build.text(), HEADER + left)
 
 
 def try_joined_thrice(trials, build):
-    """Two torn lines in one, and the line behind them: forget.sh drops all three."""
+    """Two torn lines in one, and the line behind them: `mend` has all three made again."""
     names = [b"a.o", b"b.o", b"app", b"note"]
     lines = [line_of(it, (0, 5, 1_700_000_000_000_000_001, 0xABCDEF)) for it in names]
     build.write_log(HEADER + b"".join(lines) + lines[1][:-3] + lines[2][:-4] + lines[3])
-    trials.want("three lines in one: forget.sh ends", build.recipe("forget.sh"), (0, b"", b""))
-    trials.want("three lines in one: what is left", build.text(), HEADER + lines[0])
+    trials.want("three lines in one: mend", build.nlog("mend"), (3, b"newer\ta.o\ndamaged\tb.o\ndamaged\tapp\ndamaged\tnote\n", b""))
+    trials.want("three lines in one: what is left", build.text(), HEADER + b"".join(map(intent, lines)))
 
 
 def try_settling_at_damage(trials, build):
@@ -510,14 +512,14 @@ def try_settling_at_damage(trials, build):
 
 
 def try_names_like_options(trials, build):
-    """The words and the scripts on a log whose name begins with `-` do what they do on another."""
+    """The words on a log whose name begins with `-` do what they do on another."""
     whole = build.text()
-    words = {"recompact --manifest": build.prune, "restat --files": build.retime}
-    for name, text in (*((it, whole) for it in words), ("forget.sh", whole[:-3]), ("mend.sh", whole[:-3])):
+    words = {"recompact --manifest": build.prune, "restat --files": build.retime, "mend": lambda log: build.nlog("mend", "--", log)}
+    for name, text in (("recompact --manifest", whole), ("restat --files", whole), ("mend", whole + whole.split(b"\n")[1][:-3])):
         left = []
         for log in ("its.log", "-its.log", "it=s.log"):
             write(f"{build.room}/{log}", as_version(text, build.version))
-            trials.want(f"{name} of {log} ends", words[name](log) if name in words else build.recipe(name, log), (0, b"", b""))
+            trials.want(f"{name} of {log} ends", words[name](log)[::2], (3 if name == "mend" else 0, b""))
             left.append(read(f"{build.room}/{log}"))
         trials.want(f"{name}: what is left of a log whose name begins with `-`, or has a `=`", left[1:], left[:1] * 2)
 

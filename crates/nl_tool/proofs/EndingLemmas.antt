@@ -13,7 +13,7 @@ use Rattle.nl_tool_words.specs.declared.form.Form.{Form}
 use Rattle.nl_tool_words.specs.declared.form.Form.TheVariants.{Plain, Manifest, Files}
 use Rattle.nl_tool_words.specs.declared.command_line.Words.{Words}
 use Rattle.nl_tool_words.specs.declared.command_line.Words.TheVariants.{Show, Check, Hash, Entries, Damage, Doubt, Builds, Summary, Compare, Trace, Picture, HashFile, Record, Recompact, Restat}
-use Rattle.nl_tool_words.specs.declared.command_line.Words.TheVariants.{Repair, Replay, Apply, Prune, Retime}
+use Rattle.nl_tool_words.specs.declared.command_line.Words.TheVariants.{Mend, Repair, Replay, Apply, Prune, Retime}
 
 pub IsStatusBy_kind : (kinds : Kinds) (form : Form) (entered : Option (Text × List Row)) (e : Error) (status : ℕ) → HasKind kinds e
     → IsStatusOfKind (kind_of e) status → IsStatusBy kinds form entered status
@@ -22,12 +22,14 @@ IsStatusBy_kind [] form entered e status (inr among) s = absurd among
 IsStatusBy_kind (k ∷ ks) form entered e status (inl memory) s = inl (subst (λ k. IsStatusOfKind k status) memory s)
 IsStatusBy_kind (k ∷ ks) form entered e status (inr among) s = inr (kind_of e, among, s)
 
--- only the words of `damage` and `doubt` ask for what they find
+-- only the words of `damage`, `doubt` and `mend` ask for what they find
 names_finding : (w : Words) (entered : Option (Text × List Row)) → IsSaid w entered → CanFind w → NamesFinding Plain entered
 names_finding (Damage log) None said asks = said
 names_finding (Damage log) (Some p) said asks = inl said.0
 names_finding (Doubt log) None said asks = said
-names_finding (Doubt log) (Some p) said asks = inr said.0
+names_finding (Doubt log) (Some p) said asks = inr (inl said.0)
+names_finding (Mend log folder dry_run all) None said asks = said
+names_finding (Mend log folder dry_run all) (Some p) said asks = inr (inr said.0)
 names_finding (Show log) entered said asks = absurd asks
 names_finding (Check log) entered said asks = absurd asks
 names_finding (Hash command) entered said asks = absurd asks

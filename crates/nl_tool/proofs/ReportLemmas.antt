@@ -18,7 +18,7 @@ use Rattle.nl_tool_print.proofs.VersionLemmas.{prints_as}
 use Rattle.nl_tool_texts.specs.Faults.{of_load_fault}
 use Rattle.nl_tool_texts.specs.Output.{Prints}
 use Rattle.nl_tool_texts.specs.declared.fault.ToolFault.{ToolFault}
-use Rattle.nl_tool_texts.specs.declared.fault.ToolFault.TheVariants.{NotALog as NoLog, OtherVersion as Other, Read, Memory, Write, Folder, NegativeTime, BadNumber, EmptyName, BadByte, LongName, BadLine, OtherGraph}
+use Rattle.nl_tool_texts.specs.declared.fault.ToolFault.TheVariants.{NotALog as NoLog, OtherVersion as Other, Read, Memory, Write, Folder, NegativeTime, BadNumber, EmptyName, BadByte, LongName, BadLine, OtherGraph, Elsewhere}
 use Rattle.nl_reports.specs.Choice.{chosen_jobs}
 use Rattle.nl_reports.specs.Compare.{Log as Compared, are_comparable, compare_text}
 use Rattle.nl_versions.specs.declared.version.LogVersion.{LogVersion}
@@ -53,6 +53,7 @@ pieces_of IsText text is old new (Err (BadByte at)) w f = absurd f
 pieces_of IsText text is old new (Err LongName) w f = absurd f
 pieces_of IsText text is old new (Err (BadLine number)) w f = absurd f
 pieces_of IsText text is old new (Err OtherGraph) w f = absurd f
+pieces_of IsText text is old new (Err Elsewhere) w f = absurd f
 
 -- what is written of one kind is of another, where each text of the one is
 pieces_as : (P Q : List ℕ → Type 0) → ((text : List ℕ) → P text → Q text) → (old new : Option (List ℕ)) (r : Result (Unit {0}) ToolFault)
@@ -72,6 +73,7 @@ pieces_as P Q is old new (Err (BadByte at)) w = w
 pieces_as P Q is old new (Err LongName) w = w
 pieces_as P Q is old new (Err (BadLine number)) w = w
 pieces_as P Q is old new (Err OtherGraph) w = w
+pieces_as P Q is old new (Err Elsewhere) w = w
 
 laid_as : (columns : Bool) (P Q : List ℕ → Type 0) → ((text : List ℕ) → P text → Q text) → (text : List ℕ) → IsLaidOut columns P text
     → IsLaidOut columns Q text
@@ -135,6 +137,7 @@ as_log (BadByte at) h = absurd h
 as_log LongName h = absurd h
 as_log (BadLine number) h = absurd h
 as_log OtherGraph h = absurd h
+as_log Elsewhere h = absurd h
 
 pub as_log_by : {A : Type 0} (r : Result A ToolFault) → IfErr r IsWriteFault → IfErr r IsLogFault
 as_log_by (Ok x) h = tt

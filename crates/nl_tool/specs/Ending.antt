@@ -19,10 +19,10 @@ status_after (Err fault) = 1
 abbrev pub IsDoneOrRefused : ℕ → Type 0
 IsDoneOrRefused status = (status ≡ 0) ⊎ (status ≡ 1)
 
--- the subcommand that was entered is `damage` or `doubt`, or `recompact` or `restat` with the option by which it looks for damage
+-- the subcommand that was entered is `damage`, `doubt` or `mend`, or `recompact` or `restat` with the option by which it looks for damage
 abbrev pub NamesFinding : Form → Option (Text × List Row) → Type 0
 NamesFinding Plain None = ⊥
-NamesFinding Plain (Some p) = (p.0 ≡ codes "damage") ⊎ (p.0 ≡ codes "doubt")
+NamesFinding Plain (Some p) = (p.0 ≡ codes "damage") ⊎ ((p.0 ≡ codes "doubt") ⊎ (p.0 ≡ codes "mend"))
 NamesFinding Manifest entered = ⊤
 NamesFinding Files entered = ⊤
 

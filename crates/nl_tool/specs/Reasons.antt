@@ -13,7 +13,7 @@ use Rattle.nl_tool_texts.specs.declared.fault.ToolFault.{ToolFault}
 use Rattle.nl_tool_texts.specs.declared.fault.ToolFault.TheVariants as fault
 use Rattle.nl_tool_words.specs.declared.command_line.Words.{Words}
 use Rattle.nl_tool_words.specs.declared.command_line.Words.TheVariants.{Show, Check, Hash, Entries, Damage, Doubt, Builds, Summary, Compare, Trace, Picture, HashFile, Record, Recompact, Restat}
-use Rattle.nl_tool_words.specs.declared.command_line.Words.TheVariants.{Repair, Replay, Apply, Prune, Retime}
+use Rattle.nl_tool_words.specs.declared.command_line.Words.TheVariants.{Mend, Repair, Replay, Apply, Prune, Retime}
 use Rattle.nl_versions.specs.Version.{is_version_read}
 use Rattle.nl_tool.specs.declared.reason.Place.{Place}
 use Rattle.nl_tool.specs.declared.reason.Place.TheVariants as at
@@ -35,6 +35,12 @@ abbrev pub place_text : Place → List ℕ
 place_text (at.Log path) = codes "LOG " ++ path.now
 place_text (at.Scratch log) = codes "scratch " ++ (log.now ++ codes ".recompact")
 place_text (at.Folder log) = codes "folder " ++ folder_path_of log.now
+place_text (at.OfBuild None file.Log) = codes "LOG .ninja_log"
+place_text (at.OfBuild None file.Scratch) = codes "scratch .ninja_log.recompact"
+place_text (at.OfBuild None file.Folder) = codes "folder ."
+place_text (at.OfBuild (Some folder) file.Log) = codes "LOG " ++ (folder.now ++ codes "/.ninja_log")
+place_text (at.OfBuild (Some folder) file.Scratch) = codes "scratch " ++ (folder.now ++ codes "/.ninja_log.recompact")
+place_text (at.OfBuild (Some folder) file.Folder) = codes "folder " ++ folder.now
 place_text (at.Keep path) = codes "KEEP " ++ path.now
 place_text (at.Times path) = codes "TIMES " ++ path.now
 place_text (at.Script path) = codes "SCRIPT " ++ path.now
@@ -91,6 +97,17 @@ again_text place = place_text place ++ codes ": it was written anew, so builds w
 
 -- ---- of which file it is
 
+-- a file of the log at a path
+abbrev pub file_place : Bor (List ℕ) → FileRole → Place
+file_place log file.Log = at.Log log
+file_place log file.Scratch = at.Scratch log
+file_place log file.Folder = at.Folder log
+
+-- a file of the log that is mended: the one that is named, or else that of the build in the folder
+abbrev pub mended_place : Option (Bor (List ℕ)) → Option (Bor (List ℕ)) → FileRole → Place
+mended_place (Some log) folder role = file_place log role
+mended_place None folder role = at.OfBuild folder role
+
 -- the file that the words have read or looked for, or standard input
 abbrev pub given_or_input : (Bor (List ℕ) → Place) → Option (Bor (List ℕ)) → Place
 given_or_input place None = at.Input
@@ -115,14 +132,9 @@ read_place (Restat log times) = Some (at.Times times)
 read_place (Hash command) = None
 read_place (Record log start end mtime name command) = None
 read_place (Repair log) = Some (at.Log log)
+read_place (Mend log folder dry_run all) = Some (mended_place log folder file.Log)
 read_place (Prune log manifest) = Some (given_or_input at.Command manifest)
 read_place (Retime log) = Some (at.Log log)
-
--- a file of the log at a path
-abbrev pub file_place : Bor (List ℕ) → FileRole → Place
-file_place log file.Log = at.Log log
-file_place log file.Scratch = at.Scratch log
-file_place log file.Folder = at.Folder log
 
 -- a file of the log that the words change, or what they read a log from
 abbrev pub log_place : Words → FileRole → Option Place
@@ -130,6 +142,7 @@ log_place (Record log start end mtime name command) file = Some (file_place log 
 log_place (Recompact log keep) file = Some (file_place log file)
 log_place (Restat log times) file = Some (file_place log file)
 log_place (Repair log) file = Some (file_place log file)
+log_place (Mend log folder dry_run all) file = Some (mended_place log folder file)
 log_place (Prune log manifest) file = Some (file_place log file)
 log_place (Retime log) file = Some (file_place log file)
 log_place (Apply log script) file = Some (file_place log file)
@@ -273,6 +286,7 @@ IsReasonFor words (fault.BadByte place) failed bytes why = (why.place ≡ at.Nam
 IsReasonFor words fault.LongName failed bytes why = IsLongNameOf words why
 IsReasonFor words fault.Memory failed bytes why = ⊥
 IsReasonFor words fault.OtherGraph failed bytes why = ⊥
+IsReasonFor words fault.Elsewhere failed bytes why = ⊥
 
 -- it is said only of a log that was missing
 abbrev pub IsNoteFor : Words → Bool → Missing → Type 0

@@ -9,6 +9,7 @@ mod ending;
 mod files;
 pub mod laws;
 mod looks;
+mod mending;
 mod notes;
 mod printing;
 mod program;

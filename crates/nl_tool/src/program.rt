@@ -5,6 +5,7 @@ ghost use Rattle.nl_tool.specs.Faults.{CanFind, CanBeDone, IsFaultOf};
 use crate::changing::{apply_in, recompact_in, record_in, repair_in, restat_in};
 use crate::comparing::compare_in;
 use crate::doubting::doubt_in;
+use crate::mending::mend_in;
 use crate::notes::Notes;
 use crate::printing::{Printing, Streaming, print_file, print_from, print_log, stream_log};
 use crate::reporting::{Report, report_in, summary_in};
@@ -14,6 +15,7 @@ use crate::version_choice::{number_of, or_auto, or_five};
 use crate::wrong::LineKind;
 use nl_os::SystemFile;
 use nl_table::NO_SECRET;
+use nl_tool_doubt::How;
 use nl_tool_texts::ToolFault;
 use nl_tool_words::{CommandLine, Words};
 use std::alloc::Global;
@@ -24,7 +26,7 @@ use std::rt::Runtime;
 #[derive(Clone, Copy, Debug, PartialEq, Eq, Drop)]
 pub enum Verdict {
     Done,
-    /// `damage` found some, or `doubt` an output; or `recompact --manifest` or `restat --files` damage.
+    /// `damage` found some, or `doubt` or `mend` an output; or `recompact --manifest` or `restat --files` damage.
     Found,
 }
 
@@ -121,6 +123,19 @@ where
             return prune_in(rt, alloc, asked_or_found, log, manifest, notes);
         }
         Words::Retime(log) => return retime_in(rt, alloc, asked_or_found, log, notes),
+        Words::Mend {
+            log,
+            folder,
+            dry_run,
+            all,
+        } => {
+            let how = How {
+                dry_run,
+                all,
+                at_terminal: notes.screen.output,
+            };
+            return mend_in(rt, alloc, log, folder, how, notes);
+        }
         Words::Repair(log) => { repair_in(rt, alloc, asked_or_found, log, missing_ok, notes) }
         Words::Apply { log, script } => apply_in(rt, alloc, asked_or_found, log, script, notes),
     };

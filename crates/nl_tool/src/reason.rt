@@ -5,7 +5,7 @@ ghost use Rattle.nl_os.specs.declared.failed_call.FileRole.{FileRole};
 ghost use Rattle.nl_tool_texts.specs.declared.fault.ToolFault.{ToolFault};
 ghost use Rattle.nl_tool.specs.declared.reason.Place.{Place};
 ghost use Rattle.nl_tool.specs.Looks.{look_of};
-ghost use Rattle.nl_tool.specs.Reasons.{IsBadNumberOf, IsBadOption, IsBadRule, IsByteAt, IsEarly, IsFirstBad, IsLongNameOf, IsLookAt, IsMasked, IsNegative, IsNoteFor, IsNumber, IsNumberFault, IsReasonFor, IsSystem, IsUnsynced, IsVersion, again_text, file_place, graph_file, heard_of, log_place, missing_text, place_text, read_place, reason_text, refusal_text, why_text, words_for, words_heard};
+ghost use Rattle.nl_tool.specs.Reasons.{IsBadNumberOf, IsBadOption, IsBadRule, IsByteAt, IsEarly, IsFirstBad, IsLongNameOf, IsLookAt, IsMasked, IsNegative, IsNoteFor, IsNumber, IsNumberFault, IsReasonFor, IsSystem, IsUnsynced, IsVersion, again_text, file_place, graph_file, heard_of, log_place, mended_place, missing_text, place_text, read_place, reason_text, refusal_text, why_text, words_for, words_heard};
 
 use crate::comparing::least_of;
 use crate::looks::{Look, escaped_of, look_of, start_of};
@@ -28,6 +28,8 @@ pub enum Place<'a> {
     Scratch(&'a str),
     /// The folder of the log at this path.
     Folder(&'a str),
+    /// A file of the log of the build in this folder, or in the one in which the program runs.
+    OfBuild(Option<&'a str>, FileRole),
     Keep(&'a str),
     Times(&'a str),
     Script(&'a str),
@@ -59,6 +61,14 @@ impl fmt::Display for Place<'_> {
                 let folder = folder_part(log);
                 write!(f, "folder {folder}")
             }
+            Place::OfBuild(None, FileRole::Log) => write!(f, "LOG .ninja_log"),
+            Place::OfBuild(None, FileRole::Scratch) => write!(f, "scratch .ninja_log.recompact"),
+            Place::OfBuild(None, FileRole::Folder) => write!(f, "folder ."),
+            Place::OfBuild(Some(folder), FileRole::Log) => write!(f, "LOG {folder}/.ninja_log"),
+            Place::OfBuild(Some(folder), FileRole::Scratch) => {
+                write!(f, "scratch {folder}/.ninja_log.recompact")
+            }
+            Place::OfBuild(Some(folder), FileRole::Folder) => write!(f, "folder {folder}"),
             Place::Keep(path) => write!(f, "KEEP {path}"),
             Place::Times(path) => write!(f, "TIMES {path}"),
             Place::Script(path) => write!(f, "SCRIPT {path}"),
@@ -382,7 +392,7 @@ fn why_of<'a>(alloc: Global, words: &Words<'a>, fault: ToolFault, notes: &Notes)
         ToolFault::EmptyName => Some(of_name(Reason::NoBytes)),
         ToolFault::BadByte(at) => bad_byte(words, at),
         ToolFault::LongName => long_name(words),
-        ToolFault::Memory | ToolFault::OtherGraph => None,
+        ToolFault::Memory | ToolFault::OtherGraph | ToolFault::Elsewhere => None,
     }
 }
 
@@ -686,6 +696,7 @@ fn read_place<'a>(words: &Words<'a>) -> Option<Place<'a>>
             script: None,
         } => Some(Place::Input),
         Words::Repair(log) | Words::Retime(log) => Some(Place::Log(log)),
+        Words::Mend { log, folder, .. } => Some(mended_place(log, folder, FileRole::Log)),
         Words::Hash(_) | Words::Record { .. } | Words::Compare { .. } => None,
     }
 }
@@ -702,6 +713,7 @@ fn log_place<'a>(words: &Words<'a>, file: FileRole) -> Option<Place<'a>>
         | Words::Retime(log)
         | Words::Repair(log)
         | Words::Apply { log, script: _ } => Some(file_place(log, file)),
+        Words::Mend { log, folder, .. } => Some(mended_place(log, folder, file)),
         Words::Show(_)
         | Words::Check(_)
         | Words::Entries(_)
@@ -712,6 +724,16 @@ fn log_place<'a>(words: &Words<'a>, file: FileRole) -> Option<Place<'a>>
         | Words::Picture(_)
         | Words::Summary { .. } => read_place(words),
         Words::Hash(_) | Words::HashFile(_) | Words::Replay(_) | Words::Compare { .. } => None,
+    }
+}
+
+// A file of the log that is mended: the one that is named, or else that of the build in the folder.
+fn mended_place<'a>(log: Option<&'a str>, folder: Option<&'a str>, file: FileRole) -> Place<'a>
+    ensures { result ≡ mended_place log.entry folder.entry file }
+{
+    match log {
+        Some(log) => file_place(log, file),
+        None => Place::OfBuild(folder, file),
     }
 }
 

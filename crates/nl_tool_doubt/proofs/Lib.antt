@@ -3,3 +3,4 @@ pub mod OrderLemmas
 pub mod LineLemmas
 pub mod LawLemmas
 pub mod TableLemmas
+pub mod MendLemmas

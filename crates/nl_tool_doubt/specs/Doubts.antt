@@ -9,7 +9,7 @@ use Rattle.nl_versions.specs.VersionOf.{as_five, lines_version}
 use Rattle.nl_distrust.specs.Distrusted.{distrusted_in}
 use Rattle.nl_builds.specs.Stamps.{stamps_of}
 use Rattle.nl_builds.specs.declared.stamps.Stamps.{Stamps}
-use Rattle.nl_tool_doubt.specs.Judging.{doubt_of, is_written, was_moved}
+use Rattle.nl_tool_doubt.specs.Judging.{doubt_of, is_present, is_written, was_moved}
 use Rattle.nl_tool_doubt.specs.Moments.{lines_that_tell}
 use Rattle.nl_tool_doubt.specs.declared.files.FileState.{FileState}
 use Rattle.nl_tool_doubt.specs.declared.files.Looked.{Looked}
@@ -26,6 +26,10 @@ is_file l = is_written l.file
 
 abbrev pub is_moved : Looked → Bool
 is_moved l = was_moved l.file
+
+-- one whose file isn't missing
+abbrev pub is_there : Looked → Bool
+is_there l = is_present l.file
 
 -- more than half of the files are such: the tree was copied, restored, or given to another user
 abbrev pub is_copied : List Looked → Bool
@@ -64,6 +68,7 @@ pub record AreDoubts (damaged : List Entry) (stamps : Stamps) (lines entries : L
   pub looks : AreLooked entries states looked
   pub named : doubts.named.items ≡ named damaged stamps (lines_that_tell stamps lines) looked
   pub outputs : doubts.outputs ≡ length looked
+  pub there : doubts.there ≡ count_by is_there looked
   pub copied : doubts.copied ≡ is_copied looked
 
 -- those on a log

@@ -63,6 +63,11 @@ doubt_of counts stamps ls e Directory = Some Folder
 doubt_of counts stamps ls e Unseen = Some Untold
 doubt_of counts stamps ls e (Written t) = doubt_by stamps ls e t.written (last_of counts stamps t)
 
+-- it isn't missing
+abbrev pub is_present : FileState → Bool
+is_present Missing = false
+is_present state = true
+
 -- it is a file, and one that was changed more than a second behind the time at which it was written
 abbrev pub is_written : FileState → Bool
 is_written (Written t) = true

@@ -4,3 +4,4 @@ pub mod Spans
 pub mod Known
 pub mod Doubts
 pub mod There
+pub mod Mending

@@ -8,7 +8,7 @@ ghost use Rattle.nl_table.specs.declared.loader.LoadFault.{LoadFault};
 ghost use Rattle.nl_versions.specs.VersionOf.{as_five};
 ghost use Rattle.nl_tool_texts.specs.Output.{AppendsPrefixOf};
 ghost use Rattle.nl_tool_texts.specs.declared.fault.ToolFault.{ToolFault};
-ghost use Rattle.nl_tool_doubt.specs.Doubts.{AreDoubts, IsDoubts, damaged_in, doubt_line, doubted, is_copied, is_file, is_moved, named_by, undamaged, why, word_of};
+ghost use Rattle.nl_tool_doubt.specs.Doubts.{AreDoubts, IsDoubts, damaged_in, doubt_line, doubted, is_copied, is_file, is_moved, is_there, named_by, undamaged, why, word_of};
 
 use crate::files::{Looked, OutputFiles, look_all};
 use crate::judge::{Doubt, doubt_of};
@@ -37,6 +37,8 @@ pub struct Doubts {
     pub named: Vec<Doubted>,
     /// How many outputs the log has.
     pub outputs: usize,
+    /// Of how many of them the file isn't missing.
+    pub there: usize,
     /// Whether the files were copied, restored or given to another user: their change times didn't count.
     pub copied: bool,
 }
@@ -118,6 +120,7 @@ fn name_all<F: OutputFiles>(
     Ok(Doubts {
         named,
         outputs: looked.len(),
+        there: there_in(looked.as_slice()),
         copied,
     })
 }
@@ -157,6 +160,12 @@ fn moved_in(looked: &[Looked]) -> usize
     ensures value { result ≡ count_by is_moved looked.now }
 {
     looked.iter().filter(|it| it.file.was_moved()).count()
+}
+
+fn there_in(looked: &[Looked]) -> usize
+    ensures value { result ≡ count_by is_there looked.now }
+{
+    looked.iter().filter(|it| it.file.is_there()).count()
 }
 
 // Names an output, if there is a doubt on it, or damage is about it.

@@ -1,7 +1,7 @@
 //! What is said of the files of outputs.
 ghost use Rattle.std.specs.Prelude.{◌≡◌, ℕ, List, Option, IfOk, IfSome};
 ghost use Rattle.nl_tool_doubt.specs.Doubts.{AreLooked};
-ghost use Rattle.nl_tool_doubt.specs.Judging.{is_written, was_moved};
+ghost use Rattle.nl_tool_doubt.specs.Judging.{is_present, is_written, was_moved};
 ghost use Rattle.nl_tool_doubt.specs.declared.files.FileState.{FileState};
 
 use nl_fields::EntryRef;
@@ -21,6 +21,13 @@ pub enum FileState {
 }
 
 impl FileState {
+    /// Whether it isn't known to be missing.
+    pub fn is_there(self) -> bool
+        ensures { result ≡ is_present self }
+    {
+        !matches!(self, FileState::Missing)
+    }
+
     /// Whether it is a file.
     pub fn is_written(self) -> bool
         ensures { result ≡ is_written self }

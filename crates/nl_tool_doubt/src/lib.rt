@@ -1,10 +1,11 @@
-//! Which outputs of a log their files speak against, over any files and writer.
+//! Which outputs of a log their files speak against, and the mend of the log, over any files, folder and writer.
 #![tactic(auto)]
 
 mod doubts;
 mod files;
 mod judge;
 pub mod laws;
+mod mending;
 mod moments;
 mod spans;
 mod there;
@@ -12,4 +13,5 @@ mod there;
 pub use doubts::{Doubted, Doubts, doubts_of, untrusted_of, write_doubts};
 pub use files::{FileState, FileTimes, Looked, OutputFiles};
 pub use judge::Doubt;
+pub use mending::{How, Mended, mend_to};
 pub use there::{add_names_there, times_there};

@@ -17,7 +17,7 @@ use Rattle.nl_versions.specs.declared.version.LogVersion.TheVariants.{Five}
 use Rattle.nl_versions.proofs.LogAsLemmas.{log_five, text_five}
 use Rattle.nl_tool_texts.specs.Output.{AppendsPrefixOf, Prints}
 use Rattle.nl_tool_texts.specs.declared.fault.ToolFault.{ToolFault}
-use Rattle.nl_tool_texts.specs.declared.fault.ToolFault.TheVariants.{NotALog as NoLog, OtherVersion as Other, Read, Memory, Write, Folder, NegativeTime, BadNumber, EmptyName, BadByte, LongName, BadLine, OtherGraph}
+use Rattle.nl_tool_texts.specs.declared.fault.ToolFault.TheVariants.{NotALog as NoLog, OtherVersion as Other, Read, Memory, Write, Folder, NegativeTime, BadNumber, EmptyName, BadByte, LongName, BadLine, OtherGraph, Elsewhere}
 use Rattle.nl_tool_print.specs.Output.{IsHashText, IsTextAsRead, check_text_of, checked_of, report, show_text, show_text_of}
 use Rattle.nl_tool_print.specs.Versions.{IsReportFor, checked_by, hash_text_as, show_text_for}
 
@@ -71,6 +71,7 @@ prints_as P Q is old new (Err (BadByte at)) printed = printed
 prints_as P Q is old new (Err LongName) printed = printed
 prints_as P Q is old new (Err (BadLine number)) printed = printed
 prints_as P Q is old new (Err OtherGraph) printed = printed
+prints_as P Q is old new (Err Elsewhere) printed = printed
 
 -- ---- where 5 is asked for
 

@@ -31,6 +31,8 @@ pub enum ToolFault {
     BadLine(u64),
     /// A graph has no command of the builds that are told of.
     OtherGraph,
+    /// A log has entries, and none of its outputs has a file.
+    Elsewhere,
 }
 
 impl fmt::Display for ToolFault {
@@ -51,6 +53,10 @@ impl fmt::Display for ToolFault {
             ToolFault::LongName => write!(f, "name too long"),
             ToolFault::BadLine(number) => write!(f, "bad line {number}"),
             ToolFault::OtherGraph => write!(f, "not the graph of this build"),
+            ToolFault::Elsewhere => write!(
+                f,
+                "no output of LOG is here\nnlog: run it in the folder of the build, or name that by -C"
+            ),
         }
     }
 }

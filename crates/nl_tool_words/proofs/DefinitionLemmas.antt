@@ -70,7 +70,7 @@ entered_whole Named required a (Some p) own e =
 
 built_own : AllOwn IsCommandName required_of (built nlog).subs
 unfolding clap_on_literals
-built_own = (record { named = inl refl; plain = refl; negates = refl; needs = λ rows h. refl }, (record { named = inr (inl refl); plain = refl; negates = refl; needs = λ rows h. refl }, (record { named = inr (inr (inl refl)); plain = refl; negates = refl; needs = λ rows h. h }, (record { named = inr (inr (inr (inl refl))); plain = refl; negates = refl; needs = λ rows h. refl }, (record { named = inr (inr (inr (inr (inl refl)))); plain = refl; negates = refl; needs = λ rows h. refl }, (record { named = inr (inr (inr (inr (inr (inl refl))))); plain = refl; negates = refl; needs = λ rows h. refl }, (record { named = inr (inr (inr (inr (inr (inr (inl refl)))))); plain = refl; negates = refl; needs = λ rows h. refl }, (record { named = inr (inr (inr (inr (inr (inr (inr (inl refl))))))); plain = refl; negates = refl; needs = λ rows h. refl }, (record { named = inr (inr (inr (inr (inr (inr (inr (inr (inl refl)))))))); plain = refl; negates = refl; needs = λ rows h. h }, (record { named = inr (inr (inr (inr (inr (inr (inr (inr (inr (inl refl))))))))); plain = refl; negates = refl; needs = λ rows h. refl }, (record { named = inr (inr (inr (inr (inr (inr (inr (inr (inr (inr (inl refl)))))))))); plain = refl; negates = refl; needs = λ rows h. refl }, (record { named = inr (inr (inr (inr (inr (inr (inr (inr (inr (inr (inr (inl refl))))))))))); plain = refl; negates = refl; needs = λ rows h. refl }, (record { named = inr (inr (inr (inr (inr (inr (inr (inr (inr (inr (inr (inr (inl refl)))))))))))); plain = refl; negates = refl; needs = λ rows h. h }, (record { named = inr (inr (inr (inr (inr (inr (inr (inr (inr (inr (inr (inr (inr (inl refl))))))))))))); plain = refl; negates = refl; needs = λ rows h. h }, (record { named = inr (inr (inr (inr (inr (inr (inr (inr (inr (inr (inr (inr (inr (inr (inl refl)))))))))))))); plain = refl; negates = refl; needs = λ rows h. h }, (record { named = inr (inr (inr (inr (inr (inr (inr (inr (inr (inr (inr (inr (inr (inr (inr (inl refl))))))))))))))); plain = refl; negates = refl; needs = λ rows h. h }, (record { named = inr (inr (inr (inr (inr (inr (inr (inr (inr (inr (inr (inr (inr (inr (inr (inr (inl refl)))))))))))))))); plain = refl; negates = refl; needs = λ rows h. refl }, (record { named = inr (inr (inr (inr (inr (inr (inr (inr (inr (inr (inr (inr (inr (inr (inr (inr (inr refl)))))))))))))))); plain = refl; negates = refl; needs = λ rows h. h }, tt))))))))))))))))))
+built_own = (record { named = inl refl; plain = refl; negates = refl; needs = λ rows h. refl }, (record { named = inr (inl refl); plain = refl; negates = refl; needs = λ rows h. refl }, (record { named = inr (inr (inl refl)); plain = refl; negates = refl; needs = λ rows h. h }, (record { named = inr (inr (inr (inl refl))); plain = refl; negates = refl; needs = λ rows h. refl }, (record { named = inr (inr (inr (inr (inl refl)))); plain = refl; negates = refl; needs = λ rows h. refl }, (record { named = inr (inr (inr (inr (inr (inl refl))))); plain = refl; negates = refl; needs = λ rows h. refl }, (record { named = inr (inr (inr (inr (inr (inr (inl refl)))))); plain = refl; negates = refl; needs = λ rows h. refl }, (record { named = inr (inr (inr (inr (inr (inr (inr (inl refl))))))); plain = refl; negates = refl; needs = λ rows h. refl }, (record { named = inr (inr (inr (inr (inr (inr (inr (inr (inl refl)))))))); plain = refl; negates = refl; needs = λ rows h. h }, (record { named = inr (inr (inr (inr (inr (inr (inr (inr (inr (inl refl))))))))); plain = refl; negates = refl; needs = λ rows h. refl }, (record { named = inr (inr (inr (inr (inr (inr (inr (inr (inr (inr (inl refl)))))))))); plain = refl; negates = refl; needs = λ rows h. refl }, (record { named = inr (inr (inr (inr (inr (inr (inr (inr (inr (inr (inr (inl refl))))))))))); plain = refl; negates = refl; needs = λ rows h. refl }, (record { named = inr (inr (inr (inr (inr (inr (inr (inr (inr (inr (inr (inr (inr (inr (inr (inr (inr (inr refl))))))))))))))))); plain = refl; negates = refl; needs = λ rows h. refl }, (record { named = inr (inr (inr (inr (inr (inr (inr (inr (inr (inr (inr (inr (inl refl)))))))))))); plain = refl; negates = refl; needs = λ rows h. h }, (record { named = inr (inr (inr (inr (inr (inr (inr (inr (inr (inr (inr (inr (inr (inl refl))))))))))))); plain = refl; negates = refl; needs = λ rows h. h }, (record { named = inr (inr (inr (inr (inr (inr (inr (inr (inr (inr (inr (inr (inr (inr (inl refl)))))))))))))); plain = refl; negates = refl; needs = λ rows h. h }, (record { named = inr (inr (inr (inr (inr (inr (inr (inr (inr (inr (inr (inr (inr (inr (inr (inl refl))))))))))))))); plain = refl; negates = refl; needs = λ rows h. h }, (record { named = inr (inr (inr (inr (inr (inr (inr (inr (inr (inr (inr (inr (inr (inr (inr (inr (inl refl)))))))))))))))); plain = refl; negates = refl; needs = λ rows h. refl }, (record { named = inr (inr (inr (inr (inr (inr (inr (inr (inr (inr (inr (inr (inr (inr (inr (inr (inr (inl refl))))))))))))))))); plain = refl; negates = refl; needs = λ rows h. h }, tt)))))))))))))))))))
 
 -- a command that was entered without a fault is one of those of the program, and has what it requires
 app_whole : (Named : Text → Type 0) (required : Text → List Text) (a : App) (words : List Text) → AllOwn Named required (built a).subs
@@ -117,25 +117,27 @@ pub only_show : (name : Text) → IsCommandName name
     → (name ≡ codes "repair" → ⊥)
     → (name ≡ codes "replay" → ⊥)
     → (name ≡ codes "apply" → ⊥)
+    → (name ≡ codes "mend" → ⊥)
     → name ≡ codes "show"
-only_show name (inl h) a b c d e f k m n v u o p q r s t = h
-only_show name (inr (inl h)) a b c d e f k m n v u o p q r s t = absurd (a h)
-only_show name (inr (inr (inl h))) a b c d e f k m n v u o p q r s t = absurd (b h)
-only_show name (inr (inr (inr (inl h)))) a b c d e f k m n v u o p q r s t = absurd (c h)
-only_show name (inr (inr (inr (inr (inl h))))) a b c d e f k m n v u o p q r s t = absurd (d h)
-only_show name (inr (inr (inr (inr (inr (inl h)))))) a b c d e f k m n v u o p q r s t = absurd (e h)
-only_show name (inr (inr (inr (inr (inr (inr (inl h))))))) a b c d e f k m n v u o p q r s t = absurd (f h)
-only_show name (inr (inr (inr (inr (inr (inr (inr (inl h)))))))) a b c d e f k m n v u o p q r s t = absurd (k h)
-only_show name (inr (inr (inr (inr (inr (inr (inr (inr (inl h))))))))) a b c d e f k m n v u o p q r s t = absurd (m h)
-only_show name (inr (inr (inr (inr (inr (inr (inr (inr (inr (inl h)))))))))) a b c d e f k m n v u o p q r s t = absurd (n h)
-only_show name (inr (inr (inr (inr (inr (inr (inr (inr (inr (inr (inl h))))))))))) a b c d e f k m n v u o p q r s t = absurd (v h)
-only_show name (inr (inr (inr (inr (inr (inr (inr (inr (inr (inr (inr (inl h)))))))))))) a b c d e f k m n v u o p q r s t = absurd (u h)
-only_show name (inr (inr (inr (inr (inr (inr (inr (inr (inr (inr (inr (inr (inl h))))))))))))) a b c d e f k m n v u o p q r s t = absurd (o h)
-only_show name (inr (inr (inr (inr (inr (inr (inr (inr (inr (inr (inr (inr (inr (inl h)))))))))))))) a b c d e f k m n v u o p q r s t = absurd (p h)
-only_show name (inr (inr (inr (inr (inr (inr (inr (inr (inr (inr (inr (inr (inr (inr (inl h))))))))))))))) a b c d e f k m n v u o p q r s t = absurd (q h)
-only_show name (inr (inr (inr (inr (inr (inr (inr (inr (inr (inr (inr (inr (inr (inr (inr (inl h)))))))))))))))) a b c d e f k m n v u o p q r s t = absurd (r h)
-only_show name (inr (inr (inr (inr (inr (inr (inr (inr (inr (inr (inr (inr (inr (inr (inr (inr (inl h))))))))))))))))) a b c d e f k m n v u o p q r s t = absurd (s h)
-only_show name (inr (inr (inr (inr (inr (inr (inr (inr (inr (inr (inr (inr (inr (inr (inr (inr (inr h))))))))))))))))) a b c d e f k m n v u o p q r s t = absurd (t h)
+only_show name (inl h) a b c d e f k m n v u o p q r s t w = h
+only_show name (inr (inl h)) a b c d e f k m n v u o p q r s t w = absurd (a h)
+only_show name (inr (inr (inl h))) a b c d e f k m n v u o p q r s t w = absurd (b h)
+only_show name (inr (inr (inr (inl h)))) a b c d e f k m n v u o p q r s t w = absurd (c h)
+only_show name (inr (inr (inr (inr (inl h))))) a b c d e f k m n v u o p q r s t w = absurd (d h)
+only_show name (inr (inr (inr (inr (inr (inl h)))))) a b c d e f k m n v u o p q r s t w = absurd (e h)
+only_show name (inr (inr (inr (inr (inr (inr (inl h))))))) a b c d e f k m n v u o p q r s t w = absurd (f h)
+only_show name (inr (inr (inr (inr (inr (inr (inr (inl h)))))))) a b c d e f k m n v u o p q r s t w = absurd (k h)
+only_show name (inr (inr (inr (inr (inr (inr (inr (inr (inl h))))))))) a b c d e f k m n v u o p q r s t w = absurd (m h)
+only_show name (inr (inr (inr (inr (inr (inr (inr (inr (inr (inl h)))))))))) a b c d e f k m n v u o p q r s t w = absurd (n h)
+only_show name (inr (inr (inr (inr (inr (inr (inr (inr (inr (inr (inl h))))))))))) a b c d e f k m n v u o p q r s t w = absurd (v h)
+only_show name (inr (inr (inr (inr (inr (inr (inr (inr (inr (inr (inr (inl h)))))))))))) a b c d e f k m n v u o p q r s t w = absurd (u h)
+only_show name (inr (inr (inr (inr (inr (inr (inr (inr (inr (inr (inr (inr (inl h))))))))))))) a b c d e f k m n v u o p q r s t w = absurd (o h)
+only_show name (inr (inr (inr (inr (inr (inr (inr (inr (inr (inr (inr (inr (inr (inl h)))))))))))))) a b c d e f k m n v u o p q r s t w = absurd (p h)
+only_show name (inr (inr (inr (inr (inr (inr (inr (inr (inr (inr (inr (inr (inr (inr (inl h))))))))))))))) a b c d e f k m n v u o p q r s t w = absurd (q h)
+only_show name (inr (inr (inr (inr (inr (inr (inr (inr (inr (inr (inr (inr (inr (inr (inr (inl h)))))))))))))))) a b c d e f k m n v u o p q r s t w = absurd (r h)
+only_show name (inr (inr (inr (inr (inr (inr (inr (inr (inr (inr (inr (inr (inr (inr (inr (inr (inl h))))))))))))))))) a b c d e f k m n v u o p q r s t w = absurd (s h)
+only_show name (inr (inr (inr (inr (inr (inr (inr (inr (inr (inr (inr (inr (inr (inr (inr (inr (inr (inl h)))))))))))))))))) a b c d e f k m n v u o p q r s t w = absurd (t h)
+only_show name (inr (inr (inr (inr (inr (inr (inr (inr (inr (inr (inr (inr (inr (inr (inr (inr (inr (inr h)))))))))))))))))) a b c d e f k m n v u o p q r s t w = absurd (w h)
 
 -- an error that is passed on has the kind that it had
 pub fails_on : {T : Type 0} (r : Result T Error) (e : Error) (kinds : Kinds) → IsErrAnd r (λ x. x ≡ e)

@@ -21,11 +21,11 @@ use Rattle.clap.specs.declared.builder.value_parser.Reading.{Reading}
 use Rattle.clap.proofs.WalkLemmas.{both}
 use Rattle.clap.proofs.SimpleLemmas.{is_false}
 use Rattle.std.proofs.lemmas.Slice.Eq.{bytes_eq-Decides}
-use Rattle.nl_tool_words.specs.CommandLine.{build_id, graph_id, least_id, kind_id, lines_id, manifest_id, version_id}
+use Rattle.nl_tool_words.specs.CommandLine.{build_id, folder_id, graph_id, least_id, kind_id, lines_id, manifest_id, version_id}
 
 -- the id is that of an option with a value
 abbrev pub is_option : Text → Bool
-is_option id = bytes_eq id version_id || (bytes_eq id lines_id || (bytes_eq id manifest_id || (bytes_eq id build_id || (bytes_eq id kind_id || (bytes_eq id graph_id || bytes_eq id least_id)))))
+is_option id = bytes_eq id version_id || (bytes_eq id lines_id || (bytes_eq id manifest_id || (bytes_eq id build_id || (bytes_eq id kind_id || (bytes_eq id graph_id || (bytes_eq id least_id || bytes_eq id folder_id))))))
 
 -- there is a value, where the id isn't the option's
 abbrev pub IsFilled : Text → List Text → Type 0

@@ -13,7 +13,7 @@ use Rattle.clap.specs.declared.parser.matches.ArgMatches.TheViews.{out-ArgMatche
 use Rattle.clap.specs.declared.parser.matches.SubCommand.{SubCommand}
 use Rattle.nl_tool_words.specs.declared.command_line.Words.{Words}
 use Rattle.nl_tool_words.specs.CommandLine.{flag_rule, option_rule}
-use Rattle.nl_tool_words.specs.CommandLine.{HasEach, IsSaid, IsComplete, lines_id, lines_rule, required_of, verbose_id}
+use Rattle.nl_tool_words.specs.CommandLine.{HasEach, IsSaid, IsComplete, folder_id, folder_rule, lines_id, lines_rule, required_of, verbose_id}
 use Rattle.nl_tool_words.specs.CommandLine.{verbose_rule}
 
 -- a reference to a text that is there
@@ -72,6 +72,14 @@ lines_told new long short named told name value text letter e f g h is id n =
     ap rule_of h ∙ (ap rule_of g ∙ ap (λ (a : Rule). record a { value_names = 1 }) (ap rule_of f
     ∙ ap₂ (λ (a : Rule) (c : ℕ). record a { short = Some c })
     (ap rule_of e ∙ ap₂ (λ (a : Rule) (t : Text). record a { long = Some t }) is id) n))
+
+-- the option for a folder, by how it is put together
+pub folder_told : (new short named told : Arg) (value text : Bor Text) (letter : ℕ)
+    → short ≡ record new { short = Some letter } → named ≡ record short { val_names = One value } → told ≡ record named { help = Some text }
+    → rule_of new ≡ new_rule folder_id → letter ≡ 67 → rule_of told ≡ folder_rule
+folder_told new short named told value text letter e f g is n =
+    ap rule_of g ∙ (ap rule_of f ∙ ap (λ (a : Rule). record a { value_names = 1 }) (ap rule_of e
+    ∙ ap₂ (λ (a : Rule) (c : ℕ). record a { short = Some c }) is n))
 
 -- the flag for a reason, by how it is put together
 pub verbose_told : (new long short flag told : Arg) (name text : Bor Text) (letter : ℕ)

@@ -15,7 +15,7 @@ use Rattle.nl_tool_words.specs.declared.version.AskedVersion.{AskedVersion}
 use Rattle.nl_tool_words.specs.declared.version.AskedVersion.TheVariants.{Auto, Five, Six, Seven}
 use Rattle.nl_tool_words.specs.declared.command_line.Words.{Words}
 use Rattle.nl_tool_words.specs.declared.command_line.Words.TheVariants.{Show, Check, Hash, Entries, Damage, Doubt, Builds, Summary, Compare, Trace, Picture, HashFile, Record, Recompact, Restat}
-use Rattle.nl_tool_words.specs.declared.command_line.Words.TheVariants.{Repair, Replay, Apply, Prune, Retime}
+use Rattle.nl_tool_words.specs.declared.command_line.Words.TheVariants.{Mend, Repair, Replay, Apply, Prune, Retime}
 use Rattle.std.specs.Borrow.{Bor}
 
 -- a value that stands by its place
@@ -72,7 +72,7 @@ least_id = codes "at-least"
 abbrev pub least_rule : Rule
 least_rule = option_rule least_id
 
--- the name of the flag for the last entries of all outputs
+-- the name of the flag for all outputs: for their last entries, or for those that it can't tell of
 abbrev pub all_id : Text
 all_id = codes "all"
 
@@ -114,6 +114,21 @@ files_id = codes "files"
 
 abbrev pub files_rule : Rule
 files_rule = flag_rule files_id
+
+-- the name of the option for the folder in which the outputs are
+abbrev pub folder_id : Text
+folder_id = codes "folder"
+
+-- the option: it has one letter, as that of Ninja, and one value
+abbrev pub folder_rule : Rule
+folder_rule = record (new_rule folder_id) { short = Some 67; value_names = 1 }
+
+-- the name of the flag by which nothing is changed
+abbrev pub dry_id : Text
+dry_id = codes "dry-run"
+
+abbrev pub dry_rule : Rule
+dry_rule = flag_rule dry_id
 
 -- a command of a log that tells its version itself, and which has to be there
 abbrev pub with_any_log : App → App
@@ -168,6 +183,9 @@ picture = with_any_log (new_app (codes "picture"))
 
 abbrev pub hash_file : App
 hash_file = with_rule (with_rule (new_app (codes "hash-file")) (positional (codes "FILE") false)) version_rule
+
+abbrev pub mend : App
+mend = with_rule (with_rule (with_rule (with_rule (new_app (codes "mend")) (positional (codes "LOG") false)) folder_rule) dry_rule) all_rule
 
 -- `record` with its values
 abbrev pub record_values : App
@@ -227,8 +245,8 @@ telling = with_command (with_command (with_command (with_command (with_command (
 
 -- the program, with its commands in the order of its help
 abbrev pub nlog : App
-nlog = with_command (with_command (with_command (with_command (with_command (with_command telling
-    record_line) recompact) restat) repair) replay) apply
+nlog = with_command (with_command (with_command (with_command (with_command (with_command (with_command telling
+    mend) record_line) recompact) restat) repair) replay) apply
 
 -- `recompact` with its option, in the place of KEEP
 abbrev pub pruning : App
@@ -260,7 +278,7 @@ IsCommandName name = (name ≡ codes "show") ⊎ ((name ≡ codes "check") ⊎ (
     ⊎ ((name ≡ codes "entries") ⊎ ((name ≡ codes "damage") ⊎ ((name ≡ codes "doubt") ⊎ ((name ≡ codes "builds")
     ⊎ ((name ≡ codes "summary") ⊎ ((name ≡ codes "compare") ⊎ ((name ≡ codes "trace") ⊎ ((name ≡ codes "picture") ⊎ ((name ≡ codes "hash-file")
     ⊎ ((name ≡ codes "record") ⊎ ((name ≡ codes "recompact") ⊎ ((name ≡ codes "restat")
-    ⊎ ((name ≡ codes "repair") ⊎ ((name ≡ codes "replay") ⊎ (name ≡ codes "apply")))))))))))))))))
+    ⊎ ((name ≡ codes "repair") ⊎ ((name ≡ codes "replay") ⊎ ((name ≡ codes "apply") ⊎ (name ≡ codes "mend"))))))))))))))))))
 
 -- the values that a command can't be without, by its rules
 abbrev pub required_ids : List Rule → List Text
@@ -338,6 +356,8 @@ IsSaid (Recompact log keep) (Some p) = (p.0 ≡ codes "recompact")
     × IsThere (codes "LOG") p.1 log × IsThere (codes "KEEP") p.1 keep
 IsSaid (Restat log times) (Some p) = (p.0 ≡ codes "restat")
     × IsThere (codes "LOG") p.1 log × IsThere (codes "TIMES") p.1 times
+IsSaid (Mend log folder dry_run all) (Some p) = (p.0 ≡ codes "mend") × IsGiven (codes "LOG") p.1 log
+    × IsGiven folder_id p.1 folder × (dry_run ≡ is_set_in dry_id p.1) × (all ≡ is_set_in all_id p.1)
 IsSaid (Repair log) (Some p) = (p.0 ≡ codes "repair") × IsThere (codes "LOG") p.1 log
 IsSaid (Replay script) (Some p) = (p.0 ≡ codes "replay") × IsGiven (codes "SCRIPT") p.1 script
 IsSaid (Apply log script) (Some p) = (p.0 ≡ codes "apply")

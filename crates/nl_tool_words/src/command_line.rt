@@ -68,6 +68,15 @@ pub enum Words<'a> {
     },
     /// `restat` by the files.
     Retime(&'a str),
+    Mend {
+        log: Option<&'a str>,
+        /// The folder in which the outputs are.
+        folder: Option<&'a str>,
+        /// Whether nothing is changed.
+        dry_run: bool,
+        /// Whether those that may be well are made anew, too.
+        all: bool,
+    },
     Repair(&'a str),
     Replay(Option<&'a str>),
     Apply {
@@ -377,6 +386,7 @@ fn words_in<'a>(matches: &ArgMatches<'a>) -> Words<'a>
         "record" => record_words(inner),
         "recompact" => recompact_words(inner),
         "restat" => restat_words(inner),
+        "mend" => mend_words(inner),
         "repair" => repair_words(inner),
         "replay" => Words::Replay(optional(inner, "SCRIPT")),
         "apply" => apply_words(inner),
@@ -447,6 +457,17 @@ fn restat_words<'a>(inner: &ArgMatches<'a>) -> Words<'a>
     Words::Restat {
         log: value(inner, "LOG"),
         times: value(inner, "TIMES"),
+    }
+}
+
+fn mend_words<'a>(inner: &ArgMatches<'a>) -> Words<'a>
+    ensures value { IsSaid result (Some (codes "mend", rows_of (found_of inner.now))) }
+{
+    Words::Mend {
+        log: optional(inner, "LOG"),
+        folder: optional(inner, "folder"),
+        dry_run: is_set(inner, "dry-run"),
+        all: is_set(inner, "all"),
     }
 }
 

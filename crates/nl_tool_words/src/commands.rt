@@ -2,7 +2,7 @@
 ghost use Rattle.std.specs.Prelude.{◌≡◌, IfOk, false};
 ghost use Rattle.clap.specs.Words.{app_of, with_rule};
 ghost use Rattle.clap.specs.declared.builder.command.Command.TheViews.{out-Command};
-ghost use Rattle.nl_tool_words.specs.CommandLine.{apply, builds, check, compare, damage, doubt, entries, flag_rule, hash, hash_file, lines_rule, option_rule, positional, pruning, recompact};
+ghost use Rattle.nl_tool_words.specs.CommandLine.{apply, builds, check, compare, damage, doubt, entries, flag_rule, folder_rule, hash, hash_file, lines_rule, mend, option_rule, positional, pruning, recompact};
 ghost use Rattle.nl_tool_words.specs.CommandLine.{picture, record_line, record_values, repair, replay, restat, retiming, show, summary, trace, with_any_log};
 
 use clap::{Arg, ArgAction, Command};
@@ -45,6 +45,16 @@ const MANIFEST: &str = "What `ninja -t targets all` prints; `-` is standard inpu
 
 const ALL: &str =
     "Tells of all builds, one after another, with the last entry of each output alone";
+
+const MEND_LOG: &str =
+    "A build log of Ninja, version 4 to 7; `.ninja_log` in DIR where it is left out";
+
+const FOLDER: &str =
+    "The folder of the build, as for Ninja: where it is left out, the one in which you run it";
+
+const DRY_RUN: &str = "Prints the same, and changes nothing";
+
+const UNSURE_TOO: &str = "Has Ninja make those anew, too, that may be well";
 
 const MISSING_OK: &str = "Takes a LOG that is missing for an empty one";
 
@@ -119,6 +129,20 @@ fn with_lines<'a>(
 {
     let option = Arg::new(alloc, "lines").long("lines").short('n');
     command.arg(option.value_name("N").help(help))
+}
+
+// The command with the option for the folder of a build.
+fn with_folder<'a>(
+    alloc: Global,
+    command: Command<'a>,
+    help: &'a str,
+) -> Result<Command<'a>, AllocError>
+    ensures shape { IfOk result (λ c. app_of c ≡ with_rule (app_of command.entry) folder_rule) }
+    ensures local { IfOk result
+        (λ c. (out-Command c).has_globals ≡ (out-Command command.entry).has_globals) }
+{
+    let option = Arg::new(alloc, "folder").short('C');
+    command.arg(option.value_name("DIR").help(help))
 }
 
 // The command with a log that tells its version itself, and which has to be there.
@@ -593,6 +617,37 @@ No build by Ninja may change LOG meanwhile; another nlog waits.",
     let command = with_value(alloc, command, "LOG", true, ANY_LOG)?;
     let command = with_flag(alloc, command, "files", FILES)?;
     with_option(alloc, command, "log-version", "VERSION", OWN_VERSION)
+}
+
+pub fn mend_command<'a>(alloc: Global) -> Result<Command<'a>, AllocError>
+    ensures shape { IfOk result (λ c. app_of c ≡ mend) }
+    ensures local { IfOk result (λ c. (out-Command c).has_globals ≡ false) }
+{
+    let command = Command::new(alloc, "mend")
+        .about("Has Ninja make each output anew that a log can't vouch for; run it after a crash")
+        .after_help(
+            "\
+It looks at LOG and at the files of its outputs, repairs LOG, and changes the entries of the outputs
+that can't be trusted, so that no command passes for them. It removes no file, and changes none but
+LOG, in one step. One line for each of these outputs, WHY and NAME with a tab between them:
+
+WHY   `damaged`: a damaged line of LOG may be about it; `newer`: its file was written behind what LOG
+      says; `unsure`: that may be so, as of a directory, and it is left alone without `--all`
+NAME  the output
+
+Status: 0 where LOG was well or is missing, 3 where a line is printed. Before a build it is run by
+
+  nlog mend || test $? = 3
+
+If LOG has entries, and none of its outputs is there, it is refused: run it in the folder of the
+build, or name that by `-C`.
+
+No build by Ninja may change LOG meanwhile; another nlog waits.",
+        );
+    let command = with_value(alloc, command, "LOG", false, MEND_LOG)?;
+    let command = with_folder(alloc, command, FOLDER)?;
+    let command = with_flag(alloc, command, "dry-run", DRY_RUN)?;
+    with_flag(alloc, command, "all", UNSURE_TOO)
 }
 
 pub fn repair_command<'a>(alloc: Global) -> Result<Command<'a>, AllocError>

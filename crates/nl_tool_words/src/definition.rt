@@ -6,7 +6,7 @@ ghost use Rattle.nl_tool_words.specs.CommandLine.{app_for, named, nlog, printing
 
 use crate::commands::{
     apply_command, builds_command, check_command, compare_command, damage_command, doubt_command,
-    entries_command, hash_command, hash_file_command, picture_command, prune_command,
+    entries_command, hash_command, hash_file_command, mend_command, picture_command, prune_command,
     recompact_command, record_command, repair_command, replay_command, restat_command,
     retime_command, show_command, summary_command, trace_command,
 };
@@ -17,7 +17,7 @@ use std::alloc::{AllocError, Global};
 const VERSION: &str = "0.1.0";
 
 const AFTER: &str = "\
-`show` to `hash-file` look and change nothing, `record` to `repair` change LOG, and `apply` keeps a
+`show` to `hash-file` look and change nothing, `mend` to `repair` change LOG, and `apply` keeps a
 log for a build tool. Without a command, or without LOG, a log is read from standard input.
 
 Ninja 1.12 and 1.13 write logs of version 6 and 7: put `--log-version auto` behind `show`, `check`,
@@ -26,12 +26,12 @@ Change no log while Ninja builds, because it locks nothing. A LOG that is missin
 `doubt`, and without `--missing-ok` by `entries` to `picture` and `repair`.
 
 Examples:
+  nlog mend                                after a crash, and before each build
   nlog show --log-version auto .ninja_log
   nlog check --log-version auto .ninja_log
-  nlog damage --missing-ok .ninja_log >> damaged || { test $? = 3 && nlog repair .ninja_log; }
 
 Status: 0 done; 1 refused, and a line `nlog: ...` on standard error says why (a second one says more
-with `--verbose`, behind the command); 2 wrong words; 3 `damage` or `doubt` found some.";
+with `--verbose`, behind the command); 2 wrong words; 3 `mend`, `damage` or `doubt` found some.";
 
 /// What reads a command line of the form.
 pub fn command_for<'a>(alloc: Global, form: Form) -> Result<Command<'a>, AllocError>
@@ -49,6 +49,7 @@ pub fn nlog_command<'a>(alloc: Global) -> Result<Command<'a>, AllocError>
     ensures { IfOk result (λ c. app_of c ≡ nlog) }
 {
     let nlog = telling_commands(alloc)?;
+    let nlog = with_made(alloc, nlog, mend_command(alloc))?;
     let nlog = with_made(alloc, nlog, record_command(alloc))?;
     let nlog = with_made(alloc, nlog, recompact_command(alloc))?;
     let nlog = with_made(alloc, nlog, restat_command(alloc))?;

@@ -14,6 +14,7 @@ returns g c =
         named = c.in_ok-named.ensures.value
             ∙ λ i. flat_map (named_by c.args.damaged.now (not (copied i)) c.args.lines.stamps (c.in_ok-moments.ensures.value i)) (c.as_slice-2.ensures.value i);
         outputs = search rules;
+        there = search rules;
         copied = copied;
       };
     }

@@ -138,6 +138,12 @@ returns-in-repair c =
     let says = entered_says c.args.matches.now met.name.now (rows_of (found_of met.inner.now)) met.ensures.name met.ensures.rows in
     record { value = says c.repair_words.result (codes "repair") c.in-repair.is c.repair_words.ensures.value }
 
+pub returns-in-mend : goal.returns-in-mend
+returns-in-mend c =
+    let met = c.in-Some in
+    let says = entered_says c.args.matches.now met.name.now (rows_of (found_of met.inner.now)) met.ensures.name met.ensures.rows in
+    record { value = says c.mend_words.result (codes "mend") c.in-mend.is c.mend_words.ensures.value }
+
 pub returns-in-replay : goal.returns-in-replay
 returns-in-replay c =
     let met = c.in-Some in
@@ -157,5 +163,5 @@ returns-in_default-name c =
     let e = entered_is c.args.matches.now met.name.now (rows_of (found_of met.inner.now)) met.ensures.name met.ensures.rows in
     let whole = subst IsComplete e c.requires in
     let is_show : met.name.now ≡ codes "show" = only_show _ whole.0 other.not-check other.not-hash other.not-entries other.not-damage
-    other.not-doubt other.not-builds other.not-summary other.not-compare other.not-trace other.not-picture other.not-text other.not-record other.not-recompact other.not-restat other.not-repair other.not-replay other.not-apply in
+    other.not-doubt other.not-builds other.not-summary other.not-compare other.not-trace other.not-picture other.not-text other.not-record other.not-recompact other.not-restat other.not-repair other.not-replay other.not-apply other.not-mend in
     record { value = subst (IsSaid (Show c.optional-in_default-name.result)) (sym e) (is_show, c.optional-in_default-name.ensures) }

@@ -1,0 +1,176 @@
+//! `mend`, over the folder of the real file LOG and the files of its outputs, with standard output for its text.
+//!
+//! 1. All of LOG is read, and the file of each output is asked.
+//! 2. LOG is written anew with an intent over the entry of each output that can't be trusted, in one change (`mend_on`). Where
+//!    there is none, and no line is damaged, it stays as it is.
+//! 3. The outputs are printed.
+//!
+//! The lock on LOG is held from the first step on.
+ghost use Rattle.std.specs.Prelude.{◌≡◌, IfErr, None};
+ghost use Rattle.nl_tool_doubt.specs.Mending.{IsMendFault};
+
+use crate::changing::note_folder;
+use crate::doubting::SystemFiles;
+use crate::files::look_there;
+use crate::notes::{NotedWriter, Notes};
+use crate::program::Verdict;
+use crate::waiting::Waiting;
+use nl_os::{DiskFolder, Failure, FileRole, SystemFile};
+use nl_tool_doubt::{FileState, How, Mended, OutputFiles, mend_to};
+use nl_tool_texts::ToolFault;
+use std::alloc::{AllocError, Global};
+use std::fs;
+use std::io::{self, Write};
+use std::rt::{Clock, Files, Runtime};
+
+// One output in so many has to be there, or that is said.
+const FEW: usize = 10;
+
+// The files of a build's outputs. A name that doesn't begin with `/` is one of the build's folder.
+#[derive(Drop)]
+struct BuildFiles<'r, R> {
+    files: SystemFiles<'r, R>,
+    folder: Option<&'r str>,
+    alloc: Global,
+}
+
+impl<R: Files> OutputFiles for BuildFiles<'_, R> {
+    ghost states = { λ _. None };
+
+    fn look(&self, name: &[u8]) -> FileState {
+        match self.folder {
+            Some(folder) if !name.starts_with(b"/") => match path_in(self.alloc, folder, name) {
+                Ok(path) => self.files.look(path.as_slice()),
+                Err(_) => FileState::Unknown,
+            },
+            _ => self.files.look(name),
+        }
+    }
+}
+
+// The path of a name in a folder.
+fn path_in(alloc: Global, folder: &str, name: &[u8]) -> Result<Vec<u8>, AllocError> {
+    let mut path = Vec::new(alloc);
+    path.extend_from_slice(folder.as_bytes())?;
+    path.push(b'/')?;
+    path.extend_from_slice(name)?;
+    Ok(path)
+}
+
+/// Mends the log at this path, or that of the build in the folder.
+pub fn mend_in<R: Runtime>(
+    rt: &R,
+    alloc: Global,
+    log: Option<&str>,
+    folder: Option<&str>,
+    how: How,
+    notes: &mut Notes,
+) -> Result<Verdict, ToolFault>
+where
+    R::File: SystemFile,
+    ensures faults { IfErr result IsMendFault }
+{
+    look_in(rt, folder, notes)?;
+    if let Some(path) = log {
+        return mend_at(rt, alloc, path, folder, how, notes);
+    }
+    match folder {
+        Some(folder) => {
+            let path = format!(in alloc; "{folder}/.ninja_log")?;
+            mend_at(rt, alloc, path.as_str(), Some(folder), how, notes)
+        }
+        None => mend_at(rt, alloc, ".ninja_log", None, how, notes),
+    }
+}
+
+// Refuses a folder of a build that is missing.
+fn look_in<R: Files>(rt: &R, folder: Option<&str>, notes: &mut Notes) -> Result<(), ToolFault>
+    ensures faults { IfErr result (λ e. e ≡ ToolFault.Read) }
+{
+    let Some(path) = folder else {
+        return Ok(());
+    };
+    match fs::metadata(rt, path) {
+        Ok(_) => Ok(()),
+        Err(error) => {
+            notes.folder = Some(Failure {
+                file: FileRole::Folder,
+                error,
+            });
+            Err(ToolFault::Read)
+        }
+    }
+}
+
+// A log that is missing is well.
+fn mend_at<R: Runtime>(
+    rt: &R,
+    alloc: Global,
+    log: &str,
+    folder: Option<&str>,
+    how: How,
+    notes: &mut Notes,
+) -> Result<Verdict, ToolFault>
+where
+    R::File: SystemFile,
+    ensures faults { IfErr result IsMendFault }
+{
+    look_there(rt, log, true, notes)?;
+    if notes.is_missing {
+        return Ok(Verdict::Done);
+    }
+    let files = BuildFiles {
+        files: SystemFiles { rt },
+        folder,
+        alloc,
+    };
+    let mut out = NotedWriter::new(io::writer(rt));
+    let answer = mend_over(
+        alloc,
+        DiskFolder::new(Waiting::new(rt, log, notes.looks), alloc, log)?,
+        &files,
+        how,
+        &mut out,
+        notes,
+    );
+    notes.written = out.failure;
+    let mended = answer?;
+    tell_few(rt, log, mended);
+    if mended.is_told {
+        return Ok(Verdict::Found);
+    }
+    Ok(Verdict::Done)
+}
+
+// Says that few outputs have a file: so the folder may be that of another build.
+fn tell_few(rt: &impl Eprint, log: &str, mended: Mended) {
+    let Mended { outputs, there, .. } = mended;
+    if there < outputs / FEW {
+        let _ = eprintln!(rt; "nlog: LOG {log}: {there} of {outputs} outputs are here");
+    }
+}
+
+fn mend_over<D: Files + Clock + Drop, F: OutputFiles, W: Write>(
+    alloc: Global,
+    folder: DiskFolder<D>,
+    files: &F,
+    how: How,
+    writer: &mut W,
+    notes: &mut Notes,
+) -> Result<Mended, ToolFault>
+where
+    D::File: SystemFile,
+    ensures faults { IfErr result IsMendFault }
+{
+    let (left, answer) = mend_to(alloc, notes.secret, folder, files, how, writer);
+    match answer {
+        Ok(mended) => {
+            note_folder(left, Ok(()), notes)?;
+            Ok(mended)
+        }
+        Err(fault) => {
+            note_folder(left, Err(fault), notes)?;
+            Err(fault)
+        }
+    }
+}

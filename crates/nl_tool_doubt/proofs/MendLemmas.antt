@@ -1,0 +1,96 @@
+-- A mend of a log, by the answers of what it calls.
+use Rattle.std.proofs.Common.{◌≡◌, ◌≢◌, ◌∙◌, ◌⊎◌, ◌↔◌, inl, inr, [], refl, sym, subst, List, ℕ, Result, Ok, Err}
+use Rattle.std.specs.Prelude.{Bool, true, false, Option, None, Some, IsErrOf}
+use Rattle.std.specs.Io.KnownBytes.{Keeps}
+use Rattle.std.proofs.lemmas.List.{append-nil}
+use Rattle.nl_folder.specs.DiskState.{Disk}
+use Rattle.nl_folder.specs.FolderView.{FolderView}
+use Rattle.nl_versions.specs.LogAs.{is_barred}
+use Rattle.nl_versions.specs.VersionOf.{version_of}
+use Rattle.nl_versions.proofs.VersionOfLemmas.{named_free}
+use Rattle.nl_tool_texts.specs.declared.fault.ToolFault.{ToolFault}
+use Rattle.nl_tool_texts.specs.declared.fault.ToolFault.TheVariants.{Write, Elsewhere}
+use Rattle.nl_tool_change.specs.Calls.{IsFree}
+use Rattle.nl_tool_change.specs.Faults.{IsRecordFault}
+use Rattle.nl_tool_change.specs.Mending.{MendsLogAs}
+use Rattle.nl_tool_doubt.specs.Mending.{IsIn, IsSaid, Mends, MendsIfDue, MendsSaid, is_due, is_elsewhere, mend_lines, taken}
+use Rattle.nl_tool_doubt.specs.declared.doubts.Doubted.{Doubted}
+use Rattle.nl_tool_doubt.specs.declared.doubts.Doubts.{Doubts}
+use Rattle.nl_tool_doubt.specs.declared.mending.How.{How}
+use Rattle.nl_tool_doubt.specs.declared.mending.Mended.{Mended}
+use Rattle.nl_tool_doubt.specs.declared.mending.Said.{Said}
+
+pub keeps_same : (known : Option (List ℕ)) → Keeps known known
+keeps_same None = tt
+keeps_same (Some bytes) = refl
+
+pub is_true : (b : Bool) → (b ≡ false → ⊥) → b ≡ true
+is_true true other = refl
+is_true false other = absurd (other refl)
+
+-- a log that has these bytes isn't barred as one of the version that they name
+pub free_as_named : (disk : Option Disk) (log : List ℕ) → IsIn disk log → IsFree disk (version_of log)
+free_as_named disk log here = λ d is. subst (λ (bytes : List ℕ). is_barred (version_of log) bytes ≡ false) (sym (here d is)) (named_free log)
+
+-- ---- what was said
+
+-- a change that failed
+pub said_failed : {log : List ℕ} {said : Said} {known : Option (List ℕ)} {old new : FolderView} (fault : ToolFault) → IsRecordFault fault
+    → said.is_due ≡ true → MendsLogAs (version_of log) said.names.items (Err fault) old new → MendsSaid log said known known (Err fault) old new
+said_failed {log} {said} {known} {old} {new} fault recorded due call =
+    let unwritten : fault ≢ Write = λ is. subst IsRecordFault is recorded in
+    record {
+      writes = record { all = tt; part = λ is. absurd (unwritten (cc is)); none = λ other. keeps_same known };
+      mends = record { mended = λ _ done. absurd (unwritten done); stays = λ no. absurd (cc (due, no)); refused = inr (inr call) };
+      here = λ is. let same : fault ≡ Elsewhere = cc is in subst IsRecordFault same recorded;
+    }
+
+-- ---- the mend
+
+-- nothing was said or done
+pub not_mended : {how : How} {log : List ℕ} {doubts : Doubts} {known : Option (List ℕ)} {view : FolderView} (fault : ToolFault) → fault ≢ Write
+    → ((fault ≡ Elsewhere) ↔ (is_elsewhere doubts ≡ true)) → Mends how log doubts known known (Err fault) view view
+not_mended {how} {log} {doubts} {known} {view} fault unwritten elsewhere = record {
+  elsewhere = ((λ is. elsewhere.0 (cc is)), (λ yes. let is : fault ≡ Elsewhere = elsewhere.1 yes in cc is));
+  told = tt;
+  outputs = tt;
+  text = mend_lines doubts.named.items;
+  says = ([], sym (append-nil (mend_lines doubts.named.items)), λ _. refl);
+  writes = record { all = tt; part = λ is. absurd (unwritten (cc is)); none = λ other. keeps_same known };
+  mends = record { mended = λ _ done. absurd (unwritten done); stays = λ no. refl; refused = inr (inl refl) };
+}
+
+-- what was said is what is due
+mends_as : {how : How} {log : List ℕ} {ds : List Doubted} {said : Said} {r : Result (Unit {0}) ToolFault} {old new : FolderView}
+    → IsSaid how log ds said → MendsIfDue said.is_due log said.names.items r old new
+    → MendsIfDue (is_due how.dry_run log (taken how.all ds)) log (taken how.all ds) r old new
+mends_as {how} {log} {ds} {said} {r} {old} {new} said_so mends =
+    subst (λ (due : Bool). MendsIfDue due log (taken how.all ds) r old new) said_so.due
+    (subst (λ (names : List (List ℕ)). MendsIfDue said.is_due log names r old new) said_so.names mends)
+
+module _ {how : How} {log : List ℕ} {doubts : Doubts} {from to : Option (List ℕ)} {old new : FolderView} {said : Said}
+    (here : is_elsewhere doubts ≡ false) (said_so : IsSaid how log doubts.named.items said) where
+  -- what was said was done
+  pub mended : (m : Mended) → m.is_told ≡ said.is_told → (m.outputs ≡ doubts.outputs) × (m.there ≡ doubts.there)
+      → MendsSaid log said from to (Ok tt) old new → Mends how log doubts from to (Ok m) old new
+  mended m told outputs call = record {
+    elsewhere = ((λ is. absurd (cc is)), (λ yes. absurd (cc (yes, here))));
+    told = told ∙ said_so.told;
+    outputs = outputs;
+    text = said.text.items;
+    says = said_so.text;
+    writes = call.writes;
+    mends = mends_as said_so call.mends;
+  }
+
+  -- or not
+  pub mend_failed : (fault : ToolFault) → MendsSaid log said from to (Err fault) old new → Mends how log doubts from to (Err fault) old new
+  mend_failed fault call = record {
+    elsewhere = ((λ is. absurd (call.here (cc is))), (λ yes. absurd (cc (yes, here))));
+    told = tt;
+    outputs = tt;
+    text = said.text.items;
+    says = said_so.text;
+    writes = call.writes;
+    mends = mends_as said_so call.mends;
+  }

@@ -1,0 +1,185 @@
+-- What `mend` says of the outputs of a log, and what it makes of the log (docs/CLI.md, "mend").
+use Rattle.std.specs.Prelude.{◌≡◌, ◌≢◌, ◌↔◌, ◌⊎◌, ⊤, ℕ, Bool, true, false, not, ◌&&◌, ◌||◌, ◌==◌, List, [], ◌∷◌, ◌++◌, length, codes, Option, None, Some, Result, Ok, Err, IfOk, IfErr, IsErrOf, OnErr, OnOk, if◌then◌else◌}
+use Rattle.std.specs.Global.{Vec}
+use Rattle.std.specs.List.{flat_map}
+use Rattle.std.specs.Io.KnownBytes.{Appends, Keeps}
+use Rattle.nl_folder.specs.DiskState.{Disk}
+use Rattle.nl_folder.specs.FolderView.{FolderView}
+use Rattle.nl_table.specs.Log.{log_of}
+use Rattle.nl_table.specs.Log as log_reading
+use Rattle.nl_versions.specs.VersionOf.{as_five, lines_version, version_of}
+use Rattle.nl_session.specs.Intents.{is_intent}
+use Rattle.nl_distrust.specs.Distrusted.{is_whole}
+use Rattle.nl_tool_texts.specs.Output.{AppendsPrefixOf}
+use Rattle.nl_tool_texts.specs.declared.fault.ToolFault.{ToolFault}
+use Rattle.nl_tool_texts.specs.declared.fault.ToolFault.TheVariants.{NotALog, OtherVersion, Read, Memory, Write, Folder, Elsewhere}
+use Rattle.nl_tool_change.specs.Mending.{MendsLogAs, ReadsWhole}
+use Rattle.nl_tool_doubt.specs.Doubts.{IsDoubts, damaged_in}
+use Rattle.nl_tool_doubt.specs.declared.files.FileState.{FileState}
+use Rattle.nl_tool_doubt.specs.declared.judge.Doubt.{Doubt}
+use Rattle.nl_tool_doubt.specs.declared.judge.Doubt.TheVariants as doubt
+use Rattle.nl_tool_doubt.specs.declared.doubts.Doubted.{Doubted}
+use Rattle.nl_tool_doubt.specs.declared.doubts.Doubts.{Doubts}
+use Rattle.nl_tool_doubt.specs.declared.mending.Cause.{Cause}
+use Rattle.nl_tool_doubt.specs.declared.mending.Cause.TheVariants.{Damaged, Newer, Unsure}
+use Rattle.nl_tool_doubt.specs.declared.mending.How.{How}
+use Rattle.nl_tool_doubt.specs.declared.mending.Mended.{Mended}
+use Rattle.nl_tool_doubt.specs.declared.mending.Said.{Said}
+
+-- ---- which outputs are told of, and which are made anew
+
+-- why one is told of, by the doubt on it: not where its file is missing
+abbrev pub cause_by : Doubt → Option Cause
+cause_by doubt.Damaged = Some Damaged
+cause_by doubt.Newer = Some Newer
+cause_by doubt.Unsure = Some Unsure
+cause_by doubt.Folder = Some Unsure
+cause_by doubt.NoTime = Some Unsure
+cause_by doubt.Untold = Some Unsure
+cause_by doubt.Gone = None
+
+-- and not where its entry has the form of an intent, for which no command passes
+abbrev pub cause_of : Doubted → Option Cause
+cause_of d = if is_intent d.entry then None else cause_by d.why
+
+-- those that can't be trusted are made anew, and with --all those too of which that isn't sure
+abbrev pub is_taken : Bool → Option Cause → Bool
+is_taken all (Some Damaged) = true
+is_taken all (Some Newer) = true
+is_taken all (Some Unsure) = all
+is_taken all None = false
+
+abbrev pub taken_by : Bool → Doubted → List (List ℕ)
+taken_by all d = if is_taken all (cause_of d) then d.entry.name ∷ [] else []
+
+abbrev pub taken : Bool → List Doubted → List (List ℕ)
+taken all ds = flat_map (taken_by all) ds
+
+-- ---- the text
+
+abbrev pub word_of : Cause → List ℕ
+word_of Damaged = codes "damaged"
+word_of Newer = codes "newer"
+word_of Unsure = codes "unsure"
+
+-- a line has the reason and the output
+abbrev pub line_for : List ℕ → Option Cause → List ℕ
+line_for name None = []
+line_for name (Some cause) = word_of cause ++ codes "\t" ++ name ++ codes "\n"
+
+abbrev pub line_of : Doubted → List ℕ
+line_of d = line_for d.entry.name (cause_of d)
+
+abbrev pub mend_lines : List Doubted → List ℕ
+mend_lines ds = flat_map line_of ds
+
+-- something is told of if there is a line
+abbrev pub is_told : List Doubted → Bool
+is_told ds = not (length (mend_lines ds) == 0)
+
+-- the log is written anew if an output is made anew or a line is damaged, unless nothing is to be changed
+abbrev pub is_due : Bool → List ℕ → List (List ℕ) → Bool
+is_due dry_run log names = not dry_run && (not (length names == 0) || not (is_whole (lines_version log) log))
+
+-- at a terminal a line may follow, and else none
+abbrev pub EndsBy : Bool → List ℕ → List ℕ → Type 0
+EndsBy terminal lines text = (end : List ℕ) × (text ≡ lines ++ end) × (terminal ≡ false → end ≡ [])
+
+-- what is said of these outputs, and what is to be done
+pub record IsSaid (how : How) (log : List ℕ) (ds : List Doubted) (said : Said) : Type 0 where
+  pub text : EndsBy how.at_terminal (mend_lines ds) said.text.items
+  pub told : said.is_told ≡ is_told ds
+  pub names : said.names.items ≡ taken how.all ds
+  pub due : said.is_due ≡ is_due how.dry_run log (taken how.all ds)
+
+-- ---- the log
+
+-- it has these bytes, in an honest folder
+abbrev pub IsIn : Option Disk → List ℕ → Type 0
+IsIn disk log = (d : Disk) → disk ≡ Some d → d.visible ≡ log
+
+-- what is said was written, or a part of it
+abbrev pub IsDone : Result (Unit {0}) ToolFault → Type 0
+IsDone (Ok done) = ⊤
+IsDone (Err fault) = fault ≡ Write
+
+-- by the answer: what a writer holds before and after it
+pub record Writes (text : List ℕ) (from to : Option (List ℕ)) (result : Result (Unit {0}) ToolFault) : Type 0 where
+  pub all : OnOk result (Appends from to text)
+  pub part : IsErrOf result Write → AppendsPrefixOf from to text
+  pub none : ¬ IsDone result → Keeps from to
+
+-- and what is seen of the folder: the outputs of these names get intents over their entries if that is due, and else the log is as it was
+pub record MendsIfDue (due : Bool) (log : List ℕ) (names : List (List ℕ)) (result : Result (Unit {0}) ToolFault) (old new : FolderView) : Type 0 where
+  pub mended : due ≡ true → IsDone result → MendsLogAs (version_of log) names (Ok tt) old new
+  pub stays : due ≡ false → new ≡ old
+  pub refused : IfErr result (λ fault. (fault ≡ Write) ⊎ ((new ≡ old) ⊎ MendsLogAs (version_of log) names (Err fault) old new))
+
+-- what was said is done, and then it is said
+pub record MendsSaid (log : List ℕ) (said : Said) (from to : Option (List ℕ)) (result : Result (Unit {0}) ToolFault) (old new : FolderView) : Type 0 where
+  pub writes : Writes said.text.items from to result
+  pub mends : MendsIfDue said.is_due log said.names.items result old new
+  pub here : IsErrOf result Elsewhere → ⊥
+
+-- outputs stand in the log, and the file of none is here
+abbrev pub is_elsewhere : Doubts → Bool
+is_elsewhere doubts = doubts.there == 0 && not (doubts.outputs == 0)
+
+abbrev pub done_by : Result Mended ToolFault → Result (Unit {0}) ToolFault
+done_by (Ok mended) = Ok tt
+done_by (Err fault) = Err fault
+
+-- a mend of a log by the outputs of it that can't be trusted
+pub record Mends (how : How) (log : List ℕ) (doubts : Doubts) (from to : Option (List ℕ)) (result : Result Mended ToolFault)
+    (old new : FolderView) : Type 0 where
+  pub elsewhere : IsErrOf result Elsewhere ↔ (is_elsewhere doubts ≡ true)
+  pub told : IfOk result (λ mended. mended.is_told ≡ is_told doubts.named.items)
+  pub outputs : IfOk result (λ mended. (mended.outputs ≡ doubts.outputs) × (mended.there ≡ doubts.there))
+  pub text : List ℕ
+  pub says : EndsBy how.at_terminal (mend_lines doubts.named.items) text
+  pub writes : Writes text from to (done_by result)
+  pub mends : MendsIfDue (is_due how.dry_run log (taken how.all doubts.named.items)) log (taken how.all doubts.named.items) (done_by result) old new
+
+-- the faults of a mend
+abbrev pub IsMendFault : ToolFault → Type 0
+IsMendFault NotALog = ⊤
+IsMendFault OtherVersion = ⊤
+IsMendFault Read = ⊤
+IsMendFault Memory = ⊤
+IsMendFault Write = ⊤
+IsMendFault Folder = ⊤
+IsMendFault Elsewhere = ⊤
+IsMendFault _ = ⊥
+
+-- why it came to none: the bytes are no log, or memory was wanting
+abbrev pub IsUnread : List ℕ → ToolFault → Type 0
+IsUnread log NotALog = log_of (as_five log) ≡ log_reading.NotALog
+IsUnread log OtherVersion = log_of (as_five log) ≡ log_reading.OtherVersion
+IsUnread log _ = ⊤
+
+-- nothing was written or changed
+pub record NoMend (from to : Option (List ℕ)) (result : Result Mended ToolFault) (fault : ToolFault) (old new : FolderView) : Type 0 where
+  pub answer : result ≡ Err fault
+  pub wrote : Keeps from to
+  pub stays : new ≡ old
+
+-- a mend of a log with these bytes, by what is said of the files of its outputs
+abbrev pub MendsBytes : Option (List ℕ → FileState) → How → List ℕ → Option (List ℕ) → Option (List ℕ) → Result Mended ToolFault → FolderView
+    → FolderView → Type 0
+MendsBytes states how log from to result old new =
+    ((fault : ToolFault) × (fault ≢ Elsewhere) × IsUnread log fault × NoMend from to result fault old new)
+    ⊎ ((doubts : Doubts) × IsDoubts (damaged_in log) log states doubts × Mends how log doubts from to result old new)
+
+-- it is read first
+abbrev pub MendsRead : Option (List ℕ → FileState) → How → Result (Vec ℕ) ToolFault → Option (List ℕ) → Option (List ℕ) → Result Mended ToolFault
+    → FolderView → FolderView → Type 0
+MendsRead states how (Ok log) from to result old new = MendsBytes states how log.items from to result old new
+MendsRead states how (Err fault) from to result old new = NoMend from to result fault old new
+
+-- a mend of the log of a folder: it is read, which changes nothing, and what was read is mended
+pub record MendsFolder (states : Option (List ℕ → FileState)) (how : How) (from to : Option (List ℕ)) (result : Result Mended ToolFault)
+    (old new : FolderView) : Type 0 where
+  pub read : Result (Vec ℕ) ToolFault
+  pub between : FolderView
+  pub reads : ReadsWhole old between read
+  pub mends : MendsRead states how read from to result between new

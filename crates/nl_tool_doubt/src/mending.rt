@@ -1,0 +1,327 @@
+//! What `mend` makes of the log in a folder, and what it says, over any files of the outputs and any writer.
+ghost use Rattle.std.specs.Prelude.{◌≡◌, ◌++◌, true, false, Ok, IfErr, IfOk, OnOk};
+ghost use Rattle.nl_folder.specs.FolderView.{folder_view};
+ghost use Rattle.nl_tool_change.specs.Faults.{IsRecordFault};
+ghost use Rattle.nl_tool_change.specs.Mending.{MendsLogAs};
+ghost use Rattle.nl_versions.specs.VersionOf.{version_of};
+ghost use Rattle.nl_tool_doubt.specs.Mending.{EndsBy, IsIn, IsMendFault, IsSaid, Mends, MendsBytes, MendsFolder, MendsSaid, cause_of, is_due, is_elsewhere, is_taken, line_of, mend_lines, taken, taken_by, word_of};
+
+use crate::doubts::{Doubted, Doubts, untrusted_of};
+use crate::files::OutputFiles;
+use crate::judge::Doubt;
+use nl_distrust::is_whole;
+use nl_fields::Name;
+use nl_folder::Folder;
+use nl_session::is_intent;
+use nl_table::Secret;
+use nl_tool_change::{FoundFolder, mend_on, read_log};
+use nl_tool_texts::{ToolFault, write_out};
+use nl_versions::{lines_version, version_of};
+use std::alloc::{AllocError, Global};
+use std::io::Write;
+
+/// What is asked for beside the log.
+#[derive(Clone, Copy, Drop)]
+pub struct How {
+    /// Nothing is changed.
+    pub dry_run: bool,
+    /// The outputs that may be well are taken, too.
+    pub all: bool,
+    /// A last line says what was done.
+    pub at_terminal: bool,
+}
+
+/// What came of a mend.
+#[derive(Clone, Copy, Drop)]
+pub struct Mended {
+    /// Whether an output was told of.
+    pub is_told: bool,
+    pub outputs: usize,
+    /// Of how many of them there is a file.
+    pub there: usize,
+}
+
+/// Mends the log of a folder by the files of its outputs, and writes a line for each that can't be trusted. Names are hashed
+/// under a secret.
+pub fn mend_to<D: Folder, F: OutputFiles, W: Write>(
+    alloc: Global,
+    secret: Secret,
+    folder: D,
+    files: &F,
+    how: How,
+    writer: &mut W,
+) -> (D, Result<Mended, ToolFault>)
+    ensures call { MendsFolder (F.states files.now) how
+        (W.contents writer.old) (W.contents writer.new) result.1
+        (folder_view D.Folder folder) (folder_view D.Folder result.0) }
+    ensures faults { IfErr result.1 IsMendFault }
+{
+    let (folder, read) = read_log(alloc, folder);
+    match read {
+        Ok(log) => mend_bytes(alloc, secret, folder, log.as_slice(), files, how, writer),
+        Err(fault) => (folder, Err(fault)),
+    }
+}
+
+// Mends the log of a folder that has these bytes.
+fn mend_bytes<D: Folder, F: OutputFiles, W: Write>(
+    alloc: Global,
+    secret: Secret,
+    folder: D,
+    log: &[u8],
+    files: &F,
+    how: How,
+    writer: &mut W,
+) -> (D, Result<Mended, ToolFault>)
+    ensures call { IsIn (D.disk folder) log.now
+        → MendsBytes (F.states files.now) how log.now (W.contents writer.old) (W.contents writer.new)
+        result.1 (folder_view D.Folder folder) (folder_view D.Folder result.0) }
+    ensures faults { IfErr result.1 IsMendFault }
+{
+    match untrusted_of(alloc, secret, log, files) {
+        Ok(doubts) => mend_doubted(alloc, secret, folder, log, &doubts, how, writer),
+        Err(fault) => (folder, Err(ToolFault::from(fault))),
+    }
+}
+
+// Mends it by the outputs of it that can't be trusted.
+fn mend_doubted<D: Folder, W: Write>(
+    alloc: Global,
+    secret: Secret,
+    folder: D,
+    log: &[u8],
+    doubts: &Doubts,
+    how: How,
+    writer: &mut W,
+) -> (D, Result<Mended, ToolFault>)
+    ensures call { IsIn (D.disk folder) log.now
+        → Mends how log.now doubts.now (W.contents writer.old) (W.contents writer.new)
+        result.1 (folder_view D.Folder folder) (folder_view D.Folder result.0) }
+    ensures faults { IfErr result.1 IsMendFault }
+{
+    if is_elsewhere(doubts) {
+        return (folder, Err(ToolFault::Elsewhere));
+    }
+    match said_of(alloc, log, doubts, how) {
+        Ok(said) => {
+            let (folder, answer) = mend_said(alloc, secret, folder, log, &said, writer);
+            match answer {
+                Ok(()) => (folder, Ok(mended_of(&said, doubts))),
+                Err(fault) => (folder, Err(fault)),
+            }
+        }
+        Err(_) => (folder, Err(ToolFault::Memory)),
+    }
+}
+
+fn is_elsewhere(doubts: &Doubts) -> bool
+    ensures { result ≡ is_elsewhere doubts.now }
+{
+    doubts.there == 0 && doubts.outputs != 0
+}
+
+fn mended_of(said: &Said, doubts: &Doubts) -> Mended
+    ensures told { result.is_told ≡ said.now.is_told }
+    ensures outputs { (result.outputs ≡ doubts.now.outputs) × (result.there ≡ doubts.now.there) }
+{
+    Mended {
+        is_told: said.is_told,
+        outputs: doubts.outputs,
+        there: doubts.there,
+    }
+}
+
+// What is said of the outputs, and what is done.
+#[derive(Drop)]
+struct Said {
+    text: Vec<u8>,
+    is_told: bool,
+    // The outputs that are made anew.
+    names: Vec<Name>,
+    is_due: bool,
+}
+
+fn said_of(alloc: Global, log: &[u8], doubts: &Doubts, how: How) -> Result<Said, AllocError>
+    ensures value { IfOk result (IsSaid how log.now doubts.now.named.items) }
+{
+    let mut text = lines_of(alloc, doubts.named.as_slice())?;
+    let names = names_of(alloc, doubts.named.as_slice(), how.all)?;
+    let is_told = !text.is_empty();
+    let is_due = is_due(how.dry_run, log, names.as_slice());
+    append_end(alloc, how, is_told, names.len(), is_due, &mut text)?;
+    Ok(Said {
+        text,
+        is_told,
+        names,
+        is_due,
+    })
+}
+
+// The lines on the outputs that are told of.
+fn lines_of(alloc: Global, named: &[Doubted]) -> Result<Vec<u8>, AllocError>
+    ensures value { IfOk result (λ text. text.items ≡ mend_lines named.now) }
+{
+    let mut text = Vec::new(alloc);
+    for it in named {
+        append_line(it, &mut text)?;
+    }
+    Ok(text)
+}
+
+fn append_line(it: &Doubted, text: &mut Vec<u8>) -> Result<(), AllocError>
+    ensures items { OnOk result (text.new.items ≡ text.old.items ++ line_of it.now) }
+{
+    if let Some(cause) = cause_of(it) {
+        text.extend_from_slice(word_of(cause).as_bytes())?;
+        text.push(b'\t')?;
+        text.extend_from_slice(it.entry.name.bytes())?;
+        text.push(b'\n')?;
+    }
+    Ok(())
+}
+
+// The names of those that are made anew.
+fn names_of(alloc: Global, named: &[Doubted], all: bool) -> Result<Vec<Name>, AllocError>
+    ensures value { IfOk result (λ names. names.items ≡ taken all named.now) }
+{
+    let mut names = Vec::new(alloc);
+    for it in named {
+        push_taken(alloc, all, it, &mut names)?;
+    }
+    Ok(names)
+}
+
+fn push_taken(
+    alloc: Global,
+    all: bool,
+    it: &Doubted,
+    names: &mut Vec<Name>,
+) -> Result<(), AllocError>
+    ensures items { OnOk result (names.new.items ≡ names.old.items ++ taken_by all it.now) }
+{
+    if is_taken(all, cause_of(it)) {
+        names.push(it.entry.name.copy(alloc)?)?;
+    }
+    Ok(())
+}
+
+// Why an output is told of.
+#[derive(Clone, Copy)]
+enum Cause {
+    Damaged,
+    Newer,
+    Unsure,
+}
+
+// No command passes for an entry that has the form of an intent, and no file is trusted that is missing.
+fn cause_of(it: &Doubted) -> Option<Cause>
+    ensures { result ≡ cause_of it.now }
+{
+    if is_intent(&it.entry.view()) {
+        return None;
+    }
+    match it.why {
+        Doubt::Damaged => Some(Cause::Damaged),
+        Doubt::Newer => Some(Cause::Newer),
+        Doubt::Unsure | Doubt::Folder | Doubt::NoTime | Doubt::Untold => Some(Cause::Unsure),
+        Doubt::Gone => None,
+    }
+}
+
+fn is_taken(all: bool, cause: Option<Cause>) -> bool
+    ensures { result ≡ is_taken all cause }
+{
+    match cause {
+        Some(Cause::Damaged | Cause::Newer) => true,
+        Some(Cause::Unsure) => all,
+        None => false,
+    }
+}
+
+fn word_of(cause: Cause) -> &'static str
+    ensures { result.now ≡ word_of cause }
+{
+    match cause {
+        Cause::Damaged => "damaged",
+        Cause::Newer => "newer",
+        Cause::Unsure => "unsure",
+    }
+}
+
+// Whether the log is written anew: an output is made anew, or a line is damaged, and a change is asked for.
+fn is_due(dry_run: bool, log: &[u8], names: &[Name]) -> bool
+    ensures { result ≡ is_due dry_run log.now names.now }
+{
+    !dry_run && (!names.is_empty() || !is_whole(lines_version(log), log))
+}
+
+// At a terminal, what was done, where something was told of or done.
+fn append_end(
+    alloc: Global,
+    how: How,
+    is_told: bool,
+    taken: usize,
+    is_due: bool,
+    text: &mut Vec<u8>,
+) -> Result<(), AllocError>
+    ensures ends { OnOk result (EndsBy how.at_terminal text.old.items text.new.items) }
+{
+    if !how.at_terminal || !is_told && !is_due {
+        return Ok(());
+    }
+    let outputs = if taken == 1 { "output" } else { "outputs" };
+    let will = if how.dry_run { "would" } else { "will" };
+    let done = if is_due {
+        "was repaired"
+    } else {
+        "is as it was"
+    };
+    let line = format!(in alloc; "{taken} {outputs} {will} be built again; LOG {done}\n")?;
+    text.extend_from_slice(line.as_bytes())?;
+    Ok(())
+}
+
+// Does what was said, and says it.
+fn mend_said<D: Folder, W: Write>(
+    alloc: Global,
+    secret: Secret,
+    folder: D,
+    log: &[u8],
+    said: &Said,
+    writer: &mut W,
+) -> (D, Result<(), ToolFault>)
+    ensures call { IsIn (D.disk folder) log.now
+        → MendsSaid log.now said.now (W.contents writer.old) (W.contents writer.new)
+        result.1 (folder_view D.Folder folder) (folder_view D.Folder result.0) }
+    ensures faults { IfErr result.1 IsMendFault }
+{
+    let (folder, changed) = change_if_due(alloc, secret, folder, log, said);
+    match changed {
+        Ok(()) => (folder, write_out(said.text.as_slice(), writer)),
+        Err(fault) => (folder, Err(fault)),
+    }
+}
+
+fn change_if_due<D: Folder>(
+    alloc: Global,
+    secret: Secret,
+    folder: D,
+    log: &[u8],
+    said: &Said,
+) -> (D, Result<(), ToolFault>)
+    ensures call { said.now.is_due ≡ true → IsIn (D.disk folder) log.now
+        → MendsLogAs (version_of log.now) said.now.names.items result.1
+        (folder_view D.Folder folder) (folder_view D.Folder result.0) }
+    ensures stays { said.now.is_due ≡ false → (result.0 ≡ folder) × (result.1 ≡ Ok tt) }
+    ensures faults { IfErr result.1 IsRecordFault }
+{
+    if !said.is_due {
+        return (folder, Ok(()));
+    }
+    let place = FoundFolder {
+        secret,
+        version: version_of(log),
+        folder,
+    };
+    mend_on(alloc, place, said.names.as_slice())
+}
