@@ -5,6 +5,7 @@ mod FaultLemmas
 mod JoinLemmas
 mod KeptValues
 mod LogDrop
+mod PlanLemmas
 mod RecordLemmas
 mod RewritingLemmas
 mod ToldLemmas

@@ -1,5 +1,6 @@
 pub mod Statuses
 pub mod MarkedNames
+pub mod Plans
 pub mod LoadedLogs
 pub mod Changes
 pub mod Ends
@@ -8,6 +9,7 @@ pub mod Written
 pub mod Waits
 pub mod Carried
 pub mod CarriedLogs
+pub mod PlanLaws
 pub mod Faults
 pub mod Held
 pub mod Answers

@@ -8,7 +8,7 @@ ghost use Rattle.nl_table.specs.Log.{NotALog, OtherVersion, log_of};
 ghost use Rattle.nl_versions.specs.VersionOf.{as_five, lines_version};
 ghost use Rattle.nl_c.specs.LoadedLogs.{IsDistrustedFrom, IsLoadedFrom};
 ghost use Rattle.nl_c.specs.Answers.{answered_at, answered_count, answered_facts, answered_find, answer_line};
-ghost use Rattle.nl_c.specs.CarriedLogs.{IsNewCarried, MadeRoom, Given, CarriedOpened, WholeOpened, Keeps, Anew, CarriedWritten, CarriedText, CarriedHeader, CarriedLine};
+ghost use Rattle.nl_c.specs.CarriedLogs.{IsNewCarried, MadeRoom, Given, CarriedOpened, WholeOpened, Keeps, Anew, CarriedWritten, CarriedText, CarriedHeader, CarriedLine, Ends, Planned, Withdrawn, LooseLine, intent_stamp};
 ghost use Rattle.nl_c.specs.Held.{InCarried, IsCarriedAnd, given_in, given_of, has_carried, is_carried, loaded_in, loaded_of, table_in};
 ghost use Rattle.nl_c.specs.Written.{Recorded, Begun, Synced, Stopped, Recompacted, Restatted, DeadMarked, TimeMarked, Cleared};
 ghost use Rattle.nl_fields.specs.Name.{IsName};
@@ -356,7 +356,7 @@ pub extern "C" fn carried_record(
     name: &[u8],
     stamp: &CStamp,
 ) -> u32
-    ensures call { InCarried (Keeps (Recorded name.now stamp.now)) result handle.old.kept.log handle.new.kept.log }
+    ensures call { InCarried (Ends name.now (Recorded name.now stamp.now)) result handle.old.kept.log handle.new.kept.log }
 {
     let Some(mut held) = handle.take(alloc) else {
         return status::NO_HANDLE;
@@ -375,12 +375,71 @@ pub extern "C" fn carried_begin(
     moment_ms: i32,
     hash: u64,
 ) -> u32
-    ensures call { InCarried (Keeps (Begun name.now moment_ms hash)) result handle.old.kept.log handle.new.kept.log }
+    ensures call { InCarried (Ends name.now (Begun name.now moment_ms hash)) result handle.old.kept.log handle.new.kept.log }
 {
     let Some(mut held) = handle.take(alloc) else {
         return status::NO_HANDLE;
     };
     let answer = held.begin(alloc, name, moment_ms, hash);
+    *handle = Handle::of(held);
+    answer
+}
+
+/// Adds the line of an intent over the entry of a name, of which the stamp is filled, or if it has none and that is wanted.
+#[unsafe(no_mangle)]
+pub extern "C" fn carried_plan(
+    handle: &mut Handle,
+    alloc: Global,
+    name: &[u8],
+    moment_ms: i32,
+    hash: u64,
+    anew: bool,
+    before: &mut CStamp,
+) -> u32
+    ensures call { InCarried (Planned name.now (intent_stamp moment_ms hash) anew (before.old, before.new)) result handle.old.kept.log handle.new.kept.log }
+{
+    let Some(mut held) = handle.take(alloc) else {
+        return status::NO_HANDLE;
+    };
+    let answer = held.plan(name, moment_ms, hash, anew, before);
+    *handle = Handle::of(held);
+    answer
+}
+
+/// Adds the line of the entry that a name had before its plan, where that stands.
+#[unsafe(no_mangle)]
+pub extern "C" fn carried_withdraw(
+    handle: &mut Handle,
+    alloc: Global,
+    name: &[u8],
+    before: &CStamp,
+) -> u32
+    ensures call { InCarried (Withdrawn name.now before.now) result handle.old.kept.log handle.new.kept.log }
+{
+    let Some(mut held) = handle.take(alloc) else {
+        return status::NO_HANDLE;
+    };
+    let answer = held.withdraw(name, before);
+    *handle = Handle::of(held);
+    answer
+}
+
+/// The line of an entry whose name has a plan that stands, which ends. It isn't added: whoever writes it gives it back later.
+#[unsafe(no_mangle)]
+pub extern "C" fn carried_loose_line(
+    handle: &mut Handle,
+    alloc: Global,
+    name: &[u8],
+    stamp: &CStamp,
+    bytes: &mut [u8],
+    len: &mut usize,
+) -> u32
+    ensures call { InCarried (LooseLine name.now stamp.now (bytes.old, bytes.new) (len.old, len.new)) result handle.old.kept.log handle.new.kept.log }
+{
+    let Some(mut held) = handle.take(alloc) else {
+        return status::NO_HANDLE;
+    };
+    let answer = held.loose_line(name, stamp, bytes, len);
     *handle = Handle::of(held);
     answer
 }

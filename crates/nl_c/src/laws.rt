@@ -12,6 +12,7 @@ ghost use Rattle.nl_folder.specs.CrashImages.{IsDisk, IsImage};
 ghost use Rattle.nl_folder.specs.DiskState.{Disk};
 ghost use Rattle.nl_c.specs.Changes.{Ending, IsOpenText, StepsLeave, exit_of, replace, steps_of};
 ghost use Rattle.nl_c.specs.Faults.{CarriedFaults};
+ghost use Rattle.nl_c.specs.PlanLaws.{PlansStand, WithdrawalsGiveBack};
 
 /// A rewriting puts a new file in the place of the log. Wherever its steps end, and the power then fails, what is found could be found
 /// before, or is the text, whatever text that is.
@@ -47,4 +48,10 @@ pub fn appended_lines_are_recorded()
 /// was asked for what it doesn't keep.
 pub fn a_fault_is_want_of_room()
     ensures { CarriedFaults }
+{}
+
+/// A plan puts an intent over the entry of a name. A withdrawal while the plan stands gives that entry back, whatever came between.
+pub fn a_withdrawn_name_has_what_it_had()
+    ensures planned { PlansStand }
+    ensures withdrawn { WithdrawalsGiveBack }
 {}

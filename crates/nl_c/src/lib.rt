@@ -13,5 +13,6 @@ mod laws;
 mod loaded_log;
 mod look_up;
 mod marks;
+mod plans;
 mod status;
 mod written_log;

@@ -1,10 +1,14 @@
-//! What a caller asks of a table.
-ghost use Rattle.std.specs.Prelude.{◌≡◌};
+//! What a caller asks of a table, and the line of an entry.
+ghost use Rattle.std.specs.Prelude.{◌≡◌, ◌≢◌, ◌<◌, ◌⊎◌, length};
+ghost use Rattle.nl_fields.specs.EntryLine.{line_of};
+ghost use Rattle.nl_lines.specs.Split.{with_newline};
+ghost use Rattle.nl_c.specs.CarriedLogs.{holds_line};
+ghost use Rattle.nl_c.specs.Statuses.{ok, no_room, out_of_memory};
 ghost use Rattle.nl_c.specs.Answers.{answer_at, answer_find, answer_line, entry_in};
 
 use crate::loaded_log::{CStamp, stamp_of};
 use crate::status;
-use nl_fields::{EntryRef, MAX_LINE, read_entry, read_entry_v4};
+use nl_fields::{EntryRef, MAX_LINE, append_entry, read_entry, read_entry_v4};
 use nl_table::{OLDEST_VERSION, Table};
 
 pub(crate) fn find(table: &Table, name: &[u8], stamp: &mut CStamp) -> u32
@@ -72,4 +76,24 @@ pub(crate) fn line(
         read_entry(line)
     };
     fill(entry, stamp, name, name_len)
+}
+
+/// Fills a buffer and a length with the line of an entry, which is spelled in a text first.
+pub(crate) fn spell(entry: &EntryRef, line: &mut Vec<u8>, buf: &mut [u8], len: &mut usize) -> u32
+    ensures done { result ≡ ok → (buf.new, len.new) ≡ holds_line entry.now buf.old }
+    ensures short { result ≡ no_room → length buf.old < length (with_newline (line_of entry.now)) }
+    ensures unchanged { result ≢ ok → (buf.new ≡ buf.old) × (len.new ≡ len.old) }
+    ensures statuses { (result ≡ ok) ⊎ (result ≡ no_room) ⊎ (result ≡ out_of_memory) }
+{
+    line.clear();
+    if append_entry(entry, line).is_err() {
+        return status::OUT_OF_MEMORY;
+    }
+    let count = line.len();
+    if count > buf.len() {
+        return status::NO_ROOM;
+    }
+    buf[..count].copy_from_slice(line.as_slice());
+    *len = count;
+    status::OK
 }

@@ -1,0 +1,78 @@
+//! The names of plans: of which of them the last line is the one that a plan left.
+ghost use Rattle.std.specs.Prelude.{◌≡◌, ◌≢◌, ◌⊎◌, ◌↔◌, ℕ, List, true, false};
+ghost use Rattle.nl_fields.specs.Name.{IsName};
+ghost use Rattle.nl_c.specs.Plans.{PlanSet, is_planned};
+ghost use Rattle.nl_c.specs.Statuses.{ok, bad_name, out_of_memory};
+
+use crate::status;
+use nl_fields::EntryRef;
+use nl_table::{Secret, Table};
+use std::alloc::Global;
+
+/// The names so far.
+#[derive(Drop)]
+pub struct Plans {
+    // An entry for each name that was planned, with the hash 1 as long as its plan stands.
+    pub names: Table,
+}
+
+impl Plans {
+    /// No names, which are hashed under a secret.
+    pub(crate) fn new(alloc: Global, secret: Secret) -> Plans
+        ensures none { (name : List ℕ) → is_planned result.names name ≡ false }
+    {
+        Plans {
+            names: Table::with_secret(alloc, secret),
+        }
+    }
+
+    /// Every plan ends, and its memory is let go of.
+    pub(crate) fn clear(&mut self, alloc: Global)
+        ensures none { (name : List ℕ) → is_planned self.new.names name ≡ false }
+    {
+        self.names = Table::with_secret(alloc, self.names.secret());
+    }
+
+    /// Whether the plan of a name stands.
+    pub(crate) fn stands(&self, name: &[u8]) -> bool
+        ensures { result ≡ is_planned self.now.names name.now }
+    {
+        match self.names.get(name) {
+            Some(entry) => entry.hash == 1,
+            None => false,
+        }
+    }
+
+    /// The plan of a name begins.
+    pub(crate) fn begin(&mut self, name: &[u8]) -> u32
+        ensures ok { result ≡ ok → PlanSet name.now true self.old.names self.new.names }
+        ensures unchanged { result ≢ ok → self.new ≡ self.old }
+        ensures bad_name { result ≡ bad_name ↔ ¬ IsName name.now }
+        ensures refusals { (result ≡ ok) ⊎ (result ≡ bad_name) ⊎ (result ≡ out_of_memory) }
+    {
+        let Ok(entry) = EntryRef::new(0, 0, 0, name, 1) else {
+            return status::BAD_NAME;
+        };
+        match self.names.enter(&entry) {
+            Ok(()) => status::OK,
+            Err(_) => status::OUT_OF_MEMORY,
+        }
+    }
+
+    /// The plan of a name ends, if it has one. It takes no memory.
+    pub(crate) fn end(&mut self, name: &[u8])
+        ensures ended { IsName name.now → PlanSet name.now false self.old.names self.new.names }
+        ensures unchanged { ¬ IsName name.now → self.new ≡ self.old }
+    {
+        if !self.stands(name) {
+            return;
+        }
+        let Ok(entry) = EntryRef::new(0, 0, 0, name, 0) else {
+            return;
+        };
+        match self.names.enter(&entry) {
+            Ok(()) => {}
+            Err(_) => {}
+        }
+    }
+}
