@@ -243,9 +243,7 @@ nlog_status nlog_check_name(const char *name, size_t len);
  *
  * Lock: flock on the log's file, as each `nlog` that changes a log takes it,
  *   and no Ninja does. If the file system has no locks, there is none. The
- *   close unlocks the log, also if a forked child lives on. A process that was
- *   started with a descriptor of the log that has the lock, as by `flock LOG
- *   COMMAND`, has it (Linux with /proc).
+ *   close unlocks the log, also if a forked child lives on.
  * Signals: a call goes on if a signal interrupts it. But a wait for a lock ends
  *   if a handler runs in its thread, or if SIGINT, SIGTERM or SIGHUP is blocked
  *   and pending. It answers NLOG_LOCKED with EINTR, and may be made again.
@@ -253,20 +251,14 @@ nlog_status nlog_check_name(const char *name, size_t len);
  *   of files (RLIMIT_FSIZE) must ignore SIGXFSZ.
  * Descriptors are close-on-exec, and none is a standard stream's.
  * Files: the scratch of a rewriting is the path with `.recompact` behind it. A
- *   failure may leave it there, and the next rewriting takes it away. If that
- *   is too long a name, the open is refused, by ENAMETOOLONG. A rewritten log
- *   is a new file, and replaces a symbolic link. Its rights are those of the
- *   old one, as far as the process may give them, and nobody gains one. The
- *   open looks the path up, and holds the folder open until the close.
- * Syncs: a log is synced by its folder, and then by its file. A sync of the
- *   folder that answers EINVAL, ENOSYS, ENOTSUP or EROFS is none. Then a power
- *   failure may take the name of a log that was made or rewritten.
+ *   failure may leave it there, and the next rewriting takes it away. A
+ *   rewritten log is a new file, and replaces a symbolic link. The open looks
+ *   the path up, and holds the folder open until the close.
+ * Syncs: a log is synced by its folder, if that can be, and then by its file.
  * Others: nobody else writes, removes or replaces the log while it is open, but
- *   writers that share it. The log is looked at before each sync, each close
- *   that syncs and each rewriting. If another file stands there, none, or one
- *   of another length, the call answers NLOG_FAULT, with ESTALE or ENOENT and
- *   "stat", and changes nothing. What was recorded since the last sync may be
- *   lost.
+ *   writers that share it. Else each sync, each close that syncs and each
+ *   rewriting answers NLOG_FAULT, with ESTALE or ENOENT and "stat", and changes
+ *   nothing. What was recorded since the last sync may be lost.
  * Memory: a log that is open, or open to read, takes its table, as nlog_load
  *   does, and a buffer of 327,743 bytes. While it is opened it takes the log's
  *   bytes too. If there is none, a call answers NLOG_OUT_OF_MEMORY, and no file
@@ -315,10 +307,8 @@ nlog_status nlog_writer_open(nlog_writer *writer);
  * then answer as behind nlog_writer_open. Marks of dead names are used up as by
  * it.
  * The first call that changes the log, or nlog_writer_open, locks it. Then it
- * does what an open owes: it syncs, and repairs or rewrites. If the file is the
- * one that was read, nothing of it is read again but its last 1024 bytes. If it
- * isn't due, and only grew by lines of entries, these are read. Else it is read
- * anew. A log that is due is rewritten without what is marked dead by then.
+ * does what an open owes: it syncs, and repairs or rewrites. A log that is due
+ * is rewritten without what is marked dead by then.
  * NLOG_OK: the log was read. A close of it is answered NLOG_OK, and does
  * nothing to any file.
  * Other statuses of this call: as of nlog_writer_open, and no file was touched.
@@ -338,13 +328,11 @@ nlog_status nlog_writer_is_due(const nlog_writer *writer, bool *is_due);
 uint64_t nlog_writer_other_version(const nlog_writer *writer);
 
 /* Whether the log is shared, which it isn't at first. Then the lock is held
- * within each call alone, and not from the open to the close. This is for a
- * tool whose commands may run the tool itself in the same folder, as a build
- * may run Ninja.
- * A call that changes the log takes in what others did. If the log only grew by
- * lines of entries, these alone are read, and nothing is synced or rewritten
- * for them. Else it is read and opened anew. Calls that only read answer of
- * what the last such call saw.
+ * within each call alone, and not from the open to the close.
+ * A call that changes the log takes in what others did. But a record of names
+ * that were planned takes no lock. A rewriting by another may lose it, and then
+ * their intents stand. Calls that only read answer of what the last call saw
+ * that had the lock.
  * NLOG_ALREADY_OPEN: the writer has to be closed; also of a broken one.
  * NLOG_LOCKED of a later call: nothing was done, the log is open still, and the
  * call may be made again. */
@@ -358,13 +346,10 @@ nlog_status nlog_writer_release(nlog_writer *writer);
 
 /* Whether the writer is wary, which it isn't at first. Then each open, also one
  * to read, drops the entries of distrusted outputs, as nlog_load_distrusted
- * tells them. This is for a build tool: it makes an output again that has no
- * entry.
+ * tells them.
  * If there is such an output, the open rewrites the log, or the first change
- * does, without what is marked dead. Until then the old log still tells of
- * them. So no kill brings a dropped entry back, and no power cut does once the
- * damaged line is on disk. A log whose lines are all entries is read and loaded
- * once. Any other one is read twice.
+ * does, without what is marked dead. So no kill brings a dropped entry back,
+ * and no power cut does once the damaged line is on disk.
  * NLOG_ALREADY_OPEN: the writer has to be closed; also of a broken one. */
 nlog_status nlog_writer_set_wary(nlog_writer *writer, bool is_wary);
 
@@ -405,6 +390,33 @@ nlog_status nlog_writer_record_edge(nlog_writer *writer, const nlog_name *names,
  * Refused as nlog_writer_record_edge is. */
 nlog_status nlog_writer_begin(nlog_writer *writer, const nlog_name *names,
     size_t count, int32_t moment_ms, uint64_t hash);
+
+/* A name that a plan is about to make. */
+typedef struct nlog_planned {
+  nlog_name name;
+  uint64_t hash;     /* of the command that will run */
+  bool anew;         /* an intent also if the name has no entry */
+  bool had, written; /* filled: it had an entry; an intent stands */
+  nlog_entry before; /* filled: that entry */
+} nlog_planned;
+
+/* Before the first command of a plan runs: adds the intent of each name that
+ * has an entry or is `anew`, and syncs. The moment is as of nlog_writer_begin.
+ * One write adds them, or one for each 262,144 bytes. Plan a name once.
+ * NLOG_OK: whatever comes, no name has the entry that it had.
+ * NLOG_NOT_OPEN, NLOG_BROKEN, NLOG_BAD_NAME, NLOG_LOCKED: nothing was done.
+ * Others: no command may run. Intents that stand do no harm, and may be
+ * withdrawn after NLOG_OUT_OF_MEMORY. */
+nlog_status nlog_writer_begin_plan(nlog_writer *writer, nlog_planned *planned,
+    size_t count, int32_t moment_ms);
+
+/* Gives names of a plan whose commands never began their entries back, as
+ * nlog_writer_begin_plan adds intents, but without a sync. It leaves out a name
+ * that has another line since, and all if another rewrote the log.
+ * *withdrawn: how many got theirs.
+ * Refused as nlog_writer_record_edge is. */
+nlog_status nlog_writer_withdraw(nlog_writer *writer,
+    const nlog_planned *planned, size_t count, size_t *withdrawn);
 
 /* As nlog_count, nlog_at and nlog_find, of the log, open or open to read, with
  * all that was recorded. NLOG_NOT_OPEN, NLOG_BROKEN. */

@@ -18,6 +18,9 @@
  * answer the next sync well. */
 #include "writer.h"
 
+/* So often lines are written that stand behind half a line each time. */
+#define MOST_TRIES 8
+
 /* ---- Calls of the system ---- */
 
 nlog_status fail(nlog_writer *writer, const char *call, const char *path, int error) {
@@ -158,13 +161,37 @@ nlog_status sync_text(nlog_writer *writer) {
   return carried_sync(&writer->log);
 }
 
+/* Writes bytes at the end of a log that is shared, where others may write without the lock. Behind
+ * half a line, of theirs or of a write that was cut off, all is written once more. */
+static bool write_shared(nlog_writer *writer, size_t len) {
+  int tries;
+  for (tries = 0; tries < MOST_TRIES; tries++) {
+    char before = '\n';
+    uint64_t at;
+    ssize_t count = write(writer->log_fd, writer->buffer, len);
+    off_t end = lseek(writer->log_fd, 0, SEEK_CUR);
+    if (count < 0 && errno == EINTR) continue;
+    if (count < 0 || end < count) return false;
+    at = (uint64_t)(end - count);
+    if ((size_t)count == len && at == writer->len) return true;
+    writer->is_apart = true;
+    if (at > 0 && read_whole(writer->log_fd, &before, 1, at - 1) != 1) return false;
+    if ((size_t)count == len && before == '\n') return true;
+  }
+  errno = EIO;
+  return false;
+}
+
 /* Writes the lines that wait, by one write. The buffer has room for them. */
 nlog_status write_new(nlog_writer *writer) {
   uint64_t len;
+  size_t count;
   TRY(carried_text(&writer->log, writer->len, writer->buffer, writer->room, &len));
   if (len == writer->len) return NLOG_OK;
   writer->is_pending = true;
-  if (!write_whole(writer->log_fd, writer->buffer, (size_t)(len - writer->len))) {
+  count = (size_t)(len - writer->len);
+  if (!(writer->is_shared ? write_shared(writer, count)
+                          : write_whole(writer->log_fd, writer->buffer, count))) {
     return fail(writer, "write", writer->path, errno);
   }
   writer->len = len;

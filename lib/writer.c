@@ -9,7 +9,10 @@
  *
  * OPEN    Locked, and the file is the text. It is looked at before each sync and each rewriting: a
  *         sync of another file would acknowledge what no load finds. Shared, the lock is let go of
- *         behind each call, and the next one takes in what others did.
+ *         behind each call, and the next one takes in what others did. A record of planned names is
+ *         written without the lock, and is taken in then too. Where such a line of another came
+ *         between a look and a write, or was cut off, the file is apart from the text, which the
+ *         next call reads anew.
  * READ    Not locked. The file stays open, so that no other one can have its number. The first
  *         change goes on from it where it is the log's still, and else reads the log anew.
  * BROKEN  What is on disk isn't known.
@@ -20,6 +23,9 @@
 
 /* How long a lock is waited for where the caller doesn't say, in milliseconds. */
 #define WAIT 10000
+
+/* Each so many records without the lock it is looked whether the file is the log's still. */
+#define LOOK_EVERY 8
 
 /* ---- The writer ---- */
 
@@ -42,7 +48,7 @@ static void let_go(nlog_writer *writer) {
   free(writer->buffer);
   writer->buffer = NULL;
   writer->room = 0;
-  writer->is_pending = writer->is_held = false;
+  writer->is_pending = writer->is_held = writer->is_apart = false;
   forget_process(writer);
   writer->state = CLOSED;
 }
@@ -187,6 +193,7 @@ static nlog_status open_text(nlog_writer *writer, int fd) {
 
 /* Reads the log that is locked, and makes its file the text. */
 static nlog_status open_log(nlog_writer *writer) {
+  writer->is_apart = false;
   TRY(open_text(writer, writer->log_fd));
   return carry_out(writer, writer->seen.change, writer->seen.len);
 }
@@ -329,14 +336,16 @@ static nlog_status enter(nlog_writer *writer) {
     if (status != NLOG_LOCKED) writer->state = status == NLOG_OK ? OPEN : BROKEN;
     return status;
   }
-  if (!writer->is_shared || writer->is_held) return NLOG_OK;
+  if (!writer->is_shared || (writer->is_held && !writer->is_apart)) return NLOG_OK;
   if (writer->log_fd >= 0) {
     status = lock_again(writer);
     if (status == NLOG_LOCKED) return status;
     if (status == NLOG_OK) status = look(writer, &other, &len);
     if (status != NLOG_OK) return settle(writer, status);
-    if (other == 0 && len == writer->len) return NLOG_OK;
-    if (other == 0 && len > writer->len && join(writer, writer->len, len)) return NLOG_OK;
+    if (other == 0 && !writer->is_apart) {
+      if (len == writer->len) return NLOG_OK;
+      if (len > writer->len && join(writer, writer->len, len)) return NLOG_OK;
+    }
     if (other != 0) unlock_and_close(&writer->log_fd);
   }
   status = other != 0 ? lock_log(writer, &about) : NLOG_OK;
@@ -353,7 +362,11 @@ static nlog_status enter_to_keep(nlog_writer *writer) {
   TRY(enter(writer));
   if (writer->is_shared && !writer->is_held) return NLOG_OK;
   status = look(writer, &other, &len);
-  if (status == NLOG_OK && other == 0 && len != writer->len) other = ESTALE;
+  if (status == NLOG_OK && other == 0 && len != writer->len) {
+    const bool is_more = writer->is_shared && len > writer->len;
+    if (is_more && join(writer, writer->len, len)) return NLOG_OK;
+    other = ESTALE;
+  }
   if (status == NLOG_OK && other != 0) status = fail(writer, "stat", writer->path, other);
   return settle(writer, status);
 }
@@ -449,17 +462,6 @@ nlog_status nlog_writer_release(nlog_writer *writer) {
   return leave(writer, NLOG_OK);
 }
 
-nlog_status nlog_writer_record(nlog_writer *writer, const char *name, size_t len,
-    const nlog_entry *entry) {
-  nlog_status status;
-  TRY(check(writer));
-  TRY(nlog_check_name(name, len));
-  TRY(enter(writer));
-  status = of_text(writer, carried_record(&writer->log, name, len, entry));
-  if (status == NLOG_OUT_OF_MEMORY) return leave(writer, status);
-  return end(writer, status == NLOG_OK ? write_new(writer) : status);
-}
-
 /* Makes room for all lines of an edge. */
 static nlog_status make_room(nlog_writer *writer, const nlog_name *names, size_t count) {
   size_t needed = 0, i;
@@ -477,6 +479,38 @@ static nlog_status make_room(nlog_writer *writer, const nlog_name *names, size_t
   return NLOG_OK;
 }
 
+/* Whether a record may go into the file of a shared log without the lock. Now and then it is looked
+ * whether that is the log's still. */
+static bool may_write_loosely(nlog_writer *writer) {
+  int other = 0;
+  uint64_t len;
+  if (!writer->is_shared || writer->is_held || writer->state != OPEN) return false;
+  if (writer->log_fd < 0 || writer->is_apart) return false;
+  if (++writer->loose % LOOK_EVERY != 0) return true;
+  return look(writer, &other, &len) == NLOG_OK && other == 0;
+}
+
+/* Adds the lines of names whose plans stand, by one write, without the lock and not to the text: the
+ * next call that has the lock reads them. Where a rewriting loses them, the intents stand. */
+static bool write_loosely(nlog_writer *writer, const nlog_name *names, size_t count,
+    const nlog_entry *entry) {
+  size_t used = 0, line, i;
+  ssize_t written;
+  if (!may_write_loosely(writer)) return false;
+  for (i = 0; i < count; i++, used += line) {
+    char *to = writer->buffer + used;
+    nlog_status status = carried_loose_line(&writer->log, names[i].bytes, names[i].len, entry, to,
+        writer->room - used, &line);
+    if (status != NLOG_OK) return false;
+  }
+  writer->is_pending = true;
+  do written = write(writer->log_fd, writer->buffer, used);
+  while (written < 0 && errno == EINTR);
+  /* A line that was cut off is cut away by who has the lock. */
+  writer->is_apart = written != (ssize_t)used;
+  return !writer->is_apart;
+}
+
 /* Adds a line for each name, by one write: of the entry, or of an intent where the name wants one.
  * Those before a refusal are a part of the text, and so of the file. */
 static nlog_status add_lines(nlog_writer *writer, const nlog_name *names, size_t count,
@@ -485,7 +519,7 @@ static nlog_status add_lines(nlog_writer *writer, const nlog_name *names, size_t
   nlog *log;
   TRY(check(writer));
   TRY(make_room(writer, names, count));
-  if (count == 0) return NLOG_OK;
+  if (count == 0 || (!is_begin && write_loosely(writer, names, count, entry))) return NLOG_OK;
   TRY(enter(writer));
   log = &writer->log;
   for (status = NLOG_OK; status == NLOG_OK && count > 0; count--, names++) {
@@ -500,6 +534,12 @@ static nlog_status add_lines(nlog_writer *writer, const nlog_name *names, size_t
   return written == NLOG_OK ? status : written;
 }
 
+nlog_status nlog_writer_record(nlog_writer *writer, const char *name, size_t len,
+    const nlog_entry *entry) {
+  const nlog_name one = {name, len};
+  return nlog_writer_record_edge(writer, &one, 1, entry);
+}
+
 nlog_status nlog_writer_record_edge(nlog_writer *writer, const nlog_name *names, size_t count,
     const nlog_entry *entry) {
   return add_lines(writer, names, count, entry, false);
@@ -509,6 +549,74 @@ nlog_status nlog_writer_begin(nlog_writer *writer, const nlog_name *names, size_
     int32_t moment_ms, uint64_t hash) {
   nlog_entry entry = {moment_ms, moment_ms, 0, hash};
   return add_lines(writer, names, count, &entry, true);
+}
+
+/* ---- Plans ---- */
+
+/* Makes room for one more line of a plan: what waits is written where there is none. */
+static nlog_status make_way(nlog_writer *writer, size_t len, size_t *used) {
+  if (*used + len + MAX_NUMBERS > writer->room) {
+    TRY(write_new(writer));
+    *used = 0;
+  }
+  *used += len + MAX_NUMBERS;
+  return NLOG_OK;
+}
+
+/* Ends the lines of a plan, of which the last status is this one. Those before a refusal are a part
+ * of the text, and so of the file. */
+static nlog_status end_plan(nlog_writer *writer, nlog_status status, bool is_synced) {
+  const bool is_refused = status == NLOG_OUT_OF_MEMORY;
+  if (status == NLOG_OK || is_refused) status = write_new(writer);
+  else status = of_text(writer, status);
+  if (status == NLOG_OK && is_synced && !is_refused) status = sync_text(writer);
+  status = end(writer, status);
+  return status == NLOG_OK && is_refused ? NLOG_OUT_OF_MEMORY : status;
+}
+
+nlog_status nlog_writer_begin_plan(nlog_writer *writer, nlog_planned *planned, size_t count,
+    int32_t moment_ms) {
+  nlog_status status = NLOG_OK;
+  bool is_any = false;
+  size_t used = 0, i;
+  TRY(check(writer));
+  for (i = 0; i < count; i++) TRY(nlog_check_name(planned[i].name.bytes, planned[i].name.len));
+  if (count == 0) return NLOG_OK;
+  TRY(enter_to_keep(writer));
+  for (i = 0; i < count; i++) planned[i].had = planned[i].written = false;
+  for (; status == NLOG_OK && count > 0; count--, planned++) {
+    const nlog_name *name = &planned->name;
+    status = make_way(writer, name->len, &used);
+    if (status != NLOG_OK) return end(writer, status);
+    status = carried_plan(&writer->log, name->bytes, name->len, moment_ms, planned->hash,
+        planned->anew, &planned->before);
+    planned->had = status == NLOG_OK;
+    planned->written = planned->had || (status == NLOG_NOT_FOUND && planned->anew);
+    is_any = is_any || planned->written;
+    if (status == NLOG_NOT_FOUND) status = NLOG_OK;
+  }
+  return end_plan(writer, status, is_any);
+}
+
+nlog_status nlog_writer_withdraw(nlog_writer *writer, const nlog_planned *planned, size_t count,
+    size_t *withdrawn) {
+  nlog_status status = NLOG_OK;
+  size_t used = 0;
+  TRY(check(writer));
+  *withdrawn = 0;
+  while (count > 0 && !(planned->had && planned->written)) planned++, count--;
+  if (count == 0) return NLOG_OK;
+  TRY(enter(writer));
+  for (; status == NLOG_OK && count > 0; count--, planned++) {
+    const nlog_name *name = &planned->name;
+    if (!planned->had || !planned->written) continue;
+    status = make_way(writer, name->len, &used);
+    if (status != NLOG_OK) return end(writer, status);
+    status = carried_withdraw(&writer->log, name->bytes, name->len, &planned->before);
+    *withdrawn += status == NLOG_OK;
+    if (status == NLOG_NOT_FOUND) status = NLOG_OK;
+  }
+  return end_plan(writer, status, false);
 }
 
 nlog_status nlog_writer_sync(nlog_writer *writer) {

@@ -77,6 +77,8 @@ struct nlog_writer {
   bool is_rewritten;      /* by the last open */
   bool is_shared;         /* the lock is held within calls alone, */
   bool is_held;           /* or from a hold to a release */
+  bool is_apart;          /* the file isn't the text: it is read anew under the lock */
+  uint32_t loose;         /* how many records had no lock */
   bool is_wary;           /* outputs that can't be trusted lose their entries */
   uint32_t wait;          /* for a lock, in milliseconds */
   char *buffer;           /* of `room` bytes: of an open log a block and the longest line */
@@ -97,6 +99,11 @@ nlog_status carried_header(nlog *log, void *bytes, size_t room);
 nlog_status carried_line(nlog *log, size_t place, void *bytes, size_t room, size_t *len);
 nlog_status carried_record(nlog *log, const char *name, size_t len, const nlog_entry *entry);
 nlog_status carried_begin(nlog *log, const char *name, size_t len, int32_t moment, uint64_t hash);
+nlog_status carried_plan(nlog *log, const char *name, size_t len, int32_t moment, uint64_t hash,
+    bool anew, nlog_entry *before);
+nlog_status carried_withdraw(nlog *log, const char *name, size_t len, const nlog_entry *before);
+nlog_status carried_loose_line(nlog *log, const char *name, size_t len, const nlog_entry *entry,
+    void *bytes, size_t room, size_t *used);
 nlog_status carried_written(nlog *log, uint64_t len);
 nlog_status carried_sync(nlog *log);
 nlog_status carried_recompact(nlog *log);
