@@ -8,7 +8,7 @@ the format says of each log from log_format.py. tests/clib/tool.c has the comman
 program's system calls, of writes that are cut, of a full disk, of what a crash leaves, and of `apply` are made of the library too, by the
 same rules. Writers run at once, one beside PROGRAM too, and are killed.
 
-Parts of it are clib_ends.py (how calls end where something fails, or is large), clib_looks.py (a log that is opened to read), clib_wary.py (a writer that drops what can't be trusted), clib_rights.py (who may
+Parts of it are clib_ends.py (how calls end where something fails, or is large), clib_looks.py (a log that is opened to read), clib_wary.py (a writer that drops what can't be trusted), clib_plans.py (plans), clib_rights.py (who may
 read and write a log that is rewritten), clib_systems.py (what a file system can't do, and what is done to a log), clib_steps.py (the steps of a
 change) and clib_packages.py (how the library is taken).
 
@@ -36,6 +36,7 @@ import between
 import clib_ends
 import clib_looks
 import clib_packages
+import clib_plans
 import clib_rights
 import clib_steps
 import clib_systems
@@ -50,7 +51,7 @@ from log_format import HEADER, MAX_LINE, MAX_NAME, Log, as_version, command_hash
 from log_lines import damage_of, distrusted_of
 from trials import BUILD_SECONDS, SECONDS, Pauses, is_locked, is_within, main, read, run, until_open, write
 
-TOOL, SHARER, READERS, RUST = (f"{TOP}/tests/clib/{it}" for it in ("tool.c", "shared.c", "readers.c", "safe.rs"))
+TOOL, SHARER, PLANS, READERS, RUST = (f"{TOP}/tests/clib/{it}" for it in ("tool.c", "shared.c", "plans.c", "readers.c", "safe.rs"))
 VERSION_OF_NAMES = "NLOG_0.2"
 # The calls which a driver writes down, or counts (clib_steps.py).
 RECORDED = ["fsync", "ftruncate64", "write", "openat64", "unlinkat", "renameat", "flock", "fchmod", "close", "fstat64", "fstatat64", "mmap64", "munmap", "malloc", "calloc", "free",
@@ -76,6 +77,7 @@ def build(trials, room):
         ("timeless", ["cc", "-std=c11", "-O2", "-DTIMELESS", "-Wl,--wrap=fstat64,--wrap=fstatat64", *STRICT, DRIVER, archive]),
         ("tool", ["cc", "-std=c11", "-O2", *STRICT, TOOL, archive]),
         ("sharer", ["cc", "-std=c11", "-g", *SANITIZED, *STRICT, SHARER, *parts] if sanitizes(room) else ["cc", "-std=c11", *STRICT, SHARER, archive]),
+        ("plans", ["cc", "-std=c11", "-O2", *STRICT, PLANS, archive]),
         ("readers", ["cc", "-std=c11", "-g", *STRICT, READERS, "-pthread", archive]),
         ("readers by threads", ["cc", "-std=c11", "-g", "-fsanitize=thread", *STRICT, READERS, *parts, "-pthread"]),
         ("rust", ["rustc", "--edition", "2021", "-D", "warnings", "-L", room, "-l", "static=nlog", RUST]),
@@ -449,6 +451,7 @@ NAMES = [b"", b"a\tb", b"a\nb", b"a\0b", b"n" * (MAX_NAME + 1)]
 # Lines that ask for intents, for a command of the hash cc, and the lines of these: the hash has each of its 64 bits turned over.
 BEGIN_A, BEGIN_A_AGAIN = f"begin 7 0 0 cc {hexed(b'a')}", f"begin 8 0 0 cc {hexed(b'a')}"
 INTENT_A, INTENT_B = (b"7\t7\t0\t%s\tffffffffffffff33\n" % it for it in (b"a", b"b"))
+PLAN = f"plan 7 0 0 cc {hexed(b'a', b'none', b'b')}"
 E = b"-9\t-9\t0\ta\tffffffffffffff32\n"
 
 # Numbers of versions that aren't read, and as which they are told.
@@ -479,6 +482,14 @@ TURNS = [
     # An intent of another moment stands, and one for another command takes its place.
     (HEADER + A, 0, ["open", BEGIN_A, BEGIN_A_AGAIN, f"begin -9 0 0 cd {hexed(b'a')}", *[f"begin 7 0 0 cc {hexed(it)}" for it in NAMES], "count", "close"],
      ["OK", "OK", "OK", "OK", *["BAD_NAME"] * 5, "OK 1", "OK"], HEADER + A + INTENT_A + E),
+    # A plan, of which one name has no entry; what is withdrawn of it, once; and one name that was recorded since.
+    (HEADER + A + B, 0, [PLAN, "open", PLAN, FIND, "withdraw", f"record 4 5 6 cc {hexed(b'b')}", f"withdraw {hexed(b'b', b'a', b'none')}", f"withdraw {hexed(b'a')}",
+                         f"plan 7 0 0 cc {hexed(b'a', NAMES[1])}", "plan 7 0 0 cc", "close"],
+     ["NOT_OPEN", "OK", "OK 11 1 2 3 aa 00 11 4 5 6 bb", "OK 7 7 0 ffffffffffffff33", "OK 0", "OK", "OK 1", "OK 0", "BAD_NAME", "OK", "OK"],
+     HEADER + A + B + INTENT_A + INTENT_B + b"4\t5\t6\tb\tcc\n" + A),
+    # An intent is planned over too, and one is written anew where that is asked for. A rewriting ends each plan.
+    (HEADER + A + INTENT_A, 0, ["open", BEGIN_A_AGAIN, f"plan 8 1 0 cc {hexed(b'a', b'none')}", "recompact", f"withdraw {hexed(b'a')}", "close"],
+     ["OK", "OK", "OK 11 7 7 0 ffffffffffffff33 01", "OK", "OK 0", "OK"], HEADER + b"".join(b"8\t8\t0\t%s\tffffffffffffff33\n" % it for it in (b"a", b"none"))),
     # Marks: a recompaction uses up those of the dead and leaves those of times, of which the last of a name counts; an open uses up those of names
     # that the log lacks.
     (HEADER + A + B, 0, [f"dead {hexed(b'a', b'nothing')}", "open", f"time 8 {hexed(b'b')} 7 {hexed(b'b')}", "recompact", RECORD, "recompact", "restat", "close"],
@@ -878,7 +889,7 @@ def locks(trials, made, program, room):
 
 def forks(trials, made, room):
     """A fork while the log is open: the child may free the writer and no more, and the parent's log stays open, whole and locked."""
-    refused = " ".join(["FORKED"] * 24)
+    refused = " ".join(["FORKED"] * 26)
     ways = drivers(made)
     if may_trace(trials, room):
         # A system that clears no page in a child.
@@ -1235,13 +1246,13 @@ def writes_that_fail(trials, made, room):
 # The calls of the system that a call of the writer makes, alone and where the log is shared.
 HELD = f"record 7 8 9 cc {hexed(b'held')}"
 COSTS = {
-    RECORD: (["write"], ["flock", "stat", "write", "flock"]),
-    BEGIN_A: (["write"], ["flock", "stat", "write", "flock"]),
+    RECORD: (["write"], ["flock", "stat", "write", "lseek", "flock"]),
+    BEGIN_A: (["write"], ["flock", "stat", "write", "lseek", "flock"]),
     BEGIN_A_AGAIN: ([], ["flock", "stat", "flock"]),
     "sync": (["stat", "fsync"], ["flock", "stat", "fsync", "flock"]),
     FIND: ([], []),
     "hold": ([], ["flock", "stat"]),
-    HELD: (["write"], ["write"]),
+    HELD: (["write"], ["write", "lseek"]),
     "release": ([], ["flock"]),
 }
 
@@ -1553,6 +1564,7 @@ def trial(trials, program, room):
     clib_ends.trial(trials, made, room, may_trace(trials, room))
     clib_looks.trial(trials, made, room)
     clib_wary.trial(trials, made, room)
+    clib_plans.trial(trials, made, program, room, may_trace(trials, room))
     clib_rights.trial(trials, made, room)
     clib_systems.trial(trials, made, room)
     clib_packages.trial(trials, made, program, room)

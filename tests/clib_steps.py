@@ -13,7 +13,7 @@ import os
 import re
 
 from clib_driver import TOP, opened, opened_warily
-from log_format import HEADER
+from log_format import HEADER, Log, as_version
 from trials import read
 
 CHANGES = ["KEEP", "APPEND", "CUT", "REPLACE"]
@@ -130,6 +130,8 @@ def steps_taken(calls):
 
 
 STEPS = {"sync", "cut", "write", "unlink", "make", "rename"}
+# The calls that add lines.
+ADDING = ("record", "edge", "begin", "plan", "withdraw")
 
 
 class Held:
@@ -144,7 +146,8 @@ class Held:
         """What is wrong with the order of these calls, or None."""
         # A log that is the writer's alone may have been moved, or removed.
         self.length = self.length if was_open and not is_shared else len(before)
-        length, scratch, is_looked, is_clean, filled, has_written = self.length, 0, was_open and word not in ("sync", "recompact", "restat", "close"), False, False, False
+        length, scratch, is_looked, is_clean, filled, has_written = self.length, 0, was_open and word not in ("sync", "recompact", "restat", "plan", "close"), False, False, False
+        is_loose = self.is_loose(word, before, calls, is_shared and was_open)
         lent = any(it[0] == "lock" and it[1] == "l" and it[3] == "0" for it, _ in calls) and status in ("NLOG_OK", "NLOG_NEGATIVE_TIME")
         for (what, file, number, is_done), _ in calls:
             number, done = int(number), is_done == "1"
@@ -168,7 +171,7 @@ class Held:
                 return "what isn't synced is said to be"
             if what not in STEPS:
                 continue
-            if "Lock" in self.definition.first and not (self.files.get("l") or self.is_lent) and file != "f":
+            if "Lock" in self.definition.first and not (self.files.get("l") or self.is_lent or is_loose) and file != "f":
                 return f"{what} of {file} without the lock"
             if "Look" in self.definition.first and not is_looked:
                 return f"{what} of {file} behind no look"
@@ -196,6 +199,14 @@ class Held:
                     self.files = {{"l": "o", "s": "l"}.get(it, it): locked for it, locked in self.files.items()}
             self.length = length
         return None
+
+    @staticmethod
+    def is_loose(word, before, calls, is_shared):
+        """Whether a call is a record that needs no lock: each of its names has an intent, or no entry."""
+        if word not in ("record", "edge") or not is_shared or any(it[0] == "lock" for it, _ in calls):
+            return False
+        table, own = Log(as_version(before, 5)).table, Log(HEADER + b"".join(data for it, data in calls if it[0] == "write")).table
+        return all(it not in table or table[it][0] == table[it][1] and table[it][2] == 0 for it in own)
 
     def left(self, text, pages, state, is_shared):
         """What is wrong with what is open behind a call, or None."""
@@ -258,7 +269,8 @@ class Process:
     def lists(self, word, before, after, own, is_done):
         """The lists of steps that a call may take. `after`: the log behind it, to which the call itself added what `own` says."""
         mine = {"record": [("WriteLog", own)] if own else [], "sync": [("SyncLog",)], "close": [("SyncLog",)] if self.is_pending else []}
-        mine["edge"], mine["begin"], mine["hold"] = mine["record"], mine["record"], []
+        mine["edge"], mine["begin"], mine["withdraw"], mine["hold"] = mine["record"], mine["record"], mine["record"], []
+        mine["plan"] = [("WriteLog", own), ("SyncLog",)] if own else []
         rewriting = self.definition.steps_of("REPLACE", b"", after)[1:]
         mine["recompact"] = mine["restat"] = rewriting
         last = mine.get(word, [])
@@ -267,7 +279,7 @@ class Process:
         if self.state == "open" and not self.is_shared:
             return [last]
         changes, _ = self.openings(before)
-        text = after[: len(after) - len(own)] if word in ("record", "edge", "begin") else after
+        text = after[: len(after) - len(own)] if word in ADDING else after
         # The log of a call that failed isn't the text.
         is_other = word in ("recompact", "restat") or not is_done
         first = []
@@ -278,7 +290,7 @@ class Process:
                 steps = steps[1:]
             first.append([*steps, *last])
         # An edge of no name changes nothing.
-        return [*first, *([last] if self.state == "open" else [[]] if word in ("edge", "begin") else [])]
+        return [*first, *([last] if self.state == "open" else [[]] if word in ADDING else [])]
 
     def call(self, word, before, status, after, calls):
         """One call: what is wrong with it, or None."""
@@ -298,7 +310,7 @@ class Process:
         """What is wrong with its steps, or None."""
         taken = steps_taken(calls)
         writes = [step for step, _ in taken if step[0] == "WriteLog"]
-        own = writes[-1][1] if word in ("record", "edge", "begin") and writes else b""
+        own = writes[-1][1] if word in ADDING and writes else b""
         # The first line and a record in a row are one run of writes.
         if own.startswith(HEADER[:13]) and word != "open":
             taken[-1:] = [((("WriteLog", own[:15])), True), (("WriteLog", own[15:]), taken[-1][1])] if own[15:] else taken[-1:]
@@ -308,7 +320,7 @@ class Process:
         # What a rewriting wrote that failed stands in the scratch.
         scratch = b"".join(step[1] for step, _ in taken if step[0] == "WriteScratch")
         lists = self.lists(word, before, scratch or after if word in ("recompact", "restat") and not done else after, own, done)
-        if word in ("sync", "close"):
+        if word in ("sync", "plan", "close"):
             # Behind an open the folder is durable: the last sync may be of the file alone.
             lists += [[*it[:-1], ("SyncFile",)] for it in lists if it[-1:] == [("SyncLog",)]]
         if done and status in ("NLOG_OK", "NLOG_NEGATIVE_TIME", "NLOG_BAD_NAME"):
@@ -320,7 +332,7 @@ class Process:
 
     def settle(self, word, status, taken, before):
         for (step, *_), done in taken:
-            if step == "WriteLog" and word in ("record", "edge", "begin"):
+            if step == "WriteLog" and word in ADDING:
                 self.is_pending = True
             if step in ("SyncLog", "SyncFile"):
                 self.is_unsound = not done
@@ -339,10 +351,10 @@ class Process:
             self.is_pending = False
         elif word in ("close", "free") and status not in ("NLOG_LOCKED",):
             self.state, self.is_pending = "closed", False
-        elif word in ("record", "edge", "begin", "hold", "sync", "recompact", "restat") and self.state in ("read", "open"):
+        elif word in (*ADDING, "hold", "sync", "recompact", "restat") and self.state in ("read", "open"):
             if status in ("NLOG_OK", "NLOG_NEGATIVE_TIME"):
                 # An edge of no name is no change.
-                self.state = self.state if not taken and word in ("edge", "begin") and self.state == "read" else "open"
+                self.state = self.state if not taken and word in ADDING and self.state == "read" else "open"
             elif status not in ("NLOG_LOCKED", "NLOG_BAD_NAME"):
                 self.state = "broken"
 

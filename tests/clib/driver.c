@@ -673,7 +673,7 @@ static bool next_request(request *to) {
   for (word = strtok(line, " \n"); word != NULL && count < 2000; word = strtok(NULL, " \n")) words[count++] = word;
   memset(to, 0, sizeof *to);
   to->word = count > 0 ? words[0] : "-";
-  has_entry = strcmp(to->word, "record") == 0 || strcmp(to->word, "edge") == 0 || strcmp(to->word, "begin") == 0;
+  has_entry = strcmp(to->word, "record") == 0 || strcmp(to->word, "edge") == 0 || strcmp(to->word, "begin") == 0 || strcmp(to->word, "plan") == 0;
   has_times = strcmp(to->word, "time") == 0;
   if (has_entry && count >= 5) {
     to->entry.start_ms = (int32_t)strtol(words[1], NULL, 10);
@@ -746,6 +746,7 @@ static void show_failure(const nlog_writer *writer, const char *log) {
 static nlog_status call_in_child(nlog_writer *writer) {
   nlog_entry entry = {7, 8, 9, 10};
   nlog_name name = {"child", 5};
+  nlog_planned one = {{"a", 1}, 8, false, true, true, {1, 2, 3, 4}};
   char buffer[16];
   size_t size = 0;
   uint32_t number;
@@ -767,6 +768,8 @@ static nlog_status call_in_child(nlog_writer *writer) {
   SAY(nlog_writer_record(writer, "child", 5, &entry));
   SAY(nlog_writer_record_edge(writer, &name, 1, &entry));
   SAY(nlog_writer_begin(writer, &name, 1, 7, 8));
+  SAY(nlog_writer_begin_plan(writer, &one, 1, 7));
+  SAY(nlog_writer_withdraw(writer, &one, 1, &size));
   SAY(nlog_writer_count(writer, &size));
   SAY(nlog_writer_at(writer, 0, &entry, buffer, sizeof buffer, &size));
   SAY(nlog_writer_find(writer, "a", 1, &entry));
@@ -825,6 +828,46 @@ static nlog_status block_signals(void) {
   return sigprocmask(SIG_BLOCK, &kept, NULL) == 0 ? NLOG_OK : NLOG_FAULT;
 }
 
+/* The names that were planned, each as its last plan left it. */
+static nlog_planned planned[1000], kept[1000];
+static char kept_bytes[200000];
+static size_t kept_count = 0, kept_used = 0;
+
+/* Plans the names of a line, whose end says whether an intent is wanted anyway. */
+static nlog_status plan(nlog_writer *writer, const request *it) {
+  nlog_status status;
+  size_t i, at;
+  memset(planned, 0, sizeof planned);
+  for (i = 0; i < it->count; i++) {
+    planned[i].name = it->names[i];
+    planned[i].hash = it->entry.hash;
+    planned[i].anew = it->entry.end_ms != 0;
+  }
+  status = nlog_writer_begin_plan(writer, planned, it->count, it->entry.start_ms);
+  for (i = 0; i < it->count && status == NLOG_OK; i++) {
+    const nlog_name *name = &planned[i].name;
+    for (at = 0; at < kept_count && (kept[at].name.len != name->len || memcmp(kept[at].name.bytes, name->bytes, name->len) != 0); at++) continue;
+    if (at == kept_count) {
+      if (at == 1000 || kept_used + name->len > sizeof kept_bytes) exit(3);
+      kept[kept_count++].name.bytes = (const char *)memcpy(kept_bytes + kept_used, name->bytes, name->len);
+      kept_used += name->len;
+    }
+    planned[i].name.bytes = kept[at].name.bytes;
+    kept[at] = planned[i];
+  }
+  return status;
+}
+
+/* Withdraws the names of a line, as their plans left them. */
+static nlog_status withdraw(nlog_writer *writer, const request *it, size_t *withdrawn) {
+  static nlog_planned some[1000];
+  size_t i, at, count = 0;
+  for (i = 0; i < it->count; i++)
+    for (at = 0; at < kept_count; at++)
+      if (kept[at].name.len == it->names[i].len && memcmp(kept[at].name.bytes, it->names[i].bytes, kept[at].name.len) == 0) some[count++] = kept[at];
+  return nlog_writer_withdraw(writer, some, count, withdrawn);
+}
+
 static void heed_nothing(int number) { (void)number; }
 
 /* A signal that is handled, and interrupts what isn't restarted. */
@@ -868,6 +911,8 @@ static void write_log(const char *log, uint32_t version) {
     if (is(&it, "record")) status = nlog_writer_record(writer, it.names[0].bytes, it.names[0].len, &it.entry);
     if (is(&it, "edge")) status = nlog_writer_record_edge(writer, it.names, it.count, &it.entry);
     if (is(&it, "begin")) status = nlog_writer_begin(writer, it.names, it.count, it.entry.start_ms, it.entry.hash);
+    if (is(&it, "plan")) status = plan(writer, &it);
+    if (is(&it, "withdraw")) status = withdraw(writer, &it, &count);
     if (is(&it, "sync")) status = nlog_writer_sync(writer);
     if (is(&it, "recompact")) status = nlog_writer_recompact(writer);
     if (is(&it, "restat")) status = nlog_writer_restat(writer, &place);
@@ -917,7 +962,11 @@ static void write_log(const char *log, uint32_t version) {
     if ((is(&it, "is_open") || is(&it, "rewrote") || is(&it, "is_due")) && status == NLOG_OK) printf(" %d", flag);
     if (status == NLOG_OTHER_VERSION) printf(" %" PRIu64, nlog_writer_other_version(writer));
     if (is(&it, "version") && status == NLOG_OK) printf(" %" PRIu32, number);
-    if (is(&it, "count") && status == NLOG_OK) printf(" %zu", count);
+    if ((is(&it, "count") || is(&it, "withdraw")) && status == NLOG_OK) printf(" %zu", count);
+    for (i = 0; i < it.count && is(&it, "plan") && status == NLOG_OK; i++) {
+      printf(" %d%d", planned[i].had, planned[i].written);
+      if (planned[i].had) show_found(&planned[i].before);
+    }
     if (is(&it, "took")) printf(" %d", (int)(took * 1000));
     if ((is(&it, "find") || is(&it, "at")) && status == NLOG_OK) show_found(&entry);
     if (is(&it, "at") && status == NLOG_OK) {
