@@ -2,6 +2,7 @@
 import os
 import random
 import shutil
+import signal
 import subprocess
 import tempfile
 import time
@@ -32,12 +33,13 @@ SHIM = r"""
 #include <sys/stat.h>
 #include <unistd.h>
 
-static int left = -1, synced = -1;
+static int left = -1, synced = -1, no_sync;
 
 __attribute__((constructor)) static void begin(void) {
   const char *kill_at = getenv("KILL_AT"), *path = getenv("SYNCED");
   if (kill_at) left = atoi(kill_at);
   if (path) synced = open(path, O_WRONLY | O_CREAT | O_APPEND | O_CLOEXEC, 0666);
+  no_sync = getenv("NO_SYNC") != NULL;
   unsetenv("LD_PRELOAD");
 }
 
@@ -64,6 +66,7 @@ int fsync(int fd) {
   int answer, is_one = is_log_fd(fd);
   char line[64];
   count(is_one);
+  if (no_sync) return 0;
   answer = REAL(fsync)(fd);
   if (answer == 0 && is_one && synced >= 0 && fstat(fd, &it) == 0) {
     int len = snprintf(line, sizeof line, "%llu %lld\n", (unsigned long long)it.st_ino, (long long)it.st_size);
@@ -119,12 +122,16 @@ class Life:
         self.tags = ["A"] * outputs
         self.edges = []  # of a rule, outputs and inputs
         made = []
+        self.halves = [[], []]  # of `two`: what each of two builders makes
         while len(made) < outputs:
             rule = numbers.choice(["c", "c", "c", "two", "same"])
             outs = [f"o{len(made) + it}" for it in range(2 if rule == "two" and len(made) + 1 < outputs else 1)]
             # Without an input the hash alone tells what is stale, and not the time stamp too.
-            self.edges.append((rule, outs, numbers.choice([[], ["source"], [*numbers.sample(made, 1)]]) if made else []))
+            half = self.halves[len(self.edges) % 2]
+            before = half if kind == "two" else made
+            self.edges.append((rule, outs, numbers.choice([[], ["source"], [*numbers.sample(before, 1)]]) if before else []))
             made += outs
+            half += outs
 
     def manifest(self):
         lines = [RULES]
@@ -146,12 +153,16 @@ class Life:
         return lens[-1] if lens else 0
 
     def power_cut(self):
+        """Of the bytes behind the last sync some are lost, or are zeros: at the end, or with others behind them."""
         if not os.path.exists(LOG):
             return
         text = read(LOG)
-        lost = min(self.numbers.randint(1, 200), len(text) - min(len(text), self.synced()))
-        if lost > 0:
-            os.truncate(LOG, len(text) - lost)
+        kept = min(len(text), self.synced())
+        at = self.numbers.choice([kept, self.numbers.randint(kept, len(text)), max(kept, len(text) - self.numbers.randint(1, 200))])
+        end = self.numbers.choice([at, at, len(text), self.numbers.randint(at, len(text))])
+        if self.kind == "hands" and not self.has_tools:
+            end = at  # plain samurai reads a log up to its first zero, and drops the intents behind it
+        write(LOG, text[:at] + bytes(end - at) + (text[end:] if end > at else b""))
 
     def tear(self):
         """Takes a part of the last line's hash, with its newline."""
@@ -162,7 +173,9 @@ class Life:
     def build(self, crash, who=None):
         """Runs a build to its end, or into a crash: its status, and who ran it."""
         who = who or {"hands": self.numbers.choice(["plain", "patched"]), "plain": "plain"}.get(self.kind, "patched")
-        env = {**os.environ, "MAKER": who, "LD_PRELOAD": self.shim, "SYNCED": f"{self.folder}/synced", "NINJA_LOG_SYNC": "intents" if self.kind in ("synced", "hands") else ""}
+        env = {**os.environ, "MAKER": who, "LD_PRELOAD": self.shim, "SYNCED": f"{self.folder}/synced", "NINJA_LOG_SYNC": "none" if self.kind == "no intents" else ""}
+        if self.kind == "no sync":
+            env["NO_SYNC"] = "1"
         for it in os.listdir("."):
             if it.startswith("kill."):
                 os.remove(it)
@@ -172,15 +185,22 @@ class Life:
             env["KILL_AT"] = str(self.numbers.randint(1, 40))
         # What the builder runs holds an end of the pipe, so that no command of a killed one is left when the next build begins.
         ours, theirs = os.pipe()
-        child = subprocess.Popen([*self.builders[who], f"-j{self.numbers.choice([1, 3])}"], env=env, pass_fds=[theirs], stdin=subprocess.DEVNULL, stdout=subprocess.DEVNULL, stderr=subprocess.DEVNULL)
+        words = [*self.builders[who], f"-j{self.numbers.choice([1, 3])}"]
+        children = [subprocess.Popen([*words, *it], env=env, pass_fds=[theirs], stdin=subprocess.DEVNULL, stdout=subprocess.DEVNULL, stderr=subprocess.DEVNULL) for it in (self.halves if self.kind == "two" else [[]])]
         os.close(theirs)
-        if crash == "moment":
+        if crash in ("moment", "interrupt"):
             time.sleep(self.numbers.random() * 0.1)
-            child.kill()
-        status = child.wait()
+            self.numbers.choice(children).send_signal(signal.SIGKILL if crash == "moment" else signal.SIGINT)
+        status = max(abs(it.wait()) for it in children)
         os.read(ours, 1)
         os.close(ours)
         return status, who
+
+    def tool(self):
+        """What a user may run between two builds, or none."""
+        words = self.numbers.choice([[], [], ["restat"], ["recompact"]])
+        if words and self.kind not in ("plain", "hands") and self.has_tools:
+            subprocess.run([*self.builders["patched"], "-t", *words], stdout=subprocess.DEVNULL, stderr=subprocess.DEVNULL, check=False)
 
     def wanted(self):
         """What each output is, by its command and its inputs."""
@@ -197,7 +217,7 @@ class Life:
         states = stale = crashes = 0
         for _ in range(builds):
             tick(".")
-            crash = self.numbers.choice(["command", "command", "moment", "call", "none", "none"])
+            crash = self.numbers.choice(["command", "command", "moment", "interrupt", "call", "none", "none"])
             status, _ = self.build(crash)
             crashes += status != 0
             if status != 0 or crash == "none":
@@ -207,6 +227,7 @@ class Life:
                 if self.kind != "killed" and self.numbers.random() < 0.7:
                     self.power_cut()
                     crashes += 1
+                self.tool()
             if self.numbers.random() < 0.8:
                 self.change()
         return states, stale, crashes
@@ -247,7 +268,7 @@ class Life:
         return False
 
 
-def live_all(script, kinds, builders, states, seed, outputs):
+def live_all(script, kinds, builders, states, seed, outputs, has_tools=False):
     """Lives lives of each kind, until so many outputs were looked at, times its share. The stale ones wanted are "0", "some", or None for any."""
     seed = seed or str(time.time_ns() % 10**9)
     print(f"seed {seed}")
@@ -260,7 +281,8 @@ def live_all(script, kinds, builders, states, seed, outputs):
             found = [0, 0, 0]
             lives = 0
             while found[0] < int(states) * share:
-                life = Life(random.Random(f"{seed} {kind} {lives}"), kind, builders, f"{room}/shim.so", f"{room}/{kind}-{lives}", outputs)
+                life = Life(random.Random(f"{seed} {kind} {lives}"), kind, builders, f"{room}/shim.so", f"{room}/{kind.replace(' ', '-')}-{lives}", outputs)
+                life.has_tools = has_tools
                 found = [it + more for it, more in zip(found, (life.live_torn if kind == "torn" else life.live)(40))]
                 os.chdir(room)
                 shutil.rmtree(life.folder, ignore_errors=True)

@@ -3,21 +3,21 @@
 
     python3 integrations/ninja/cost.py PLAIN PATCHED [EDGES [ROUNDS [COMMANDS]]]
 
-In processor time: a build of EDGES (10000) outputs by trivial commands; one that finds nothing to do after that; one in which all run again, so
-that each output gets an intent; and, behind a third of these, the start of a build that finds nothing to do, but that the log is due by now. Both
-Ninjas do each in turn, ROUNDS (9) times; of what finds nothing to do, a round takes the least of ten runs in turn. What is compared is the median
-of the processor time of Ninja's own process, user and system, which the kernel counts in nanoseconds; the commands' own is left out, and printed
-beside it.
+Both Ninjas do each in turn, ROUNDS (9) times, and medians are compared. Processor time is that of Ninja's own process, user and system, which
+the kernel counts in nanoseconds; the commands' own is left out.
 
-By the clock: COMMANDS (100) commands of 100 ms each, that all run again, by four at a time, on the disk that has the folder of temporary files;
-of the plain one, of the patched one, and of it with NINJA_LOG_SYNC=intents and =outputs, in turn.
-
-By the clock too, beside a log of 430,000 lines over 200,000 outputs (30 MB): two and four Ninjas at once in one folder, of 40 edges each, and a
-build of 50 edges of a generator, before each of which Ninja closes its log.
+- Processor time of trivial commands: a build of 300 and of EDGES (10000) outputs; one that finds nothing to do; one in which all run again, so
+  that each output gets an intent. The calls of the system of the last, for each command; and its instructions by valgrind, where it is there.
+- The clock of COMMANDS (40) commands of 100 ms, that all run again, by four at a time, on the disk that has the folder of temporary files; of the
+  plain one, of the patched one, and of it with NINJA_LOG_SYNC=outputs.
+- On a log of 850,000 lines over 300,000 outputs (60 MB): a build of one edge, one that finds nothing to do, and -t recompact with all outputs
+  in the manifest, in processor time and memory. By the clock, four Ninjas at once of 40 edges each, and 50 edges of a generator, before each of which plain Ninja closes its log.
+- A plan of 100,000 edges up to its first command, which kills Ninja: processor time and memory.
 
 Fails where the patched one takes more than LIMITS has times as much.
 """
 import os
+import re
 import shutil
 import statistics
 import subprocess
@@ -25,7 +25,7 @@ import sys
 import tempfile
 import time
 
-LIMITS = {"build": 1.02, "no work": 1.02, "all again": 1.03, "a due log": None, "patched": 1.02, "intents": 1.05, "outputs": None, "2 at once": 1.5, "4 at once": 1.5, "generators": 1.2}
+LIMITS = {"build": 1.05, "idle": 1.02, "again": 1.05, "calls": 1.1, "instructions": 1.15, "clock": 1.05, "one": 1.1, "memory": None, "recompact": None, "at once": 1.5, "plan": None}
 LOG = ".ninja_log"
 
 
@@ -34,132 +34,161 @@ def lay_out(folder, edges, command=": > $out"):
     with open(f"{folder}/build.ninja", "w", encoding="utf-8") as it:
         it.write(f"rule touch\n  command = {command}\n")
         it.writelines(f"build out/{at // 100}/f{at}.o: touch\n" for at in range(edges))
-        it.write("build all: phony " + " ".join(f"out/{at // 100}/f{at}.o" for at in range(edges)) + "\ndefault all\n")
+        it.write("build all: phony")
+        it.writelines(f" out/{at // 100}/f{at}.o" for at in range(edges))
+        it.write("\ndefault all\n")
 
 
-def run(ninja, folder, jobs=2, **env):
-    """Runs Ninja: the seconds of its own process, those of all of its commands, and those of the clock."""
+def run(words, folder, status=0, **env):
+    """Runs a program: the milliseconds of its own process and of the clock, and its memory in MB."""
     began = time.monotonic()
-    child = subprocess.Popen([ninja, f"-j{jobs}"], cwd=folder, stdout=subprocess.DEVNULL, env={**os.environ, **env})
+    child = subprocess.Popen(words, cwd=folder, stdout=subprocess.DEVNULL, stderr=subprocess.DEVNULL, env={**os.environ, **env})
     os.waitid(os.P_PID, child.pid, os.WEXITED | os.WNOWAIT)
     with open(f"/proc/{child.pid}/schedstat", encoding="ascii") as it:
-        own = int(it.read().split()[0]) / 1e9
-    _, status, usage = os.wait4(child.pid, 0)
-    child.returncode = status
-    if status != 0:
-        sys.exit(f"{ninja} ended with status {status}")
-    return own, usage.ru_utime + usage.ru_stime - own, time.monotonic() - began
+        own = int(it.read().split()[0]) / 1e6
+    _, ended, usage = os.wait4(child.pid, 0)
+    child.returncode = ended
+    if ended != status:
+        sys.exit(f"{words} ended with status {ended}")
+    return own, (time.monotonic() - began) * 1000, usage.ru_maxrss / 1024
 
 
 class Costs:
-    def __init__(self):
-        self.passed = self.failed = 0
+    def __init__(self, ninjas, rounds):
+        self.ninjas, self.rounds, self.passed, self.failed = ninjas, rounds, 0, 0
 
-    def tell(self, what, of, plain, patched, more=""):
-        """Compares two medians, in ms."""
+    def tell(self, what, of, unit, plain, patched):
         ratio, limit = patched / plain, LIMITS[of]
         is_good = limit is None or ratio <= limit
         self.passed, self.failed = self.passed + is_good, self.failed + (not is_good)
-        print(f"{'ok' if is_good else 'FAILED'}: {what}: plain {plain:.2f} ms, patched {patched:.2f} ms, ratio {ratio:.3f}{more}", flush=True)
+        print(f"{'ok' if is_good else 'FAILED'}: {what}: plain {plain:.1f} {unit}, patched {patched:.1f} {unit}, ratio {ratio:.3f}", flush=True)
+
+    def compare(self, what, of, unit, measure, rounds=None, part=None):
+        """Of what a call gives for each Ninja, in turn; or of so many parts of it, each with a name, a limit and a unit."""
+        found = {name: [] for name in self.ninjas}
+        for turn in range(rounds or self.rounds):
+            for name in list(self.ninjas) if turn % 2 == 0 else list(reversed(self.ninjas)):
+                found[name].append(measure(name))
+        for at, (more, limit, its) in enumerate(part or [("", of, unit)]):
+            medians = [statistics.median(it[at] if part else it for it in found[name]) for name in self.ninjas]
+            self.tell(f"{what}{more}", limit, its, *medians)
 
 
-def processor_time(costs, ninjas, room, edges, rounds):
-    kinds = ("build", "no work", "all again", "a due log")
-    times = {(name, what): [] for name in ninjas for what in kinds}
+def processor_time(costs, room, edges):
+    """One folder for each Ninja. A build is from nothing; the least of ten idle ones counts."""
+    folder = lambda name: f"{room}/{name}-{edges}"
+    own = lambda name, *words: run([costs.ninjas[name], "-j2", *words], folder(name))[0]
 
-    def again(name, what):
+    def build(name):
+        shutil.rmtree(folder(name), ignore_errors=True)
+        lay_out(folder(name), edges)
+        return own(name)
+
+    def again(name):
+        shutil.rmtree(f"{folder(name)}/out")
+        return own(name)
+
+    costs.compare(f"a build of {edges} edges", "build", "ms", build)
+    costs.compare(f"nothing to do, {edges} edges", "idle", "ms", lambda name: min(own(name) for _ in range(10)))
+    costs.compare(f"all run again, {edges} edges", "again", "ms", again)
+
+    def traced(words, pattern):
+        def measure(name):
+            shutil.rmtree(f"{folder(name)}/out")
+            done = subprocess.run([*words, costs.ninjas[name], "-j2"], cwd=folder(name), stdout=subprocess.DEVNULL, stderr=subprocess.PIPE, text=True, check=True)
+            return int(re.findall(pattern, done.stderr)[-1].replace(",", "")) / edges
+        return measure
+
+    if shutil.which("strace"):
+        costs.compare(f"calls of the system a command, {edges} edges", "calls", "calls", traced(["strace", "-c", "-o", "/dev/stderr"], r"(\d+)\s+(?:\d+\s+)?total"), 1)
+    if shutil.which("valgrind") and edges <= 1000:
+        costs.compare(f"instructions a command, {edges} edges", "instructions", "", traced(["valgrind", "--tool=cachegrind", "--cache-sim=no", "--cachegrind-out-file=/dev/null"], r"I +refs: +([\d,]+)"), 1)
+
+
+def clock(costs, room, commands):
+    def measure(folder, **env):
+        def once(name):
+            lay_out(f"{room}/{folder}-{name}", commands, f": {time.monotonic()}; sleep 0.1; : > $out")
+            return run([costs.ninjas[name], "-j4"], f"{room}/{folder}-{name}", **env)[1]
+        return once
+    costs.compare(f"the clock, {commands} commands of 100 ms", "clock", "ms", measure("clock"))
+    costs.compare(f"the clock, {commands} commands of 100 ms, outputs synced", "recompact", "ms", measure("outputs", NINJA_LOG_SYNC="outputs"))
+
+
+def write_log(path, lines):
+    """By pieces: a program that is started has at least the memory that this one had."""
+    with open(path, "wb") as it:
+        it.writelines(lines)
+        os.fsync(it.fileno())
+
+
+def long_log(header, lines, outputs):
+    yield header
+    for at in range(lines):
+        yield b"%d\t%d\t%d\tobj/dir%d/some/folder/file%d.o\t%x\n" % (at % 1000, at % 1000 + 5, 1700000000000000000 + at, at % outputs // 100, at % outputs, at * 40503)
+
+
+def beside_a_long_log(costs, room, header):
+    os.makedirs(room)
+    write_log(f"{room}/log", long_log(header, 850000, 300000))
+
+    def fresh(name, manifest):
         folder = f"{room}/{name}"
-        shutil.rmtree(f"{folder}/out", ignore_errors=True)
-        times[name, what].append(run(ninjas[name], folder))
+        shutil.rmtree(folder, ignore_errors=True)
+        os.makedirs(folder)
+        shutil.copyfile(f"{room}/log", f"{folder}/{LOG}")
+        for at, it in enumerate(manifest):
+            write_log(f"{folder}/build{at}.ninja", [it.encode()])
+        os.sync()
+        return folder
 
-    for name in ninjas:
-        lay_out(f"{room}/{name}", edges)
-    for turn in range(rounds):
-        order = list(ninjas) if turn % 2 == 0 else list(reversed(ninjas))
-        for name in order:
-            for it in (LOG, ".ninja_deps"):
-                if os.path.exists(f"{room}/{name}/{it}"):
-                    os.remove(f"{room}/{name}/{it}")
-            again(name, "build")
-        least = {name: (9.0, 9.0) for name in ninjas}
-        for name in order * 10:
-            least[name] = min(least[name], run(ninjas[name], f"{room}/{name}"))
-        for name in ninjas:
-            times[name, "no work"].append(least[name])
-        for name in order:
-            again(name, "all again")
-        # Of the patched one two lines more for each output, which is more than three by now; of the plain one as many, by hand.
-        for name in order:
-            with open(f"{room}/{name}/{LOG}", "r+b") as it:
-                lines = it.read().split(b"\n", 1)[1]
-                it.write(lines[: len(lines) // 2] + (lines if name == "plain" else b""))
-            times[name, "a due log"].append(run(ninjas[name], f"{room}/{name}"))
-    for what in kinds:
-        medians, others = ({name: statistics.median(it[part] for it in times[name, what]) * 1000 for name in ninjas} for part in (0, 1))
-        costs.tell(f"{what}, {edges} edges", what, medians["plain"], medians["patched"], f" (the commands: {others['plain']:.0f} ms, {others['patched']:.0f} ms)")
+    one = "rule c\n  command = : > $out\nbuild one: c\n"
+    whole = f"{room}/whole"  # a manifest with all outputs of the log
+    write_log(whole, (b"rule c\n  command = :\n" if at < 0 else b"build obj/dir%d/some/folder/file%d.o: c\n" % (at // 100, at) for at in range(-1, 300000)))
+    memory = [("", "one", "ms"), (", memory", "memory", "MB")]
+    pick = lambda it: (it[0], it[2])
+    costs.compare("one edge, 850,000 lines", None, None, lambda name: pick(run([costs.ninjas[name], "-f", "build0.ninja"], fresh(name, [one]))), part=memory)
+    costs.compare("nothing to do, 850,000 lines", None, None, lambda name: pick(run([costs.ninjas[name], "-f", "build0.ninja"], f"{room}/{name}")), part=memory)
+    costs.compare("-t recompact, 850,000 lines", None, None, lambda name: pick(run([costs.ninjas[name], "-f", whole, "-t", "recompact"], fresh(name, []))), part=[("", "recompact", "ms"), memory[1]])
 
-
-def clock(costs, ninjas, room, commands, rounds):
-    rows = {"plain": ("plain", ""), "patched": ("patched", ""), "intents": ("patched", "intents"), "outputs": ("patched", "outputs")}
-    times = {what: [] for what in rows}
-    for what, (name, _) in rows.items():
-        lay_out(f"{room}/{what}", commands)
-        run(ninjas[name], f"{room}/{what}")
-    for turn in range(rounds):
-        for what in list(rows) if turn % 2 == 0 else list(reversed(rows)):
-            name, value = rows[what]
-            lay_out(f"{room}/{what}", commands, f": {turn}; sleep 0.1; : > $out")
-            times[what].append(run(ninjas[name], f"{room}/{what}", 4, NINJA_LOG_SYNC=value) if name == "patched" else run(ninjas[name], f"{room}/{what}", 4))
-    medians = {what: statistics.median(it[2] for it in times[what]) * 1000 for what in rows}
-    for what in ("patched", "intents", "outputs"):
-        costs.tell(f"the clock, {commands} commands of 100 ms, {what}", what, medians["plain"], medians[what])
+    def at_once(count, rule, edges):
+        def measure(name):
+            folder = fresh(name, [rule + "".join(f"build o{number}.{at}: c\n" for at in range(edges)) for number in range(count)])
+            began = time.monotonic()
+            children = [subprocess.Popen([costs.ninjas[name], "-j2", "-f", f"build{it}.ninja"], cwd=folder, stdout=subprocess.DEVNULL) for it in range(count)]
+            if any([it.wait() for it in children]):
+                sys.exit(f"{count} at once: one ended badly")
+            return (time.monotonic() - began) * 1000
+        return measure
+    rounds = min(costs.rounds, 5)
+    costs.compare("the clock, four at once, 850,000 lines", "at once", "ms", at_once(4, "rule c\n  command = : > $out\n", 40), rounds)
+    costs.compare("the clock, 50 edges of a generator, 850,000 lines", "at once", "ms", at_once(1, "rule c\n  command = : > $out\n  generator = 1\n", 50), rounds)
 
 
-def long_log(ninja, room):
-    """A log of 430,000 lines over 200,000 outputs, with the first line that this Ninja writes."""
-    lay_out(room, 1)
-    run(ninja, room)
-    with open(f"{room}/{LOG}", "rb") as it:
-        header = it.readline()
-    return header + b"".join(b"%d\t%d\t%d\tobj/dir%d/some/file%d.o\t%x\n" % (at % 1000, at % 1000 + 5, 1700000000000000000 + at, at % 200000 // 100, at % 200000, at * 40503) for at in range(430000))
+def large_plan(costs, room, header):
+    """Each output has an entry of another command."""
+    edges = 100000
+    def measure(name):
+        lay_out(f"{room}/{name}", edges, "kill -9 $$PPID; false")
+        write_log(f"{room}/{name}/{LOG}", (header if at < 0 else b"1\t2\t3\tout/%d/f%d.o\taa\n" % (at // 100, at) for at in range(-1, edges)))
+        own, _, memory = run([costs.ninjas[name], "-j1"], f"{room}/{name}", status=9)
+        return own, memory
+    costs.compare("a plan of 100,000 edges, up to its first command", None, None, measure, min(costs.rounds, 5), [("", "plan", "ms"), (", memory", "plan", "MB")])
 
 
-def beside_a_long_log(costs, ninjas, room, rounds):
-    text = long_log(ninjas["plain"], f"{room}/first")
-    times = {}
-    for turn in range(rounds):
-        for name in list(ninjas) if turn % 2 == 0 else list(reversed(ninjas)):
-            for what in ("2 at once", "4 at once", "generators"):
-                folder = f"{room}/{name}"
-                os.makedirs(folder)
-                with open(f"{folder}/{LOG}", "wb") as it:
-                    it.write(text)
-                    os.fsync(it.fileno())
-                count = 1 if what == "generators" else int(what[0])
-                for number in range(count):
-                    with open(f"{folder}/build{number}.ninja", "w", encoding="utf-8") as it:
-                        it.write("rule c\n  command = : > $out\n" + ("  generator = 1\n" if count == 1 else ""))
-                        it.writelines(f"build o{number}.{at}: c\n" for at in range(50 if count == 1 else 40))
-                began = time.monotonic()
-                children = [subprocess.Popen([ninjas[name], "-j2", "-f", f"build{it}.ninja"], cwd=folder, stdout=subprocess.DEVNULL) for it in range(count)]
-                statuses = [it.wait() for it in children]
-                times.setdefault((name, what), []).append(time.monotonic() - began)
-                if any(statuses):
-                    sys.exit(f"{what}: {ninjas[name]} ended with {statuses}")
-                shutil.rmtree(folder)
-    for what in ("2 at once", "4 at once", "generators"):
-        medians = {name: statistics.median(times[name, what]) * 1000 for name in ninjas}
-        costs.tell(f"the clock, {what}, a log of 30 MB", what, medians["plain"], medians["patched"])
-
-
-def main(plain, patched, edges="10000", rounds="9", commands="100"):
+def main(plain, patched, edges="10000", rounds="9", commands="40"):
     room = os.path.realpath(tempfile.mkdtemp())
-    costs = Costs()
-    ninjas = {"plain": plain, "patched": patched}
+    costs = Costs({"plain": plain, "patched": patched}, int(rounds))
     try:
-        processor_time(costs, ninjas, f"{room}/time", int(edges), int(rounds))
-        clock(costs, ninjas, f"{room}/clock", int(commands), min(int(rounds), 9))
-        beside_a_long_log(costs, ninjas, f"{room}/long", min(int(rounds), 5))
+        for count in (300, int(edges)):
+            processor_time(costs, f"{room}/time", count)
+        clock(costs, f"{room}/clock", int(commands))
+        lay_out(f"{room}/first", 1)
+        run([plain], f"{room}/first")
+        with open(f"{room}/first/{LOG}", "rb") as it:
+            header = it.readline()
+        beside_a_long_log(costs, f"{room}/long", header)
+        large_plan(costs, f"{room}/plan", header)
     finally:
         shutil.rmtree(room, ignore_errors=True)
     print(f"{costs.passed} passed, {costs.failed} failed")

@@ -224,6 +224,20 @@ def apart(one, other):
     return f"{one!r:.600}\n    and {other!r:.600}"
 
 
+def not_withdrawn(text):
+    """Each entry's place and line, but for those that are the entry before their name's intent."""
+    at, last, before = 0, {}, {}
+    for line in text.split(b"\n"):
+        fields = line.split(b"\t")
+        if len(fields) == 5:
+            if before.get(fields[3]) != line:
+                yield at, line
+            if fields[0] == fields[1] and fields[2] == b"0":
+                before[fields[3]] = last.get(fields[3])
+            last[fields[3]] = line
+        at += len(line) + 1
+
+
 class Differ:
     def __init__(self, ninjas, room):
         self.ninjas, self.room = ninjas, room
@@ -235,6 +249,11 @@ class Differ:
         """The outputs whose command began, by the patched log, and has no record yet."""
         plain, patched = (it.entries for it in sides)
         return {name for name, it in patched.items() if it[0] == it[1] and it[2] == b"0" and (name not in plain or plain[name][4] != it[4])}
+
+    @staticmethod
+    def file(side):
+        """Which file the log is."""
+        return os.stat(side.path(LOG)).st_ino if os.path.exists(side.path(LOG)) else None
 
     def compare(self, sides, what, answers):
         """What the two differ in, if anything."""
@@ -280,13 +299,13 @@ class Differ:
                 both("build.ninja", project.manifest())
 
         def run(*words):
-            text = sides[1].bytes(LOG) or b""
+            text, file = sides[1].bytes(LOG) or b"", self.file(sides[1])
             answers = [it.run(words) for it in sides]
             self.commands += 1
-            # A falling end begins a build, for whoever reports of them.
+            # A falling end begins a build, for whoever reports of them, but for that of a line that was withdrawn. A command may rewrite the log.
             more = sides[1].bytes(LOG) or b""
-            ends = [int(it.split(b"\t")[1]) for it in more[len(text) :].split(b"\n") if it.count(b"\t") == 4]
-            if text.endswith(b"\n") and more.startswith(text) and not project.has_inner and not project.is_remade and ends != sorted(ends):
+            ends = [int(line.split(b"\t")[1]) for at, line in not_withdrawn(more) if at >= len(text)]
+            if text.endswith(b"\n") and more.startswith(text) and file == self.file(sides[1]) and not project.has_inner and not project.is_remade and ends != sorted(ends):
                 return f"after {words}: an end falls within a build: {ends}"
             tick(folder)
             difference = self.compare(sides, words, answers)

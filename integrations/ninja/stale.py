@@ -9,20 +9,23 @@ to build, and come back (A, B, A). Most builds crash:
 - a command kills Ninja when it has written its output, and before its record;
 - Ninja is killed at a random moment, and its commands go on to their end;
 - Ninja is killed at one of its calls of the system that is about the log, as in the middle of a rewriting;
-- behind a kill, or a build that ended well, a power cut takes the last 1 to 200 bytes of the log, of those that no sync made durable. The
-  outputs stand.
+- it is interrupted at one;
+- behind any of these, or a build that ended well, a power cut takes bytes of the log that no sync made durable, or makes zeros of them: the last
+  ones, all, or some with others behind them. The outputs stand. And `-t restat` or `-t recompact` may be run.
 
-After each build that ended well each output is looked at: is it what its command makes of its inputs? Six kinds of lives are lived, until STATES
-(20000) outputs were looked at in each of the first two, and some in the others:
+After each build that ended well each output is looked at: is it what its command makes of its inputs? So many kinds of lives are lived, until
+STATES (20000) outputs were looked at in each of the first two, and some in the others:
 
-- `synced`: the patched one with NINJA_LOG_SYNC=intents, kills and power cuts. No output may be stale;
-- `killed`: the patched one without it, and kills alone. No output may be stale;
-- `hands`: the folder changes hands, at random, between the plain one and the patched one with syncs. No output that the patched one made last
-  may be stale. What the plain one made, and lost, may be;
+- `default`: the patched one as it is, kills and power cuts. No output may be stale;
+- `killed`: the same with kills alone. No output may be stale;
+- `two`: as `default`, by two Ninjas at once that share the log, and have half of the outputs each. No output may be stale;
+- `hands`: the folder changes hands, at random, between the plain one and the patched one. No output that the patched one made last may be stale.
+  What the plain one made, and lost, may be;
 - `torn`: the folder changes hands in turn, and of no command more is lost than the hash of its line, which may be torn, and be joined by the
-  next. Behind a build by the patched one no output may be stale, whoever made it;
-- `plain`: the plain one, kills and power cuts. Some output has to be stale: else nothing was tried;
-- `unsynced`: the patched one without syncs, power cuts too. What it finds is told, and nothing is wanted of it.
+  next. Behind a build by the patched one no output may be stale, whoever made it.
+
+Some output has to be stale in each of the others, else nothing was tried: `plain`, the plain one with kills and power cuts; `no intents`, the
+patched one with NINJA_LOG_SYNC=none; `no sync`, the patched one of which no sync does anything.
 
 A library that is loaded before the C library's tells which bytes of the log were synced, and kills at a call.
 """
@@ -33,11 +36,11 @@ sys.path.insert(0, os.path.dirname(os.path.dirname(os.path.abspath(__file__))))
 from lives import live_all
 
 OUTPUTS = 60
-KINDS = {"synced": (1, "0"), "killed": (1, "0"), "hands": (0.5, "0"), "torn": (0.5, "0"), "plain": (0.1, "some"), "unsynced": (0.1, None)}
+KINDS = {"default": (1, "0"), "killed": (1, "0"), "two": (0.5, "0"), "hands": (0.5, "0"), "torn": (0.5, "0"), "plain": (0.1, "some"), "no intents": (0.1, "some"), "no sync": (0.2, "some")}
 
 
 def main(plain, patched, states="20000", seed=None):
-    return live_all(__file__, KINDS, {"plain": [plain], "patched": [patched]}, states, seed, OUTPUTS)
+    return live_all(__file__, KINDS, {"plain": [plain], "patched": [patched]}, states, seed, OUTPUTS, has_tools=True)
 
 
 if __name__ == "__main__":

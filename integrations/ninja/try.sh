@@ -8,11 +8,11 @@
 #
 #   NLOG_CFLAGS, NLOG_LIBS    the library to take, as the compiler is told of it; else lib/archive.sh makes it, which wants rt
 #   NLOG_DEBIAN               the mirror (http://deb.debian.org/debian)
-#   NLOG_PARTS                which of tests, faults, differ, stale, cost are run (all)
+#   NLOG_PARTS                which of without, tests, faults, differ, stale, cost are run (all)
 #   NLOG_PROJECTS, NLOG_SEED  how many projects differ.py makes (300), and from which seed it and stale.py go (one by the clock)
 #   NLOG_STATES               how many outputs stale.py looks at (20000)
 #   NLOG_EDGES, NLOG_ROUNDS   the size of what cost.py builds (10000), and how often (9)
-#   NLOG_COMMANDS             how many commands of 100 ms it builds by the clock (100)
+#   NLOG_COMMANDS             how many commands of 100 ms it builds by the clock (40)
 #
 # Needs a C++ compiler, python3 and patch; to fetch, apt-get, dpkg-source and Debian's keyring; strace, and the right to mount, for the faults;
 # script for Ninja's output tests. Where it can't do its work it prints a line `skipped: why`, and ends with status 0.
@@ -22,7 +22,7 @@ version=${1-} folder=${2-}
 case $version in 1.11.1 | 1.13.2) ;; *) sed -n '2,/^$/s/^# \{0,1\}//p' "$0" | head -n 18 >&2; exit 2 ;; esac
 
 here=$(cd "$(dirname "$0")" && pwd)
-name="ninja $version" parts="tests faults differ stale cost" suites="bookworm sid"
+name="ninja $version" parts="without tests faults differ stale cost" suites="bookworm sid"
 . "$here/../shared.sh"
 
 needs "${CXX:-c++}" python3 patch
@@ -41,23 +41,42 @@ fi
 # Ninja builds itself, by the machine's one where it is there. The configure.py of 1.11.1 wants a module that newer Pythons have no more.
 mkdir "$room/python"
 echo 'from shlex import quote' > "$room/python/pipes.py"
-build() { # plain or patched
+build() { # plain, patched, or without: patched, and configured so; what
     cp -r "$sources/ninja-$version" "$room/$1"
-    if [[ $1 == patched ]]; then patch -s -d "$room/$1" -p1 < "$here/ninja-$version.patch" || return; fi
+    if [[ $1 != plain ]]; then patch -s -d "$room/$1" -p1 < "$here/ninja-$version.patch" || return; fi
     cd "$room/$1" || return
+    local how=()
+    if [[ $1 == without ]]; then how=(--without-nlog); fi
     if command -v ninja > /dev/null; then
-        PYTHONPATH=$room/python ./configure.py && ninja -j "${NLOG_JOBS:-2}" ninja ninja_test
+        PYTHONPATH=$room/python ./configure.py "${how[@]}" && ninja -j "${NLOG_JOBS:-2}" "${@:2}"
     else
-        PYTHONPATH=$room/python ./configure.py --bootstrap && ./ninja -j "${NLOG_JOBS:-2}" ninja ninja_test
+        PYTHONPATH=$room/python ./configure.py --bootstrap "${how[@]}" && ./ninja -j "${NLOG_JOBS:-2}" "${@:2}"
     fi
 }
 for it in plain patched; do
-    (build "$it") > "$room/$it.build" 2>&1
+    (build "$it" ninja ninja_test) > "$room/$it.build" 2>&1
     status=$?
     ((status == 0)) || tail -n 20 "$room/$it.build"
     check "$it Ninja $version is built" "$status"
 done
 ((failed == 0)) || end
+
+# What is patched and built without the library has the objects of plain Ninja, but for what a debugger is told.
+without() {
+    local count=0
+    (build without ninja) > "$room/without.build" 2>&1 || { tail -n 20 "$room/without.build" && return 1; }
+    for it in "$room"/without/build/*.o; do
+        for side in plain without; do objcopy --strip-debug "$room/$side/build/${it##*/}" "$room/$side.o" || return; done
+        cmp "$room/plain.o" "$room/without.o" || return
+        count=$((count + 1))
+    done
+    echo "without: $count objects are those of plain Ninja"
+    ((count > 20))
+}
+if wants without; then
+    (without)
+    check "--without-nlog builds plain Ninja" $?
+fi
 
 # Ninja's own tests: how many ran, where all of them passed.
 own_tests() { # plain or patched
@@ -94,5 +113,5 @@ programs=("$room/plain/ninja" "$room/patched/ninja")
 part faults
 part differ "${NLOG_PROJECTS:-300}" ${NLOG_SEED:+"$NLOG_SEED"}
 part stale "${NLOG_STATES:-20000}" ${NLOG_SEED:+"$NLOG_SEED"}
-part cost "${NLOG_EDGES:-10000}" "${NLOG_ROUNDS:-9}" "${NLOG_COMMANDS:-100}"
+part cost "${NLOG_EDGES:-10000}" "${NLOG_ROUNDS:-9}" "${NLOG_COMMANDS:-40}"
 end

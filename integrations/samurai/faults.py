@@ -94,7 +94,7 @@ def try_failed(trial, samu, is_plain):
         with_file("fail", samu.run)
         count = len(entries_of("out"))
         with_file("fail", samu.run)
-        trial.want("failed: twice: no line more", len(entries_of("out")), count)
+        trial.want("failed: twice: an intent more", kinds_of("out")[count:], ["intent"])
 
 
 def tear(samu, name):
@@ -315,7 +315,7 @@ def try_generator(trial, samu, is_plain):
     with_file("die", samu.run)
     trial.want("a generator: is it made again", samu.run()[1] != "", not is_plain)
     if not is_plain:
-        trial.want("a generator: the lines", kinds_of("out")[-3:], ["record", "intent", "record"])
+        trial.want("a generator: the lines", kinds_of("out"), ["intent", "record"] * 2 + ["intent", "intent", "record"])
         trial.want("a generator: nothing is left to do", samu.run(), (0, ""))
     described("")
     os.remove("out")
@@ -324,13 +324,13 @@ def try_generator(trial, samu, is_plain):
 
 
 def try_removed(trial, samu, is_plain):
-    """A command that removes the log: what runs behind it is recorded in a new one."""
+    """A command that removes the log, or its folder: what is recorded in it then is lost."""
     write("build.ninja", f"rule c\n  command = touch $out\nrule d\n  command = rm {LOG}; touch $out\nbuild a: c\nbuild b: d a\nbuild e: c b\n")
     trial.want("removed: ends", samu.run()[0], 0)
-    if is_plain:
-        trial.want("removed: the log", read(LOG), None)
-    else:
-        trial.want("removed: the log", (names_in(read(LOG)), is_whole(read(LOG))), ([b"b", b"e"], True))
+    trial.want("removed: the log", read(LOG), None if is_plain else HEADER)
+    write("build.ninja", "builddir = bd\nrule c\n  command = touch $out $more\nbuild a2: c\nbuild b2: c a2\n  more = && rm -rf bd\nbuild e2: c b2\n")
+    os.makedirs("bd")
+    trial.want("removed: the folder", (samu.run("-j1")[0], os.path.exists("bd")), (0, False))
 
 
 def try_locked(trial, samu, is_plain):
@@ -416,13 +416,14 @@ def try_restat_rule(trial, samu):
     samu.run()
     described("B", "x")
     samu.run()
-    trial.want("restat: the lines", (kinds_of("out"), kinds_of("down")), (["record", "intent", "record"], ["record"]))
+    trial.want("restat: the lines", (kinds_of("out"), kinds_of("down")), (["record", "intent", "record"], ["record", "intent", "record"]))
+    trial.want("restat: what depends on it has the entry that it had", entries_of("down")[2], entries_of("down")[0])
     trial.want("restat: nothing is left to do", samu.run(), (0, ""))
     described("A", "x")
     with_file("die", samu.run)
     described("B", "x")
     trial.check("restat: killed, and B again: it runs", samu.run()[1] != "")
-    trial.want("restat: what depends on it doesn't", kinds_of("down"), ["record"])
+    trial.want("restat: what depends on it does, since nothing tells that it didn't", kinds_of("down")[-2:], ["intent", "record"])
     described("B", "y")
     with_file("die", samu.run)
     described("B", "x")
@@ -452,7 +453,7 @@ def try_manifest(trial, samu):
     time.sleep(0.02)
     write("source", described("B"))
     trial.want("a manifest: it is made anew, and so is the output", (samu.run()[0], read("out")), (0, b"B\n"))
-    trial.want("a manifest: the log", sorted(names_in(read(f"sub/{LOG}"))), [b"build.ninja", *[b"out"] * 3])
+    trial.want("a manifest: the log", sorted(names_in(read(f"sub/{LOG}"))), [*[b"build.ninja"] * 2, *[b"out"] * 3])
     trial.want("a manifest: nothing is left to do", samu.run(), (0, ""))
 
 
@@ -495,8 +496,8 @@ def try_early_time(trial, samu):
 
 
 def try_syncs(trial, samu):
-    """By NINJA_LOG_SYNC an intent is synced before its command starts."""
-    for value in ("", "intents"):
+    """All intents are written at once, and synced once, before the first command; with `none` there are none."""
+    for value in ("", "intents", "none"):
         for word in "AB":
             write("build.ninja", f"rule c\n  command = : {word}; touch $out\nbuild o1: c\nbuild o2: c\n")
             before = ["strace", "-y", "-o", "calls", "-e", "signal=none", "-e", "trace=write,fsync,clone,clone3,vfork,fork"]
@@ -507,12 +508,12 @@ def try_syncs(trial, samu):
                 calls.append("start")
             elif f"{LOG}>" in it:
                 calls.append("fsync" if it.startswith("fsync") else "write")
-        sync = ["fsync"] if value else []
-        wanted = ["fsync", *(["write", *sync, "start", "write"] * 2), "fsync"]
+        begun = ["fsync", "write", "fsync", "start"] if value != "none" else ["start", "fsync"]
+        wanted = [*begun, "write", "start", "write", "fsync"]
         trial.want(f"syncs, {value!r}: the calls", calls, wanted)
-    for value in ("outputs", "1"):
-        status, said = samu.run(NINJA_LOG_SYNC=value)
-        trial.check(f"syncs, {value!r}: refused", status == 1 and "NINJA_LOG_SYNC is not" in said, said)
+    for value, words in (("outputs", []), ("1", []), ("1", ["-n"])):
+        status, said = samu.run(*words, NINJA_LOG_SYNC=value)
+        trial.check(f"syncs, {value!r} {words}: refused", status == 1 and "NINJA_LOG_SYNC is neither" in said, said)
 
 
 def try_hands(trial, samu):

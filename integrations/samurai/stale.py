@@ -7,12 +7,13 @@ PLAIN and PATCHED are programs muon. The lives are those of integrations/ninja/s
 folder has OUTPUTS outputs, so that the log is longer than what samurai keeps in memory of it. Until STATES (20000) outputs were looked at in each
 of the first two, and some in the others:
 
-- `synced`: the patched one with NINJA_LOG_SYNC=intents, kills and power cuts. No output may be stale;
-- `killed`: the patched one without it, and kills alone. No output may be stale;
-- `hands`: the folder changes hands, at random, between the plain one and the patched one with syncs. No output that the patched one made last
-  may be stale. What the plain one made, and lost, may be;
-- `plain`: the plain one, kills and power cuts. Some output has to be stale: else nothing was tried;
-- `unsynced`: the patched one without syncs, power cuts too. What it finds is told, and nothing is wanted of it.
+- `default`: the patched one as it is, kills and power cuts. No output may be stale;
+- `killed`: the same with kills alone. No output may be stale;
+- `two`: as `default`, by two samurais at once that share the log, and have half of the outputs each. No output may be stale;
+- `hands`: the folder changes hands, at random, between the plain one and the patched one. No output that the patched one made last may be stale.
+  What the plain one made, and lost, may be.
+
+Some output has to be stale in `plain`, `no intents` and `no sync`, else nothing was tried.
 """
 import os
 import sys
@@ -21,7 +22,7 @@ sys.path.insert(0, os.path.dirname(os.path.dirname(os.path.abspath(__file__))))
 from lives import live_all
 
 OUTPUTS = 150
-KINDS = {"synced": (1, "0"), "killed": (1, "0"), "hands": (0.5, "0"), "plain": (0.2, "some"), "unsynced": (0.2, None)}
+KINDS = {"default": (1, "0"), "killed": (1, "0"), "two": (0.5, "0"), "hands": (0.5, "0"), "plain": (0.2, "some"), "no intents": (0.2, "some"), "no sync": (0.2, "some")}
 
 
 def main(plain, patched, states="20000", seed=None):
