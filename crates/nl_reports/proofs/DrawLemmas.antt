@@ -2,7 +2,7 @@
 use Rattle.std.proofs.Common.{◌≡◌, ◌∙◌, ℕ, ◌+◌, ◌<◌, ◌≤◌, List, ◌++◌, Option, Result, ap, append-nil, append_assoc, arith, codes, drop, get_or, length, length-append, map, min, refl, subst, sym, take}
 use Rattle.std.specs.List.{flat_map, zip}
 use Rattle.std.specs.Result.{IsErr}
-use Rattle.std.proofs.lemmas.List.{length-map}
+use Rattle.std.proofs.lemmas.List.{length-map, take_min}
 use Rattle.std.proofs.lemmas.Simd.{map-map}
 use Rattle.nl_builds.specs.declared.build.How.{How}
 use Rattle.nl_tool_texts.specs.declared.fault.ToolFault.{ToolFault}
@@ -24,7 +24,7 @@ use Rattle.nl_reports.specs.declared.rows.Rank.TheVariants.{Time}
 use Rattle.nl_reports.specs.declared.rows.Row.{Row}
 use Rattle.nl_reports.specs.declared.span.Span.{Span}
 use Rattle.nl_reports.proofs.FallingLemmas.{map-falling}
-use Rattle.nl_reports.proofs.ListedLemmas.{map-take, take_least}
+use Rattle.nl_reports.proofs.ListedLemmas.{map-take}
 use Rattle.nl_reports.proofs.PairLemmas.{pair_next, pairs_over}
 use Rattle.nl_reports.proofs.WritingLemmas.{err_writes, more_held, none_written}
 
@@ -57,7 +57,7 @@ pub names_are : (js : List Job) (rows found sorted : List Row) (names : List (Li
     → names ≡ map (λ (r : Row). r.name.now) (take count sorted) → names ≡ kind_names js
 names_are js rows found sorted names count timed_is found_is sorted_is count_is names_is =
     names_is ∙ ap (λ (n : ℕ). map (λ (r : Row). r.name.now) (take n sorted)) count_is
-    ∙ ap (map (λ (r : Row). r.name.now)) (take_least 9 (length sorted) sorted refl) ∙ map-take (λ (r : Row). r.name.now) 9 sorted
+    ∙ ap (map (λ (r : Row). r.name.now)) (take_min 9 sorted) ∙ map-take (λ (r : Row). r.name.now) 9 sorted
     ∙ ap (take 9) (sym (map-map (λ (k : Told). k.name) told_row sorted) ∙ ap (map (λ (k : Told). k.name))
     (ap (map told_row) sorted_is ∙ map-falling told_row (rank_told Time) found
     ∙ ap (falling (rank_told Time)) (found_is ∙ ap (kinds Extension) timed_is)))

@@ -70,9 +70,6 @@ again_is number began taken =
     ∙ append_assoc (decimal number) found (34 ∷ (told ++ ((decimal taken ++ 125 ∷ []) ++ process number)))
     ∙ ap (λ (l : List ℕ). decimal number ++ (found ++ (34 ∷ (told ++ l)))) (append_assoc (decimal taken) (125 ∷ []) (process number))))
 
-abbrev pub time_text : ℕ → List ℕ
-time_text dur = codes ",\"dur\":" ++ (decimal dur ++ codes ",\"name\":")
-
 abbrev pub end_text : ℕ → ℕ → ℕ → List ℕ
 end_text number tid ts = codes ",\"ph\":\"X\",\"pid\":" ++ (decimal number ++ (codes ",\"tid\":" ++ (decimal tid ++ (codes ",\"ts\":" ++ (decimal ts ++ codes "}")))))
 
@@ -90,10 +87,3 @@ pub running_is : (b : BuildEvent) (cs : List Span) (at : ℕ) → running_text b
     ≡ 44 ∷ event_text (running_event b cs at)
 unfolding event_text escape_byte
 running_is b cs at = simp append_assoc
-
-pub five_more : (old a b c d new v w x y z n m : List ℕ) → a ≡ old ++ v → b ≡ a ++ w → c ≡ b ++ (x ++ (n ++ m)) → d ≡ c ++ y → new ≡ d ++ z
-    → new ≡ old ++ (v ++ (w ++ (x ++ (n ++ (m ++ (y ++ z))))))
-five_more old a b c d new v w x y z n m one two three four five =
-    five ∙ ap (λ (l : List ℕ). l ++ z) (four ∙ ap (λ (l : List ℕ). l ++ y)
-    (three ∙ ap (λ (l : List ℕ). l ++ (x ++ (n ++ m))) (two ∙ ap (λ (l : List ℕ). l ++ w) one)))
-    ∙ simp append_assoc

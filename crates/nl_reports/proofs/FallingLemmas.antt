@@ -62,7 +62,7 @@ module _ {A : Type 0} (rank : A → ℕ) where
   up_to_at v (x ∷ xs) all zero d within = all.0
   up_to_at v (x ∷ xs) all (suc k) d within = up_to_at v xs all.1 k d (omega (arith, within))
 
-  falls_at : (xs : List A) → Falls xs → (i j : ℕ) (d : A) → i ≤ j → j < length xs → rank (get_or xs j d) ≤ rank (get_or xs i d)
+  pub falls_at : (xs : List A) → Falls xs → (i j : ℕ) (d : A) → i ≤ j → j < length xs → rank (get_or xs j d) ≤ rank (get_or xs i d)
   falls_at [] f i j d order within = absurd (omega arith)
   falls_at (x ∷ xs) f zero zero d order within = omega arith
   falls_at (x ∷ xs) f zero (suc j) d order within = up_to_at (rank x) xs f.0 j d (omega (arith, within))

@@ -4,6 +4,7 @@ mod SweepStepLemmas
 mod SharesLemmas
 mod LeftOverLemmas
 mod FallingLemmas
+mod RankingLemmas
 mod ListedLemmas
 mod FractionLemmas
 mod KindLemmas
@@ -17,6 +18,7 @@ mod LastingJobLemmas
 mod CompareLemmas
 mod TextLemmas
 mod EscapeLemmas
+mod BareLemmas
 mod CurveLemmas
 mod LaneLemmas
 mod LaneLawLemmas

@@ -1,7 +1,6 @@
 -- Lists of lines, the highest rank first, row by row.
-use Rattle.std.proofs.Common.{◌≡◌, ◌∙◌, ℕ, ◌+◌, ◌<◌, List, [], ◌∷◌, ◌++◌, length, get_or, map, take, min, zero, suc, inl, inr, append_assoc, append-nil, arith, ap, refl, sym}
+use Rattle.std.proofs.Common.{◌≡◌, ◌∙◌, ℕ, ◌+◌, ◌<◌, ◌≤◌, List, [], ◌∷◌, ◌++◌, length, get_or, map, take, zero, suc, append_assoc, append-nil, arith, ap, refl, sym}
 use Rattle.std.specs.List.{flat_map}
-use Rattle.std.proofs.lemmas.Bool.Decides.{leb_tells}
 use Rattle.std.proofs.lemmas.List.{map-append, take_all, take_more}
 use Rattle.std.proofs.lemmas.List.Concat.{flat_map-append}
 use Rattle.nl_reports.specs.Rows.{falling}
@@ -20,12 +19,6 @@ map-take f n [] = go n
     go (suc n) = refl
 map-take f zero (x ∷ xs) = refl
 map-take f (suc n) (x ∷ xs) = ap (λ l. f x ∷ l) (map-take f n xs)
-
-pub take_least : {A : Type 0} (n m : ℕ) (xs : List A) → m ≡ length xs → take (min n m) xs ≡ take n xs
-take_least n m xs is = elim (leb_tells n m) [
-  | inl h ↦ ap (λ k. take k xs) (omega (arith, h.1))
-  | inr h ↦ take_all (min n m) xs (omega (arith, h.1, is)) ∙ sym (take_all n xs (omega (arith, h.1, is)))
-]
 
 -- rows, each told as it is viewed, with a line for each
 module _ {R T : Type 0} (told : R → T) (line : T → List ℕ) (old : List ℕ) where
@@ -46,10 +39,10 @@ module _ {R T : Type 0} (told : R → T) (line : T → List ℕ) (old : List ℕ
           ∙ ap (λ (l : List ℕ). flat_map line (map told (take i rows)) ++ l) (append-nil (line (told r)))
 
   -- all of them
-  pub list_told : (rank : T → ℕ) (lines : List ℕ) (most count : ℕ) (rows sorted : List R) → sorted ≡ falling (λ r. rank (told r)) rows
-      → count ≡ min most (length sorted) → lines ≡ old ++ flat_map line (map told (take count sorted))
+  pub list_told : (rank : T → ℕ) (lines : List ℕ) (most count : ℕ) (rows kept : List R) → kept ≡ take most (falling (λ r. rank (told r)) rows)
+      → length kept ≤ count → lines ≡ old ++ flat_map line (map told (take count kept))
       → lines ≡ old ++ flat_map line (take most (falling rank (map told rows)))
-  list_told rank lines most count rows sorted is counts before =
+  list_told rank lines most count rows kept is all before =
       before ∙ ap (λ (l : List T). old ++ flat_map line l)
-      (ap (map told) (ap (λ (n : ℕ). take n sorted) counts ∙ take_least most (length sorted) sorted refl) ∙ map-take told most sorted
-      ∙ ap (take most) (ap (map told) is ∙ map-falling told rank rows))
+      (ap (map told) (take_all count kept all ∙ is) ∙ map-take told most (falling (λ r. rank (told r)) rows)
+      ∙ ap (take most) (map-falling told rank rows))

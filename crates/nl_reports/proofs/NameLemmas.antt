@@ -1,11 +1,12 @@
 -- The names of outputs as JSON, one by one.
-use Rattle.std.proofs.Common.{◌≡◌, ◌∙◌, ℕ, zero, suc, ◌+◌, true, false, List, [], ◌∷◌, ◌++◌, ap, arith, codes, map, refl}
+use Rattle.std.proofs.Common.{◌≡◌, ◌∙◌, ℕ, zero, suc, ◌+◌, true, false, List, [], ◌∷◌, ◌++◌, ap, append_assoc, arith, codes, map, refl, sym}
 use Rattle.serde_json.specs.View.{items_of}
 use Rattle.serde_json.specs.Written.{items_text}
 use Rattle.nl_fields.specs.Digits.{digits_of}
 use Rattle.nl_fields.specs.declared.entry.Entry.{Entry}
 use Rattle.nl_reports.specs.Events.{args_of, event_text, shown}
 use Rattle.nl_reports.specs.Jobs.{Job}
+use Rattle.nl_reports.proofs.BareLemmas.{hash_quoted}
 use Rattle.json.specs.Print.{escape_byte}
 
 -- what stands before the name at a place
@@ -35,3 +36,15 @@ pub args_are : (j : Job) → codes "{\"hash\":" ++ (event_text (shown (digits_of
 unfolding event_text escape_byte
 args_are j =
     ap (λ (l : List ℕ). codes "{\"hash\":" ++ (event_text (shown (digits_of 16 j.hash)) ++ (codes ",\"outputs\":[" ++ (l ++ 125 ∷ [])))) (names_are j.outputs)
+
+-- the hash between its quotes
+pub hash_told : (old : List ℕ) (hash : ℕ) → ((old ++ codes "{\"hash\":\"") ++ digits_of 16 hash) ++ codes "\",\"outputs\":["
+    ≡ ((old ++ codes "{\"hash\":") ++ event_text (shown (digits_of 16 hash))) ++ codes ",\"outputs\":["
+hash_told old hash =
+    let d = digits_of 16 hash in
+    let key = codes "{\"hash\":" in
+    let next = codes ",\"outputs\":[" in
+    append_assoc (old ++ (key ++ 34 ∷ [])) d (34 ∷ next) ∙ append_assoc old (key ++ 34 ∷ []) (d ++ (34 ∷ next))
+    ∙ ap (λ (l : List ℕ). old ++ (key ++ 34 ∷ l)) (sym (append_assoc d (34 ∷ []) next))
+    ∙ sym (append_assoc (old ++ key) (34 ∷ (d ++ 34 ∷ [])) next ∙ append_assoc old key ((34 ∷ (d ++ 34 ∷ [])) ++ next))
+    ∙ ap (λ (l : List ℕ). ((old ++ key) ++ l) ++ next) (hash_quoted hash)

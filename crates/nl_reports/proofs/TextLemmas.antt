@@ -11,6 +11,13 @@ pub three_parts : (old a b c x y z : List ℕ) → a ≡ old ++ x → b ≡ a ++
 three_parts old a b c x y z one two three =
     three ∙ ap (λ (l : List ℕ). l ++ z) (two_parts old a b x y one two) ∙ append_assoc old (x ++ y) z
 
+-- parts by twos, one behind the other
+pub three_pairs : (a b c d e f z : List ℕ) → ((a ++ b) ++ (c ++ d)) ++ (e ++ f) ++ z ≡ a ++ b ++ c ++ d ++ e ++ f ++ z
+three_pairs a b c d e f z = simp append_assoc
+
+pub four_pairs : (a b c d e f g h z : List ℕ) → (((a ++ b) ++ (c ++ d)) ++ (e ++ f)) ++ (g ++ h) ++ z ≡ a ++ b ++ c ++ d ++ e ++ f ++ g ++ h ++ z
+four_pairs a b c d e f g h z = simp append_assoc
+
 pub label_whole : (name whole : List ℕ) → whole ≡ shown name → length whole ≤ 200 → whole ≡ label name
 label_whole name whole is short =
     elim (leb_tells (length (shown name)) 200) [

@@ -26,6 +26,16 @@ shown name = escaped (utf8_lossy name)
 abbrev pub label : List ℕ → List ℕ
 label name = if nat_le (length (shown name)) 200 then shown name else shown (take 40 name) ++ codes ".."
 
+-- a byte of ASCII that stands in JSON and in XML as it is
+pub record IsBare (c : ℕ) : Type 0 where
+  pub low : 32 ≤ c
+  pub high : c ≤ 126
+  pub quote : c ≢ 34
+  pub backslash : c ≢ 92
+  pub less : c ≢ 60
+  pub more : c ≢ 62
+  pub and : c ≢ 38
+
 -- a byte that is no control character below 32 and none of `<`, `>`, `"`; and one that isn't `&` either
 abbrev pub IsQuiet : ℕ → Type 0
 IsQuiet c = (32 ≤ c) × ((c ≢ 60) × ((c ≢ 62) × (c ≢ 34)))

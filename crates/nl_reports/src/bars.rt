@@ -5,10 +5,11 @@ ghost use Rattle.nl_reports.specs.Jobs.{seen};
 ghost use Rattle.nl_reports.specs.Rows.{falling};
 ghost use Rattle.nl_reports.specs.Spans.{IsEarly};
 
-use crate::escape::{append, append_label};
-use crate::frame::{Frame, seconds, y_at};
+use crate::escape::append_label;
+use crate::frame::{Frame, append_seconds, y_at};
 use crate::job::Job;
 use crate::kind::{KindRule, kind_of};
+use crate::text::{append, append_with};
 use std::alloc::{AllocError, Global};
 
 // A narrower bar is none of its own.
@@ -49,7 +50,7 @@ pub(crate) fn append_bar(
         })?;
         return Ok(());
     }
-    append_rect(alloc, lane, u128::from(x), width, kind, out)?;
+    append_rect(lane, u128::from(x), width, kind, out)?;
     append_title(alloc, frame, job, out)
 }
 
@@ -77,22 +78,23 @@ fn append_title(
     ensures items { OnOk result (out.new.items ≡ out.old.items ++ title frame.now (seen job.now)) }
 {
     append_label(alloc, job.name(), out)?;
-    append_more(alloc, job.outputs.len().saturating_sub(1), out)?;
-    let time = seconds(alloc, job.span.time())?;
-    let start = seconds(alloc, job.span.began.saturating_sub(frame.began))?;
-    let end = format!(in alloc; "\n{time} s from {start} s</title></rect>\n")?;
-    append(end.as_bytes(), out)
+    append_more(job.outputs.len().saturating_sub(1), out)?;
+    append(b"\n", out)?;
+    append_seconds(job.span.time(), out)?;
+    append(b" s from ", out)?;
+    append_seconds(job.span.began.saturating_sub(frame.began), out)?;
+    append(b" s</title></rect>\n", out)
 }
 
 // How many more outputs there are.
-fn append_more(alloc: Global, count: usize, out: &mut Vec<u8>) -> Result<(), AllocError>
+fn append_more(count: usize, out: &mut Vec<u8>) -> Result<(), AllocError>
     ensures items { OnOk result (out.new.items ≡ out.old.items ++ more_outputs count) }
 {
     if count == 0 {
         return Ok(());
     }
-    let more = format!(in alloc; " and {count} more")?;
-    append(more.as_bytes(), out)
+    append_with(b" and ", count, out)?;
+    append(b" more", out)
 }
 
 /// The marks by lane, pixel and kind, the highest first.
@@ -110,7 +112,6 @@ pub(crate) fn falling_marks(marks: Vec<Mark>) -> Result<Vec<Mark>, AllocError>
 
 /// How many that are alike stand before what follows a mark. If it is the last of these, this appends their bar.
 pub(crate) fn append_mark(
-    alloc: Global,
     count: u64,
     mark: &Mark,
     rest: &[Mark],
@@ -126,9 +127,9 @@ pub(crate) fn append_mark(
         return Ok(all);
     }
     let x = u128::from(mark.pixel) * 10;
-    append_rect(alloc, mark.lane, x, 10, mark.kind, out)?;
-    let end = format!(in alloc; "{all} short</title></rect>\n")?;
-    append(end.as_bytes(), out)?;
+    append_rect(mark.lane, x, 10, mark.kind, out)?;
+    append_with(b"", all, out)?;
+    append(b" short</title></rect>\n", out)?;
     Ok(0)
 }
 
@@ -146,7 +147,6 @@ fn is_last(mark: &Mark, rest: &[Mark]) -> bool
 
 // Appends a rectangle in a lane, up to its title.
 fn append_rect(
-    alloc: Global,
     lane: u64,
     x: u128,
     width: u64,
@@ -157,8 +157,9 @@ fn append_rect(
 {
     let y = y_at(lane);
     let hue = u128::from(kind) * 36;
-    let start = format!(in alloc;
-        "<rect x=\"{x}\" y=\"{y}\" width=\"{width}\" height=\"140\" fill=\"hsl({hue},50%,60%)\"><title>"
-    )?;
-    append(start.as_bytes(), out)
+    append_with(b"<rect x=\"", x, out)?;
+    append_with(b"\" y=\"", y, out)?;
+    append_with(b"\" width=\"", width, out)?;
+    append_with(b"\" height=\"140\" fill=\"hsl(", hue, out)?;
+    append(b",50%,60%)\"><title>", out)
 }

@@ -4,9 +4,8 @@ ghost use Rattle.std.specs.List.{flat_map};
 ghost use Rattle.nl_reports.specs.Compare.{are_comparable, class_lines, compare_text, compared_of, row_line, side_of, sign, times_text, told_of_all, total_line};
 
 use crate::class::{Class, class_text};
-use crate::sides::{
-    ComparedRow, Rules, Side, compared, falling_by_cost, new_time, of_class, old_time,
-};
+use crate::ranking::highest;
+use crate::sides::{ByCost, ComparedRow, Rules, Side, compared, new_time, of_class, old_time};
 use nl_table::Secret;
 use nl_versions::LogVersion;
 use std::alloc::{AllocError, Global};
@@ -119,10 +118,9 @@ fn append_class(
         (lines.new.items ≡ lines.old.items ++ class_lines most (map compared_of rows.now) class) }
 {
     let kept = of_class(alloc, class, rows)?;
-    let sorted = falling_by_cost(alloc, kept.as_slice())?;
-    let count = most.min(sorted.len());
-    for i in 0..count {
-        append_row(alloc, &sorted[i], lines)?;
+    let listed = highest(alloc, &ByCost, most, kept.as_slice())?;
+    for i in 0..listed.len() {
+        append_row(alloc, &listed[i], lines)?;
     }
     Ok(())
 }

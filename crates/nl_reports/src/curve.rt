@@ -6,9 +6,9 @@ ghost use Rattle.nl_reports.specs.Moments.{AreMoments};
 ghost use Rattle.nl_reports.specs.Curve.{curve, height_of, point, points, tick, ticks};
 ghost use Rattle.nl_reports.specs.Frame.{IsFrame};
 
-use crate::escape::append;
-use crate::frame::{Frame, seconds};
+use crate::frame::{Frame, append_seconds};
 use crate::moments::Moments;
+use crate::text::append;
 use std::alloc::{AllocError, Global};
 
 /// Appends the curve of how many commands run, which ran at these moments.
@@ -99,9 +99,10 @@ fn append_tick(alloc: Global, frame: &Frame, i: u64, out: &mut Vec<u8>) -> Resul
 {
     let x = 600 + i * 1440;
     let foot = frame.foot();
-    let time = seconds(alloc, i * frame.wall / 10)?;
     let text = format!(in alloc;
-        "<path stroke=\"#ddd\" stroke-width=\"10\" d=\"M{x} 520V{foot}\"/><text x=\"{x}\" y=\"480\" text-anchor=\"middle\">{time} s</text>\n"
+        "<path stroke=\"#ddd\" stroke-width=\"10\" d=\"M{x} 520V{foot}\"/><text x=\"{x}\" y=\"480\" text-anchor=\"middle\">"
     )?;
-    append(text.as_bytes(), out)
+    append(text.as_bytes(), out)?;
+    append_seconds(i * frame.wall / 10, out)?;
+    append(b" s</text>\n", out)
 }

@@ -2,6 +2,7 @@
 ghost use Rattle.std.specs.Prelude.{◌≡◌, ◌++◌, IfOk, OnOk};
 ghost use Rattle.nl_reports.specs.Escape.{escaped, label, piece, shown};
 
+use crate::text::{append, is_bare};
 use std::alloc::{AllocError, Global};
 
 // The longest text of a name that stands whole, and how many bytes of a longer name are shown.
@@ -11,6 +12,15 @@ const START: usize = 40;
 
 /// Appends a name, or how it begins.
 pub(crate) fn append_label(alloc: Global, name: &[u8], out: &mut Vec<u8>) -> Result<(), AllocError>
+    ensures items { OnOk result (out.new.items ≡ out.old.items ++ label name.now) }
+{
+    if name.len() <= WHOLE && is_bare(name) {
+        return append(name, out);
+    }
+    append_cut(alloc, name, out)
+}
+
+fn append_cut(alloc: Global, name: &[u8], out: &mut Vec<u8>) -> Result<(), AllocError>
     ensures items { OnOk result (out.new.items ≡ out.old.items ++ label name.now) }
 {
     let whole = shown(alloc, name)?;
@@ -68,12 +78,4 @@ fn append_piece(first: u8, second: u8, byte: u8, out: &mut Vec<u8>) -> Result<()
         return append(b"\xBD", out);
     }
     append(&[byte], out)
-}
-
-/// Appends a text.
-pub(crate) fn append(text: &[u8], out: &mut Vec<u8>) -> Result<(), AllocError>
-    ensures items { OnOk result (out.new.items ≡ out.old.items ++ text.now) }
-{
-    out.extend_from_slice(text)?;
-    Ok(())
 }

@@ -6,14 +6,13 @@ ghost use Rattle.nl_reports.specs.Moments.{AreMoments};
 ghost use Rattle.nl_reports.specs.Spans.{IsEarly};
 ghost use Rattle.nl_reports.specs.declared.span.Span.{Span};
 
-use crate::escape::append;
 use crate::job::Job;
 use crate::moments::Moments;
+use crate::text::{append, append_with, is_bare};
 use json::Writer;
 use nl_builds::How;
 use nl_fields::append_hex64;
 use std::alloc::{AllocError, Global};
-use std::mem;
 
 /// The build that a trace is of: its number, when it began, and how it is known.
 #[derive(Clone, Copy, Drop)]
@@ -67,22 +66,22 @@ pub(crate) fn append_command(
     let ts = job.span.began.saturating_sub(build.began) * 1000;
     append(b",{\"args\":", out)?;
     append_args(alloc, job, out)?;
-    let time = format!(in alloc; ",\"dur\":{dur},\"name\":")?;
-    append(time.as_bytes(), out)?;
+    append_with(b",\"dur\":", dur, out)?;
+    append(b",\"name\":", out)?;
     append_shown(alloc, job.name(), out)?;
-    let end = format!(in alloc; ",\"ph\":\"X\",\"pid\":{number},\"tid\":{tid},\"ts\":{ts}}}")?;
-    append(end.as_bytes(), out)
+    append_with(b",\"ph\":\"X\",\"pid\":", number, out)?;
+    append_with(b",\"tid\":", tid, out)?;
+    append_with(b",\"ts\":", ts, out)?;
+    append(b"}", out)
 }
 
 // The hash and the outputs of a command.
 fn append_args(alloc: Global, job: &Job<'_, '_>, out: &mut Vec<u8>) -> Result<(), AllocError>
     ensures items { OnOk result (out.new.items ≡ out.old.items ++ event_text (args_of (seen job.now))) }
 {
-    let mut digits = Vec::new(alloc);
-    append_hex64(job.hash, &mut digits)?;
-    append(b"{\"hash\":", out)?;
-    append_shown(alloc, digits.as_slice(), out)?;
-    append(b",\"outputs\":[", out)?;
+    append(b"{\"hash\":\"", out)?;
+    append_hex64(job.hash, out)?;
+    append(b"\",\"outputs\":[", out)?;
     let mut comma: &[u8] = b"";
     for entry in job.outputs {
         append(comma, out)?;
@@ -96,16 +95,19 @@ fn append_args(alloc: Global, job: &Job<'_, '_>, out: &mut Vec<u8>) -> Result<()
 fn append_shown(alloc: Global, name: &[u8], out: &mut Vec<u8>) -> Result<(), AllocError>
     ensures items { OnOk result (out.new.items ≡ out.old.items ++ event_text (shown name.now)) }
 {
+    if is_bare(name) {
+        append(b"\"", out)?;
+        append(name, out)?;
+        return append(b"\"", out);
+    }
     let text = String::from_utf8_lossy(alloc, name)?;
-    let mut json = Writer::new(mem::replace(out, Vec::new(alloc)));
+    let mut json = Writer::new(Vec::new(alloc));
     json.string(text.as_str())?;
-    *out = json.into_inner();
-    Ok(())
+    append(json.into_inner().as_slice(), out)
 }
 
 /// Appends how many commands run at a moment, behind a comma.
 pub(crate) fn append_running(
-    alloc: Global,
     build: BuildEvent,
     moments: &Moments,
     at: u64,
@@ -118,8 +120,8 @@ pub(crate) fn append_running(
     let number = build.number;
     let count = moments.running(at);
     let ts = at.saturating_sub(build.began) * 1000;
-    let text = format!(in alloc;
-        ",{{\"args\":{{\"commands\":{count}}},\"name\":\"running\",\"ph\":\"C\",\"pid\":{number},\"ts\":{ts}}}"
-    )?;
-    append(text.as_bytes(), out)
+    append_with(b",{\"args\":{\"commands\":", count, out)?;
+    append_with(b"},\"name\":\"running\",\"ph\":\"C\",\"pid\":", number, out)?;
+    append_with(b",\"ts\":", ts, out)?;
+    append(b"}", out)
 }

@@ -1,11 +1,12 @@
 //! Where things stand in a picture, and how moments are told.
-ghost use Rattle.std.specs.Prelude.{◌≡◌, ◌<◌, ◌^◌, IfOk, string_bytes};
+ghost use Rattle.std.specs.Prelude.{◌≡◌, ◌<◌, ◌^◌, ◌++◌, OnOk};
 ghost use Rattle.std.specs.List.{All};
 ghost use Rattle.nl_reports.specs.Spans.{IsEarly};
 ghost use Rattle.nl_reports.specs.Frame.{IsFrame, across, first_began, foot_of, frame_of, last_closed, line_at, seconds, top_of, x_at, y_at};
 
 use crate::span::Span;
-use std::alloc::{AllocError, Global};
+use crate::text::append_with;
+use std::alloc::AllocError;
 
 /// When a build began, how long it took, and its highest lane.
 #[derive(Clone, Copy, Drop)]
@@ -106,13 +107,12 @@ pub(crate) fn y_at(lane: u64) -> u128
     600 + u128::from(lane) * 160
 }
 
-/// So many milliseconds in seconds.
-pub(crate) fn seconds(alloc: Global, ms: u64) -> Result<String, AllocError>
-    ensures value { IfOk result (λ text. string_bytes text ≡ seconds ms) }
+/// Appends so many milliseconds in seconds.
+pub(crate) fn append_seconds(ms: u64, out: &mut Vec<u8>) -> Result<(), AllocError>
+    ensures items { OnOk result (out.new.items ≡ out.old.items ++ seconds ms) }
 {
-    let whole = ms / 1000;
-    let tenth = ms % 1000 / 100;
-    let hundredth = ms % 100 / 10;
-    let thousandth = ms % 10;
-    format!(in alloc; "{whole}.{tenth}{hundredth}{thousandth}")
+    append_with(b"", ms / 1000, out)?;
+    append_with(b".", ms % 1000 / 100, out)?;
+    append_with(b"", ms % 100 / 10, out)?;
+    append_with(b"", ms % 10, out)
 }

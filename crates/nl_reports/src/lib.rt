@@ -27,6 +27,7 @@ mod numbers;
 mod order;
 mod outputs;
 mod picture;
+mod ranking;
 mod rows;
 mod shares;
 mod shown;
@@ -34,6 +35,7 @@ mod sides;
 mod span;
 mod summary;
 mod sweep;
+mod text;
 mod trace;
 mod writing;
 

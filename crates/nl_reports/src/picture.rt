@@ -12,8 +12,8 @@ ghost use Rattle.nl_reports.specs.Writing.{IsWriteFault, Moves, Writes};
 use crate::bars::{Mark, append_bar, append_mark, falling_marks};
 use crate::choice::last_number;
 use crate::curve::{append_curve, append_ticks};
-use crate::escape::{append, append_label};
-use crate::frame::{Frame, seconds};
+use crate::escape::append_label;
+use crate::frame::{Frame, append_seconds};
 use crate::job::{Job, jobs_by_start, jobs_of};
 use crate::kind::KindRule;
 use crate::kinds::kinds_of;
@@ -21,6 +21,7 @@ use crate::lanes::lanes_of;
 use crate::moments::Moments;
 use crate::numbers::spans_of;
 use crate::rows::{Rank, Row, Sums, falling_by};
+use crate::text::append;
 use crate::trace::how_of;
 use crate::writing::{write_full, write_rest};
 use nl_builds::{Builds, How};
@@ -122,14 +123,13 @@ fn write_bars<W: Write>(
         )?;
         write_full(&mut held, writer)?;
     }
-    write_marks(alloc, falling_marks(short)?.as_slice(), &mut held, writer)?;
+    write_marks(falling_marks(short)?.as_slice(), &mut held, writer)?;
     append(end, &mut held)?;
     write_rest(held, writer)
 }
 
 // Writes the bars of short commands, one for all of a lane, a pixel and a kind, which stand together.
 fn write_marks<W: Write>(
-    alloc: Global,
     marks: &[Mark],
     held: &mut Vec<u8>,
     writer: &mut W,
@@ -140,7 +140,7 @@ fn write_marks<W: Write>(
 {
     let mut count = 0;
     for i in 0..marks.len() {
-        count = append_mark(alloc, count, &marks[i], &marks[i + 1..], held)?;
+        count = append_mark(count, &marks[i], &marks[i + 1..], held)?;
         write_full(held, writer)?;
     }
     Ok(())
@@ -195,11 +195,12 @@ fn append_head(
 {
     let height = frame.line_at(lines + 1);
     let pixels = height / 10;
-    let wall = seconds(alloc, frame.wall)?;
     let start = format!(in alloc;
-        "<svg xmlns=\"http://www.w3.org/2000/svg\" width=\"1600\" height=\"{pixels}\" viewBox=\"0 0 16000 {height}\" font-family=\"sans-serif\" font-size=\"120\">\n<rect width=\"100%\" height=\"100%\" fill=\"#fff\"/>\n<text x=\"600\" y=\"260\" font-size=\"180\">{commands} commands in {wall} s</text>\n"
+        "<svg xmlns=\"http://www.w3.org/2000/svg\" width=\"1600\" height=\"{pixels}\" viewBox=\"0 0 16000 {height}\" font-family=\"sans-serif\" font-size=\"120\">\n<rect width=\"100%\" height=\"100%\" fill=\"#fff\"/>\n<text x=\"600\" y=\"260\" font-size=\"180\">{commands} commands in "
     )?;
     append(start.as_bytes(), out)?;
+    append_seconds(frame.wall, out)?;
+    append(b" s</text>\n", out)?;
     match how {
         How::AsWritten => Ok(()),
         How::FoundAgain { taken } => {

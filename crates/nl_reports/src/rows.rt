@@ -4,6 +4,7 @@ ghost use Rattle.nl_reports.specs.Rows.{falling, list_key, list_line, list_lines
 ghost use Rattle.nl_reports.specs.declared.rows.Rank.TheVariants.{Time, Weight};
 
 use crate::fraction::ratio;
+use crate::ranking::{Ranking, highest};
 use crate::sweep::PARTS;
 use std::alloc::{AllocError, Global};
 
@@ -66,6 +67,21 @@ fn falling_by_weight<'a>(alloc: Global, rows: &[Row<'a>]) -> Result<Vec<Row<'a>>
     Ok(sorted)
 }
 
+impl<'a> Ranking<Row<'a>> for Rank {
+    ghost rank = { rank_of };
+
+    fn rank(&self, row: &Row<'a>) -> u128 {
+        match self {
+            Rank::Time => row.sums.time,
+            Rank::Weight => row.sums.weight,
+        }
+    }
+
+    fn falling(&self, alloc: Global, rows: &[Row<'a>]) -> Result<Vec<Row<'a>>, AllocError> {
+        falling_by(alloc, *self, rows)
+    }
+}
+
 /// Appends the lines of so many rows at most, the highest by this rank first.
 pub(crate) fn append_list(
     alloc: Global,
@@ -78,10 +94,9 @@ pub(crate) fn append_list(
     ensures items { OnOk result
         (lines.new.items ≡ lines.old.items ++ list_lines listed rank most (map told_row rows.now)) }
 {
-    let sorted = falling_by(alloc, rank, rows)?;
-    let count = most.min(sorted.len());
-    for i in 0..count {
-        append_row(alloc, listed, rank, &sorted[i], lines)?;
+    let kept = highest(alloc, &rank, most, rows)?;
+    for i in 0..kept.len() {
+        append_row(alloc, listed, rank, &kept[i], lines)?;
     }
     Ok(())
 }

@@ -9,6 +9,7 @@ use crate::class::{Class, class_by_time, class_number};
 use crate::job::{Job, jobs_from};
 use crate::last_entries::names_of;
 use crate::outputs::Outputs;
+use crate::ranking::Ranking;
 use indexmap::IndexSet;
 use nl_builds::Builds;
 use nl_table::Secret;
@@ -235,8 +236,27 @@ pub(crate) fn new_time(rows: &[ComparedRow<'_>]) -> u128
     rows.iter().map(|row| u128::from(row.new)).sum()
 }
 
-/// Those with the largest differences first, and equal ones in order.
-pub(crate) fn falling_by_cost<'a>(
+/// By the difference of the times.
+#[derive(Clone, Copy, Drop)]
+pub(crate) struct ByCost;
+
+impl<'a> Ranking<ComparedRow<'a>> for ByCost {
+    ghost rank = { λ _ row. cost_of row };
+
+    fn rank(&self, row: &ComparedRow<'a>) -> u128 {
+        u128::from(row.old.abs_diff(row.new))
+    }
+
+    fn falling(
+        &self,
+        alloc: Global,
+        rows: &[ComparedRow<'a>],
+    ) -> Result<Vec<ComparedRow<'a>>, AllocError> {
+        falling_by_cost(alloc, rows)
+    }
+}
+
+fn falling_by_cost<'a>(
     alloc: Global,
     rows: &[ComparedRow<'a>],
 ) -> Result<Vec<ComparedRow<'a>>, AllocError>

@@ -9,13 +9,13 @@ ghost use Rattle.nl_reports.specs.Writing.{IsWriteFault, Writes};
 ghost use Rattle.nl_reports.specs.declared.span.Span.{Span};
 
 use crate::choice::last_number;
-use crate::escape::append;
 use crate::events::{BuildEvent, append_build, append_command, append_running};
 use crate::frame::first_began;
 use crate::job::{Job, jobs_by_start, jobs_of};
 use crate::lanes::{lane_at, lanes_of};
 use crate::moments::Moments;
 use crate::numbers::spans_of;
+use crate::text::append;
 use crate::writing::{write_full, write_rest};
 use nl_builds::{Build, Builds, How};
 use nl_tool_texts::{ToolFault, write_out};
@@ -96,6 +96,6 @@ fn append_events(
         (out.new.items ≡ out.old.items ++ behind_commas (events_of build cs (seen job.now, lane))) }
 {
     append_command(alloc, build, lane, job, out)?;
-    append_running(alloc, build, moments, job.span.began, out)?;
-    append_running(alloc, build, moments, job.span.closed(), out)
+    append_running(build, moments, job.span.began, out)?;
+    append_running(build, moments, job.span.closed(), out)
 }

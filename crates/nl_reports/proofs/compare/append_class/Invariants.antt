@@ -5,4 +5,4 @@ use Rattle.nl_reports.proofs.compare.append_class.Given as goal
 
 -- the line of each row before this one
 abbrev pub invariant-loop-i : goal.invariant-loop-i
-invariant-loop-i l = l.lines.items ≡ l.fn.lines.items ++ flat_map row_line (map compared_of (take l.i l.sorted.items))
+invariant-loop-i l = l.lines.items ≡ l.fn.lines.items ++ flat_map row_line (map compared_of (take l.i l.listed.items))

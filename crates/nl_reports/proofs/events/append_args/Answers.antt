@@ -4,7 +4,7 @@ use Rattle.std.proofs.lemmas.Result.{on_ok_weaker}
 use Rattle.nl_fields.specs.Digits.{digits_of}
 use Rattle.nl_reports.specs.Events.{event_text, shown}
 use Rattle.nl_reports.specs.Jobs.{seen}
-use Rattle.nl_reports.proofs.NameLemmas.{args_are, names_text}
+use Rattle.nl_reports.proofs.NameLemmas.{args_are, hash_told, names_text}
 use Rattle.nl_reports.proofs.events.append_args.Goals as goal
 
 pub returns : goal.returns
@@ -13,13 +13,11 @@ returns c =
     let j = seen c.args.job.now in
     let i = c.loop-entry.entry-index in
     let all : length j.outputs ≤ i = omega (arith, c.loop-entry-test.false) in
-    let digits : c.as_slice.result.now ≡ digits_of 16 j.hash =
-    c.as_slice.ensures.value ∙ c.in_ok-append_hex64.ensures.ok ∙ ap (λ (l : List ℕ). l ++ digits_of 16 j.hash) c.new-digits.ensures.items in
     let hash = event_text (shown (digits_of 16 j.hash)) in
     let outputs = codes ",\"outputs\":[" in
     let start : c.append-2.new.out.items ≡ ((old ++ codes "{\"hash\":") ++ hash) ++ outputs =
-    c.in_ok-append-2.ensures.items ∙ ap (λ (l : List ℕ). l ++ outputs) (c.in_ok-append_shown.ensures.items
-    ∙ (λ n. c.in_ok-append.ensures.items n ++ event_text (shown (digits n)))) in
+    c.in_ok-append-2.ensures.items ∙ ap (λ (l : List ℕ). l ++ codes "\",\"outputs\":[") (c.in_ok-append_hex64.ensures.ok
+    ∙ ap (λ (l : List ℕ). l ++ digits_of 16 j.hash) c.in_ok-append.ensures.items) ∙ hash_told old j.hash in
     let told : c.loop-entry.out.items ++ 93 ∷ [] ≡ c.append-2.new.out.items ++ names_text 0 j.outputs =
     ap (λ (l : List ℕ). c.loop-entry.out.items ++ l) (sym (at_drop_all (names_text i) j.outputs i all)) ∙ c.loop-entry.invariant.told in
     record {

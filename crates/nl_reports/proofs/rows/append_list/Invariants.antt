@@ -5,4 +5,4 @@ use Rattle.nl_reports.proofs.rows.append_list.Given as goal
 
 -- the line of each row before this one
 abbrev pub invariant-loop-i : goal.invariant-loop-i
-invariant-loop-i l = l.lines.items ≡ l.fn.lines.items ++ flat_map (list_line l.listed l.rank) (map told_row (take l.i l.sorted.items))
+invariant-loop-i l = l.lines.items ≡ l.fn.lines.items ++ flat_map (list_line l.listed l.rank) (map told_row (take l.i l.kept.items))

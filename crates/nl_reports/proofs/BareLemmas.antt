@@ -1,0 +1,98 @@
+-- Texts of bytes alone that stand in JSON and in XML as they are.
+use Rattle.std.proofs.Common.{◌≡◌, ◌∙◌, ℕ, zero, suc, ◌/◌, ◌%◌, ◌<◌, ◌≤◌, ◌==◌, ◌&&◌, Bool, true, false, cond, List, [], ◌∷◌, ◌++◌, ◌+◌, ap, arith, inl, inr, refl, sym}
+use Rattle.std.specs.Prelude.{nat_le, nat_lt}
+use Rattle.std.specs.List.{All}
+use Rattle.std.specs.Str.Lossy.{utf8_lossy}
+use Rattle.std.proofs.lemmas.Bool.{cond-false, lt-leb, ne_eqb}
+use Rattle.std.proofs.lemmas.Bool.Decides.{leb_tells}
+use Rattle.std.proofs.lemmas.List.Elements.{All-append, All-cons, All-nil, All-tail}
+use Rattle.std.proofs.lemmas.Str.{IsUtf8-from_ascii, utf8_lossy-IsUtf8}
+use Rattle.std.proofs.lemmas.Str.Ascii.{IsAscii-from_all}
+use Rattle.json.specs.Print.{escape}
+use Rattle.json.proofs.Printed.Strings.{escape_byte_plain}
+use Rattle.nl_fields.specs.Digits.{digit_of, digits_of, last_digits}
+use Rattle.nl_reports.specs.Escape.{IsBare, escaped_behind, piece}
+use Rattle.nl_reports.specs.Escape as xml
+use Rattle.nl_reports.specs.Events.{event_text, shown}
+
+bare_lossy : (s : List ℕ) → All IsBare s → utf8_lossy s ≡ s
+bare_lossy s all = utf8_lossy-IsUtf8 s (IsUtf8-from_ascii s (IsAscii-from_all s (λ k d within. omega (arith, (all k d within).high))))
+
+-- ---- in JSON
+
+bare_escape : (s : List ℕ) → All IsBare s → escape s ≡ s
+bare_escape [] all = refl
+bare_escape (c ∷ cs) all =
+    let b : IsBare c = all 0 c (omega arith) in
+    λ i. escape_byte_plain c b.quote b.backslash b.low i ++ bare_escape cs (All-tail IsBare c cs all) i
+
+pub bare_quoted : (s : List ℕ) → All IsBare s → 34 ∷ (s ++ 34 ∷ []) ≡ event_text (shown s)
+unfolding event_text
+bare_quoted s all = ap (λ (l : List ℕ). 34 ∷ (l ++ 34 ∷ [])) (sym (ap escape (bare_lossy s all) ∙ bare_escape s all))
+
+-- ---- in XML
+
+piece_bare : (a b c : ℕ) → IsBare c → piece a b c ≡ c ∷ []
+piece_bare a b c bare =
+    cond-false (c == 60) _ _ (ne_eqb c 60 bare.less) ∙ cond-false (c == 62) _ _ (ne_eqb c 62 bare.more)
+    ∙ cond-false (c == 34) _ _ (ne_eqb c 34 bare.quote) ∙ cond-false (c == 38) _ _ (ne_eqb c 38 bare.and)
+    ∙ cond-false (nat_le c 31) _ _ (lt-leb c 31 (omega (arith, bare.low)))
+    ∙ cond-false (a == 239 && (b == 191 && nat_le 190 c)) _ _ (last (a == 239) (b == 191) (lt-leb 190 c (omega (arith, bare.high))))
+  where
+    last : (x y : Bool) → nat_le 190 c ≡ false → (x && (y && nat_le 190 c)) ≡ false
+    last true true is = is
+    last true false is = refl
+    last false y is = refl
+
+bare_escaped : (a b : ℕ) (s : List ℕ) → All IsBare s → escaped_behind a b s ≡ s
+bare_escaped a b [] all = refl
+bare_escaped a b (c ∷ cs) all =
+    λ i. piece_bare a b c (all 0 c (omega arith)) i ++ bare_escaped b c cs (All-tail IsBare c cs all) i
+
+pub bare_shown : (s : List ℕ) → All IsBare s → s ≡ xml.shown s
+bare_shown s all = sym (ap xml.escaped (bare_lossy s all) ∙ bare_escaped 0 0 s all)
+
+-- ---- hexadecimal numbers
+
+digit_bare : (d : ℕ) → d < 16 → IsBare (digit_of d)
+digit_bare d low =
+    elim (leb_tells (suc d) 10) [
+      | inl h ↦ rw h.0 (one (omega (arith, h.1)))
+      | inr h ↦ rw h.0 (two low (omega (arith, h.1)))
+    ]
+  where
+    one : d < 10 → IsBare (48 + d)
+    one less = record {
+      low = omega arith;
+      high = omega (arith, less);
+      quote = λ e. omega (arith, e);
+      backslash = λ e. omega (arith, e, less);
+      less = λ e. omega (arith, e, less);
+      more = λ e. omega (arith, e, less);
+      and = λ e. omega (arith, e);
+    }
+
+    two : d < 16 → 10 ≤ d → IsBare (87 + d)
+    two less ten = record {
+      low = omega arith;
+      high = omega (arith, less);
+      quote = λ e. omega (arith, ten, e);
+      backslash = λ e. omega (arith, ten, e);
+      less = λ e. omega (arith, ten, e);
+      more = λ e. omega (arith, ten, e);
+      and = λ e. omega (arith, ten, e);
+    }
+
+digits_bare : (k n : ℕ) → All IsBare (last_digits k 16 n)
+digits_bare zero n = All-nil IsBare
+digits_bare (suc k) n =
+    let rest = digits_bare k (n / 16) in
+    elim (leb_tells (suc n) 16) [
+      | inl h ↦ rw h.0 (All-cons IsBare (digit_of n) [] (digit_bare n (omega (arith, h.1))) (All-nil IsBare))
+      | inr h ↦ rw h.0 (All-append IsBare (last_digits k 16 (n / 16)) (digit_of (n % 16) ∷ []) rest
+          (All-cons IsBare (digit_of (n % 16)) [] (digit_bare (n % 16) (omega arith)) (All-nil IsBare)))
+    ]
+
+pub hash_quoted : (n : ℕ) → 34 ∷ (digits_of 16 n ++ 34 ∷ []) ≡ event_text (shown (digits_of 16 n))
+unfolding digits_of
+hash_quoted n = bare_quoted (last_digits 64 16 n) (digits_bare 64 n)
