@@ -1,10 +1,10 @@
 -- What bytes become in the text of XML.
-use Rattle.std.proofs.Common.{◌≢◌, ℕ, ◌<◌, ◌≤◌, ◌==◌, ◌&&◌, cond, true, false, List, [], ◌∷◌, ◌++◌, refl, sym, ap, subst, arith, inl, inr, Bool}
+use Rattle.std.proofs.Common.{◌≡◌, ◌≢◌, ◌-◌, zero, suc, ℕ, ◌<◌, ◌≤◌, ◌==◌, ◌&&◌, cond, true, false, List, [], ◌∷◌, ◌++◌, refl, sym, ap, subst, arith, inl, inr, Bool}
 use Rattle.std.specs.Prelude.{nat_le}
 use Rattle.std.specs.List.{All}
 use Rattle.std.proofs.lemmas.Bool.Decides.{eqb_tells, leb_tells}
 use Rattle.std.proofs.lemmas.List.Elements.{All-append, All-cons, All-nil}
-use Rattle.nl_reports.specs.Escape.{IsMadeOfPieces, IsPiece, IsPlain, IsQuiet, escaped_behind, piece}
+use Rattle.nl_reports.specs.Escape.{IsMadeOfPieces, IsPiece, IsPlain, IsQuiet, begins_character, escaped_behind, last_begin, piece}
 
 plain : (c : ℕ) → 63 ≤ c → IsPlain c
 plain c high = ((omega (arith, high), ((λ e. omega (arith, high, e)), ((λ e. omega (arith, high, e)), (λ e. omega (arith, high, e))))), λ e. omega (arith, high, e))
@@ -94,3 +94,22 @@ pub text_quiet : (a b : ℕ) (text : List ℕ) → All IsQuiet (escaped_behind a
 text_quiet a b [] = All-nil IsQuiet
 text_quiet a b (c ∷ cs) =
     All-append IsQuiet (piece a b c) (escaped_behind b c cs) (piece_quiet (piece a b c) (piece_made a b c)) (text_quiet b c cs)
+
+-- ---- where a character begins
+
+pub begun_here : (at : ℕ) (text : List ℕ) → begins_character at text ≡ true → last_begin at text ≡ at
+unfolding last_begin
+begun_here zero text is = refl
+begun_here (suc k) text is = rw is refl
+
+pub begun_before : (at : ℕ) (text : List ℕ) → 0 < at → begins_character at text ≡ false → last_begin at text ≡ last_begin (at - 1) text
+unfolding last_begin
+begun_before zero text some not = absurd (omega (arith, some))
+begun_before (suc k) text some not =
+    let one : k ≡ suc k - 1 = omega arith in
+    rw not (ap (λ (n : ℕ). last_begin n text) one)
+
+pub none_begun : (at : ℕ) (text : List ℕ) → at ≡ 0 → last_begin at text ≡ at
+unfolding last_begin
+none_begun zero text is = refl
+none_begun (suc k) text is = absurd (omega (arith, is))

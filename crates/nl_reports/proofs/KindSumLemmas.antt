@@ -3,16 +3,13 @@ use Rattle.std.proofs.Common.{◌≡◌, ◌∙◌, ℕ, ◌+◌, ◌*◌, ◌�
 use Rattle.std.specs.Prelude.{bytes_eq}
 use Rattle.std.specs.List.{fold, sum_by}
 use Rattle.std.proofs.lemmas.Bool.{cases_Bool}
-use Rattle.std.proofs.lemmas.List.{length-map}
 use Rattle.std.proofs.lemmas.List.Sums.{sum_by-cons}
 use Rattle.std.proofs.lemmas.Slice.Eq.{bytes_eq-Decides}
 use Rattle.nl_table.proofs.NameLemmas.{bytes_eq_comm}
-use Rattle.std.specs.List.{All}
 use Rattle.nl_reports.specs.Jobs.{Job}
 use Rattle.nl_reports.specs.Kinds.{counted, kind_of, kinds, named, no_sums, of_kind, with_sums}
 use Rattle.nl_reports.specs.Numbers.{total_time}
 use Rattle.nl_reports.specs.Rows.{Told, spans, told_job, told_jobs}
-use Rattle.nl_reports.specs.Spans.{time_of}
 use Rattle.nl_reports.specs.Sweep.{busy_time, left_over, parts, weight}
 use Rattle.nl_reports.specs.declared.kind.KindRule.{KindRule}
 use Rattle.nl_reports.specs.declared.span.Span.{Span}

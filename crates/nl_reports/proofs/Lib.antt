@@ -20,6 +20,7 @@ mod TextLemmas
 mod EscapeLemmas
 mod BareLemmas
 mod CurveLemmas
+mod PictureLemmas
 mod LaneLemmas
 mod LaneLawLemmas
 mod CellLemmas

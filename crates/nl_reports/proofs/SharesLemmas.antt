@@ -1,7 +1,7 @@
 -- The shares of commands, by their starts and ends in order.
-use Rattle.std.proofs.Common.{◌≡◌, ◌∙◌, ℕ, zero, suc, ◌+◌, ◌-◌, ◌<◌, ◌≤◌, ◌^◌, max, false, cond, List, [], ◌∷◌, length, map, get_or}
+use Rattle.std.proofs.Common.{◌≡◌, ◌∙◌, ℕ, zero, suc, ◌-◌, ◌<◌, ◌≤◌, ◌^◌, max, false, cond, List, [], ◌∷◌, length, map, get_or}
 use Rattle.std.proofs.Common.{refl, sym, ap, subst, arith, inl, inr, Ok, Err}
-use Rattle.std.specs.Prelude.{count_by, nat_le, if◌then◌else◌}
+use Rattle.std.specs.Prelude.{nat_le, if◌then◌else◌}
 use Rattle.std.specs.List.{All, Contains, fold}
 use Rattle.std.specs.List.Sorted.{IsBinarySearchResult}
 use Rattle.std.specs.Ordering.{nat_cmp}

@@ -1,11 +1,12 @@
 -- How long the text of a bar is.
-use Rattle.std.proofs.Common.{ℕ, zero, suc, ◌+◌, ◌*◌, ◌-◌, ◌/◌, ◌%◌, ◌<◌, ◌≤◌, ◌^◌, ◌==◌, max, Bool, true, false, cond, List, [], ◌∷◌, ◌++◌, length, drop, map, take, Option, None, Some}
-use Rattle.std.proofs.Common.{arith, inl, inr, codes, length-append}
-use Rattle.std.specs.Prelude.{bytes_eq, decimal, nat_lt, slice_index}
-use Rattle.std.proofs.Math.Nat.{div-le_self}
+use Rattle.std.proofs.Common.{ℕ, zero, suc, ◌+◌, ◌*◌, ◌-◌, ◌/◌, ◌%◌, ◌<◌, ◌≤◌, ◌^◌, ◌==◌, ◌≡◌, max, Bool, true, false, cond, List, [], ◌∷◌, ◌++◌, length, drop, take, Option, None, Some}
+use Rattle.std.proofs.Common.{arith, refl, subst, sym, inl, inr, codes, length-append}
+use Rattle.std.specs.Prelude.{decimal, nat_lt, slice_index}
+use Rattle.std.proofs.Math.Nat.{div-le_of_le-mul}
+use Rattle.std.proofs.lemmas.Nat.{mul-le}
 use Rattle.std.specs.Int.{is_in_range}
 use Rattle.std.specs.Option.{unwrap_or}
-use Rattle.std.specs.List.{All, flat_map, sum_by, zip}
+use Rattle.std.specs.List.{All, flat_map, fold, sum_by, zip}
 use Rattle.std.specs.Str.Lossy.{after_first_chunk, error_len_after_one, error_len_after_two, error_len_of_some, replacement_bytes, second_byte_max, second_byte_min, utf8_error_len, utf8_invalid_len, utf8_lossy, utf8_lossy_within, utf8_valid_len}
 use Rattle.std.proofs.lemmas.Bool.{cases_Bool}
 use Rattle.std.proofs.lemmas.Bool.Decides.{eqb_tells, leb_tells, nat_tests}
@@ -16,22 +17,21 @@ use Rattle.std.proofs.lemmas.List.Sums.{sum_by-append, sum_by-cons}
 use Rattle.std.proofs.lemmas.List.Sorted.{All-permutation, length_permutation}
 use Rattle.std.proofs.lemmas.Str.{utf8_valid_len_le}
 use Rattle.nl_reports.specs.Jobs.{Job, first_name}
-use Rattle.nl_reports.specs.Bars.{bar, is_last, is_short, joined, joined_bar, joined_bars, kind_place, mark_of, marks, more_outputs, place_of, rank_of, rect, times_text, title}
-use Rattle.nl_reports.specs.Escape.{escaped_behind, label, piece, shown}
-use Rattle.nl_reports.specs.Frame.{across, seconds, x_at, y_at}
+use Rattle.nl_reports.specs.Bars.{bar, drawn_width, is_last, is_short, joined, joined_bar, joined_bars, kind_of, mark_of, marks, more_outputs, name_text, named, rank_of, rect, room_of, times_text, title, width_of}
+use Rattle.nl_reports.specs.Escape.{base_of, cut_at, cut_name, cut_text, escaped, escaped_behind, label, piece, shown}
+use Rattle.nl_reports.specs.Frame.{frame_of, height, is_named, pitch, seconds, x_at, y_at}
 use Rattle.nl_reports.specs.declared.frame.Frame.{Frame}
-use Rattle.nl_reports.specs.Frame.{frame_of}
-use Rattle.nl_reports.specs.Kinds.{kind_of, kinds}
 use Rattle.nl_reports.specs.Lanes.{lanes}
-use Rattle.nl_reports.specs.Picture.{bars_of, kind_names, timed}
-use Rattle.nl_reports.specs.Rows.{by_start, falling, lead, rank_told, spans}
-use Rattle.nl_reports.specs.Rows.{Told as RowTold}
-use Rattle.nl_reports.specs.Spans.{IsEarly, time_of}
+use Rattle.nl_reports.specs.Picture.{bars_of}
+use Rattle.nl_reports.specs.Rows.{by_start, falling, lead, spans}
+use Rattle.nl_reports.specs.Spans.{IsEarly, closed_of, time_of}
+use Rattle.nl_reports.specs.Work.{place, work_of}
 use Rattle.nl_reports.specs.declared.bars.Mark.{Mark}
-use Rattle.nl_reports.specs.declared.kind.KindRule.TheVariants.{Extension}
-use Rattle.nl_reports.specs.declared.rows.Rank.TheVariants.{Time}
+use Rattle.nl_reports.specs.declared.work.Work.{Work}
+use Rattle.nl_reports.specs.declared.work.Work.TheVariants.{Compile, Link, Archive, Generate, Test, Other}
 use Rattle.nl_reports.proofs.FallingLemmas.{falling_moves}
 use Rattle.nl_reports.proofs.FitLemmas.{lanes_few}
+use Rattle.nl_reports.proofs.PictureLemmas.{cut_within, drawn_most}
 
 -- ---- a name
 
@@ -109,11 +109,11 @@ shown_size : (name : List ℕ) → length (shown name) ≤ 5 * length name
 unfolding utf8_lossy
 shown_size name = omega (arith, escaped_weight 0 0 (utf8_lossy name), lossy_weight (length name) name)
 
-label_size : (name : List ℕ) → length (label name) ≤ 202
+label_size : (name : List ℕ) → length (label name) ≤ 102
 label_size name =
-    elim (leb_tells (length (shown name)) 200) [
+    elim (leb_tells (length (shown name)) 100) [
       | inl h ↦ rw h.0 (omega (arith, h.1))
-      | inr h ↦ rw h.0 (omega (arith, shown_size (take 40 name), length-take 40 name, length-append (shown (take 40 name)) (codes "..")))
+      | inr h ↦ rw h.0 (omega (arith, shown_size (take 20 name), length-take 20 name, length-append (shown (take 20 name)) (codes "..")))
     ]
 
 -- ---- bars
@@ -131,29 +131,51 @@ join {xs} {ys} {m} {n} first second = record { size = omega (arith, first.size, 
 digits : (k n : ℕ) → 0 < k → n < 10 ^ k → n < 10 ^ 64 → AtMost (decimal n) k
 digits k n some fits wide = record { size = length-decimal-le_wide k n some fits wide }
 
-across_most : (f : Frame) (ms : ℕ) → across f ms ≤ ms * 14400
-across_most f ms = div-le_self (ms * 14400) (max 1 f.wall)
-
-place_most : (kind : List ℕ) (ks : List (List ℕ)) → place_of kind ks ≤ length ks
-place_most kind [] = omega arith
-place_most kind (k ∷ ks) = here (bytes_eq k kind) (place_most kind ks)
+kind_most : (name : List ℕ) → place (work_of name) ≤ 5
+kind_most name = most (work_of name)
   where
-    here : (t : Bool) → place_of kind ks ≤ length ks → cond t 0 (suc (place_of kind ks)) ≤ suc (length ks)
-    here true later = omega arith
-    here false later = omega (arith, later)
+    most : (w : Work) → place w ≤ 5
+    most Compile = omega arith
+    most Link = omega arith
+    most Archive = omega arith
+    most Generate = omega arith
+    most Test = omega arith
+    most Other = omega arith
 
-kind_most : (ks : List (List ℕ)) (j : Job) → kind_place ks j ≤ length ks
-kind_most ks j = place_most (kind_of Extension (first_name j.outputs)) ks
+x_most : (f : Frame) (at : ℕ) → x_at f at ≤ 15400
+x_most f at = omega arith
 
-rect_size : (lane x width kind : ℕ) → lane < 2 ^ 63 → x < 10 ^ 14 → width < 10 ^ 14 → kind ≤ 9 → AtMost (rect lane x width kind) 119
-rect_size lane x width kind low near wide few =
-    let from = digits 14 x (omega arith) near (omega (arith, near)) in
-    let down = digits 22 (y_at lane) (omega arith) (omega (arith, low)) (omega (arith, low)) in
-    let across = digits 14 width (omega arith) wide (omega (arith, wide)) in
-    let hue = digits 3 (kind * 36) (omega arith) (omega (arith, few)) (omega (arith, few)) in
-    join (join (join (join (join (join (join (join (said (codes "<rect x=\"") 9 (omega arith)) from) (said (codes "\" y=\"") 5 (omega arith))) down)
-    (said (codes "\" width=\"") 9 (omega arith))) across) (said (codes "\" height=\"140\" fill=\"hsl(") 25 (omega arith))) hue)
-    (said (codes ",50%,60%)\"><title>") 18 (omega arith))
+pitch_most : (f : Frame) → pitch f ≤ 220
+pitch_most f = most (is_named f) refl
+  where
+    most : (t : Bool) → is_named f ≡ t → cond t 220 (max 1 (8000 / (f.top + 1))) ≤ 220
+    most true is = omega arith
+    most false is =
+        let high : 64 ≤ f.top = grind (arith, nat_tests, is) in
+        let part : 8000 / (f.top + 1) ≤ 220 = div-le_of_le-mul (f.top + 1) (omega (arith, high)) in
+        omega (arith, part)
+
+y_most : (f : Frame) (lane : ℕ) → lane < 2 ^ 63 → y_at f lane < 10 ^ 22
+y_most f lane low = omega (arith, low, mul-le lane (pitch f) lane 220 (omega arith) (pitch_most f))
+
+y_named : (f : Frame) (lane : ℕ) → is_named f ≡ true → lane ≤ f.top → y_at f lane ≤ 14960
+y_named f lane named low =
+    let few : f.top < 64 = grind (arith, nat_tests, named) in
+    omega (arith, low, few, mul-le lane (pitch f) 63 220 (omega (arith, low, few)) (pitch_most f))
+
+rect_size : (f : Frame) (lane x width kind digits_of : ℕ) → 0 < digits_of → y_at f lane < 10 ^ digits_of → y_at f lane < 10 ^ 64 → x < 10 ^ 5
+    → width < 10 ^ 5 → kind ≤ 5 → AtMost (rect f lane x width kind) (66 + digits_of)
+rect_size f lane x width kind k some fits low near wide few =
+    let class = digits 1 kind (omega arith) (omega (arith, few)) (omega (arith, few)) in
+    let from = digits 5 x (omega arith) near (omega (arith, near)) in
+    let down = digits k (y_at f lane) some fits low in
+    let across = digits 5 width (omega arith) wide (omega (arith, wide)) in
+    let high = digits 3 (height f) (omega arith) (omega (arith, pitch_most f)) (omega (arith, pitch_most f)) in
+    let all =
+    join (said (codes "<rect class=\"k") 14 (omega arith)) (join class (join (said (codes "\" x=\"") 5 (omega arith)) (join from
+    (join (said (codes "\" y=\"") 5 (omega arith)) (join down (join (said (codes "\" width=\"") 9 (omega arith)) (join across
+    (join (said (codes "\" height=\"") 10 (omega arith)) (join high (join (said (codes "\"><title>") 9 (omega arith)) (said [] 0 (omega arith))))))))))))
+    in record { size = omega (arith, all.size) }
 
 seconds_size : (ms : ℕ) → ms < 2 ^ 32 → AtMost (seconds ms) 11
 seconds_size ms low =
@@ -175,121 +197,188 @@ times_size time start =
     join (join (join (join (said (codes "\n") 1 (omega arith)) time) (said (codes " s from ") 8 (omega arith))) start)
     (said (codes " s</title></rect>\n") 18 (omega arith))
 
-title_size : (f : Frame) (j : Job) → IsEarly j.span → length j.outputs < 2 ^ 63 → AtMost (title f j) 280
+title_size : (f : Frame) (j : Job) → IsEarly j.span → length j.outputs < 2 ^ 63 → AtMost (title f j) 180
 title_size f j early few =
-    join (join (said (label (first_name j.outputs)) 202 (label_size (first_name j.outputs))) (more_size (length j.outputs - 1) (omega (arith, few))))
+    join (join (said (label (first_name j.outputs)) 102 (label_size (first_name j.outputs))) (more_size (length j.outputs - 1) (omega (arith, few))))
     (times_size (seconds_size (time_of j.span) (omega (arith, early.ended))) (seconds_size (j.span.began - f.began) (omega (arith, early.began))))
 
+escaped_size : (text : List ℕ) → length (escaped text) ≤ 5 * length text
+escaped_size text = omega (arith, escaped_weight 0 0 text, weights_most text)
+
+cut_size : (most : ℕ) (text : List ℕ) → most ≤ 22 → length (cut_text most text) ≤ 110
+cut_size most text few =
+    let at = cut_at (most - 1) text in
+    elim (leb_tells (length text) most) [
+      | inl h ↦ rw h.0 (omega (arith, escaped_size text, h.1, few))
+      | inr h ↦
+          rw h.0 (omega (
+            arith,
+            few,
+            h.1,
+            cut_within (most - 1) text,
+            escaped_size (take at text),
+            length-take at text,
+            length-append (escaped (take at text)) (226 ∷ 128 ∷ 166 ∷ []),
+          ))
+    ]
+
+named_size : (f : Frame) (lane x room : ℕ) (name : List ℕ) → y_at f lane ≤ 14960 → x ≤ 15400 → room ≤ 22 → AtMost (named f lane x room name) 144
+named_size f lane x room name low near few =
+    let from = digits 5 (x + 40) (omega arith) (omega (arith, near)) (omega (arith, near)) in
+    let down = digits 5 (y_at f lane + 135) (omega arith) (omega (arith, low)) (omega (arith, low)) in
+    let all =
+    join (join (join (said (codes "<text x=\"") 9 (omega arith)) (join from (join (said (codes "\" y=\"") 5 (omega arith)) (join down
+    (join (said (codes "\">") 2 (omega arith)) (said [] 0 (omega arith))))))) (said (cut_name room name) 110 (cut_size room (utf8_lossy (base_of name)) few)))
+    (said (codes "</text>\n") 8 (omega arith))
+    in record { size = omega (arith, all.size) }
+
+name_most : (t u : Bool) (text : List ℕ) → length text ≤ 144 → length (cond t [] (cond u text [])) ≤ 144
+name_most true u text short = omega arith
+name_most false true text short = short
+name_most false false text short = omega arith
+
+name_thin : (t : Bool) (text : List ℕ) → length (cond t [] (cond false text [])) ≤ 0
+name_thin true text = omega arith
+name_thin false text = omega arith
+
+some_drawn : (t : Bool) (all : List ℕ) → length all ≤ 400 → length (cond t [] all) ≤ 400
+some_drawn true all long = omega arith
+some_drawn false all long = long
+
 -- the bar of a command, whatever its outputs are called
-pub bar_size : (f : Frame) (ks : List (List ℕ)) (j : Job) (lane : ℕ) → length ks ≤ 9 → IsEarly j.span → length j.outputs < 2 ^ 63
-    → lane < 2 ^ 63 → length (bar f ks (j, lane)) ≤ 400
-bar_size f ks j lane kinds early few low =
-    let near : x_at f j.span.began < 10 ^ 14 = omega (arith, across_most f (j.span.began - f.began), early.began) in
-    let wide : across f (time_of j.span) < 10 ^ 14 = omega (arith, across_most f (time_of j.span), early.ended) in
-    told (is_short f j) (join (rect_size lane (x_at f j.span.began) (across f (time_of j.span)) (kind_place ks j) low near wide
-    (omega (arith, kind_most ks j, kinds))) (title_size f j early few))
-  where
-    told : (t : Bool) → AtMost (rect lane (x_at f j.span.began) (across f (time_of j.span)) (kind_place ks j) ++ title f j) 399
-        → length (cond t [] (rect lane (x_at f j.span.began) (across f (time_of j.span)) (kind_place ks j) ++ title f j)) ≤ 400
-    told true long = omega arith
-    told false long = omega (arith, long.size)
+pub bar_size : (f : Frame) (j : Job) (lane : ℕ) → IsEarly j.span → length j.outputs < 2 ^ 63 → lane ≤ f.top → f.top < 2 ^ 63
+    → length (bar f (j, lane)) ≤ 400
+bar_size f j lane early few low top =
+    let x = x_at f j.span.began in
+    let width = drawn_width (width_of f j) in
+    let room = room_of (width_of f j) in
+    let name = first_name j.outputs in
+    let near : x < 10 ^ 5 = omega (arith, x_most f j.span.began) in
+    let wide : width < 10 ^ 5 = omega (arith, x_most f (closed_of j.span), drawn_most (width_of f j)) in
+    let text = (title_size f j early few).size in
+    let whole = length-append (rect f lane x width (kind_of j) ++ title f j) (name_text f lane x (width_of f j) name) in
+    let titled = length-append (rect f lane x width (kind_of j)) (title f j) in
+    some_drawn (is_short f j) _ (elim (cases_Bool (is_named f)) [
+      | inl high ↦
+          let y = y_named f lane high low in
+          let bar = rect_size f lane x width (kind_of j) 5 (omega arith) (omega (arith, y)) (omega (arith, y)) near wide (kind_most name) in
+          let word = named_size f lane x room name y (x_most f j.span.began) (omega arith) in
+          omega (arith, bar.size, text, name_most (nat_lt room 4) (is_named f) (named f lane x room name) word.size, whole, titled)
+      | inr thin ↦
+          let y = y_most f lane (omega (arith, low, top)) in
+          let bar = rect_size f lane x width (kind_of j) 22 (omega arith) y (omega (arith, y)) near wide (kind_most name) in
+          let none : length (name_text f lane x (width_of f j) name) ≤ 0 =
+          subst (λ (u : Bool). length (cond (nat_lt room 4) [] (cond u (named f lane x room name) [])) ≤ 0) (sym thin) (name_thin (nat_lt room 4) (named f lane x room name)) in
+          omega (arith, bar.size, text, none, whole, titled)
+    ])
+
+-- a mark is that of a command
+pub record MarkFits (f : Frame) (m : Mark) : Type 0 where
+  pub low : m.lane ≤ f.top
+  pub top : f.top < 2 ^ 63
+  pub near : m.pixel ≤ 1540
+  pub kind : m.kind ≤ 5
 
 -- the bar of short commands
-pub joined_bar_size : (count : ℕ) (m : Mark) → count < 2 ^ 63 → m.lane < 2 ^ 63 → m.pixel < 2 ^ 43 → m.kind ≤ 9
-    → length (joined_bar count m) ≤ 400
-joined_bar_size count m few low near kind =
+pub joined_bar_size : (f : Frame) (count : ℕ) (m : Mark) → count < 2 ^ 63 → MarkFits f m → length (joined_bar f count m) ≤ 400
+joined_bar_size f count m few fits =
+    let y = y_most f m.lane (omega (arith, fits.low, fits.top)) in
     omega (
       arith,
-      (join (join (rect_size m.lane (m.pixel * 10) 10 m.kind low (omega (arith, near)) (omega arith) kind)
+      (join (join (rect_size f m.lane (m.pixel * 10) 10 m.kind 22 (omega arith) y (omega (arith, y)) (omega (arith, fits.near)) (omega arith) fits.kind)
           (digits 19 count (omega arith) (omega (arith, few)) (omega (arith, few)))) (said (codes " short</title></rect>\n") 22 (omega arith))).size,
     )
 
 -- ---- all bars
 
--- a mark is that of a command
-pub record MarkFits (m : Mark) : Type 0 where
-  pub low : m.lane < 2 ^ 63
-  pub near : m.pixel < 2 ^ 43
-  pub kind : m.kind ≤ 9
-
-pub joined_size : (count : ℕ) (ms : List Mark) → All MarkFits ms → count + length ms < 2 ^ 63 → length (joined count ms) ≤ 400 * length ms
-joined_size count [] fit few = omega arith
-joined_size count (m ∷ ms) fit few =
-    let own = All-head MarkFits m ms fit in
-    let rest = All-tail MarkFits m ms fit in
-    step (is_last m ms) (joined_bar_size (count + 1) m (omega (arith, few)) own.low own.near own.kind)
-    (joined_size 0 ms rest (omega (arith, few))) (joined_size (count + 1) ms rest (omega (arith, few)))
+pub joined_size : (f : Frame) (count : ℕ) (ms : List Mark) → All (MarkFits f) ms → count + length ms < 2 ^ 63
+    → length (joined f count ms) ≤ 400 * length ms
+joined_size f count [] fit few = omega arith
+joined_size f count (m ∷ ms) fit few =
+    let own = All-head (MarkFits f) m ms fit in
+    let rest = All-tail (MarkFits f) m ms fit in
+    step (is_last m ms) (joined_bar_size f (count + 1) m (omega (arith, few)) own)
+    (joined_size f 0 ms rest (omega (arith, few))) (joined_size f (count + 1) ms rest (omega (arith, few)))
   where
-    step : (t : Bool) → length (joined_bar (count + 1) m) ≤ 400 → length (joined 0 ms) ≤ 400 * length ms
-        → length (joined (count + 1) ms) ≤ 400 * length ms
-        → length (cond t (joined_bar (count + 1) m ++ joined 0 ms) (joined (count + 1) ms)) ≤ 400 * suc (length ms)
-    step true one last more = omega (arith, one, last, length-append (joined_bar (count + 1) m) (joined 0 ms))
+    step : (t : Bool) → length (joined_bar f (count + 1) m) ≤ 400 → length (joined f 0 ms) ≤ 400 * length ms
+        → length (joined f (count + 1) ms) ≤ 400 * length ms
+        → length (cond t (joined_bar f (count + 1) m ++ joined f 0 ms) (joined f (count + 1) ms)) ≤ 400 * suc (length ms)
+    step true one last more = omega (arith, one, last, length-append (joined_bar f (count + 1) m) (joined f 0 ms))
     step false one last more = omega (arith, more)
 
-module _ (f : Frame) (ks : List (List ℕ)) (kinds : length ks ≤ 9) where
+module _ (f : Frame) (top : f.top < 2 ^ 63) where
   -- a command has a bar or a mark
-  one_size : (j : Job) (lane : ℕ) → IsEarly j.span → length j.outputs < 2 ^ 63 → lane < 2 ^ 63
-      → length (bar f ks (j, lane)) + 400 * length (marks f ks (j, lane)) ≤ 400
+  one_size : (j : Job) (lane : ℕ) → IsEarly j.span → length j.outputs < 2 ^ 63 → lane ≤ f.top
+      → length (bar f (j, lane)) + 400 * length (marks f (j, lane)) ≤ 400
   one_size j lane early few low =
       elim (cases_Bool (is_short f j)) [
         | inl short ↦ rw short (omega arith)
-        | inr long ↦ let most = rw long at (bar_size f ks j lane kinds early few low) in rw long (omega (arith, most))
+        | inr long ↦ let most = rw long at (bar_size f j lane early few low top) in rw long (omega (arith, most))
       ]
 
   pub pairs_size : (js : List Job) (ls : List ℕ) → All (λ (j : Job). IsEarly j.span) js → All (λ (j : Job). length j.outputs < 2 ^ 63) js
-      → All (λ (l : ℕ). l < 2 ^ 63) ls
-      → length (flat_map (bar f ks) (zip js ls)) + 400 * length (flat_map (marks f ks) (zip js ls)) ≤ 400 * length js
+      → All (λ (l : ℕ). l ≤ f.top) ls
+      → length (flat_map (bar f) (zip js ls)) + 400 * length (flat_map (marks f) (zip js ls)) ≤ 400 * length js
   pairs_size [] ls early small low = omega arith
   pairs_size (j ∷ js) [] early small low = omega arith
   pairs_size (j ∷ js) (l ∷ ls) early small low =
       omega (
         arith,
         one_size j l (All-head (λ (i : Job). IsEarly i.span) j js early) (All-head (λ (i : Job). length i.outputs < 2 ^ 63) j js small)
-            (All-head (λ (i : ℕ). i < 2 ^ 63) l ls low),
+            (All-head (λ (i : ℕ). i ≤ f.top) l ls low),
         pairs_size js ls (All-tail (λ (i : Job). IsEarly i.span) j js early) (All-tail (λ (i : Job). length i.outputs < 2 ^ 63) j js small)
-            (All-tail (λ (i : ℕ). i < 2 ^ 63) l ls low),
-        length-append (bar f ks (j, l)) (flat_map (bar f ks) (zip js ls)),
-        length-append (marks f ks (j, l)) (flat_map (marks f ks) (zip js ls)),
+            (All-tail (λ (i : ℕ). i ≤ f.top) l ls low),
+        length-append (bar f (j, l)) (flat_map (bar f) (zip js ls)),
+        length-append (marks f (j, l)) (flat_map (marks f) (zip js ls)),
       )
 
-  pub marks_fit : (js : List Job) (ls : List ℕ) → All (λ (j : Job). IsEarly j.span) js → All (λ (l : ℕ). l < 2 ^ 63) ls
-      → All MarkFits (flat_map (marks f ks) (zip js ls))
-  marks_fit [] ls early low = All-nil MarkFits
-  marks_fit (j ∷ js) [] early low = All-nil MarkFits
-  marks_fit (j ∷ js) (l ∷ ls) early low =
-      let own = All-head (λ (i : Job). IsEarly i.span) j js early in
-      let fits : MarkFits (mark_of f ks (j, l)) = record {
-        low = All-head (λ (i : ℕ). i < 2 ^ 63) l ls low;
-        near = omega (arith, across_most f (j.span.began - f.began), own.began);
-        kind = omega (arith, kind_most ks j, kinds);
+  pub marks_fit : (js : List Job) (ls : List ℕ) → All (λ (l : ℕ). l ≤ f.top) ls → All (MarkFits f) (flat_map (marks f) (zip js ls))
+  marks_fit [] ls low = All-nil (MarkFits f)
+  marks_fit (j ∷ js) [] low = All-nil (MarkFits f)
+  marks_fit (j ∷ js) (l ∷ ls) low =
+      let fits : MarkFits f (mark_of f (j, l)) = record {
+        low = All-head (λ (i : ℕ). i ≤ f.top) l ls low;
+        top = top;
+        near = omega (arith, x_most f j.span.began);
+        kind = kind_most (first_name j.outputs);
       } in
-      All-append MarkFits (marks f ks (j, l)) (flat_map (marks f ks) (zip js ls)) (here (is_short f j) (mark_of f ks (j, l)) fits)
-      (marks_fit js ls (All-tail (λ (i : Job). IsEarly i.span) j js early) (All-tail (λ (i : ℕ). i < 2 ^ 63) l ls low))
+      All-append (MarkFits f) (marks f (j, l)) (flat_map (marks f) (zip js ls)) (here (is_short f j) (mark_of f (j, l)) fits)
+      (marks_fit js ls (All-tail (λ (i : ℕ). i ≤ f.top) l ls low))
     where
-      here : (t : Bool) (m : Mark) → MarkFits m → All MarkFits (cond t (m ∷ []) [])
-      here true m fits = All-cons MarkFits m [] fits (All-nil MarkFits)
-      here false m fits = All-nil MarkFits
+      here : (t : Bool) (m : Mark) → MarkFits f m → All (MarkFits f) (cond t (m ∷ []) [])
+      here true m fits = All-cons (MarkFits f) m [] fits (All-nil (MarkFits f))
+      here false m fits = All-nil (MarkFits f)
 
-kinds_few : (js : List Job) → length (kind_names js) ≤ 9
-kinds_few js =
-    let told = falling (rank_told Time) (kinds Extension (map timed js)) in
-    omega (arith, length-take 9 (map (λ (k : RowTold). k.name) told))
+-- no lane is above the highest
+top_rises : (top : ℕ) (ls : List ℕ) → top ≤ fold (λ t lane. max t lane) top ls
+top_rises top [] = omega arith
+top_rises top (l ∷ ls) = omega (arith, top_rises (max top l) ls)
+
+below_top : (top : ℕ) (ls : List ℕ) → All (λ (l : ℕ). l ≤ fold (λ t lane. max t lane) top ls) ls
+below_top top [] = All-nil (λ (l : ℕ). l ≤ top)
+below_top top (l ∷ ls) =
+    All-cons (λ (i : ℕ). i ≤ fold (λ t lane. max t lane) (max top l) ls) l ls (omega (arith, top_rises (max top l) ls)) (below_top (max top l) ls)
+
+top_few : (top : ℕ) (ls : List ℕ) → top < 2 ^ 63 → All (λ (l : ℕ). l < 2 ^ 63) ls → fold (λ t lane. max t lane) top ls < 2 ^ 63
+top_few top [] low all = low
+top_few top (l ∷ ls) low all =
+    let own = All-head (λ (i : ℕ). i < 2 ^ 63) l ls all in
+    top_few (max top l) ls (omega (arith, low, own)) (All-tail (λ (i : ℕ). i < 2 ^ 63) l ls all)
 
 bars_size : (js : List Job) → All (λ (j : Job). IsEarly j.span) js → All (λ (j : Job). length j.outputs < 2 ^ 63) js → length js < 2 ^ 63
     → length (bars_of js) ≤ 400 * length js
 bars_size js early small few =
     let ls = lanes (spans js) in
     let f = frame_of (spans js) ls in
-    let ks = kind_names js in
-    let names = kinds_few js in
-    let low = lanes_few (spans js) (omega (arith, few, length-map js (λ (j : Job). j.span))) in
-    let ms = flat_map (marks f ks) (zip js ls) in
+    let top = top_few 0 ls (omega arith) (lanes_few (spans js) (omega (arith, few, length-map js (λ (j : Job). j.span)))) in
+    let low = below_top 0 ls in
+    let ms = flat_map (marks f) (zip js ls) in
     let moved = falling_moves rank_of ms in
     let count = length_permutation ms (falling rank_of ms) moved in
-    let all = pairs_size f ks names js ls early small low in
-    let short = joined_size 0 (falling rank_of ms) (All-permutation MarkFits ms (falling rank_of ms) moved (marks_fit f ks names js ls early low))
+    let all = pairs_size f top js ls early small low in
+    let short = joined_size f 0 (falling rank_of ms) (All-permutation (MarkFits f) ms (falling rank_of ms) moved (marks_fit f top js ls low))
     (omega (arith, count, all, few)) in
-    omega (arith, all, short, count, length-append (flat_map (bar f ks) (zip js ls)) (joined_bars ms))
+    omega (arith, all, short, count, length-append (flat_map (bar f) (zip js ls)) (joined_bars f ms))
 
 -- in whatever order they are given
 pub all_bars_size : (js : List Job) → All (λ (j : Job). IsEarly j.span) js → All (λ (j : Job). length j.outputs < 2 ^ 63) js → length js < 2 ^ 63

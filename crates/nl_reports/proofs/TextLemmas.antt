@@ -18,22 +18,22 @@ three_pairs a b c d e f z = simp append_assoc
 pub four_pairs : (a b c d e f g h z : List ℕ) → (((a ++ b) ++ (c ++ d)) ++ (e ++ f)) ++ (g ++ h) ++ z ≡ a ++ b ++ c ++ d ++ e ++ f ++ g ++ h ++ z
 four_pairs a b c d e f g h z = simp append_assoc
 
-pub label_whole : (name whole : List ℕ) → whole ≡ shown name → length whole ≤ 200 → whole ≡ label name
+pub label_whole : (name whole : List ℕ) → whole ≡ shown name → length whole ≤ 100 → whole ≡ label name
 label_whole name whole is short =
-    elim (leb_tells (length (shown name)) 200) [
+    elim (leb_tells (length (shown name)) 100) [
       | inl h ↦ rw h.0 is
       | inr h ↦ absurd (omega (arith, h.1, ap length is, short))
     ]
 
-pub label_cut : (name whole start : List ℕ) → whole ≡ shown name → 200 < length whole → start ≡ shown (take 40 name) ++ codes ".."
+pub label_cut : (name whole start : List ℕ) → whole ≡ shown name → 100 < length whole → start ≡ shown (take 20 name) ++ codes ".."
     → start ≡ label name
 label_cut name whole start is long cut =
-    elim (leb_tells (length (shown name)) 200) [
+    elim (leb_tells (length (shown name)) 100) [
       | inl h ↦ absurd (omega (arith, h.1, ap length is, long))
       | inr h ↦ rw h.0 cut
     ]
 
-pub begins : (name : List ℕ) (n : ℕ) → n ≡ min (length name) 40 → take n name ≡ take 40 name
+pub begins : (name : List ℕ) (n : ℕ) → n ≡ min (length name) 20 → take n name ≡ take 20 name
 begins name n is =
-    let other : n ≡ min 40 (length name) = omega (arith, is) in
-    ap (λ (m : ℕ). take m name) other ∙ take_min 40 name
+    let other : n ≡ min 20 (length name) = omega (arith, is) in
+    ap (λ (m : ℕ). take m name) other ∙ take_min 20 name

@@ -1,5 +1,5 @@
 -- Which builds are told of (docs/CLI.md, "summary").
-use Rattle.std.specs.Prelude.{ℕ, ◌-◌, ◌+◌, max, nat_lt, List, [], ◌++◌, length, map, Option, None, Some, zero, suc, if◌then◌else◌}
+use Rattle.std.specs.Prelude.{ℕ, max, nat_lt, List, [], length, Option, None, Some, if◌then◌else◌}
 use Rattle.nl_builds.specs.Builds.{Told}
 use Rattle.nl_reports.specs.Jobs.{Job, jobs_between, last_number}
 use Rattle.nl_reports.specs.Rows.{by_start}

@@ -1,51 +1,39 @@
--- The curve of how many commands run, and the axis of time.
-use Rattle.std.specs.Prelude.{ℕ, zero, suc, ◌+◌, ◌-◌, ◌*◌, ◌/◌, List, [], ◌++◌, codes, decimal}
+-- The curve of how many commands run.
+use Rattle.std.specs.Prelude.{ℕ, zero, suc, ◌+◌, ◌-◌, ◌*◌, ◌/◌, List, [], ◌∷◌, ◌++◌, codes, decimal}
 use Rattle.nl_reports.specs.Sweep.{running}
 use Rattle.nl_reports.specs.declared.span.Span.{Span}
-use Rattle.nl_reports.specs.Frame.{foot_of, seconds}
+use Rattle.nl_reports.specs.Frame.{foot_of}
+use Rattle.nl_reports.specs.Texts.{joined}
 use Rattle.nl_reports.specs.declared.frame.Frame.{Frame}
 
 -- the curve is taken at 480 moments of the build, three pixels apart
 abbrev pub moment_at : Frame → ℕ → ℕ
 moment_at f i = f.began + i * f.wall / 480
 
--- so many commands at once would reach a hundred pixels as there are lanes
+-- as many commands at once as there are lanes reach eighty pixels
 abbrev pub height_of : Frame → ℕ → ℕ
-height_of f count = foot_of f - count * 1000 / (f.top + 1)
+height_of f count = foot_of f - count * 800 / (f.top + 1)
 
-abbrev pub point_text : ℕ → ℕ → List ℕ
-point_text x y = decimal x ++ codes "," ++ decimal y ++ codes " "
-
+-- a step: up or down, and on to the next moment
 abbrev pub point : Frame → List Span → ℕ → List ℕ
-point f cs i = point_text (600 + i * 30) (height_of f (running cs (moment_at f i)))
+point f cs i = joined (codes "V" ∷ decimal (height_of f (running cs (moment_at f i))) ∷ codes "H" ∷ decimal (1030 + i * 30) ∷ [])
 
--- the points before this one
+-- the steps before this one
 unfoldable pub points : Frame → List Span → ℕ → List ℕ
 points f cs zero = []
 points f cs (suc i) = points f cs i ++ point f cs i
 
--- the curve from its foot to its foot, and beside it how many lanes there are
-abbrev pub curve_start : ℕ → List ℕ
-curve_start foot = codes "<polygon fill=\"#ccc\" points=\"600," ++ decimal foot ++ codes " "
+-- the curve from its foot to its foot, and beside it its axis: how many lanes there are
+abbrev pub curve_start : Frame → List ℕ
+curve_start f = joined (codes "<path class=\"q\" d=\"M1000 " ∷ decimal (foot_of f) ∷ [])
 
 abbrev pub curve_end_text : ℕ → ℕ → ℕ → List ℕ
-curve_end_text foot y lanes = codes "15000," ++ decimal foot ++ codes "\"/>\n<text x=\"550\" y=\"" ++ decimal y
-    ++ codes "\" text-anchor=\"end\">" ++ decimal lanes ++ codes "</text>\n"
+curve_end_text foot y lanes = joined (codes "V" ∷ decimal foot ∷ codes "z\"/>\n<text class=\"m\" x=\"950\" y=\"" ∷ decimal y
+    ∷ codes "\" text-anchor=\"end\">" ∷ decimal lanes ∷ codes " at a time</text>\n<text class=\"m\" x=\"950\" y=\"" ∷ decimal foot
+    ∷ codes "\" text-anchor=\"end\">0</text>\n" ∷ [])
 
-abbrev pub curve_end : ℕ → ℕ → List ℕ
-curve_end foot lanes = curve_end_text foot (foot - 900) lanes
+abbrev pub curve_end : Frame → List ℕ
+curve_end f = curve_end_text (foot_of f) (foot_of f - 720) (f.top + 1)
 
 abbrev pub curve : Frame → List Span → List ℕ
-curve f cs = curve_start (foot_of f) ++ points f cs 481 ++ curve_end (foot_of f) (f.top + 1)
-
--- a line at each tenth of the build, with its time above it
-abbrev pub tick_text : ℕ → ℕ → List ℕ → List ℕ
-tick_text x foot time = codes "<path stroke=\"#ddd\" stroke-width=\"10\" d=\"M" ++ decimal x ++ codes " 520V" ++ decimal foot
-    ++ codes "\"/><text x=\"" ++ decimal x ++ codes "\" y=\"480\" text-anchor=\"middle\">" ++ time ++ codes " s</text>\n"
-
-abbrev pub tick : Frame → ℕ → List ℕ
-tick f i = tick_text (600 + i * 1440) (foot_of f) (seconds (i * f.wall / 10))
-
-unfoldable pub ticks : Frame → ℕ → List ℕ
-ticks f zero = []
-ticks f (suc i) = ticks f i ++ tick f i
+curve f cs = curve_start f ++ points f cs 480 ++ curve_end f

@@ -1,7 +1,8 @@
 -- Names as the text of an XML document (docs/CLI.md, "`picture`").
-use Rattle.std.specs.Prelude.{◌≡◌, ◌≢◌, ◌⊎◌, ◌≤◌, ℕ, ◌==◌, ◌&&◌, nat_le, List, [], ◌∷◌, ◌++◌, length, take, codes, if◌then◌else◌}
+use Rattle.std.specs.Prelude.{◌≡◌, ◌≢◌, ◌⊎◌, ◌≤◌, ℕ, ◌==◌, ◌&&◌, zero, suc, ◌-◌, Bool, true, not, min, nat_le, nat_lt, List, [], ◌∷◌, ◌++◌, Option, None, Some, drop, length, slice_get, take, codes, if◌then◌else◌}
 use Rattle.std.specs.List.{All, flat_map}
 use Rattle.std.specs.Str.Lossy.{utf8_lossy}
+use Rattle.nl_reports.specs.Kinds.{folder_of}
 
 -- what a byte becomes behind two others: XML has no control characters but three, and no U+FFFE and U+FFFF, whose bytes are 239, 191, and 190
 -- or 191; each is shown as U+FFFD
@@ -24,7 +25,32 @@ shown name = escaped (utf8_lossy name)
 
 -- a name, of which the beginning alone stands there where it is too long
 abbrev pub label : List ℕ → List ℕ
-label name = if nat_le (length (shown name)) 200 then shown name else shown (take 40 name) ++ codes ".."
+label name = if nat_le (length (shown name)) 100 then shown name else shown (take 20 name) ++ codes ".."
+
+-- a byte of a text in UTF-8 that begins a character, or its end; the last place up to this one that does
+abbrev pub begins_here : Option ℕ → Bool
+begins_here None = true
+begins_here (Some b) = not (nat_le 128 b && nat_lt b 192)
+
+abbrev pub begins_character : ℕ → List ℕ → Bool
+begins_character at text = begins_here (slice_get text at)
+
+unfoldable pub last_begin : ℕ → List ℕ → ℕ
+last_begin zero text = 0
+last_begin (suc k) text = if begins_character (suc k) text then suc k else last_begin k text
+
+abbrev pub cut_at : ℕ → List ℕ → ℕ
+cut_at most text = last_begin (min most (length text)) text
+
+-- a name behind its last `/`; if it has more bytes than these, whole characters of it and an ellipsis
+abbrev pub base_of : List ℕ → List ℕ
+base_of name = drop (length (folder_of name)) name
+
+abbrev pub cut_text : ℕ → List ℕ → List ℕ
+cut_text most text = if nat_le (length text) most then escaped text else escaped (take (cut_at (most - 1) text) text) ++ (226 ∷ 128 ∷ 166 ∷ [])
+
+abbrev pub cut_name : ℕ → List ℕ → List ℕ
+cut_name most name = cut_text most (utf8_lossy (base_of name))
 
 -- a byte of ASCII that stands in JSON and in XML as it is
 pub record IsBare (c : ℕ) : Type 0 where

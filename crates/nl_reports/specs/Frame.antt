@@ -1,5 +1,5 @@
 -- Where things stand in a picture, in tenths of a pixel, and how moments are told.
-use Rattle.std.specs.Prelude.{ℕ, ◌+◌, ◌-◌, ◌*◌, ◌/◌, ◌%◌, ◌<◌, ◌^◌, max, List, [], ◌∷◌, ◌++◌, codes, decimal}
+use Rattle.std.specs.Prelude.{ℕ, ◌+◌, ◌-◌, ◌*◌, ◌/◌, ◌%◌, ◌<◌, ◌^◌, max, min, Bool, nat_lt, if◌then◌else◌, List, [], ◌∷◌, ◌++◌, codes, decimal}
 use Rattle.std.specs.List.{fold}
 use Rattle.nl_reports.specs.Spans.{closed_of}
 use Rattle.nl_reports.specs.declared.span.Span.{Span}
@@ -28,21 +28,34 @@ pub record IsFrame (f : Frame) : Type 0 where
 
 -- how wide so many milliseconds are: all of the build is 14400
 abbrev pub across : Frame → ℕ → ℕ
-across f ms = ms * 14400 / max 1 f.wall
+across f ms = min 14400 (ms * 14400 / max 1 f.wall)
 
--- where a moment stands, and a lane, from the left and from above
+-- where so many milliseconds from the beginning stand, and a moment
+abbrev pub x_of : Frame → ℕ → ℕ
+x_of f ms = 1000 + across f ms
+
 abbrev pub x_at : Frame → ℕ → ℕ
-x_at f at = 600 + across f (at - f.began)
+x_at f at = x_of f (at - f.began)
 
-abbrev pub y_at : ℕ → ℕ
-y_at lane = 600 + lane * 160
+-- up to 64 lanes are high enough for names; how far lanes stand apart, and how high a bar is: more of them are as high together as a screen
+abbrev pub is_named : Frame → Bool
+is_named f = nat_lt f.top 64
 
--- the foot of the curve, and a line of the legend below it
+abbrev pub pitch : Frame → ℕ
+pitch f = if is_named f then 220 else max 1 (8000 / (f.top + 1))
+
+abbrev pub height : Frame → ℕ
+height f = pitch f - pitch f / 8
+
+-- where a lane stands, the foot of the curve, and a line of the list below it
+abbrev pub y_at : Frame → ℕ → ℕ
+y_at f lane = 1100 + lane * pitch f
+
 abbrev pub foot_of : Frame → ℕ
-foot_of f = y_at f.top + 1400
+foot_of f = y_at f f.top + pitch f + 1200
 
 abbrev pub line_at : Frame → ℕ → ℕ
-line_at f line = foot_of f + 300 + line * 200
+line_at f line = foot_of f + 600 + line * 180
 
 -- seconds, with the milliseconds behind the point
 abbrev pub seconds : ℕ → List ℕ

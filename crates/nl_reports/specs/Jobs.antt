@@ -1,5 +1,5 @@
 -- The commands of builds, with the entries of their outputs.
-use Rattle.std.specs.Prelude.{ℕ, zero, suc, ◌-◌, ◌==◌, ◌&&◌, Bool, false, List, [], ◌∷◌, drop, length, slice_get, take, Option, None, Some, if◌then◌else◌}
+use Rattle.std.specs.Prelude.{ℕ, zero, suc, ◌-◌, ◌==◌, Bool, false, List, [], ◌∷◌, drop, length, slice_get, take, Option, None, Some, if◌then◌else◌}
 use Rattle.nl_fields.specs.declared.entry.Entry.{Entry}
 use Rattle.nl_builds.specs.Builds.{Told}
 use Rattle.nl_builds.specs.declared.build.Build.{Build}

@@ -17,6 +17,10 @@ pub mod Outputs
 pub mod Compare
 pub mod Lanes
 pub mod Frame
+pub mod Texts
+pub mod Ticks
+pub mod Work
+pub mod Times
 pub mod Events
 pub mod Trace
 pub mod Reading

@@ -1,5 +1,5 @@
 -- The numbers of builds (docs/CLI.md, "builds").
-use Rattle.std.specs.Prelude.{ℕ, ◌-◌, ◌<◌, ◌≤◌, ◌*◌, ◌^◌, min, max, List, length, map}
+use Rattle.std.specs.Prelude.{ℕ, ◌-◌, ◌<◌, ◌^◌, min, max, List, length}
 use Rattle.std.specs.List.{fold, sum_by}
 use Rattle.nl_builds.specs.Builds.{Told}
 use Rattle.nl_reports.specs.Jobs.{Job, build_jobs, commands_to, entries_to}

@@ -1,82 +1,120 @@
 -- The text of `picture`: the last build as SVG (docs/CLI.md, "picture").
-use Rattle.std.specs.Prelude.{ℕ, ◌+◌, ◌*◌, ◌/◌, nat_lt, List, [], ◌∷◌, ◌++◌, length, map, take, codes, decimal, if◌then◌else◌}
+use Rattle.std.specs.Prelude.{ℕ, ◌+◌, ◌*◌, ◌/◌, ◌%◌, ◌==◌, max, min, List, [], ◌∷◌, ◌++◌, length, take, codes, decimal, if◌then◌else◌}
 use Rattle.std.specs.List.{flat_map, zip}
 use Rattle.std.specs.Option.{unwrap_or}
 use Rattle.nl_builds.specs.Builds.{Told}
 use Rattle.nl_builds.specs.declared.build.How.{How}
 use Rattle.nl_builds.specs.declared.build.How.TheVariants.{AsWritten, FoundAgain}
 use Rattle.nl_reports.specs.Bars.{bar, joined_bars, marks}
-use Rattle.nl_reports.specs.Curve.{curve, ticks}
+use Rattle.nl_reports.specs.Curve.{curve}
 use Rattle.nl_reports.specs.Escape.{label}
-use Rattle.nl_reports.specs.Frame.{frame_of, line_at, seconds}
+use Rattle.nl_reports.specs.Frame.{frame_of, line_at}
 use Rattle.nl_reports.specs.Jobs.{Job, build_jobs, first_name, last_number}
-use Rattle.nl_reports.specs.Kinds.{kinds}
 use Rattle.nl_reports.specs.Lanes.{lanes}
-use Rattle.nl_reports.specs.Rows.{by_start, falling, rank_told, spans}
-use Rattle.nl_reports.specs.Rows.{Told as RowTold}
+use Rattle.nl_reports.specs.Rows.{by_start, falling, spans}
 use Rattle.nl_reports.specs.Spans.{time_of}
+use Rattle.nl_reports.specs.Texts.{joined, time_text}
+use Rattle.nl_reports.specs.Ticks.{ticks}
+use Rattle.nl_reports.specs.Times.{share_of, times_of, total}
 use Rattle.nl_reports.specs.Trace.{how_of}
+use Rattle.nl_reports.specs.Work.{place, word}
 use Rattle.nl_reports.specs.declared.frame.Frame.{Frame}
-use Rattle.nl_reports.specs.declared.kind.KindRule.TheVariants.{Extension}
-use Rattle.nl_reports.specs.declared.rows.Rank.TheVariants.{Time}
 use Rattle.nl_reports.specs.declared.span.Span.{Span}
+use Rattle.nl_reports.specs.declared.times.Times.{Times}
+use Rattle.nl_reports.specs.declared.work.Work.{Work}
+use Rattle.nl_reports.specs.declared.work.Work.TheVariants.{Compile, Link, Archive, Generate, Test, Other}
 
--- the kinds that are told apart: so many at most whose commands took the longest, the longest first, and equal ones as they first appear
-abbrev pub timed : Job → RowTold
-timed j = record { name = first_name j.outputs; sums = record { commands = 1; time = time_of j.span; weight = 0 } }
+-- what was built: how many commands, how long it took, and how many ran at a time, with one digit behind the point
+abbrev pub commands_word : ℕ → List ℕ
+commands_word n = if n == 1 then codes " command in " else codes " commands in "
 
-abbrev pub names_of : List RowTold → List (List ℕ)
-names_of ks = take 9 (map (λ (k : RowTold). k.name) ks)
+abbrev pub name_of : ℕ → ℕ → ℕ → List ℕ
+name_of commands wall tenths = joined (decimal commands ∷ commands_word commands ∷ time_text wall ∷ codes ", " ∷ decimal (tenths / 10) ∷ codes "."
+    ∷ decimal (tenths % 10) ∷ codes " at a time" ∷ [])
 
-abbrev pub kind_names : List Job → List (List ℕ)
-kind_names js = names_of (falling (rank_told Time) (kinds Extension (map timed js)))
+abbrev pub name : Frame → Times → ℕ → List ℕ
+name f t commands = name_of commands f.wall (total t * 10 / max 1 f.wall)
 
 -- a build that was found again says so, and how many of its outputs later builds may have taken
 abbrev pub how_line : How → List ℕ
 how_line AsWritten = []
-how_line (FoundAgain taken) = codes "<text x=\"15000\" y=\"260\" text-anchor=\"end\">found again: later builds may have taken " ++ decimal taken ++ codes " of its outputs</text>\n"
+how_line (FoundAgain taken) = joined (codes "<text class=\"m\" x=\"15400\" y=\"380\" text-anchor=\"end\">found again: later builds may have taken "
+    ∷ decimal taken ∷ codes " of its outputs</text>\n" ∷ [])
 
--- the beginning: how large the picture is, so many lines of a legend included, how many commands there are, and how the build is known
-abbrev pub head_text : ℕ → ℕ → List ℕ → List ℕ
-head_text height commands wall = codes "<svg xmlns=\"http://www.w3.org/2000/svg\" width=\"1600\" height=\"" ++ decimal (height / 10)
-    ++ codes "\" viewBox=\"0 0 16000 " ++ decimal height ++ codes "\" font-family=\"sans-serif\" font-size=\"120\">\n<rect width=\"100%\" height=\"100%\" fill=\"#fff\"/>\n<text x=\"600\" y=\"260\" font-size=\"180\">"
-    ++ decimal commands ++ codes " commands in " ++ wall ++ codes " s</text>\n"
+-- the name, which a screen reader tells and which is shown too, stands first, and the colours behind it
+abbrev pub root : List ℕ
+root = codes "\" role=\"img\" aria-labelledby=\"t\" font-family=\"sans-serif\" font-size=\"120\">\n<title id=\"t\">"
 
-abbrev pub head : Frame → ℕ → ℕ → How → List ℕ
-head f lines commands how = head_text (line_at f (lines + 1)) commands (seconds f.wall) ++ how_line how
+abbrev pub style : List ℕ
+style = codes "</title>\n<style>svg{fill:#222;background:#fff}.p{fill:#fff}.m{fill:#666}.g{stroke:#ddd;stroke-width:10}.q{fill:#cfd8e3}.t{fill:#111}.t text{pointer-events:none}.k0{fill:#56b4e9}.k1{fill:#e69f00}.k2{fill:#f0e442}.k3{fill:#009e73}.k4{fill:#cc79a7}.k5{fill:#bbb}@media(prefers-color-scheme:dark){svg{fill:#eee;background:#1b1b1b}.p{fill:#1b1b1b}.m{fill:#aaa}.g{stroke:#444}.q{fill:#3b4656}}</style>\n<rect class=\"p\" width=\"100%\" height=\"100%\"/>\n<text x=\"1000\" y=\"380\" font-size=\"220\">"
 
--- a line of the legend: the colour of the kind that stands at this place, and its name
-abbrev pub legend_start : ℕ → ℕ → List ℕ
-legend_start y hue = codes "<rect x=\"600\" y=\"" ++ decimal y ++ codes "\" width=\"140\" height=\"140\" fill=\"hsl(" ++ decimal hue
-    ++ codes ",50%,60%)\"/><text x=\"800\" y=\"" ++ decimal (y + 120) ++ codes "\">"
+abbrev pub root_start : ℕ → List ℕ
+root_start height = joined (codes "<svg xmlns=\"http://www.w3.org/2000/svg\" width=\"1600\" height=\"" ∷ decimal (height / 10)
+    ∷ codes "\" viewBox=\"0 0 16000 " ∷ decimal height ∷ root ∷ [])
 
-abbrev pub legend_line : Frame → ℕ → List ℕ → List ℕ
-legend_line f place name = legend_start (line_at f place) (place * 36) ++ label name ++ codes "</text>\n"
+abbrev pub head : Frame → Times → ℕ → How → List ℕ
+head f t commands how = root_start (line_at f (min commands 10 + 1)) ++ name f t commands ++ style ++ name f t commands ++ codes "</text>\n" ++ how_line how
 
--- a kind without a name is that of outputs without an extension
-abbrev pub kind_name : List ℕ → List ℕ
-kind_name [] = codes "no extension"
-kind_name (c ∷ cs) = c ∷ cs
+-- the colour of a kind and its part of the time; and of all
+abbrev pub legend_text : ℕ → List ℕ → ℕ → List ℕ
+legend_text kind name share = joined (codes "<rect class=\"k" ∷ decimal kind ∷ codes "\" x=\"" ∷ decimal (1000 + kind * 1800)
+    ∷ codes "\" y=\"540\" width=\"140\" height=\"140\"/><text x=\"" ∷ decimal (1000 + kind * 1800 + 200) ∷ codes "\" y=\"655\">" ∷ name
+    ∷ codes " " ∷ decimal share ∷ codes " %</text>\n" ∷ [])
 
--- the lines of kinds of which the first stands at this place; behind nine of them that of all others
-abbrev pub legend_from : Frame → ℕ → List (List ℕ) → List ℕ
-legend_from f place [] = if nat_lt place 9 then [] else legend_line f place (codes "others")
-legend_from f place (k ∷ ks) = legend_line f place (kind_name k) ++ legend_from f (place + 1) ks
+abbrev pub legend_kind : Times → Work → List ℕ
+legend_kind t w = legend_text (place w) (word w) (share_of t w)
+
+abbrev pub legend : Times → List ℕ
+legend t = legend_kind t Compile ++ legend_kind t Link ++ legend_kind t Archive ++ legend_kind t Generate ++ legend_kind t Test ++ legend_kind t Other
+
+-- what stands before the bars
+abbrev pub start_with : Frame → How → Times → ℕ → List ℕ
+start_with f how t commands = head f t commands how ++ legend t ++ ticks f ++ codes "<g class=\"t\" font-size=\"110\">\n"
+
+abbrev pub start : Frame → How → List Job → List ℕ
+start f how js = start_with f how (times_of js) (length js)
 
 -- the bars: those of commands, and those of short ones together
-abbrev pub bars : Frame → List (List ℕ) → List (Job × ℕ) → List ℕ
-bars f ks pairs = flat_map (bar f ks) pairs ++ joined_bars (flat_map (marks f ks) pairs)
+abbrev pub bars : Frame → List (Job × ℕ) → List ℕ
+bars f pairs = flat_map (bar f) pairs ++ joined_bars f (flat_map (marks f) pairs)
 
--- a picture by its parts: the beginning, the axis, the bars, the curve, the legend, the end
-abbrev pub parts : Frame → List (List ℕ) → List (Job × ℕ) → List Span → How → List ℕ
-parts f ks pairs cs how = head f (length ks) (length cs) how ++ ticks f 11 ++ bars f ks pairs ++ curve f cs ++ legend_from f 0 ks ++ codes "</svg>\n"
+-- the ten commands that took the longest, each in a line, and the end
+abbrev pub long_start : ℕ → ℕ → List ℕ
+long_start y time = joined (codes "<text x=\"1900\" y=\"" ∷ decimal y ∷ codes "\" text-anchor=\"end\">" ∷ time_text time
+    ∷ codes "</text><text x=\"2050\" y=\"" ∷ decimal y ∷ codes "\">" ∷ [])
+
+abbrev pub long_line : Frame → ℕ → Job → List ℕ
+long_line f line j = long_start (line_at f line) (time_of j.span) ++ label (first_name j.outputs) ++ codes "</text>\n"
+
+abbrev pub long_lines : Frame → ℕ → List Job → List ℕ
+long_lines f line [] = []
+long_lines f line (j ∷ js) = long_line f line j ++ long_lines f (line + 1) js
+
+abbrev pub long_jobs : List Job → List Job
+long_jobs js = take 10 (falling (λ (j : Job). time_of j.span) js)
+
+abbrev pub long_head_text : ℕ → List ℕ
+long_head_text y = joined (codes "<text x=\"1000\" y=\"" ∷ decimal y ∷ codes "\">The commands that took the longest:</text>\n" ∷ [])
+
+abbrev pub long_head : Frame → List ℕ
+long_head f = long_head_text (line_at f 0)
+
+abbrev pub longest : Frame → List Job → List ℕ
+longest f js = long_head f ++ long_lines f 1 (long_jobs js) ++ codes "</svg>\n"
+
+-- what stands behind the bars
+abbrev pub end : Frame → List Span → List Job → List ℕ
+end f cs js = codes "</g>\n" ++ curve f cs ++ longest f js
 
 -- of commands in the order of START, each in its lane: their bars, and all
+abbrev pub frame : List Job → Frame
+frame js = frame_of (spans js) (lanes (spans js))
+
 abbrev pub bars_of : List Job → List ℕ
-bars_of js = bars (frame_of (spans js) (lanes (spans js))) (kind_names js) (zip js (lanes (spans js)))
+bars_of js = bars (frame js) (zip js (lanes (spans js)))
 
 abbrev pub picture : How → List Job → List ℕ
-picture how js = parts (frame_of (spans js) (lanes (spans js))) (kind_names js) (zip js (lanes (spans js))) (spans js) how
+picture how js = start (frame js) how js ++ bars_of js ++ end (frame js) (spans js) js
 
 -- of the last build that isn't the manifest's alone
 abbrev pub picture_text : Told → List ℕ

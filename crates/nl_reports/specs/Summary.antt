@@ -7,7 +7,7 @@ use Rattle.nl_builds.specs.declared.build.How.{How}
 use Rattle.nl_builds.specs.declared.build.How.TheVariants.{AsWritten, FoundAgain}
 use Rattle.nl_reports.specs.Choice.{chosen}
 use Rattle.nl_reports.specs.Fraction.{ratio}
-use Rattle.nl_reports.specs.Jobs.{Job, between, build_jobs}
+use Rattle.nl_reports.specs.Jobs.{between, build_jobs}
 use Rattle.nl_reports.specs.Kinds.{kinds}
 use Rattle.nl_reports.specs.Numbers.{numbers_of, spans_of}
 use Rattle.nl_reports.specs.Rows.{Told, falling, list_lines, rank_told, told_jobs, told_row}

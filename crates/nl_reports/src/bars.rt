@@ -1,21 +1,26 @@
 //! The bars of commands, and those of commands that are too short for one of their own.
-ghost use Rattle.std.specs.Prelude.{◌≡◌, ◌<◌, ◌≤◌, ◌+◌, ◌^◌, ◌++◌, ◌∷◌, map, IfOk, OnOk};
-ghost use Rattle.nl_reports.specs.Bars.{bar, is_last, joined, kind_place, marks, more_outputs, rank_of, rect, title};
+ghost use Rattle.std.specs.Prelude.{◌≡◌, ◌<◌, ◌≤◌, ◌+◌, ◌^◌, ◌++◌, ◌∷◌, IfOk, OnOk};
+ghost use Rattle.nl_reports.specs.Bars.{bar, drawn_width, is_last, joined, kind_of, long_bar, marks, more_outputs, name_text, rank_of, rect, title, width_of};
 ghost use Rattle.nl_reports.specs.Jobs.{seen};
 ghost use Rattle.nl_reports.specs.Rows.{falling};
 ghost use Rattle.nl_reports.specs.Spans.{IsEarly};
 
-use crate::escape::append_label;
-use crate::frame::{Frame, append_seconds, y_at};
+use crate::escape::{append_cut_name, append_label};
+use crate::frame::{Frame, append_seconds};
 use crate::job::Job;
-use crate::kind::{KindRule, kind_of};
-use crate::text::{append, append_with};
+use crate::text::{Part, append, append_parts, append_with};
+use crate::work::{place, work_of};
 use std::alloc::{AllocError, Global};
 
 // A narrower bar is none of its own.
 const NARROW: u64 = 5;
 
-/// Where a command stands that is too short for a bar: its lane, the pixel, and the place of its kind.
+// So wide is a letter, and so many bytes of a name stand in a bar.
+const LETTER: u64 = 70;
+
+const MOST: u64 = 22;
+
+/// Where a command stands that is too short for a bar: its lane, the pixel, and its kind.
 #[derive(Clone, Copy, Drop)]
 pub struct Mark {
     pub lane: u64,
@@ -27,21 +32,18 @@ pub struct Mark {
 pub(crate) fn append_bar(
     alloc: Global,
     frame: &Frame,
-    kinds: &[&[u8]],
     job: &Job<'_, '_>,
     lane: u64,
     short: &mut Vec<Mark>,
     out: &mut Vec<u8>,
 ) -> Result<(), AllocError>
     requires early { IsEarly job.now.span }
-    ensures items { OnOk result (out.new.items
-        ≡ out.old.items ++ bar frame.now (map (λ k. k.now) kinds.now) (seen job.now, lane)) }
-    ensures short { OnOk result (short.new.items
-        ≡ short.old.items ++ marks frame.now (map (λ k. k.now) kinds.now) (seen job.now, lane)) }
+    ensures items { OnOk result (out.new.items ≡ out.old.items ++ bar frame.now (seen job.now, lane)) }
+    ensures short { OnOk result (short.new.items ≡ short.old.items ++ marks frame.now (seen job.now, lane)) }
 {
     let x = frame.x_at(job.span.began);
-    let width = frame.across(job.span.time());
-    let kind = place_of(job, kinds);
+    let width = width_of(frame, job);
+    let kind = kind_of(job);
     if width < NARROW {
         short.push(Mark {
             lane,
@@ -50,23 +52,84 @@ pub(crate) fn append_bar(
         })?;
         return Ok(());
     }
-    append_rect(lane, u128::from(x), width, kind, out)?;
-    append_title(alloc, frame, job, out)
+    append_long(alloc, frame, job, lane, out)
 }
 
-// Where the kind of a command stands among others, behind them if it is none of them.
-fn place_of(job: &Job<'_, '_>, kinds: &[&[u8]]) -> u64
-    ensures value { result ≡ kind_place (map (λ k. k.now) kinds.now) (seen job.now) }
+// Appends the bar of a command that isn't too short for one.
+fn append_long(
+    alloc: Global,
+    frame: &Frame,
+    job: &Job<'_, '_>,
+    lane: u64,
+    out: &mut Vec<u8>,
+) -> Result<(), AllocError>
+    requires early { IsEarly job.now.span }
+    ensures items { OnOk result (out.new.items ≡ out.old.items ++ long_bar frame.now (seen job.now) lane) }
 {
-    let kind = kind_of(KindRule::Extension, job.name());
-    let mut place = 0;
-    for other in kinds {
-        if *other == kind {
-            return place;
-        }
-        place += 1;
-    }
-    place
+    let x = frame.x_at(job.span.began);
+    let width = width_of(frame, job);
+    append_rect(
+        frame,
+        lane,
+        u128::from(x),
+        drawn_width(width),
+        kind_of(job),
+        out,
+    )?;
+    append_title(alloc, frame, job, out)?;
+    append_name(alloc, frame, lane, x, width, job.name(), out)
+}
+
+// How wide the bar of a command is.
+fn width_of(frame: &Frame, job: &Job<'_, '_>) -> u64
+    requires early { IsEarly job.now.span }
+    ensures value { result ≡ width_of frame.now (seen job.now) }
+{
+    let x = frame.x_at(job.span.began);
+    frame.x_at(job.span.closed()).saturating_sub(x)
+}
+
+// The kind of a command, as a number.
+fn kind_of(job: &Job<'_, '_>) -> u64
+    ensures value { result ≡ kind_of (seen job.now) }
+{
+    place(work_of(job.name()))
+}
+
+// A bar that is wide enough has a gap behind it.
+fn drawn_width(width: u64) -> u64
+    ensures { result ≡ drawn_width width }
+{
+    if width < 20 { width } else { width - 6 }
+}
+
+// Appends a rectangle in a lane, up to its title.
+fn append_rect(
+    frame: &Frame,
+    lane: u64,
+    x: u128,
+    width: u64,
+    kind: u64,
+    out: &mut Vec<u8>,
+) -> Result<(), AllocError>
+    ensures items { OnOk result (out.new.items ≡ out.old.items ++ rect frame.now lane x width kind) }
+{
+    append_parts(
+        &[
+            Part::Text(b"<rect class=\"k"),
+            Part::Number(u128::from(kind)),
+            Part::Text(b"\" x=\""),
+            Part::Number(x),
+            Part::Text(b"\" y=\""),
+            Part::Number(frame.y_at(lane)),
+            Part::Text(b"\" width=\""),
+            Part::Number(u128::from(width)),
+            Part::Text(b"\" height=\""),
+            Part::Number(frame.height()),
+            Part::Text(b"\"><title>"),
+        ],
+        out,
+    )
 }
 
 fn append_title(
@@ -97,6 +160,37 @@ fn append_more(count: usize, out: &mut Vec<u8>) -> Result<(), AllocError>
     append(b" more", out)
 }
 
+// Appends the name in a bar, if the bar is wide and high enough.
+fn append_name(
+    alloc: Global,
+    frame: &Frame,
+    lane: u64,
+    x: u64,
+    width: u64,
+    name: &[u8],
+    out: &mut Vec<u8>,
+) -> Result<(), AllocError>
+    requires near { x ≤ 15400 }
+    ensures items { OnOk result (out.new.items ≡ out.old.items ++ name_text frame.now lane x width name.now) }
+{
+    let room = (width.saturating_sub(80) / LETTER).min(MOST);
+    if room < 4 || !frame.is_named() {
+        return Ok(());
+    }
+    append_parts(
+        &[
+            Part::Text(b"<text x=\""),
+            Part::Number(u128::from(x + 40)),
+            Part::Text(b"\" y=\""),
+            Part::Number(frame.y_at(lane) + 135),
+            Part::Text(b"\">"),
+        ],
+        out,
+    )?;
+    append_cut_name(alloc, room as usize, name, out)?;
+    append(b"</text>\n", out)
+}
+
 /// The marks by lane, pixel and kind, the highest first.
 pub(crate) fn falling_marks(marks: Vec<Mark>) -> Result<Vec<Mark>, AllocError>
     ensures value { IfOk result (λ sorted. sorted.items ≡ falling rank_of marks.items) }
@@ -112,14 +206,15 @@ pub(crate) fn falling_marks(marks: Vec<Mark>) -> Result<Vec<Mark>, AllocError>
 
 /// How many that are alike stand before what follows a mark. If it is the last of these, this appends their bar.
 pub(crate) fn append_mark(
+    frame: &Frame,
     count: u64,
     mark: &Mark,
     rest: &[Mark],
     out: &mut Vec<u8>,
 ) -> Result<u64, AllocError>
     requires few { count < 2 ^ 63 }
-    ensures items { IfOk result (λ now. out.new.items ++ joined now rest.now
-        ≡ out.old.items ++ joined count (mark.now ∷ rest.now)) }
+    ensures items { IfOk result (λ now. out.new.items ++ joined frame.now now rest.now
+        ≡ out.old.items ++ joined frame.now count (mark.now ∷ rest.now)) }
     ensures few { IfOk result (λ now. now ≤ count + 1) }
 {
     let all = count + 1;
@@ -127,7 +222,7 @@ pub(crate) fn append_mark(
         return Ok(all);
     }
     let x = u128::from(mark.pixel) * 10;
-    append_rect(mark.lane, x, 10, mark.kind, out)?;
+    append_rect(frame, mark.lane, x, 10, mark.kind, out)?;
     append_with(b"", all, out)?;
     append(b" short</title></rect>\n", out)?;
     Ok(0)
@@ -143,23 +238,4 @@ fn is_last(mark: &Mark, rest: &[Mark]) -> bool
         }
         None => true,
     }
-}
-
-// Appends a rectangle in a lane, up to its title.
-fn append_rect(
-    lane: u64,
-    x: u128,
-    width: u64,
-    kind: u64,
-    out: &mut Vec<u8>,
-) -> Result<(), AllocError>
-    ensures items { OnOk result (out.new.items ≡ out.old.items ++ rect lane x width kind) }
-{
-    let y = y_at(lane);
-    let hue = u128::from(kind) * 36;
-    append_with(b"<rect x=\"", x, out)?;
-    append_with(b"\" y=\"", y, out)?;
-    append_with(b"\" width=\"", width, out)?;
-    append_with(b"\" height=\"140\" fill=\"hsl(", hue, out)?;
-    append(b",50%,60%)\"><title>", out)
 }

@@ -1,19 +1,17 @@
-//! The curve of how many commands run, and the axis of time.
+//! The curve of how many commands run.
 ghost use Rattle.std.specs.Prelude.{◌≡◌, ◌<◌, ◌++◌, List, OnOk};
-ghost use Rattle.nl_reports.specs.Sweep.{running};
 ghost use Rattle.nl_reports.specs.declared.span.Span.{Span};
 ghost use Rattle.nl_reports.specs.Moments.{AreMoments};
-ghost use Rattle.nl_reports.specs.Curve.{curve, height_of, point, points, tick, ticks};
+ghost use Rattle.nl_reports.specs.Curve.{curve, curve_end, curve_start, height_of, point, points};
 ghost use Rattle.nl_reports.specs.Frame.{IsFrame};
 
-use crate::frame::{Frame, append_seconds};
+use crate::frame::Frame;
 use crate::moments::Moments;
-use crate::text::append;
-use std::alloc::{AllocError, Global};
+use crate::text::{Part, append_parts};
+use std::alloc::AllocError;
 
-/// Appends the curve of how many commands run, which ran at these moments.
+/// Appends the curve of how many commands run, which ran at these moments, with its axis.
 pub(crate) fn append_curve(
-    alloc: Global,
     frame: &Frame,
     moments: &Moments,
     out: &mut Vec<u8>,
@@ -22,51 +20,76 @@ pub(crate) fn append_curve(
     ensures items { (cs : List Span) → AreMoments cs moments.now
         → OnOk result (out.new.items ≡ out.old.items ++ curve frame.now cs) }
 {
-    let foot = frame.foot();
-    let most = u128::from(frame.top) + 1;
-    let y = foot.saturating_sub(900);
-    let start = format!(in alloc; "<polygon fill=\"#ccc\" points=\"600,{foot} ")?;
-    append(start.as_bytes(), out)?;
-    append_points(alloc, frame, moments, out)?;
-    let end = format!(in alloc;
-        "15000,{foot}\"/>\n<text x=\"550\" y=\"{y}\" text-anchor=\"end\">{most}</text>\n"
-    )?;
-    append(end.as_bytes(), out)
+    append_start(frame, out)?;
+    append_points(frame, moments, out)?;
+    append_end(frame, out)
 }
 
-fn append_points(
-    alloc: Global,
-    frame: &Frame,
-    moments: &Moments,
-    out: &mut Vec<u8>,
-) -> Result<(), AllocError>
+fn append_start(frame: &Frame, out: &mut Vec<u8>) -> Result<(), AllocError>
+    ensures items { OnOk result (out.new.items ≡ out.old.items ++ curve_start frame.now) }
+{
+    append_parts(
+        &[
+            Part::Text(b"<path class=\"q\" d=\"M1000 "),
+            Part::Number(frame.foot()),
+        ],
+        out,
+    )
+}
+
+fn append_end(frame: &Frame, out: &mut Vec<u8>) -> Result<(), AllocError>
+    ensures items { OnOk result (out.new.items ≡ out.old.items ++ curve_end frame.now) }
+{
+    let foot = frame.foot();
+    append_parts(
+        &[
+            Part::Text(b"V"),
+            Part::Number(foot),
+            Part::Text(b"z\"/>\n<text class=\"m\" x=\"950\" y=\""),
+            Part::Number(foot.saturating_sub(720)),
+            Part::Text(b"\" text-anchor=\"end\">"),
+            Part::Number(u128::from(frame.top) + 1),
+            Part::Text(b" at a time</text>\n<text class=\"m\" x=\"950\" y=\""),
+            Part::Number(foot),
+            Part::Text(b"\" text-anchor=\"end\">0</text>\n"),
+        ],
+        out,
+    )
+}
+
+fn append_points(frame: &Frame, moments: &Moments, out: &mut Vec<u8>) -> Result<(), AllocError>
     requires early { IsFrame frame.now }
     ensures items { (cs : List Span) → AreMoments cs moments.now
-        → OnOk result (out.new.items ≡ out.old.items ++ points frame.now cs 481) }
+        → OnOk result (out.new.items ≡ out.old.items ++ points frame.now cs 480) }
 {
-    for i in 0..481_u64 {
-        append_point(alloc, frame, moments, i, out)?;
+    for i in 0..480_u64 {
+        append_point(frame, moments, i, out)?;
     }
     Ok(())
 }
 
+// Appends a step of the curve: up or down, and three pixels on.
 fn append_point(
-    alloc: Global,
     frame: &Frame,
     moments: &Moments,
     i: u64,
     out: &mut Vec<u8>,
 ) -> Result<(), AllocError>
     requires early { IsFrame frame.now }
-    requires within { i < 481 }
+    requires within { i < 480 }
     ensures items { (cs : List Span) → AreMoments cs moments.now
         → OnOk result (out.new.items ≡ out.old.items ++ point frame.now cs i) }
 {
     let count = moments.running(frame.began + i * frame.wall / 480);
-    let x = 600 + i * 30;
-    let y = height(frame, count);
-    let text = format!(in alloc; "{x},{y} ")?;
-    append(text.as_bytes(), out)
+    append_parts(
+        &[
+            Part::Text(b"V"),
+            Part::Number(height(frame, count)),
+            Part::Text(b"H"),
+            Part::Number(u128::from(1030 + i * 30)),
+        ],
+        out,
+    )
 }
 
 // Where the curve stands as so many commands run.
@@ -74,35 +97,5 @@ fn height(frame: &Frame, count: u64) -> u128
     ensures value { result ≡ height_of frame.now count }
 {
     let most = u128::from(frame.top) + 1;
-    frame.foot().saturating_sub(u128::from(count) * 1000 / most)
-}
-
-/// Appends a line at each tenth of the build.
-pub(crate) fn append_ticks(
-    alloc: Global,
-    frame: &Frame,
-    out: &mut Vec<u8>,
-) -> Result<(), AllocError>
-    requires early { IsFrame frame.now }
-    ensures items { OnOk result (out.new.items ≡ out.old.items ++ ticks frame.now 11) }
-{
-    for i in 0..11_u64 {
-        append_tick(alloc, frame, i, out)?;
-    }
-    Ok(())
-}
-
-fn append_tick(alloc: Global, frame: &Frame, i: u64, out: &mut Vec<u8>) -> Result<(), AllocError>
-    requires early { IsFrame frame.now }
-    requires within { i < 11 }
-    ensures items { OnOk result (out.new.items ≡ out.old.items ++ tick frame.now i) }
-{
-    let x = 600 + i * 1440;
-    let foot = frame.foot();
-    let text = format!(in alloc;
-        "<path stroke=\"#ddd\" stroke-width=\"10\" d=\"M{x} 520V{foot}\"/><text x=\"{x}\" y=\"480\" text-anchor=\"middle\">"
-    )?;
-    append(text.as_bytes(), out)?;
-    append_seconds(i * frame.wall / 10, out)?;
-    append(b" s</text>\n", out)
+    frame.foot().saturating_sub(u128::from(count) * 800 / most)
 }

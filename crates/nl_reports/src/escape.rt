@@ -1,14 +1,17 @@
 //! Names as the text of an XML document.
-ghost use Rattle.std.specs.Prelude.{◌≡◌, ◌++◌, IfOk, OnOk};
-ghost use Rattle.nl_reports.specs.Escape.{escaped, label, piece, shown};
+ghost use Rattle.std.specs.Prelude.{◌≡◌, ◌≤◌, ◌++◌, length, IfOk, OnOk};
+ghost use Rattle.nl_reports.specs.Escape.{base_of, begins_character, cut_at, cut_name, escaped, label, piece, shown};
 
+use crate::kind::{KindRule, kind_of};
 use crate::text::{append, is_bare};
 use std::alloc::{AllocError, Global};
 
 // The longest text of a name that stands whole, and how many bytes of a longer name are shown.
-const WHOLE: usize = 200;
+const WHOLE: usize = 100;
 
-const START: usize = 40;
+const START: usize = 20;
+
+const ELLIPSIS: &[u8] = b"\xE2\x80\xA6";
 
 /// Appends a name, or how it begins.
 pub(crate) fn append_label(alloc: Global, name: &[u8], out: &mut Vec<u8>) -> Result<(), AllocError>
@@ -30,6 +33,53 @@ fn append_cut(alloc: Global, name: &[u8], out: &mut Vec<u8>) -> Result<(), Alloc
     let start = shown(alloc, &name[..name.len().min(START)])?;
     append(start.as_slice(), out)?;
     append(b"..", out)
+}
+
+/// Appends the last part of a name; if that has more bytes, so many at most, of whole characters, and an ellipsis.
+pub(crate) fn append_cut_name(
+    alloc: Global,
+    most: usize,
+    name: &[u8],
+    out: &mut Vec<u8>,
+) -> Result<(), AllocError>
+    ensures items { OnOk result (out.new.items ≡ out.old.items ++ cut_name most name.now) }
+{
+    let text = String::from_utf8_lossy(alloc, base_of(name))?;
+    let bytes = text.as_bytes();
+    if bytes.len() <= most {
+        return append_escaped(bytes, out);
+    }
+    append_escaped(&bytes[..cut_at(most.saturating_sub(1), bytes)], out)?;
+    append(ELLIPSIS, out)
+}
+
+// A name behind its last `/`.
+fn base_of(name: &[u8]) -> &[u8]
+    ensures { result.now ≡ base_of name.now }
+{
+    let folder = kind_of(KindRule::Folder, name);
+    &name[folder.len().min(name.len())..]
+}
+
+// How many bytes of a text stand there, no more than so many, if no character is torn.
+fn cut_at(most: usize, text: &[u8]) -> usize
+    ensures value { result ≡ cut_at most text.now }
+    ensures within { result ≤ length text.now }
+{
+    let mut at = most.min(text.len());
+    'bytes: while at > 0 && !begins_character(at, text) {
+        at -= 1;
+    }
+    at
+}
+
+fn begins_character(at: usize, text: &[u8]) -> bool
+    ensures { result ≡ begins_character at text.now }
+{
+    match text.get(at) {
+        Some(byte) => *byte < 128 || *byte >= 192,
+        None => true,
+    }
 }
 
 // A name, with U+FFFD for what isn't UTF-8.

@@ -1,8 +1,8 @@
 //! Where things stand in a picture, and how moments are told.
-ghost use Rattle.std.specs.Prelude.{◌≡◌, ◌<◌, ◌^◌, ◌++◌, OnOk};
+ghost use Rattle.std.specs.Prelude.{◌≡◌, ◌<◌, ◌≤◌, ◌^◌, ◌++◌, OnOk};
 ghost use Rattle.std.specs.List.{All};
 ghost use Rattle.nl_reports.specs.Spans.{IsEarly};
-ghost use Rattle.nl_reports.specs.Frame.{IsFrame, across, first_began, foot_of, frame_of, last_closed, line_at, seconds, top_of, x_at, y_at};
+ghost use Rattle.nl_reports.specs.Frame.{IsFrame, across, first_began, foot_of, frame_of, height, is_named, last_closed, line_at, pitch, seconds, top_of, x_at, x_of, y_at};
 
 use crate::span::Span;
 use crate::text::append_with;
@@ -31,21 +31,64 @@ impl Frame {
         }
     }
 
-    /// How wide so many milliseconds are, in tenths of a pixel.
-    pub(crate) fn across(&self, ms: u64) -> u64
+    // How wide so many milliseconds are, in tenths of a pixel.
+    fn across(&self, ms: u64) -> u64
         requires early { ms < 2 ^ 32 }
         ensures value { result ≡ across self.now ms }
-        ensures bound { result < 2 ^ 48 }
+        ensures bound { result ≤ 14400 }
     {
-        ms * 14400 / self.wall.max(1)
+        (ms * 14400 / self.wall.max(1)).min(14400)
+    }
+
+    /// Where so many milliseconds from the beginning stand.
+    pub(crate) fn x_of(&self, ms: u64) -> u64
+        requires early { ms < 2 ^ 32 }
+        ensures value { result ≡ x_of self.now ms }
+        ensures bound { result ≤ 15400 }
+    {
+        1000 + self.across(ms)
     }
 
     /// Where a moment stands.
     pub(crate) fn x_at(&self, at: u64) -> u64
         requires early { at < 2 ^ 32 }
         ensures value { result ≡ x_at self.now at }
+        ensures bound { result ≤ 15400 }
     {
-        600 + self.across(at.saturating_sub(self.began))
+        self.x_of(at.saturating_sub(self.began))
+    }
+
+    /// Whether the lanes are high enough for a name.
+    pub(crate) fn is_named(&self) -> bool
+        ensures { result ≡ is_named self.now }
+    {
+        self.top < 64
+    }
+
+    // How far lanes stand apart: many of them are as high together as a screen.
+    fn pitch(&self) -> u128
+        ensures value { result ≡ pitch self.now }
+        ensures bound { result ≤ 220 }
+    {
+        if self.is_named() {
+            return 220;
+        }
+        (8000 / (u128::from(self.top) + 1)).max(1)
+    }
+
+    /// How high a bar is.
+    pub(crate) fn height(&self) -> u128
+        ensures value { result ≡ height self.now }
+    {
+        self.pitch() - self.pitch() / 8
+    }
+
+    /// Where a lane stands.
+    pub(crate) fn y_at(&self, lane: u64) -> u128
+        ensures value { result ≡ y_at self.now lane }
+        ensures bound { result < 2 ^ 80 }
+    {
+        1100 + u128::from(lane) * self.pitch()
     }
 
     /// The foot of the curve.
@@ -53,15 +96,15 @@ impl Frame {
         ensures value { result ≡ foot_of self.now }
         ensures bound { result < 2 ^ 100 }
     {
-        y_at(self.top) + 1400
+        self.y_at(self.top) + self.pitch() + 1200
     }
 
-    /// A line of the legend.
+    /// A line of the list below it.
     pub(crate) fn line_at(&self, line: u64) -> u128
         ensures value { result ≡ line_at self.now line }
         ensures bound { result < 2 ^ 101 }
     {
-        self.foot() + 300 + u128::from(line) * 200
+        self.foot() + 600 + u128::from(line) * 180
     }
 }
 
@@ -97,14 +140,6 @@ fn top_of(lanes: &[u64]) -> u64
         top = top.max(*lane);
     }
     top
-}
-
-/// Where a lane stands.
-pub(crate) fn y_at(lane: u64) -> u128
-    ensures value { result ≡ y_at lane }
-    ensures bound { result < 2 ^ 80 }
-{
-    600 + u128::from(lane) * 160
 }
 
 /// Appends so many milliseconds in seconds.

@@ -1,5 +1,5 @@
 //! Laws of weighted times, lists, kinds, comparisons, lanes, events, names and columns, each the contract of a function that does nothing.
-ghost use Rattle.std.specs.Prelude.{◌≡◌, ◌+◌, ◌*◌, ◌<◌, ◌≤◌, ◌^◌, ◌++◌, ◌∷◌, [], ℕ, Bool, true, false, List, Some, count_by, length, map, slice_index, slice_index_or, take};
+ghost use Rattle.std.specs.Prelude.{◌≡◌, ◌+◌, ◌*◌, ◌/◌, ◌<◌, ◌≤◌, ◌^◌, ◌++◌, ◌∷◌, [], ℕ, Bool, true, false, List, Some, count_by, length, map, slice_index, slice_index_or, take};
 ghost use Rattle.std.specs.List.{All, filter, flat_map, sum_by};
 ghost use Rattle.std.specs.List.Sorted.{IsPermutation};
 ghost use Rattle.serde_json.specs.Data.{Data, array};
@@ -7,11 +7,12 @@ ghost use Rattle.serde_json.specs.Read.{read};
 ghost use Rattle.serde_json.specs.View.{items_of};
 ghost use Rattle.nl_builds.specs.Builds.{Told as BuildsTold};
 ghost use Rattle.nl_builds.specs.declared.build.Build.{Build};
-ghost use Rattle.nl_reports.specs.Bars.{bar};
+ghost use Rattle.nl_reports.specs.Bars.{bar, drawn_width, width_of};
 ghost use Rattle.nl_reports.specs.Columns.{IsQuiet, cell, column, field_at, fields_of, room, shown, width};
 ghost use Rattle.nl_reports.specs.Compare.{Compared, Log, classes, compared, is_of, new_of, of_class, old_of, pairs, told_pair};
-ghost use Rattle.nl_reports.specs.Escape.{IsMadeOfPieces, escaped};
+ghost use Rattle.nl_reports.specs.Escape.{IsMadeOfPieces, begins_character, cut_at, escaped};
 ghost use Rattle.nl_reports.specs.Escape.{IsQuiet as IsQuietByte};
+ghost use Rattle.nl_reports.specs.Frame.{x_at};
 ghost use Rattle.nl_reports.specs.Jobs.{Job, build_jobs, first_name, jobs_from, last_number};
 ghost use Rattle.nl_reports.specs.Kinds.{kinds, named, of_kind};
 ghost use Rattle.nl_reports.specs.Lanes.{Begin, lanes};
@@ -22,7 +23,13 @@ ghost use Rattle.nl_reports.specs.Reading.{FewTaken, IsEvent};
 ghost use Rattle.nl_reports.specs.Rows.{Told, by_start, falling, ranked, spans, told_jobs};
 ghost use Rattle.nl_reports.specs.Spans.{IsEarly, time_of};
 ghost use Rattle.nl_reports.specs.Sweep.{busy_time, left_over, parts, runs_at, weight};
+ghost use Rattle.nl_reports.specs.Ticks.{IsRound, step_of};
+ghost use Rattle.nl_reports.specs.Times.{job_work, share_of, time_in, times_of, total};
 ghost use Rattle.nl_reports.specs.Trace.{array_text, trace_events, trace_text};
+ghost use Rattle.nl_reports.specs.Work.{is_same};
+ghost use Rattle.nl_reports.specs.declared.times.Times.{Times};
+ghost use Rattle.nl_reports.specs.declared.work.Work.{Work};
+ghost use Rattle.nl_reports.specs.declared.work.Work.TheVariants.{Archive, Compile, Generate, Link, Other, Test};
 ghost use Rattle.nl_reports.specs.declared.sides.Rules.{Rules};
 ghost use Rattle.nl_reports.specs.declared.frame.Frame.{Frame};
 ghost use Rattle.nl_reports.specs.declared.kind.KindRule.{KindRule};
@@ -148,10 +155,38 @@ pub fn escaped_text_is_quiet()
     ensures pieces { (text : List ℕ) → IsMadeOfPieces (escaped text) }
 {}
 
-/// The bar of a command takes at most 400 bytes, its title included, whatever its outputs are called.
+/// The bar of a command takes at most 400 bytes, its title and its name included, whatever its outputs are called.
 pub fn a_bar_takes_at_most_400_bytes()
-    ensures { (f : Frame) (ks : List (List ℕ)) (j : Job) (lane : ℕ) → length ks ≤ 9 → IsEarly j.span
-        → length j.outputs < 2 ^ 63 → lane < 2 ^ 63 → length (bar f ks (j, lane)) ≤ 400 }
+    ensures { (f : Frame) (j : Job) (lane : ℕ) → IsEarly j.span → length j.outputs < 2 ^ 63 → lane ≤ f.top
+        → f.top < 2 ^ 63 → length (bar f (j, lane)) ≤ 400 }
+{}
+
+/// A bar stands between where the build begins and where it ends.
+pub fn a_bar_is_within_the_picture()
+    ensures { (f : Frame) (j : Job) → (1000 ≤ x_at f j.span.began)
+        × (x_at f j.span.began + drawn_width (width_of f j) ≤ 15400) }
+{}
+
+/// The lines of the axis stand a round time apart, and there are twelve steps at most.
+pub fn ticks_are_round_and_few()
+    ensures round { (wall : ℕ) → IsRound (step_of wall) }
+    ensures few { (wall : ℕ) → wall < 2 ^ 32 → wall / step_of wall ≤ 12 }
+{}
+
+/// Each command counts for one kind of a picture; so the times of all kinds are those of all commands, and their parts are no more than a
+/// hundred.
+pub fn parts_add_up()
+    ensures kinds { (js : List Job) (w : Work) → time_in (times_of js) w
+        ≡ sum_by (λ (j : Job). time_of j.span) (filter (λ j. is_same w (job_work j)) js) }
+    ensures times { (js : List Job) → total (times_of js) ≡ total_time js }
+    ensures parts { (t : Times) → share_of t Compile + share_of t Link + share_of t Archive + share_of t Generate
+        + share_of t Test + share_of t Other ≤ 100 }
+{}
+
+/// A name that is cut is cut before a character, and has fewer bytes than fit, but for the ellipsis.
+pub fn names_are_cut_at_characters()
+    ensures fits { (most : ℕ) (text : List ℕ) → cut_at most text ≤ most }
+    ensures whole { (most : ℕ) (text : List ℕ) → 0 < cut_at most text → begins_character (cut_at most text) text ≡ true }
 {}
 
 /// All bars of a picture, those of short commands too, take at most 400 bytes for each command.

@@ -36,7 +36,10 @@ mod span;
 mod summary;
 mod sweep;
 mod text;
+mod ticks;
+mod times;
 mod trace;
+mod work;
 mod writing;
 
 pub use builds_text::builds_lines;
@@ -62,4 +65,7 @@ pub use shown::append_number;
 pub use sides::{ComparedRow, Rules, Side, compared};
 pub use span::Span;
 pub use summary::{Totals, summary_lines, taken_in};
+pub use ticks::step_of;
+pub use times::Times;
 pub use trace::write_trace;
+pub use work::{Work, work_of};

@@ -1,45 +1,54 @@
 //! The text of `picture`: the last build as SVG.
-ghost use Rattle.std.specs.Prelude.{◌≡◌, ◌<◌, ◌^◌, ◌++◌, length, map, IfErr, IfOk, OnOk};
+ghost use Rattle.std.specs.Prelude.{◌≡◌, ◌<◌, ◌^◌, ◌++◌, List, length, map, IfErr, IfOk, OnOk};
 ghost use Rattle.std.specs.List.{All, zip};
 ghost use Rattle.nl_reports.specs.Bars.{joined};
+ghost use Rattle.nl_reports.specs.Frame.{IsFrame};
 ghost use Rattle.nl_reports.specs.Jobs.{seen, told};
-ghost use Rattle.nl_reports.specs.Kinds.{IsOfOne};
-ghost use Rattle.nl_reports.specs.Picture.{bars, head, kind_name, kind_names, legend_from, legend_line, picture, picture_text, timed};
-ghost use Rattle.nl_reports.specs.Rows.{told_row};
-ghost use Rattle.nl_reports.specs.Spans.{IsEarly};
+ghost use Rattle.nl_reports.specs.Moments.{AreMoments};
+ghost use Rattle.nl_reports.specs.Picture.{bars, commands_word, end, head, how_line, legend, legend_kind, long_line, longest, name, picture, picture_text, start};
+ghost use Rattle.nl_reports.specs.Rows.{falling};
+ghost use Rattle.nl_reports.specs.Spans.{IsEarly, time_of};
+ghost use Rattle.nl_reports.specs.Times.{AreTimesOf};
 ghost use Rattle.nl_reports.specs.Writing.{IsWriteFault, Moves, Writes};
+ghost use Rattle.nl_reports.specs.declared.span.Span.{Span};
 
 use crate::bars::{Mark, append_bar, append_mark, falling_marks};
 use crate::choice::last_number;
-use crate::curve::{append_curve, append_ticks};
+use crate::curve::append_curve;
 use crate::escape::append_label;
-use crate::frame::{Frame, append_seconds};
+use crate::frame::Frame;
 use crate::job::{Job, jobs_by_start, jobs_of};
-use crate::kind::KindRule;
-use crate::kinds::kinds_of;
 use crate::lanes::lanes_of;
 use crate::moments::Moments;
 use crate::numbers::spans_of;
-use crate::rows::{Rank, Row, Sums, falling_by};
-use crate::text::append;
+use crate::ranking::{Ranking, highest};
+use crate::text::{Part, append, append_parts};
+use crate::ticks::append_ticks;
+use crate::times::Times;
 use crate::trace::how_of;
+use crate::work::{Work, place, word};
 use crate::writing::{write_full, write_rest};
 use nl_builds::{Builds, How};
-use nl_table::Secret;
 use nl_tool_texts::ToolFault;
 use std::alloc::{AllocError, Global};
 use std::io::Write;
 
-// So many kinds are told apart.
-const TOLD: usize = 9;
+// So many commands are listed.
+const LISTED: u64 = 10;
+
+const ROOT: &[u8] =
+    b"\" role=\"img\" aria-labelledby=\"t\" font-family=\"sans-serif\" font-size=\"120\">\n<title id=\"t\">";
+
+const STYLE: &[u8] =
+    b"</title>\n<style>svg{fill:#222;background:#fff}.p{fill:#fff}.m{fill:#666}.g{stroke:#ddd;stroke-width:10}.q{fill:#cfd8e3}.t{fill:#111}.t text{pointer-events:none}.k0{fill:#56b4e9}.k1{fill:#e69f00}.k2{fill:#f0e442}.k3{fill:#009e73}.k4{fill:#cc79a7}.k5{fill:#bbb}@media(prefers-color-scheme:dark){svg{fill:#eee;background:#1b1b1b}.p{fill:#1b1b1b}.m{fill:#aaa}.g{stroke:#444}.q{fill:#3b4656}}</style>\n<rect class=\"p\" width=\"100%\" height=\"100%\"/>\n<text x=\"1000\" y=\"380\" font-size=\"220\">";
 
 /// Writes a picture of the last build that isn't the manifest's alone: each command is a bar in a lane, in which no other runs as it does,
-/// with its first output, how many more it has, and its time as a title. Commands that are too short for a bar have one together, by
-/// lane, pixel and kind. Below is the curve of how many run, and the colour of each kind. If the build was found again, a line of text
-/// says so. The text is written as it is made, so a part of it may stand where memory is refused. Kinds are hashed under a secret.
+/// with its name where there is room for it, and with its first output, how many more it has, and its time as a title. Commands that are
+/// too short for a bar have one together, by lane, pixel and kind. Above is the part of each kind, below the curve of how many run, and
+/// the commands that took the longest. If the build was found again, a line of text says so. The text is written as it is made, so a part
+/// of it may stand where memory is refused.
 pub fn write_picture<W: Write>(
     alloc: Global,
-    secret: Secret,
     from: &Builds,
     writer: &mut W,
 ) -> Result<(), ToolFault>
@@ -49,14 +58,13 @@ pub fn write_picture<W: Write>(
     let number = last_number(from);
     let how = how_of(number, from.builds.as_slice()).unwrap_or(How::AsWritten);
     let jobs = jobs_by_start(jobs_of(alloc, from, number)?)?;
-    write_jobs(alloc, secret, how, jobs.as_slice(), writer)
+    write_jobs(alloc, how, jobs.as_slice(), writer)
 }
 
 // Writes a picture of these commands, which are in the order of START.
 #[tactic(auto, using(crate::proofs::DrawLemmas::none_drawn))]
 fn write_jobs<W: Write>(
     alloc: Global,
-    secret: Secret,
     how: How,
     jobs: &[Job<'_, '_>],
     writer: &mut W,
@@ -69,26 +77,13 @@ fn write_jobs<W: Write>(
     let lanes = lanes_of(alloc, spans.as_slice())?;
     let moments = Moments::of(alloc, spans.as_slice())?;
     let frame = Frame::of(spans.as_slice(), lanes.as_slice());
-    let names = kind_names(alloc, secret, jobs)?;
-    let kinds = names.as_slice();
     let mut start = Vec::new(alloc);
-    append_head(
-        alloc,
-        &frame,
-        kinds.len() as u64,
-        jobs.len() as u64,
-        how,
-        &mut start,
-    )?;
-    append_ticks(alloc, &frame, &mut start)?;
+    append_start(&frame, how, jobs, &mut start)?;
     let mut end = Vec::new(alloc);
-    append_curve(alloc, &frame, &moments, &mut end)?;
-    append_legend(alloc, &frame, kinds, &mut end)?;
-    append(b"</svg>\n", &mut end)?;
+    append_end(alloc, &frame, &moments, jobs, &mut end)?;
     write_bars(
         alloc,
         &frame,
-        kinds,
         jobs,
         lanes.as_slice(),
         start,
@@ -97,11 +92,47 @@ fn write_jobs<W: Write>(
     )
 }
 
+// Appends what stands before the bars.
+fn append_start(
+    frame: &Frame,
+    how: How,
+    jobs: &[Job<'_, '_>],
+    out: &mut Vec<u8>,
+) -> Result<(), AllocError>
+    requires early { All (λ j. IsEarly j.span) jobs.now }
+    requires frame { IsFrame frame.now }
+    ensures items { OnOk result (out.new.items ≡ out.old.items ++ start frame.now how (map seen jobs.now)) }
+{
+    let times = Times::of(jobs);
+    let commands = jobs.len() as u64;
+    append_head(frame, &times, commands, how, out)?;
+    append_legend(&times, commands, out)?;
+    append_ticks(frame, out)?;
+    append(b"<g class=\"t\" font-size=\"110\">\n", out)
+}
+
+// Appends what stands behind the bars of commands that ran at these moments.
+fn append_end(
+    alloc: Global,
+    frame: &Frame,
+    moments: &Moments,
+    jobs: &[Job<'_, '_>],
+    out: &mut Vec<u8>,
+) -> Result<(), AllocError>
+    requires early { All (λ j. IsEarly j.span) jobs.now }
+    requires frame { IsFrame frame.now }
+    ensures items { (cs : List Span) → AreMoments cs moments.now
+        → OnOk result (out.new.items ≡ out.old.items ++ end frame.now cs (map seen jobs.now)) }
+{
+    append(b"</g>\n", out)?;
+    append_curve(frame, moments, out)?;
+    append_longest(alloc, frame, jobs, out)
+}
+
 // Writes the bars of commands that have these lanes, between what stands before and behind them.
 fn write_bars<W: Write>(
     alloc: Global,
     frame: &Frame,
-    kinds: &[&[u8]],
     jobs: &[Job<'_, '_>],
     lanes: &[u64],
     start: Vec<u8>,
@@ -112,152 +143,243 @@ fn write_bars<W: Write>(
     requires lanes { length lanes.now ≡ length jobs.now }
     requires some { 0 < length end.now }
     ensures writes { Writes (W.contents writer.old) (W.contents writer.new) (start.items
-        ++ bars frame.now (map (λ k. k.now) kinds.now) (zip (map seen jobs.now) lanes.now) ++ end.now) result }
+        ++ bars frame.now (zip (map seen jobs.now) lanes.now) ++ end.now) result }
     ensures faults { IfErr result IsWriteFault }
 {
     let mut held = start;
     let mut short = Vec::new(alloc);
     for i in 0..jobs.len() {
-        append_bar(
-            alloc, frame, kinds, &jobs[i], lanes[i], &mut short, &mut held,
-        )?;
+        append_bar(alloc, frame, &jobs[i], lanes[i], &mut short, &mut held)?;
         write_full(&mut held, writer)?;
     }
-    write_marks(falling_marks(short)?.as_slice(), &mut held, writer)?;
+    write_marks(frame, falling_marks(short)?.as_slice(), &mut held, writer)?;
     append(end, &mut held)?;
     write_rest(held, writer)
 }
 
 // Writes the bars of short commands, one for all of a lane, a pixel and a kind, which stand together.
 fn write_marks<W: Write>(
+    frame: &Frame,
     marks: &[Mark],
     held: &mut Vec<u8>,
     writer: &mut W,
 ) -> Result<(), ToolFault>
     ensures moves { Moves (W.contents writer.old) (W.contents writer.new)
-        (held.old.items ++ joined 0 marks.now) held.new.items result }
+        (held.old.items ++ joined frame.now 0 marks.now) held.new.items result }
     ensures faults { IfErr result IsWriteFault }
 {
     let mut count = 0;
     for i in 0..marks.len() {
-        count = append_mark(count, &marks[i], &marks[i + 1..], held)?;
+        count = append_mark(frame, count, &marks[i], &marks[i + 1..], held)?;
         write_full(held, writer)?;
     }
     Ok(())
 }
 
-// The names of the kinds of commands that took the longest, the longest first, so many at most as are told apart.
-fn kind_names<'a>(
-    alloc: Global,
-    secret: Secret,
-    jobs: &[Job<'_, 'a>],
-) -> Result<Vec<&'a [u8]>, AllocError>
-    ensures value { IfOk result (λ ks. map (λ k. k.now) ks.items ≡ kind_names (map seen jobs.now)) }
-{
-    let mut rows = Vec::new(alloc);
-    for job in jobs {
-        rows.push(timed(job))?;
-    }
-    let found = kinds_of(alloc, secret, KindRule::Extension, rows.as_slice())?;
-    let sorted = falling_by(alloc, Rank::Time, found.as_slice())?;
-    let mut names = Vec::new(alloc);
-    for i in 0..TOLD.min(sorted.len()) {
-        names.push(sorted[i].name)?;
-    }
-    Ok(names)
-}
-
-fn timed<'a>(job: &Job<'_, 'a>) -> Row<'a>
-    ensures value { told_row result ≡ timed (seen job.now) }
-    ensures one { IsOfOne result }
-{
-    Row {
-        name: job.name(),
-        sums: Sums {
-            commands: 1,
-            time: u128::from(job.span.time()),
-            weight: 0,
-        },
-    }
-}
-
-// Appends what stands before the axis; of a build that was found again it says so.
+// Appends what stands before the axis: how large the picture is, its name, its colours, what was built, and, of a build that was found
+// again, that it was.
 fn append_head(
-    alloc: Global,
     frame: &Frame,
-    lines: u64,
+    times: &Times,
     commands: u64,
     how: How,
     out: &mut Vec<u8>,
 ) -> Result<(), AllocError>
-    requires few { lines < 2 ^ 63 }
-    ensures items { OnOk result (out.new.items ≡ out.old.items ++ head frame.now lines commands how) }
+    requires few { AreTimesOf commands times.now }
+    requires small { commands < 2 ^ 63 }
+    ensures items { OnOk result (out.new.items ≡ out.old.items ++ head frame.now times.now commands how) }
 {
-    let height = frame.line_at(lines + 1);
-    let pixels = height / 10;
-    let start = format!(in alloc;
-        "<svg xmlns=\"http://www.w3.org/2000/svg\" width=\"1600\" height=\"{pixels}\" viewBox=\"0 0 16000 {height}\" font-family=\"sans-serif\" font-size=\"120\">\n<rect width=\"100%\" height=\"100%\" fill=\"#fff\"/>\n<text x=\"600\" y=\"260\" font-size=\"180\">{commands} commands in "
+    let height = frame.line_at(commands.min(LISTED) + 1);
+    append_parts(
+        &[
+            Part::Text(b"<svg xmlns=\"http://www.w3.org/2000/svg\" width=\"1600\" height=\""),
+            Part::Number(height / 10),
+            Part::Text(b"\" viewBox=\"0 0 16000 "),
+            Part::Number(height),
+            Part::Text(ROOT),
+        ],
+        out,
     )?;
-    append(start.as_bytes(), out)?;
-    append_seconds(frame.wall, out)?;
-    append(b" s</text>\n", out)?;
+    append_name(frame, times, commands, out)?;
+    append(STYLE, out)?;
+    append_name(frame, times, commands, out)?;
+    append(b"</text>\n", out)?;
+    append_how(how, out)
+}
+
+// What was built: how many commands, how long it took, and how many ran at a time.
+fn append_name(
+    frame: &Frame,
+    times: &Times,
+    commands: u64,
+    out: &mut Vec<u8>,
+) -> Result<(), AllocError>
+    requires few { AreTimesOf commands times.now }
+    requires small { commands < 2 ^ 63 }
+    ensures items { OnOk result (out.new.items ≡ out.old.items ++ name frame.now times.now commands) }
+{
+    let tenths = times.total() * 10 / u128::from(frame.wall.max(1));
+    append_parts(
+        &[
+            Part::Number(u128::from(commands)),
+            Part::Text(commands_word(commands)),
+            Part::Time(frame.wall),
+            Part::Text(b", "),
+            Part::Number(tenths / 10),
+            Part::Text(b"."),
+            Part::Number(tenths % 10),
+            Part::Text(b" at a time"),
+        ],
+        out,
+    )
+}
+
+fn commands_word(commands: u64) -> &'static [u8]
+    ensures { result.now ≡ commands_word commands }
+{
+    if commands == 1 {
+        b" command in "
+    } else {
+        b" commands in "
+    }
+}
+
+fn append_how(how: How, out: &mut Vec<u8>) -> Result<(), AllocError>
+    ensures items { OnOk result (out.new.items ≡ out.old.items ++ how_line how) }
+{
     match how {
         How::AsWritten => Ok(()),
-        How::FoundAgain { taken } => {
-            let line = format!(in alloc;
-                "<text x=\"15000\" y=\"260\" text-anchor=\"end\">found again: later builds may have taken {taken} of its outputs</text>\n"
-            )?;
-            append(line.as_bytes(), out)
-        }
+        How::FoundAgain { taken } => append_parts(
+            &[
+                Part::Text(
+                    b"<text class=\"m\" x=\"15400\" y=\"380\" text-anchor=\"end\">found again: later builds may have taken ",
+                ),
+                Part::Number(taken as u128),
+                Part::Text(b" of its outputs</text>\n"),
+            ],
+            out,
+        ),
     }
 }
 
-// The colour of each kind.
-fn append_legend(
-    alloc: Global,
-    frame: &Frame,
-    kinds: &[&[u8]],
+// Appends the colour of each kind and its part of the time.
+fn append_legend(times: &Times, commands: u64, out: &mut Vec<u8>) -> Result<(), AllocError>
+    requires few { AreTimesOf commands times.now }
+    requires small { commands < 2 ^ 63 }
+    ensures items { OnOk result (out.new.items ≡ out.old.items ++ legend times.now) }
+{
+    append_kind(times, commands, Work::Compile, out)?;
+    append_kind(times, commands, Work::Link, out)?;
+    append_kind(times, commands, Work::Archive, out)?;
+    append_kind(times, commands, Work::Generate, out)?;
+    append_kind(times, commands, Work::Test, out)?;
+    append_kind(times, commands, Work::Other, out)
+}
+
+fn append_kind(
+    times: &Times,
+    commands: u64,
+    work: Work,
     out: &mut Vec<u8>,
 ) -> Result<(), AllocError>
-    ensures items { OnOk result
-        (out.new.items ≡ out.old.items ++ legend_from frame.now 0 (map (λ k. k.now) kinds.now)) }
+    requires few { AreTimesOf commands times.now }
+    requires small { commands < 2 ^ 63 }
+    ensures items { OnOk result (out.new.items ≡ out.old.items ++ legend_kind times.now work) }
 {
-    for i in 0..kinds.len() {
-        append_legend_line(alloc, frame, i as u64, kind_name(kinds[i]), out)?;
-    }
-    if kinds.len() < TOLD {
-        return Ok(());
-    }
-    append_legend_line(alloc, frame, kinds.len() as u64, b"others", out)
+    let kind = u128::from(place(work));
+    let x = 1000 + kind * 1800;
+    append_parts(
+        &[
+            Part::Text(b"<rect class=\"k"),
+            Part::Number(kind),
+            Part::Text(b"\" x=\""),
+            Part::Number(x),
+            Part::Text(b"\" y=\"540\" width=\"140\" height=\"140\"/><text x=\""),
+            Part::Number(x + 200),
+            Part::Text(b"\" y=\"655\">"),
+            Part::Text(word(work)),
+            Part::Text(b" "),
+            Part::Number(times.share_of(work)),
+            Part::Text(b" %</text>\n"),
+        ],
+        out,
+    )
 }
 
-fn kind_name(kind: &[u8]) -> &[u8]
-    ensures { result.now ≡ kind_name kind.now }
-{
-    if kind.is_empty() {
-        b"no extension"
-    } else {
-        kind
-    }
-}
-
-fn append_legend_line(
+// Appends the commands that took the longest, and the end.
+fn append_longest(
     alloc: Global,
     frame: &Frame,
-    place: u64,
-    name: &[u8],
+    jobs: &[Job<'_, '_>],
     out: &mut Vec<u8>,
 ) -> Result<(), AllocError>
-    ensures items { OnOk result
-        (out.new.items ≡ out.old.items ++ legend_line frame.now place name.now) }
+    requires early { All (λ j. IsEarly j.span) jobs.now }
+    ensures items { OnOk result (out.new.items ≡ out.old.items ++ longest frame.now (map seen jobs.now)) }
 {
-    let y = frame.line_at(place);
-    let below = y + 120;
-    let hue = u128::from(place) * 36;
-    let start = format!(in alloc;
-        "<rect x=\"600\" y=\"{y}\" width=\"140\" height=\"140\" fill=\"hsl({hue},50%,60%)\"/><text x=\"800\" y=\"{below}\">"
+    let kept = highest(alloc, &ByTime, LISTED as usize, jobs)?;
+    append_parts(
+        &[
+            Part::Text(b"<text x=\"1000\" y=\""),
+            Part::Number(frame.line_at(0)),
+            Part::Text(b"\">The commands that took the longest:</text>\n"),
+        ],
+        out,
     )?;
-    append(start.as_bytes(), out)?;
-    append_label(alloc, name, out)?;
+    for i in 0..kept.len() {
+        append_long(alloc, frame, i as u64 + 1, &kept[i], out)?;
+    }
+    append(b"</svg>\n", out)
+}
+
+// Appends the line of one of them: its time and its first output.
+fn append_long(
+    alloc: Global,
+    frame: &Frame,
+    line: u64,
+    job: &Job<'_, '_>,
+    out: &mut Vec<u8>,
+) -> Result<(), AllocError>
+    ensures items { OnOk result (out.new.items ≡ out.old.items ++ long_line frame.now line (seen job.now)) }
+{
+    let y = frame.line_at(line);
+    append_parts(
+        &[
+            Part::Text(b"<text x=\"1900\" y=\""),
+            Part::Number(y),
+            Part::Text(b"\" text-anchor=\"end\">"),
+            Part::Time(job.span.time()),
+            Part::Text(b"</text><text x=\"2050\" y=\""),
+            Part::Number(y),
+            Part::Text(b"\">"),
+        ],
+        out,
+    )?;
+    append_label(alloc, job.name(), out)?;
     append(b"</text>\n", out)
+}
+
+// By how long commands ran.
+struct ByTime;
+
+impl<'s, 'a> Ranking<Job<'s, 'a>> for ByTime {
+    ghost rank = { λ by job. time_of job.span };
+
+    fn rank(&self, job: &Job<'s, 'a>) -> u128 {
+        u128::from(job.span.time())
+    }
+
+    fn falling(&self, alloc: Global, jobs: &[Job<'s, 'a>]) -> Result<Vec<Job<'s, 'a>>, AllocError> {
+        falling_by_length(alloc, jobs)
+    }
+}
+
+fn falling_by_length<'s, 'a>(
+    alloc: Global,
+    jobs: &[Job<'s, 'a>],
+) -> Result<Vec<Job<'s, 'a>>, AllocError>
+    ensures items { IfOk result (λ sorted. sorted.items ≡ falling (λ j. time_of j.span) jobs.now) }
+{
+    let mut sorted = Vec::from_slice(alloc, jobs)?;
+    sorted.sort_by(|a, b| b.span.time().cmp(&a.span.time()))?;
+    Ok(sorted)
 }

@@ -2,6 +2,7 @@
 ghost use Rattle.std.specs.Prelude.{◌≡◌, ◌++◌, IsTrue, OnOk};
 ghost use Rattle.std.specs.List.{All};
 ghost use Rattle.nl_reports.specs.Escape.{IsBare};
+ghost use Rattle.nl_reports.specs.Texts.{part_text, parts_text, rest_text, time_text, two_text};
 
 use itoa::{Buffer, Integer};
 use std::alloc::AllocError;
@@ -25,6 +26,81 @@ pub(crate) fn append_with<I: Integer>(
     out.extend_from_slice(text)?;
     out.extend_from_slice(Buffer::new().format(number).as_bytes())?;
     Ok(())
+}
+
+/// A part of a text: one that stands there, a number, or a time in words.
+#[derive(Clone, Copy, Drop)]
+pub(crate) enum Part<'a> {
+    Text(&'a [u8]),
+    Number(u128),
+    Time(u64),
+}
+
+/// Appends these parts.
+pub(crate) fn append_parts(parts: &[Part<'_>], out: &mut Vec<u8>) -> Result<(), AllocError>
+    ensures items { OnOk result (out.new.items ≡ out.old.items ++ parts_text parts.now) }
+{
+    for part in parts {
+        append_part(part, out)?;
+    }
+    Ok(())
+}
+
+fn append_part(part: &Part<'_>, out: &mut Vec<u8>) -> Result<(), AllocError>
+    ensures items { OnOk result (out.new.items ≡ out.old.items ++ part_text part.now) }
+{
+    match part {
+        Part::Text(text) => append(text, out),
+        Part::Number(number) => append_with(b"", *number, out),
+        Part::Time(ms) => append_time(*ms, out),
+    }
+}
+
+// Appends so many milliseconds in words: in two units at most, and what is less is dropped.
+fn append_time(ms: u64, out: &mut Vec<u8>) -> Result<(), AllocError>
+    ensures items { OnOk result (out.new.items ≡ out.old.items ++ time_text ms) }
+{
+    if ms == 0 {
+        return append(b"0 s", out);
+    }
+    if ms < 1000 {
+        return append_rest(b"", ms, b" ms", out);
+    }
+    if ms < 60_000 {
+        append_with(b"", ms / 1000, out)?;
+        append_rest(b".", ms % 1000 / 100, b"", out)?;
+        return append(b" s", out);
+    }
+    if ms < 3_600_000 {
+        return append_two(ms / 60_000, b" min", ms % 60_000 / 1000, b" s", out);
+    }
+    append_two(ms / 3_600_000, b" h", ms % 3_600_000 / 60_000, b" min", out)
+}
+
+// Appends a number of a unit, and what is left in a smaller one.
+fn append_two(
+    first: u64,
+    unit: &[u8],
+    rest: u64,
+    small: &[u8],
+    out: &mut Vec<u8>,
+) -> Result<(), AllocError>
+    ensures items { OnOk result (out.new.items ≡ out.old.items ++ two_text first unit.now rest small.now) }
+{
+    append_with(b"", first, out)?;
+    append(unit, out)?;
+    append_rest(b" ", rest, small, out)
+}
+
+// Appends a number, if it isn't 0.
+fn append_rest(before: &[u8], number: u64, unit: &[u8], out: &mut Vec<u8>) -> Result<(), AllocError>
+    ensures items { OnOk result (out.new.items ≡ out.old.items ++ rest_text before.now number unit.now) }
+{
+    if number == 0 {
+        return Ok(());
+    }
+    append_with(before, number, out)?;
+    append(unit, out)
 }
 
 /// Whether a name is of bytes alone that stand in JSON and in XML as they are.

@@ -274,7 +274,7 @@ fn tell<W: Write>(
         }
         Report::Picture => {
             *again = taken_in(Scope::Last, &told).is_some();
-            write_picture(alloc, secret, &told, writer)
+            write_picture(alloc, &told, writer)
         }
     }
 }

@@ -435,8 +435,9 @@ One SVG file, which each browser shows:
 
 Each command is a bar in a lane, and no lane has two commands at one time. Hold the mouse over a bar: it
 tells the first output, how many more there are, how long the command took, and when it began, in seconds
-from the first START of the build. The colour is that of the first output's extension; the legend names
-the nine that took the longest. Below is the curve of how many commands ran.
+from the first START of the build. The colour is that of its kind, by the first output's extension; the
+legend tells each kind's part of the time. Below are the curve of how many commands ran, and the ten that
+took the longest.
 
 Neighbours in a lane that are narrower than half a pixel share a bar. A byte that isn't UTF-8, or that XML
 can't have, is shown as U+FFFD. The last build is the last that made more than `build.ninja`.",

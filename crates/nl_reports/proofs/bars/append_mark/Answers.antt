@@ -9,8 +9,8 @@ pub returns-clause-items : goal.returns-clause-items
 returns-clause-items c =
     let old = c.args.out.now.items in
     let m = c.args.mark.now in
-    bar_told c.args.count m c.args.rest.now old c.append.new.out.items (sym c.if-not-is_last.ensures)
+    bar_told c.args.frame.now c.args.count m c.args.rest.now old c.append.new.out.items (sym c.if-not-is_last.ensures)
     (three_parts old c.append_rect.new.out.items c.append_with.new.out.items c.append.new.out.items
-    (rect m.lane (m.pixel * 10) 10 m.kind) (decimal (c.args.count + 1)) (codes " short</title></rect>\n")
-    (c.in_ok-append_rect.ensures.items ∙ (λ i. old ++ rect m.lane (c.from-x.ensures i * 10) 10 m.kind))
+    (rect c.args.frame.now m.lane (m.pixel * 10) 10 m.kind) (decimal (c.args.count + 1)) (codes " short</title></rect>\n")
+    (c.in_ok-append_rect.ensures.items ∙ (λ i. old ++ rect c.args.frame.now m.lane (c.from-x.ensures i * 10) 10 m.kind))
     c.in_ok-append_with.ensures.items c.in_ok-append.ensures.items)

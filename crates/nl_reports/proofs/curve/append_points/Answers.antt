@@ -12,7 +12,7 @@ loop-i-preserved c = λ cs are. one_more_point c.args.frame.now cs c.loop-i.i c.
 
 pub returns : goal.returns
 returns c =
-    let all : c.loop-i.i ≡ 481 = omega (arith, c.loop-i-test.false, c.loop-i.auto.i-end) in
+    let all : c.loop-i.i ≡ 480 = omega (arith, c.loop-i-test.false, c.loop-i.auto.i-end) in
     record {
       items = λ cs are. c.loop-i.invariant cs are ∙ ap (λ (n : ℕ). c.args.out.now.items ++ points c.args.frame.now cs n) all;
     }

@@ -9,7 +9,6 @@ use Rattle.nl_reports.proofs.picture.write_bars.Given as goal
 -- all is written but what is held, and the bars that are left
 abbrev pub invariant-loop-i : goal.invariant-loop-i
 invariant-loop-i g l =
-    let ks = map (λ k. k.now) l.kinds in
     let pairs = zip (map seen l.jobs) l.lanes in
-    HoldsAllBut (g.W.Write.contents l.fn.writer) (g.W.Write.contents l.writer) (l.fn.start.items ++ bars l.frame ks pairs)
-    (l.held.items ++ left_bars l.frame ks l.short.items (drop l.i pairs))
+    HoldsAllBut (g.W.Write.contents l.fn.writer) (g.W.Write.contents l.writer) (l.fn.start.items ++ bars l.frame pairs)
+    (l.held.items ++ left_bars l.frame l.short.items (drop l.i pairs))

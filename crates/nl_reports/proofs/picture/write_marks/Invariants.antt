@@ -7,6 +7,6 @@ use Rattle.nl_reports.proofs.picture.write_marks.Given as goal
 abbrev pub invariant-loop-i : goal.invariant-loop-i
 invariant-loop-i g l = record {
   bars : HoldsAllBut (g.W.Write.contents l.initial.writer) (g.W.Write.contents l.writer)
-      (l.initial.held.items ++ joined 0 l.marks) (l.held.items ++ joined l.count (drop l.i l.marks));
+      (l.initial.held.items ++ joined l.frame 0 l.marks) (l.held.items ++ joined l.frame l.count (drop l.i l.marks));
   count : l.count ≤ l.i;
 }

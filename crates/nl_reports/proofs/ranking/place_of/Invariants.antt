@@ -1,4 +1,4 @@
-use Rattle.std.proofs.Common.{◌≡◌, ◌<◌, ◌≤◌, ℕ, get_or, length}
+use Rattle.std.proofs.Common.{◌<◌, ◌≤◌, ℕ, get_or, length}
 use Rattle.nl_reports.proofs.ranking.place_of.Given as goal
 
 abbrev pub decreases-kept : goal.decreases-kept

@@ -1,4 +1,4 @@
-use Rattle.std.proofs.Common.{◌≡◌, ◌∙◌, ◌+◌, ◌++◌, List, None, false, ap, append_assoc, arith, drop, map, sym}
+use Rattle.std.proofs.Common.{◌∙◌, ◌+◌, ◌++◌, List, None, false, ap, append_assoc, arith, drop, map, sym}
 use Rattle.std.proofs.lemmas.List.{at_drop_more}
 use Rattle.nl_builds.specs.declared.build.Build.{Build}
 use Rattle.nl_builds.specs.declared.build.How.TheVariants.{AsWritten}

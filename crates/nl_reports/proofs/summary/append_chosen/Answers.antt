@@ -1,11 +1,11 @@
-use Rattle.std.proofs.Common.{◌≡◌, ◌∙◌, ◌-◌, ◌++◌, List, ℕ, None, ap, map, sym}
+use Rattle.std.proofs.Common.{◌≡◌, ◌∙◌, ◌-◌, ◌++◌, List, ℕ, ap, map, sym}
 use Rattle.std.proofs.lemmas.Result.{on_ok_weaker}
 use Rattle.std.proofs.Common.{true≢false}
 use Rattle.std.proofs.lemmas.Bool.{eq-eqb}
 use Rattle.nl_builds.specs.declared.build.Build.{Build}
 use Rattle.nl_reports.specs.Jobs.{between, told}
 use Rattle.nl_reports.specs.Rows.{falling, rank_told, told_row}
-use Rattle.nl_reports.specs.Summary.{again_line, builds_told, first_of, lists_text, most_taken, no_totals, number_lines, rows_from, slowest_line, text_of, totals_from, unfinished_line}
+use Rattle.nl_reports.specs.Summary.{again_line, builds_told, first_of, lists_text, number_lines, slowest_line, text_of, unfinished_line}
 use Rattle.nl_reports.specs.declared.rows.Rank.TheVariants.{Time}
 use Rattle.nl_reports.proofs.SummaryLemmas.{parts_in_order, some_told, text_parts}
 use Rattle.nl_reports.proofs.summary.append_chosen.Goals as goal

@@ -1,8 +1,7 @@
-use Rattle.std.proofs.Common.{◌≡◌, ◌∙◌, ◌++◌, ◌∷◌, [], List, ℕ, Option, Some, ap, append_assoc, append-nil, sym}
+use Rattle.std.proofs.Common.{◌≡◌, ◌∙◌, ◌++◌, ◌∷◌, [], List, ℕ, Option, Some, ap, append_assoc, sym}
 use Rattle.std.specs.Prelude.{option_map}
 use Rattle.nl_reports.specs.Rows.{Told, told_row}
 use Rattle.nl_reports.specs.Summary.{slowest_line}
-use Rattle.nl_reports.specs.declared.rows.Row.{Row}
 use Rattle.nl_reports.proofs.summary.append_slowest.Goals as goal
 
 pub returns : goal.returns

@@ -3,7 +3,7 @@ use Rattle.std.specs.Prelude.{string_bytes}
 use Rattle.std.proofs.lemmas.List.{length-map}
 use Rattle.nl_reports.specs.Fraction.{ratio}
 use Rattle.nl_reports.specs.Rows.{told_row}
-use Rattle.nl_reports.specs.Summary.{told_lines, total_of}
+use Rattle.nl_reports.specs.Summary.{told_lines}
 use Rattle.nl_reports.proofs.summary.append_totals.Goals as goal
 
 pub returns : goal.returns

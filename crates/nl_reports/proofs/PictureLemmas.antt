@@ -1,0 +1,248 @@
+-- The times of kinds, the lines of the axis, and where names are cut.
+use Rattle.std.proofs.Common.{◌≡◌, ℕ, zero, suc, ◌+◌, ◌*◌, ◌-◌, ◌/◌, ◌<◌, ◌≤◌, ◌^◌, Bool, true, false, cond, List, [], ◌∷◌, length, max, min, inl, inr, refl, arith}
+use Rattle.std.specs.Prelude.{nat_le, nat_lt}
+use Rattle.std.specs.List.{All, filter, fold, sum_by}
+use Rattle.std.proofs.Math.Nat.{div-le_of_le-mul, le_of_mul-le-mul_left, mul-div-le}
+use Rattle.std.proofs.lemmas.Bool.Decides.{leb_tells}
+use Rattle.std.proofs.lemmas.List.Elements.{All-cons, All-head, All-nil, All-tail}
+use Rattle.std.proofs.lemmas.List.Sums.{sum_by-cons}
+use Rattle.nl_reports.specs.Bars.{drawn_width, width_of}
+use Rattle.nl_reports.specs.Escape.{begins_character, cut_at, last_begin}
+use Rattle.nl_reports.specs.Frame.{x_at}
+use Rattle.nl_reports.specs.Jobs.{Job}
+use Rattle.nl_reports.specs.Numbers.{total_time}
+use Rattle.nl_reports.specs.Spans.{time_of}
+use Rattle.nl_reports.specs.Ticks.{IsRound, IsStep, step_in, step_of, steps}
+use Rattle.nl_reports.specs.Times.{job_work, no_times, share_of, time_in, times_of, total, with_job, with_time}
+use Rattle.nl_reports.specs.Work.{is_same}
+use Rattle.nl_reports.specs.declared.frame.Frame.{Frame}
+use Rattle.nl_reports.specs.declared.times.Times.{Times}
+use Rattle.nl_reports.specs.declared.work.Work.{Work}
+use Rattle.nl_reports.specs.declared.work.Work.TheVariants.{Compile, Link, Archive, Generate, Test, Other}
+
+-- ---- the times of kinds
+
+with_in : (t : Times) (v w : Work) (ms : ℕ) → time_in (with_time t v ms) w ≡ time_in t w + cond (is_same w v) ms 0
+with_in t Compile Compile ms = refl
+with_in t Compile Link ms = omega arith
+with_in t Compile Archive ms = omega arith
+with_in t Compile Generate ms = omega arith
+with_in t Compile Test ms = omega arith
+with_in t Compile Other ms = omega arith
+with_in t Link Compile ms = omega arith
+with_in t Link Link ms = refl
+with_in t Link Archive ms = omega arith
+with_in t Link Generate ms = omega arith
+with_in t Link Test ms = omega arith
+with_in t Link Other ms = omega arith
+with_in t Archive Compile ms = omega arith
+with_in t Archive Link ms = omega arith
+with_in t Archive Archive ms = refl
+with_in t Archive Generate ms = omega arith
+with_in t Archive Test ms = omega arith
+with_in t Archive Other ms = omega arith
+with_in t Generate Compile ms = omega arith
+with_in t Generate Link ms = omega arith
+with_in t Generate Archive ms = omega arith
+with_in t Generate Generate ms = refl
+with_in t Generate Test ms = omega arith
+with_in t Generate Other ms = omega arith
+with_in t Test Compile ms = omega arith
+with_in t Test Link ms = omega arith
+with_in t Test Archive ms = omega arith
+with_in t Test Generate ms = omega arith
+with_in t Test Test ms = refl
+with_in t Test Other ms = omega arith
+with_in t Other Compile ms = omega arith
+with_in t Other Link ms = omega arith
+with_in t Other Archive ms = omega arith
+with_in t Other Generate ms = omega arith
+with_in t Other Test ms = omega arith
+with_in t Other Other ms = refl
+
+filter_sum : (p : Job → Bool) (f : Job → ℕ) (j : Job) (js : List Job) → sum_by f (filter p (j ∷ js)) ≡ cond (p j) (f j) 0 + sum_by f (filter p js)
+filter_sum p f j js = here (p j)
+  where
+    here : (t : Bool) → sum_by f (cond t (j ∷ filter p js) (filter p js)) ≡ cond t (f j) 0 + sum_by f (filter p js)
+    here true = sum_by-cons f j (filter p js)
+    here false = omega arith
+
+time_from : (w : Work) (t : Times) (js : List Job)
+    → time_in (fold with_job t js) w ≡ time_in t w + sum_by (λ (j : Job). time_of j.span) (filter (λ j. is_same w (job_work j)) js)
+time_from w t [] = omega arith
+time_from w t (j ∷ js) =
+    omega (
+      arith,
+      time_from w (with_job t j) js,
+      with_in t (job_work j) w (time_of j.span),
+      filter_sum (λ j. is_same w (job_work j)) (λ (j : Job). time_of j.span) j js,
+    )
+
+none_in : (w : Work) → time_in no_times w ≡ 0
+none_in Compile = refl
+none_in Link = refl
+none_in Archive = refl
+none_in Generate = refl
+none_in Test = refl
+none_in Other = refl
+
+pub time_is : (js : List Job) (w : Work)
+    → time_in (times_of js) w ≡ sum_by (λ (j : Job). time_of j.span) (filter (λ j. is_same w (job_work j)) js)
+time_is js w = omega (arith, time_from w no_times js, none_in w)
+
+total_more : (t : Times) (w : Work) (ms : ℕ) → total (with_time t w ms) ≡ total t + ms
+total_more t Compile ms = omega arith
+total_more t Link ms = omega arith
+total_more t Archive ms = omega arith
+total_more t Generate ms = omega arith
+total_more t Test ms = omega arith
+total_more t Other ms = omega arith
+
+total_from : (t : Times) (js : List Job) → total (fold with_job t js) ≡ total t + total_time js
+total_from t [] = omega arith
+total_from t (j ∷ js) =
+    omega (arith, total_from (with_job t j) js, total_more t (job_work j) (time_of j.span), sum_by-cons (λ (j : Job). time_of j.span) j js)
+
+pub total_is : (js : List Job) → total (times_of js) ≡ total_time js
+total_is js = omega (arith, total_from no_times js)
+
+parts_sum : (m a b c d e f : ℕ) → 0 < m → a + b + c + d + e + f ≤ m
+    → a * 100 / m + b * 100 / m + c * 100 / m + d * 100 / m + e * 100 / m + f * 100 / m ≤ 100
+parts_sum m a b c d e f some all =
+    le_of_mul-le-mul_left {k = m} (omega (
+      arith,
+      all,
+      mul-div-le (a * 100) m,
+      mul-div-le (b * 100) m,
+      mul-div-le (c * 100) m,
+      mul-div-le (d * 100) m,
+      mul-div-le (e * 100) m,
+      mul-div-le (f * 100) m,
+    )) some
+
+pub shares_few : (t : Times)
+    → share_of t Compile + share_of t Link + share_of t Archive + share_of t Generate + share_of t Test + share_of t Other ≤ 100
+shares_few t = parts_sum (max 1 (total t)) t.compile t.link t.archive t.generate t.test t.other (omega arith) (omega arith)
+
+-- ---- the lines of the axis
+
+-- each of them
+all_round : All IsRound steps
+all_round =
+    All-cons IsRound 1 (2 ∷ 5 ∷ 10 ∷ 20 ∷ 50 ∷ 100 ∷ 200 ∷ 500 ∷ 1000 ∷ 2000 ∷ 5000 ∷ 10000 ∷ 15000 ∷ 30000 ∷ 60000 ∷ 120000 ∷ 300000 ∷ 900000 ∷ 1800000 ∷ 3600000 ∷ 7200000 ∷ 18000000 ∷ 36000000 ∷ 72000000 ∷ 180000000 ∷ []) (inl (record { digit = 1; zeros = 0; is = refl; low = inl refl }))
+    (All-cons IsRound 2 (5 ∷ 10 ∷ 20 ∷ 50 ∷ 100 ∷ 200 ∷ 500 ∷ 1000 ∷ 2000 ∷ 5000 ∷ 10000 ∷ 15000 ∷ 30000 ∷ 60000 ∷ 120000 ∷ 300000 ∷ 900000 ∷ 1800000 ∷ 3600000 ∷ 7200000 ∷ 18000000 ∷ 36000000 ∷ 72000000 ∷ 180000000 ∷ []) (inl (record { digit = 2; zeros = 0; is = refl; low = inr (inl refl) }))
+    (All-cons IsRound 5 (10 ∷ 20 ∷ 50 ∷ 100 ∷ 200 ∷ 500 ∷ 1000 ∷ 2000 ∷ 5000 ∷ 10000 ∷ 15000 ∷ 30000 ∷ 60000 ∷ 120000 ∷ 300000 ∷ 900000 ∷ 1800000 ∷ 3600000 ∷ 7200000 ∷ 18000000 ∷ 36000000 ∷ 72000000 ∷ 180000000 ∷ []) (inl (record { digit = 5; zeros = 0; is = refl; low = inr (inr refl) }))
+    (All-cons IsRound 10 (20 ∷ 50 ∷ 100 ∷ 200 ∷ 500 ∷ 1000 ∷ 2000 ∷ 5000 ∷ 10000 ∷ 15000 ∷ 30000 ∷ 60000 ∷ 120000 ∷ 300000 ∷ 900000 ∷ 1800000 ∷ 3600000 ∷ 7200000 ∷ 18000000 ∷ 36000000 ∷ 72000000 ∷ 180000000 ∷ []) (inl (record { digit = 1; zeros = 1; is = refl; low = inl refl }))
+    (All-cons IsRound 20 (50 ∷ 100 ∷ 200 ∷ 500 ∷ 1000 ∷ 2000 ∷ 5000 ∷ 10000 ∷ 15000 ∷ 30000 ∷ 60000 ∷ 120000 ∷ 300000 ∷ 900000 ∷ 1800000 ∷ 3600000 ∷ 7200000 ∷ 18000000 ∷ 36000000 ∷ 72000000 ∷ 180000000 ∷ []) (inl (record { digit = 2; zeros = 1; is = refl; low = inr (inl refl) }))
+    (All-cons IsRound 50 (100 ∷ 200 ∷ 500 ∷ 1000 ∷ 2000 ∷ 5000 ∷ 10000 ∷ 15000 ∷ 30000 ∷ 60000 ∷ 120000 ∷ 300000 ∷ 900000 ∷ 1800000 ∷ 3600000 ∷ 7200000 ∷ 18000000 ∷ 36000000 ∷ 72000000 ∷ 180000000 ∷ []) (inl (record { digit = 5; zeros = 1; is = refl; low = inr (inr refl) }))
+    (All-cons IsRound 100 (200 ∷ 500 ∷ 1000 ∷ 2000 ∷ 5000 ∷ 10000 ∷ 15000 ∷ 30000 ∷ 60000 ∷ 120000 ∷ 300000 ∷ 900000 ∷ 1800000 ∷ 3600000 ∷ 7200000 ∷ 18000000 ∷ 36000000 ∷ 72000000 ∷ 180000000 ∷ []) (inl (record { digit = 1; zeros = 2; is = refl; low = inl refl }))
+    (All-cons IsRound 200 (500 ∷ 1000 ∷ 2000 ∷ 5000 ∷ 10000 ∷ 15000 ∷ 30000 ∷ 60000 ∷ 120000 ∷ 300000 ∷ 900000 ∷ 1800000 ∷ 3600000 ∷ 7200000 ∷ 18000000 ∷ 36000000 ∷ 72000000 ∷ 180000000 ∷ []) (inl (record { digit = 2; zeros = 2; is = refl; low = inr (inl refl) }))
+    (All-cons IsRound 500 (1000 ∷ 2000 ∷ 5000 ∷ 10000 ∷ 15000 ∷ 30000 ∷ 60000 ∷ 120000 ∷ 300000 ∷ 900000 ∷ 1800000 ∷ 3600000 ∷ 7200000 ∷ 18000000 ∷ 36000000 ∷ 72000000 ∷ 180000000 ∷ []) (inl (record { digit = 5; zeros = 2; is = refl; low = inr (inr refl) }))
+    (All-cons IsRound 1000 (2000 ∷ 5000 ∷ 10000 ∷ 15000 ∷ 30000 ∷ 60000 ∷ 120000 ∷ 300000 ∷ 900000 ∷ 1800000 ∷ 3600000 ∷ 7200000 ∷ 18000000 ∷ 36000000 ∷ 72000000 ∷ 180000000 ∷ []) (inl (record { digit = 1; zeros = 3; is = refl; low = inl refl }))
+    (All-cons IsRound 2000 (5000 ∷ 10000 ∷ 15000 ∷ 30000 ∷ 60000 ∷ 120000 ∷ 300000 ∷ 900000 ∷ 1800000 ∷ 3600000 ∷ 7200000 ∷ 18000000 ∷ 36000000 ∷ 72000000 ∷ 180000000 ∷ []) (inl (record { digit = 2; zeros = 3; is = refl; low = inr (inl refl) }))
+    (All-cons IsRound 5000 (10000 ∷ 15000 ∷ 30000 ∷ 60000 ∷ 120000 ∷ 300000 ∷ 900000 ∷ 1800000 ∷ 3600000 ∷ 7200000 ∷ 18000000 ∷ 36000000 ∷ 72000000 ∷ 180000000 ∷ []) (inl (record { digit = 5; zeros = 3; is = refl; low = inr (inr refl) }))
+    (All-cons IsRound 10000 (15000 ∷ 30000 ∷ 60000 ∷ 120000 ∷ 300000 ∷ 900000 ∷ 1800000 ∷ 3600000 ∷ 7200000 ∷ 18000000 ∷ 36000000 ∷ 72000000 ∷ 180000000 ∷ []) (inl (record { digit = 1; zeros = 4; is = refl; low = inl refl }))
+    (All-cons IsRound 15000 (30000 ∷ 60000 ∷ 120000 ∷ 300000 ∷ 900000 ∷ 1800000 ∷ 3600000 ∷ 7200000 ∷ 18000000 ∷ 36000000 ∷ 72000000 ∷ 180000000 ∷ []) (inr (inr (inl refl)))
+    (All-cons IsRound 30000 (60000 ∷ 120000 ∷ 300000 ∷ 900000 ∷ 1800000 ∷ 3600000 ∷ 7200000 ∷ 18000000 ∷ 36000000 ∷ 72000000 ∷ 180000000 ∷ []) (inr (inr (inr (inl refl))))
+    (All-cons IsRound 60000 (120000 ∷ 300000 ∷ 900000 ∷ 1800000 ∷ 3600000 ∷ 7200000 ∷ 18000000 ∷ 36000000 ∷ 72000000 ∷ 180000000 ∷ []) (inr (inr (inr (inr (inl refl)))))
+    (All-cons IsRound 120000 (300000 ∷ 900000 ∷ 1800000 ∷ 3600000 ∷ 7200000 ∷ 18000000 ∷ 36000000 ∷ 72000000 ∷ 180000000 ∷ []) (inr (inr (inr (inr (inr (inl refl))))))
+    (All-cons IsRound 300000 (900000 ∷ 1800000 ∷ 3600000 ∷ 7200000 ∷ 18000000 ∷ 36000000 ∷ 72000000 ∷ 180000000 ∷ []) (inr (inr (inr (inr (inr (inr (inl refl)))))))
+    (All-cons IsRound 900000 (1800000 ∷ 3600000 ∷ 7200000 ∷ 18000000 ∷ 36000000 ∷ 72000000 ∷ 180000000 ∷ []) (inr (inr (inr (inr (inr (inr (inr (inl refl))))))))
+    (All-cons IsRound 1800000 (3600000 ∷ 7200000 ∷ 18000000 ∷ 36000000 ∷ 72000000 ∷ 180000000 ∷ []) (inr (inr (inr (inr (inr (inr (inr (inr (refl)))))))))
+    (All-cons IsRound 3600000 (7200000 ∷ 18000000 ∷ 36000000 ∷ 72000000 ∷ 180000000 ∷ []) (inr (inl (record { digit = 1; zeros = 0; is = refl; low = inl refl })))
+    (All-cons IsRound 7200000 (18000000 ∷ 36000000 ∷ 72000000 ∷ 180000000 ∷ []) (inr (inl (record { digit = 2; zeros = 0; is = refl; low = inr (inl refl) })))
+    (All-cons IsRound 18000000 (36000000 ∷ 72000000 ∷ 180000000 ∷ []) (inr (inl (record { digit = 5; zeros = 0; is = refl; low = inr (inr refl) })))
+    (All-cons IsRound 36000000 (72000000 ∷ 180000000 ∷ []) (inr (inl (record { digit = 1; zeros = 1; is = refl; low = inl refl })))
+    (All-cons IsRound 72000000 (180000000 ∷ []) (inr (inl (record { digit = 2; zeros = 1; is = refl; low = inr (inl refl) })))
+    (All-cons IsRound 180000000 ([]) (inr (inl (record { digit = 5; zeros = 1; is = refl; low = inr (inr refl) })))
+    (All-nil IsRound))))))))))))))))))))))))))
+
+round_in : (wall : ℕ) (ss : List ℕ) → All IsRound ss → IsRound (step_in wall ss)
+round_in wall [] all = inr (inl (record { digit = 1; zeros = 2; is = refl; low = inl refl }))
+round_in wall (s ∷ ss) all = here (nat_le wall (s * 12)) (All-head IsRound s ss all) (round_in wall ss (All-tail IsRound s ss all))
+  where
+    here : (t : Bool) → IsRound s → IsRound (step_in wall ss) → IsRound (cond t s (step_in wall ss))
+    here true own rest = own
+    here false own rest = rest
+
+pub step_round : (wall : ℕ) → IsRound (step_of wall)
+step_round wall = round_in wall steps all_round
+
+few_in : (wall : ℕ) (ss : List ℕ) → wall < 2 ^ 32 → wall / step_in wall ss ≤ 12
+few_in wall [] early = div-le_of_le-mul 360000000 (omega (arith, early))
+few_in wall (s ∷ ss) early =
+    elim (leb_tells wall (s * 12)) [
+      | inl h ↦ rw h.0 (div-le_of_le-mul s h.1)
+      | inr h ↦ rw h.0 (few_in wall ss early)
+    ]
+
+pub steps_few : (wall : ℕ) → wall < 2 ^ 32 → wall / step_of wall ≤ 12
+steps_few wall early = few_in wall steps early
+
+pub all_steps : All IsStep steps
+all_steps =
+    All-cons IsStep 1 (2 ∷ 5 ∷ 10 ∷ 20 ∷ 50 ∷ 100 ∷ 200 ∷ 500 ∷ 1000 ∷ 2000 ∷ 5000 ∷ 10000 ∷ 15000 ∷ 30000 ∷ 60000 ∷ 120000 ∷ 300000 ∷ 900000 ∷ 1800000 ∷ 3600000 ∷ 7200000 ∷ 18000000 ∷ 36000000 ∷ 72000000 ∷ 180000000 ∷ []) (record { some = omega arith; early = omega arith })
+    (All-cons IsStep 2 (5 ∷ 10 ∷ 20 ∷ 50 ∷ 100 ∷ 200 ∷ 500 ∷ 1000 ∷ 2000 ∷ 5000 ∷ 10000 ∷ 15000 ∷ 30000 ∷ 60000 ∷ 120000 ∷ 300000 ∷ 900000 ∷ 1800000 ∷ 3600000 ∷ 7200000 ∷ 18000000 ∷ 36000000 ∷ 72000000 ∷ 180000000 ∷ []) (record { some = omega arith; early = omega arith })
+    (All-cons IsStep 5 (10 ∷ 20 ∷ 50 ∷ 100 ∷ 200 ∷ 500 ∷ 1000 ∷ 2000 ∷ 5000 ∷ 10000 ∷ 15000 ∷ 30000 ∷ 60000 ∷ 120000 ∷ 300000 ∷ 900000 ∷ 1800000 ∷ 3600000 ∷ 7200000 ∷ 18000000 ∷ 36000000 ∷ 72000000 ∷ 180000000 ∷ []) (record { some = omega arith; early = omega arith })
+    (All-cons IsStep 10 (20 ∷ 50 ∷ 100 ∷ 200 ∷ 500 ∷ 1000 ∷ 2000 ∷ 5000 ∷ 10000 ∷ 15000 ∷ 30000 ∷ 60000 ∷ 120000 ∷ 300000 ∷ 900000 ∷ 1800000 ∷ 3600000 ∷ 7200000 ∷ 18000000 ∷ 36000000 ∷ 72000000 ∷ 180000000 ∷ []) (record { some = omega arith; early = omega arith })
+    (All-cons IsStep 20 (50 ∷ 100 ∷ 200 ∷ 500 ∷ 1000 ∷ 2000 ∷ 5000 ∷ 10000 ∷ 15000 ∷ 30000 ∷ 60000 ∷ 120000 ∷ 300000 ∷ 900000 ∷ 1800000 ∷ 3600000 ∷ 7200000 ∷ 18000000 ∷ 36000000 ∷ 72000000 ∷ 180000000 ∷ []) (record { some = omega arith; early = omega arith })
+    (All-cons IsStep 50 (100 ∷ 200 ∷ 500 ∷ 1000 ∷ 2000 ∷ 5000 ∷ 10000 ∷ 15000 ∷ 30000 ∷ 60000 ∷ 120000 ∷ 300000 ∷ 900000 ∷ 1800000 ∷ 3600000 ∷ 7200000 ∷ 18000000 ∷ 36000000 ∷ 72000000 ∷ 180000000 ∷ []) (record { some = omega arith; early = omega arith })
+    (All-cons IsStep 100 (200 ∷ 500 ∷ 1000 ∷ 2000 ∷ 5000 ∷ 10000 ∷ 15000 ∷ 30000 ∷ 60000 ∷ 120000 ∷ 300000 ∷ 900000 ∷ 1800000 ∷ 3600000 ∷ 7200000 ∷ 18000000 ∷ 36000000 ∷ 72000000 ∷ 180000000 ∷ []) (record { some = omega arith; early = omega arith })
+    (All-cons IsStep 200 (500 ∷ 1000 ∷ 2000 ∷ 5000 ∷ 10000 ∷ 15000 ∷ 30000 ∷ 60000 ∷ 120000 ∷ 300000 ∷ 900000 ∷ 1800000 ∷ 3600000 ∷ 7200000 ∷ 18000000 ∷ 36000000 ∷ 72000000 ∷ 180000000 ∷ []) (record { some = omega arith; early = omega arith })
+    (All-cons IsStep 500 (1000 ∷ 2000 ∷ 5000 ∷ 10000 ∷ 15000 ∷ 30000 ∷ 60000 ∷ 120000 ∷ 300000 ∷ 900000 ∷ 1800000 ∷ 3600000 ∷ 7200000 ∷ 18000000 ∷ 36000000 ∷ 72000000 ∷ 180000000 ∷ []) (record { some = omega arith; early = omega arith })
+    (All-cons IsStep 1000 (2000 ∷ 5000 ∷ 10000 ∷ 15000 ∷ 30000 ∷ 60000 ∷ 120000 ∷ 300000 ∷ 900000 ∷ 1800000 ∷ 3600000 ∷ 7200000 ∷ 18000000 ∷ 36000000 ∷ 72000000 ∷ 180000000 ∷ []) (record { some = omega arith; early = omega arith })
+    (All-cons IsStep 2000 (5000 ∷ 10000 ∷ 15000 ∷ 30000 ∷ 60000 ∷ 120000 ∷ 300000 ∷ 900000 ∷ 1800000 ∷ 3600000 ∷ 7200000 ∷ 18000000 ∷ 36000000 ∷ 72000000 ∷ 180000000 ∷ []) (record { some = omega arith; early = omega arith })
+    (All-cons IsStep 5000 (10000 ∷ 15000 ∷ 30000 ∷ 60000 ∷ 120000 ∷ 300000 ∷ 900000 ∷ 1800000 ∷ 3600000 ∷ 7200000 ∷ 18000000 ∷ 36000000 ∷ 72000000 ∷ 180000000 ∷ []) (record { some = omega arith; early = omega arith })
+    (All-cons IsStep 10000 (15000 ∷ 30000 ∷ 60000 ∷ 120000 ∷ 300000 ∷ 900000 ∷ 1800000 ∷ 3600000 ∷ 7200000 ∷ 18000000 ∷ 36000000 ∷ 72000000 ∷ 180000000 ∷ []) (record { some = omega arith; early = omega arith })
+    (All-cons IsStep 15000 (30000 ∷ 60000 ∷ 120000 ∷ 300000 ∷ 900000 ∷ 1800000 ∷ 3600000 ∷ 7200000 ∷ 18000000 ∷ 36000000 ∷ 72000000 ∷ 180000000 ∷ []) (record { some = omega arith; early = omega arith })
+    (All-cons IsStep 30000 (60000 ∷ 120000 ∷ 300000 ∷ 900000 ∷ 1800000 ∷ 3600000 ∷ 7200000 ∷ 18000000 ∷ 36000000 ∷ 72000000 ∷ 180000000 ∷ []) (record { some = omega arith; early = omega arith })
+    (All-cons IsStep 60000 (120000 ∷ 300000 ∷ 900000 ∷ 1800000 ∷ 3600000 ∷ 7200000 ∷ 18000000 ∷ 36000000 ∷ 72000000 ∷ 180000000 ∷ []) (record { some = omega arith; early = omega arith })
+    (All-cons IsStep 120000 (300000 ∷ 900000 ∷ 1800000 ∷ 3600000 ∷ 7200000 ∷ 18000000 ∷ 36000000 ∷ 72000000 ∷ 180000000 ∷ []) (record { some = omega arith; early = omega arith })
+    (All-cons IsStep 300000 (900000 ∷ 1800000 ∷ 3600000 ∷ 7200000 ∷ 18000000 ∷ 36000000 ∷ 72000000 ∷ 180000000 ∷ []) (record { some = omega arith; early = omega arith })
+    (All-cons IsStep 900000 (1800000 ∷ 3600000 ∷ 7200000 ∷ 18000000 ∷ 36000000 ∷ 72000000 ∷ 180000000 ∷ []) (record { some = omega arith; early = omega arith })
+    (All-cons IsStep 1800000 (3600000 ∷ 7200000 ∷ 18000000 ∷ 36000000 ∷ 72000000 ∷ 180000000 ∷ []) (record { some = omega arith; early = omega arith })
+    (All-cons IsStep 3600000 (7200000 ∷ 18000000 ∷ 36000000 ∷ 72000000 ∷ 180000000 ∷ []) (record { some = omega arith; early = omega arith })
+    (All-cons IsStep 7200000 (18000000 ∷ 36000000 ∷ 72000000 ∷ 180000000 ∷ []) (record { some = omega arith; early = omega arith })
+    (All-cons IsStep 18000000 (36000000 ∷ 72000000 ∷ 180000000 ∷ []) (record { some = omega arith; early = omega arith })
+    (All-cons IsStep 36000000 (72000000 ∷ 180000000 ∷ []) (record { some = omega arith; early = omega arith })
+    (All-cons IsStep 72000000 (180000000 ∷ []) (record { some = omega arith; early = omega arith })
+    (All-cons IsStep 180000000 ([]) (record { some = omega arith; early = omega arith })
+    (All-nil IsStep))))))))))))))))))))))))))
+
+-- ---- where names are cut, and where bars stand
+
+last_within : (k : ℕ) (text : List ℕ) → last_begin k text ≤ k
+unfolding last_begin
+last_within zero text = omega arith
+last_within (suc k) text = here (begins_character (suc k) text) (last_within k text)
+  where
+    here : (t : Bool) → last_begin k text ≤ k → cond t (suc k) (last_begin k text) ≤ suc k
+    here true low = omega arith
+    here false low = omega (arith, low)
+
+pub cut_within : (most : ℕ) (text : List ℕ) → cut_at most text ≤ most
+cut_within most text = omega (arith, last_within (min most (length text)) text)
+
+last_whole : (k : ℕ) (text : List ℕ) → 0 < last_begin k text → begins_character (last_begin k text) text ≡ true
+unfolding last_begin
+last_whole zero text some = absurd (omega (arith, some))
+last_whole (suc k) text some = here (begins_character (suc k) text) refl (last_whole k text) some
+  where
+    here : (t : Bool) → begins_character (suc k) text ≡ t
+        → (0 < last_begin k text → begins_character (last_begin k text) text ≡ true) → 0 < cond t (suc k) (last_begin k text)
+        → begins_character (cond t (suc k) (last_begin k text)) text ≡ true
+    here true is later there = is
+    here false is later there = later there
+
+pub cut_whole : (most : ℕ) (text : List ℕ) → 0 < cut_at most text → begins_character (cut_at most text) text ≡ true
+cut_whole most text some = last_whole (min most (length text)) text some
+
+pub drawn_most : (width : ℕ) → drawn_width width ≤ width
+drawn_most width = most (nat_lt width 20)
+  where
+    most : (t : Bool) → cond t width (width - 6) ≤ width
+    most true = omega arith
+    most false = omega arith
+
+pub bar_within : (f : Frame) (j : Job) → (1000 ≤ x_at f j.span.began) × (x_at f j.span.began + drawn_width (width_of f j) ≤ 15400)
+bar_within f j = (omega arith, omega (arith, drawn_most (width_of f j)))

@@ -1,0 +1,12 @@
+use Rattle.std.proofs.Common.{◌∙◌, ◌++◌}
+use Rattle.std.proofs.lemmas.Result.{on_ok_weaker}
+use Rattle.nl_reports.specs.Picture.{legend_text}
+use Rattle.nl_reports.proofs.picture.append_kind.Goals as goal
+
+pub returns : goal.returns
+returns c =
+    let kind = c.from-kind.ensures ∙ c.place.ensures.value in
+    record {
+      items = on_ok_weaker c.append_parts.result (λ h. h ∙ (λ i. c.args.out.now.items ++ legend_text (kind i) (c.word.ensures i) (c.share_of.ensures.value i)))
+          c.append_parts.ensures.items;
+    }

@@ -1,0 +1,96 @@
+//! What a command does, by the extension of its first output.
+ghost use Rattle.std.specs.Prelude.{◌≡◌, map};
+ghost use Rattle.nl_reports.specs.Work.{is_in, later_work, place, word, work_of};
+
+use crate::kind::{KindRule, kind_of};
+
+/// What a command does.
+#[derive(Clone, Copy, Drop)]
+pub enum Work {
+    Compile,
+    Link,
+    Archive,
+    Generate,
+    Test,
+    Other,
+}
+
+const COMPILED: [&str; 8] = [".o", ".obj", ".lo", ".pch", ".gch", ".pcm", ".bc", ".class"];
+
+const LINKED: [&str; 6] = ["", ".so", ".exe", ".dll", ".dylib", ".wasm"];
+
+const ARCHIVED: [&str; 4] = [".a", ".lib", ".rlib", ".jar"];
+
+const GENERATED: [&str; 14] = [
+    ".c", ".h", ".cc", ".cpp", ".cxx", ".hpp", ".inc", ".def", ".py", ".rs", ".go", ".js", ".json",
+    ".cmake",
+];
+
+const TESTED: [&str; 3] = [".test", ".passed", ".tap"];
+
+/// What a command does whose first output has this name.
+pub fn work_of(name: &[u8]) -> Work
+    ensures value { result ≡ work_of name.now }
+{
+    let extension = kind_of(KindRule::Extension, name);
+    if is_in(extension, COMPILED.as_slice()) {
+        Work::Compile
+    } else if is_in(extension, LINKED.as_slice()) {
+        Work::Link
+    } else if is_in(extension, ARCHIVED.as_slice()) {
+        Work::Archive
+    } else {
+        later_work(extension)
+    }
+}
+
+fn later_work(extension: &[u8]) -> Work
+    ensures { result ≡ later_work extension.now }
+{
+    if is_in(extension, GENERATED.as_slice()) {
+        Work::Generate
+    } else if is_in(extension, TESTED.as_slice()) {
+        Work::Test
+    } else {
+        Work::Other
+    }
+}
+
+fn is_in(extension: &[u8], words: &[&str]) -> bool
+    ensures { result ≡ is_in extension.now (map (λ w. w.now) words.now) }
+{
+    for word in words {
+        if word.as_bytes() == extension {
+            return true;
+        }
+    }
+    false
+}
+
+/// The word for it in a picture.
+pub(crate) fn word(work: Work) -> &'static [u8]
+    ensures { result.now ≡ word work }
+{
+    match work {
+        Work::Compile => b"compile",
+        Work::Link => b"link",
+        Work::Archive => b"archive",
+        Work::Generate => b"generate",
+        Work::Test => b"test",
+        Work::Other => b"other",
+    }
+}
+
+/// Where it stands among all.
+pub(crate) fn place(work: Work) -> u64
+    ensures value { result ≡ place work }
+{
+    match work {
+        Work::Compile => 0,
+        Work::Link => 1,
+        Work::Archive => 2,
+        Work::Generate => 3,
+        Work::Test => 4,
+        Work::Other => 5,
+    }
+}
