@@ -12,6 +12,7 @@ import shutil
 import sys
 
 from log_format import as_version, command_hash, command_hash_v7
+from log_lines import drawn
 from trials import main, read, run, write
 
 HEADER = b"# ninja log v5\n"
@@ -235,24 +236,12 @@ ONE_TRACED = (
 )
 INPUT_TRACED, FILE_TRACED = ONE_TRACED % (b"ab", b"input", b"input"), ONE_TRACED % (b"ff", b"file", b"file")
 FOUR_TRACED, NEW_TRACED = ONE_TRACED % (b"72274e7a30810c7b", b"a", b"a"), ONE_TRACED % (b"8072fc2ac19230e4", b"out", b"out")
-# Of a picture: so many commands, in so many seconds; a line at each tenth; the bars; where the curve stands, and the legend.
-PICTURED = (
-    b'<svg xmlns="http://www.w3.org/2000/svg" width="1600" height="%d" viewBox="0 0 16000 %d" font-family="sans-serif" font-size="120">\n'
-    b'<rect width="100%%" height="100%%" fill="#fff"/>\n<text x="600" y="260" font-size="180">%d commands in 0.00%d s</text>\n%b'
-    b'<polygon fill="#ccc" points="600,2000 %b15000,2000"/>\n<text x="550" y="1100" text-anchor="end">1</text>\n%b</svg>\n'
-)
-TICK = b'<path stroke="#ddd" stroke-width="10" d="M%d 520V2000"/><text x="%d" y="480" text-anchor="middle">0.00%d s</text>\n'
-# No time passes, so each line stands for the one moment, and nothing runs.
-NOTHING_PICTURED = PICTURED % (250, 2500, 0, 0, b"".join(TICK % (at, at, 0) for at in range(600, 15001, 1440)), b"".join(b"%d,2000 " % at for at in range(600, 15001, 30)), b"")
+NOTHING_PICTURED = drawn([], [])
 
 
 def pictured(name):
-    """The picture of one command of 1 ms. Its bar is as wide as all of the build, and it has ended at the last moment alone."""
-    ticks = b"".join(TICK % (at, at, at == 15000) for at in range(600, 15001, 1440))
-    bar = b'<rect x="600" y="600" width="14400" height="140" fill="hsl(0,50%%,60%%)"><title>%b\n0.001 s from 0.000 s</title></rect>\n' % name
-    curve = b"".join(b"%d,1000 " % at for at in range(600, 15000, 30)) + b"15000,2000 "
-    legend = b'<rect x="600" y="2300" width="140" height="140" fill="hsl(0,50%,60%)"/><text x="800" y="2420">no extension</text>\n'
-    return PICTURED % (270, 2700, 1, 1, ticks + bar, curve, legend)
+    """The picture of one command of 1 ms."""
+    return drawn([(0, 1, None, [name])], [0])
 
 
 INPUT_PICTURED, FILE_PICTURED, FOUR_PICTURED, NEW_PICTURED = map(pictured, (b"input", b"file", b"a", b"out"))

@@ -522,7 +522,8 @@ def try_wide(trials, program, room):
     pictured = drawn([(0, 1000, it, [wide_name(it)]) for it in range(WIDE)], range(WIDE))
     for word, pieces in ("trace", list(traced(1, wide_traced()))), ("picture", [pictured]):
         size, wanted = sum(map(len, pieces)), sum_of(pieces)
-        trials.check(f"{large.what}: the text of {word} is half as long as what it may take", size > SPARE * 500, f"{size} bytes")
+        # The commands take nine tenths of what it may take.
+        trials.check(f"{large.what}: the text of {word} is a quarter as long as what it may take", size > SPARE * 250, f"{size} bytes")
         ended = streamed(held([program, word, large.log], SPARE))
         trials.want(f"{large.what}: {word} in the memory of its commands", ended, (0, wanted, b""))
         _, _, _, whole = left_early([program, word, large.log], size)

@@ -247,7 +247,7 @@ def trace_of(text, version=None):
     return json.dumps(events_of(text, version), sort_keys=True, separators=(",", ":"), ensure_ascii=False).encode()
 
 
-def name_in_xml(name):
+def name_in_xml(name, most=100):
     """A name in the text of a picture: what isn't UTF-8 and what XML can't have is U+FFFD, and of a long one the beginning stands."""
 
     def shown(part):
@@ -256,7 +256,58 @@ def name_in_xml(name):
             text = text.replace(mark, entity)
         return text.encode()
 
-    return shown(name) if len(shown(name)) <= 200 else shown(name[:40]) + b".."
+    return shown(name) if len(shown(name)) <= most else shown(name[:20]) + b".."
+
+
+# What a command does, by the extension of its first output, in the order of the legend.
+WORKS = {
+    "compile": ".o .obj .lo .pch .gch .pcm .bc .class".split(),
+    "link": ["", *".so .exe .dll .dylib .wasm".split()],
+    "archive": ".a .lib .rlib .jar".split(),
+    "generate": ".c .h .cc .cpp .cxx .hpp .inc .def .py .rs .go .js .json .cmake".split(),
+    "test": ".test .passed .tap".split(),
+    "other": [],
+}
+SECOND, MINUTE, HOUR = 1000, 60_000, 3_600_000
+STEPS = [
+    *(digit * 10**zeros for zeros in range(4) for digit in (1, 2, 5)), 10 * SECOND, 15 * SECOND, 30 * SECOND,
+    *(it * MINUTE for it in (1, 2, 5, 15, 30)), *(it * HOUR for it in (1, 2, 5, 10, 20, 50, 100)),
+]
+
+
+STYLE = (
+    "svg{fill:#222;background:#fff}.p{fill:#fff}.m{fill:#666}.g{stroke:#ddd;stroke-width:10}.q{fill:#cfd8e3}.t{fill:#111}.t text{pointer-events:none}"
+    ".k0{fill:#56b4e9}.k1{fill:#e69f00}.k2{fill:#f0e442}.k3{fill:#009e73}.k4{fill:#cc79a7}.k5{fill:#bbb}"
+    "@media(prefers-color-scheme:dark){svg{fill:#eee;background:#1b1b1b}.p{fill:#1b1b1b}.m{fill:#aaa}.g{stroke:#444}.q{fill:#3b4656}}"
+)
+
+
+def work_of(name):
+    """Where in the legend a command of this output stands."""
+    extension = kind_of("extension", name).decode("latin-1")
+    return next((at for at, those in enumerate(WORKS.values()) if extension in those), len(WORKS) - 1)
+
+
+def in_words(time):
+    """A time in two units at most; what is less is dropped."""
+    if time == 0:
+        return "0 s"
+    if time < SECOND:
+        return f"{time} ms"
+    if time < MINUTE:
+        return f"{time // 100 / 10:g} s"
+    unit, small, first, second = (MINUTE, SECOND, "min", "s") if time < HOUR else (HOUR, MINUTE, "h", "min")
+    rest = time % unit // small
+    return f"{time // unit} {first}" + (f" {rest} {second}" if rest else "")
+
+
+def cut(name, most):
+    """The last part of a name, of which so many bytes at most stand, of whole characters."""
+    text = name.rsplit(b"/", 1)[-1].decode(errors="replace").encode()
+    if len(text) <= most:
+        return name_in_xml(text, 5 * len(text))
+    begun = text[: most - 1].decode(errors="ignore").encode()
+    return name_in_xml(begun, 5 * len(begun)) + "\u2026".encode()
 
 
 def picture_of(text, version=None):
@@ -267,55 +318,65 @@ def picture_of(text, version=None):
 
 
 def drawn(commands, lanes, taken=None):
-    """The picture of commands in their lanes, in tenths of a pixel: the build is 14,400 wide, from 600 on. A command is its START, its END,
+    """The picture of commands in their lanes, in tenths of a pixel: the build is 14,400 wide, from 1000 on. A command is its START, its END,
     anything, and its outputs. `taken`: how many outputs of the build later ones may have taken, if it was found again."""
-    times, out, short = {}, [], collections.Counter()
+    out, short, times = [], collections.Counter(), [0] * len(WORKS)
     began, top = commands[0][0] if commands else 0, max(lanes, default=0)
     wall = max([max(it[:2]) for it in commands], default=0) - began
     for start, end, _, names in commands:
-        kind = kind_of("extension", names[0])
-        times[kind] = times.get(kind, 0) + max(0, end - start)
-    # The nine that took the longest; equal ones stand in the order of first appearance.
-    known = sorted(times, key=lambda it: -times[it])[:9]
-    foot = 2000 + 160 * top
-    height = foot + 300 + 200 * (len(known) + 1)
+        times[work_of(names[0])] += max(0, end - start)
+    pitch = 220 if top < 64 else max(1, 8000 // (top + 1))
+    high, foot = pitch - pitch // 8, 1100 + pitch * (top + 1) + 1200
+    tall = foot + 600 + 180 * (min(10, len(commands)) + 1)
+    tenths = sum(times) * 10 // max(wall, 1)
+    title = "%d command%s in %s, %d.%d at a time" % (len(commands), "" if len(commands) == 1 else "s", in_words(wall), *divmod(tenths, 10))
     out.append(
-        '<svg xmlns="http://www.w3.org/2000/svg" width="1600" height="%d" viewBox="0 0 16000 %d" font-family="sans-serif" font-size="120">\n'
-        '<rect width="100%%" height="100%%" fill="#fff"/>\n<text x="600" y="260" font-size="180">%d commands in %d.%03d s</text>\n'
-        % (height // 10, height, len(commands), wall // 1000, wall % 1000)
+        '<svg xmlns="http://www.w3.org/2000/svg" width="1600" height="%d" viewBox="0 0 16000 %d" role="img" aria-labelledby="t" font-family="sans-serif"'
+        ' font-size="120">\n<title id="t">%s</title>\n' % (tall // 10, tall, title)
     )
+    out.append("<style>%s</style>\n" % STYLE)
+    out.append('<rect class="p" width="100%%" height="100%%"/>\n<text x="1000" y="380" font-size="220">%s</text>\n' % title)
     if taken is not None:
-        out.append('<text x="15000" y="260" text-anchor="end">found again: later builds may have taken %d of its outputs</text>\n' % taken)
-    for at in range(11):
-        line = '<path stroke="#ddd" stroke-width="10" d="M%d 520V%d"/><text x="%d" y="480" text-anchor="middle">%d.%03d s</text>\n'
-        out.append(line % (600 + at * 1440, foot, 600 + at * 1440, *divmod(at * wall // 10, 1000)))
-    start_of = '<rect x="%d" y="%d" width="%d" height="140" fill="hsl(%d,50%%,60%%)"><title>'
+        out.append('<text class="m" x="15400" y="380" text-anchor="end">found again: later builds may have taken %d of its outputs</text>\n' % taken)
+    for at, (word, time) in enumerate(zip(WORKS, times)):
+        x = 1000 + 1800 * at
+        line = '<rect class="k%d" x="%d" y="540" width="140" height="140"/><text x="%d" y="655">%s %d %%</text>\n'
+        out.append(line % (at, x, x + 200, word, time * 100 // max(1, sum(times))))
+    step = next(it for it in STEPS if wall <= 12 * it)
+    for at in range(0, wall + 1, step):
+        x = 1000 + at * 14400 // max(wall, 1)
+        out.append('<path class="g" d="M%d 1000V%d"/><text class="m" x="%d" y="950" text-anchor="middle">%s</text>\n' % (x, foot, x, in_words(at)))
+    out.append('<g class="t" font-size="110">\n')
+    start_of = '<rect class="k%d" x="%d" y="%d" width="%d" height="%d"><title>'
     for (start, end, _, names), lane in zip(commands, lanes):
-        kind = kind_of("extension", names[0])
-        place = known.index(kind) if kind in known else 9
-        x, took = 600 + (start - began) * 14400 // max(wall, 1), max(0, end - start)
-        width = took * 14400 // max(wall, 1)
+        x, until = (1000 + (it - began) * 14400 // max(wall, 1) for it in (start, max(start, end)))
+        place, width, y = work_of(names[0]), until - x, 1100 + pitch * lane
         if width < 5:
             short[lane, x // 10, place] += 1
             continue
         more = " and %d more" % (len(names) - 1) if len(names) > 1 else ""
-        times = *divmod(took, 1000), *divmod(start - began, 1000)
-        end_of = "%s\n%d.%03d s from %d.%03d s</title></rect>\n" % (more, *times)
-        out += [start_of % (x, 600 + 160 * lane, width, place * 36), name_in_xml(names[0]), end_of]
+        told = *divmod(max(0, end - start), 1000), *divmod(start - began, 1000)
+        end_of = "%s\n%d.%03d s from %d.%03d s</title></rect>\n" % (more, *told)
+        out += [start_of % (place, x, y, width if width < 20 else width - 6, high), name_in_xml(names[0]), end_of]
+        room = min(22, max(0, width - 80) // 70)
+        if room >= 4 and top < 64:
+            out += ['<text x="%d" y="%d">' % (x + 40, y + 135), cut(names[0], room), "</text>\n"]
     for (lane, pixel, place), count in sorted(short.items(), reverse=True):
-        out.append((start_of + "%d short</title></rect>\n") % (pixel * 10, 600 + 160 * lane, 10, place * 36, count))
-    points, starts, ends = "", [it[0] for it in commands], sorted(max(it[:2]) for it in commands)
-    for at in range(481):
+        out.append((start_of + "%d short</title></rect>\n") % (place, pixel * 10, 1100 + pitch * lane, 10, high, count))
+    curve, starts, ends = "", [it[0] for it in commands], sorted(max(it[:2]) for it in commands)
+    for at in range(480):
         moment = began + at * wall // 480
         count = bisect.bisect(starts, moment) - bisect.bisect(ends, moment)
-        points += "%d,%d " % (600 + 30 * at, foot - count * 1000 // (top + 1))
-    out.append('<polygon fill="#ccc" points="600,%d %s15000,%d"/>\n' % (foot, points, foot))
-    out.append('<text x="550" y="%d" text-anchor="end">%d</text>\n' % (foot - 900, top + 1))
-    for place, kind in enumerate([*known, None] if len(known) == 9 else known):
-        y = foot + 300 + 200 * place
-        line = '<rect x="600" y="%d" width="140" height="140" fill="hsl(%d,50%%,60%%)"/><text x="800" y="%d">'
-        name = b"others" if kind is None else name_in_xml(kind) if kind else b"no extension"
-        out += [line % (y, place * 36, y + 120), name, "</text>\n"]
+        curve += "V%dH%d" % (foot - count * 800 // (top + 1), 1030 + 30 * at)
+    out.append('</g>\n<path class="q" d="M1000 %d%sV%dz"/>\n' % (foot, curve, foot))
+    for y, told in ((foot - 720, "%d at a time" % (top + 1)), (foot, "0")):
+        out.append('<text class="m" x="950" y="%d" text-anchor="end">%s</text>\n' % (y, told))
+    out.append('<text x="1000" y="%d">The commands that took the longest:</text>\n' % (foot + 600))
+    slow = sorted(commands, key=lambda it: -max(0, it[1] - it[0]))[:10]
+    for at, (start, end, _, names) in enumerate(slow):
+        y = foot + 780 + 180 * at
+        line = '<text x="1900" y="%d" text-anchor="end">%s</text><text x="2050" y="%d">'
+        out += [line % (y, in_words(max(0, end - start)), y), name_in_xml(names[0]), "</text>\n"]
     return b"".join(it if isinstance(it, bytes) else it.encode() for it in [*out, "</svg>\n"])
 
 

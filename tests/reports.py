@@ -5,13 +5,14 @@
 
 What each has to print is worked out here from the page and docs/FORMAT.md: the entries of the last build, each command once with its time,
 dates, and two logs compared. `builds` and `summary` print what is worked out by hand, and so is the JSON of `trace`, which Python's reader reads;
-`picture` draws as many bars as are counted by hand, in XML that Python's reader reads, and a browser too, if one is there;
+`picture` draws as many bars as are counted by hand, in XML that Python's reader reads, and a browser and rsvg too, if they are there;
 the log of a real build is told and drawn too, if Ninja is there. A script that can't do its work has to print nothing
 and to end with another status than 0: where the log is missing, is none, or can't be read, where there is no room for its files, and where
 these may grow to so many bytes and no further. Each awk that is there is tried: mawk, gawk, that of busybox and the one true awk. Wants
 GNU's date, and iconv.
 """
 import datetime
+import heapq
 import itertools
 import json
 import os
@@ -21,6 +22,7 @@ import shutil
 import signal
 import sys
 import xml.etree.ElementTree as ElementTree
+import zlib
 
 from examples import read_page
 from log_format import HEADER, Log, as_version, line_of
@@ -371,24 +373,149 @@ def lanes_that_fail(events):
     return both + [it for it in bars if it[2] > max(most, 1)]
 
 
+class Drawn:
+    """A picture by its parts: its bars, each by where it begins and ends, its lane's place, and its title; the names in bars; the axis; all texts."""
+
+    def __init__(self, picture):
+        root = ElementTree.fromstring(picture)
+        self.name, self.wide, self.tall = root[0].text, *(int(it) for it in root.get("viewBox").split()[2:])
+        group = root.find(f"{SVG}g")
+        box = lambda it: (int(it.get("x")), int(it.get("x")) + int(it.get("width")), int(it.get("y")), it.find(f"{SVG}title").text)
+        self.bars = [box(it) for it in group if it.tag == f"{SVG}rect"]
+        self.feet = [int(it.get("y")) + int(it.get("height")) for it in group if it.tag == f"{SVG}rect"]
+        self.names = [(int(it.get("x")), int(it.get("y")), it.text) for it in group if it.tag == f"{SVG}text"]
+        self.axis = [it.text for it in root.findall(f"{SVG}text") if it.get("text-anchor") == "middle"]
+        self.texts = [it.text for it in root.iter(f"{SVG}text")]
+        self.labelled = root[0].tag == f"{SVG}title" and root.get("aria-labelledby") == root[0].get("id") and root.get("role") == "img"
+
+
 def bars_of(picture):
-    """The bars of a picture, each by where it begins and ends, its lane's place, and its title."""
-    tops = [it for it in ElementTree.fromstring(picture) if it.tag == f"{SVG}rect" and it.find(f"{SVG}title") is not None]
-    return [(int(it.get("x")), int(it.get("x")) + int(it.get("width")), int(it.get("y")), it.find(f"{SVG}title").text) for it in tops]
+    return Drawn(picture).bars
+
+
+def milliseconds(text):
+    """A time in words as a number."""
+    units = {"ms": 1, "s": 1000, "min": 60_000, "h": 3_600_000}
+    words = text.split()
+    return round(sum(float(number) * units[unit] for number, unit in zip(words[::2], words[1::2])))
+
+
+# How far the lines of an axis may stand apart, in milliseconds, by docs/CLI.md.
+ROUND = {digit * 10**zeros * unit for unit in (1, 3_600_000) for zeros in range(8) for digit in (1, 2, 5)} | {1000 * it for it in (15, 30, 60, 120, 300, 900, 1800)}
 
 
 def want_drawn(trials, what, picture, count, short):
     """A picture is XML with so many bars of one command, and so many of short commands, which tell their number."""
     try:
-        bars = bars_of(picture)
-    except ElementTree.ParseError as why:
+        drawn = Drawn(picture)
+    except (ElementTree.ParseError, AttributeError) as why:
         return trials.check(what, False, why)
-    joined = [it for it in bars if re.fullmatch(r"\d+ short", it[3])]
-    long = [it for it in bars if it not in joined]
-    both = [(one, other) for at, one in enumerate(long) for other in long[:at] if one[2] == other[2] and one[0] < other[1] and other[0] < one[1]]
+    bars = drawn.bars
+    joined, long = ([it for it in bars if bool(re.fullmatch(r"\d+ short", it[3])) == is_short] for is_short in (True, False))
+    both = [(one, other) for one, other in itertools.pairwise(sorted(long, key=lambda it: (it[2], it[0]))) if one[2] == other[2] and one[1] > other[0]]
     trials.want(f"{what}: bars that lie over each other", both, [])
     trials.want(f"{what}: the titles that aren't two lines", [it for it in long if it[3].count("\n") != 1], [])
+    outside = [it for it, foot in zip(bars, drawn.feet) if not (1000 <= it[0] <= it[1] <= 15410 and 1000 <= it[2] <= foot <= drawn.tall)]
+    trials.want(f"{what}: bars out of bounds", (outside, drawn.labelled), ([], True))
+    ticks = [milliseconds(it) for it in drawn.axis]
+    steps = {later - sooner for sooner, later in itertools.pairwise(ticks)}
+    trials.check(f"{what}: round ticks", ticks[0] == 0 and len(ticks) <= 13 and len(steps) <= 1 and steps <= ROUND, drawn.axis)
+    # A name stands in the bar that it begins.
+    by_place = {(it[0] + 40, it[2] + 135): it for it in long}
+    torn = [it for it in drawn.names if not re.split("\u2026$", it[2])[0] in by_place.get(it[:2], ("", "", "", ""))[3]]
+    wide = [it for it in long if it[1] - it[0] >= 1700]
+    named = {it[:2] for it in drawn.names}
+    bare = [it for it in wide if (it[0] + 40, it[2] + 135) not in named] if len({it[2] for it in bars}) <= 64 else []
+    trials.want(f"{what}: names that aren't those of their bars, and wide bars without one", (torn, bare), ([], []))
     return trials.want(f"{what}: bars", (len(long), sorted(int(it[3].split()[0]) for it in joined)), (count, short))
+
+
+# How long a picture may take to be shown, in seconds of a processor.
+SHOWN = 20
+SIZES = {1: 1, 20: 4, 566: 2, 20_000: 8, 300_000: 64}
+
+
+def build_of(count, lanes):
+    """A log of one build: so many commands, so many at a time, of odd lengths."""
+    lines, ends = [], [(0, it) for it in range(lanes)]
+    for it in range(count):
+        start, lane = heapq.heappop(ends)
+        end = start + (37 * it % 101 + 1) * (20 if it % 97 == 0 else 1)
+        heapq.heappush(ends, (end, lane))
+        lines.append((end, line_of(b"sub/folder/f\xc3\xa9%d.%s" % (it, (b"o", b"c", b"a", b"so", b"test", b"html")[it % 6]), (start, end, NANO, it))))
+    return HEADER + b"".join(it for _, it in sorted(lines))
+
+
+def processor(words):
+    """The status of a command, what it prints, and the seconds of a processor that it and its children took."""
+    before = resource.getrusage(resource.RUSAGE_CHILDREN)
+    ended = run(words)
+    after = resource.getrusage(resource.RUSAGE_CHILDREN)
+    return ended, after.ru_utime + after.ru_stime - before.ru_utime - before.ru_stime
+
+
+def pixels_of(path):
+    """The width, the height, and the set of colours of a PNG."""
+    image = read(path)
+    at, parts, wide, tall, depth = 8, b"", 0, 0, 0
+    while at < len(image):
+        size, kind = int.from_bytes(image[at : at + 4], "big"), image[at + 4 : at + 8]
+        body = image[at + 8 : at + 8 + size]
+        if kind == b"IHDR":
+            wide, tall, depth = int.from_bytes(body[:4], "big"), int.from_bytes(body[4:8], "big"), 4 if body[9] == 6 else 3
+        parts += body if kind == b"IDAT" else b""
+        at += 12 + size
+    rows, row, raw, colours = wide * depth, bytearray(wide * depth), zlib.decompress(parts), set()
+    for y in range(tall):
+        how, line = raw[y * (rows + 1)], bytearray(raw[y * (rows + 1) + 1 : (y + 1) * (rows + 1)])
+        for x in range(rows) if how else ():
+            left, up, slant = line[x - depth] if x >= depth else 0, row[x], row[x - depth] if x >= depth else 0
+            near = min((left, up, slant), key=lambda it: abs(left + up - slant - it)) if how == 4 else 0
+            line[x] = (line[x] + (0, left, up, (left + up) // 2, near)[how]) % 256
+        row = line
+        colours |= {bytes(line[x : x + 3]) for x in range(0, rows, depth)}
+    return wide, tall, colours
+
+
+def try_shown(trials, program, room):
+    """Pictures of builds of many sizes, as Chromium shows them, light and dark, and rsvg."""
+    browser, rsvg = next((it for it in BROWSERS if shutil.which(it)), None), shutil.which("rsvg-convert")
+    if browser is None:
+        trials.skip("pictures by a browser", f"none of {', '.join(BROWSERS)} is there")
+    if rsvg is None:
+        trials.skip("pictures by rsvg", "rsvg-convert isn't there")
+    for count, lanes in SIZES.items():
+        about = f"{count:,} commands"
+        write(f"{room}/LOG", build_of(count, lanes))
+        status, out, err = run([program, "picture", f"{room}/LOG"])
+        trials.want(f"{about}: picture", (status, err), (0, b""))
+        write(f"{room}/build.svg", out)
+        drawn = Drawn(out)
+        trials.check(f"{about}: how many there are", drawn.name.startswith(f"{count} command"), drawn.name)
+        told = [re.fullmatch(r"(\d+) short", it[3]) for it in drawn.bars]
+        want_drawn(trials, about, out, sum(it is None for it in told), sorted(int(it[1]) for it in told if it))
+        trials.want(f"{about}: those in its bars", sum(int(it[1]) if it else 1 for it in told), count)
+        if rsvg:
+            ended, took = processor([rsvg, "-z", "0.5", "-o", f"{room}/rsvg.png", f"{room}/build.svg"])
+            trials.want(f"{about}: rsvg", ended, (0, b"", b""))
+            trials.check(f"{about}: the time of rsvg", took <= SHOWN, took)
+            want_shown(trials, f"{about}: by rsvg", f"{room}/rsvg.png", drawn.tall // 10, b"\xff\xff\xff")
+        for mode, page in ((1, b"\xff\xff\xff"), (0, b"\x1b\x1b\x1b")) if browser else ():
+            tall = min(drawn.tall // 10, 2000)
+            words = [browser, "--headless", "--no-sandbox", "--disable-gpu", "--hide-scrollbars", f"--user-data-dir={room}/shown", f"--window-size=1600,{tall}", "--force-device-scale-factor=0.5"]
+            words += [f"--blink-settings=preferredColorScheme={mode}", f"--screenshot={room}/shown.png", f"file://{room}/build.svg"]
+            ended, took = processor(words)
+            trials.want(f"{about}: a browser, {mode}", ended[0], 0)
+            trials.check(f"{about}: the time of a browser, {mode}", took <= SHOWN, took)
+            want_shown(trials, f"{about}: by a browser, {mode}", f"{room}/shown.png", tall, page)
+    return None
+
+
+def want_shown(trials, what, path, tall, page):
+    """An image, half as large, has this height, the colour of the page, and that of commands that compile."""
+    wide, high, colours = pixels_of(path)
+    trials.check(f"{what}: its size", wide == 800 and abs(2 * high - tall) <= 2, (wide, high, tall))
+    return trials.check(f"{what}: its colours", {page, b"\x56\xb4\xe9"} <= colours, sorted(colours)[:9])
 
 
 def try_browser(trials, program, room):
@@ -400,7 +527,8 @@ def try_browser(trials, program, room):
     write(f"{room}/build.svg", run([program, "picture", f"{room}/LOG"])[1])
     words = [browser, "--headless", "--no-sandbox", "--disable-gpu", f"--user-data-dir={room}/browser", "--dump-dom", f"file://{room}/build.svg"]
     status, shown, _ = run(words)
-    trials.want("a picture in a browser: how it ends, and its titles", (status, shown.count(b"<title>"), b"parsererror" in shown), (0, len(NAMES), False))
+    # One of each bar, and that of the picture.
+    trials.want("a picture in a browser: how it ends, and its titles", (status, len(re.findall(b"<title[ >]", shown)), b"parsererror" in shown), (0, len(NAMES) + 1, False))
     return None
 
 
@@ -566,6 +694,7 @@ def trial(trials, program, room):
     try_graphs(trials, program, room)
     try_ninja_graph(trials, program, room)
     try_many(trials, program, room)
+    try_shown(trials, program, room)
     try_browser(trials, program, room)
     for awk, words in AWKS.items():
         if shutil.which(words[0]) is None or run([*words, "BEGIN {}"])[0] != 0:
