@@ -6,6 +6,8 @@
 #   suites  those of Debian in whose lists it looks for sources
 top=$(cd "$here/../.." && pwd)
 room=$(mktemp -d)
+# Another user's builds are tried, too.
+chmod 755 "$room"
 trap 'rm -rf "$room"' EXIT
 passed=0
 failed=0

@@ -225,16 +225,17 @@ def apart(one, other):
 
 
 def not_withdrawn(text):
-    """Each entry's place and line, but for those that are the entry before their name's intent."""
-    at, last, before = 0, {}, {}
+    """Each entry's place and line, but for those over an intent that stood before it: as the entry, or as an intent that no command followed."""
+    at, since = 0, {}  # of each name the entry that stood, and the intents behind it
     for line in text.split(b"\n"):
         fields = line.split(b"\t")
         if len(fields) == 5:
-            if before.get(fields[3]) != line:
+            stood = since.setdefault(fields[3], [])
+            if len(stood) < 2 or line not in stood:
                 yield at, line
-            if fields[0] == fields[1] and fields[2] == b"0":
-                before[fields[3]] = last.get(fields[3])
-            last[fields[3]] = line
+            if fields[0] != fields[1] or fields[2] != b"0":
+                stood.clear()
+            stood.append(line)
         at += len(line) + 1
 
 
@@ -300,12 +301,15 @@ class Differ:
 
         def run(*words):
             text, file = sides[1].bytes(LOG) or b"", self.file(sides[1])
-            answers = [it.run(words) for it in sides]
+            # While it is open, no other file has its number.
+            with open(os.devnull if file is None else sides[1].path(LOG), "rb"):
+                answers = [it.run(words) for it in sides]
+                is_same = file == self.file(sides[1])
             self.commands += 1
             # A falling end begins a build, for whoever reports of them, but for that of a line that was withdrawn. A command may rewrite the log.
             more = sides[1].bytes(LOG) or b""
             ends = [int(line.split(b"\t")[1]) for at, line in not_withdrawn(more) if at >= len(text)]
-            if text.endswith(b"\n") and more.startswith(text) and file == self.file(sides[1]) and not project.has_inner and not project.is_remade and ends != sorted(ends):
+            if text.endswith(b"\n") and more.startswith(text) and is_same and not project.has_inner and not project.is_remade and ends != sorted(ends):
                 return f"after {words}: an end falls within a build: {ends}"
             tick(folder)
             difference = self.compare(sides, words, answers)
