@@ -30,7 +30,7 @@ WORDS = {
     "CHANGELOG.md": 1500,
     "CONTRIBUTING.md": 2500,
     "docs/ARCHITECTURE.md": 1000,
-    "docs/CLI.md": 7250,
+    "docs/CLI.md": 7000,
     "docs/DAMAGE.md": 800,
     "docs/DECISIONS.md": 2500,
     "docs/DESIGN.md": 1500,
