@@ -1,6 +1,6 @@
 """Who may read and write a log that the library's writer writes anew: for clib.py.
 
-Wanted is what docs/LIBRARY.md says: the new file has the rights of the old one as far as the process may give them, and nobody but its owner may do
+Wanted is what docs/SECURITY.md says: the new file has the rights of the old one as far as the process may give them, and nobody but its owner may do
 with it what he might not with the old one. That is asked for each of several persons, by the rules of POSIX for a mode and for an ACL.
 """
 import os
