@@ -7,29 +7,29 @@
  * Part 2 writes a log on disk. The log's text and its table are proved, and the
  *   C code below lib/ that carries them to files is tested.
  *
- * Three words of this page: an output is distrusted if a damaged line may be
- *   about it, and no entry of it follows. A writer is wary if its open drops
- *   the entries of such outputs. A place is the number of an output, from 0, in
- *   the order in which the outputs first appear in the log.
+ * Three words: an output is distrusted if a damaged line may be about it, and
+ *   no entry of it follows. A writer is wary if its open drops the entries of
+ *   such outputs. A place is the number of an output, from 0, in the order in
+ *   which the outputs first appear in the log.
  *
  * Status: each call answers one. No call prints, aborts, sets a signal's
  *   handler or has global state, but for two random numbers under which names
  *   are hashed. Unless a call says more, any status but NLOG_OK leaves the
  *   handle, and each thing that the call would have filled, as it was.
- * Pointers: none may be NULL, but one to 0 bytes, an nlog_writer, and what a
- *   call says. What a call fills must not overlap anything else that is passed
- *   to it. Nothing that is passed is kept when the call returns. No pointer
- *   into the library is handed out, but the texts of nlog_writer_failed_path
+ * Pointers: none may be NULL, except one to 0 bytes, an nlog_writer, or where a
+ *   call allows it. What a call fills must not overlap anything else that is
+ *   passed to it. Nothing that is passed is kept when the call returns. No
+ *   pointer into the library is handed out, except by nlog_writer_failed_path
  *   and nlog_writer_failed_call.
  * Memory: from malloc, freed by nlog_free and nlog_writer_free. If it gives
  *   none, the call answers NLOG_OUT_OF_MEMORY.
- * Threads: a call whose handle or writer is const only reads. Any number of
- *   these may run on one at once. Each other call has it alone. Make no call in
- *   a signal handler, or in the forked child of a process with threads.
- * Fork: a child may go on with each handle and with each closed writer. A
- *   writer whose log is open, or broken, stays the parent's. In the child each
- *   call on it that has a status answers NLOG_FORKED, and does nothing.
- *   nlog_writer_free frees the child's part. The parent's log stays locked.
+ * Threads: a call whose handle or writer is const only reads, and any number of
+ *   these can run on one at once. Each other call must have it alone. Make no
+ *   call in a signal handler, or in the forked child of a process with threads.
+ * Fork: a child can go on with each handle and with each closed writer. A
+ *   writer that is open, or broken, stays the parent's. In the child each call
+ *   on it that has a status answers NLOG_FORKED, and does nothing.
+ *   nlog_writer_free frees the child's part, and the parent's log stays locked.
  * Units: lengths are in bytes, and start and end in milliseconds from the
  *   start of the build. Each mtime is in the writer's unit (Ninja 1.12:
  *   nanoseconds since 1970; 0 for no file). Names and commands are bytes, of no
@@ -100,8 +100,8 @@ static inline const char *nlog_status_name(nlog_status status) {
   return "NLOG_?";
 }
 
-/* What a status says, in words, as "out of memory", with a NUL behind as much
- * of it as there is room for. The length of the whole text comes back. */
+/* A status in words, as "out of memory": as much of it as there is room for,
+ * and a NUL. The length of the whole text comes back. */
 size_t nlog_status_text(nlog_status status, char *text, size_t room);
 
 /* The version of the library. */
@@ -136,10 +136,10 @@ typedef struct nlog_facts {
   uint64_t unique;   /* outputs */
   uint64_t skipped;  /* whole lines after the first that are no entries */
   uint64_t whole;    /* the bytes up to and with the last newline */
-  uint64_t torn;     /* the bytes behind it, of a line that a crash cut off */
+  uint64_t torn;     /* the bytes after it, of a line that a crash cut off */
 } nlog_facts;
 
-/* Loads the log that the bytes are, in time and memory by their length. The
+/* Loads the log that the bytes are. Time and memory grow with their length. The
  * handle then holds this log, and one that it held before is freed. No bytes
  * are an empty log.
  * NLOG_NOT_A_LOG, NLOG_OTHER_VERSION, NLOG_OUT_OF_MEMORY: the handle holds what
@@ -157,8 +157,8 @@ nlog_status nlog_get_facts(const nlog *log, nlog_facts *facts);
 nlog_status nlog_count(const nlog *log, size_t *count);
 
 /* The last entry of the output at a place. Its name is written into the buffer,
- * with no NUL behind it, and the name's length into name_len. A buffer of
- * NLOG_MAX_NAME bytes is always enough.
+ * without a NUL, and the name's length into name_len. A buffer of NLOG_MAX_NAME
+ * bytes is always enough.
  * NLOG_NO_ROOM: the entry and name_len are filled, the buffer is as it was.
  * NLOG_NOT_FOUND: there are no more than `place` outputs. */
 nlog_status nlog_at(const nlog *log, size_t place, nlog_entry *entry,
@@ -178,7 +178,7 @@ nlog_status nlog_read_line(uint32_t version, const char *line, size_t len,
 typedef enum nlog_damage_kind {
   NLOG_SKIPPED = 0, /* a whole line that is no entry */
   NLOG_LONG = 1,    /* one of more than 262143 bytes, which isn't looked at */
-  NLOG_TORN = 2,    /* the bytes behind the last newline, of a line that a crash
+  NLOG_TORN = 2,    /* the bytes after the last newline, of a line that a crash
                      * cut off */
   NLOG_DAMAGE_KIND_MAX = 0x7fffffff
 } nlog_damage_kind;
@@ -192,7 +192,7 @@ typedef struct nlog_damage {
   nlog_damage_kind kind;
   size_t output_from;    /* where the output stands that its last five fields
                           * name, if they are an entry, as one that was written
-                          * behind a torn line */
+                          * after a torn line */
   size_t output_len;     /* 0 if they are none, or the line is NLOG_LONG */
   size_t first_from;     /* the same of the output that plain Ninja takes the
                           * line for an entry of, between its tabs 3 and 4 */
@@ -201,18 +201,18 @@ typedef struct nlog_damage {
 
 #define NLOG_DAMAGE_INIT {0, 0, 0, NLOG_SKIPPED, 0, 0, 0, 0}
 
-/* The first line that is no entry, of a log that nlog_load takes, by its bytes
- * and the version of nlog_get_facts. If `damage` is what the call before
- * filled, the next one. As many are told as nlog_facts.skipped counts, and one
- * more if there are torn bytes. It takes no memory.
+/* The next line that is no entry, after the one that `damage` holds, or the
+ * first after NLOG_DAMAGE_INIT. The log is one that nlog_load takes, and
+ * `version` that of nlog_get_facts. As many are told as nlog_facts.skipped
+ * counts, and one more if there are torn bytes. It takes no memory.
  * NLOG_NOT_FOUND: there is no further one. */
 nlog_status nlog_next_damage(uint32_t version, const void *bytes, size_t len,
     nlog_damage *damage);
 
 /* Loads the log as nlog_load does, and keeps the entries of distrusted outputs
  * alone (docs/FORMAT.md, "Outputs that can't be trusted"). Make each again, as
- * if it had no entry. nlog_get_facts has their number as `unique`, by which
- * `is_due` is then of no use. Answered as nlog_load is. */
+ * if it had no entry. nlog_get_facts then has their number as `unique`, and its
+ * `is_due` means nothing. Answered as nlog_load is. */
 nlog_status nlog_load_distrusted(nlog *log, const void *bytes, size_t len);
 
 /* The hash of a command in logs of version 5 and 6, and of version 7. */
@@ -224,8 +224,8 @@ nlog_status nlog_check_name(const char *name, size_t len);
 
 /* ---- Part 2: a log on disk, for POSIX with flock ---- */
 
-/* A log at a path, which the writer opens, and then keeps open and locked until
- * the close. A writer is in one of four states:
+/* A log at a path, which the writer opens, and keeps open and locked until the
+ * close. A writer is in one of four states:
  *
  *     closed --nlog_writer_open--> open
  *     closed --nlog_writer_open_to_read--> open to read
@@ -243,25 +243,25 @@ nlog_status nlog_check_name(const char *name, size_t len);
  *
  * Lock: flock on the log's file, as each `nlog` that changes a log takes it,
  *   and no Ninja does. If the file system has no locks, there is none. The
- *   close unlocks the log, also if a forked child lives on.
+ *   close unlocks the log, even if a forked child lives on.
  * Signals: a call goes on if a signal interrupts it. But a wait for a lock ends
  *   if a handler runs in its thread, or if SIGINT, SIGTERM or SIGHUP is blocked
- *   and pending. It answers NLOG_LOCKED with EINTR, and may be made again.
+ *   and pending. It answers NLOG_LOCKED with EINTR, and can be made again.
  *   Block such a signal in all other threads. A process that limits the length
  *   of files (RLIMIT_FSIZE) must ignore SIGXFSZ.
  * Descriptors are close-on-exec, and none is a standard stream's.
- * Files: the scratch of a rewriting is the path with `.recompact` behind it. A
- *   failure may leave it there, and the next rewriting takes it away. A
- *   rewritten log is a new file, and replaces a symbolic link. The open looks
- *   the path up, and holds the folder open until the close.
- * Syncs: a log is synced by its folder, if that can be, and then by its file.
- * Others: nobody else writes, removes or replaces the log while it is open, but
- *   writers that share it. Else each sync, each close that syncs and each
- *   rewriting answers NLOG_FAULT, with ESTALE or ENOENT and "stat", and changes
- *   nothing. What was recorded since the last sync may be lost.
+ * Files: the scratch of a rewriting is the path with `.recompact` appended. A
+ *   failure may leave it there, and the next rewriting removes it. A rewritten
+ *   log is a new file, and replaces a symbolic link. The open looks the path
+ *   up, and holds the folder open until the close.
+ * Syncs: first the log's folder is synced, if it can be, and then its file.
+ * Others: let nobody else write, remove or replace the log while it is open,
+ *   except writers that share it. Otherwise each sync, each close that syncs
+ *   and each rewriting answers NLOG_FAULT, with ESTALE or ENOENT and "stat",
+ *   and changes nothing. What was recorded since the last sync may be lost.
  * Memory: a log that is open, or open to read, takes its table, as nlog_load
  *   does, and a buffer of 327,743 bytes. While it is opened it takes the log's
- *   bytes too. If there is none, a call answers NLOG_OUT_OF_MEMORY, and no file
+ *   bytes too. Without memory, a call answers NLOG_OUT_OF_MEMORY, and no file
  *   was changed, unless it says more.
  * docs/LIBRARY.md has more on each of these.
  *
@@ -277,8 +277,8 @@ typedef struct nlog_name {
 
 /* Makes a closed writer of the log at a path, which is copied. No file is
  * touched. `version`: 5 (which takes 4 too), 6 or 7 is the version that the log
- * must have. A log of which nothing stands is made one of that version. 0 takes
- * that of the log, and 5 if nothing stands.
+ * must have, and that a missing or empty log gets. 0 takes that of the log, and
+ * 5 if it is missing or empty.
  * NLOG_OUT_OF_MEMORY, and NLOG_OTHER_VERSION of another number: *writer is
  * NULL. */
 nlog_status nlog_writer_new(nlog_writer **writer, const char *path,
@@ -295,22 +295,22 @@ void nlog_writer_free(nlog_writer **writer);
  * After any other status the writer is closed, and the log unlocked. After
  * NLOG_LOCKED, NLOG_NOT_A_LOG, NLOG_OTHER_VERSION and NLOG_OUT_OF_MEMORY the
  * log is as it was (made empty, if it was missing). An open that read the log
- * uses up each mark of a dead name of which there is no entry then.
- * If a sync of the log had failed, this writer's next open rewrites the log. If
- * a sync of its folder had failed, each later open answers NLOG_FAULT, with
+ * uses up each mark of a dead name that then has no entry.
+ * After a failed sync of the log, this writer's next open rewrites the log.
+ * After a failed sync of its folder, each later open answers NLOG_FAULT, with
  * EIO. */
 nlog_status nlog_writer_open(nlog_writer *writer);
 
 /* Opens the log to read it: reads it as it stands, and locks, writes and makes
  * no file. A log that is missing, or whose folder is, is an empty one.
  * nlog_writer_count, nlog_writer_at, nlog_writer_find and nlog_writer_version
- * then answer as behind nlog_writer_open. Marks of dead names are used up as by
+ * then answer as after nlog_writer_open. Marks of dead names are used up as by
  * it.
- * The first call that changes the log, or nlog_writer_open, locks it. Then it
- * does what an open owes: it syncs, and repairs or rewrites. A log that is due
- * is rewritten without what is marked dead by then.
- * NLOG_OK: the log was read. A close of it is answered NLOG_OK, and does
- * nothing to any file.
+ * The first call that changes the log, or nlog_writer_open, locks it and does
+ * what an open does: it syncs, and repairs or rewrites. A log that is due is
+ * rewritten without what is marked dead by then.
+ * NLOG_OK: the log was read. A close is then answered NLOG_OK, and touches no
+ * file.
  * Other statuses of this call: as of nlog_writer_open, and no file was touched.
  * Other statuses of the first change: NLOG_LOCKED and NLOG_BAD_NAME leave the
  * log open to read. Any other breaks the writer, or closes it if the call is
@@ -322,31 +322,30 @@ nlog_status nlog_writer_open_to_read(nlog_writer *writer);
  * NLOG_NOT_OPEN, NLOG_BROKEN. */
 nlog_status nlog_writer_is_due(const nlog_writer *writer, bool *is_due);
 
-/* The number of the version that the last open refused, or the last first
- * change; UINT64_MAX if it is larger. 0 if they refused none, or if the number
- * begins with a 0. */
+/* The number of the version that the last open, or a first change, refused;
+ * UINT64_MAX if it is larger. 0 if none was refused, or if the number begins
+ * with a 0. */
 uint64_t nlog_writer_other_version(const nlog_writer *writer);
 
 /* Whether the log is shared, which it isn't at first. Then the lock is held
  * within each call alone, and not from the open to the close.
- * A call that changes the log takes in what others did. But a record of names
- * that were planned takes no lock. A rewriting by another may lose it, and then
- * their intents stand. Calls that only read answer of what the last call saw
- * that had the lock.
+ * A call that changes the log takes in what others did. But a record of planned
+ * names takes no lock: if another's rewriting loses it, their intents stand.
+ * Calls that only read tell what the last call saw that had the lock.
  * NLOG_ALREADY_OPEN: the writer has to be closed; also of a broken one.
- * NLOG_LOCKED of a later call: nothing was done, the log is open still, and the
- * call may be made again. */
+ * NLOG_LOCKED of a later call: nothing was done, the log is still open, and the
+ * call can be made again. */
 nlog_status nlog_writer_set_shared(nlog_writer *writer, bool is_shared);
 
 /* A hold takes the lock of a shared log, and keeps it until the release or a
- * close. The calls between take none, as is good for many records. If the log
- * isn't shared they do nothing. NLOG_LOCKED: nothing was done. */
+ * close, so that the calls between take none. If the log isn't shared, both do
+ * nothing.
+ * NLOG_LOCKED: nothing was done. */
 nlog_status nlog_writer_hold(nlog_writer *writer);
 nlog_status nlog_writer_release(nlog_writer *writer);
 
 /* Whether the writer is wary, which it isn't at first. Then each open, also one
- * to read, drops the entries of distrusted outputs, as nlog_load_distrusted
- * tells them.
+ * to read, drops the entries of distrusted outputs.
  * If there is such an output, the open rewrites the log, or the first change
  * does, without what is marked dead. So no kill brings a dropped entry back,
  * and no power cut does once the damaged line is on disk.
@@ -360,8 +359,8 @@ nlog_status nlog_writer_set_wait(nlog_writer *writer, uint32_t milliseconds);
 /* Whether the log is open, or open to read. */
 nlog_status nlog_writer_is_open(const nlog_writer *writer, bool *is_open);
 
-/* Whether the last open rewrote the log, also at the first change behind an
- * open to read. NLOG_NOT_OPEN, NLOG_BROKEN. */
+/* Whether the last open rewrote the log, also at the first change after an open
+ * to read. NLOG_NOT_OPEN, NLOG_BROKEN. */
 nlog_status nlog_writer_rewrote(const nlog_writer *writer, bool *rewrote);
 
 /* The version of the log: 5, 6 or 7. The hash of each entry must be that of the
@@ -386,7 +385,8 @@ nlog_status nlog_writer_record_edge(nlog_writer *writer, const nlog_name *names,
  * that has an entry which isn't such an intent already. No command passes for
  * an intent, so none of these outputs is taken for what it was before
  * (docs/FORMAT.md, "Intents"). The moment is that of now, as the start of an
- * entry. One write adds them. If power may be lost, call nlog_writer_sync then.
+ * entry. One write adds them. If power may be lost, call nlog_writer_sync
+ * afterwards.
  * Refused as nlog_writer_record_edge is. */
 nlog_status nlog_writer_begin(nlog_writer *writer, const nlog_name *names,
     size_t count, int32_t moment_ms, uint64_t hash);
@@ -405,13 +405,13 @@ typedef struct nlog_planned {
  * One write adds them, or one for each 262,144 bytes. Plan a name once.
  * NLOG_OK: whatever comes, no name has the entry that it had.
  * NLOG_NOT_OPEN, NLOG_BROKEN, NLOG_BAD_NAME, NLOG_LOCKED: nothing was done.
- * Others: no command may run. Intents that stand do no harm, and may be
- * withdrawn after NLOG_OUT_OF_MEMORY. */
+ * Others: run no command. Intents that stand do no harm, and can be withdrawn
+ * after NLOG_OUT_OF_MEMORY. */
 nlog_status nlog_writer_begin_plan(nlog_writer *writer, nlog_planned *planned,
     size_t count, int32_t moment_ms);
 
-/* Gives names of a plan whose commands never began their entries back, as
- * nlog_writer_begin_plan adds intents, but without a sync. It leaves out a name
+/* Gives back their entries to names of a plan whose commands never began, by
+ * writes as of nlog_writer_begin_plan, without a sync. It leaves out a name
  * that has another line since, and all if another rewrote the log.
  * *withdrawn: how many got theirs.
  * Refused as nlog_writer_record_edge is. */
@@ -426,12 +426,12 @@ nlog_status nlog_writer_at(const nlog_writer *writer, size_t place,
 nlog_status nlog_writer_find(const nlog_writer *writer, const char *name,
     size_t len, nlog_entry *entry);
 
-/* NLOG_OK: all that was recorded before is on disk, and stands whatever comes.
+/* NLOG_OK: all that was recorded before is safe on disk.
  * NLOG_NOT_OPEN, NLOG_BROKEN. */
 nlog_status nlog_writer_sync(nlog_writer *writer);
 
-/* Rewrites the log, with the last entry of each output but of those that are
- * marked dead. Such marks are used up, also if a file fails.
+/* Rewrites the log with the last entry of each output that isn't marked dead.
+ * Such marks are used up, also if a file fails.
  * NLOG_OK: it is on disk.
  * NLOG_NOT_OPEN, NLOG_BROKEN, NLOG_OUT_OF_MEMORY: the log wasn't changed. */
 nlog_status nlog_writer_recompact(nlog_writer *writer);
@@ -443,8 +443,8 @@ nlog_status nlog_writer_recompact(nlog_writer *writer);
  * negative one in the order of the marks. */
 nlog_status nlog_writer_restat(nlog_writer *writer, size_t *place);
 
-/* Marks an output as one that the next rewriting leaves out. Marks
- * are taken in each state.
+/* Marks an output as one that the next rewriting leaves out, in any state of
+ * the writer.
  * NLOG_BAD_NAME, NLOG_OUT_OF_MEMORY: nothing was changed. */
 nlog_status nlog_writer_mark_dead(nlog_writer *writer, const char *name,
     size_t len);
@@ -455,19 +455,19 @@ nlog_status nlog_writer_mark_time(nlog_writer *writer, const char *name,
     size_t len, int64_t mtime);
 nlog_status nlog_writer_clear_marks(nlog_writer *writer);
 
-/* Syncs what was recorded, closes the log and unlocks it. Whatever the status
- * but NLOG_LOCKED, the writer is then closed, and can be opened again. Marks
+/* Syncs what was recorded, closes the log and unlocks it. The writer is closed
+ * afterwards, unless the status is NLOG_LOCKED, and can be opened again. Marks
  * stay.
  * NLOG_OK: all that was recorded is on disk.
- * NLOG_LOCKED, of a log that is shared: nothing was done, the writer is open,
- * and can be closed again.
+ * NLOG_LOCKED, of a log that is shared: nothing was done, and the close can be
+ * made again.
  * NLOG_BROKEN: it was broken. NLOG_NOT_OPEN. */
 nlog_status nlog_writer_close(nlog_writer *writer);
 
-/* The last call of the system that failed since the last open began. They are
- * its errno, the path that it was about, and its name, as "fsync". If none did,
- * they are 0 and NULL. After NLOG_LOCKED the errno is EWOULDBLOCK, or EINTR.
- * The texts last until the next call on the writer. */
+/* The last call of the system that failed since the last open began. These tell
+ * its errno, the path that it was about, and its name, as "fsync". If none
+ * failed, they are 0 and NULL. After NLOG_LOCKED the errno is EWOULDBLOCK, or
+ * EINTR. The texts last until the next call on the writer. */
 int nlog_writer_errno(const nlog_writer *writer);
 const char *nlog_writer_failed_path(const nlog_writer *writer);
 const char *nlog_writer_failed_call(const nlog_writer *writer);
