@@ -3,8 +3,8 @@
 
     python3 examples/build.py NLOG LOG COUNT [FLAG]
 
-For each of COUNT outputs it asks the log for the entry. Where that is missing, or has another command's hash, the command is run (here it
-only counts), and its entry recorded. Another FLAG makes another command of each. A build whose outputs must outlive a power cut syncs each
+For each of COUNT outputs it asks the log for the entry. Where that is missing, or has another command's hash, the command is run (here that
+does nothing), and its entry recorded. Another FLAG makes another command of each. A build whose outputs must outlive a power cut syncs each
 of them before it records it.
 
 Sixteen commands start at once. Each is begun before it runs, so an output whose record was lost doesn't pass for that of an earlier
@@ -60,7 +60,7 @@ class Log:
 
 
 def entry(i, flag=""):
-    """The fields of an output's entry: those that start at once take turns. A build of Ninja's logs would take the hash from `nlog hash`."""
+    """The fields of an output's entry: those that start at once take turns. A build of Ninja's logs would ask for the hash by the line `hash`."""
     start = i // AT_ONCE * 100
     return str(start), str(start + 5 + i % AT_ONCE), str(1000 + i), f"out{i}", format(zlib.crc32(b"make out%d %s" % (i, os.fsencode(flag))), "x")
 
