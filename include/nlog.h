@@ -16,7 +16,7 @@
  *   handler or has global state, but for two random numbers under which names
  *   are hashed. Unless a call says more, any status but NLOG_OK leaves the
  *   handle, and each thing that the call would have filled, as it was.
- * Pointers: none may be NULL, except one to 0 bytes, an nlog_writer, or where a
+ * Pointers must not be NULL, except one to 0 bytes, an nlog_writer, or where a
  *   call allows it. What a call fills must not overlap anything else that is
  *   passed to it. Nothing that is passed is kept when the call returns. No
  *   pointer into the library is handed out, except by nlog_writer_failed_path
