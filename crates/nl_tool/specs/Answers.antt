@@ -1,4 +1,4 @@
--- What each command that prints a text when all is read has to print, and for which bytes it refuses a log.
+-- What a command that reads everything first has to print, and for which bytes it refuses a log (docs/CLI.md).
 use Rattle.std.specs.Prelude.{◌≡◌, ℕ, List, Option, Result, IfSome, IsErrOf, unwrap_or}
 use Rattle.nl_versions.specs.declared.version.LogVersion.{LogVersion}
 use Rattle.nl_versions.specs.declared.version.LogVersion.TheVariants.{Five}
@@ -12,8 +12,7 @@ use Rattle.nl_tool_texts.specs.declared.fault.ToolFault.TheVariants.{NotALog, Ot
 use Rattle.nl_tool.specs.declared.printing.Printing.{Printing}
 use Rattle.nl_tool.specs.declared.printing.Printing.TheVariants.{Show, Check, Hash, HashFile, Replay}
 
--- the text of each such command, by the version that is asked for and the known bytes of what it reads; `hash` and `hash-file` have no log, so
--- where no version is asked for, theirs is 5
+-- `hash` and `hash-file` have no log, so their version is 5 if none is asked for
 abbrev pub IsAnswer : Option LogVersion → Printing → Option (List ℕ) → List ℕ → Type 0
 IsAnswer asked Show known text = IsTextAsRead (show_text_for asked) known text
 IsAnswer asked Check known text = IsReportFor asked known text

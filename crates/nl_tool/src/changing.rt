@@ -21,7 +21,7 @@ use std::alloc::Global;
 use std::io::{self, Read};
 use std::rt::{Clock, Files, Runtime};
 
-// What is wrong with the words of an entry comes before anything is asked of the log.
+// It refuses bad words before it asks anything of the log.
 pub fn record_in<R: Files + Clock + Eprint>(
     rt: &R,
     alloc: Global,
@@ -45,7 +45,6 @@ where
     record_log(alloc, asked, folder, entry, command, notes)
 }
 
-// Records an entry in the log of a folder.
 fn record_log<F: Files + Clock + Drop>(
     alloc: Global,
     asked: Option<LogVersion>,
@@ -93,7 +92,6 @@ where
     )
 }
 
-// Drops the outputs that the names leave out from the log of a folder.
 fn recompact_log<F: Files + Clock + Drop, R: Read + Drop>(
     alloc: Global,
     asked: Option<LogVersion>,
@@ -139,7 +137,6 @@ where
     )
 }
 
-// Sets mtimes in the log of a folder.
 fn restat_log<F: Files + Clock + Drop, R: Read + Drop>(
     alloc: Global,
     asked: Option<LogVersion>,
@@ -182,7 +179,6 @@ where
     apply_from(rt, alloc, asked, folder, lines, notes)
 }
 
-// Applies the lines that this reader gives.
 fn apply_from<P: Print, F: Files + Clock + Drop, R: Read + Drop>(
     rt: &P,
     alloc: Global,
@@ -224,7 +220,6 @@ where
     )
 }
 
-// Rewrites the log of a folder.
 fn repair_log<F: Files + Clock + Drop>(
     alloc: Global,
     asked: Option<LogVersion>,
@@ -244,7 +239,7 @@ where
     note_folder(left.folder, answer, notes)
 }
 
-// What was answered over a folder, of which it is noted why it last failed, and how what isn't taken for a log begins.
+// If the file isn't taken for a log, its beginning is noted too, because the reason names it.
 pub fn note_folder<R: Files + Clock + Drop>(
     folder: DiskFolder<R>,
     answer: Result<(), ToolFault>,

@@ -22,7 +22,6 @@ use std::alloc::Global;
 use std::io::{self, Write};
 use std::rt::Runtime;
 
-// Tells what two logs say of their commands, with lists of as many lines at most as the words say.
 pub fn compare_in<R: Runtime>(
     rt: &R,
     alloc: Global,
@@ -47,7 +46,6 @@ pub fn compare_in<R: Runtime>(
     compare_logs(rt, alloc, columns, most, ms, old, new, missing_ok, notes)
 }
 
-// How many milliseconds a difference has at the least.
 pub fn least_of(least: Option<&str>) -> Option<usize>
     ensures value { IfSome result (IsLeast least.entry) }
     ensures accepts { (ms : ℕ) → IsLeast least.entry ms → result ≡ Some ms }
@@ -58,7 +56,7 @@ pub fn least_of(least: Option<&str>) -> Option<usize>
     }
 }
 
-// Reads the old log and then the new one, each of which is closed before anything else is done.
+// Each log is closed before anything else is done.
 fn compare_logs<R: Runtime>(
     rt: &R,
     alloc: Global,
@@ -98,7 +96,7 @@ fn compare_logs<R: Runtime>(
     answer
 }
 
-// What a log tells that is compared: its version, its builds with the last entry of each output alone, and which outputs wait.
+// `told` has only the last entry of each output.
 #[derive(Drop)]
 pub struct Last<'a> {
     pub version: LogVersion,
@@ -124,7 +122,6 @@ fn last_of(alloc: Global, secret: Secret, text: &[u8]) -> Result<Last<'_>, ToolF
     })
 }
 
-// Compares them, in columns where they are wanted.
 fn compare_to<W: Write>(
     alloc: Global,
     secret: Secret,

@@ -25,7 +25,7 @@ use std::str;
 
 const NANOSECONDS: i64 = 1_000_000_000;
 
-// The files of outputs, by their names from the folder in which the program runs.
+// A name is a path from the folder in which the program runs.
 #[derive(Drop)]
 pub struct SystemFiles<'r, R> {
     pub rt: &'r R,
@@ -34,7 +34,7 @@ pub struct SystemFiles<'r, R> {
 impl<R: Files> OutputFiles for SystemFiles<'_, R> {
     ghost states = { λ _. None };
 
-    // A name that isn't UTF-8 can't be given to the system.
+    // The call of the system takes no name that isn't UTF-8.
     fn look(&self, name: &[u8]) -> FileState {
         let Ok(path) = str::from_utf8(name) else {
             return FileState::Unknown;
@@ -50,7 +50,6 @@ impl<R: Files> OutputFiles for SystemFiles<'_, R> {
     }
 }
 
-// When a file was written, and when anything of it last changed, which the system tells by one call (statx).
 fn times_of(metadata: &Metadata) -> FileTimes {
     FileTimes {
         written: time_of(metadata.mtime(), metadata.mtime_nsec()),
@@ -58,7 +57,7 @@ fn times_of(metadata: &Metadata) -> FileTimes {
     }
 }
 
-// A time as Ninja counts it: in nanoseconds, and 1 for the first second of 1970, since 0 stands for none.
+// A time as Ninja counts it: in nanoseconds, and 1 for the first second of 1970, because 0 stands for none.
 fn time_of(seconds: i64, nanoseconds: i64) -> i64 {
     match seconds {
         0 => 1,
@@ -68,7 +67,6 @@ fn time_of(seconds: i64, nanoseconds: i64) -> i64 {
     }
 }
 
-// Says of the log at this path, or of standard input, on which outputs there is a doubt.
 pub fn doubt_in<R: Runtime>(
     rt: &R,
     alloc: Global,
@@ -85,7 +83,6 @@ pub fn doubt_in<R: Runtime>(
     answer
 }
 
-// Says on which outputs of a log there is a doubt, by their files.
 fn tell_doubts<F: OutputFiles, W: Write>(
     alloc: Global,
     secret: Secret,

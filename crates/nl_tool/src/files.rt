@@ -8,7 +8,6 @@ use std::fs;
 use std::io::ErrorKind;
 use std::rt::Files;
 
-// The file of a log, or none where it is missing, and may be.
 pub fn open_log<R: Files>(
     rt: &R,
     path: &str,
@@ -32,7 +31,7 @@ pub fn open_log<R: Files>(
     }
 }
 
-// Refuses a log that is missing, where it may not be, before anything else is asked of it.
+// It tells only whether the log is missing. Every other failure comes when the log is opened.
 pub fn look_there<R: Files>(
     rt: &R,
     path: &str,
@@ -54,14 +53,12 @@ pub fn look_there<R: Files>(
     Ok(())
 }
 
-// Notes whether a log is missing, where that is to be said.
 pub fn note_missing<R: Files>(rt: &R, path: &str, notes: &mut Notes) {
     if notes.looks {
         let _ = look_there(rt, path, true, notes);
     }
 }
 
-// A file that has to be there.
 pub fn open<R: Files>(rt: &R, path: &str, notes: &mut Notes) -> Result<R::File, ToolFault>
     ensures faults { IfErr result (λ e. e ≡ ToolFault.Read) }
     ensures noted { IsErr result → IsSome notes.new.heard.failure }

@@ -1,5 +1,4 @@
-//! The program `nlog`: what it does of the words that it was given, over real files, and the status to end with. It hands on what the
-//! crates below do over any reader, writer and folder.
+//! The program `nlog`: what it does for the words that it was given, over real files, and the status with which it ends.
 #![tactic(auto)]
 
 mod changing;

@@ -1,8 +1,8 @@
 //! `mend`, over the folder of the real file LOG and the files of its outputs, with standard output for its text.
 //!
 //! 1. All of LOG is read, and the file of each output is asked.
-//! 2. LOG is written anew with an intent over the entry of each output that can't be trusted, in one change (`mend_on`). Where
-//!    there is none, and no line is damaged, it stays as it is.
+//! 2. LOG is written anew with an intent over the entry of each output that can't be trusted, in one change (`mend_on`). If
+//!    there is no such output, and no line is damaged, LOG stays as it is.
 //! 3. The outputs are printed.
 //!
 //! The lock on LOG is held from the first step on.
@@ -23,10 +23,10 @@ use std::fs;
 use std::io::{self, Write};
 use std::rt::{Clock, Files, Runtime};
 
-// One output in so many has to be there, or that is said.
+// If fewer than one output in this many has a file, that is said.
 const FEW: usize = 10;
 
-// The files of a build's outputs. A name that doesn't begin with `/` is one of the build's folder.
+// A name that doesn't begin with `/` is a path from the build's folder.
 #[derive(Drop)]
 struct BuildFiles<'r, R> {
     files: SystemFiles<'r, R>,
@@ -48,7 +48,6 @@ impl<R: Files> OutputFiles for BuildFiles<'_, R> {
     }
 }
 
-// The path of a name in a folder.
 fn path_in(alloc: Global, folder: &str, name: &[u8]) -> Result<Vec<u8>, AllocError> {
     let mut path = Vec::new(alloc);
     path.extend_from_slice(folder.as_bytes())?;
@@ -57,7 +56,7 @@ fn path_in(alloc: Global, folder: &str, name: &[u8]) -> Result<Vec<u8>, AllocErr
     Ok(path)
 }
 
-/// Mends the log at this path, or that of the build in the folder.
+/// Without a path, LOG is the `.ninja_log` of the build's folder.
 pub fn mend_in<R: Runtime>(
     rt: &R,
     alloc: Global,
@@ -83,7 +82,7 @@ where
     }
 }
 
-// Refuses a folder of a build that is missing.
+// It refuses a missing folder, because the log that is missing with it would be taken for a whole one.
 fn look_in<R: Files>(rt: &R, folder: Option<&str>, notes: &mut Notes) -> Result<(), ToolFault>
     ensures faults { IfErr result (λ e. e ≡ ToolFault.Read) }
 {
@@ -102,7 +101,7 @@ fn look_in<R: Files>(rt: &R, folder: Option<&str>, notes: &mut Notes) -> Result<
     }
 }
 
-// A log that is missing is well.
+// A missing log needs no mending.
 fn mend_at<R: Runtime>(
     rt: &R,
     alloc: Global,
@@ -142,7 +141,7 @@ where
     Ok(Verdict::Done)
 }
 
-// Says that few outputs have a file: so the folder may be that of another build.
+// If few outputs have a file, the folder may be that of another build.
 fn tell_few(rt: &impl Eprint, log: &str, mended: Mended) {
     let Mended { outputs, there, .. } = mended;
     if there < outputs / FEW {

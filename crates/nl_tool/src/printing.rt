@@ -25,7 +25,7 @@ use std::alloc::Global;
 use std::io::{self, Read, Write};
 use std::rt::{Clock, Runtime};
 
-/// What prints a text when all is read.
+/// What prints a text after all is read.
 #[derive(Clone, Copy, Drop)]
 pub enum Printing<'a> {
     Show,
@@ -42,7 +42,6 @@ pub enum Streaming {
     Damage,
 }
 
-/// Prints of the log at this path, or of standard input, while it's read.
 pub fn stream_log<R: Runtime>(
     rt: &R,
     alloc: Global,
@@ -64,7 +63,6 @@ pub fn stream_log<R: Runtime>(
     }
 }
 
-// Prints of what this reader gives, to standard output, while it is read.
 fn stream_from<P: Print, R: Read + Drop>(
     rt: &P,
     alloc: Global,
@@ -102,7 +100,6 @@ fn stream_of<R: Read + Drop, W: Write>(
     }
 }
 
-// Says of the log that the reader gives whether it is damaged.
 fn tell_damage<R: Read + Drop, W: Write>(
     alloc: Global,
     reader: R,
@@ -128,7 +125,7 @@ fn tell_damage<R: Read + Drop, W: Write>(
     }
 }
 
-// Prints of the log at this path, or of standard input.
+// A log that is missing is taken for an empty one.
 pub fn print_log<R: Runtime>(
     rt: &R,
     alloc: Global,
@@ -148,7 +145,6 @@ pub fn print_log<R: Runtime>(
     }
 }
 
-// Prints of the file at this path, which has to be there, or of standard input.
 pub fn print_file<R: Runtime>(
     rt: &R,
     alloc: Global,
@@ -166,7 +162,6 @@ pub fn print_file<R: Runtime>(
     print_from(rt, alloc, printing, asked, file, notes)
 }
 
-// Prints of what this reader gives, to standard output.
 pub fn print_from<P: Print + Eprint + Clock, R: Read + Drop>(
     rt: &P,
     alloc: Global,
@@ -186,8 +181,7 @@ pub fn print_from<P: Print + Eprint + Clock, R: Read + Drop>(
     answer
 }
 
-// Prints of what this reader gives to this writer: of a log of the version that is asked for, or where none is, of the one that its
-// first line names. A command has no first line, so its hash is that of version 5 then.
+// A command has no first line that names a version, so its hash is that of version 5 if none is asked for.
 fn print_to<R: Read + Drop, W: Write>(
     alloc: Global,
     secret: Secret,

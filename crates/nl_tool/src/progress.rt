@@ -1,4 +1,4 @@
-//! How far a log is read, told at a terminal where it takes long.
+//! How much of a log is read, told at a terminal if it takes long.
 ghost use Rattle.std.specs.Prelude.{◌≡◌};
 ghost use Rattle.std.specs.Io.{ReadsAtMost};
 ghost use Rattle.std.specs.Io.KnownBytes.{ReadConsumes};
@@ -6,25 +6,25 @@ ghost use Rattle.std.specs.Io.KnownBytes.{ReadConsumes};
 use std::io::{self, Read};
 use std::rt::Clock;
 
-// How many milliseconds pass before anything is told, and between one line and the next.
+// Milliseconds before the first line, and from one line to the next.
 const PATIENCE: u128 = 2_000;
 
 const PAUSE: u128 = 500;
 
 const MEGABYTE: u64 = 1_000_000;
 
-/// A reader of which it is told on standard error how much it has read, from the third second on. What is written there next stands
-/// over the line, and it is taken away when all is read. Where the clock fails nothing is told.
+/// A reader that tells on standard error how much it has read, from the third second on. What is written next goes over the line,
+/// which is blanked when all is read. If the clock fails, nothing is told.
 #[derive(Drop)]
 pub struct Telling<'r, P, R> {
     rt: &'r P,
     reader: R,
     tells: bool,
-    // When the first read was made, and how many milliseconds later a line is due, where one is to be told.
+    // The time of the first read, and how many milliseconds after it the next line is due.
     began: Option<u128>,
     due: u128,
     read: u64,
-    // Whether a line stands there.
+    // Whether a line is on the screen.
     told: bool,
 }
 
@@ -45,7 +45,6 @@ impl<'r, P: Clock + Eprint, R: Read> Telling<'r, P, R> {
 }
 
 impl<P: Clock + Eprint, R> Telling<'_, P, R> {
-    // Tells that so many bytes more were read, if a line is due.
     fn note(&mut self, count: usize)
         ensures same { self.new.reader ≡ self.old.reader }
     {
@@ -68,7 +67,6 @@ impl<P: Clock + Eprint, R> Telling<'_, P, R> {
         let _ = eprint!(self.rt; "nlog: {read} MB read\r");
     }
 
-    // Takes the line away.
     fn end(&mut self)
         ensures same { self.new.reader ≡ self.old.reader }
     {

@@ -15,10 +15,10 @@ use std::alloc::Global;
 use std::io::Read;
 use std::rt::Runtime;
 
-// How many bytes are asked for at a time.
+// Bytes of one read.
 const PIECE: usize = 65_536;
 
-// All bytes that a reader gives. A log is refused as soon as its first bytes are none. A read that was interrupted has failed.
+// It refuses a log as soon as the first bytes begin none. A read that was interrupted has failed.
 fn read_bytes<R: Read + Drop>(alloc: Global, is_log: bool, reader: R) -> Result<Vec<u8>, ToolFault>
     ensures value { IfOk result (λ all. OfBytes (R.remaining reader) (λ bytes. bytes ≡ all.items)) }
     ensures not_a_log { IsErrOf result ToolFault.NotALog
@@ -42,7 +42,6 @@ fn read_bytes<R: Read + Drop>(alloc: Global, is_log: bool, reader: R) -> Result<
     Err(ToolFault::Read)
 }
 
-// The bytes of the log at this path, or of standard input.
 pub fn log_bytes<R: Runtime>(
     rt: &R,
     alloc: Global,
@@ -66,7 +65,6 @@ pub fn log_bytes<R: Runtime>(
     }
 }
 
-// The bytes of the graph at this path; `-` is standard input.
 pub fn graph_bytes<R: Runtime>(
     rt: &R,
     alloc: Global,

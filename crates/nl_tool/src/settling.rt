@@ -30,8 +30,7 @@ use std::alloc::Global;
 use std::io::Read;
 use std::rt::{Clock, Files, Runtime};
 
-// Keeps the targets of a build and the outputs whose files are there, unless the log is damaged. The targets are read
-// whole first.
+// It reads all targets before it asks anything of LOG.
 pub fn prune_in<R: Runtime>(
     rt: &R,
     alloc: Global,
@@ -46,7 +45,7 @@ where
 {
     let targets = targets_in(rt, alloc, manifest, notes)?;
     let answer = prune_log(rt, alloc, asked, log, targets, notes);
-    // Of the two files that are read, it is LOG that couldn't be.
+    // The targets were read, so it is LOG that couldn't be.
     if let Some(error) = notes.heard.failure {
         notes.heard.failure = None;
         notes.folder = Some(Failure {
@@ -57,7 +56,6 @@ where
     answer
 }
 
-// The targets of the file at this path, or of standard input.
 fn targets_in<R: Runtime>(
     rt: &R,
     alloc: Global,
@@ -75,7 +73,7 @@ fn targets_in<R: Runtime>(
     }
 }
 
-// What is noted of the targets is for a refusal of them alone.
+// Notes of the targets are kept only if these are refused, because LOG is read next.
 fn targets_from<R: Read + Drop>(
     alloc: Global,
     reader: R,
@@ -145,7 +143,7 @@ where
     note_folder(left.folder, answer, notes)
 }
 
-// Refuses a log of another version than the one that is asked for, before anything is told of it.
+// A log of another version than the one that is asked for is refused before its damage is told.
 fn refuse_other<R: Runtime>(
     rt: &R,
     alloc: Global,
@@ -168,7 +166,6 @@ fn refuse_other<R: Runtime>(
     )
 }
 
-// Refuses what the reader gives if it is no log of the version that is asked for.
 fn check_version<R: Read + Drop>(
     alloc: Global,
     secret: Secret,
@@ -188,7 +185,6 @@ fn check_version<R: Read + Drop>(
     }
 }
 
-// Gives the outputs the times of their files, unless the log is damaged.
 pub fn retime_in<R: Runtime>(
     rt: &R,
     alloc: Global,
@@ -239,7 +235,6 @@ where
     note_folder(left.folder, answer, notes)
 }
 
-// Drops from the log of a place what neither is a target nor has a file, of the log that the reader gives.
 fn keep_there<P: LogPlace, R: Read + Drop, F: OutputFiles>(
     alloc: Global,
     place: P,
@@ -259,8 +254,6 @@ fn keep_there<P: LogPlace, R: Read + Drop, F: OutputFiles>(
     }
 }
 
-// Gives the outputs of the log of a place the times of their files, of the log that the reader gives. A time stamp that a log
-// can't have is refused before anything is asked of the place.
 fn retime_there<P: LogPlace, R: Read + Drop, F: OutputFiles>(
     alloc: Global,
     place: P,
@@ -286,7 +279,6 @@ fn retime_there<P: LogPlace, R: Read + Drop, F: OutputFiles>(
     }
 }
 
-// Notes the output whose file has a time stamp that is refused, where there is memory for it.
 fn note_early(times: &[(Name, i64)], at: usize, early: &mut Vec<u8>)
     requires there { at < length times.now }
     ensures named { (early.new.items ≡ [])

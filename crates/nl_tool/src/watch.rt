@@ -3,7 +3,6 @@ use crate::wrong::{LineFault, LineKind, line_fault};
 use nl_lines::MAX_LINE;
 use std::alloc::Global;
 
-/// What is kept of the lines, where they are watched.
 #[derive(Drop)]
 pub struct Watch {
     kind: Option<LineKind>,
@@ -17,7 +16,7 @@ pub struct Watch {
 }
 
 impl Watch {
-    /// Nothing is watched yet.
+    /// It watches nothing before `begin`.
     pub fn new(alloc: Global) -> Watch {
         Watch {
             kind: None,
@@ -34,7 +33,7 @@ impl Watch {
         self.kind = Some(kind);
     }
 
-    /// Takes in the bytes that were read next.
+    /// The bytes come in their order.
     pub fn note(&mut self, bytes: &[u8]) {
         if self.kind.is_none() {
             return;
@@ -48,7 +47,7 @@ impl Watch {
         }
     }
 
-    // Keeps a byte of the line, up to the length of the longest. Where memory is wanting, no more is watched.
+    // If memory is refused, no more is watched, because a watch only explains a refusal.
     fn hold(&mut self, byte: u8) {
         if self.line.len() == MAX_LINE {
             self.is_long = true;
@@ -69,7 +68,6 @@ impl Watch {
         self.is_long = false;
     }
 
-    // Counts a pair, and keeps the first one with a negative time.
     fn take_pair(&mut self) {
         if self.negative.is_none() && self.line.as_slice().first() == Some(&b'-') {
             self.negative = Some((self.pairs, self.number));
@@ -77,7 +75,6 @@ impl Watch {
         self.pairs = self.pairs.saturating_add(1);
     }
 
-    // What is wrong with the line that is held.
     fn fault(&self) -> Option<LineFault> {
         if self.is_long {
             return Some(LineFault::LongLine);
@@ -85,7 +82,7 @@ impl Watch {
         line_fault(self.kind?, self.line.as_slice())
     }
 
-    /// What is wrong with the bad line of this number, where it is known. The last one may have no newline.
+    /// None if it isn't known. The last line may have no newline, so it is judged as it is held.
     pub fn fault_at(&self, number: u64) -> Option<LineFault> {
         let known = match self.bad {
             Some((at, fault)) if at == number => Some(fault),
@@ -98,7 +95,7 @@ impl Watch {
         }
     }
 
-    /// The number of the line that says the pair of this place, where it is the first with a negative time.
+    /// Lines are numbered from 1, and places from 0. None unless this pair is the first with a negative time.
     pub fn line_of_pair(&self, place: usize) -> Option<u64> {
         match self.negative {
             Some((at, number)) if at == place => Some(number),

@@ -1,24 +1,19 @@
-//! What is wrong with a number, and with a line of KEEP, TIMES or SCRIPT.
+//! What is wrong with a number, and with a line of KEEP, TIMES, SCRIPT or a list of targets.
 ghost use Rattle.std.specs.Prelude.{Some};
 ghost use Rattle.nl_tool.specs.Wrong.{line_fault_text, number_fault_text};
 
 use nl_fields::{NameFault, name_fault, read_i64};
 use std::fmt;
 
-/// What is wrong with START, END or MTIME.
 #[derive(Clone, Copy, Debug, PartialEq, Eq, Drop)]
 pub enum NumberFault {
-    /// It isn't digits, with a `-` before them or without.
+    /// It isn't digits, with or without a `-` before them.
     NoNumber,
     /// A zero in front, or `-0`.
     Spelling,
-    /// It is less than 0, where it may not be.
     Below,
-    /// It is less than 1, where it may not be.
     BelowOne,
-    /// It is no number of 32 bits.
     Past32,
-    /// It is no number of 64 bits.
     Past64,
 }
 
@@ -37,7 +32,7 @@ impl fmt::Display for NumberFault {
     }
 }
 
-// What is wrong with a text that isn't a number in its one spelling, or is past the range of which this says so.
+// The text isn't a number in its one spelling, or is out of the range that `past` names.
 pub fn number_fault(text: &[u8], past: NumberFault) -> NumberFault {
     let digits = match text {
         [b'-', digits @ ..] => digits,
@@ -53,7 +48,7 @@ pub fn number_fault(text: &[u8], past: NumberFault) -> NumberFault {
     }
 }
 
-// What is wrong with a text that isn't a number of 0 up to 2^63 - 1.
+// The text isn't a number from 0 up to 2^63 - 1.
 pub fn count_fault(text: &[u8]) -> NumberFault {
     if text.starts_with(b"-") {
         number_fault(text, NumberFault::Below)
@@ -62,7 +57,7 @@ pub fn count_fault(text: &[u8]) -> NumberFault {
     }
 }
 
-// What is wrong with a text that isn't a number of 1 up to 2^63 - 1.
+// The text isn't a number from 1 up to 2^63 - 1.
 pub fn build_fault(text: &[u8]) -> NumberFault {
     match text {
         b"0" => NumberFault::BelowOne,
@@ -71,7 +66,6 @@ pub fn build_fault(text: &[u8]) -> NumberFault {
     }
 }
 
-/// What is wrong with a line.
 #[derive(Clone, Copy, Debug, PartialEq, Eq, Drop)]
 pub enum LineFault {
     NoTab,
@@ -110,7 +104,6 @@ impl fmt::Display for LineFault {
     }
 }
 
-/// What the lines of a file say.
 #[derive(Clone, Copy, Debug, PartialEq, Eq, Drop)]
 pub enum LineKind {
     Keep,
@@ -119,7 +112,7 @@ pub enum LineKind {
     Script,
 }
 
-// What is wrong with a line by itself, as far as that can be told of one of a script.
+// A line of a script is judged by its first word alone.
 pub fn line_fault(kind: LineKind, line: &[u8]) -> Option<LineFault> {
     match kind {
         LineKind::Keep => keep_fault(line),
