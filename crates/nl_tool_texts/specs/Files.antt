@@ -6,7 +6,7 @@ use Rattle.nl_lines.specs.Split.{lines_of, rest_of}
 abbrev pub file_lines : List ℕ → List (List ℕ)
 file_lines bytes = lines_of bytes ++ rest_of bytes ∷ []
 
--- this holds of the bytes that a reader gave: the known ones where they are known
+-- `Holds` is true of the bytes that a reader gave: the known ones where they are known
 pub record OfBytes (known : Option (List ℕ)) (Holds : List ℕ → Type 0) : Type 0 where
   pub bytes : List ℕ
   pub given : IfSome known (λ bs. bs ≡ bytes)

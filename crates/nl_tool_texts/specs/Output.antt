@@ -12,7 +12,7 @@ pub record AppendsPrefixOf (old new : Option (List ℕ)) (text : List ℕ) : Typ
   pub missing : 0 < length rest
   pub appended : Appends old new prefix
 
--- what a writer holds after a command that writes a text: on Ok all of it, after a failed write a part of it, else nothing more
+-- on Ok the writer holds all of the text, after a failed write a part of it, else nothing more
 abbrev pub Prints : (List ℕ → Type 0) → Option (List ℕ) → Option (List ℕ) → Result (Unit {0}) ToolFault → Type 0
 Prints IsText old new (Ok done) = (text : List ℕ) × IsText text × Appends old new text
 Prints IsText old new (Err Write) = (text : List ℕ) × IsText text × AppendsPrefixOf old new text

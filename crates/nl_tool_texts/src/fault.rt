@@ -9,7 +9,7 @@ use std::alloc::AllocError;
 use std::error::Error;
 use std::fmt;
 
-/// Why a command was refused. Its `Display` is the text for the user.
+/// Its `Display` is the text for the user.
 #[derive(Clone, Copy, Debug, PartialEq, Eq)]
 pub enum ToolFault {
     NotALog,
@@ -21,13 +21,13 @@ pub enum ToolFault {
     Folder,
     /// The index, from 0, of the first pair of TIMES whose mtime is negative.
     NegativeTime(usize),
-    /// START, END or MTIME of `record` is no number in its one spelling, or out of its range.
+    /// A number of the words isn't in its one spelling, or is out of its range.
     BadNumber,
     EmptyName,
     /// The place, from 0, of the first byte that no name may have.
     BadByte(usize),
     LongName,
-    /// The number, from 1, of the first bad line of KEEP, TIMES or SCRIPT. Lines that are ignored are counted.
+    /// The number, from 1, of the first bad line of a file. Lines that are ignored are counted.
     BadLine(u64),
     /// A graph has no command of the builds that are told of.
     OtherGraph,
@@ -97,7 +97,6 @@ impl From<LoadFault> for ToolFault {
 
 const REFUSED: u8 = 1;
 
-/// The status with which a program ends after this fault.
 pub fn status_of(_fault: &ToolFault) -> u8
     ensures value { result ≡ 1 }
 {

@@ -6,7 +6,7 @@ ghost use Rattle.nl_tool_texts.specs.Output.{AppendsPrefixOf};
 use crate::fault::ToolFault;
 use std::io::Write;
 
-/// Writes the text, and stops at the first write that fails or takes no byte. A write that was interrupted has failed.
+/// It stops at the first write that fails or takes no byte. A write that was interrupted has failed.
 pub fn write_out<W: Write>(text: &[u8], writer: &mut W) -> Result<(), ToolFault>
     ensures ok { OnOk result (Appends (W.contents writer.old) (W.contents writer.new) text.now) }
     ensures prefix { OnErr result
