@@ -3,7 +3,6 @@ use Rattle.std.specs.Prelude.{⊤}
 use Rattle.nl_tool_texts.specs.declared.fault.ToolFault.{ToolFault}
 use Rattle.nl_tool_texts.specs.declared.fault.ToolFault.TheVariants.{NotALog, OtherVersion, Read, Memory, Write}
 
--- of a command that reads a log
 abbrev pub IsLogFault : ToolFault → Type 0
 IsLogFault NotALog = ⊤
 IsLogFault OtherVersion = ⊤

@@ -15,7 +15,7 @@ pub record HoldsAllBut (old new : Option (List ℕ)) (text held : List ℕ) : Ty
   pub is : text ≡ written ++ held
   pub appended : Appends old new written
 
--- in its one spelling, and a newline
+-- a hash in its one spelling, and a newline
 pub record IsHashText (command text : List ℕ) : Type 0 where
   pub hash : ℕ
   pub is_hash : IsHash command hash
@@ -42,7 +42,7 @@ report_lines version total unique skipped torn due = codes "version " ++ decimal
 abbrev pub report : ℕ → ℕ → ℕ → ℕ → ℕ → List ℕ
 report version total unique skipped torn = report_lines version total unique skipped torn (yes_or_no (is_due version total unique))
 
--- by the numbers of skipped lines and of torn bytes; none if there is no log
+-- none if there is no log
 abbrev pub checked_of : ℕ → ℕ → LogReading → Option (List ℕ)
 checked_of skipped torn (Log version entries) =
     Some (report version (length entries) (length (table (logged version entries))) skipped torn)
@@ -52,7 +52,7 @@ checked_of skipped torn NotALog = None
 abbrev pub check_text_of : List ℕ → Option (List ℕ)
 check_text_of bytes = checked_of (skipped_count bytes) (torn_len bytes) (log_of bytes)
 
--- of the bytes that a reader gave, where they are known
+-- the text is that of the bytes that a reader gave: the known ones where they are known
 pub record IsTextAsRead (text_of : List ℕ → Option (List ℕ)) (known : Option (List ℕ)) (text : List ℕ) : Type 0 where
   pub bytes : List ℕ
   pub given : IfSome known (λ bs. bs ≡ bytes)

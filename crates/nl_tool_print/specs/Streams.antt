@@ -17,12 +17,12 @@ use Rattle.nl_tool_print.specs.Output.{IsTextAsRead}
 
 -- ---- the text of a log that is told line by line
 
--- the first line has this number
+-- `number` is that of the first line
 abbrev pub texts_from : (ℕ → List ℕ → List ℕ) → ℕ → List (List ℕ) → List ℕ
 texts_from of_line number [] = []
 texts_from of_line number (line ∷ lines) = of_line number line ++ texts_from of_line (number + 1) lines
 
--- of each line after the first, and of the rest, by the version and by their numbers; none if there is no log
+-- the first line has no text, and the rest has the number that its line would have; none if there is no log
 abbrev pub text_by_parts : (ℕ → ℕ → List ℕ → List ℕ) → (ℕ → ℕ → List ℕ → List ℕ) → List (List ℕ) → List ℕ → LogReading → Option (List ℕ)
 text_by_parts of_line of_rest lines rest (Log version entries) =
     Some (texts_from (of_line version) 2 (drop 1 lines) ++ of_rest version (length lines + 1) rest)
@@ -43,12 +43,12 @@ entries_text NotALog = None
 abbrev pub entries_text_of : List ℕ → Option (List ℕ)
 entries_text_of bytes = entries_text (log_of bytes)
 
--- nothing of a line that is no entry
+-- a line that is no entry has no text
 abbrev pub entry_text : Option Entry → List ℕ
 entry_text None = []
 entry_text (Some e) = with_newline (line_of e)
 
--- of the log that a reader gave, where its bytes are known
+-- it is the first line of the bytes that a reader gave, where these are known
 abbrev pub IsFirstLine : Option (List ℕ) → FirstLine → Type 0
 IsFirstLine known line = IfSome known (λ bs. (line.version ≡ version_of bs) × (line.is_four ≡ names_four bs))
 
@@ -62,17 +62,17 @@ damage_line number kind len last first = decimal number ++ codes "\t" ++ kind ++
 abbrev pub tabs_in : List ℕ → ℕ
 tabs_in bytes = count_by (λ b. b == 9) bytes
 
--- they begin with a tab, and have four
+-- the bytes begin with a tab, and have four
 abbrev pub has_four_tabs : List ℕ → Bool
 has_four_tabs [] = false
 has_four_tabs (b ∷ bytes) = b == 9 && tabs_in (b ∷ bytes) == 4
 
--- of the first of them the last byte alone; nothing if there are fewer
+-- the first of the five fields is its last byte alone; nothing if there are fewer
 abbrev pub last_five : List ℕ → List ℕ
 last_five [] = []
 last_five (b ∷ bytes) = if has_four_tabs bytes then b ∷ bytes else last_five bytes
 
--- of the entry that these are, and `-` if they are none
+-- `-` if there is no entry
 abbrev pub output_of : Option Entry → List ℕ
 output_of None = codes "-"
 output_of (Some e) = e.name
@@ -85,7 +85,7 @@ abbrev pub or_dash : List ℕ → List ℕ
 or_dash [] = codes "-"
 or_dash (b ∷ bytes) = b ∷ bytes
 
--- of the entry that plain Ninja takes a line for, and `-` if it takes it for none
+-- `-` if plain Ninja takes the line for no entry
 abbrev pub first_of : Option Texts → List ℕ
 first_of None = codes "-"
 first_of (Some t) = or_dash t.name
@@ -93,7 +93,7 @@ first_of (Some t) = or_dash t.name
 abbrev pub named_first : List ℕ → List ℕ
 named_first line = first_of (plain_texts line)
 
--- of a line that is no entry, and isn't too long
+-- a line that is an entry has no text
 abbrev pub skipped_text : ℕ → ℕ → List ℕ → Option Entry → List ℕ
 skipped_text version number line None = damage_line number (codes "skipped") (length line) (named_last version line) (named_first line)
 skipped_text version number line (Some e) = []
@@ -113,7 +113,7 @@ damage_text_of bytes = text_by_lines damage_on torn_on bytes
 
 -- ---- what a writer holds
 
--- a part of the text of what was read so far
+-- the writer got a part of the text of what was read so far
 pub record IsSoFar (text_of : List ℕ → Option (List ℕ)) (known old new : Option (List ℕ)) : Type 0 where
   pub read : List ℕ
   pub given : IfSome known (λ bs. IsPrefix read bs)
@@ -123,7 +123,7 @@ pub record IsSoFar (text_of : List ℕ → Option (List ℕ)) (known old new : O
   pub part : IsPrefix written text
   pub appended : Appends old new written
 
--- of a command that writes while it reads: on Ok all of the text, after a refusal a part of that of what was read so far
+-- the command writes while it reads: on Ok all of the text, after a refusal a part of that of what was read so far
 abbrev pub Streams : (List ℕ → Option (List ℕ)) → Option (List ℕ) → Option (List ℕ) → Option (List ℕ) → Result (Unit {0}) ToolFault → Type 0
 Streams text_of known old new (Ok done) = (text : List ℕ) × IsTextAsRead text_of known text × Appends old new text
 Streams text_of known old new (Err fault) = IsSoFar text_of known old new

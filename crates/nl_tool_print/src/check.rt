@@ -32,8 +32,8 @@ pub fn check_to<R: Read + Drop, W: Write>(
     check_log(alloc, NO_SECRET, Some(LogVersion::Five), reader, writer)
 }
 
-/// The six lines on a log of the version that is asked for, or else of the one that its first line names, whose number comes first.
-/// Names are hashed under the secret.
+/// As `check_to`, on a log of the version that is asked for, or else of the one that its first line names. Names are hashed under the
+/// secret.
 pub fn check_log<R: Read + Drop, W: Write>(
     alloc: Global,
     secret: Secret,

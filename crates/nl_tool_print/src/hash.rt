@@ -12,7 +12,7 @@ use nl_versions::{LogVersion, command_hash_in};
 use std::alloc::{AllocError, Global};
 use std::io::Write;
 
-/// As a log spells it, and a newline.
+/// It writes the hash as a log spells it, and a newline.
 pub fn hash_to<W: Write>(alloc: Global, command: &[u8], writer: &mut W) -> Result<(), ToolFault>
     ensures prints { Prints (IsHashText command.now) (W.contents writer.old)
         (W.contents writer.new) result }
@@ -21,7 +21,7 @@ pub fn hash_to<W: Write>(alloc: Global, command: &[u8], writer: &mut W) -> Resul
     hash_for(alloc, LogVersion::Five, command, writer)
 }
 
-/// As a log of the version spells it, and a newline.
+/// It writes the hash as a log of the version spells it, and a newline.
 pub fn hash_for<W: Write>(
     alloc: Global,
     version: LogVersion,

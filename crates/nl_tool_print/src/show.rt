@@ -39,7 +39,7 @@ pub fn show_to<R: Read + Drop, W: Write>(
     show_log(alloc, NO_SECRET, Some(LogVersion::Five), reader, writer)
 }
 
-/// Of a log of the version that is asked for, or else of the one that its first line names. Names are hashed under the secret.
+/// The log is one of the version that is asked for, or else of the one that its first line names. Names are hashed under the secret.
 pub fn show_log<R: Read + Drop, W: Write>(
     alloc: Global,
     secret: Secret,
@@ -61,7 +61,6 @@ pub fn show_log<R: Read + Drop, W: Write>(
     write_lines(&loaded.table, &mut piece, writer)
 }
 
-// As many at a time as the piece has room for.
 pub fn write_lines<W: Write>(
     table: &Table,
     piece: &mut Vec<u8>,
@@ -85,7 +84,6 @@ pub fn write_lines<W: Write>(
     write_out(piece.as_slice(), writer)
 }
 
-// Writes what is held if the longest line might not fit behind it.
 pub fn make_room<W: Write>(held: &mut Vec<u8>, writer: &mut W) -> Result<(), ToolFault>
     requires { MAX_ENTRY_LINE ≤ vec_capacity held.old }
     ensures room { OnOk result (vec_len held.new + MAX_ENTRY_LINE ≤ vec_capacity held.new) }
