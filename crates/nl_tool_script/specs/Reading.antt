@@ -33,7 +33,6 @@ pub record IsLineOf (event : Event) (line : List ℕ) : Type 0 where
   pub some : KeepsSome event
   pub is : line ≡ event_line event
 
--- the word of an event, and what stands behind it
 abbrev pub word_of_event : Event → Word
 word_of_event (OpenLog keep) = word.Open
 word_of_event (Record e) = word.Record
@@ -56,7 +55,7 @@ SaysNames text = (names : List (List ℕ)) × Each IsName names × (text ≡ fla
 abbrev pub SaysTimes : List ℕ → Type 0
 SaysTimes text = (times : List (List ℕ × ℤ)) × Each IsTime times × (text ≡ flat_map time_fields times)
 
--- such a line takes memory
+-- to read such a line takes memory
 abbrev pub HoldsNames : List ℕ → Type 0
 HoldsNames line = (rest : List ℕ) × ((line ≡ codes "open" ++ 9 ∷ rest) ⊎ (line ≡ codes "record" ++ 9 ∷ rest)
     ⊎ (line ≡ codes "recompact" ++ 9 ∷ rest) ⊎ (line ≡ codes "restat" ++ 9 ∷ rest))

@@ -50,12 +50,12 @@ text_of_word word.Sync = codes "sync"
 text_of_word word.Stop = codes "stop"
 text_of_word word.Crash = codes "crash"
 
--- what stands behind a word: nothing, or a tab and the rest
+-- what follows a word: nothing, or a tab and the rest
 abbrev pub behind_tab : Option (Bor (List ℕ)) → List ℕ
 behind_tab None = []
 behind_tab (Some rest) = 9 ∷ rest.now
 
--- a name behind its tab, and so an mtime and a name
+-- a tab comes before each name and each mtime
 abbrev pub name_field : List ℕ → List ℕ
 name_field name = 9 ∷ name
 
@@ -94,7 +94,7 @@ abbrev pub is_filled : List ℕ → Bool
 is_filled [] = false
 is_filled (b ∷ line) = true
 
--- but for empty ones, its lines are some that set something, and then one for each event, which keeps all names if it has none
+-- empty lines aside, settings come first, and then a line for each event
 pub record IsScript (lines : List (List ℕ)) (events : List Event) : Type 0 where
   pub settings : List (List ℕ)
   pub set : Each IsSetting settings
@@ -138,11 +138,11 @@ reply_line reply = reply_words reply ++ 10 ∷ []
 abbrev pub log_line : List ℕ → List ℕ
 log_line bytes = codes "log " ++ decimal (length bytes) ++ 10 ∷ []
 
--- a line a reply, and then the log behind a line with its length
+-- a line for each reply, a line with the log's length, and the log
 abbrev pub printed : List Reply → List ℕ → List ℕ
 printed replies log = flat_map reply_line replies ++ log_line log ++ log
 
--- the events had these replies, one each, over a folder whose log was empty; the machine may so answer, and the headline holds of the disk
+-- the folder's log was empty, the machine may answer so, and the headline holds of the disk
 pub record IsReplayOf (events : List Event) (text : List ℕ) : Type 0 where
   pub replies : List Reply
   pub disk : Disk
@@ -153,6 +153,6 @@ pub record IsReplayOf (events : List Event) (text : List ℕ) : Type 0 where
   pub headline : Headline (Began 5) (zip events replies) disk
   pub is : text ≡ printed replies disk.visible
 
--- of the script in a reader's bytes, where they are known
+-- the script is in the bytes that a reader gave
 abbrev pub IsReplayText : Option (List ℕ) → List ℕ → Type 0
 IsReplayText known text = OfBytes known (λ bytes. (events : List Event) × IsScript (file_lines bytes) events × IsReplayOf events text)

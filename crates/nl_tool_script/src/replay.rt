@@ -28,7 +28,6 @@ pub fn replay_to<R: Read + Drop, W: Write>(
     write_out(text.as_slice(), writer)
 }
 
-// The log is empty, and the folder is told what the script sets.
 fn set_up(alloc: Global, script: Script) -> (MemFolder, Vec<Event>)
     ensures state { mem_view_of result.0 ≡ durable_view [] }
     ensures failures { failure_count result.0 ≡ 0 }
@@ -58,7 +57,6 @@ fn run_script(alloc: Global, script: Script) -> Result<Vec<u8>, AllocError>
     }
 }
 
-// A line a reply, and the log behind a line with its length.
 fn text_of(alloc: Global, replies: &[Reply], log: &[u8]) -> Result<Vec<u8>, AllocError>
     ensures value { IfOk result (λ text. text.items ≡ printed replies.now log.now) }
 {

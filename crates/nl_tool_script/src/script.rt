@@ -132,7 +132,6 @@ fn with_last(
     Ok(script)
 }
 
-// It passes over an empty line.
 fn take_line(alloc: Global, line: &[u8], number: u64, script: &mut Script) -> Result<(), ToolFault>
     ensures ok { OnOk result
         (TakesScriptLine script.old.events.items script.new.events.items line.now) }
@@ -203,7 +202,7 @@ pub fn read_event_line(alloc: Global, line: &[u8]) -> Result<Event, LineRefusal>
     }
 }
 
-/// None stands behind if there is no tab.
+/// The second part is none if there is no tab.
 pub fn split_tab(text: &[u8]) -> (&[u8], Option<&[u8]>)
     ensures line { text.now ≡ result.0.now ++ behind_tab result.1 }
     ensures no_tab { HasNoTab result.0.now }
@@ -266,7 +265,6 @@ fn read_event(alloc: Global, word: Word, rest: Option<&[u8]>) -> Result<Event, L
     }
 }
 
-// All names, if none is given.
 fn read_keep(alloc: Global, text: Option<&[u8]>) -> Result<KeepList, LineRefusal>
     ensures line { IfOk result (λ keep. keep_fields keep ≡ behind_tab text.entry) }
     ensures some { IfOk result NamesSome }
@@ -370,7 +368,6 @@ fn call_named(name: &str) -> Option<Call>
     }
 }
 
-// From 0 up to 2^63 - 1, in its one spelling.
 fn read_number(text: &[u8]) -> Option<u64>
     ensures value { IfSome result (λ n. IsDecimal (pos n) text.now) }
     ensures accepts { (n : ℕ) → n < 2 ^ 63 → IsDecimal (pos n) text.now → result ≡ Some n }
