@@ -39,7 +39,7 @@ use Rattle.nl_tool_change.specs.Updates.{StaysRepaired, dead_but, none_dead}
 
 -- ---- what is asked
 
--- the update that it is of a history, what it makes of the bytes of a log with this table, and the mtimes that it sets
+-- the update of a history, what is made of the bytes of a log with this table, and the mtimes that are set
 pub record Meaning : Type 0 where
   pub update : History → Update
   pub bytes : List Entry → List ℕ → List ℕ
@@ -48,7 +48,7 @@ pub record Meaning : Type 0 where
 abbrev pub adding : Entry → Meaning
 adding e = record { update = λ h. Enter e; bytes = λ es bs. bs ++ with_newline (line_of e); times = [] }
 
--- the text of the table without them is the log
+-- the log is then the text of the table without these outputs
 abbrev pub dropping : (List ℕ → Bool) → Meaning
 dropping dead = record { update = forget_dead dead; bytes = λ es bs. text_of (survivors dead es); times = [] }
 
@@ -61,11 +61,11 @@ keeping_all = dropping none_dead
 abbrev pub hashed : Entry → List ℕ → LogVersion → Entry
 hashed e command version = record e { hash = hash_as version command }
 
--- the text of the table with these mtimes is the log
+-- the log is then the text of the table with these mtimes
 abbrev pub touching : List (List ℕ × ℤ) → Meaning
 touching pairs = record { update = λ h. Touch pairs; bytes = λ es bs. text_of (touched_table pairs es); times = pairs }
 
--- its first negative mtime, or the faults of adding an entry
+-- the first negative mtime is at fault, or the change fails as adding an entry does
 abbrev pub IsFaultBy : Meaning → ToolFault → Type 0
 IsFaultBy m (NegativeTime index) = IsFirstNegative m.times index
 IsFaultBy m fault = IsRecordFault fault
@@ -85,7 +85,7 @@ pub record Makes (m : Meaning) (result : Result (Unit {0}) LogFault) (old new : 
 
 -- ---- the log of a folder
 
--- of an honest folder: the change is made, or it isn't, or after a fault a crash decides; if an mtime is negative the log was opened; and
+-- in an honest folder the change is made, or it isn't, or after a fault a crash decides; if an mtime is negative the log was opened; and
 -- bytes that are no log stay as they are, whatever the answer
 pub record ChangesDisk (m : Meaning) (result : Result (Unit {0}) ToolFault) (old new : Option Disk) : Type 0 where
   pub leaves : (start : History) → BeginsAt start old → UpdateLeaves m.update start result new
@@ -125,14 +125,14 @@ pub record ChangesSeen (version : LogVersion) (m : Meaning) (result : Result (Un
   pub count : old.failures ≡ 0 → IsCounted result old.failures new.failures
   pub refusals : IfErr result IsChangeFault
 
--- of version 5 it is that of a log as it stands, no more and no less
+-- in version 5 the change is that of a log as it stands, no more and no less
 pub record ChangesLogAs (version : LogVersion) (m : Meaning) (result : Result (Unit {0}) ToolFault) (old new : FolderView) : Type 0 where
   pub seen : ChangesSeen version m result old new
   pub five : version ≡ Five → ChangesLog m result old new
 
 -- ---- which version
 
--- the one that is asked for, or else the one that the bytes of an honest folder name
+-- the version is the one that is asked for, or else the one that the bytes of an honest folder name
 abbrev pub IsVersionFor : Option LogVersion → Option Disk → LogVersion → Type 0
 IsVersionFor (Some asked) disk version = version ≡ asked
 IsVersionFor None disk version = (d : Disk) → disk ≡ Some d → version ≡ version_of d.visible
@@ -141,7 +141,7 @@ IsVersionFor None disk version = (d : Disk) → disk ≡ Some d → version ≡ 
 abbrev pub IsFree : Option Disk → LogVersion → Type 0
 IsFree disk version = (d : Disk) → disk ≡ Some d → is_barred version d.visible ≡ false
 
--- the look at its folder failed; or 6 or 7 is asked for, and the log is of version 4
+-- the look at the folder failed; or 6 or 7 is asked for, and the log is of version 4
 abbrev pub IsReason : Option LogVersion → Option Disk → ℕ → ℕ → LogFault → Type 0
 IsReason asked disk before after refusal.Fault = FailedBetween before after
 IsReason asked disk before after refusal.OtherVersion = (after ≡ before)
@@ -157,7 +157,7 @@ pub record Looks (asked : Option LogVersion) (old new : FolderView) (result : Re
   pub free : IfOk result (IsFree old.disk)
   pub refusals : IfErr result (IsReason asked old.disk old.failures new.failures)
 
--- of the version that is asked for, or else of the one that the log has
+-- the log is one of the version that is asked for, or else of the one that it has
 pub record ChangesLogFor (asked : Option LogVersion) (m : LogVersion → Meaning) (result : Result (Unit {0}) ToolFault)
     (old new : FolderView) : Type 0 where
   pub version : LogVersion
@@ -166,7 +166,7 @@ pub record ChangesLogFor (asked : Option LogVersion) (m : LogVersion → Meaning
 
 -- ---- what stands about it
 
--- or has this bad line; the folder is as it came
+-- the file can't be read, or has a bad line; the folder is as it came
 pub record IsUnread {T F : Type 0} (reading : List ℕ → FileReading T) (known : Option (List ℕ)) (result : Result (Unit {0}) ToolFault)
     (old new : F) : Type 0 where
   pub refused : IsErrAnd result IsFileFault
@@ -212,7 +212,7 @@ pub record Repairs (result : Result (Unit {0}) ToolFault) (old new : Option Disk
   pub contents : (d : Disk) → old ≡ Some d → OnOk result (IsRepaired d.visible new)
   pub again : (d : Disk) → old ≡ Some d → OnOk result (StaysRepaired new)
 
--- of the version that is asked for, or else of the one that the log has
+-- the log is one of the version that is asked for, or else of the one that it has
 pub record RepairsFor (asked : Option LogVersion) (result : Result (Unit {0}) ToolFault) (old new : Option Disk) : Type 0 where
   pub version : LogVersion
   pub chosen : IsVersionFor asked old version

@@ -19,7 +19,7 @@ pub record AreDistrusted (asked : Option LogVersion) (bytes : List ℕ) (es : Li
   pub is_log : log_for asked bytes ≡ Log version entries
   pub are : es ≡ distrusted_in version bytes (table (logged version entries))
 
--- the folder failed meanwhile, the bytes of an honest one are no log or one of another version, or memory was wanting
+-- the folder failed meanwhile, the bytes of an honest one are no log or one of another version, or memory was refused
 abbrev pub IsUntold : Option LogVersion → Option Disk → ℕ → ℕ → LogFault → Type 0
 IsUntold asked disk before after refusal.Fault = FailedBetween before after
 IsUntold asked disk before after refusal.NotALog = (d : Disk) → disk ≡ Some d → log_for asked d.visible ≡ NotALog

@@ -6,7 +6,7 @@ use Rattle.nl_tool_change.specs.RecordWords.{GiveEntry, IsWordFault}
 use Rattle.nl_tool_texts.specs.declared.fault.ToolFault.{ToolFault}
 use Rattle.nl_tool_texts.specs.declared.fault.ToolFault.TheVariants.{NotALog, OtherVersion, Read, Memory, Write, Folder, NegativeTime, BadLine}
 
--- of an open log, or of the opening of a closed one
+-- an open log refuses so, or the opening of a closed one
 abbrev pub IsOpenOrChangeRefusal : LogFault → Type 0
 IsOpenOrChangeRefusal refusal.NotOpen = ⊥
 IsOpenOrChangeRefusal refusal.AlreadyOpen = ⊥
@@ -31,7 +31,7 @@ abbrev pub of_log_answer : Result (Unit {0}) LogFault → Result (Unit {0}) Tool
 of_log_answer (Ok done) = Ok done
 of_log_answer (Err why) = Err (of_log_fault why)
 
--- of a file that is read line by line
+-- the file is read line by line
 abbrev pub IsFileFault : ToolFault → Type 0
 IsFileFault Read = ⊤
 IsFileFault Memory = ⊤
@@ -45,7 +45,7 @@ IsRecordFault Memory = ⊤
 IsRecordFault Folder = ⊤
 IsRecordFault _ = ⊥
 
--- of a record, or an mtime is negative
+-- the fault is that of a record, or an mtime is negative
 abbrev pub IsChangeFault : ToolFault → Type 0
 IsChangeFault (NegativeTime index) = ⊤
 IsChangeFault fault = IsRecordFault fault
@@ -65,7 +65,7 @@ IsLinesFault Memory = ⊤
 IsLinesFault Write = ⊤
 IsLinesFault _ = ⊥
 
--- or what was recorded couldn't be synced at the end
+-- what was recorded may fail to be synced at the end
 abbrev pub IsApplyFault : ToolFault → Type 0
 IsApplyFault Folder = ⊤
 IsApplyFault fault = IsLinesFault fault
@@ -75,6 +75,6 @@ IsNoLogFault NotALog = ⊤
 IsNoLogFault OtherVersion = ⊤
 IsNoLogFault _ = ⊥
 
--- of the words, and if these give an entry, of adding it
+-- the words are at fault, or they give an entry and adding it is
 abbrev pub IsEntryFault : List ℕ → List ℕ → List ℕ → List ℕ → ToolFault → Type 0
 IsEntryFault start end mtime name fault = IsWordFault start end mtime name fault ⊎ (GiveEntry start end mtime name × IsRecordFault fault)

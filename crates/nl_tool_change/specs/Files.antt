@@ -8,7 +8,7 @@ use Rattle.nl_fields.specs.Name.{is_name}
 use Rattle.nl_lines.specs.Lines.{max_line}
 use Rattle.nl_tool_texts.specs.Files.{file_lines}
 
--- a part each, in order, or nothing, if the line of this number is the first bad one
+-- the lines say these parts, in order, or the line of this number is the first bad one
 pub data FileReading (T : Type 0) : Type 0 where
   Says : List T → FileReading T
   BadAt : ℕ → FileReading T
@@ -21,7 +21,7 @@ abbrev pub said_before : {T : Type 0} → Option T → ℕ → FileReading T →
 said_before None number later = BadAt number
 said_before (Some part) number later = before part later
 
--- none of a line that is too long
+-- a line that is too long says no part
 abbrev pub part_on : {T : Type 0} → (List ℕ → Option T) → List ℕ → Option T
 part_on part_of line = if nat_le (length line) max_line then part_of line else None
 
@@ -47,7 +47,7 @@ said_by part_of bytes = said_from part_of 1 (file_lines bytes)
 abbrev pub name_on : List ℕ → Option (List ℕ)
 name_on line = if is_name line then Some line else None
 
--- what stands before the first tab is an mtime in its one spelling, and what follows the tab a name
+-- an mtime in its one spelling stands before the first tab, and a name after it
 abbrev pub is_pair : List ℕ → List ℕ → Bool
 is_pair time name = is_within 63 (integer_of time) && (bytes_eq (decimal_of (integer_of time)) time && is_name name)
 
@@ -63,17 +63,17 @@ times_of bytes = said_by pair_on bytes
 abbrev pub has_no_space : List ℕ → Bool
 has_no_space bytes = list_all (λ b. not (b == 32)) bytes
 
--- a space, and no other behind it
+-- a space, and no other after it
 abbrev pub begins_rule : List ℕ → Bool
 begins_rule [] = false
 begins_rule (b ∷ bytes) = b == 32 && has_no_space bytes
 
--- before the last space of a line, if that is this much of the bytes behind the first one
+-- the front of a line that has `b` before `bytes`, by that of `bytes`
 abbrev pub cut_behind : ℕ → List ℕ → Option (List ℕ) → Option (List ℕ)
 cut_behind b bytes (Some front) = Some (b ∷ front)
 cut_behind b bytes None = if b == 58 && begins_rule bytes then Some [] else None
 
--- a colon must stand behind it, which is left out
+-- what stands before the last space, less the colon that must end it
 abbrev pub before_rule : List ℕ → Option (List ℕ)
 before_rule [] = None
 before_rule (b ∷ bytes) = cut_behind b bytes (before_rule bytes)

@@ -22,7 +22,7 @@ use Rattle.nl_tool_change.specs.Faults.{IsRecordFault}
 
 -- ---- a log that is read
 
--- the folder failed meanwhile, or memory was wanting
+-- the folder failed meanwhile, or memory was refused
 abbrev pub IsNoRead : ℕ → ℕ → LogFault → Type 0
 IsNoRead before after refusal.Fault = FailedBetween before after
 IsNoRead before after refusal.OutOfMemory = ⊤
@@ -35,7 +35,7 @@ pub record ReadsLog (old new : FolderView) (result : Result (Vec ℕ) LogFault) 
   pub value : IfOk result (λ bytes. (d : Disk) → old.disk ≡ Some d → d.visible ≡ bytes.items)
   pub refusals : IfErr result (IsNoRead old.failures new.failures)
 
--- as it is said
+-- the fault is in the tool's words
 abbrev pub IsNoWhole : ℕ → ℕ → ToolFault → Type 0
 IsNoWhole before after Folder = FailedBetween before after
 IsNoWhole before after Memory = ⊤
@@ -49,8 +49,8 @@ pub record ReadsWhole (old new : FolderView) (result : Result (Vec ℕ) ToolFaul
 
 -- ---- a log that is mended
 
--- of an honest folder: on Ok the text of the table with the intents, whatever crash comes; after any answer whatever is found could be found
--- before, or is that text; and bytes that are no log stay as they are
+-- in an honest folder on Ok the log is the text of the table with the intents, whatever crash comes; after any answer what is found could be
+-- found before, or is that text; and bytes that are no log stay as they are
 pub record MendsDisk (names : List (List ℕ)) (result : Result (Unit {0}) ToolFault) (old new : Option Disk) : Type 0 where
   pub contents : OnOk result (Rewrites (with_intents names) old new)
   pub left : IsErrOf result Folder → MendFaults names old new
@@ -68,7 +68,7 @@ pub record MendsLog (names : List (List ℕ)) (result : Result (Unit {0}) ToolFa
   pub count : IsCounted result old.failures new.failures
   pub refusals : IfErr result IsRecordFault
 
--- the same of a log that is seen as one of the version
+-- the log is seen as one of the version
 pub record MendsSeen (version : LogVersion) (names : List (List ℕ)) (result : Result (Unit {0}) ToolFault) (old new : FolderView) : Type 0 where
   pub disk : MendsDisk names result (seen_as_version version old.disk) (seen_as_version version new.disk)
   pub settled : OnOk result (IsTrue new.is_settled)
@@ -76,7 +76,7 @@ pub record MendsSeen (version : LogVersion) (names : List (List ℕ)) (result : 
   pub count : old.failures ≡ 0 → IsCounted result old.failures new.failures
   pub refusals : IfErr result IsRecordFault
 
--- and of a log of the version; of version 5 it is that of a log as it stands, no more and no less
+-- in version 5 the mend is that of a log as it stands, no more and no less
 pub record MendsLogAs (version : LogVersion) (names : List (List ℕ)) (result : Result (Unit {0}) ToolFault) (old new : FolderView) : Type 0 where
   pub seen : MendsSeen version names result old new
   pub five : version ≡ Five → MendsLog names result old new

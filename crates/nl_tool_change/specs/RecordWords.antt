@@ -9,7 +9,7 @@ use Rattle.nl_fields.specs.Name.{HasFault, IsName}
 use Rattle.nl_tool_texts.specs.declared.fault.ToolFault.{ToolFault}
 use Rattle.nl_tool_texts.specs.declared.fault.ToolFault.TheVariants.{Memory, BadNumber, EmptyName, BadByte, LongName}
 
--- in their ranges
+-- each is in its range
 pub record AreNumbers (start end mtime : List ℕ) : Type 0 where
   pub start_ms : ℤ
   pub start_fits : FitsSigned w32 start_ms
@@ -21,7 +21,6 @@ pub record AreNumbers (start end mtime : List ℕ) : Type 0 where
   pub time_fits : FitsSigned w64 time
   pub time_is : IsDecimal time mtime
 
--- three numbers and a name
 pub record GiveEntry (start end mtime name : List ℕ) : Type 0 where
   pub numbers : AreNumbers start end mtime
   pub named : IsName name
@@ -44,7 +43,7 @@ pub record IsNoName (bytes : List ℕ) (fault : ToolFault) : Type 0 where
   pub refused : why ≢ name.OutOfMemory
   pub is : fault ≡ of_name_fault why
 
--- a number is none; or the numbers are right, and the name is none
+-- a text is no number, or the numbers are right and the name is no name
 abbrev pub IsWordFault : List ℕ → List ℕ → List ℕ → List ℕ → ToolFault → Type 0
 IsWordFault start end mtime name fault =
     ((fault ≡ BadNumber) × ¬ AreNumbers start end mtime) ⊎ (AreNumbers start end mtime × IsNoName name fault)

@@ -31,7 +31,7 @@ history_kept h = history_opened none_dead h
 abbrev pub history_updated : (History → Update) → History → History
 history_updated update start = Then (history_kept start) (update (history_kept start))
 
--- also after a crash
+-- whatever may be found, also after a crash
 abbrev pub OfAllFound : (List ℕ → Type 0) → Option Disk → Type 0
 OfAllFound Holds disk = IsSomeAnd disk (λ d. (bs : List ℕ) → IsImage d bs → Holds bs)
 
@@ -39,12 +39,12 @@ OfAllFound Holds disk = IsSomeAnd disk (λ d. (bs : List ℕ) → IsImage d bs �
 abbrev pub MayRepresent : (History → Update) → History → List ℕ → Type 0
 MayRepresent update start bs = Represents bs start ⊎ Represents bs (history_kept start) ⊎ Represents bs (history_updated update start)
 
--- after the answer to an update of a log with this history
+-- `start` is the history that the log has before the update
 abbrev pub UpdateLeaves : {E : Type 0} → (History → Update) → History → Result Unit E → Option Disk → Type 0
 UpdateLeaves update start (Ok done) disk = OfAllFound (λ bs. Represents bs (history_updated update start)) disk
 UpdateLeaves update start (Err fault) disk = OfAllFound (MayRepresent update start) disk
 
--- every crash leaves them so
+-- the bytes stay so after every crash
 abbrev pub IsUpdated : (List Entry → List ℕ → List ℕ) → List ℕ → Option Disk → Type 0
 IsUpdated bytes found disk =
     IsSomeAnd (history_of (opened_bytes none_dead found)) (λ h. IsDurable (bytes (table h) (opened_bytes none_dead found)) disk)
@@ -63,7 +63,7 @@ StaysRepaired disk = IsSomeAnd disk (λ d. repaired_text d.visible ≡ Some d.vi
 abbrev pub HasTable : History → List ℕ → Type 0
 HasTable h bs = IsSomeAnd (history_of bs) (λ (found : History). table found ≡ table h)
 
--- of bytes that were a log, whatever crash comes
+-- the bytes were a log, and are opened, whatever crash comes
 pub record IsOpenLeft (found : Disk) (disk : Option Disk) : Type 0 where
   pub log : IsLog found.visible
   pub left : IsDurable (opened_bytes none_dead found.visible) disk
@@ -82,7 +82,7 @@ abbrev pub GoesBy : Update → Result Unit LogFault → State → State → Type
 GoesBy update (Ok done) s t = (t ≡ gained_state s update) ⊎ (t ≡ durable_at (Then (all_of s) update) Open)
 GoesBy update (Err why) s t = (t ≡ s) ⊎ MayHaveGained s update t
 
--- from the state at which the log was
+-- `s` is the state from which the log came
 pub record Changes (update : Update) (result : Result Unit LogFault) (s : State) (disk : Option Disk) (settled : Bool) (mode : LogState)
     (entries : List Entry) : Type 0 where
   pub next : State

@@ -31,7 +31,7 @@ pub enum Asked<'a> {
     Doubts,
     Begins(Begin),
     Bad,
-    /// Memory was wanting, so nobody knows.
+    /// Memory was refused, so what is asked isn't known.
     Unread,
 }
 

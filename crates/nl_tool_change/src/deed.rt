@@ -35,7 +35,6 @@ impl Model for Deed {
 }
 
 impl Deed {
-    /// It takes the memory of the set.
     pub fn of(alloc: Global, secret: Secret, event: Event) -> Result<Deed, AllocError>
         ensures value { IfOk result (λ deed. deed ≡ event) }
         ensures memory { IsErr result → KeepsNames event }
@@ -50,7 +49,7 @@ impl Deed {
         &self.event
     }
 
-    /// It looks names up in the set, because comparing each with each would take too long.
+    /// It looks names up in the set, because it would take too long to compare each with each.
     pub(crate) fn ask<F: Folder>(&self, log: &mut Log<F>) -> Reply
         requires no_crash { self.now ≢ Event.Crash }
         ensures answered { Answered self.now result (view_of log.old) (view_of log.new) }
@@ -63,7 +62,6 @@ impl Deed {
     }
 }
 
-// None without a list.
 fn set_for(alloc: Global, secret: Secret, event: &Event) -> Result<Option<NameSet>, AllocError>
     ensures value { IfOk result (SetsFor event.now) }
     ensures memory { IsErr result → KeepsNames event.now }

@@ -15,8 +15,8 @@ use nl_table::{LoadFault, Secret, Table};
 use nl_versions::{LogVersion, load_seen};
 use std::alloc::Global;
 
-/// Of a log of the version that is asked for, or else of the one that its first line names. It takes the memory of the log's bytes, and of
-/// its table.
+/// The log is one of the version that is asked for, or else of the one that its first line names. It takes the memory of the log's bytes,
+/// and of its table.
 pub fn distrusted_for<F: Folder>(
     alloc: Global,
     secret: Secret,

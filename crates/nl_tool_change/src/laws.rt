@@ -1,4 +1,4 @@
-//! Laws of a repaired log, of a damaged one, and of a change by a file. Each is the contract of a function that does nothing.
+//! Laws of a repaired log, of a damaged one, and of a change by a file, each the contract of a function that does nothing.
 ghost use Rattle.std.specs.Prelude.{◌≡◌, ◌↔◌, [], ℕ, List, Option, Some, Result};
 ghost use Rattle.nl_lines.specs.Split.{torn_len};
 ghost use Rattle.nl_table.specs.Log.{skipped_count};
@@ -21,7 +21,7 @@ pub fn a_repaired_log_has_no_damage()
     ensures { (bytes : List ℕ) → repaired_text bytes ≡ Some bytes → damage_text_of bytes ≡ Some [] }
 {}
 
-/// Each answer of a change by KEEP is of the names that it holds, or nothing was done.
+/// A change by KEEP answers by the names that KEEP holds, or nothing was done.
 pub fn keep_is_read_first<F: Folder>()
     ensures { (known : Option (List ℕ)) (result : Result (Unit {0}) ToolFault) (old new : F)
         → ChangesAsRead F.Folder keep_of keeping known result old new
@@ -29,7 +29,7 @@ pub fn keep_is_read_first<F: Folder>()
         (folder_view F.Folder new) }
 {}
 
-/// Each answer of a change by TIMES is of the pairs that it holds, or nothing was done.
+/// A change by TIMES answers by the pairs that TIMES holds, or nothing was done.
 pub fn times_are_read_first<F: Folder>()
     ensures { (known : Option (List ℕ)) (result : Result (Unit {0}) ToolFault) (old new : F)
         → ChangesAsRead F.Folder times_of touching known result old new

@@ -5,7 +5,6 @@ ghost use Rattle.nl_tool_change.specs.Faults.{IsOpenOrChangeRefusal, of_log_faul
 use nl_session::LogFault;
 use nl_tool_texts::ToolFault;
 
-/// Of an update that an open log, or the opening of a closed one, refused.
 pub fn of_log_fault(fault: LogFault) -> ToolFault
     requires { IsOpenOrChangeRefusal fault }
     ensures value { result ≡ of_log_fault fault }

@@ -37,7 +37,7 @@ impl Part for Target {
     }
 }
 
-// A colon must stand behind it, which is left out.
+// A colon must stand before the last space, and is left out.
 fn before_rule(line: &[u8]) -> Option<&[u8]>
     ensures value { option_map (λ target. target.now) result ≡ before_rule line.now }
 {

@@ -15,7 +15,7 @@ use nl_tool_texts::ToolFault;
 use nl_versions::{LogVersion, Version, VersionFolder, VersionSeven, VersionSix};
 use std::alloc::Global;
 
-/// Puts an intent over the entry of each output that is named, and makes that durable. What was damaged is gone then.
+/// It makes the intents durable. Damaged lines are gone then, because the log is written anew.
 pub fn mend_on<F: Folder>(
     alloc: Global,
     place: FoundFolder<F>,

@@ -21,9 +21,8 @@ pub trait Part: Drop {
 #[derive(Drop)]
 struct SoFar<P: Part> {
     parts: Vec<P>,
-    // With the lines that say nothing.
+    // Lines that say nothing are counted, too.
     count: u64,
-    // The number of the first bad line.
     bad: Option<u64>,
 }
 
@@ -81,7 +80,6 @@ fn take<P: Part>(alloc: Global, line: &[u8], so_far: &mut SoFar<P>) -> Result<()
     Ok(())
 }
 
-// A line that is too long.
 fn refuse<P: Part>(so_far: &mut SoFar<P>)
     requires room { so_far.old.count < 2 ^ 63 }
     ensures value { (line : List ℕ) → max_line < length line
@@ -95,7 +93,6 @@ fn refuse<P: Part>(so_far: &mut SoFar<P>)
     }
 }
 
-// What follows the last newline, as it is lent.
 fn take_rest<P: Part>(
     alloc: Global,
     len: u64,

@@ -17,10 +17,10 @@ use std::alloc::Global;
 
 /// Each folder is a place, whose log is changed as it is.
 pub trait LogPlace: Sized {
-    // By what the change means, and by its answer.
+    // What a change makes of the place, by what it means and by its answer.
     ghost changes: { Meaning → Result (Unit {0}) ToolFault → Self → Self → Type 0 };
 
-    // Of a change that drops nothing.
+    // What a change that drops nothing makes of the place.
     ghost repairs: { Result (Unit {0}) ToolFault → Self → Self → Type 0 };
 
     fn secret(&self) -> Secret;

@@ -30,7 +30,6 @@ impl Part for (Name, i64) {
     }
 }
 
-// The bytes before the first tab, and those after it.
 fn time_and_name(line: &[u8]) -> Option<(&[u8], &[u8])>
     ensures found { IfSome result
         (λ parts. (parts.0.now ≡ before_tab line.now) × (parts.1.now ≡ after_tab line.now)) }
@@ -43,7 +42,7 @@ fn time_and_name(line: &[u8]) -> Option<(&[u8], &[u8])>
     }
 }
 
-/// Reads TIMES. It takes the memory of the pairs.
+/// It takes the memory of the pairs.
 pub fn read_times<R: Read + Drop>(alloc: Global, reader: R) -> Result<Vec<(Name, i64)>, ToolFault>
     ensures value { IfOk result
         (λ times. OfBytes (R.remaining reader) (λ bytes. times_of bytes ≡ Says times.items)) }
