@@ -20,14 +20,12 @@ use Rattle.nl_tool_doubt.specs.declared.doubts.Doubts.{Doubts}
 
 -- ---- whether change times count
 
--- a file, and one that was changed more than a second behind the time at which it was written
 abbrev pub is_file : Looked → Bool
 is_file l = is_written l.file
 
 abbrev pub is_moved : Looked → Bool
 is_moved l = was_moved l.file
 
--- one whose file isn't missing
 abbrev pub is_there : Looked → Bool
 is_there l = is_present l.file
 
@@ -37,7 +35,7 @@ is_copied looked = nat_lt (count_by is_file looked / 2) (count_by is_moved looke
 
 -- ---- the outputs that can't be trusted
 
--- one that damage is about comes before what its file says
+-- damage comes before what the file says
 abbrev pub why : List Entry → Option Doubt → Entry → Option Doubt
 why damaged doubt e = if is_some (entry_named damaged e.name) then Some Damaged else doubt
 
@@ -48,11 +46,10 @@ doubted e (Some doubt) = record { why = doubt; entry = e } ∷ []
 abbrev pub named_by : List Entry → Bool → Stamps → List Entry → Looked → List Doubted
 named_by damaged counts stamps ls l = doubted l.entry (why damaged (doubt_of counts stamps ls l.entry l.file) l.entry)
 
--- in the order of the outputs
 abbrev pub named : List Entry → Stamps → List Entry → List Looked → List Doubted
 named damaged stamps ls looked = flat_map (named_by damaged (not (is_copied looked)) stamps ls) looked
 
--- what was said of the file is so, where it is known
+-- the file is in the state that is known, if it is
 abbrev pub IsSaidOf : Option (List ℕ → FileState) → Looked → Type 0
 IsSaidOf states l = IfSome states (λ state_of. l.file ≡ state_of l.entry.name)
 
@@ -71,14 +68,13 @@ pub record AreDoubts (damaged : List Entry) (stamps : Stamps) (lines entries : L
   pub there : doubts.there ≡ count_by is_there looked
   pub copied : doubts.copied ≡ is_copied looked
 
--- those on a log
 pub record IsDoubts (damaged : List Entry → List Entry) (log : List ℕ) (states : Option (List ℕ → FileState)) (doubts : Doubts) : Type 0 where
   pub version : ℕ
   pub lines : List Entry
   pub reads : log_of (as_five log) ≡ Log version lines
   pub are : AreDoubts (damaged (table (logged version lines))) (stamps_of log) lines (table (logged version lines)) states doubts
 
--- none is damaged, or those are that a damaged or torn line of the log may be about
+-- `doubt` takes no output for damaged, and `mend` those that a damaged or torn line of the log may be about
 abbrev pub undamaged : List Entry → List Entry
 undamaged es = []
 
@@ -96,6 +92,5 @@ word_of Folder = codes "directory"
 word_of NoTime = codes "no-time"
 word_of Untold = codes "unknown"
 
--- the reason and the output
 abbrev pub doubt_line : Doubted → List ℕ
 doubt_line d = word_of d.why ++ codes "\t" ++ d.entry.name ++ codes "\n"

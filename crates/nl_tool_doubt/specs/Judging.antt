@@ -13,22 +13,22 @@ use Rattle.nl_tool_doubt.specs.declared.files.FileTimes.{FileTimes}
 use Rattle.nl_tool_doubt.specs.declared.judge.Doubt.{Doubt}
 use Rattle.nl_tool_doubt.specs.declared.judge.Doubt.TheVariants.{Newer, Unsure, Gone, Folder, NoTime, Untold}
 
--- when a command ended whose build began at this moment, and a file's time, both in milliseconds from one moment
+-- the end of a command whose build began at `m`, and a file's time, both in milliseconds from one moment
 abbrev pub ended : ℕ → Entry → ℕ
 ended m e = m + moment e.end_ms
 
 abbrev pub written : ℤ → ℕ
 written time = unsigned_abs time / 1000000 + 2 ^ 32
 
--- the file is 8 ms or more behind the end
+-- the file is 8 ms or more later than the end
 abbrev pub is_newer : ℕ → ℕ → ℕ → Bool
 is_newer tick end at = nat_le (end + 8 + tick) at
 
--- it is before the end by more than 20 ms, and by more than a quarter of the command's length
+-- the file is more than 20 ms, and more than a quarter of the command's length, earlier than the end
 abbrev pub is_early : ℕ → ℕ → ℕ → ℕ → Bool
 is_early tick length end at = nat_lt (at + max (length / 4) 20 + tick) end
 
--- of a file that was written then, and whose last time is behind MTIME
+-- the file's last time is later than MTIME
 abbrev pub doubt_at : List Entry → ℕ → Entry → ℤ → ℤ → Option Doubt
 doubt_at ls m e time last =
     if is_newer (tick_of ls) (ended m e) (written last) then Some Newer
@@ -38,37 +38,34 @@ doubt_at ls m e time last =
 abbrev pub doubt_from : List Entry → Entry → ℤ → ℤ → Option Doubt
 doubt_from ls e time last = doubt_at ls (begun ls e) e time last
 
--- it is newer, unless MTIME is when the command started, and tells so
+-- the file is newer, unless MTIME is when the command started and tells that
 abbrev pub doubt_behind : Stamps → List Entry → Entry → ℤ → ℤ → Option Doubt
 doubt_behind OfStart ls e time last = if tells e then doubt_from ls e time last else Some Newer
 doubt_behind OfEnd ls e time last = Some Newer
 doubt_behind Unknown ls e time last = Some Newer
 
--- of one that was written then, by its last time that counts
+-- `last` is the file's last time that counts
 abbrev pub doubt_by : Stamps → List Entry → Entry → ℤ → ℤ → Option Doubt
 doubt_by stamps ls e time last =
     if int_eq e.mtime (pos 0) then Some NoTime
     else if int_lt e.mtime last then doubt_behind stamps ls e time last
     else None
 
--- the last time of a file: where MTIME is when the command started, also that of its last change, if change times count
+-- if MTIME is when the command started and change times count, the time of the last change counts too
 abbrev pub last_of : Bool → Stamps → FileTimes → ℤ
 last_of true OfStart t = if int_lt t.written t.changed then t.changed else t.written
 last_of counts stamps t = t.written
 
--- by what was said of it
 abbrev pub doubt_of : Bool → Stamps → List Entry → Entry → FileState → Option Doubt
 doubt_of counts stamps ls e Missing = Some Gone
 doubt_of counts stamps ls e Directory = Some Folder
 doubt_of counts stamps ls e Unseen = Some Untold
 doubt_of counts stamps ls e (Written t) = doubt_by stamps ls e t.written (last_of counts stamps t)
 
--- it isn't missing
 abbrev pub is_present : FileState → Bool
 is_present Missing = false
 is_present state = true
 
--- it is a file, and one that was changed more than a second behind the time at which it was written
 abbrev pub is_written : FileState → Bool
 is_written (Written t) = true
 is_written state = false

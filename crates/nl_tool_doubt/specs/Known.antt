@@ -7,7 +7,7 @@ use Rattle.nl_tool_doubt.specs.Spans.{Alike, Rises, one, sums}
 use Rattle.nl_tool_doubt.specs.declared.moments.Line.{Line}
 use Rattle.nl_tool_doubt.specs.declared.spans.Span.{Span}
 
--- MTIME of a line, and it less START and less END
+-- MTIME of a line, MTIME less START, and MTIME less END
 abbrev pub line_of : Entry → Line
 line_of e = record { at = at_of e; m = m_of e; lo = lo_of e }
 

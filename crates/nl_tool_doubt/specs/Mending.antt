@@ -28,7 +28,7 @@ use Rattle.nl_tool_doubt.specs.declared.mending.Said.{Said}
 
 -- ---- which outputs are told of, and which are made anew
 
--- why one is told of, by the doubt on it: not where its file is missing
+-- an output whose file is missing isn't told of
 abbrev pub cause_by : Doubt → Option Cause
 cause_by doubt.Damaged = Some Damaged
 cause_by doubt.Newer = Some Newer
@@ -38,11 +38,11 @@ cause_by doubt.NoTime = Some Unsure
 cause_by doubt.Untold = Some Unsure
 cause_by doubt.Gone = None
 
--- and not where its entry has the form of an intent, for which no command passes
+-- an output whose entry has the form of an intent isn't told of, because no command passes for that
 abbrev pub cause_of : Doubted → Option Cause
 cause_of d = if is_intent d.entry then None else cause_by d.why
 
--- those that can't be trusted are made anew, and with --all those too of which that isn't sure
+-- outputs that can't be trusted are made anew, and with `--all` also those of which that isn't sure
 abbrev pub is_taken : Bool → Option Cause → Bool
 is_taken all (Some Damaged) = true
 is_taken all (Some Newer) = true
@@ -62,7 +62,6 @@ word_of Damaged = codes "damaged"
 word_of Newer = codes "newer"
 word_of Unsure = codes "unsure"
 
--- a line has the reason and the output
 abbrev pub line_for : List ℕ → Option Cause → List ℕ
 line_for name None = []
 line_for name (Some cause) = word_of cause ++ codes "\t" ++ name ++ codes "\n"
@@ -73,7 +72,6 @@ line_of d = line_for d.entry.name (cause_of d)
 abbrev pub mend_lines : List Doubted → List ℕ
 mend_lines ds = flat_map line_of ds
 
--- something is told of if there is a line
 abbrev pub is_told : List Doubted → Bool
 is_told ds = not (length (mend_lines ds) == 0)
 
@@ -81,11 +79,10 @@ is_told ds = not (length (mend_lines ds) == 0)
 abbrev pub is_due : Bool → List ℕ → List (List ℕ) → Bool
 is_due dry_run log names = not dry_run && (not (length names == 0) || not (is_whole (lines_version log) log))
 
--- at a terminal a line may follow, and else none
+-- a line may follow at a terminal alone
 abbrev pub EndsBy : Bool → List ℕ → List ℕ → Type 0
 EndsBy terminal lines text = (end : List ℕ) × (text ≡ lines ++ end) × (terminal ≡ false → end ≡ [])
 
--- what is said of these outputs, and what is to be done
 pub record IsSaid (how : How) (log : List ℕ) (ds : List Doubted) (said : Said) : Type 0 where
   pub text : EndsBy how.at_terminal (mend_lines ds) said.text.items
   pub told : said.is_told ≡ is_told ds
@@ -94,7 +91,7 @@ pub record IsSaid (how : How) (log : List ℕ) (ds : List Doubted) (said : Said)
 
 -- ---- the log
 
--- it has these bytes, in an honest folder
+-- the log has these bytes, in an honest folder
 abbrev pub IsIn : Option Disk → List ℕ → Type 0
 IsIn disk log = (d : Disk) → disk ≡ Some d → d.visible ≡ log
 
@@ -103,13 +100,12 @@ abbrev pub IsDone : Result (Unit {0}) ToolFault → Type 0
 IsDone (Ok done) = ⊤
 IsDone (Err fault) = fault ≡ Write
 
--- by the answer: what a writer holds before and after it
 pub record Writes (text : List ℕ) (from to : Option (List ℕ)) (result : Result (Unit {0}) ToolFault) : Type 0 where
   pub all : OnOk result (Appends from to text)
   pub part : IsErrOf result Write → AppendsPrefixOf from to text
   pub none : ¬ IsDone result → Keeps from to
 
--- and what is seen of the folder: the outputs of these names get intents over their entries if that is due, and else the log is as it was
+-- the outputs of these names get intents over their entries if that is due, and else the folder is as it was
 pub record MendsIfDue (due : Bool) (log : List ℕ) (names : List (List ℕ)) (result : Result (Unit {0}) ToolFault) (old new : FolderView) : Type 0 where
   pub mended : due ≡ true → IsDone result → MendsLogAs (version_of log) names (Ok tt) old new
   pub stays : due ≡ false → new ≡ old
@@ -121,7 +117,7 @@ pub record MendsSaid (log : List ℕ) (said : Said) (from to : Option (List ℕ)
   pub mends : MendsIfDue said.is_due log said.names.items result old new
   pub here : IsErrOf result Elsewhere → ⊥
 
--- outputs stand in the log, and the file of none is here
+-- the log has outputs, and none has a file
 abbrev pub is_elsewhere : Doubts → Bool
 is_elsewhere doubts = doubts.there == 0 && not (doubts.outputs == 0)
 
@@ -129,7 +125,6 @@ abbrev pub done_by : Result Mended ToolFault → Result (Unit {0}) ToolFault
 done_by (Ok mended) = Ok tt
 done_by (Err fault) = Err fault
 
--- a mend of a log by the outputs of it that can't be trusted
 pub record Mends (how : How) (log : List ℕ) (doubts : Doubts) (from to : Option (List ℕ)) (result : Result Mended ToolFault)
     (old new : FolderView) : Type 0 where
   pub elsewhere : IsErrOf result Elsewhere ↔ (is_elsewhere doubts ≡ true)
@@ -140,7 +135,6 @@ pub record Mends (how : How) (log : List ℕ) (doubts : Doubts) (from to : Optio
   pub writes : Writes text from to (done_by result)
   pub mends : MendsIfDue (is_due how.dry_run log (taken how.all doubts.named.items)) log (taken how.all doubts.named.items) (done_by result) old new
 
--- the faults of a mend
 abbrev pub IsMendFault : ToolFault → Type 0
 IsMendFault NotALog = ⊤
 IsMendFault OtherVersion = ⊤
@@ -151,7 +145,7 @@ IsMendFault Folder = ⊤
 IsMendFault Elsewhere = ⊤
 IsMendFault _ = ⊥
 
--- why it came to none: the bytes are no log, or memory was wanting
+-- the bytes are no log, or memory was refused
 abbrev pub IsUnread : List ℕ → ToolFault → Type 0
 IsUnread log NotALog = log_of (as_five log) ≡ log_reading.NotALog
 IsUnread log OtherVersion = log_of (as_five log) ≡ log_reading.OtherVersion
@@ -163,20 +157,19 @@ pub record NoMend (from to : Option (List ℕ)) (result : Result Mended ToolFaul
   pub wrote : Keeps from to
   pub stays : new ≡ old
 
--- a mend of a log with these bytes, by what is said of the files of its outputs
 abbrev pub MendsBytes : Option (List ℕ → FileState) → How → List ℕ → Option (List ℕ) → Option (List ℕ) → Result Mended ToolFault → FolderView
     → FolderView → Type 0
 MendsBytes states how log from to result old new =
     ((fault : ToolFault) × (fault ≢ Elsewhere) × IsUnread log fault × NoMend from to result fault old new)
     ⊎ ((doubts : Doubts) × IsDoubts (damaged_in log) log states doubts × Mends how log doubts from to result old new)
 
--- it is read first
+-- the log is read first
 abbrev pub MendsRead : Option (List ℕ → FileState) → How → Result (Vec ℕ) ToolFault → Option (List ℕ) → Option (List ℕ) → Result Mended ToolFault
     → FolderView → FolderView → Type 0
 MendsRead states how (Ok log) from to result old new = MendsBytes states how log.items from to result old new
 MendsRead states how (Err fault) from to result old new = NoMend from to result fault old new
 
--- a mend of the log of a folder: it is read, which changes nothing, and what was read is mended
+-- to read the log changes nothing; what was read is mended
 pub record MendsFolder (states : Option (List ℕ → FileState)) (how : How) (from to : Option (List ℕ)) (result : Result Mended ToolFault)
     (old new : FolderView) : Type 0 where
   pub read : Result (Vec ℕ) ToolFault

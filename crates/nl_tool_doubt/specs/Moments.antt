@@ -13,7 +13,7 @@ use Rattle.nl_builds.specs.declared.stamps.Stamps.TheVariants.{Unknown, OfEnd, O
 abbrev pub tells : Entry → Bool
 tells e = int_lt (pos 0) e.mtime
 
--- those of a log of version 4 or 5 don't
+-- a log of version 4 or 5 has none
 abbrev pub lines_that_tell : Stamps → List Entry → List Entry
 lines_that_tell OfStart es = filter tells es
 lines_that_tell OfEnd es = []
@@ -26,11 +26,11 @@ at_of e = unsigned_abs e.mtime / 1000000
 abbrev pub m_of : Entry → ℕ
 m_of e = at_of e + (2 ^ 32 - moment e.start_ms)
 
--- MTIME less END: its build began then, or behind
+-- MTIME less END: its build began then, or later
 abbrev pub lo_of : Entry → ℕ
 lo_of e = at_of e + (2 ^ 32 - moment e.end_ms)
 
--- 0, if it ended before it began
+-- 0 if the command ended before it began
 abbrev pub length_of : Entry → ℕ
 length_of e = moment e.end_ms - moment e.start_ms
 
@@ -48,7 +48,7 @@ abbrev pub bound : List Entry → ℕ → ℕ
 bound [] at = 0
 bound (x ∷ xs) at = if nat_le (at_of x) at then max (lo_of x) (bound xs at) else bound xs at
 
--- of the commands whose MTIME less START is from one moment up to another
+-- the lengths of the commands whose MTIME less START is from one moment up to another
 abbrev pub lengths_between : ℕ → ℕ → List Entry → List ℕ
 lengths_between from to [] = []
 lengths_between from to (x ∷ xs) =
@@ -58,7 +58,7 @@ lengths_between from to (x ∷ xs) =
 abbrev pub differ : (ℕ → ℕ) → List ℕ → Bool
 differ allows ns = list_any (λ a. list_any (λ b. nat_lt (allows a) b) ns) ns
 
--- from one moment on, and at most a line's own
+-- the least moment from `from` on, and at most the line's own
 abbrev pub least_from : ℕ → ℕ → List ℕ → ℕ
 least_from from own [] = own
 least_from from own (m ∷ ms) = if nat_le from m then min m (least_from from own ms) else least_from from own ms
@@ -78,7 +78,7 @@ begun_by ls at own = least_from (max (bound ls at - (5 + tick_of ls)) (nearest l
 abbrev pub begun : List Entry → Entry → ℕ
 begun ls e = begun_by ls (at_of e) (m_of e)
 
--- within 6 ms behind M a command of at most 12 ms began, or two whose lengths differ by more
+-- within 6 ms after M a command of at most 12 ms began, or two whose lengths differ by more
 abbrev pub is_sure : List Entry → ℕ → Bool
 is_sure ls m =
     let ns = lengths_between m (m + 6) ls in

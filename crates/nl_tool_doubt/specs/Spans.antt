@@ -7,7 +7,6 @@ use Rattle.nl_tool_doubt.specs.declared.spans.Span.{Span}
 abbrev pub one : ℕ → ℕ → Span
 one place value = record { first = place; least = value; greatest = value }
 
--- what two parts span
 abbrev pub both : Option Span → Option Span → Option Span
 both (Some x) (Some y) = Some (record { first = min x.first y.first; least = min x.least y.least; greatest = max x.greatest y.greatest })
 both (Some x) None = Some x
@@ -27,7 +26,7 @@ Alike ss ts = (from to : ℕ) → within from to ss ≡ within from to ts
 abbrev pub Rises : List Span → Type 0
 Rises ss = IsNonDecreasingBy (λ (s : Span). s.first) ss
 
--- each with the greatest value up to it
+-- each span gets the greatest value up to it
 abbrev pub sums : ℕ → List Span → List Span
 sums most [] = []
 sums most (s ∷ ss) = record s { greatest = max most s.greatest } ∷ sums (max most s.greatest) ss
@@ -36,7 +35,7 @@ abbrev pub greatest_of : Option Span → ℕ
 greatest_of None = 0
 greatest_of (Some s) = s.greatest
 
--- behind those of earlier places, or to that of its own
+-- the span comes after those of earlier places, or joins that of its own
 pub record Joins (old : List Span) (span : Span) (new : List Span) : Type 0 where
   pub alike : (from to : ℕ) → within from to new ≡ both (within from to old) (if_within from to span)
   pub rises : Rises old → All (λ (s : Span). s.first ≤ span.first) old → Rises new

@@ -10,7 +10,7 @@ use Rattle.nl_tool_doubt.specs.declared.files.FileState.{FileState}
 use Rattle.nl_tool_doubt.specs.declared.files.FileState.TheVariants.{Missing, Written}
 use Rattle.nl_tool_doubt.specs.declared.files.Looked.{Looked}
 
--- in the order of first appearance; none if there is no log
+-- the outputs stand in the order of first appearance; none if there is no log
 abbrev pub table_in : LogReading → Option (List Entry)
 table_in (Log version entries) = Some (table (logged version entries))
 table_in OtherVersion = None
@@ -29,7 +29,7 @@ pair_by name file = []
 abbrev pub learned : {X : Type 0} → (List ℕ → FileState → List X) → Looked → List X
 learned by l = by l.entry.name l.file
 
--- for the last entry of each output of the log that a reader gave, where that is known: what is learned of its file was added
+-- what is learned of the file of each output was added; the log is the one that a reader gave, where that is known
 pub record AddsFor {X : Type 0} (by : List ℕ → FileState → List X) (known : Option (List ℕ)) (states : Option (List ℕ → FileState))
     (old new : List X) : Type 0 where
   pub bytes : List ℕ

@@ -23,28 +23,26 @@ use nl_versions::lines_version;
 use std::alloc::{AllocError, Global};
 use std::io::Write;
 
-/// An output that can't be trusted, by its last entry.
+/// An output that can't be trusted, with its last entry.
 #[derive(Drop)]
 pub struct Doubted {
     pub why: Doubt,
     pub entry: Entry,
 }
 
-/// The outputs of a log that can't be trusted.
 #[derive(Drop)]
 pub struct Doubts {
     /// In the order in which the outputs first appear.
     pub named: Vec<Doubted>,
-    /// How many outputs the log has.
+    /// The number of the log's outputs.
     pub outputs: usize,
-    /// Of how many of them the file isn't missing.
+    /// The number of outputs whose file isn't missing.
     pub there: usize,
     /// Whether the files were copied, restored or given to another user: their change times didn't count.
     pub copied: bool,
 }
 
-/// What the files of a log's outputs say against their last entries. The log is of whichever version its first line names,
-/// and each file is looked at once, in order. Names are hashed under a secret.
+/// The log is of whichever version its first line names, and each file is looked at once, in order. Names are hashed under a secret.
 pub fn doubts_of<F: OutputFiles>(
     alloc: Global,
     secret: Secret,
@@ -61,7 +59,7 @@ pub fn doubts_of<F: OutputFiles>(
     Ok(doubts)
 }
 
-/// The same, and each output that a damaged or torn line may be about is damaged, whatever its file says.
+/// As `doubts_of`, but an output that a damaged or torn line may be about is damaged, whatever its file says.
 pub fn untrusted_of<F: OutputFiles>(
     alloc: Global,
     secret: Secret,
@@ -79,7 +77,6 @@ pub fn untrusted_of<F: OutputFiles>(
     Ok(doubts)
 }
 
-// The entries whose outputs a damaged or torn line may be about.
 fn damaged_of(alloc: Global, log: &[u8], table: &Table) -> Result<Table, AllocError>
     ensures value { IfOk result (λ found. found ≡ damaged_in log.now table.now) }
 {
@@ -91,7 +88,6 @@ fn damaged_of(alloc: Global, log: &[u8], table: &Table) -> Result<Table, AllocEr
     distrusted(alloc, version, log, table)
 }
 
-// The last entry of each output, in the order of first appearance.
 fn table_of(alloc: Global, secret: Secret, entries: &[EntryRef]) -> Result<Table, AllocError>
     ensures value { IfOk result (λ found. (version : ℕ) → found ≡ table (logged version entries.now)) }
 {
@@ -102,7 +98,6 @@ fn table_of(alloc: Global, secret: Secret, entries: &[EntryRef]) -> Result<Table
     Ok(table)
 }
 
-// Names the outputs of these lines and this table that can't be trusted.
 fn name_all<F: OutputFiles>(
     alloc: Global,
     lines: LogEntries,
@@ -143,7 +138,7 @@ fn name_looked(
     Ok(named)
 }
 
-// Whether more than half of the files were changed more than a second behind the time at which they were written.
+// It is copied if more than half of the files were changed more than a second after they were written.
 fn is_copied(looked: &[Looked]) -> bool
     ensures { result ≡ is_copied looked.now }
 {
@@ -168,7 +163,6 @@ fn there_in(looked: &[Looked]) -> usize
     looked.iter().filter(|it| it.file.is_there()).count()
 }
 
-// Names an output, if there is a doubt on it, or damage is about it.
 fn name_one(
     alloc: Global,
     entry: &EntryRef,
@@ -190,7 +184,7 @@ fn name_one(
     Ok(())
 }
 
-/// Writes a line for each of these outputs, and answers whether there is any.
+/// It writes a line for each output, and answers whether there is any.
 pub fn write_doubts<W: Write>(
     alloc: Global,
     named: &[Doubted],

@@ -10,32 +10,30 @@ use std::alloc::{AllocError, Global};
 
 const SECOND: i128 = 1_000_000_000;
 
-/// What is said of the file of an output.
 #[derive(Clone, Copy, Drop)]
 pub enum FileState {
     Missing,
     Directory,
     Written(FileTimes),
-    /// It can't be told, as of a file that may not be looked at.
+    /// Nobody can tell, for example because the file may not be looked at.
     Unknown,
 }
 
 impl FileState {
-    /// Whether it isn't known to be missing.
+    /// A file that can't be looked at is taken to be there.
     pub fn is_there(self) -> bool
         ensures { result ≡ is_present self }
     {
         !matches!(self, FileState::Missing)
     }
 
-    /// Whether it is a file.
     pub fn is_written(self) -> bool
         ensures { result ≡ is_written self }
     {
         matches!(self, FileState::Written(_))
     }
 
-    /// Whether it is one that was changed more than a second behind the time at which it was written.
+    /// It was changed more than a second after it was written.
     pub fn was_moved(self) -> bool
         ensures { result ≡ was_moved self }
     {
@@ -49,13 +47,12 @@ impl FileState {
 /// The times of a file, in nanoseconds since 1970, as Ninja counts them.
 #[derive(Clone, Copy, Drop)]
 pub struct FileTimes {
-    /// When it was written, or the time that it was given.
+    /// The time of its last write, or the one that it was given.
     pub written: i64,
-    /// When anything of it was last changed, which nobody can give it.
+    /// The time of its last change, which nobody can give it.
     pub changed: i64,
 }
 
-/// What says of each output's file what state it is in.
 pub trait OutputFiles {
     // The state of the file of each name, where that is known, and nothing changes it.
     ghost states: { Self → Option (List ℕ → FileState) };
@@ -64,14 +61,13 @@ pub trait OutputFiles {
         ensures known { IfSome (states self.now) (λ state_of. result ≡ state_of name.now) };
 }
 
-/// An entry, and what was said of the file of its output.
 #[derive(Drop)]
 pub struct Looked<'a> {
     pub entry: EntryRef<'a>,
     pub file: FileState,
 }
 
-/// Asks for the file of each output, in order.
+/// It asks for the file of each output once, in order.
 pub(crate) fn look_all<'a, F: OutputFiles>(
     alloc: Global,
     table: &'a Table,

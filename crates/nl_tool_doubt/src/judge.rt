@@ -11,7 +11,7 @@ use nl_fields::EntryRef;
 pub enum Doubt {
     /// A damaged or torn line may be about it.
     Damaged,
-    /// The file was written behind what the entry tells, so the line of the command that wrote it is lost.
+    /// The file was written later than the entry tells, so the line of the command that wrote it is lost.
     Newer,
     /// It may have been: the log doesn't tell when the entry's build began.
     Unsure,
@@ -50,7 +50,7 @@ fn last_of(counts: bool, stamps: Stamps, times: FileTimes) -> i64
     }
 }
 
-// By the file's last time that counts.
+// `last` is the file's last time that counts.
 fn doubt_by(
     stamps: Stamps,
     moments: &Moments,
@@ -90,7 +90,6 @@ fn doubt_from(moments: &Moments, entry: &EntryRef, time: i64, last: i64) -> Opti
     None
 }
 
-// Of a command whose build began then.
 fn ended(begun: u64, entry: &EntryRef) -> u64
     requires small { begun < 2 ^ 45 }
     ensures value { result ≡ ended begun entry.now }
@@ -106,7 +105,6 @@ fn written(time: i64) -> u64
     time.unsigned_abs() / NANOSECONDS + NONE
 }
 
-// By 8 ms and a tick.
 fn is_newer(tick: u64, ended: u64, written: u64) -> bool
     requires small { (tick ≤ 1000) × (ended < 2 ^ 46) }
     ensures { result ≡ is_newer tick ended written }
@@ -114,7 +112,6 @@ fn is_newer(tick: u64, ended: u64, written: u64) -> bool
     ended + 8 + tick <= written
 }
 
-// By more than 20 ms, and by more than a quarter of the command's length.
 fn is_early(tick: u64, length: u64, ended: u64, written: u64) -> bool
     requires small { (tick ≤ 1000) × (length < 2 ^ 32) × (written < 2 ^ 46) }
     ensures { result ≡ is_early tick length ended written }

@@ -1,4 +1,4 @@
-//! Laws of doubt. Each is the contract of a function that does nothing.
+//! Laws of doubt, each the contract of a function that does nothing.
 ghost use Rattle.std.specs.Prelude.{◌≡◌, ◌+◌, ◌≤◌, ℤ, List, Option, Some, None, true, false, int_lt, map, pos, if◌then◌else◌};
 ghost use Rattle.std.specs.List.{Contains};
 ghost use Rattle.std.specs.Ordering.{int_eq};
@@ -14,7 +14,7 @@ pub fn a_file_that_is_not_behind_mtime_agrees()
         → doubt_by stamps ls e time last ≡ (if int_eq e.mtime (pos 0) then Some Doubt.NoTime else None) }
 {}
 
-/// A file is newer exactly if it is behind MTIME, and none is unsure.
+/// A file is newer exactly if it is later than MTIME, and none is unsure.
 pub fn a_log_of_version_5_has_no_slack()
     ensures four { (ls : List Entry) (e : Entry) (time last : ℤ) → doubt_by Stamps.Unknown ls e time last
         ≡ (if int_eq e.mtime (pos 0) then Some Doubt.NoTime
@@ -33,7 +33,7 @@ pub fn the_moment_of_a_build()
         → lo_of e ≤ begun ls e + 5 + tick_of ls }
 {}
 
-/// By 8 ms and a tick, if MTIME is when the command started.
+/// It is later by 8 ms and a tick, and MTIME is when the command started.
 pub fn a_file_behind_its_command_is_newer()
     ensures { (ls : List Entry) (e : Entry) (time last : ℤ) → tells e ≡ true → int_lt e.mtime last ≡ true
         → is_newer (tick_of ls) (ended (m_of e) e) (written last) ≡ true

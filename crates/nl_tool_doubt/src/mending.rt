@@ -20,29 +20,26 @@ use nl_versions::{lines_version, version_of};
 use std::alloc::{AllocError, Global};
 use std::io::Write;
 
-/// What is asked for beside the log.
 #[derive(Clone, Copy, Drop)]
 pub struct How {
     /// Nothing is changed.
     pub dry_run: bool,
-    /// The outputs that may be well are taken, too.
+    /// Outputs that may be well are made anew, too.
     pub all: bool,
     /// A last line says what was done.
     pub at_terminal: bool,
 }
 
-/// What came of a mend.
 #[derive(Clone, Copy, Drop)]
 pub struct Mended {
     /// Whether an output was told of.
     pub is_told: bool,
     pub outputs: usize,
-    /// Of how many of them there is a file.
+    /// The number of outputs that have a file.
     pub there: usize,
 }
 
-/// Mends the log of a folder by the files of its outputs, and writes a line for each that can't be trusted. Names are hashed
-/// under a secret.
+/// It mends the log, and then writes a line for each output that can't be trusted. Names are hashed under a secret.
 pub fn mend_to<D: Folder, F: OutputFiles, W: Write>(
     alloc: Global,
     secret: Secret,
@@ -63,7 +60,6 @@ pub fn mend_to<D: Folder, F: OutputFiles, W: Write>(
     }
 }
 
-// Mends the log of a folder that has these bytes.
 fn mend_bytes<D: Folder, F: OutputFiles, W: Write>(
     alloc: Global,
     secret: Secret,
@@ -84,7 +80,6 @@ fn mend_bytes<D: Folder, F: OutputFiles, W: Write>(
     }
 }
 
-// Mends it by the outputs of it that can't be trusted.
 fn mend_doubted<D: Folder, W: Write>(
     alloc: Global,
     secret: Secret,
@@ -131,7 +126,6 @@ fn mended_of(said: &Said, doubts: &Doubts) -> Mended
     }
 }
 
-// What is said of the outputs, and what is done.
 #[derive(Drop)]
 struct Said {
     text: Vec<u8>,
@@ -157,7 +151,6 @@ fn said_of(alloc: Global, log: &[u8], doubts: &Doubts, how: How) -> Result<Said,
     })
 }
 
-// The lines on the outputs that are told of.
 fn lines_of(alloc: Global, named: &[Doubted]) -> Result<Vec<u8>, AllocError>
     ensures value { IfOk result (λ text. text.items ≡ mend_lines named.now) }
 {
@@ -180,7 +173,6 @@ fn append_line(it: &Doubted, text: &mut Vec<u8>) -> Result<(), AllocError>
     Ok(())
 }
 
-// The names of those that are made anew.
 fn names_of(alloc: Global, named: &[Doubted], all: bool) -> Result<Vec<Name>, AllocError>
     ensures value { IfOk result (λ names. names.items ≡ taken all named.now) }
 {
@@ -205,7 +197,6 @@ fn push_taken(
     Ok(())
 }
 
-// Why an output is told of.
 #[derive(Clone, Copy)]
 enum Cause {
     Damaged,
@@ -248,14 +239,13 @@ fn word_of(cause: Cause) -> &'static str
     }
 }
 
-// Whether the log is written anew: an output is made anew, or a line is damaged, and a change is asked for.
 fn is_due(dry_run: bool, log: &[u8], names: &[Name]) -> bool
     ensures { result ≡ is_due dry_run log.now names.now }
 {
     !dry_run && (!names.is_empty() || !is_whole(lines_version(log), log))
 }
 
-// At a terminal, what was done, where something was told of or done.
+// A terminal is told what was done, unless nothing was told of or done.
 fn append_end(
     alloc: Global,
     how: How,
@@ -281,7 +271,7 @@ fn append_end(
     Ok(())
 }
 
-// Does what was said, and says it.
+// The change comes before the text, because a change that failed must not be told as done.
 fn mend_said<D: Folder, W: Write>(
     alloc: Global,
     secret: Secret,

@@ -15,10 +15,10 @@ pub const NANOSECONDS: u64 = 1_000_000;
 
 const SECOND: u64 = 1_000_000_000;
 
-/// Milliseconds: no START or END is so far behind the earliest that there can be.
+/// Milliseconds: no START or END is so much later than the earliest that there can be.
 pub const NONE: u64 = 1 << 32;
 
-// MTIME, and it less START and less END.
+// MTIME, MTIME less START, and MTIME less END.
 #[derive(Clone, Copy, Drop)]
 struct Line {
     at: u64,
@@ -40,7 +40,7 @@ impl Line {
     }
 }
 
-/// 0, if it ended before it began.
+/// 0 if the command ended before it began.
 pub fn length_of(entry: &EntryRef) -> u64
     ensures value { result ≡ length_of entry.now }
     ensures bound { result < 2 ^ 32 }
@@ -61,7 +61,7 @@ pub fn moment(ms: i32) -> u32
     ms.abs_diff(i32::MIN)
 }
 
-/// What the lines of a log tell of when their builds began. Each question takes time by the logarithm of their number.
+/// Each question takes time by the logarithm of the number of lines.
 #[derive(Drop)]
 pub struct Moments<'a> {
     stamps: Stamps,
@@ -69,7 +69,7 @@ pub struct Moments<'a> {
     is_coarse: bool,
     // MTIME less END of the lines up to each MTIME.
     bounds: Vec<Span>,
-    // How long the commands of each moment ran.
+    // The lengths of the commands of each moment.
     starts: Vec<Span>,
 }
 
@@ -119,7 +119,6 @@ impl<'a> Moments<'a> {
         if self.is_coarse { 1000 } else { 0 }
     }
 
-    /// At the latest at the entry's own moment.
     pub fn begun(&self, entry: &EntryRef) -> u64
         ensures value { result ≡ begun self.now entry.now }
         ensures bound { result < 2 ^ 45 }
@@ -131,7 +130,6 @@ impl<'a> Moments<'a> {
         least_from(self.starts.as_slice(), from, line.m)
     }
 
-    // At most 8 ms before this moment, if that is surely when a command started.
     fn nearest(&self, own: u64) -> u64
         requires bound { own < 2 ^ 45 }
         ensures value { result ≡ nearest self.now own }
@@ -142,7 +140,6 @@ impl<'a> Moments<'a> {
         }
     }
 
-    /// Whether a build surely began at this moment.
     pub fn is_sure(&self, moment: u64) -> bool
         requires { moment < 2 ^ 45 }
         ensures value { result ≡ is_sure self.now moment }
@@ -164,7 +161,6 @@ fn lines_of<'e, 'a>(stamps: Stamps, entries: &'e [EntryRef<'a>]) -> &'e [EntryRe
     }
 }
 
-// Of whole seconds, each MTIME that tells.
 fn are_whole(lines: &[EntryRef]) -> bool
     ensures { result ≡ list_all is_whole (filter tells lines.now) }
 {

@@ -25,7 +25,6 @@ impl Span {
         }
     }
 
-    /// By how much the greatest is above the least.
     pub fn above(self) -> u64
         ensures value { result ≡ self.greatest - self.least }
     {
@@ -43,7 +42,7 @@ pub fn rising(spans: Vec<Span>) -> Vec<Span>
     sorted
 }
 
-/// Each with the greatest value up to it.
+/// Each span gets the greatest value up to it.
 pub fn summed(alloc: Global, spans: &[Span]) -> Result<Vec<Span>, AllocError>
     ensures value { IfOk result (λ all. all.items ≡ sums 0 spans.now) }
 {
@@ -59,7 +58,7 @@ pub fn summed(alloc: Global, spans: &[Span]) -> Result<Vec<Span>, AllocError>
     Ok(all)
 }
 
-/// One for each place. `spans` stand in order.
+/// There is then one span for each place. `spans` stand in order.
 pub fn merged(alloc: Global, spans: &[Span]) -> Result<Vec<Span>, AllocError>
     requires rises { Rises spans.now }
     ensures alike { IfOk result (λ all. Alike all.items spans.now) }
@@ -72,7 +71,7 @@ pub fn merged(alloc: Global, spans: &[Span]) -> Result<Vec<Span>, AllocError>
     Ok(all)
 }
 
-// Behind those of earlier places, or to that of its own.
+// The span comes after those of earlier places, or joins that of its own.
 fn join(span: Span, all: &mut Vec<Span>) -> Result<(), AllocError>
     ensures ok { OnOk result (Joins all.old.items span all.new.items) }
 {
@@ -100,7 +99,7 @@ fn both(a: Option<Span>, b: Span) -> Span
     }
 }
 
-/// What those between two places span together. `spans` stand in order.
+/// What the spans between two places span together. `spans` stand in order.
 pub fn within(spans: &[Span], from: u64, to: u64) -> Option<Span>
     requires rises { Rises spans.now }
     ensures value { result ≡ within from to spans.now }

@@ -15,7 +15,7 @@ use nl_tool_texts::ToolFault;
 use std::alloc::{AllocError, Global};
 use std::io::Read;
 
-/// Asks for the file of each output of the log, and adds the names of those whose file isn't missing, in the order of first appearance.
+/// It asks for the file of each output, in the order of first appearance, and adds the names of those whose file isn't missing.
 pub fn add_names_there<R: Read + Drop, F: OutputFiles>(
     alloc: Global,
     secret: Secret,
@@ -37,7 +37,7 @@ pub fn add_names_there<R: Read + Drop, F: OutputFiles>(
     Ok(())
 }
 
-/// Asks for the file of each output of the log, and gives the time of each that has one, in the order of first appearance.
+/// It asks for the file of each output, in the order of first appearance, and gives the time of each that has one.
 pub fn times_there<R: Read + Drop, F: OutputFiles>(
     alloc: Global,
     secret: Secret,
