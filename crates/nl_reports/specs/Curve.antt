@@ -10,7 +10,7 @@ use Rattle.nl_reports.specs.declared.frame.Frame.{Frame}
 abbrev pub moment_at : Frame → ℕ → ℕ
 moment_at f i = f.began + i * f.wall / 480
 
--- as many commands at once as there are lanes reach eighty pixels
+-- the curve is eighty pixels high where as many commands run as there are lanes
 abbrev pub height_of : Frame → ℕ → ℕ
 height_of f count = foot_of f - count * 800 / (f.top + 1)
 
@@ -18,12 +18,11 @@ height_of f count = foot_of f - count * 800 / (f.top + 1)
 abbrev pub point : Frame → List Span → ℕ → List ℕ
 point f cs i = joined (codes "V" ∷ decimal (height_of f (running cs (moment_at f i))) ∷ codes "H" ∷ decimal (1030 + i * 30) ∷ [])
 
--- the steps before this one
 unfoldable pub points : Frame → List Span → ℕ → List ℕ
 points f cs zero = []
 points f cs (suc i) = points f cs i ++ point f cs i
 
--- the curve from its foot to its foot, and beside it its axis: how many lanes there are
+-- the curve goes from its foot to its foot, and its axis beside it has the number of lanes
 abbrev pub curve_start : Frame → List ℕ
 curve_start f = joined (codes "<path class=\"q\" d=\"M1000 " ∷ decimal (foot_of f) ∷ [])
 

@@ -4,14 +4,14 @@ use Rattle.std.specs.List.{All, flat_map}
 use Rattle.std.specs.Str.Lossy.{utf8_lossy}
 use Rattle.nl_reports.specs.Kinds.{folder_of}
 
--- what a byte becomes behind two others: XML has no control characters but three, and no U+FFFE and U+FFFF, whose bytes are 239, 191, and 190
+-- what the byte c becomes after a and b: XML has no control characters but three, and no U+FFFE and U+FFFF, whose bytes are 239, 191, and 190
 -- or 191; each is shown as U+FFFD
 abbrev pub piece : ℕ → ℕ → ℕ → List ℕ
 piece a b c = if c == 60 then codes "&lt;" else (if c == 62 then codes "&gt;" else (if c == 34 then codes "&#34;" else
     (if c == 38 then codes "&#38;" else (if nat_le c 31 then 239 ∷ 191 ∷ 189 ∷ [] else
     (if a == 239 && (b == 191 && nat_le 190 c) then 189 ∷ [] else c ∷ [])))))
 
--- a text in UTF-8 behind two bytes
+-- the text is in UTF-8, and comes after the bytes a and b
 abbrev pub escaped_behind : ℕ → ℕ → List ℕ → List ℕ
 escaped_behind a b [] = []
 escaped_behind a b (c ∷ cs) = piece a b c ++ escaped_behind b c cs
@@ -19,15 +19,15 @@ escaped_behind a b (c ∷ cs) = piece a b c ++ escaped_behind b c cs
 abbrev pub escaped : List ℕ → List ℕ
 escaped text = escaped_behind 0 0 text
 
--- a name, with U+FFFD for what isn't UTF-8
+-- U+FFFD stands for what isn't UTF-8
 abbrev pub shown : List ℕ → List ℕ
 shown name = escaped (utf8_lossy name)
 
--- a name, of which the beginning alone stands there where it is too long
+-- only the beginning of a name that is too long is shown
 abbrev pub label : List ℕ → List ℕ
 label name = if nat_le (length (shown name)) 100 then shown name else shown (take 20 name) ++ codes ".."
 
--- a byte of a text in UTF-8 that begins a character, or its end; the last place up to this one that does
+-- a character begins at such a byte, or the text ends; `cut_at` is the last such place up to this one
 abbrev pub begins_here : Option ℕ → Bool
 begins_here None = true
 begins_here (Some b) = not (nat_le 128 b && nat_lt b 192)
@@ -42,7 +42,7 @@ last_begin (suc k) text = if begins_character (suc k) text then suc k else last_
 abbrev pub cut_at : ℕ → List ℕ → ℕ
 cut_at most text = last_begin (min most (length text)) text
 
--- a name behind its last `/`; if it has more bytes than these, whole characters of it and an ellipsis
+-- the part of a name after its last `/`; if it has too many bytes, whole characters of it and an ellipsis are shown
 abbrev pub base_of : List ℕ → List ℕ
 base_of name = drop (length (folder_of name)) name
 
@@ -73,7 +73,7 @@ IsPlain c = IsQuiet c × (c ≢ 38)
 abbrev pub IsPiece : List ℕ → Type 0
 IsPiece p = (p ≡ codes "&lt;") ⊎ ((p ≡ codes "&gt;") ⊎ ((p ≡ codes "&#34;") ⊎ ((p ≡ codes "&#38;") ⊎ All IsPlain p)))
 
--- it is made of these alone
+-- the text has nothing but pieces
 pub record IsMadeOfPieces (text : List ℕ) : Type 0 where
   pub pieces : List (List ℕ)
   pub is : text ≡ flat_map (λ p. p) pieces

@@ -1,7 +1,7 @@
 -- Fractions as they are told.
 use Rattle.std.specs.Prelude.{ℕ, ◌*◌, ◌/◌, ◌%◌, ◌==◌, List, ◌++◌, codes, decimal, if◌then◌else◌}
 
--- a fraction with two digits behind the point, rounded down; 0.00 over nothing
+-- two digits after the point, rounded down; 0.00 if the whole is 0
 abbrev pub ratio : ℕ → ℕ → List ℕ
 ratio n d = if d == 0 then codes "0.00" else
     decimal (n / d) ++ codes "." ++ decimal (n % d * 100 / d / 10) ++ decimal (n % d * 100 / d % 10)

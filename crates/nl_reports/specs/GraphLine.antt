@@ -10,35 +10,35 @@ pub data GraphLine : Type 0 where
   Labelled : List ℕ → List ℕ → GraphLine
   Joined : List ℕ → List ℕ → GraphLine
 
--- what stands behind a text with which the bytes begin, and before one with which they end
+-- what follows a text with which the bytes begin, and what comes before one with which they end
 abbrev pub behind : List ℕ → List ℕ → Option (List ℕ)
 behind front bytes = if bytes_eq (take (length front) bytes) front then Some (drop (length front) bytes) else None
 
 abbrev pub before : List ℕ → List ℕ → Option (List ℕ)
 before back bytes = if bytes_eq (drop (length bytes - length back) bytes) back then Some (take (length bytes - length back) bytes) else None
 
--- what stands before the first quote, and behind it
+-- the bytes before the first quote, and those after it
 abbrev pub cut_at : List ℕ → ℕ → List ℕ × List ℕ
 cut_at bytes at = (take at bytes, drop (at + 1) bytes)
 
 abbrev pub to_quote : List ℕ → Option (List ℕ × List ℕ)
 to_quote bytes = option_map (cut_at bytes) (position (λ b. b == 34) bytes)
 
--- the bytes in quotes with which a text begins, and what stands behind them
+-- the bytes in quotes with which a text begins, and what follows them
 abbrev pub quoted : List ℕ → Option (List ℕ × List ℕ)
 quoted bytes = option_and_then to_quote (behind (codes "\"") bytes)
 
--- what is behind `[label="` names a node, or it is the rule of a command, which is drawn as an ellipse
+-- what follows `[label="` names a node, or is the rule of a command, which is drawn as an ellipse
 abbrev pub labelled : List ℕ → List ℕ → Option (List ℕ) → Option GraphLine
 labelled id tail (Some name) = Some (Labelled id name)
 labelled id tail None = if is_some (before (codes "\", shape=ellipse]") tail) then Some Passed else None
 
--- what is behind an edge is nothing, or stands in brackets
+-- what follows an edge is nothing, or stands in brackets
 abbrev pub are_attributes : List ℕ → Bool
 are_attributes [] = true
 are_attributes (b ∷ bytes) = is_some (behind (codes " [") (b ∷ bytes)) && is_some (before (codes "]") (b ∷ bytes))
 
--- an edge leads from this node to the one behind `->`
+-- an edge leads from this node to the one after `->`
 abbrev pub joined_to : List ℕ → Option (List ℕ × List ℕ) → Option GraphLine
 joined_to id None = None
 joined_to id (Some to) = if are_attributes to.1 then Some (Joined id to.0) else None
@@ -51,7 +51,7 @@ abbrev pub said_of : List ℕ → List ℕ → Option (List ℕ) → Option Grap
 said_of id rest (Some tail) = labelled id tail (before (codes "\"]") tail)
 said_of id rest None = joined id rest
 
--- how the graph is drawn
+-- such a line says how the graph is drawn
 abbrev pub is_setting : List ℕ → Bool
 is_setting line = is_some (behind (codes "rankdir=") line) || (is_some (behind (codes "node [") line) || is_some (behind (codes "edge [") line))
 
@@ -59,17 +59,16 @@ abbrev pub line_by : List ℕ → Option (List ℕ × List ℕ) → Option Graph
 line_by line (Some both) = said_of both.0 both.1 (behind (codes " [label=\"") both.1)
 line_by line None = if is_setting line then Some Passed else None
 
--- what a line says, if it is one of such a text
+-- none if no line of such a text reads so
 abbrev pub graph_line : List ℕ → Option GraphLine
 graph_line line = line_by line (quoted line)
 
--- what the line of a number says, if it may stand there: the first begins the graph, and behind its end there are empty ones alone
+-- none if the line may not stand there: the first begins the graph, and only empty lines come after its end
 abbrev pub line_in : Bool → ℕ → List ℕ → Option GraphLine
 line_in ended number line = if number == 1 then (if bytes_eq line (codes "digraph ninja {") then Some Passed else None)
     else if ended then (if length line == 0 then Some Passed else None)
     else if bytes_eq line (codes "}") then Some Passed else graph_line line
 
--- a line as it is held
 abbrev pub line_seen : Line → GraphLine
 line_seen seen.Passed = Passed
 line_seen (seen.Labelled id name) = Labelled id.now name.now

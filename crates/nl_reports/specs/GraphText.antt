@@ -13,17 +13,16 @@ use Rattle.nl_reports.specs.Paths.{Node, Edge, Graph, ClosesCycle}
 use Rattle.nl_reports.specs.declared.graph.Edge.{Edge as HeldEdge}
 use Rattle.nl_reports.specs.declared.graph.NinjaGraph.{NinjaGraph}
 
--- a graph, or none, where the line of this number is the first bad one
+-- a graph, or the number of the first bad line
 pub data GraphReading : Type 0 where
   IsGraph : Graph → GraphReading
   BadAt : ℕ → GraphReading
 
--- some nodes and edges, and behind them those of a graph
+-- these nodes and edges come before those of a graph
 abbrev pub onto : List Node → List Edge → GraphReading → GraphReading
 onto ns es (IsGraph g) = IsGraph (record { nodes = ns ++ g.nodes; edges = es ++ g.edges })
 onto ns es (BadAt number) = BadAt number
 
--- what a line says of nodes, and of edges
 abbrev pub nodes_said : GraphLine → List Node
 nodes_said Passed = []
 nodes_said (Labelled id name) = record { id = id; name = name } ∷ []
@@ -34,7 +33,7 @@ edges_said number Passed = []
 edges_said number (Labelled id name) = []
 edges_said number (Joined from to) = record { from = from; to = to; line = number } ∷ []
 
--- what the line of this number says before what the later ones say
+-- the line comes before what the later ones say
 abbrev pub with_line : ℕ → Option GraphLine → GraphReading → GraphReading
 with_line number None later = BadAt number
 with_line number (Some line) later = onto (nodes_said line) (edges_said number line) later
@@ -43,16 +42,15 @@ with_line number (Some line) later = onto (nodes_said line) (edges_said number l
 abbrev pub has_ended : Bool → List ℕ → Bool
 has_ended ended line = ended || bytes_eq line (codes "}")
 
--- what lines say that are numbered from this number on, where the graph's end came before them, or is still to come
+-- the first line has this number; `ended` says whether the graph's end came before it
 abbrev pub graph_from : Bool → ℕ → List (List ℕ) → GraphReading
 graph_from ended number [] = if ended then IsGraph (record { nodes = []; edges = [] }) else BadAt number
 graph_from ended number (line ∷ lines) = with_line number (line_in ended number line) (graph_from (has_ended ended line) (number + 1) lines)
 
--- what a text says
 abbrev pub graph_of : List ℕ → GraphReading
 graph_of text = graph_from false 1 (lines_of text)
 
--- a text is refused for its line of this number: the first bad one, or one whose edge is of a cycle
+-- the text is refused at this line: the first bad one, or one whose edge is of a cycle
 abbrev pub IsRefusedAt : GraphReading → ℕ → Type 0
 IsRefusedAt (BadAt number) line = line ≡ number
 IsRefusedAt (IsGraph g) line = ClosesCycle g.edges line
@@ -77,7 +75,6 @@ seen_edge ids e = record { from = get_or ids e.from []; to = get_or ids e.to [];
 abbrev pub seen_graph : NinjaGraph → Graph
 seen_graph g = record { nodes = nodes_of g.nodes.entries; edges = map (seen_edge (ids_of g.nodes.entries)) g.edges.items }
 
--- the name that a number has
 abbrev pub name_in : List HeldNode → List ℕ → Option (List ℕ)
 name_in ps id = option_and_then (λ (name : Option (Bor (List ℕ))). option_map (λ (n : Bor (List ℕ)). n.now) name)
     (lookup (λ (k : Bor (List ℕ)). bytes_eq id k.now) ps)
@@ -86,34 +83,33 @@ name_in ps id = option_and_then (λ (name : Option (Bor (List ℕ))). option_map
 abbrev pub IsWithin : List HeldNode → HeldEdge → Type 0
 IsWithin ps e = (e.from < length ps) × (e.to < length ps)
 
--- such nodes and edges are what these are so far
+-- the nodes and edges that were read so far are held so
 pub record Holds (ns : List Node) (es : List Edge) (ps : List HeldNode) (hs : List HeldEdge) : Type 0 where
   pub names : (id : List ℕ) → name_in ps id ≡ last_at (names_of ns) id
   pub edges : map (seen_edge (ids_of ps)) hs ≡ es
   pub within : All (IsWithin ps) hs
 
--- what has a place keeps it
+-- a number that has a place keeps it
 pub record Keeps (old new : List HeldNode) (place : ℕ) : Type 0 where
   pub within : place < length new
   pub is : get_or (ids_of new) place [] ≡ get_or (ids_of old) place []
 
--- a number has this place, and each other the one that it had
+-- the number has this place, and each other number the one that it had
 pub record IsPlaced (id : List ℕ) (old new : List HeldNode) (place : ℕ) : Type 0 where
   pub within : place < length new
   pub is : get_or (ids_of new) place [] ≡ id
   pub kept : (k : ℕ) → k < length old → Keeps old new k
 
--- a graph with the last name of each node alone, as it is held: nothing that is told of it goes by another
+-- only the last name of each node is held, because nothing that is told goes by another
 abbrev pub IsSeen : Graph → Graph → Type 0
 IsSeen g held = (held.edges ≡ g.edges) × ((id : List ℕ) → last_at (names_of held.nodes) id ≡ last_at (names_of g.nodes) id)
 
--- want of memory, or a bad line
+-- memory is refused, or a line is bad
 abbrev pub IsGraphFault : ToolFault → Type 0
 IsGraphFault Memory = ⊤
 IsGraphFault (BadLine number) = ⊤
 IsGraphFault _ = ⊥
 
--- what is held is what the text says
 abbrev pub IsOfText : GraphReading → Graph → Type 0
 IsOfText (IsGraph g) held = IsSeen g held
 IsOfText (BadAt number) held = ⊥

@@ -10,35 +10,34 @@ use Rattle.nl_reports.specs.declared.kind.KindRule.TheVariants.{Extension, Folde
 use Rattle.nl_reports.specs.declared.rows.Row.{Row}
 use Rattle.nl_reports.specs.declared.rows.Sums.{Sums}
 
--- a name from its last dot on, if no `/` follows: what was found stands before the rest
+-- from the last dot on, if no `/` follows; `found` is from what stands before the rest
 abbrev pub extension_behind : List ℕ → List ℕ → List ℕ
 extension_behind found [] = found
 extension_behind found (c ∷ cs) = extension_behind (if c == 47 then [] else (if c == 46 then c ∷ cs else found)) cs
 
--- the extension of a name, with its dot
+-- the extension has its dot
 abbrev pub extension_of : List ℕ → List ℕ
 extension_of name = extension_behind [] name
 
--- how many bytes a name has up to its last `/`, with it: so many were found before the rest, which stands at a place
+-- the bytes up to the last `/`, with it; `found` are those before the rest, which stands at a place
 abbrev pub folder_len : ℕ → ℕ → List ℕ → ℕ
 folder_len found at [] = found
 folder_len found at (c ∷ cs) = folder_len (if c == 47 then at + 1 else found) (at + 1) cs
 
--- the folder of a name, with the `/` behind it
+-- the folder has the `/` after it
 abbrev pub folder_of : List ℕ → List ℕ
 folder_of name = take (folder_len 0 0 name) name
 
--- the first folder of a name, with the `/` behind it
+-- the first folder of a name, with the `/` after it
 abbrev pub top_of : List ℕ → List ℕ
 top_of name = option_map_or (λ i. take (i + 1) name) (position (λ c. c == 47) name) []
 
--- the kind of an output; empty where its name has no dot or no `/`
+-- empty if the name has no dot or no `/`
 abbrev pub kind_of : KindRule → List ℕ → List ℕ
 kind_of Extension name = extension_of name
 kind_of Folder name = folder_of name
 kind_of Top name = top_of name
 
--- the sums of no command, and of two lots of them
 abbrev pub no_sums : Sums
 no_sums = record { commands = 0; time = 0; weight = 0 }
 
@@ -48,16 +47,14 @@ added a b = record { commands = a.commands + b.commands; time = a.time + b.time;
 abbrev pub with_sums : Told → Sums → Told
 with_sums k s = record { name = k.name; sums = added k.sums s }
 
--- a command more of a kind: it counts for that kind, which stands where it first appeared
+-- the command counts for its kind, which stands where it first appeared
 abbrev pub counted : List ℕ → List Told → Told → List Told
 counted kind [] t = record { name = kind; sums = added no_sums t.sums } ∷ []
 counted kind (k ∷ ks) t = if bytes_eq kind k.name then with_sums k t.sums ∷ ks else k ∷ counted kind ks t
 
--- the kinds of some commands
 abbrev pub kinds : KindRule → List Told → List Told
 kinds rule ts = fold (λ ks t. counted (kind_of rule t.name) ks t) [] ts
 
--- those of a kind
 abbrev pub of_kind : KindRule → List ℕ → List Told → List Told
 of_kind rule kind ts = filter (λ (t : Told). bytes_eq (kind_of rule t.name) kind) ts
 
@@ -66,21 +63,19 @@ named kind ks = filter (λ (k : Told). bytes_eq k.name kind) ks
 
 -- ---- as they are counted
 
--- a kind with its sums
 abbrev pub kind_pair : Bor (List ℕ) × Sums → Told
 kind_pair p = record { name = p.0.now; sums = p.1 }
 
--- the sums of a kind among others, which begin with none
+-- a kind that isn't there yet has no sums
 abbrev pub sums_in : List (Bor (List ℕ) × Sums) → List ℕ → Sums
 sums_in ps kind = unwrap_or (lookup (λ k. bytes_eq kind k.now) ps) no_sums
 
--- the sums of one command
 pub record IsOfOne (r : Row) : Type 0 where
   pub commands : r.sums.commands ≡ 1
   pub time : r.sums.time < 2 ^ 64
   pub weight : r.sums.weight < 2 ^ 64
 
--- no larger than the sums of so many commands can be
+-- no larger than the sums of `n` commands can be
 pub record IsSumOf (n : ℕ) (s : Sums) : Type 0 where
   pub commands : s.commands ≤ n
   pub time : s.time ≤ n * 2 ^ 64

@@ -4,18 +4,18 @@ use Rattle.nl_reports.specs.Spans.{closed_of}
 use Rattle.nl_reports.specs.declared.span.Span.{Span}
 use Rattle.nl_reports.specs.declared.lanes.Lanes.{Lanes}
 
--- the first lane that is free at a moment, by the moments at which the last commands of the lanes end; a new lane if none is
+-- the first lane that is free at a moment, by the ends of the lanes' last commands; a new lane if none is free
 abbrev pub first_free : ℕ → List ℕ → ℕ
 first_free at [] = 0
 first_free at (end ∷ ends) = if nat_le end at then 0 else suc (first_free at ends)
 
--- a lane has another last command, which ends at this moment
+-- the lane's last command is then one that ends at this moment
 abbrev pub given : ℕ → ℕ → List ℕ → List ℕ
 given lane end [] = end ∷ []
 given zero end (e ∷ ends) = end ∷ ends
 given (suc lane) end (e ∷ ends) = e ∷ given lane end ends
 
--- the lane of each of these commands, which begin in this order
+-- the commands are in the order of START
 abbrev pub lanes_from : List ℕ → List Span → List ℕ
 lanes_from ends [] = []
 lanes_from ends (c ∷ cs) = first_free c.began ends ∷ lanes_from (given (first_free c.began ends) (closed_of c) ends) cs

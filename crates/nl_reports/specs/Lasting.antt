@@ -13,39 +13,36 @@ use Rattle.nl_builds.specs.declared.command.Command.{Command}
 use Rattle.nl_reports.specs.Jobs.{Job, between}
 use Rattle.nl_reports.specs.Spans.{span_of}
 
--- a name is one of these
 abbrev pub is_among : List ℕ → List (List ℕ) → Bool
 is_among name names = holds names name
 
--- the entries whose name is that of no later one, and none of these others
+-- the entries whose name no later entry has, and that isn't among the others
 abbrev pub last_entries : List (List ℕ) → List Entry → List Entry
 last_entries others [] = []
 last_entries others (e ∷ es) =
     if is_among e.name (entry_names es ++ others) then last_entries others es else e ∷ last_entries others es
 
--- how many of those stand before a place
 abbrev pub entries_left : List (List ℕ) → List Entry → ℕ → ℕ
 entries_left others es place = length (last_entries others es) - length (last_entries others (drop place es))
 
--- the commands of which entries are left, where so many are left before a place, and before the first command
+-- `left` counts the entries that are left before a place, and `from` is their number before the first command
 abbrev pub commands_left : (ℕ → ℕ) → ℕ → List Command → List Command
 commands_left left from [] = []
 commands_left left from (c ∷ cs) =
     if nat_lt from (left c.to) then record c { to = left c.to } ∷ commands_left left (left c.to) cs else commands_left left (left c.to) cs
 
--- a build of which no output is missing
+-- no output of the build is missing
 abbrev pub whole : How → How
 whole AsWritten = AsWritten
 whole (FoundAgain taken) = FoundAgain 0
 
--- the builds of which commands are left, likewise
+-- `left` counts the commands that are left before a place, and `from` is their number before the first build
 abbrev pub builds_left : (ℕ → ℕ) → ℕ → List Build → List Build
 builds_left left from [] = []
 builds_left left from (b ∷ bs) =
     if nat_lt from (left b.to) then record b { to = left b.to; how = whole b.how } ∷ builds_left left (left b.to) bs
     else builds_left left (left b.to) bs
 
--- what is left of the builds
 abbrev pub lasting : List (List ℕ) → Told → Told
 lasting others t = let left = entries_left others t.entries in record {
   entries = last_entries others t.entries;
@@ -53,7 +50,6 @@ lasting others t = let left = entries_left others t.entries in record {
   builds = builds_left (λ place. length (commands_left left 0 (take place t.commands))) 0 t.builds;
 }
 
--- those of a name, and the last of some, if there is one
 abbrev pub of_name : List ℕ → List Entry → List Entry
 of_name name es = filter (λ (e : Entry). bytes_eq e.name name) es
 
@@ -62,12 +58,12 @@ last_of [] = []
 last_of (x ∷ []) = x ∷ []
 last_of (x ∷ y ∷ ys) = last_of (y ∷ ys)
 
--- the places behind commands rise, from this one on
+-- the places after commands rise, from this one on
 abbrev pub Rise : ℕ → List Command → Type 0
 Rise from [] = ⊤
 Rise from (c ∷ cs) = (from ≤ c.to) × Rise c.to cs
 
--- commands, each with those of its outputs that are left, and whether it has one
+-- each command has those of its outputs that are left
 abbrev pub jobs_left : List (List ℕ) → List Entry → ℕ → List Command → List Job
 jobs_left others es from [] = []
 jobs_left others es from (c ∷ cs) = record {
@@ -79,12 +75,10 @@ jobs_left others es from (c ∷ cs) = record {
 abbrev pub has_outputs : Job → Bool
 has_outputs j = nat_lt 0 (length j.outputs)
 
--- those that are marked
 abbrev pub marked : {A : Type 0} → List Bool → List A → List A
 marked [] xs = []
 marked (b ∷ bs) [] = []
 marked (b ∷ bs) (x ∷ xs) = if b then x ∷ marked bs xs else marked bs xs
 
--- whether a set of names that are held has a name
 abbrev pub is_held : List (Bor (List ℕ)) → List ℕ → Bool
 is_held keys name = list_any (λ k. bytes_eq name k.now) keys

@@ -6,7 +6,7 @@ use Rattle.nl_reports.specs.SweepSteps.{Rises}
 use Rattle.nl_reports.specs.declared.moments.Moments.{Moments}
 use Rattle.nl_reports.specs.declared.span.Span.{Span}
 
--- these commands, in the order of their starts, and of their ends
+-- the starts of these commands are in order, and so are their ends
 pub record AreMoments (cs : List Span) (m : Moments) : Type 0 where
   pub starts : IsPermutation (map began_of cs) m.starts.items
   pub ends : IsPermutation (map closed_of cs) m.ends.items

@@ -11,23 +11,21 @@ use Rattle.nl_reports.specs.declared.span.Span.{Span}
 abbrev pub spans_of : List Job → List Span
 spans_of js = spans js
 
--- the first START, which is before the end of time, and the last END
+-- every moment is below 2 ^ 32
 abbrev pub first_start : List Job → ℕ
 first_start js = fold (λ at (j : Job). min at j.span.began) (2 ^ 32) js
 
 abbrev pub last_end : List Job → ℕ
 last_end js = fold (λ at (j : Job). max at j.span.ended) 0 js
 
--- the sum of the times of the commands
 abbrev pub total_time : List Job → ℕ
 total_time js = sum_by (λ (j : Job). time_of j.span) js
 
--- how many outputs the build of a number has
 abbrev pub count_outputs : Told → ℕ → ℕ
 count_outputs t number =
     entries_to (commands_to number t.builds) t.commands - entries_to (commands_to (number - 1) t.builds) t.commands
 
--- the numbers of a build: its commands and outputs, the milliseconds from the first START to the last END, and the sum of their times
+-- the wall time goes from the first START to the last END
 abbrev pub numbers_by : ℕ → List Job → Numbers
 numbers_by outputs js = record {
   commands = length js;
@@ -39,7 +37,7 @@ numbers_by outputs js = record {
 abbrev pub numbers_of : Told → ℕ → Numbers
 numbers_of t number = numbers_by (count_outputs t number) (build_jobs t number)
 
--- they are those of commands in memory
+-- the numbers are those of commands that fit in memory
 pub record IsSmall (n : Numbers) : Type 0 where
   pub commands : n.commands < 2 ^ 63
   pub outputs : n.outputs < 2 ^ 64

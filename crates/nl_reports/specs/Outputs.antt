@@ -5,14 +5,14 @@ use Rattle.std.specs.Map.{lookup}
 use Rattle.nl_fields.specs.declared.entry.Entry.{Entry}
 use Rattle.nl_reports.specs.Jobs.{Job}
 
--- what the last pair of a key says, if there is one
+-- the last pair of a key counts
 abbrev pub later : {V : Type 0} → List ℕ → Option V → List ℕ × V → Option V
 later key found p = if bytes_eq p.0 key then Some p.1 else found
 
 abbrev pub last_at : {V : Type 0} → List (List ℕ × V) → List ℕ → Option V
 last_at pairs key = fold (later key) None pairs
 
--- each output with the place of its command, where the first command stands at this place
+-- each output has the place of its command; the first command stands at `place`
 abbrev pub outputs_at : ℕ → List Entry → List (List ℕ × ℕ)
 outputs_at place es = map (λ (e : Entry). (e.name, place)) es
 
@@ -23,6 +23,6 @@ places_from place (j ∷ js) = outputs_at place j.outputs ++ places_from (place 
 abbrev pub places_of : List Job → List (List ℕ × ℕ)
 places_of js = places_from 0 js
 
--- a map has for each name what the last of these pairs says
+-- the map has for each name what the last of these pairs says
 abbrev pub HoldPlaces : List (List ℕ × ℕ) → List (Bor (List ℕ) × ℕ) → Type 0
 HoldPlaces ps es = (name : List ℕ) → lookup (λ k. bytes_eq name k.now) es ≡ last_at ps name

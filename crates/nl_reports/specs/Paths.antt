@@ -24,22 +24,22 @@ pub record Leads (edges : List Edge) (a b : List ℕ) : Type 0 where
   pub from_is : edge.from ≡ a
   pub to_is : edge.to ≡ b
 
--- a path is numbers of which an edge leads from each to the next
+-- an edge leads from each number of a path to the next
 abbrev pub IsPath : List Edge → List (List ℕ) → Type 0
 IsPath edges [] = Unit {0}
 IsPath edges (a ∷ []) = Unit {0}
 IsPath edges (a ∷ b ∷ path) = Leads edges a b × IsPath edges (b ∷ path)
 
--- how long a path is, where each number has a weight
+-- each number has a weight
 abbrev pub length_of : (List ℕ → ℕ) → List (List ℕ) → ℕ
 length_of weight path = sum_by weight path
 
--- a path of the graph than which none is longer
+-- no path of the graph is longer
 pub record IsLongest (edges : List Edge) (weight : List ℕ → ℕ) (path : List (List ℕ)) : Type 0 where
   pub is_path : IsPath edges path
   pub longest : (other : List (List ℕ)) → IsPath edges other → length_of weight other ≤ length_of weight path
 
--- edges of which each begins where the one before it ends, the first of them at this end of another, and where the last one ends
+-- each edge begins where the one before it ends, and the last one ends at `end`
 abbrev pub Follow : Edge → List Edge → List ℕ → Type 0
 Follow e [] end = e.to ≡ end
 Follow e (f ∷ fs) end = (e.to ≡ f.from) × Follow f fs end

@@ -13,7 +13,7 @@ use Rattle.nl_reports.specs.declared.rows.Row.{Row}
 use Rattle.nl_reports.specs.declared.rows.Sums.{Sums}
 use Rattle.nl_reports.specs.declared.span.Span.{Span}
 
--- a command by its first output, or a kind, with its sums
+-- a command by its first output, or a kind
 pub record Told : Type 0 where
   pub name : List ℕ
   pub sums : Sums
@@ -21,11 +21,10 @@ pub record Told : Type 0 where
 abbrev pub told_row : Row → Told
 told_row r = record { name = r.name.now; sums = r.sums }
 
--- of one command: its milliseconds, and its weighted time among others, in parts of one
+-- milliseconds, and weighted ones in parts of a millisecond
 abbrev pub sums_of : List Span → Span → Sums
 sums_of cs s = record { commands = 1; time = time_of s; weight = weight cs s }
 
--- a command among those of its build
 abbrev pub spans : List Job → List Span
 spans js = map (λ (j : Job). j.span) js
 
@@ -35,28 +34,26 @@ told_job cs j = record { name = first_name j.outputs; sums = sums_of cs j.span }
 abbrev pub told_jobs : List Job → List Told
 told_jobs js = map (told_job (spans js)) js
 
--- an element more: it stands before the first that ranks no higher
+-- the element stands before the first that ranks no higher
 abbrev pub put : {A : Type 0} → (A → ℕ) → A → List A → List A
 put rank x [] = x ∷ []
 put rank x (y ∷ ys) = if nat_le (rank y) (rank x) then x ∷ y ∷ ys else y ∷ put rank x ys
 
--- the elements by rank, the highest first, and those of one rank in their order
+-- the highest rank comes first, and elements of one rank keep their order
 abbrev pub falling : {A : Type 0} → (A → ℕ) → List A → List A
 falling rank [] = []
 falling rank (x ∷ xs) = put rank x (falling rank xs)
 
--- the commands in the order of START, and those of one START in their order
+-- commands of one START keep their order
 abbrev pub lead : Job → ℕ
 lead j = 2 ^ 32 - j.span.began
 
 abbrev pub by_start : List Job → List Job
 by_start js = falling lead js
 
--- those of a rank
 abbrev pub ranked : {A : Type 0} → (A → ℕ) → ℕ → List A → List A
 ranked rank v xs = filter (λ x. rank x == v) xs
 
--- what a rank goes by, and what its lines begin with
 abbrev pub rank_told : Rank → Told → ℕ
 rank_told Time t = t.sums.time
 rank_told Weight t = t.sums.weight
@@ -68,7 +65,7 @@ abbrev pub rank_key : Rank → List ℕ
 rank_key Time = codes "by-time\t"
 rank_key Weight = codes "by-weight\t"
 
--- of a kind it is said how many commands it has
+-- the line of a kind has the number of its commands
 abbrev pub list_key : Listed → Rank → ℕ → List ℕ
 list_key Commands rank commands = rank_key rank
 list_key Kinds rank commands = codes "kinds-" ++ rank_key rank ++ decimal commands ++ codes "\t"
@@ -87,6 +84,6 @@ abbrev pub list_line : Listed → Rank → Told → List ℕ
 list_line listed rank t = list_key listed rank t.sums.commands ++ decimal t.sums.time ++ codes "\t" ++ ratio t.sums.weight parts ++ codes "\t"
     ++ shown_name listed t.name ++ codes "\n"
 
--- the lines of so many at most, the highest rank first
+-- the highest rank comes first
 abbrev pub list_lines : Listed → Rank → ℕ → List Told → List ℕ
 list_lines listed rank most ts = flat_map (list_line listed rank) (take most (falling (rank_told rank) ts))

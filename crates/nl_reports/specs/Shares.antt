@@ -5,7 +5,7 @@ use Rattle.nl_reports.specs.SweepSteps.{IsSwept}
 use Rattle.nl_reports.specs.declared.shares.Shares.{Shares}
 use Rattle.nl_reports.specs.declared.span.Span.{Span}
 
--- all starts and ends of these commands were gone over
+-- the sweep went over all starts and ends of these commands
 pub record AreSharesOf (cs : List Span) (s : Shares) : Type 0 where
   pub moments : AreMoments cs s.moments
   pub swept : IsSwept s.moments.starts.items s.moments.ends.items s.swept

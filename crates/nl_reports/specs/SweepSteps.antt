@@ -4,26 +4,25 @@ use Rattle.nl_reports.specs.Sweep.{before, share_of, any_of, alone_of, parts}
 use Rattle.nl_reports.specs.declared.sweep.Sums.{Sums}
 use Rattle.nl_reports.specs.declared.sweep.Sweeping.{Sweeping}
 
--- the moments rise, and are moments
+-- the moments are in order, and none is above 2 ^ 32
 pub record Rises (moments : List ℕ) : Type 0 where
   pub order : (i j : ℕ) → i ≤ j → j < length moments → slice_index moments i ≤ slice_index moments j
   pub early : (i : ℕ) → i < length moments → slice_index moments i ≤ 2 ^ 32
 
--- how many have begun up to a moment and have not ended
+-- these have begun at the moment and have not ended
 abbrev pub running_by : List ℕ → List ℕ → ℕ → ℕ
 running_by starts ends t = count_by (λ s. nat_le s t) starts - count_by (λ e. nat_le e t) ends
 
--- the shares of all milliseconds before a moment
 abbrev pub shares_before : List ℕ → List ℕ → ℕ → ℕ
 shares_before starts ends t = before (λ u. share_of (running_by starts ends u)) t
 
--- these are the sums over the moments before one, where so many run at each
+-- the sums are over the moments before `at`, and `k` commands run at each
 pub record AreSums (k : ℕ → ℕ) (s : Sums) : Type 0 where
   pub shares : s.shares ≡ before (λ t. share_of (k t)) s.at
   pub busy : s.busy ≡ before (λ t. any_of (k t)) s.at
   pub alone : s.alone ≡ before (λ t. alone_of (k t)) s.at
 
--- they fit
+-- the sums fit their types
 pub record IsLow (s : Sums) : Type 0 where
   pub at : s.at ≤ 2 ^ 32
   pub shares : s.shares ≤ s.at * parts

@@ -3,21 +3,20 @@ use Rattle.std.specs.Prelude.{ℕ, ◌/◌, ◌%◌, ◌==◌, nat_lt, List, [],
 use Rattle.nl_reports.specs.declared.text.Part.{Part}
 use Rattle.nl_reports.specs.declared.text.Part.TheVariants.{Text, Number, Time}
 
--- a number that isn't 0, and one of a unit with what is left in a smaller one
+-- a rest of 0 isn't written
 abbrev pub rest_text : List ℕ → ℕ → List ℕ → List ℕ
 rest_text before number unit = if number == 0 then [] else before ++ decimal number ++ unit
 
 abbrev pub two_text : ℕ → List ℕ → ℕ → List ℕ → List ℕ
 two_text first unit rest small = decimal first ++ unit ++ rest_text (codes " ") rest small
 
--- milliseconds in words: in two units at most, and what is less is dropped
+-- in at most two units; what is less is dropped
 abbrev pub time_text : ℕ → List ℕ
 time_text ms = if ms == 0 then codes "0 s" else (if nat_lt ms 1000 then rest_text [] ms (codes " ms") else
     (if nat_lt ms 60000 then decimal (ms / 1000) ++ rest_text (codes ".") (ms % 1000 / 100) [] ++ codes " s" else
     (if nat_lt ms 3600000 then two_text (ms / 60000) (codes " min") (ms % 60000 / 1000) (codes " s") else
     two_text (ms / 3600000) (codes " h") (ms % 3600000 / 60000) (codes " min"))))
 
--- one text behind the other
 abbrev pub joined : List (List ℕ) → List ℕ
 joined [] = []
 joined (t ∷ ts) = t ++ joined ts

@@ -4,7 +4,7 @@ use Rattle.nl_reports.specs.declared.frame.Frame.{Frame}
 use Rattle.nl_reports.specs.Frame.{foot_of, x_of}
 use Rattle.nl_reports.specs.Texts.{joined, time_text}
 
--- how far the lines stand apart, in milliseconds: the first of these of which the build has twelve at most
+-- milliseconds between lines: the first of these steps of which the build has at most twelve
 abbrev pub steps : List ℕ
 steps = 1 ∷ 2 ∷ 5 ∷ 10 ∷ 20 ∷ 50 ∷ 100 ∷ 200 ∷ 500 ∷ 1000 ∷ 2000 ∷ 5000 ∷ 10000 ∷ 15000 ∷ 30000 ∷ 60000 ∷ 120000 ∷ 300000 ∷ 900000 ∷ 1800000 ∷ 3600000
     ∷ 7200000 ∷ 18000000 ∷ 36000000 ∷ 72000000 ∷ 180000000 ∷ []
@@ -20,26 +20,25 @@ pub record IsStep (s : ℕ) : Type 0 where
   pub some : 0 < s
   pub early : s < 2 ^ 32
 
--- once, twice or five times a power of ten of units
+-- one, two or five times a power of ten units
 pub record IsDecimal (unit s : ℕ) : Type 0 where
   pub digit : ℕ
   pub zeros : ℕ
   pub is : s ≡ digit * 10 ^ zeros * unit
   pub low : (digit ≡ 1) ⊎ ((digit ≡ 2) ⊎ (digit ≡ 5))
 
--- a round time: of milliseconds, of hours, or 15 s, 30 s, 1, 2, 5, 15 and 30 min
+-- a round time is one of milliseconds, of hours, or 15 s, 30 s, 1, 2, 5, 15 and 30 min
 abbrev pub IsOfMinutes : ℕ → Type 0
 IsOfMinutes s = (s ≡ 15000) ⊎ ((s ≡ 30000) ⊎ ((s ≡ 60000) ⊎ ((s ≡ 120000) ⊎ ((s ≡ 300000) ⊎ ((s ≡ 900000) ⊎ (s ≡ 1800000))))))
 
 abbrev pub IsRound : ℕ → Type 0
 IsRound s = IsDecimal 1 s ⊎ (IsDecimal 3600000 s ⊎ IsOfMinutes s)
 
--- a line with its time above it
+-- the time stands above the line
 abbrev pub tick : Frame → ℕ → List ℕ
 tick f ms = joined (codes "<path class=\"g\" d=\"M" ∷ decimal (x_of f ms) ∷ codes " 1000V" ∷ decimal (foot_of f) ∷ codes "\"/><text class=\"m\" x=\""
     ∷ decimal (x_of f ms) ∷ codes "\" y=\"950\" text-anchor=\"middle\">" ∷ time_text ms ∷ codes "</text>\n" ∷ [])
 
--- the lines of so many steps
 unfoldable pub ticks_of : Frame → ℕ → ℕ → List ℕ
 ticks_of f step zero = []
 ticks_of f step (suc i) = ticks_of f step i ++ tick f (i * step)

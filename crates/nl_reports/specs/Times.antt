@@ -39,11 +39,11 @@ time_in t Other = t.other
 abbrev pub total : Times → ℕ
 total t = t.compile + t.link + t.archive + t.generate + t.test + t.other
 
--- the part of a kind in a hundred of all, rounded down
+-- in parts of a hundred, rounded down
 abbrev pub share_of : Times → Work → ℕ
 share_of t w = time_in t w * 100 / max 1 (total t)
 
--- no longer than so many commands can take
+-- no longer than `n` commands can take
 pub record AreTimesOf (n : ℕ) (t : Times) : Type 0 where
   pub compile : t.compile ≤ n * 2 ^ 32
   pub link : t.link ≤ n * 2 ^ 32

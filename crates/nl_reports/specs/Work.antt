@@ -25,7 +25,6 @@ abbrev pub is_in : List ℕ → List (List ℕ) → Bool
 is_in e [] = false
 is_in e (w ∷ ws) = if bytes_eq w e then true else is_in e ws
 
--- what makes an output of this extension
 abbrev pub later_work : List ℕ → Work
 later_work e = if is_in e generated then Generate else (if is_in e tested then Test else Other)
 
@@ -35,7 +34,6 @@ work_by e = if is_in e compiled then Compile else (if is_in e linked then Link e
 abbrev pub work_of : List ℕ → Work
 work_of name = work_by (extension_of name)
 
--- its word
 abbrev pub word : Work → List ℕ
 word Compile = codes "compile"
 word Link = codes "link"
@@ -44,7 +42,6 @@ word Generate = codes "generate"
 word Test = codes "test"
 word Other = codes "other"
 
--- where it stands among them
 abbrev pub place : Work → ℕ
 place Compile = 0
 place Link = 1

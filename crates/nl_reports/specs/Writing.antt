@@ -5,7 +5,7 @@ use Rattle.nl_tool_texts.specs.Output.{AppendsPrefixOf}
 use Rattle.nl_tool_texts.specs.declared.fault.ToolFault.{ToolFault}
 use Rattle.nl_tool_texts.specs.declared.fault.ToolFault.TheVariants.{Memory, Write}
 
--- a text is held but for its prefix, by which known bytes grew
+-- known bytes grew by a prefix of the text, and the rest is held
 pub record HoldsAllBut (old new : Option (List ℕ)) (text held : List ℕ) : Type 0 where
   pub written : List ℕ
   pub is : text ≡ written ++ held
@@ -15,17 +15,16 @@ pub record HoldsAllBut (old new : Option (List ℕ)) (text held : List ℕ) : Ty
 abbrev pub AppendsSomeOf : Option (List ℕ) → Option (List ℕ) → List ℕ → Type 0
 AppendsSomeOf old new text = (left : List ℕ) × HoldsAllBut old new text left
 
--- a text as it is made: on Ok all is written but what is held, on a refusal some of it is, maybe none or all
+-- on Ok all of the text is written but what is held, after a refusal some of it, maybe none or all
 abbrev pub Moves : Option (List ℕ) → Option (List ℕ) → List ℕ → List ℕ → Result (Unit {0}) ToolFault → Type 0
 Moves old new text held (Ok done) = HoldsAllBut old new text held
 Moves old new text held (Err fault) = AppendsSomeOf old new text
 
--- what a writer holds after a text: on Ok all of it, else a part of it, maybe none, and some is missing
+-- on Ok the writer holds all of the text, else a part of it, maybe none, and some is missing
 abbrev pub Writes : Option (List ℕ) → Option (List ℕ) → List ℕ → Result (Unit {0}) ToolFault → Type 0
 Writes old new text (Ok done) = Appends old new text
 Writes old new text (Err fault) = AppendsPrefixOf old new text
 
--- the faults of writing so
 abbrev pub IsWriteFault : ToolFault → Type 0
 IsWriteFault Memory = ⊤
 IsWriteFault Write = ⊤

@@ -2,12 +2,11 @@
 ghost use Rattle.std.specs.Prelude.{◌≡◌};
 ghost use Rattle.nl_reports.specs.Compare.{class_by_time, class_number, class_text};
 
-/// How a command stands in an old log and in a new one.
 #[derive(Clone, Copy, Debug, PartialEq, Eq, Drop)]
 pub enum Class {
-    /// The new log alone has it.
+    /// Only the new log has it.
     New,
-    /// The old log alone has it.
+    /// Only the old log has it.
     Gone,
     /// Another one makes its output, as the hash says.
     Changed,
@@ -18,7 +17,7 @@ pub enum Class {
     Same,
 }
 
-// The class of a command that ran twice. A difference of less than this is none.
+// A difference of less than `least` milliseconds is none.
 pub(crate) fn class_by_time(least: u64, old: u64, new: u64) -> Class
     ensures { result ≡ class_by_time least old new }
 {
@@ -31,7 +30,6 @@ pub(crate) fn class_by_time(least: u64, old: u64, new: u64) -> Class
     }
 }
 
-// Each class by a number.
 pub(crate) fn class_number(class: Class) -> u8
     ensures { result ≡ class_number class }
 {
@@ -46,7 +44,6 @@ pub(crate) fn class_number(class: Class) -> u8
     }
 }
 
-// What a line says of a command of the class.
 pub(crate) fn class_text(class: Class) -> &'static str
     ensures { result.now ≡ class_text class }
 {

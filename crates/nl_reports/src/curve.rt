@@ -10,7 +10,6 @@ use crate::moments::Moments;
 use crate::text::{Part, append_parts};
 use std::alloc::AllocError;
 
-/// Appends the curve of how many commands run, which ran at these moments, with its axis.
 pub(crate) fn append_curve(
     frame: &Frame,
     moments: &Moments,
@@ -68,7 +67,6 @@ fn append_points(frame: &Frame, moments: &Moments, out: &mut Vec<u8>) -> Result<
     Ok(())
 }
 
-// Appends a step of the curve: up or down, and three pixels on.
 fn append_point(
     frame: &Frame,
     moments: &Moments,
@@ -92,7 +90,6 @@ fn append_point(
     )
 }
 
-// Where the curve stands as so many commands run.
 fn height(frame: &Frame, count: u64) -> u128
     ensures value { result ≡ height_of frame.now count }
 {

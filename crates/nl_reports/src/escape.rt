@@ -6,14 +6,13 @@ use crate::kind::{KindRule, kind_of};
 use crate::text::{append, is_bare};
 use std::alloc::{AllocError, Global};
 
-// The longest text of a name that stands whole, and how many bytes of a longer name are shown.
+// Bytes: the longest text of a name that stands whole, and the beginning of a longer name.
 const WHOLE: usize = 100;
 
 const START: usize = 20;
 
 const ELLIPSIS: &[u8] = b"\xE2\x80\xA6";
 
-/// Appends a name, or how it begins.
 pub(crate) fn append_label(alloc: Global, name: &[u8], out: &mut Vec<u8>) -> Result<(), AllocError>
     ensures items { OnOk result (out.new.items ≡ out.old.items ++ label name.now) }
 {
@@ -35,7 +34,7 @@ fn append_cut(alloc: Global, name: &[u8], out: &mut Vec<u8>) -> Result<(), Alloc
     append(b"..", out)
 }
 
-/// Appends the last part of a name; if that has more bytes, so many at most, of whole characters, and an ellipsis.
+/// It appends the part after the last `/`; if that has more than `most` bytes, whole characters of it and an ellipsis.
 pub(crate) fn append_cut_name(
     alloc: Global,
     most: usize,
@@ -53,7 +52,6 @@ pub(crate) fn append_cut_name(
     append(ELLIPSIS, out)
 }
 
-// A name behind its last `/`.
 fn base_of(name: &[u8]) -> &[u8]
     ensures { result.now ≡ base_of name.now }
 {
@@ -61,7 +59,7 @@ fn base_of(name: &[u8]) -> &[u8]
     &name[folder.len().min(name.len())..]
 }
 
-// How many bytes of a text stand there, no more than so many, if no character is torn.
+// It tears no character.
 fn cut_at(most: usize, text: &[u8]) -> usize
     ensures value { result ≡ cut_at most text.now }
     ensures within { result ≤ length text.now }
@@ -82,7 +80,6 @@ fn begins_character(at: usize, text: &[u8]) -> bool
     }
 }
 
-// A name, with U+FFFD for what isn't UTF-8.
 fn shown(alloc: Global, name: &[u8]) -> Result<Vec<u8>, AllocError>
     ensures value { IfOk result (λ out. out.items ≡ shown name.now) }
 {
@@ -105,7 +102,6 @@ fn append_escaped(text: &[u8], out: &mut Vec<u8>) -> Result<(), AllocError>
     Ok(())
 }
 
-// What a byte becomes behind two others.
 fn append_piece(first: u8, second: u8, byte: u8, out: &mut Vec<u8>) -> Result<(), AllocError>
     ensures items { OnOk result (out.new.items ≡ out.old.items ++ piece first second byte) }
 {

@@ -8,7 +8,7 @@ use crate::span::Span;
 use crate::text::append_with;
 use std::alloc::AllocError;
 
-/// When a build began, how long it took, and its highest lane.
+/// `wall` is in milliseconds, and `top` is the highest lane.
 #[derive(Clone, Copy, Drop)]
 pub struct Frame {
     pub began: u64,
@@ -17,7 +17,7 @@ pub struct Frame {
 }
 
 impl Frame {
-    /// Of commands in the order of START, which have these lanes.
+    /// The commands stand in the order of START.
     pub(crate) fn of(spans: &[Span], lanes: &[u64]) -> Frame
         requires early { All IsEarly spans.now }
         ensures value { result ≡ frame_of spans.now lanes.now }
@@ -31,7 +31,7 @@ impl Frame {
         }
     }
 
-    // How wide so many milliseconds are, in tenths of a pixel.
+    // In tenths of a pixel, as all places and sizes in a picture.
     fn across(&self, ms: u64) -> u64
         requires early { ms < 2 ^ 32 }
         ensures value { result ≡ across self.now ms }
@@ -40,7 +40,7 @@ impl Frame {
         (ms * 14400 / self.wall.max(1)).min(14400)
     }
 
-    /// Where so many milliseconds from the beginning stand.
+    /// `ms` counts from the beginning of the build.
     pub(crate) fn x_of(&self, ms: u64) -> u64
         requires early { ms < 2 ^ 32 }
         ensures value { result ≡ x_of self.now ms }
@@ -49,7 +49,6 @@ impl Frame {
         1000 + self.across(ms)
     }
 
-    /// Where a moment stands.
     pub(crate) fn x_at(&self, at: u64) -> u64
         requires early { at < 2 ^ 32 }
         ensures value { result ≡ x_at self.now at }
@@ -58,14 +57,14 @@ impl Frame {
         self.x_of(at.saturating_sub(self.began))
     }
 
-    /// Whether the lanes are high enough for a name.
+    /// The lanes are high enough for names.
     pub(crate) fn is_named(&self) -> bool
         ensures { result ≡ is_named self.now }
     {
         self.top < 64
     }
 
-    // How far lanes stand apart: many of them are as high together as a screen.
+    // The distance of two lanes: many lanes are as high together as a screen.
     fn pitch(&self) -> u128
         ensures value { result ≡ pitch self.now }
         ensures bound { result ≤ 220 }
@@ -76,14 +75,13 @@ impl Frame {
         (8000 / (u128::from(self.top) + 1)).max(1)
     }
 
-    /// How high a bar is.
+    /// The height of a bar.
     pub(crate) fn height(&self) -> u128
         ensures value { result ≡ height self.now }
     {
         self.pitch() - self.pitch() / 8
     }
 
-    /// Where a lane stands.
     pub(crate) fn y_at(&self, lane: u64) -> u128
         ensures value { result ≡ y_at self.now lane }
         ensures bound { result < 2 ^ 80 }
@@ -91,7 +89,6 @@ impl Frame {
         1100 + u128::from(lane) * self.pitch()
     }
 
-    /// The foot of the curve.
     pub(crate) fn foot(&self) -> u128
         ensures value { result ≡ foot_of self.now }
         ensures bound { result < 2 ^ 100 }
@@ -99,7 +96,7 @@ impl Frame {
         self.y_at(self.top) + self.pitch() + 1200
     }
 
-    /// A line of the list below it.
+    /// The list stands below the curve.
     pub(crate) fn line_at(&self, line: u64) -> u128
         ensures value { result ≡ line_at self.now line }
         ensures bound { result < 2 ^ 101 }
@@ -108,7 +105,7 @@ impl Frame {
     }
 }
 
-/// When the first of some commands begins, which are in the order of START; 0 if there is none.
+/// The commands stand in the order of START. 0 if there is none.
 pub(crate) fn first_began(spans: &[Span]) -> u64
     requires early { All IsEarly spans.now }
     ensures value { result ≡ first_began spans.now }
@@ -142,7 +139,6 @@ fn top_of(lanes: &[u64]) -> u64
     top
 }
 
-/// Appends so many milliseconds in seconds.
 pub(crate) fn append_seconds(ms: u64, out: &mut Vec<u8>) -> Result<(), AllocError>
     ensures items { OnOk result (out.new.items ≡ out.old.items ++ seconds ms) }
 {

@@ -21,18 +21,18 @@ pub struct Edge {
     pub line: u64,
 }
 
-/// A graph. A node has a number, which is any bytes, and, unless it is that of a command, or of an output that nothing needs, a name: the
-/// last one that its lines give it.
+/// A node has a number, which is any bytes, and the last name that the lines give it. A command has no name, nor has an output that
+/// nothing needs.
 #[derive(Drop)]
 pub struct NinjaGraph<'a> {
     pub(crate) nodes: IndexMap<&'a [u8], Option<&'a [u8]>, Secret>,
     pub(crate) edges: Vec<Edge>,
-    /// The places of the edges, each behind those that lead to where it begins: a hint, of which nothing is known.
+    /// The places of the edges, each after those that lead to where it begins: a hint, of which nothing is known.
     pub(crate) order: Vec<usize>,
 }
 
-/// The graph that a text says, whose numbers are hashed under a secret. It is refused at its first line that is none of such a text, and,
-/// if there is none, at a line whose edge is of a cycle. It takes 16 bytes more for each line while it reads.
+/// Numbers are hashed under a secret. The text is refused at its first bad line, or else at a line whose edge is of a cycle. To read it
+/// takes 16 bytes more for each line.
 pub fn read_graph<'a>(
     alloc: Global,
     secret: Secret,
@@ -66,7 +66,6 @@ pub fn read_graph<'a>(
 }
 
 impl<'a> NinjaGraph<'a> {
-    // Takes in what the line of this number says.
     fn take(&mut self, number: u64, said: Line<'a>) -> Result<(), AllocError>
         ensures ok { (ns : List Node) (es : List SeenEdge) → Holds ns es self.old.nodes.entries self.old.edges.items → OnOk result
             (Holds (ns ++ nodes_said (line_seen said.entry)) (es ++ edges_said number (line_seen said.entry)) self.new.nodes.entries self.new.edges.items) }
@@ -90,7 +89,7 @@ impl<'a> NinjaGraph<'a> {
         }
     }
 
-    // The place of a number, which is taken in if it is new.
+    // A number without a place gets one.
     fn place_of(&mut self, id: &'a [u8]) -> Result<usize, AllocError>
         ensures place { IfOk result (IsPlaced id.now self.old.nodes.entries self.new.nodes.entries) }
         ensures holds { (ns : List Node) (es : List SeenEdge) → Holds ns es self.old.nodes.entries self.old.edges.items

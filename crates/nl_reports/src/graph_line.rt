@@ -5,18 +5,16 @@ ghost use Rattle.nl_reports.specs.GraphText.{both_now};
 
 use memchr::memchr;
 
-/// What a line says.
 #[derive(Clone, Copy, Drop)]
 pub(crate) enum Line<'a> {
-    /// Nothing of nodes and edges.
+    /// It says nothing of nodes and edges.
     Passed,
-    /// The name of the node of a number.
     Labelled { id: &'a [u8], name: &'a [u8] },
-    /// That an edge leads from a number to another.
+    /// An edge leads from a number to another.
     Joined { from: &'a [u8], to: &'a [u8] },
 }
 
-/// What the line of a number says, if it may stand there: the first begins the graph, and behind its end there are empty ones alone.
+/// None if the line may not stand there: the first begins the graph, and only empty lines come after its end.
 pub(crate) fn line_in(ended: bool, number: u64, line: &[u8]) -> Option<Line<'_>>
     ensures value { option_map line_seen result ≡ line_in ended number line.now }
 {
@@ -41,7 +39,6 @@ fn read_line(line: &[u8]) -> Option<Line<'_>>
     }
 }
 
-// What is said behind the number of a node or of a command.
 fn read_behind<'a>(id: &'a [u8], rest: &'a [u8]) -> Option<Line<'a>>
     ensures value { option_map line_seen result ≡ said_of id.now rest.now (behind (codes " [label=\"") rest.now) }
 {
@@ -76,7 +73,7 @@ fn is_setting(line: &[u8]) -> bool
         || line.strip_prefix(b"edge [").is_some()
 }
 
-// The bytes in quotes with which a text begins, and what stands behind them.
+// The bytes in quotes with which a text begins, and what follows them.
 fn quoted(bytes: &[u8]) -> Option<(&[u8], &[u8])>
     ensures value { option_map both_now result ≡ quoted bytes.now }
 {

@@ -10,7 +10,6 @@ use nl_builds::{Build, Builds, Command};
 use nl_fields::EntryRef;
 use std::alloc::{AllocError, Global};
 
-/// A command: when it ran, its hash, and the entries of its outputs.
 #[derive(Clone, Copy, Drop)]
 pub struct Job<'s, 'a> {
     pub span: Span,
@@ -19,7 +18,7 @@ pub struct Job<'s, 'a> {
 }
 
 impl<'a> Job<'_, 'a> {
-    /// The name of its first output; empty where it has none.
+    /// The name of its first output; empty if it has none.
     pub fn name(&self) -> &'a [u8]
         ensures { result.now ≡ first_name self.now.outputs.now }
     {
@@ -30,7 +29,7 @@ impl<'a> Job<'_, 'a> {
     }
 }
 
-/// The commands of the build of this number, from 1, in order; none, if there is no such build.
+/// Builds are numbered from 1. No commands if there is no such build.
 pub fn jobs_of<'s, 'a>(
     alloc: Global,
     from: &'s Builds<'a>,
@@ -42,7 +41,6 @@ pub fn jobs_of<'s, 'a>(
     jobs_in(alloc, from, number, number)
 }
 
-/// Those of the builds from a number to another.
 pub(crate) fn jobs_in<'s, 'a>(
     alloc: Global,
     from: &'s Builds<'a>,
@@ -59,7 +57,7 @@ pub(crate) fn jobs_in<'s, 'a>(
     jobs_from(alloc, place, commands, from.entries.as_slice())
 }
 
-/// These commands, of which the first has the entries from a place on.
+/// The first command has the entries from `place` on.
 pub(crate) fn jobs_from<'s, 'a>(
     alloc: Global,
     place: usize,
@@ -82,7 +80,6 @@ pub(crate) fn jobs_from<'s, 'a>(
     Ok(jobs)
 }
 
-/// How many commands the first builds have, and how many entries the first commands.
 pub(crate) fn commands_to(count: usize, builds: &[Build]) -> usize
     ensures { result ≡ commands_to count builds.now }
 {
@@ -107,7 +104,6 @@ pub(crate) fn entries_to(count: usize, commands: &[Command]) -> usize
     }
 }
 
-/// What stands from one place to another.
 pub(crate) fn between<T>(from: usize, to: usize, items: &[T]) -> &[T]
     ensures { result.now ≡ between from to items.now }
 {
@@ -115,10 +111,10 @@ pub(crate) fn between<T>(from: usize, to: usize, items: &[T]) -> &[T]
     &front[from.min(front.len())..]
 }
 
-// A moment is before this one.
+// Later than each moment.
 const NO_MOMENT: u64 = 1 << 32;
 
-/// The commands in the order of START, and those of one START in their order.
+/// Commands of one START keep their order.
 pub fn jobs_by_start<'s, 'a>(jobs: Vec<Job<'s, 'a>>) -> Result<Vec<Job<'s, 'a>>, AllocError>
     requires early { All (λ j. IsEarly j.span) jobs.items }
     ensures value { IfOk result (λ sorted. map seen sorted.items ≡ by_start (map seen jobs.entry.items)) }

@@ -4,7 +4,6 @@ ghost use Rattle.nl_reports.specs.Kinds.{extension_behind, extension_of, folder_
 
 use memchr::memchr;
 
-/// By what outputs are told apart into kinds.
 #[derive(Clone, Copy, Drop)]
 pub enum KindRule {
     /// The name from its last dot on, if no `/` follows.
@@ -15,7 +14,7 @@ pub enum KindRule {
     Top,
 }
 
-/// The kind of the output of this name; empty where it has none.
+/// Empty if the name has no kind.
 pub fn kind_of(rule: KindRule, name: &[u8]) -> &[u8]
     ensures value { result.now ≡ kind_of rule name.now }
 {
@@ -36,7 +35,7 @@ fn extension_of(name: &[u8]) -> &[u8]
     found
 }
 
-// What is found of a name, the rest of which begins with this byte.
+// `rest` is the part of the name that was not looked at.
 fn extension_step<'a>(found: &'a [u8], rest: &'a [u8]) -> &'a [u8]
     requires some { 0 < length rest.now }
     ensures value { extension_behind result.now (drop 1 rest.now)

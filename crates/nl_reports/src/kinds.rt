@@ -10,7 +10,7 @@ use indexmap::IndexMap;
 use nl_table::Secret;
 use std::alloc::{AllocError, Global};
 
-/// The kinds of these commands, in the order in which they first appear. They are hashed under a secret.
+/// The kinds stand in the order in which they first appear, and are hashed under a secret.
 pub fn kinds_of<'a>(
     alloc: Global,
     secret: Secret,
@@ -27,7 +27,6 @@ pub fn kinds_of<'a>(
     rows_in(alloc, &sums)
 }
 
-// A command more of a kind.
 fn count_row<'a>(
     kind: &'a [u8],
     row: &Row<'_>,
@@ -49,7 +48,6 @@ fn count_row<'a>(
     Ok(())
 }
 
-// The sums of a kind so far.
 fn sums_at(kind: &[u8], sums: &IndexMap<&[u8], Sums, Secret>) -> Sums
     ensures value { result ≡ sums_in sums.now.entries kind.now }
 {

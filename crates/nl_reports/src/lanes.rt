@@ -1,4 +1,4 @@
-//! Lanes, each of commands of which no two run at one time.
+//! Lanes of commands: no two commands of a lane run at one time.
 ghost use Rattle.std.specs.Prelude.{◌≡◌, ◌++◌, ◌∷◌, [], ◌*◌, ◌/◌, ◌<◌, ◌≤◌, ℕ, get_or, length, slice_index, IfOk, OnOk};
 ghost use Rattle.nl_reports.specs.Spans.{closed_of};
 ghost use Rattle.nl_reports.specs.Lanes.{AreLow, first_free, given, lanes};
@@ -6,18 +6,17 @@ ghost use Rattle.nl_reports.specs.Lanes.{AreLow, first_free, given, lanes};
 use crate::span::Span;
 use std::alloc::{AllocError, Global};
 
-// So many lanes have one least end, by which they are passed over together.
+// The lanes of a block have one least end, by which they are passed over together.
 const BLOCK: usize = 1024;
 
-// The moments at which the last commands of the lanes end. Of each block of lanes, none of them is below its least.
+// The end of each lane's last command, and for each block a moment before which none of its lanes ends.
 #[derive(Drop)]
 pub struct Lanes {
     ends: Vec<u64>,
     least: Vec<u64>,
 }
 
-/// The lane of each command, where they stand in the order of START: the first that is free as it begins. A lane is free if
-/// its last command has ended.
+/// The commands stand in the order of START. Each gets the first lane whose last command has ended.
 pub fn lanes_of(alloc: Global, commands: &[Span]) -> Result<Vec<u64>, AllocError>
     ensures value { IfOk result (λ found. found.items ≡ lanes commands.now) }
 {
@@ -34,7 +33,6 @@ pub fn lanes_of(alloc: Global, commands: &[Span]) -> Result<Vec<u64>, AllocError
 }
 
 impl Lanes {
-    // Gives a lane to a command.
     fn take(&mut self, command: &Span) -> Result<usize, AllocError>
         requires low { AreLow self.old }
         ensures lane { IfOk result (λ lane. lane ≡ first_free command.now.began self.old.ends.items) }
@@ -79,7 +77,6 @@ impl Lanes {
         Ok(())
     }
 
-    // A new lane with its first command.
     fn open(&mut self, end: u64) -> Result<(), AllocError>
         requires low { AreLow self.old }
         ensures ends { OnOk result (self.new.ends.items ≡ self.old.ends.items ++ end ∷ []) }
@@ -110,7 +107,7 @@ fn least_in(ends: &[u64], block: usize) -> u64
     least
 }
 
-/// The lane at a place; the first, where there is none.
+/// The first lane if there is none at the place.
 pub(crate) fn lane_at(lanes: &[u64], place: usize) -> u64
     ensures { result ≡ get_or lanes.now place 0 }
 {

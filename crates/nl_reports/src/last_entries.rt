@@ -9,8 +9,8 @@ use nl_fields::EntryRef;
 use nl_table::Secret;
 use std::alloc::{AllocError, Global};
 
-/// The builds with the last entry of each output alone, if it isn't one of those that wait for a command which didn't end. Commands
-/// and builds of which nothing is left aren't there. Names are hashed under a secret.
+/// Only the last entry of each output is left, and none of an output that waits for a command which didn't end. Commands and builds
+/// without an entry go. Names are hashed under a secret.
 pub fn lasting<'a>(
     alloc: Global,
     secret: Secret,
@@ -39,7 +39,7 @@ pub fn lasting<'a>(
     })
 }
 
-// The entries that are left, and of each place how many of them don't stand before it.
+// The entries that are left, and for each place the number of those that don't stand before it.
 fn last_entries<'a>(
     alloc: Global,
     secret: Secret,
@@ -65,7 +65,7 @@ fn last_entries<'a>(
     Ok((left, behind))
 }
 
-/// The set of these names, which are hashed under a secret.
+/// Names are hashed under a secret.
 pub(crate) fn names_of<'a>(
     alloc: Global,
     secret: Secret,
@@ -80,8 +80,7 @@ pub(crate) fn names_of<'a>(
     Ok(set)
 }
 
-// The commands that are left, and of each place how many of them stand before it, where so many entries are left, and so many not before
-// each place.
+// `entries` counts the entries that are left, and `behind` those of them that don't stand before each place.
 fn commands_left(
     alloc: Global,
     entries: usize,
@@ -107,7 +106,6 @@ fn commands_left(
     Ok((left, before))
 }
 
-// The builds that are left, where so many commands are left, and so many before each place.
 fn builds_left(
     alloc: Global,
     commands: usize,
@@ -132,14 +130,12 @@ fn builds_left(
     Ok(left)
 }
 
-// The number at a place, and this one behind the end.
 fn number_at(numbers: &[usize], place: usize, end: usize) -> usize
     ensures { result ≡ get_or numbers.now place end }
 {
     numbers.get(place).copied().unwrap_or(end)
 }
 
-// That of a build of which no output is missing.
 fn whole(how: How) -> How
     ensures { result ≡ whole how }
 {

@@ -11,7 +11,7 @@ ghost use Rattle.nl_reports.specs.declared.span.Span.{Span};
 use crate::span::Span;
 use std::alloc::{AllocError, Global};
 
-/// When commands begin and end, each in order.
+/// Each list is in order.
 #[derive(Drop)]
 pub struct Moments {
     pub starts: Vec<u64>,
@@ -19,7 +19,6 @@ pub struct Moments {
 }
 
 impl Moments {
-    /// Of commands that ran then.
     pub fn of(alloc: Global, spans: &[Span]) -> Result<Moments, AllocError>
         requires early { All IsEarly spans.now }
         ensures value { IfOk result (AreMoments spans.now) }
@@ -29,7 +28,6 @@ impl Moments {
         Ok(Moments { starts, ends })
     }
 
-    /// How many of these commands run at a moment.
     pub fn running(&self, at: u64) -> u64
         ensures value { (cs : List Span) → AreMoments cs self.now → result ≡ running cs at }
     {
@@ -39,7 +37,6 @@ impl Moments {
     }
 }
 
-// The moments in order.
 fn rising(moments: Vec<u64>) -> Vec<u64>
     requires early { All (λ m. m ≤ 2 ^ 32) moments.items }
     ensures items { IsPermutation moments.items result.items }
@@ -50,7 +47,6 @@ fn rising(moments: Vec<u64>) -> Vec<u64>
     sorted
 }
 
-// How many of these are no later than a moment.
 fn up_to(moments: &[u64], at: u64) -> u64
     ensures value { Rises moments.now → result ≡ count_by (λ m. nat_le m at) moments.now }
 {

@@ -10,7 +10,7 @@ use crate::span::Span;
 use nl_builds::Builds;
 use std::alloc::{AllocError, Global};
 
-/// The numbers of a build. Times are in milliseconds.
+/// Times are in milliseconds.
 #[derive(Clone, Copy, Drop)]
 pub struct Numbers {
     pub commands: usize,
@@ -21,10 +21,10 @@ pub struct Numbers {
     pub total: u128,
 }
 
-// A moment is before this one.
+// Later than each moment.
 const NO_MOMENT: u64 = 1 << 32;
 
-/// Those of the build of this number, which has these commands.
+/// `jobs` are the commands of the build of this number.
 pub fn numbers_of(from: &Builds, number: usize, jobs: &[Job<'_, '_>]) -> Numbers
     requires early { All (λ j. IsEarly j.span) jobs.now }
     ensures value { map seen jobs.now ≡ build_jobs (told from.now) number → result ≡ numbers_of (told from.now) number }
@@ -46,7 +46,6 @@ pub fn numbers_of(from: &Builds, number: usize, jobs: &[Job<'_, '_>]) -> Numbers
     }
 }
 
-// How many outputs the commands of a build have.
 fn count_outputs(from: &Builds, number: usize) -> usize
     ensures { result ≡ count_outputs (told from.now) number }
 {
@@ -56,7 +55,6 @@ fn count_outputs(from: &Builds, number: usize) -> usize
     entries_to(end, from.commands.as_slice()).saturating_sub(start)
 }
 
-/// When each of these commands ran.
 pub fn spans_of(alloc: Global, jobs: &[Job<'_, '_>]) -> Result<Vec<Span>, AllocError>
     requires early { All (λ j. IsEarly j.span) jobs.now }
     ensures value { IfOk result (λ spans. spans.items ≡ spans_of (map seen jobs.now)) }

@@ -1,4 +1,4 @@
-//! Orders of edges, and cycles: that an order is one isn't shown, and is checked by those who use it.
+//! Orders of edges, and cycles: nothing shows that an order is one, and who uses it checks that.
 ghost use Rattle.std.specs.Prelude.{◌≡◌, ℕ, List, map, IfErr, IfSome, IsErrOf};
 ghost use Rattle.nl_tool_texts.specs.declared.fault.ToolFault.{ToolFault};
 ghost use Rattle.nl_reports.specs.GraphText.{IsGraphFault, seen_edge};
@@ -11,8 +11,8 @@ use std::alloc::{AllocError, Global};
 // No place.
 const NONE: usize = usize::MAX;
 
-// Where a walk into the depth of a graph stands at a node: at the first edge from it that wasn't looked at, and whether it went on from
-// here and didn't yet come back.
+// The state of a depth-first walk at a node: the first edge from it that wasn't looked at, and whether the walk went on from here and
+// didn't yet come back.
 #[derive(Clone, Copy, Drop)]
 struct Mark {
     first: usize,
@@ -24,8 +24,8 @@ const DONE: Mark = Mark {
     open: false,
 };
 
-/// The places of all edges between so many nodes, each behind those that lead to where it begins. An edge of a cycle is refused by its
-/// line. If an edge is found to be of one and isn't, memory is told to be wanting: no such case is known.
+/// The places of all edges between so many nodes, each after those that lead to where it begins. An edge of a cycle is refused by its
+/// line. An edge that is taken for one of a cycle and isn't would be refused for want of memory: no such case is known.
 pub(crate) fn order_of(alloc: Global, count: usize, edges: &[Edge]) -> Result<Vec<usize>, ToolFault>
     ensures told_line { (ids : List (List ℕ)) (line : ℕ) → IsErrOf result (ToolFault.BadLine line)
         → ClosesCycle (map (seen_edge ids) edges.now) line }
@@ -69,7 +69,7 @@ pub(crate) fn order_of(alloc: Global, count: usize, edges: &[Edge]) -> Result<Ve
     Ok(order)
 }
 
-// For each edge the one from the same node that is looked at behind it; the marks are of those that are looked at first.
+// For each edge the one from the same node that is looked at next. The marks name the first ones.
 fn next_edges(alloc: Global, edges: &[Edge], marks: &mut [Mark]) -> Result<Vec<usize>, AllocError> {
     let mut next = Vec::new(alloc);
     for place in 0..edges.len() {
@@ -90,7 +90,7 @@ fn set_mark(marks: &mut [Mark], node: usize, first: usize, open: bool) {
     }
 }
 
-// The line of the last of some edges, if those before it lead to where it begins from where it ends.
+// The line of the last edge, if the edges before it lead from its end to its beginning.
 fn closing_line(way: &[usize], edges: &[Edge]) -> Option<u64>
     ensures cycle { (ids : List (List ℕ)) → IfSome result (ClosesCycle (map (seen_edge ids) edges.now)) }
 {

@@ -8,14 +8,14 @@ use indexmap::IndexMap;
 use nl_table::Secret;
 use std::alloc::{AllocError, Global};
 
-/// The places of the commands by their outputs.
+/// Each output has the place of the last command that makes it.
 #[derive(Drop)]
 pub struct Outputs<'a> {
     places: IndexMap<&'a [u8], usize, Secret>,
 }
 
 impl<'a> Outputs<'a> {
-    /// Those of these commands. Names are hashed under a secret.
+    /// Names are hashed under a secret.
     pub fn of(
         alloc: Global,
         secret: Secret,
@@ -30,7 +30,6 @@ impl<'a> Outputs<'a> {
         Ok(Outputs { places })
     }
 
-    /// The place of the last command that has this output.
     pub fn place_of(&self, name: &[u8]) -> Option<usize>
         ensures value { (ps : List (List ℕ × ℕ)) → HoldPlaces ps self.now.places.entries → result ≡ last_at ps name.now }
     {

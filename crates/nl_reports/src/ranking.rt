@@ -4,22 +4,19 @@ ghost use Rattle.nl_reports.specs.Rows.{falling};
 
 use std::alloc::{AllocError, Global};
 
-// Of so many at most each is put in its place as it is met; for more, all are sorted.
+// Up to this many items are put in their places as they are met; if more are wanted, all are sorted.
 const FEW: usize = 64;
 
-/// What items are ranked by.
 pub(crate) trait Ranking<T> {
     ghost rank: { Self → T → ℕ };
 
     fn rank(&self, item: &T) -> u128
         ensures { result ≡ rank self.now item.now };
 
-    /// All of these items.
     fn falling(&self, alloc: Global, items: &[T]) -> Result<Vec<T>, AllocError>
         ensures value { IfOk result (λ sorted. sorted.items ≡ falling (rank self.now) items.now) };
 }
 
-/// So many of them at most.
 pub(crate) fn highest<T: Copy, R: Ranking<T>>(
     alloc: Global,
     by: &R,
@@ -40,7 +37,7 @@ pub(crate) fn highest<T: Copy, R: Ranking<T>>(
     Ok(kept)
 }
 
-// Puts an item behind those that rank as high, if it is one of so many then.
+// An item comes after those that rank as high, and only the first `most` are kept.
 fn keep<T: Copy, R: Ranking<T>>(
     by: &R,
     most: usize,
@@ -60,7 +57,7 @@ fn keep<T: Copy, R: Ranking<T>>(
     Ok(())
 }
 
-// Where an item stands among others that are in order.
+// The others are in order.
 fn place_of<T, R: Ranking<T>>(by: &R, item: &T, kept: &[T]) -> usize
     ensures within { result ≤ length kept.now }
     ensures higher { (k : ℕ) (d : T) → k + 1 ≡ result → R.rank by.now item.now ≤ R.rank by.now (get_or kept.now k d) }

@@ -5,7 +5,6 @@ ghost use Rattle.nl_reports.specs.Columns.{by_number, is_control, shown, shown_b
 
 use std::alloc::{AllocError, Global};
 
-// The text, with what a terminal of UTF-8 takes for a control character by the number of its byte.
 pub(crate) fn shown(alloc: Global, text: &[u8]) -> Result<Vec<u8>, AllocError>
     ensures value { IfOk result (λ out. out.items ≡ shown text.now) }
 {
@@ -28,7 +27,7 @@ fn append_shown(before: u8, byte: u8, out: &mut Vec<u8>) -> Result<(), AllocErro
     append_number(byte, out)
 }
 
-/// Appends a byte by its number in hexadecimal, as `\x1b`.
+/// The number is hexadecimal, as in `\x1b`.
 pub fn append_number(byte: u8, out: &mut Vec<u8>) -> Result<(), AllocError>
     ensures { OnOk result (out.new.items ≡ out.old.items ++ by_number byte) }
 {

@@ -16,8 +16,7 @@ use nl_table::Secret;
 use nl_versions::LogVersion;
 use std::alloc::{AllocError, Global};
 
-/// A log that is compared: its version, its builds with the last entry of each output alone, and the outputs that wait for a command
-/// which didn't end.
+/// A log that is compared. `told` has only the last entry of each output; `waiting` are the outputs of commands that didn't end.
 #[derive(Clone, Copy, Drop)]
 pub struct Side<'s, 'a> {
     pub version: LogVersion,
@@ -25,15 +24,14 @@ pub struct Side<'s, 'a> {
     pub waiting: &'s [&'a [u8]],
 }
 
-/// What is compared: whether hashes can be, and from how many milliseconds on a difference is one.
+/// `hashes` says whether hashes can be compared; `least` is the least difference in milliseconds.
 #[derive(Clone, Copy, Drop)]
 pub struct Rules {
     pub hashes: bool,
     pub least: u64,
 }
 
-/// A command of two logs: how it stands in them, the milliseconds that it took in each, 0 where it isn't there or didn't end, and its
-/// first output.
+/// Times are in milliseconds, and 0 where the command isn't there or didn't end. The output is its first.
 #[derive(Clone, Copy, Drop)]
 pub struct ComparedRow<'a> {
     pub class: Class,
@@ -42,7 +40,6 @@ pub struct ComparedRow<'a> {
     pub output: &'a [u8],
 }
 
-// The commands of a log, and what waits in it.
 #[derive(Drop)]
 struct Held<'s, 'a> {
     jobs: Vec<Job<'s, 'a>>,
@@ -59,7 +56,6 @@ impl<'s, 'a> Held<'s, 'a> {
         Ok(Held { jobs, waiting })
     }
 
-    // Whether an output of a command waits.
     fn waits(&self, job: &Job<'_, 'a>) -> bool
         ensures { result ≡ waits (held_side self.now) (seen job.now) }
     {
@@ -68,7 +64,7 @@ impl<'s, 'a> Held<'s, 'a> {
             .any(|entry| self.waiting.contains(entry.name()))
     }
 
-    // How long a command took: not at all, where it didn't end.
+    // 0 if it didn't end.
     fn time(&self, job: &Job<'_, 'a>) -> u64
         ensures { result ≡ time_in (held_side self.now) (seen job.now) }
     {
@@ -76,8 +72,8 @@ impl<'s, 'a> Held<'s, 'a> {
     }
 }
 
-/// The commands of two logs: those of the old one, and then those that the new one alone has. A command of the old log is met by that of
-/// the new one which has the first of its outputs whose command meets none before it. Names are hashed under a secret.
+/// The commands of the old log come first, and then those that only the new one has. The outputs of a command of the old log are tried in
+/// order, and it meets the first command of the new log that has one of them and met none before. Names are hashed under a secret.
 pub fn compared<'a>(
     alloc: Global,
     secret: Secret,
@@ -125,7 +121,6 @@ fn told_pairs<'a>(
     Ok(rows)
 }
 
-// The place of the command that meets this one, among those that are left.
 fn partner(outputs: &Outputs<'_>, left: &[bool], job: &Job<'_, '_>) -> Option<usize>
     ensures value { (ps : List (List ℕ × ℕ)) → HoldPlaces ps outputs.now.places.entries
         → result ≡ partner ps left.now job.now.outputs.now }
@@ -146,7 +141,7 @@ fn is_left(left: &[bool], place: usize) -> bool
     left.get(place).copied().unwrap_or(false)
 }
 
-// The command at a place, which is then left no more.
+// The command at the place is then left no more.
 fn take_out<'j, 's, 'a>(
     place: Option<usize>,
     jobs: &'j [Job<'s, 'a>],
@@ -162,7 +157,6 @@ fn take_out<'j, 's, 'a>(
     jobs.get(at)
 }
 
-// A command of the old log, with that of the new one that meets it, if one does.
 fn met<'a>(
     rules: Rules,
     old: &Held<'_, 'a>,
@@ -187,7 +181,7 @@ fn met<'a>(
     row(class, is_waiting, before, after, job.name())
 }
 
-// A command of a class, if none of its outputs waits.
+// If one of its outputs waits, the command is unfinished, whatever `class` is.
 fn row(class: Class, is_waiting: bool, old: u64, new: u64, output: &[u8]) -> ComparedRow<'_>
     ensures value { compared_of result ≡ record {
       class = or_unfinished class is_waiting;
@@ -204,7 +198,6 @@ fn row(class: Class, is_waiting: bool, old: u64, new: u64, output: &[u8]) -> Com
     }
 }
 
-/// Those of a class, in order.
 pub(crate) fn of_class<'a>(
     alloc: Global,
     class: Class,
@@ -222,21 +215,20 @@ pub(crate) fn of_class<'a>(
     Ok(kept)
 }
 
-/// How long some commands took in the old log, in milliseconds.
+/// In milliseconds.
 pub(crate) fn old_time(rows: &[ComparedRow<'_>]) -> u128
     ensures { result ≡ old_time (map compared_of rows.now) }
 {
     rows.iter().map(|row| u128::from(row.old)).sum()
 }
 
-/// The same in the new log.
+/// In milliseconds.
 pub(crate) fn new_time(rows: &[ComparedRow<'_>]) -> u128
     ensures { result ≡ new_time (map compared_of rows.now) }
 {
     rows.iter().map(|row| u128::from(row.new)).sum()
 }
 
-/// By the difference of the times.
 #[derive(Clone, Copy, Drop)]
 pub(crate) struct ByCost;
 

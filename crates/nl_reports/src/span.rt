@@ -4,7 +4,7 @@ ghost use Rattle.nl_reports.specs.Spans.{IsEarly, closed_of, span_of, time_of};
 
 use nl_builds::Command;
 
-/// When a command ran. A moment is a count of milliseconds from 2^31 before its build began, so that none is negative.
+/// A moment is a count of milliseconds from 2^31 before its build began, so that none is negative.
 #[derive(Clone, Copy, Drop)]
 pub struct Span {
     pub began: u64,
@@ -22,7 +22,7 @@ impl Span {
         }
     }
 
-    /// How long it ran: not at all, where it ended before it began.
+    /// In milliseconds: 0 if it ended before it began.
     pub fn time(&self) -> u64
         ensures value { result ≡ time_of self.now }
         ensures bound { result ≤ self.now.ended }
@@ -30,7 +30,7 @@ impl Span {
         self.ended.saturating_sub(self.began)
     }
 
-    /// The moment from which on it doesn't run any more.
+    /// The moment from which it doesn't run any more.
     pub fn closed(&self) -> u64
         ensures value { result ≡ closed_of self.now }
     {

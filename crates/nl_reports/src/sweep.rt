@@ -5,10 +5,10 @@ ghost use Rattle.nl_reports.specs.SweepSteps.{AreSums, IsLow, IsSwept, Rises, ru
 
 use std::alloc::{AllocError, Global};
 
-// A millisecond has so many parts: up to 22 commands share it with nothing left.
+// The parts of a millisecond: up to 22 commands share them with nothing left.
 pub const PARTS: u64 = 232_792_560;
 
-// What the milliseconds before a moment come to.
+// The sums over the milliseconds before `at`.
 #[derive(Clone, Copy, Drop)]
 pub struct Sums {
     pub at: u64,
@@ -18,7 +18,7 @@ pub struct Sums {
 }
 
 impl Sums {
-    // Goes on to a moment up to which so many run.
+    // `running` commands run up to the next moment.
     fn advance(&mut self, next: u64, running: u64)
         requires order { self.old.at ≤ next }
         requires room { next ≤ 2 ^ 32 }
@@ -57,7 +57,6 @@ fn alone_of(running: u64) -> u64
     if running == 1 { 1 } else { 0 }
 }
 
-// How far the sweep is.
 #[derive(Drop)]
 pub struct Sweeping {
     pub sums: Sums,
@@ -67,7 +66,7 @@ pub struct Sweeping {
     pub at_ends: Vec<u64>,
 }
 
-// Whether a start is next: it comes before an end at the same moment.
+// A start comes before an end at the same moment.
 fn is_start_next(starts: &[u64], begun: usize, ends: &[u64], ended: usize) -> bool
     ensures { MatchBool result
         ((begun < length starts.now) × (ended < length ends.now
@@ -78,7 +77,6 @@ fn is_start_next(starts: &[u64], begun: usize, ends: &[u64], ended: usize) -> bo
     begun < starts.len() && (ended >= ends.len() || starts[begun] <= ends[ended])
 }
 
-// Goes on to the next start or end.
 fn step(starts: &[u64], ends: &[u64], so_far: &mut Sweeping) -> Result<(), AllocError>
     requires order { Rises starts.now × Rises ends.now }
     requires swept { IsSwept starts.now ends.now so_far.old }
@@ -100,7 +98,6 @@ fn step(starts: &[u64], ends: &[u64], so_far: &mut Sweeping) -> Result<(), Alloc
     Ok(())
 }
 
-// Goes over all starts and ends.
 pub fn sweep(alloc: Global, starts: &[u64], ends: &[u64]) -> Result<Sweeping, AllocError>
     requires order { Rises starts.now × Rises ends.now }
     ensures swept { IfOk result (λ swept. IsSwept starts.now ends.now swept

@@ -8,7 +8,7 @@ use crate::frame::Frame;
 use crate::text::{Part, append_parts};
 use std::alloc::AllocError;
 
-// In milliseconds; a build has twelve steps at most.
+// In milliseconds; a build has at most twelve steps.
 const STEPS: [u64; 26] = [
     1,
     2,
@@ -40,7 +40,7 @@ const STEPS: [u64; 26] = [
 
 const LONGEST: u64 = 360_000_000;
 
-/// How far the lines of a build stand apart.
+/// The distance of two lines, in milliseconds.
 pub fn step_of(wall: u64) -> u64
     ensures value { result ≡ step_of wall }
     ensures some { 0 < result }
@@ -61,7 +61,6 @@ fn step_in(wall: u64, steps: &[u64]) -> u64
     LONGEST
 }
 
-/// Appends the lines, each with its time above it.
 pub(crate) fn append_ticks(frame: &Frame, out: &mut Vec<u8>) -> Result<(), AllocError>
     requires early { IsFrame frame.now }
     ensures items { OnOk result (out.new.items ≡ out.old.items ++ ticks frame.now) }

@@ -8,7 +8,7 @@ ghost use Rattle.nl_reports.specs.Times.{AreTimesOf, share_of, time_in, times_of
 use crate::job::Job;
 use crate::work::{Work, work_of};
 
-/// The milliseconds of commands by what they do.
+/// In milliseconds.
 #[derive(Clone, Copy, Drop)]
 pub struct Times {
     pub compile: u128,
@@ -69,7 +69,6 @@ impl Times {
         }
     }
 
-    /// Of all commands.
     pub(crate) fn total(&self) -> u128
         requires few { (n : ℕ) × ((n < 2 ^ 63) × AreTimesOf n self.now) }
         ensures value { result ≡ total self.now }
@@ -78,7 +77,7 @@ impl Times {
         self.compile + self.link + self.archive + self.generate + self.test + self.other
     }
 
-    /// The part of a kind in a hundred of all, rounded down.
+    /// In parts of a hundred, rounded down.
     pub(crate) fn share_of(&self, work: Work) -> u128
         requires few { (n : ℕ) × ((n < 2 ^ 63) × AreTimesOf n self.now) }
         ensures value { result ≡ share_of self.now work }

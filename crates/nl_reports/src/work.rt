@@ -4,7 +4,6 @@ ghost use Rattle.nl_reports.specs.Work.{is_in, later_work, place, word, work_of}
 
 use crate::kind::{KindRule, kind_of};
 
-/// What a command does.
 #[derive(Clone, Copy, Drop)]
 pub enum Work {
     Compile,
@@ -28,7 +27,7 @@ const GENERATED: [&str; 14] = [
 
 const TESTED: [&str; 3] = [".test", ".passed", ".tap"];
 
-/// What a command does whose first output has this name.
+/// `name` is that of the command's first output.
 pub fn work_of(name: &[u8]) -> Work
     ensures value { result ≡ work_of name.now }
 {
@@ -67,7 +66,7 @@ fn is_in(extension: &[u8], words: &[&str]) -> bool
     false
 }
 
-/// The word for it in a picture.
+/// A picture shows this word.
 pub(crate) fn word(work: Work) -> &'static [u8]
     ensures { result.now ≡ word work }
 {
@@ -81,7 +80,6 @@ pub(crate) fn word(work: Work) -> &'static [u8]
     }
 }
 
-/// Where it stands among all.
 pub(crate) fn place(work: Work) -> u64
     ensures value { result ≡ place work }
 {

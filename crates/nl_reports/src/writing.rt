@@ -7,10 +7,10 @@ ghost use Rattle.nl_tool_texts.specs.declared.fault.ToolFault.{ToolFault};
 use nl_tool_texts::{ToolFault, write_out};
 use std::io::Write;
 
-// So many bytes are a piece.
+// Bytes of a piece.
 const FULL: usize = 16_384;
 
-/// Writes what is held, if that is a piece or more.
+/// It writes nothing before a piece is full.
 pub(crate) fn write_full<W: Write>(held: &mut Vec<u8>, writer: &mut W) -> Result<(), ToolFault>
     ensures few { OnOk result (length held.new.items < 16384) }
     ensures moved { OnOk result (HoldsAllBut (W.contents writer.old)
@@ -27,7 +27,7 @@ pub(crate) fn write_full<W: Write>(held: &mut Vec<u8>, writer: &mut W) -> Result
     Ok(())
 }
 
-/// Writes what is held at the end.
+/// To call at the end of the text.
 pub(crate) fn write_rest<W: Write>(held: Vec<u8>, writer: &mut W) -> Result<(), ToolFault>
     ensures writes { Writes (W.contents writer.old) (W.contents writer.new) held.items result }
     ensures faults { IfErr result (λ e. e ≡ ToolFault.Write) }
