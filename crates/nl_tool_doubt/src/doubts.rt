@@ -52,6 +52,7 @@ pub fn doubts_of<F: OutputFiles>(
     ensures value { IfOk result (IsDoubts undamaged log.now (F.states files.now)) }
     ensures not_a_log { IsErrOf result LoadFault.NotALog → log_of (as_five log.now) ≡ NotALog }
     ensures other_version { IsErrOf result LoadFault.OtherVersion → log_of (as_five log.now) ≡ OtherVersion }
+    ensures read { ¬ IsErrOf result LoadFault.Read }
 {
     let lines = read_entries(alloc, log)?;
     let table = table_of(alloc, secret, lines.entries.as_slice())?;
@@ -69,6 +70,7 @@ pub fn untrusted_of<F: OutputFiles>(
     ensures value { IfOk result (IsDoubts (damaged_in log.now) log.now (F.states files.now)) }
     ensures not_a_log { IsErrOf result LoadFault.NotALog → log_of (as_five log.now) ≡ NotALog }
     ensures other_version { IsErrOf result LoadFault.OtherVersion → log_of (as_five log.now) ≡ OtherVersion }
+    ensures read { ¬ IsErrOf result LoadFault.Read }
 {
     let lines = read_entries(alloc, log)?;
     let table = table_of(alloc, secret, lines.entries.as_slice())?;
