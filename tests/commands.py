@@ -1094,6 +1094,10 @@ def try_settling(trials, program, room):
         trials.want(f"restat --files: of version {version}", asked(program, room, ["restat", "log", "--files"]), (0, b"", b""))
         wanted = HEADER + b"".join(b"0\t7\t%d\t%s\tff\n" % (times.get(name, 9), name) for name in left)
         trials.want(f"restat --files: the log of version {version}", read(f"{room}/log"), as_version(wanted, version))
+    # With a time stamp a command would pass for an intent, so that the output of one that never ended is never made again.
+    intents = b"5\t5\t0\tsame\tff\n0\t7\t9\tno file\tff\n"
+    write(f"{room}/log", HEADER + b"0\t7\t9\tsame\tff\n" + intents)
+    trials.want("restat --files: an intent", (asked(program, room, ["restat", "log", "--files"]), read(f"{room}/log")), ((0, b"", b""), HEADER + intents))
     # A log that isn't due, and ones that an open would write anew: due, and of version 4.
     last = b"0\t7\t9\tsame\tff\n0\t7\t9\tno file\tff\n0\t7\t9\tof before 1970\tff\n"
     for text in (HEADER + last, HEADER + last * 40, b"# ninja log v4\n" + last):

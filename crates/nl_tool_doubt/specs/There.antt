@@ -1,7 +1,8 @@
 -- What is learned of the files of outputs (docs/CLI.md, "recompact", "restat").
-use Rattle.std.specs.Prelude.{◌≡◌, ◌++◌, ◌∷◌, [], ℕ, ℤ, List, Option, None, Some, IfSome}
+use Rattle.std.specs.Prelude.{if◌then◌else◌, ◌≡◌, ◌++◌, ◌∷◌, [], ℕ, ℤ, List, Option, None, Some, IfSome}
 use Rattle.std.specs.List.{flat_map}
 use Rattle.nl_fields.specs.declared.entry.Entry.{Entry}
+use Rattle.nl_session.specs.Intents.{is_intent}
 use Rattle.nl_table.specs.History.{logged, table}
 use Rattle.nl_table.specs.Log.{LogReading, Log, NotALog, OtherVersion, log_of}
 use Rattle.nl_versions.specs.VersionOf.{as_five}
@@ -17,20 +18,20 @@ table_in OtherVersion = None
 table_in NotALog = None
 
 -- none if its file is missing
-abbrev pub name_by : List ℕ → FileState → List (List ℕ)
-name_by name Missing = []
-name_by name file = name ∷ []
+abbrev pub name_by : Entry → FileState → List (List ℕ)
+name_by e Missing = []
+name_by e file = e.name ∷ []
 
--- none if its file has no time
-abbrev pub pair_by : List ℕ → FileState → List (List ℕ × ℤ)
-pair_by name (Written t) = (name, t.written) ∷ []
-pair_by name file = []
+-- none if its file has no time, or if the entry is an intent: with a time stamp a command passes for it
+abbrev pub pair_by : Entry → FileState → List (List ℕ × ℤ)
+pair_by e (Written t) = if is_intent e then [] else (e.name, t.written) ∷ []
+pair_by e file = []
 
-abbrev pub learned : {X : Type 0} → (List ℕ → FileState → List X) → Looked → List X
-learned by l = by l.entry.name l.file
+abbrev pub learned : {X : Type 0} → (Entry → FileState → List X) → Looked → List X
+learned by l = by l.entry l.file
 
 -- what is learned of the file of each output was added; the log is the one that a reader gave, where that is known
-pub record AddsFor {X : Type 0} (by : List ℕ → FileState → List X) (known : Option (List ℕ)) (states : Option (List ℕ → FileState))
+pub record AddsFor {X : Type 0} (by : Entry → FileState → List X) (known : Option (List ℕ)) (states : Option (List ℕ → FileState))
     (old new : List X) : Type 0 where
   pub bytes : List ℕ
   pub given : IfSome known (λ bs. bs ≡ bytes)

@@ -9,6 +9,7 @@ ghost use Rattle.nl_tool_doubt.specs.There.{AddsFor, learned, name_by, pair_by};
 
 use crate::files::{FileState, Looked, OutputFiles, look_all};
 use nl_fields::{Entry, EntryRef, Name};
+use nl_session::is_intent;
 use nl_table::Secret;
 use nl_tool_print::load_read;
 use nl_tool_texts::ToolFault;
@@ -37,7 +38,8 @@ pub fn add_names_there<R: Read + Drop, F: OutputFiles>(
     Ok(())
 }
 
-/// It asks for the file of each output, in the order of first appearance, and gives the time of each that has one.
+/// It asks for the file of each output, in the order of first appearance, and gives the time of each that has one. An output whose last entry
+/// is an intent is passed over, because with a time stamp a command passes for it.
 pub fn times_there<R: Read + Drop, F: OutputFiles>(
     alloc: Global,
     secret: Secret,
@@ -74,7 +76,10 @@ fn times_of(alloc: Global, looked: &[Looked]) -> Result<Vec<(Name, i64)>, AllocE
 {
     let mut times = Vec::new(alloc);
     for it in looked {
-        if let FileState::Written(at) = it.file {
+        let FileState::Written(at) = it.file else {
+            continue;
+        };
+        if !is_intent(&it.entry) {
             times.push((name_of(alloc, &it.entry)?, at.written))?;
         }
     }
