@@ -18,8 +18,6 @@ ABOUT = """# Help screens
 This page has what `--help` prints of the program and of each command. `python3 man/make.py PROGRAM`
 makes it. [CLI.md](CLI.md) says what the words, options and values mean.
 """
-# The words by which a command takes other values, with its help and without.
-FORMS = {"recompact": ("recompact --manifest", ["recompact", "--manifest", "-"]), "restat": ("restat --files", ["restat", "--files"])}
 # The options of each command.
 COMMON = ("--verbose", "--help", "--version")
 
@@ -37,10 +35,8 @@ def screens(program):
 
     found = [("", [], help_of([]))]
     for name in re.findall(r"(?m)^  ([a-z-]+) ", found[0][2].split("Commands:")[1].split("Options:")[0]):
-        found.append((name, [name], help_of([name])))
-        if name in FORMS:
-            title, words = FORMS[name]
-            found.append((title, words, help_of(words)))
+        if name != "help":
+            found.append((name, [name], help_of([name])))
     # In the order of the page of commands: `replay` is the last.
     return sorted(found, key=lambda it: it[0] == "replay")
 
@@ -79,9 +75,7 @@ def words_of(title, text):
     usage = re.search(r"Usage: nlog (.*)", text)[1].replace("[OPTIONS] ", "")
     usage = re.sub(r"^[a-z-]+ ?", "", usage)
     values = re.sub(r"<([A-Z]+)>|([A-Z]+)(?=\])", lambda it: f"\\fI{it[1] or it[2]}\\fP", usage).replace("\\fP \\fI", " ")
-    command, _, option = title.partition(" ")
-    value = {"--manifest": " \\fIFILE\\fP", "--files": ""}.get(option)
-    return f"\\fB{escaped(command)}\\fP {values}" + (f" \\fB{escaped(option)}\\fP{value}" if option else "")
+    return f"\\fB{escaped(title)}\\fP {values}"
 
 
 def commands(found):

@@ -585,6 +585,10 @@ WORDS = [
     (["damage", "eight"], 1, b"", OTHER_VERSION),
     (["--version"], 0, b"nlog 0.1.0\n", b""),
     (["frob"], 2, b"", NO_COMMAND),
+    # A file in the place of a command, with or without more.
+    *(([path, *more], 2, b"", NO_COMMAND.replace(b"frob", path.encode()) + b"nlog: a command comes first: nlog show %b\n" % path.encode()) for path in (".ninja_log", "out/log", "a.log") for more in ([], ["--verbose"])),
+    (["help", "frob"], 2, b"", NO_COMMAND),
+    (["help", "show", "frob"], 2, b"", NO_COMMAND.replace(b"nlog [COMMAND]", b"nlog show [OPTIONS] [LOG]")),
     (["hash"], 2, b"", NO_VALUE),
     (["-v"], 2, b"", NO_SHORT_OPTION),
     (["--help=x"], 2, b"", HELP_OF_A_VALUE),
@@ -1054,7 +1058,7 @@ def try_mend(trials, program, room):
     trials.want("mend of odd names: the log", read(log), left)
 
 
-# What stands in FILE of `recompact --manifest`, and how it is refused, or the names that it keeps of `a`, `b: c`, ` led`, `x.o`, whose files aren't there.
+# What stands in TARGETS of `prune`, and how it is refused, or the names that it keeps of `a`, `b: c`, ` led`, `x.o`, whose files aren't there.
 MANIFESTS = [
     (b"a: cc\n", [b"a"]),
     (b"a: cc", [b"a"]),
@@ -1076,35 +1080,35 @@ MANIFESTS = [
 
 
 def try_settling(trials, program, room):
-    """`recompact --manifest` and `restat --files`: by files of each kind, by FILE, and what stops them. The files are those of try_doubt."""
+    """`prune` and `retime`: by files of each kind, by TARGETS, and what stops them. The files are those of try_doubt."""
     lines = {name: b"0\t7\t9\t%s\tff\n" % name for name, *_ in DOUBTS}
     for version in (5, 6, 7):
         # What has no file stays if it is a target.
         text = HEADER + b"0\t7\t9\tmade: here\tff\n" + b"".join(lines.values())
         kept = HEADER + b"0\t7\t9\tmade: here\tff\n" + b"".join(it for name, it in lines.items() if (name, b"missing") not in [(row[0], row[2]) for row in DOUBTS])
-        for words, given in ((["log", "--manifest", "targets"], b""), (["--manifest=targets", "log"], b""), (["--manifest", "-", "log", "--log-version", "auto"], b"made: here: cc\n")):
+        for words, given in ((["log", "targets"], b""), (["--", "log", "targets"], b""), (["log", "--log-version", "auto"], b"made: here: cc\n")):
             write(f"{room}/log", as_version(text, version))
             write(f"{room}/targets", b"made: here: cc\nunknown: phony\n")
-            trials.want(f"{words}: of version {version}", asked(program, room, ["recompact", *words], given), (0, b"", b""))
-            trials.want(f"{words}: the log of version {version}", read(f"{room}/log"), as_version(kept, version))
+            trials.want(f"prune {words}: of version {version}", asked(program, room, ["prune", *words], given), (0, b"", b""))
+            trials.want(f"prune {words}: the log of version {version}", read(f"{room}/log"), as_version(kept, version))
         times = {name: time or 1 for name, time, *_ in DOUBTS if time is not None and b"\xff" not in name and time >= 0}
         times[b"a link to same"] = times[b"same"]
         left = {name: it for name, it in lines.items() if name != b"of before 1970"}
         write(f"{room}/log", as_version(HEADER + b"".join(left.values()), version))
-        trials.want(f"restat --files: of version {version}", asked(program, room, ["restat", "log", "--files"]), (0, b"", b""))
+        trials.want(f"retime: of version {version}", asked(program, room, ["retime", "log"]), (0, b"", b""))
         wanted = HEADER + b"".join(b"0\t7\t%d\t%s\tff\n" % (times.get(name, 9), name) for name in left)
-        trials.want(f"restat --files: the log of version {version}", read(f"{room}/log"), as_version(wanted, version))
+        trials.want(f"retime: the log of version {version}", read(f"{room}/log"), as_version(wanted, version))
     # With a time stamp a command would pass for an intent, so that the output of one that never ended is never made again.
     intents = b"5\t5\t0\tsame\tff\n0\t7\t9\tno file\tff\n"
     write(f"{room}/log", HEADER + b"0\t7\t9\tsame\tff\n" + intents)
-    trials.want("restat --files: an intent", (asked(program, room, ["restat", "log", "--files"]), read(f"{room}/log")), ((0, b"", b""), HEADER + intents))
+    trials.want("retime: an intent", (asked(program, room, ["retime", "log"]), read(f"{room}/log")), ((0, b"", b""), HEADER + intents))
     # A log that isn't due, and ones that an open would write anew: due, and of version 4.
     last = b"0\t7\t9\tsame\tff\n0\t7\t9\tno file\tff\n0\t7\t9\tof before 1970\tff\n"
     for text in (HEADER + last, HEADER + last * 40, b"# ninja log v4\n" + last):
         for words in ([], ["--log-version", "5"]):
             write(f"{room}/log", text)
-            was, what = os.stat(f"{room}/log").st_ino, f"restat --files {words}: of before 1970, {len(text)} bytes"
-            trials.want(what, asked(program, room, ["restat", "-v", "--files", "log", *words]), (1, b"", b"nlog: negative time at pair 1\nnlog: LOG log: the file of output \"of before 1970\" is from before 1970\n"))
+            was, what = os.stat(f"{room}/log").st_ino, f"retime {words}: of before 1970, {len(text)} bytes"
+            trials.want(what, asked(program, room, ["retime", "-v", "log", *words]), (1, b"", b"nlog: negative time at pair 1\nnlog: LOG log: the file of output \"of before 1970\" is from before 1970\n"))
             trials.want(f"{what}: the log", (read(f"{room}/log"), os.stat(f"{room}/log").st_ino), (text, was))
     try_manifests(trials, program, room)
     try_settling_stops(trials, program, room)
@@ -1114,16 +1118,16 @@ def try_manifests(trials, program, room):
     names = [b"a", b"b: c", b" led", b"x.o"]
     log = HEADER + b"".join(b"1\t2\t3\t%s\tff\n" % it for it in names)
     for text, wanted in MANIFESTS:
-        for manifest in ("lines", "-"):
-            what = f"--manifest {manifest} of {text[:30]}"
+        for values, place in ((["lines"], b"TARGETS lines"), ([], b"standard input")):
+            what = f"prune {values} of {text[:30]}"
             write(f"{room}/log", log)
             write(f"{room}/lines", text)
-            end = asked(program, room, ["recompact", "-v", "log", "--manifest", manifest], text)
+            end = asked(program, room, ["prune", "-v", "log", *values], text)
             if isinstance(wanted, list):
                 trials.want(what, end, (0, b"", b""))
                 trials.want(f"{what}: the log", read(f"{room}/log"), HEADER + b"".join(b"1\t2\t3\t%s\tff\n" % it for it in names if it in wanted))
             else:
-                said = b"nlog: bad line %s\nnlog: FILE %s: line %s\n" % (wanted.split(b":")[0], manifest.encode(), wanted)
+                said = b"nlog: bad line %s\nnlog: %s: line %s\n" % (wanted.split(b":")[0], place, wanted)
                 trials.want(what, end, (1, b"", said))
                 trials.want(f"{what}: the log", read(f"{room}/log"), log)
 
@@ -1137,7 +1141,7 @@ def try_settling_stops(trials, program, room):
     rows = [(torn, found), (b"hello", (1, b"", NO_LOG + begins)), (b"# ninja log v8\n", (1, b"", OTHER_VERSION + b"nlog: LOG log: version 8\n"))]
     rows.append((None, (1, b"", CANNOT_READ + b"nlog: LOG log: " + NO_FILE)))
     for text, wanted in rows:
-        for words in (["recompact", "log", "--manifest", "one"], ["restat", "log", "--files"]):
+        for words in (["prune", "log", "one"], ["retime", "log"]):
             if os.path.exists(f"{room}/log"):
                 os.remove(f"{room}/log")
             if text is not None:
@@ -1148,7 +1152,7 @@ def try_settling_stops(trials, program, room):
     # A log of another version than the one that is asked for is refused before damage is told of it, and so is what is no log.
     for version, others in ((4, (6, 7)), (5, (6, 7)), (6, (5, 7)), (7, (5, 6))):
         for asked_for in others:
-            for words in (["recompact", "log", "--manifest", "one"], ["restat", "log", "--files"]):
+            for words in (["prune", "log", "one"], ["retime", "log"]):
                 for damage in (b"", b"x\n1\t2\t3\tb"):
                     text = b"# ninja log v%d\n1\t2\t3\ta\tff\n" % version + damage
                     write(f"{room}/log", text)
@@ -1157,7 +1161,7 @@ def try_settling_stops(trials, program, room):
                     trials.want(what, (status, out, err.splitlines()[:1]), (1, b"", OTHER_VERSION.splitlines()))
                     trials.check(f"{what}: the version", b"nlog: LOG log: version %d" % version in err, repr(err))
                     trials.want(f"{what}: the log", read(f"{room}/log"), text)
-    for words in (["recompact", "log", "--manifest", "one"], ["restat", "log", "--files"]):
+    for words in (["prune", "log", "one"], ["retime", "log"]):
         for version in ("5", "6", "7"):
             write(f"{room}/log", b"hello")
             trials.want(f"{words} of version {version} on no log", asked(program, room, [*words, "-v", "--log-version", version]), (1, b"", NO_LOG + begins))
@@ -1167,22 +1171,20 @@ def try_settling_stops(trials, program, room):
             trials.want(f"{words} of version {version} without a log", asked(program, room, [*words, "-v", "--log-version", version]), (1, b"", CANNOT_READ + b"nlog: LOG log: " + NO_FILE))
     write(f"{room}/log", HEADER)
     rows = [
-        (["recompact", "log", "--manifest", "missing"], (1, b"", CANNOT_READ + b"nlog: FILE missing: " + NO_FILE)),
-        (["recompact", "log", "--manifest", "a folder"], (1, b"", CANNOT_READ + b"nlog: FILE a folder: " + A_FOLDER)),
-        (["recompact", "a folder", "--manifest", "one"], (1, b"", CANNOT_READ + b"nlog: LOG a folder: " + A_FOLDER)),
-        (["restat", "a folder", "--files"], (1, b"", CANNOT_READ + b"nlog: LOG a folder: " + A_FOLDER)),
-        # Behind `--` a word is a value, and the two values are those of the form without the option.
-        (["recompact", "log", "--", "--manifest"], (1, b"", CANNOT_READ + b"nlog: KEEP --manifest: " + NO_FILE)),
-        (["restat", "--", "log", "--files"], (1, b"", CANNOT_READ + b"nlog: TIMES --files: " + NO_FILE)),
+        (["prune", "log", "missing"], (1, b"", CANNOT_READ + b"nlog: TARGETS missing: " + NO_FILE)),
+        (["prune", "log", "-"], (1, b"", CANNOT_READ + b"nlog: TARGETS -: " + NO_FILE)),
+        (["prune", "log", "a folder"], (1, b"", CANNOT_READ + b"nlog: TARGETS a folder: " + A_FOLDER)),
+        (["prune", "a folder", "one"], (1, b"", CANNOT_READ + b"nlog: LOG a folder: " + A_FOLDER)),
+        (["retime", "a folder"], (1, b"", CANNOT_READ + b"nlog: LOG a folder: " + A_FOLDER)),
+        (["retime", "--", "--files"], (1, b"", CANNOT_READ + b"nlog: LOG --files: " + NO_FILE)),
         # What is asked for first is refused first.
-        (["recompact", "missing", "--manifest", "missing"], (1, b"", CANNOT_READ + b"nlog: FILE missing: " + NO_FILE)),
+        (["prune", "missing", "missing"], (1, b"", CANNOT_READ + b"nlog: TARGETS missing: " + NO_FILE)),
     ]
     for words, wanted in rows:
         trials.want(f"{words}", asked(program, room, [words[0], "-v", *words[1:]]), wanted)
     trials.want("the log behind them", read(f"{room}/log"), HEADER)
-    wrong = [["recompact", "log", "keep", "--manifest", "one"], ["recompact", "log", "--manifest"], ["recompact", "--manifest", "one"]]
-    wrong += [["restat", "log", "times", "--files"], ["restat", "--files"], ["restat", "log", "--files", "--files"]]
-    wrong += [["recompact", "log", "--manifest", "one", "--log-version", "8"], ["restat", "log", "--manifest", "one"], ["recompact", "log", "--files"]]
+    wrong = [["prune"], ["prune", "log", "one", "two"], ["prune", "log", "one", "--log-version", "8"], ["prune", "log", "--missing-ok"]]
+    wrong += [["retime"], ["retime", "log", "one"], ["retime", "log", "--log-version", "8"], ["recompact", "log", "--manifest", "one"], ["restat", "log", "--files"]]
     for words in wrong:
         status, out, err = asked(program, room, words)
         trials.want(f"{words}: wrong words", (status, out, err[:7]), (2, b"", b"error: "))

@@ -619,7 +619,7 @@ def words_on(program, room, names):
     reads = [["show"], ["check"], ["entries"], ["damage"], ["doubt"], ["builds"], ["summary"], ["summary", "--kind", "folder"], ["summary", "--all"]]
     reads += [["summary", "--graph", graph], ["compare", other], ["trace"], ["picture"]]
     changes = [(["record"], ["1", "2", "3", "new", "cc"]), (["recompact"], [keep]), (["restat"], [times]), (["repair"], []), (["apply"], [script])]
-    changes += [(["recompact", "--manifest", targets], []), (["restat", "--files"], [])]
+    changes += [(["prune"], [targets]), (["retime"], [])]
 
     def ended(before, behind):
         # Of damage these two tell alone, and `apply` says what can't be trusted.

@@ -158,11 +158,11 @@ def fill(room, files):
 
 
 def commands_of(program):
-    """The commands that the program's help lists, each with the first words on it."""
+    """The commands that the program's help lists, without `help` itself."""
     with tempfile.TemporaryDirectory() as room:
         out = run(room, program, "nlog --help")[1]
     listed = re.search(r"(?m)^Commands:\n((?:  .*\n)+)", out)
-    return re.findall(r"(?m)^  ([a-z-]+) ", listed[1]) if listed else []
+    return re.findall(r"(?m)^  (?!help )([a-z-]+) ", listed[1]) if listed else []
 
 
 def lacking(page, examples, commands):

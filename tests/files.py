@@ -1,5 +1,5 @@
 #!/usr/bin/env python3
-"""The words that look at the files of outputs, against a model of its own: `doubt`, `recompact --manifest`, `restat --files` and `mend`.
+"""The words that look at the files of outputs, against a model of its own: `doubt`, `prune`, `retime` and `mend`.
 
     python3 tests/files.py PROGRAM [CASES [SEED]]
 
@@ -30,8 +30,8 @@ FAULTS = {
               "no file is late", "9 ms are late", "20 ms are no matter", "a quarter is no matter", "no file is early",
               "a file that isn't behind MTIME is judged", "there is no tick", "no change time counts", "change times always count", "one copy is a copied tree",
               "change times count in each version"],
-    "recompact": ["a target without a file goes", "a file that is no target goes", "a folder is no file", "what can't be looked at goes", "what is missing stays"],
-    "restat": ["a file of 1970 has its own time", "a folder is a file", "what is missing is of 0", "only later times are taken"],
+    "prune": ["a target without a file goes", "a file that is no target goes", "a folder is no file", "what can't be looked at goes", "what is missing stays"],
+    "retime": ["a file of 1970 has its own time", "a folder is a file", "what is missing is of 0", "only later times are taken"],
     "mend": ["damage tells nothing", "what is damaged is newer", "what is missing is told of", "an intent is told of", "what is unsure is passed over", "what is unsure is taken",
              "--all is passed over", "--dry-run is passed over", "one name is taken", "what is taken is dropped", "the moment is START", "MTIME stands", "the hash stands",
              "a whole log is written anew", "damage alone is left", "no file has to be here"],
@@ -132,8 +132,8 @@ def doubt_of(table, version, files, targets, lines, fault=None):
             yield b"%s\t%s\n" % (why, name)
 
 
-def recompact_of(table, version, files, targets, lines, fault=None):
-    """What `recompact --manifest` keeps: each target, and whatever is there."""
+def prune_of(table, version, files, targets, lines, fault=None):
+    """What `prune` keeps: each target, and whatever is there."""
     for name, entry in table.items():
         kind = files[name][0]
         is_there = {"folder": fault != "a folder is no file", "unknown": fault != "what can't be looked at goes", "missing": fault == "what is missing stays"}.get(kind, True)
@@ -143,8 +143,8 @@ def recompact_of(table, version, files, targets, lines, fault=None):
             yield line_of(name, entry)
 
 
-def restat_of(table, version, files, targets, lines, fault=None):
-    """What `restat --files` leaves: of each file its time."""
+def retime_of(table, version, files, targets, lines, fault=None):
+    """What `retime` leaves: of each file its time."""
     for name, (start, end, mtime, command) in table.items():
         kind, time = files[name][:2]
         is_taken = kind == "file" or kind == "folder" and fault == "a folder is a file"
@@ -193,7 +193,7 @@ def mend_of(log, text, version, files, lines, damaged, options, fault=None):
     return 3 if told else 0, b"".join(b"%s\t%s\n" % (why, name) for name, why in told.items()), left
 
 
-MODELS = {"doubt": doubt_of, "recompact": recompact_of, "restat": restat_of}
+MODELS = {"doubt": doubt_of, "prune": prune_of, "retime": retime_of}
 
 
 def moments_of(chance, began):
@@ -307,7 +307,7 @@ class Rivals:
         write(f"{self.room}/targets", b"".join(it + b": cc\n" for it in targets))
         for word, model in MODELS.items():
             write(f"{self.room}/log", text)
-            words = {"doubt": ["doubt", "../log"], "recompact": ["recompact", "../log", "--manifest", "../targets"], "restat": ["restat", "../log", "--files"]}[word]
+            words = {"doubt": ["doubt", "../log"], "prune": ["prune", "../log", "../targets"], "retime": ["retime", "../log"]}[word]
             words += ["--log-version", "auto"] if word != "doubt" else []
             ended = run([self.program, *words], cwd=f"{self.room}/files")
 

@@ -96,8 +96,8 @@ WHOLE = JOINED.replace(PART, b"")
 # What the words that ask the files leave of WHOLE, in such a folder.
 SETTLED = {
     # A name that the system can't look up stays, as in Ninja.
-    "--manifest": text_of(dict([LONG, (b"a", (5, 6, 30, 0xBB)), (b"edge", (1, 2, 3, 4))])),
-    "--files": text_of(dict([LONG, (b"a", (5, 6, 1_700_000_000_000_000_000, 0xBB)), (b"edge", (1, 2, 3, 4))])),
+    "prune": text_of(dict([LONG, (b"a", (5, 6, 30, 0xBB)), (b"edge", (1, 2, 3, 4))])),
+    "retime": text_of(dict([LONG, (b"a", (5, 6, 1_700_000_000_000_000_000, 0xBB)), (b"edge", (1, 2, 3, 4))])),
     "mend": text_of(dict([LONG, (b"a", (2, 2, 0, 2**64 - 1 - 0xAA)), (b"edge", (1, 2, 3, 4))])),
 }
 # What it prints, and with which status it ends: of a name that the system can't look up nothing is known.
@@ -106,7 +106,7 @@ MENDED = (3, b"unsure\t%s\ndamaged\ta\n" % LONG[0], b"")
 
 def try_settled(trials, program, disk, room, option):
     """A log on a full disk stays as it was, and once there is room the same command does its work."""
-    words = {"--manifest": ["recompact", f"{disk}/LOG", option, "targets"], "--files": ["restat", f"{disk}/LOG", option], "mend": ["mend", f"{disk}/LOG"]}[option]
+    words = {"prune": ["prune", f"{disk}/LOG", "targets"], "retime": ["retime", f"{disk}/LOG"], "mend": ["mend", f"{disk}/LOG"]}[option]
     words, start, done = [program, *words], JOINED if option == "mend" else WHOLE, MENDED if option == "mend" else (0, b"", b"")
     write(f"{room}/targets", b"target: cc\nedge: cc\n")
     write(f"{disk}/LOG", start)

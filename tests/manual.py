@@ -142,14 +142,18 @@ def trial(trials, program, room):
     try_library_page(trials)
     screens = make.screens(program)
     trials.want("docs/HELP.md", read(make.HELP).decode(), make.help_page(screens))
+    for title, words, text in screens:
+        trials.want(f"nlog help {title}", run([program, "help", *words]), (0, text.encode(), b""))
     page = read(PAGE).decode()
     trials.want("man/nlog.1", page, make.manual(screens))
     trials.want("its sections", re.findall(r"(?m)^\.SH (.*)$", page), SECTIONS)
     text = plain(page)
     help_text = run([program, "--help"])[1].decode()
     commands = re.findall(r"(?m)^  ([a-z-]+) ", help_text[help_text.index("Commands:") : help_text.index("Options:")])
-    trials.want("the number of commands", len(commands), 19)
+    trials.want("the number of commands", len(commands), 22)
     for name in commands:
+        if name == "help":
+            continue
         usage = re.search(r"Usage: (.*)", run([program, name, "--help"])[1].decode())[1]
         trials.check(f"the synopsis of {name}", re.sub("[<>]", "", usage.replace("[OPTIONS] ", "")).split(" ", 1)[1] in text, usage)
         for option in options_of(run([program, name, "--help"])[1].decode()):
@@ -159,8 +163,8 @@ def trial(trials, program, room):
     trials.want("the number of messages", len(messages()), 14)
     for it in messages():
         trials.check(f"the message {it!r}", it in text[text.index("Each comes as") :])
-    for it in ("recompact LOG --manifest FILE", "restat LOG --files", "ninja -t targets all > targets && nlog recompact .ninja_log --manifest targets"):
-        trials.check(f"{it} is there", it in text)
+    line = "ninja -t targets all > targets && nlog prune .ninja_log targets"
+    trials.check(f"{line} is there", line in text)
     try_install(trials, program, room)
 
 

@@ -7,7 +7,7 @@ Takes the machine's own Ninja and each FOLDER/*/ninja, with the version of the l
 What Ninja makes of a log is told by what it says of a build: `no work to do`, or why an output is to be made again; and by what
 `ninja -t recompact` keeps of the log.
 
-`recompact --manifest` and `restat --files` are run beside a copy of the build that Ninja itself recompacts or restats. `mend` is run on logs
+`prune` and `retime` are run beside a copy of the build that Ninja itself recompacts or restats. `mend` is run on logs
 whose lines are lost, torn or joined. And what the pages say of Ninja is tried: what a build loses whose log is rewritten, and which time
 stamps it records.
 """
@@ -101,11 +101,11 @@ class Build:
     def prune(self, log=LOG):
         """Recompacts the log by what Ninja builds, as docs/RECIPES.md says."""
         ninja, nlog = shlex.quote(self.path), shlex.quote(self.program)
-        line = f"{ninja} -t targets all > targets && {nlog} recompact --manifest targets -- {log}"
+        line = f"{ninja} -t targets all > targets && {nlog} prune -- {log} targets"
         return run(["sh", "-c", line], cwd=self.room)
 
     def retime(self, log=LOG):
-        return run([self.program, "restat", "--files", "--", log], cwd=self.room)
+        return run([self.program, "retime", "--", log], cwd=self.room)
 
     def mirror(self):
         """A copy of the build, for Ninja to work on."""
@@ -175,7 +175,7 @@ def recompact_beside(trials, build, what, kept, dropped=()):
     """Recompacts by what Ninja builds, and a copy by Ninja: both keep the same entries, `kept` among them."""
     mirror = build.mirror()
     trials.want(f"{what}: Ninja recompacts", mirror.ninja("-t", "recompact")[0], 0)
-    trials.want(f"{what}: recompact --manifest ends", build.prune(), (0, b"", b""))
+    trials.want(f"{what}: prune ends", build.prune(), (0, b"", b""))
     table = build.log().table
     trials.want(f"{what}: the log is the one that Ninja makes", sorted(table.items()), sorted(mirror.log().table.items()))
     trials.check(f"{what}: what is kept", set(kept) <= set(table) and not set(dropped) & set(table), repr(sorted(table)))
@@ -187,7 +187,7 @@ def try_keep_without_manifest(trials, build):
     trials.check("no manifest: Ninja doesn't recompact", mirror.ninja("-t", "recompact")[0] not in (0, None))
     status = build.prune()[0]
     trials.check("no manifest: the second command isn't run", status not in (0, None), repr(status))
-    said = run(["sh", "-c", f"{shlex.quote(build.path)} -t targets all 2> /dev/null | {shlex.quote(build.program)} recompact {LOG} --manifest -"], cwd=build.room)
+    said = run(["sh", "-c", f"{shlex.quote(build.path)} -t targets all 2> /dev/null | {shlex.quote(build.program)} prune {LOG}"], cwd=build.room)
     trials.want("no manifest: behind a pipe it is refused", said, (1, b"", b"nlog: bad line 1\n"))
     trials.want("no manifest: the log stays", read(f"{build.room}/{LOG}"), before)
     trials.want("no manifest: as Ninja leaves it", sorted(build.log().table), sorted(mirror.log().table))
@@ -230,34 +230,34 @@ def restat_beside(trials, build, what, names):
     """Restats by the files, and a copy by Ninja: both give these names the same time stamps."""
     mirror = build.mirror()
     trials.want(f"{what}: Ninja restats", mirror.ninja("-t", "restat")[0], 0)
-    trials.want(f"{what}: restat --files ends", build.retime(), (0, b"", b""))
+    trials.want(f"{what}: retime ends", build.retime(), (0, b"", b""))
     table, other = build.log().table, mirror.log().table
     trials.want(f"{what}: the time stamps", {it: table[it][2] for it in names}, {it: other[it][2] for it in names})
 
 
 def try_times(trials, build):
     text = "rule odd\n  command = cat $in > $out\nbuild -dash: odd a.c\nbuild it's$ \"so\": odd a.c\n"
-    trials.want("restat --files: Ninja builds", build.add(text), 0)
+    trials.want("retime: Ninja builds", build.add(text), 0)
     os.utime(f"{build.room}/a.o", ns=(0, 1_700_000_000_000_000_007))
     os.utime(f"{build.room}/-dash", ns=(0, 1_700_000_009_000_000_000))
     # A link to an older file: Ninja takes the time stamp of that one.
     build.remove("b.o")
     os.utime(f"{build.room}/b.c", ns=(0, 1_500_000_000_000_000_000))
     os.symlink("b.c", f"{build.room}/b.o")
-    restat_beside(trials, build, "restat --files", [*OUTPUTS, b"-dash"])
-    trials.want("restat --files: of a link", build.log().table[b"b.o"][2], 1_500_000_000_000_000_000)
-    trials.want("restat --files: of a name that looks like an option", build.log().table[b"-dash"][2], 1_700_000_009_000_000_000)
+    restat_beside(trials, build, "retime", [*OUTPUTS, b"-dash"])
+    trials.want("retime: of a link", build.log().table[b"b.o"][2], 1_500_000_000_000_000_000)
+    trials.want("retime: of a name that looks like an option", build.log().table[b"-dash"][2], 1_700_000_009_000_000_000)
     was = build.log().table[b"note"][2]
     build.remove("note")
     os.utime(f"{build.room}/app", ns=(0, 1_700_000_001_000_000_000))
-    restat_beside(trials, build, "restat --files without a file", [b"a.o", b"app"])
-    trials.want("restat --files without a file: its entry", build.log().table[b"note"][2], was)
+    restat_beside(trials, build, "retime without a file", [b"a.o", b"app"])
+    trials.want("retime without a file: its entry", build.log().table[b"note"][2], was)
 
 
 def try_times_of_none(trials, build):
     for text in (HEADER, HEADER + b"1\t2\t3\tgone\taa\n"):
         build.write_log(text)
-        trials.want(f"a log without files, {text!r}: restat --files ends", build.retime(), (0, b"", b""))
+        trials.want(f"a log without files, {text!r}: retime ends", build.retime(), (0, b"", b""))
         trials.want(f"a log without files, {text!r}: the log", build.text(), text)
 
 
@@ -500,12 +500,12 @@ def try_joined_thrice(trials, build):
 
 
 def try_settling_at_damage(trials, build):
-    """`recompact --manifest` and `restat --files` stop at a damaged log, print what `damage` tells, and leave the log."""
+    """`prune` and `retime` stop at a damaged log, print what `damage` tells, and leave the log."""
     build.describe("n2")
     build.ninja()
     whole = build.text()
     for what, text in (("torn", whole[:-3]), ("skipped", whole + b"x\n"), ("zeros", whole + bytes(9))):
-        for name, settle in (("recompact --manifest", build.prune), ("restat --files", build.retime)):
+        for name, settle in (("prune", build.prune), ("retime", build.retime)):
             build.write_log(text)
             trials.want(f"a log that is {what}: {name} ends", settle(), (3, damage_of(text), b""))
             trials.want(f"a log that is {what}: {name} leaves it", build.text(), text)
@@ -514,8 +514,8 @@ def try_settling_at_damage(trials, build):
 def try_names_like_options(trials, build):
     """The words on a log whose name begins with `-` do what they do on another."""
     whole = build.text()
-    words = {"recompact --manifest": build.prune, "restat --files": build.retime, "mend": lambda log: build.nlog("mend", "--", log)}
-    for name, text in (("recompact --manifest", whole), ("restat --files", whole), ("mend", whole + whole.split(b"\n")[1][:-3])):
+    words = {"prune": build.prune, "retime": build.retime, "mend": lambda log: build.nlog("mend", "--", log)}
+    for name, text in (("prune", whole), ("retime", whole), ("mend", whole + whole.split(b"\n")[1][:-3])):
         left = []
         for log in ("its.log", "-its.log", "it=s.log"):
             write(f"{build.room}/{log}", as_version(text, build.version))

@@ -1,6 +1,6 @@
 -- What is said behind a refusal where `--verbose` asks for it: docs/CLI.md, "Why something was refused".
 use Rattle.std.specs.List.{flat_map}
-use Rattle.std.specs.Prelude.{⊤, ◌≡◌, ◌≢◌, ◌⊎◌, ◌++◌, IsSomeAnd, [], List, ℕ, Option, None, Some, IfSome, codes, decimal, string_bytes, Bool, true, false, bytes_eq, length, if◌then◌else◌, FitsSigned, ℤ}
+use Rattle.std.specs.Prelude.{⊤, ◌≡◌, ◌≢◌, ◌⊎◌, ◌++◌, IsSomeAnd, [], List, ℕ, Option, None, Some, IfSome, codes, decimal, string_bytes, Bool, true, bytes_eq, length, if◌then◌else◌, FitsSigned, ℤ}
 use Rattle.std.specs.Int.{Width, w32, w64}
 use Rattle.nl_fields.specs.Digits.{IsDecimal}
 use Rattle.std.specs.Borrow.{Bor}
@@ -11,9 +11,10 @@ use Rattle.nl_os.specs.declared.failed_call.FileRole.TheVariants as file
 use Rattle.nl_tool_texts.specs.Faults.{fault_text}
 use Rattle.nl_tool_texts.specs.declared.fault.ToolFault.{ToolFault}
 use Rattle.nl_tool_texts.specs.declared.fault.ToolFault.TheVariants as fault
-use Rattle.nl_tool_words.specs.declared.command_line.Words.{Words}
-use Rattle.nl_tool_words.specs.declared.command_line.Words.TheVariants.{Show, Check, Hash, Entries, Damage, Doubt, Builds, Summary, Compare, Trace, Picture, HashFile, Record, Recompact, Restat}
-use Rattle.nl_tool_words.specs.declared.command_line.Words.TheVariants.{Mend, Repair, Replay, Apply, Prune, Retime}
+use Rattle.nl_tool_words.specs.declared.words.Changing.{Changing}
+use Rattle.nl_tool_words.specs.declared.words.Changing.TheVariants.{Prune, Retime, Repair, Apply}
+use Rattle.nl_tool_words.specs.declared.words.Words.{Words}
+use Rattle.nl_tool_words.specs.declared.words.Words.TheVariants.{Show, Check, Hash, HashFile, Read, Compare, Record, Recompact, Restat, Change, Mend, Replay}
 use Rattle.nl_versions.specs.Version.{is_version_read}
 use Rattle.nl_tool.specs.declared.reason.Place.{Place}
 use Rattle.nl_tool.specs.declared.reason.Place.TheVariants as at
@@ -43,6 +44,7 @@ place_text (at.OfBuild (Some folder) file.Scratch) = codes "scratch " ++ (folder
 place_text (at.OfBuild (Some folder) file.Folder) = codes "folder " ++ folder.now
 place_text (at.Keep path) = codes "KEEP " ++ path.now
 place_text (at.Times path) = codes "TIMES " ++ path.now
+place_text (at.Targets path) = codes "TARGETS " ++ path.now
 place_text (at.Script path) = codes "SCRIPT " ++ path.now
 place_text (at.Command path) = codes "FILE " ++ path.now
 place_text at.Input = codes "standard input"
@@ -113,51 +115,40 @@ abbrev pub given_or_input : (Bor (List ℕ) → Place) → Option (Bor (List ℕ
 given_or_input place None = at.Input
 given_or_input place (Some path) = place path
 
+-- the file beside the log that a word changes, or that log
+abbrev pub change_place : Changing → Bor (List ℕ) → Option (Bor (List ℕ)) → Place
+change_place Prune log file = given_or_input at.Targets file
+change_place Apply log file = given_or_input at.Script file
+change_place Retime log file = at.Log log
+change_place Repair log file = at.Log log
+
 abbrev pub read_place : Words → Option Place
 read_place (Show log) = Some (given_or_input at.Log log)
 read_place (Check log) = Some (given_or_input at.Log log)
-read_place (Entries log) = Some (given_or_input at.Log log)
-read_place (Damage log) = Some (given_or_input at.Log log)
-read_place (Doubt log) = Some (given_or_input at.Log log)
-read_place (Builds log) = Some (given_or_input at.Log log)
-read_place (Summary log build all kind lines graph) = Some (given_or_input at.Log log)
-read_place (Compare old new lines least) = None
-read_place (Trace log) = Some (given_or_input at.Log log)
-read_place (Picture log) = Some (given_or_input at.Log log)
+read_place (Hash command) = None
 read_place (HashFile file) = Some (given_or_input at.Command file)
-read_place (Replay script) = Some (given_or_input at.Script script)
-read_place (Apply log script) = Some (given_or_input at.Script script)
+read_place (Read what log choices) = Some (given_or_input at.Log log)
+read_place (Compare old new lines least) = None
+read_place (Record log start end mtime name command) = None
 read_place (Recompact log keep) = Some (at.Keep keep)
 read_place (Restat log times) = Some (at.Times times)
-read_place (Hash command) = None
-read_place (Record log start end mtime name command) = None
-read_place (Repair log) = Some (at.Log log)
+read_place (Change what log file) = Some (change_place what log file)
 read_place (Mend log folder dry_run all) = Some (mended_place log folder file.Log)
-read_place (Prune log manifest) = Some (given_or_input at.Command manifest)
-read_place (Retime log) = Some (at.Log log)
+read_place (Replay script) = Some (given_or_input at.Script script)
 
 -- a file of the log that the words change, or what they read a log from
 abbrev pub log_place : Words → FileRole → Option Place
+log_place (Show log) file = read_place (Show log)
+log_place (Check log) file = read_place (Check log)
+log_place (Hash command) file = None
+log_place (HashFile path) file = None
+log_place (Read what log choices) file = read_place (Read what log choices)
+log_place (Compare old new lines least) file = None
 log_place (Record log start end mtime name command) file = Some (file_place log file)
 log_place (Recompact log keep) file = Some (file_place log file)
 log_place (Restat log times) file = Some (file_place log file)
-log_place (Repair log) file = Some (file_place log file)
+log_place (Change what log beside) file = Some (file_place log file)
 log_place (Mend log folder dry_run all) file = Some (mended_place log folder file)
-log_place (Prune log manifest) file = Some (file_place log file)
-log_place (Retime log) file = Some (file_place log file)
-log_place (Apply log script) file = Some (file_place log file)
-log_place (Show log) file = read_place (Show log)
-log_place (Check log) file = read_place (Check log)
-log_place (Entries log) file = read_place (Entries log)
-log_place (Damage log) file = read_place (Damage log)
-log_place (Doubt log) file = read_place (Doubt log)
-log_place (Builds log) file = read_place (Builds log)
-log_place (Summary log build all kind lines graph) file = read_place (Summary log build all kind lines graph)
-log_place (Compare old new lines least) file = None
-log_place (Trace log) file = read_place (Trace log)
-log_place (Picture log) file = read_place (Picture log)
-log_place (Hash command) file = None
-log_place (HashFile path) file = None
 log_place (Replay script) file = None
 
 -- a folder can't be synced
@@ -176,10 +167,13 @@ graph_file path = if bytes_eq path.now (codes "-") then None else Some path
 
 -- of two logs, the words that read the second of them, or the first; of a log and a graph, the words that read the log, or a file; else
 -- the words as they are
+abbrev pub with_graph : Option (Bor (List ℕ)) → Bool → Words → Words
+with_graph (Some graph) true words = HashFile (graph_file graph)
+with_graph _ _ words = words
+
 abbrev pub words_heard : Words → Bool → Words
-words_heard (Compare old new lines least) is_second = Builds (Some (if is_second then new else old))
-words_heard (Summary log build all kind lines (Some graph)) is_second =
-    if is_second then HashFile (graph_file graph) else Summary log build all kind lines (Some graph)
+words_heard (Compare old new lines least) is_second = Show (Some (if is_second then new else old))
+words_heard (Read what log choices) is_second = with_graph choices.graph is_second (Read what log choices)
 words_heard words is_second = words
 
 -- those that give the reason of a fault: where a number is bad, the words as they are
@@ -239,7 +233,7 @@ IsBadRule lines least _ = ⊥
 
 abbrev pub IsBadNumberOf : Words → Why → Type 0
 IsBadNumberOf (Record log start end mtime name command) why = IsFirstBad start end mtime why.place × IsNumberFault why.reason
-IsBadNumberOf (Summary log build all kind lines graph) why = IsBadOption all build lines why.place × IsNumberFault why.reason
+IsBadNumberOf (Read what log choices) why = IsBadOption choices.all choices.build choices.lines why.place × IsNumberFault why.reason
 IsBadNumberOf (Compare old new lines least) why = IsBadRule lines least why.place × IsNumberFault why.reason
 IsBadNumberOf _ why = ⊥
 

@@ -5,7 +5,6 @@ ghost use Rattle.std.specs.declared.io.ErrorKind.TheVariants.{OutOfMemory};
 ghost use Rattle.clap.specs.Words.{kind_of};
 ghost use Rattle.nl_tool.specs.Ending.{status_after, IsStatusBy, IsStatusOfKind};
 ghost use Rattle.nl_tool_words.specs.CommandLine.{entered_of, fault_in};
-ghost use Rattle.nl_tool_words.specs.Form.{form_of};
 
 use crate::notes::Notes;
 use crate::program::{Verdict, run_with_notes};
@@ -16,7 +15,7 @@ use clap::error::ErrorKind;
 use nl_os::SystemFile;
 use nl_table::{NO_SECRET, Secret};
 use nl_tool_texts::{ToolFault, status_of};
-use nl_tool_words::{CommandLine, read_words};
+use nl_tool_words::{CommandLine, path_in_place, read_words};
 use std::alloc::Global;
 use std::random::RandomSource;
 use std::rt::Runtime;
@@ -54,7 +53,7 @@ pub fn run_line<R: Runtime>(
 where
     R::File: SystemFile,
     ensures status { IsStatusBy (fault_in (map string_bytes line.now))
-        (form_of (map string_bytes line.now)) (entered_of (map string_bytes line.now)) result }
+        (entered_of (map string_bytes line.now)) result }
     ensures bound { result ≤ 3 }
 {
     match read_words(alloc, line) {
@@ -63,7 +62,7 @@ where
             let answer = run_with_notes(rt, alloc, &said, &mut notes);
             end(rt, alloc, &said, answer, &notes)
         }
-        Err(error) => explain(rt, &error),
+        Err(error) => explain(rt, line, &error),
     }
 }
 
@@ -147,8 +146,9 @@ fn refuse_line(rt: &impl Eprint, error: &io::Error) -> u8
     }
 }
 
-// Prints help or the version on standard output, and what is wrong with the words on standard error.
-fn explain(rt: &(impl Print + Eprint), error: &Error) -> u8
+// Prints help or the version on standard output, and what is wrong with the words on standard error, with a hint where a path stands in
+// the place of a command.
+fn explain(rt: &(impl Print + Eprint), line: &[String], error: &Error) -> u8
     ensures status { IsStatusOfKind (kind_of error.now) result }
     ensures bound { result ≤ 2 }
 {
@@ -160,7 +160,14 @@ fn explain(rt: &(impl Print + Eprint), error: &Error) -> u8
         },
         _ => {
             let _ = error.print(rt);
+            say_path(rt, line);
             WRONG_WORDS
         }
+    }
+}
+
+fn say_path(rt: &impl Eprint, line: &[String]) {
+    if let Some(path) = path_in_place(line) {
+        let _ = eprintln!(rt; "nlog: a command comes first: nlog show {path}");
     }
 }

@@ -37,7 +37,7 @@ pub use nl_tool_print::{
 };
 pub use nl_tool_script::replay_to;
 pub use nl_tool_texts::{ToolFault, status_of};
-pub use nl_tool_words::{AskedVersion, CommandLine, Words, read_words};
+pub use nl_tool_words::{AskedVersion, Changing, Choices, CommandLine, Reading, Words, read_words};
 pub use nl_versions::{FirstLine, LogVersion, command_hash_in, first_line_in, version_of};
 pub use notes::{Beginning, Heard, NotedReader, NotedWriter, Notes};
 pub use program::{Verdict, run, run_with_notes};

@@ -1,6 +1,6 @@
 //! What the program does once its words are read.
 ghost use Rattle.std.specs.Prelude.{◌≡◌, ◌&&◌, not, IfErr, IfOk, OnOk};
-ghost use Rattle.nl_tool.specs.Faults.{CanFind, CanBeDone, IsFaultOf};
+ghost use Rattle.nl_tool.specs.Faults.{CanBeDone, CanBeRead, CanFind, FindsBy, IsChangeFault, IsFaultOf, IsReadFault, StopsAtDamage};
 
 use crate::changing::{apply_in, recompact_in, record_in, repair_in, restat_in};
 use crate::comparing::compare_in;
@@ -17,7 +17,8 @@ use nl_os::SystemFile;
 use nl_table::NO_SECRET;
 use nl_tool_doubt::How;
 use nl_tool_texts::ToolFault;
-use nl_tool_words::{CommandLine, Words};
+use nl_tool_words::{Changing, Choices, CommandLine, Reading, Words};
+use nl_versions::LogVersion;
 use std::alloc::Global;
 use std::io;
 use std::rt::Runtime;
@@ -26,7 +27,7 @@ use std::rt::Runtime;
 #[derive(Clone, Copy, Debug, PartialEq, Eq, Drop)]
 pub enum Verdict {
     Done,
-    /// `damage` found some, or `doubt` or `mend` an output; or `recompact --manifest` or `restat --files` damage.
+    /// `damage` found some, or `doubt` or `mend` an output; or `prune` or `retime` damage.
     Found,
 }
 
@@ -79,24 +80,9 @@ where
             notes.watch(LineKind::Script);
             print_file(rt, alloc, Printing::Replay, asked, script, notes)
         }
-        Words::Entries(log) => {
-            return stream_log(rt, alloc, Streaming::Entries, log, missing_ok, notes);
+        Words::Read { what, log, choices } => {
+            return read_in(rt, alloc, columns, what, log, choices, missing_ok, notes);
         }
-        Words::Damage(log) => {
-            return stream_log(rt, alloc, Streaming::Damage, log, missing_ok, notes);
-        }
-        Words::Doubt(log) => return doubt_in(rt, alloc, log, notes),
-        Words::Builds(log) => report_in(rt, alloc, columns, Report::Builds, log, missing_ok, notes),
-        Words::Summary {
-            log,
-            build,
-            all,
-            kind,
-            lines,
-            graph,
-        } => summary_in(
-            rt, alloc, columns, log, all, build, kind, lines, graph, missing_ok, notes,
-        ),
         Words::Compare {
             old,
             new,
@@ -105,8 +91,6 @@ where
         } => compare_in(
             rt, alloc, columns, old, new, lines, least, missing_ok, notes,
         ),
-        Words::Trace(log) => report_in(rt, alloc, false, Report::Trace, log, missing_ok, notes),
-        Words::Picture(log) => report_in(rt, alloc, false, Report::Picture, log, missing_ok, notes),
         Words::Record {
             log,
             start,
@@ -119,10 +103,18 @@ where
         ),
         Words::Recompact { log, keep } => { recompact_in(rt, alloc, asked, log, keep, notes) }
         Words::Restat { log, times } => { restat_in(rt, alloc, asked, log, times, notes) }
-        Words::Prune { log, manifest } => {
-            return prune_in(rt, alloc, asked_or_found, log, manifest, notes);
+        Words::Change { what, log, file } => {
+            return change_in(
+                rt,
+                alloc,
+                asked_or_found,
+                what,
+                log,
+                file,
+                missing_ok,
+                notes,
+            );
         }
-        Words::Retime(log) => return retime_in(rt, alloc, asked_or_found, log, notes),
         Words::Mend {
             log,
             folder,
@@ -136,8 +128,78 @@ where
             };
             return mend_in(rt, alloc, log, folder, how, notes);
         }
-        Words::Repair(log) => { repair_in(rt, alloc, asked_or_found, log, missing_ok, notes) }
-        Words::Apply { log, script } => apply_in(rt, alloc, asked_or_found, log, script, notes),
+    };
+    done?;
+    Ok(Verdict::Done)
+}
+
+// Does what a word says that reads a log which tells its version.
+fn read_in<R: Runtime>(
+    rt: &R,
+    alloc: Global,
+    columns: bool,
+    what: Reading,
+    log: Option<&str>,
+    choices: Choices<'_>,
+    missing_ok: bool,
+    notes: &mut Notes,
+) -> Result<Verdict, ToolFault>
+where
+    R::File: SystemFile,
+    ensures accepts { OnOk result (CanBeRead what choices.entry) }
+    ensures outcome { IfOk result (λ outcome. outcome ≡ Verdict.Found → FindsBy what) }
+    ensures faults { IfErr result (IsReadFault what choices.entry) }
+{
+    let done = match what {
+        Reading::Entries => {
+            return stream_log(rt, alloc, Streaming::Entries, log, missing_ok, notes);
+        }
+        Reading::Damage => {
+            return stream_log(rt, alloc, Streaming::Damage, log, missing_ok, notes);
+        }
+        Reading::Doubt => return doubt_in(rt, alloc, log, notes),
+        Reading::Builds => report_in(rt, alloc, columns, Report::Builds, log, missing_ok, notes),
+        Reading::Summary => {
+            let Choices {
+                build,
+                all,
+                kind,
+                lines,
+                graph,
+                ..
+            } = choices;
+            summary_in(
+                rt, alloc, columns, log, all, build, kind, lines, graph, missing_ok, notes,
+            )
+        }
+        Reading::Trace => report_in(rt, alloc, false, Report::Trace, log, missing_ok, notes),
+        Reading::Picture => report_in(rt, alloc, false, Report::Picture, log, missing_ok, notes),
+    };
+    done?;
+    Ok(Verdict::Done)
+}
+
+// Does what a word says that changes a log which tells its version.
+fn change_in<R: Runtime>(
+    rt: &R,
+    alloc: Global,
+    asked: Option<LogVersion>,
+    what: Changing,
+    log: &str,
+    file: Option<&str>,
+    missing_ok: bool,
+    notes: &mut Notes,
+) -> Result<Verdict, ToolFault>
+where
+    R::File: SystemFile,
+    ensures outcome { IfOk result (λ outcome. outcome ≡ Verdict.Found → StopsAtDamage what) }
+    ensures faults { IfErr result (IsChangeFault what) }
+{
+    let done = match what {
+        Changing::Prune => return prune_in(rt, alloc, asked, log, file, notes),
+        Changing::Retime => return retime_in(rt, alloc, asked, log, notes),
+        Changing::Repair => repair_in(rt, alloc, asked, log, missing_ok, notes),
+        Changing::Apply => apply_in(rt, alloc, asked, log, file, notes),
     };
     done?;
     Ok(Verdict::Done)

@@ -5,7 +5,7 @@ ghost use Rattle.nl_os.specs.declared.failed_call.FileRole.{FileRole};
 ghost use Rattle.nl_tool_texts.specs.declared.fault.ToolFault.{ToolFault};
 ghost use Rattle.nl_tool.specs.declared.reason.Place.{Place};
 ghost use Rattle.nl_tool.specs.Looks.{look_of};
-ghost use Rattle.nl_tool.specs.Reasons.{IsBadNumberOf, IsBadOption, IsBadRule, IsByteAt, IsEarly, IsFirstBad, IsLongNameOf, IsLookAt, IsMasked, IsNegative, IsNoteFor, IsNumber, IsNumberFault, IsReasonFor, IsSystem, IsUnsynced, IsVersion, again_text, file_place, graph_file, heard_of, log_place, mended_place, missing_text, place_text, read_place, reason_text, refusal_text, why_text, words_for, words_heard};
+ghost use Rattle.nl_tool.specs.Reasons.{change_place, with_graph, IsBadNumberOf, IsBadOption, IsBadRule, IsByteAt, IsEarly, IsFirstBad, IsLongNameOf, IsLookAt, IsMasked, IsNegative, IsNoteFor, IsNumber, IsNumberFault, IsReasonFor, IsSystem, IsUnsynced, IsVersion, again_text, file_place, graph_file, heard_of, log_place, mended_place, missing_text, place_text, read_place, reason_text, refusal_text, why_text, words_for, words_heard};
 
 use crate::comparing::least_of;
 use crate::looks::{Look, escaped_of, look_of, start_of};
@@ -15,7 +15,7 @@ use crate::wrong::{LineFault, NumberFault, build_fault, count_fault, number_faul
 use nl_fields::{read_i32, read_i64};
 use nl_os::{Failure, FileRole, folder_part};
 use nl_tool_texts::ToolFault;
-use nl_tool_words::{CommandLine, Words};
+use nl_tool_words::{Changing, CommandLine, Words};
 use nl_versions::is_version_read;
 use std::alloc::Global;
 use std::{fmt, io, str};
@@ -32,6 +32,7 @@ pub enum Place<'a> {
     OfBuild(Option<&'a str>, FileRole),
     Keep(&'a str),
     Times(&'a str),
+    Targets(&'a str),
     Script(&'a str),
     /// The file of `hash-file`.
     Command(&'a str),
@@ -44,7 +45,7 @@ pub enum Place<'a> {
     Name,
     /// How many lines a list of `summary` or `compare` has at most.
     Count(&'a str),
-    /// Of which build `summary` tells.
+    /// Of which build a word tells.
     Build(&'a str),
     /// How many milliseconds a difference of `compare` has at the least.
     Least(&'a str),
@@ -71,6 +72,7 @@ impl fmt::Display for Place<'_> {
             Place::OfBuild(Some(folder), FileRole::Folder) => write!(f, "folder {folder}"),
             Place::Keep(path) => write!(f, "KEEP {path}"),
             Place::Times(path) => write!(f, "TIMES {path}"),
+            Place::Targets(path) => write!(f, "TARGETS {path}"),
             Place::Script(path) => write!(f, "SCRIPT {path}"),
             Place::Command(path) => write!(f, "FILE {path}"),
             Place::Input => write!(f, "standard input"),
@@ -345,17 +347,19 @@ fn words_heard<'a>(words: &Words<'a>, is_second: bool) -> Words<'a>
     ensures { result ≡ words_heard words.now is_second }
 {
     match *words {
-        Words::Compare { old, new, .. } => Words::Builds(Some(if is_second { new } else { old })),
-        Words::Summary {
-            graph: Some(path),
-            ..
-        } => {
-            if is_second {
-                return Words::HashFile(graph_file(path));
-            }
-            *words
-        }
+        Words::Compare { old, new, .. } => Words::Show(Some(if is_second { new } else { old })),
+        Words::Read { choices, .. } => with_graph(choices.graph, is_second, words),
         other => other,
+    }
+}
+
+// The words that read the graph, where there is one and it is what was read, or these.
+fn with_graph<'a>(graph: Option<&'a str>, is_second: bool, words: &Words<'a>) -> Words<'a>
+    ensures { result ≡ with_graph graph.entry is_second words.now }
+{
+    match graph {
+        Some(path) if is_second => Words::HashFile(graph_file(path)),
+        _ => *words,
     }
 }
 
@@ -419,7 +423,10 @@ fn negative_why<'a>(
         × IsNegative why.reason) }
 {
     let reason = match *words {
-        Words::Retime(_) => early_reason(alloc, notes.early.as_slice())?,
+        Words::Change {
+            what: Changing::Retime,
+            ..
+        } => early_reason(alloc, notes.early.as_slice())?,
         _ => Reason::Negative(notes.heard.lines.line_of_pair(place)?),
     };
     Some(Why {
@@ -509,12 +516,7 @@ fn bad_number<'a>(words: &Words<'a>) -> Option<Why<'a>>
             mtime,
             ..
         } => bad_value(start, end, mtime),
-        Words::Summary {
-            build,
-            all,
-            lines,
-            ..
-        } => bad_option(all, build, lines),
+        Words::Read { choices, .. } => bad_option(choices.all, choices.build, choices.lines),
         Words::Compare { lines, least, .. } => bad_rule(lines, least),
         _ => None,
     }
@@ -655,49 +657,32 @@ fn read_place<'a>(words: &Words<'a>) -> Option<Place<'a>>
     ensures { result ≡ read_place words.now }
 {
     match *words {
-        Words::Show(Some(log))
-        | Words::Check(Some(log))
-        | Words::Entries(Some(log))
-        | Words::Damage(Some(log))
-        | Words::Doubt(Some(log))
-        | Words::Builds(Some(log))
-        | Words::Trace(Some(log))
-        | Words::Picture(Some(log))
-        | Words::Summary { log: Some(log), .. } => Some(Place::Log(log)),
-        Words::HashFile(Some(file))
-        | Words::Prune {
-            log: _,
-            manifest: Some(file),
-        } => Some(Place::Command(file)),
-        Words::Replay(Some(script))
-        | Words::Apply {
-            log: _,
-            script: Some(script),
-        } => Some(Place::Script(script)),
-        Words::Recompact { log: _, keep } => Some(Place::Keep(keep)),
-        Words::Restat { log: _, times } => Some(Place::Times(times)),
+        Words::Show(Some(log)) | Words::Check(Some(log)) | Words::Read { log: Some(log), .. } =>
+            Some(Place::Log(log)),
+        Words::HashFile(Some(file)) => Some(Place::Command(file)),
+        Words::Replay(Some(script)) => Some(Place::Script(script)),
         Words::Show(None)
         | Words::Check(None)
-        | Words::Entries(None)
-        | Words::Damage(None)
-        | Words::Doubt(None)
-        | Words::Builds(None)
-        | Words::Trace(None)
-        | Words::Picture(None)
-        | Words::Summary { log: None, .. }
+        | Words::Read { log: None, .. }
         | Words::HashFile(None)
-        | Words::Prune {
-            log: _,
-            manifest: None,
-        }
-        | Words::Replay(None)
-        | Words::Apply {
-            log: _,
-            script: None,
-        } => Some(Place::Input),
-        Words::Repair(log) | Words::Retime(log) => Some(Place::Log(log)),
+        | Words::Replay(None) => Some(Place::Input),
+        Words::Recompact { log: _, keep } => Some(Place::Keep(keep)),
+        Words::Restat { log: _, times } => Some(Place::Times(times)),
+        Words::Change { what, log, file } => Some(change_place(what, log, file)),
         Words::Mend { log, folder, .. } => Some(mended_place(log, folder, FileRole::Log)),
         Words::Hash(_) | Words::Record { .. } | Words::Compare { .. } => None,
+    }
+}
+
+// The file beside the log that a word changes, or that log.
+fn change_place<'a>(what: Changing, log: &'a str, file: Option<&'a str>) -> Place<'a>
+    ensures { result ≡ change_place what log.entry file.entry }
+{
+    match (what, file) {
+        (Changing::Retime | Changing::Repair, _) => Place::Log(log),
+        (Changing::Prune, Some(path)) => Place::Targets(path),
+        (Changing::Apply, Some(path)) => Place::Script(path),
+        (Changing::Prune | Changing::Apply, None) => Place::Input,
     }
 }
 
@@ -709,20 +694,9 @@ fn log_place<'a>(words: &Words<'a>, file: FileRole) -> Option<Place<'a>>
         Words::Record { log, .. }
         | Words::Recompact { log, keep: _ }
         | Words::Restat { log, times: _ }
-        | Words::Prune { log, manifest: _ }
-        | Words::Retime(log)
-        | Words::Repair(log)
-        | Words::Apply { log, script: _ } => Some(file_place(log, file)),
+        | Words::Change { log, .. } => Some(file_place(log, file)),
         Words::Mend { log, folder, .. } => Some(mended_place(log, folder, file)),
-        Words::Show(_)
-        | Words::Check(_)
-        | Words::Entries(_)
-        | Words::Damage(_)
-        | Words::Doubt(_)
-        | Words::Builds(_)
-        | Words::Trace(_)
-        | Words::Picture(_)
-        | Words::Summary { .. } => read_place(words),
+        Words::Show(_) | Words::Check(_) | Words::Read { .. } => read_place(words),
         Words::Hash(_) | Words::HashFile(_) | Words::Replay(_) | Words::Compare { .. } => None,
     }
 }

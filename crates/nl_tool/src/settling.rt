@@ -1,4 +1,4 @@
-//! The words that change a log by what a build has: `recompact --manifest` and `restat --files`.
+//! The words that change a log by what a build has: `prune` and `retime`.
 ghost use Rattle.std.specs.Prelude.{◌≡◌, ◌<◌, ◌⊎◌, ℕ, ℤ, [], List, Err, IfErr, IsErr, IsSomeAnd, OnOk, length, slice_get};
 ghost use Rattle.nl_tool_change.specs.Calls.{keeping, touching};
 ghost use Rattle.nl_tool_doubt.specs.There.{AddsFor, name_by, pair_by};
@@ -36,14 +36,14 @@ pub fn prune_in<R: Runtime>(
     alloc: Global,
     asked: Option<LogVersion>,
     log: &str,
-    manifest: Option<&str>,
+    path: Option<&str>,
     notes: &mut Notes,
 ) -> Result<Verdict, ToolFault>
 where
     R::File: SystemFile,
     ensures faults { IfErr result IsSettlingFault }
 {
-    let targets = targets_in(rt, alloc, manifest, notes)?;
+    let targets = targets_in(rt, alloc, path, notes)?;
     let answer = prune_log(rt, alloc, asked, log, targets, notes);
     // The targets were read, so it is LOG that couldn't be.
     if let Some(error) = notes.heard.failure {
@@ -59,13 +59,13 @@ where
 fn targets_in<R: Runtime>(
     rt: &R,
     alloc: Global,
-    manifest: Option<&str>,
+    path: Option<&str>,
     notes: &mut Notes,
 ) -> Result<Vec<Name>, ToolFault>
     ensures faults { IfErr result IsTargetsFault }
 {
-    match manifest {
-        None | Some("-") => targets_from(alloc, rt.reader(), notes),
+    match path {
+        None => targets_from(alloc, rt.reader(), notes),
         Some(path) => {
             let file = open(rt, path, notes)?;
             targets_from(alloc, file, notes)

@@ -1,153 +1,164 @@
 -- The program as a simple command: that it is one, and what the commands that it enters have.
-use Rattle.std.proofs.Common.{◌≡◌, ◌∙◌, Bool, true, false, List, [], ◌∷◌, Option, Some, None, option_map, refl, inl, inr, cond, codes}
-use Rattle.std.proofs.Common.{is_some, subst, sym, Result, Ok, Err, IsErrAnd, ap₂}
-use Rattle.std.specs.Prelude.{IfOk, IfSome, IsOkAnd}
-use Rattle.std.specs.List.{find, list_all}
+use Rattle.std.proofs.Common.{◌≡◌, ◌∙◌, ◌&&◌, ◌||◌, not, Bool, true, false, List, [], ◌∷◌, Option, Some, None, option_map, refl, inl, inr, cond, codes}
+use Rattle.std.proofs.Common.{is_some, subst, sym, ap₂, true≢false}
+use Rattle.std.specs.List.{find, list_all, list_any}
 use Rattle.std.specs.Option.{option_map_or}
-use Rattle.clap.specs.Words.{App, Row, Shape, Text, FailsBy, HasKind, Kinds, built, fault_of, first_of, is_simple, is_simple_and_free}
-use Rattle.clap.specs.Words.{app_of, subcommand_of}
+use Rattle.std.specs.Str.{bytes_eq}
+use Rattle.clap.specs.Words.{App, Row, Rule, Shape, Text, built, fault_of, first_of, is_simple, is_simple_and_free}
 use Rattle.clap.specs.Faults.{entered_fault, level_fault, walk_fault}
 use Rattle.clap.specs.Simple.{argument_words, entered, label_of, names_of, rows_at}
-use Rattle.clap.specs.declared.builder.command.Command.{Command}
-use Rattle.clap.specs.declared.error.Error.{Error}
 use Rattle.clap.specs.Walk.{answers_to, nothing_held, stop_after, walk_from}
 use Rattle.clap.proofs.OnLiterals.{clap_on_literals}
 use Rattle.clap.proofs.WalkLemmas.{both}
-use Rattle.nl_tool_words.specs.CommandLine.{HasEach, IsCommandName, IsCompleteBy, IsWhole, app_for, nlog, required_of, with_command}
-use Rattle.nl_tool_words.specs.declared.form.Form.{Form}
-use Rattle.nl_tool_words.specs.declared.form.Form.TheVariants as form
-use Rattle.nl_tool_words.proofs.FullLemmas.{is_plain_rule}
+use Rattle.std.proofs.lemmas.Slice.Eq.{bytes_eq-Decides}
+use Rattle.nl_tool_words.specs.CommandLine.{HasEach, IsComplete, IsName, entered_of, is_changing, is_reading, required_ids, required_of}
+use Rattle.nl_tool_words.specs.Rows.{nlog, word_rows}
+use Rattle.nl_tool_words.proofs.FullLemmas.{either, found_passes, is_plain_rule}
+use Rattle.nl_tool_words.proofs.HelpLemmas.{IsElsewhere, walk_elsewhere}
+use Rattle.nl_tool_words.proofs.ValueLemmas.{or_false}
 use Rattle.nl_tool_words.proofs.RequiredLemmas.{has_required, level_required, none_fails}
 
-pub form_is_simple : (f : Form) → is_simple (app_for f) ≡ true
+pub nlog_is_simple : is_simple nlog ≡ true
 unfolding clap_on_literals
-form_is_simple form.Plain = refl
-form_is_simple form.Manifest = refl
-form_is_simple form.Files = refl
+nlog_is_simple = refl
 
-pub form_is_free : (f : Form) → is_simple_and_free (app_for f) ≡ true
+pub nlog_is_free : is_simple_and_free nlog ≡ true
 unfolding clap_on_literals
-form_is_free form.Plain = refl
-form_is_free form.Manifest = refl
-form_is_free form.Files = refl
+nlog_is_free = refl
 
--- what is known of one of a program's commands, as clap built it
-record IsOwn (Named : Text → Type 0) (required : Text → List Text) (s : Shape) : Type 0 where
-  named : Named s.name
-  plain : list_all is_plain_rule s.rules ≡ true
-  negates : s.subcommand_negates_reqs ≡ false
-  needs : (rows : List Row) → has_required s.rules rows ≡ true → list_all (λ id. is_some (first_of id rows)) (required s.name) ≡ true
+abbrev same_texts : List Text → List Text → Bool
+same_texts [] [] = true
+same_texts (a ∷ as_rest) (b ∷ bs) = bytes_eq a b && same_texts as_rest bs
+same_texts _ _ = false
 
-abbrev AllOwn : (Text → Type 0) → (Text → List Text) → List Shape → Type 0
-AllOwn Named required [] = Unit {0}
-AllOwn Named required (s ∷ ss) = IsOwn Named required s × AllOwn Named required ss
+same_texts_is : (xs ys : List Text) → same_texts xs ys ≡ true → xs ≡ ys
+same_texts_is [] [] e = refl
+same_texts_is [] (y ∷ ys) e = absurd (true≢false (sym e))
+same_texts_is (x ∷ xs) [] e = absurd (true≢false (sym e))
+same_texts_is (x ∷ xs) (y ∷ ys) e =
+    let parts = both (bytes_eq x y) (same_texts xs ys) e in
+    ap₂ (λ (a : Text) (as_rest : List Text). a ∷ as_rest) ((bytes_eq-Decides x y).0 parts.0) (same_texts_is xs ys parts.1)
 
-found_own : (Named : Text → Type 0) (required : Text → List Text) (p : Shape → Bool) (ss : List Shape) → AllOwn Named required ss
-    → IfSome (find p ss) (IsOwn Named required)
-found_own Named required p [] h = tt
-found_own Named required p (s ∷ ss) h =
-    elim (p s) as (λ b. IfSome (cond b (Some s) (find p ss)) (IsOwn Named required)) [ true ↦ h.0 | false ↦ found_own Named required p ss h.1 ]
+abbrev has_none : List Text → Bool
+has_none [] = true
+has_none _ = false
 
-each_there : (ids : List Text) (rows : List Row) → list_all (λ id. is_some (first_of id rows)) ids ≡ true → HasEach ids rows
-each_there [] rows e = tt
-each_there (id ∷ ids) rows e =
-    let parts = both (is_some (first_of id rows)) _ e in
-    (parts.0, each_there ids rows parts.1)
+-- clap's own `help`, or one of the program's words, as clap built it
+abbrev is_help : Shape → Bool
+is_help s = answers_to (codes "help") (label_of s) && has_none s.aliases
+
+abbrev is_word : Shape → Bool
+is_word s = list_any (λ word. bytes_eq word.0 s.name) word_rows && (list_all is_plain_rule s.rules && (not s.subcommand_negates_reqs
+    && same_texts (required_ids s.rules) (required_of s.name)))
+
+abbrev is_own : Shape → Bool
+is_own s = is_help s || is_word s
+
+built_own : list_all is_own (built nlog).subs ≡ true
+unfolding clap_on_literals
+built_own = refl
+
+each_required : (rules : List Rule) (values : List Row) → has_required rules values ≡ true → HasEach (required_ids rules) values
+each_required [] values e = tt
+each_required (a ∷ rest) values e =
+    let parts = both (not a.required || is_some (first_of a.id values)) (has_required rest values) e in
+    let later = each_required rest values parts.1 in
+    elim a.required as (λ b. (not b || is_some (first_of a.id values)) ≡ true
+    → HasEach (cond b (a.id ∷ required_ids rest) (required_ids rest)) values) [ true ↦ λ there. (there, later) | false ↦ λ there. later ] parts.0
+
+not_true : (b : Bool) → not b ≡ true → b ≡ false
+not_true false e = refl
+not_true true e = absurd (true≢false (sym e))
+
+-- what is met by its name isn't `help`, where the name isn't
+word_met : (s : Shape) (name : Text) → bytes_eq name (codes "help") ≡ false → answers_to name (label_of s) ≡ true → is_own s ≡ true → is_word s ≡ true
+word_met s name apart answers own = go (is_help s) refl own
+  where
+    none_else : (aliases : List Text) (word : Text) → has_none aliases ≡ true → list_any (λ alias. bytes_eq alias word) aliases ≡ false
+    none_else [] word e = refl
+    none_else (x ∷ xs) word e = absurd (true≢false (sym e))
+
+    is_name : has_none s.aliases ≡ true → (word : Text) → answers_to word (label_of s) ≡ true → s.name ≡ word
+    is_name e word answers = (bytes_eq-Decides s.name word).0 (sym (or_false _ _ (none_else s.aliases word e)) ∙ answers)
+
+    go : (b : Bool) → is_help s ≡ b → (b || is_word s) ≡ true → is_word s ≡ true
+    go false is own = own
+    go true is own =
+        let parts = both (answers_to (codes "help") (label_of s)) _ is in
+        let same : name ≡ codes "help" = sym (is_name parts.1 name answers) ∙ is_name parts.1 (codes "help") parts.0 in
+        absurd (true≢false (subst (λ n. bytes_eq n (codes "help") ≡ false) same apart))
 
 -- what a parse without a fault entered
-entered_whole : (Named : Text → Type 0) (required : Text → List Text) (a : App) (stop : Option (Text × List Text))
-    → AllOwn Named required a.subs → entered_fault a stop ≡ [] → IsWhole Named required (entered a stop)
-entered_whole Named required a None own e = tt
-entered_whole Named required a (Some p) own e =
-    go (find (λ s. answers_to p.0 (label_of s)) a.subs) (found_own Named required _ a.subs own) e
+entered_complete : (a : App) (stop : Option (Text × List Text)) → list_all is_own a.subs ≡ true → IsElsewhere stop → entered_fault a stop ≡ []
+    → IsComplete (entered a stop)
+entered_complete a None own elsewhere e = tt
+entered_complete a (Some p) own elsewhere e = go (find (λ s. answers_to p.0 (label_of s)) a.subs) refl e
   where
-    go : (o : Option Shape) → IfSome o (IsOwn Named required) → option_map_or (λ s. level_fault s [] nothing_held p.1 false []) o [] ≡ []
-        → IsWhole Named required (option_map (λ s. rows_at s p.1) o)
-    go None own e = tt
-    go (Some s) own e =
-        let there = level_required s p.1 own.plain own.negates e in
-        (own.named, each_there (required s.name) _ (own.needs _ there))
+    go : (o : Option Shape) → find (λ s. answers_to p.0 (label_of s)) a.subs ≡ o
+        → option_map_or (λ s. level_fault s [] nothing_held p.1 false []) o [] ≡ [] → IsComplete (option_map (λ s. rows_at s p.1) o)
+    go None is e = tt
+    go (Some s) is e =
+        let met = found_passes (λ s. answers_to p.0 (label_of s)) is_own a.subs s own is in
+        let one = both (list_any (λ word. bytes_eq word.0 s.name) word_rows) _ (word_met s p.0 elsewhere met.0 met.1) in
+        let two = both (list_all is_plain_rule s.rules) _ one.1 in
+        let three = both (not s.subcommand_negates_reqs) _ two.1 in
+        let there = level_required s p.1 two.0 (not_true s.subcommand_negates_reqs three.0) e in
+        (one.0, subst (λ ids. HasEach ids (rows_at s p.1).1) (same_texts_is _ _ three.1) (each_required s.rules _ there))
 
-built_own : AllOwn IsCommandName required_of (built nlog).subs
+has_help : (built nlog).top.disable_help_subcommand ≡ false
 unfolding clap_on_literals
-built_own = (record { named = inl refl; plain = refl; negates = refl; needs = λ rows h. refl }, (record { named = inr (inl refl); plain = refl; negates = refl; needs = λ rows h. refl }, (record { named = inr (inr (inl refl)); plain = refl; negates = refl; needs = λ rows h. h }, (record { named = inr (inr (inr (inl refl))); plain = refl; negates = refl; needs = λ rows h. refl }, (record { named = inr (inr (inr (inr (inl refl)))); plain = refl; negates = refl; needs = λ rows h. refl }, (record { named = inr (inr (inr (inr (inr (inl refl))))); plain = refl; negates = refl; needs = λ rows h. refl }, (record { named = inr (inr (inr (inr (inr (inr (inl refl)))))); plain = refl; negates = refl; needs = λ rows h. refl }, (record { named = inr (inr (inr (inr (inr (inr (inr (inl refl))))))); plain = refl; negates = refl; needs = λ rows h. refl }, (record { named = inr (inr (inr (inr (inr (inr (inr (inr (inl refl)))))))); plain = refl; negates = refl; needs = λ rows h. h }, (record { named = inr (inr (inr (inr (inr (inr (inr (inr (inr (inl refl))))))))); plain = refl; negates = refl; needs = λ rows h. refl }, (record { named = inr (inr (inr (inr (inr (inr (inr (inr (inr (inr (inl refl)))))))))); plain = refl; negates = refl; needs = λ rows h. refl }, (record { named = inr (inr (inr (inr (inr (inr (inr (inr (inr (inr (inr (inl refl))))))))))); plain = refl; negates = refl; needs = λ rows h. refl }, (record { named = inr (inr (inr (inr (inr (inr (inr (inr (inr (inr (inr (inr (inr (inr (inr (inr (inr (inr refl))))))))))))))))); plain = refl; negates = refl; needs = λ rows h. refl }, (record { named = inr (inr (inr (inr (inr (inr (inr (inr (inr (inr (inr (inr (inl refl)))))))))))); plain = refl; negates = refl; needs = λ rows h. h }, (record { named = inr (inr (inr (inr (inr (inr (inr (inr (inr (inr (inr (inr (inr (inl refl))))))))))))); plain = refl; negates = refl; needs = λ rows h. h }, (record { named = inr (inr (inr (inr (inr (inr (inr (inr (inr (inr (inr (inr (inr (inr (inl refl)))))))))))))); plain = refl; negates = refl; needs = λ rows h. h }, (record { named = inr (inr (inr (inr (inr (inr (inr (inr (inr (inr (inr (inr (inr (inr (inr (inl refl))))))))))))))); plain = refl; negates = refl; needs = λ rows h. h }, (record { named = inr (inr (inr (inr (inr (inr (inr (inr (inr (inr (inr (inr (inr (inr (inr (inr (inl refl)))))))))))))))); plain = refl; negates = refl; needs = λ rows h. refl }, (record { named = inr (inr (inr (inr (inr (inr (inr (inr (inr (inr (inr (inr (inr (inr (inr (inr (inr (inl refl))))))))))))))))); plain = refl; negates = refl; needs = λ rows h. h }, tt)))))))))))))))))))
+has_help = refl
 
--- a command that was entered without a fault is one of those of the program, and has what it requires
-app_whole : (Named : Text → Type 0) (required : Text → List Text) (a : App) (words : List Text) → AllOwn Named required (built a).subs
-    → fault_of a words ≡ [] → IsWhole Named required (subcommand_of a words)
-app_whole Named required a words own e =
-    let top = (built a).top in
-    let names = names_of (built a) in
-    let given = argument_words a words in
+-- a word that was entered without a fault is one of the program, and has what it can't be without
+pub words_complete : (words : List Text) → fault_of nlog words ≡ [] → IsComplete (entered_of words)
+words_complete words e =
+    let top = (built nlog).top in
+    let names = names_of (built nlog) in
+    let given = argument_words nlog words in
     let stop = stop_after top.rules names given in
-    let below = none_fails (walk_fault top names (walk_from nothing_held) given) _ e in
-    entered_whole Named required (built a) stop own (none_fails (entered_fault (built a) stop) _ below.1).0
+    let parts = none_fails (walk_fault top names (walk_from nothing_held) given) _ e in
+    entered_complete (built nlog) stop built_own (walk_elsewhere top names (walk_from nothing_held) given has_help parts.0 tt)
+    (none_fails (entered_fault (built nlog) stop) _ parts.1).0
 
-pruning_own : AllOwn (λ n. n ≡ codes "recompact") (λ n. codes "LOG" ∷ []) (built (app_for form.Manifest)).subs
-unfolding clap_on_literals
-pruning_own = (record { named = refl; plain = refl; negates = refl; needs = λ rows h. h }, tt)
+-- ---- the names
 
-retiming_own : AllOwn (λ n. n ≡ codes "restat") (λ n. codes "LOG" ∷ []) (built (app_for form.Files)).subs
-unfolding clap_on_literals
-retiming_own = (record { named = refl; plain = refl; negates = refl; needs = λ rows h. h }, tt)
+-- what one test finds passes another that all pass
+any_passes : {X : Type 0} (p q : X → Bool) (xs : List X) → list_any p xs ≡ true → list_all q xs ≡ true → (x : X) × (p x ≡ true) × (q x ≡ true)
+any_passes p q [] any all = absurd (true≢false (sym any))
+any_passes p q (x ∷ xs) any all =
+    let parts = both (q x) (list_all q xs) all in
+    elim (either (p x) (list_any p xs) any) [
+      | inl here ↦ (x, here, parts.0)
+      | inr later ↦ any_passes p q xs later parts.1
+    ]
 
-pub form_whole : (f : Form) (words : List Text) → fault_of (app_for f) words ≡ [] → IsCompleteBy f (subcommand_of (app_for f) words)
-form_whole form.Plain words e = app_whole IsCommandName required_of nlog words built_own e
-form_whole form.Manifest words e =
-    app_whole (λ n. n ≡ codes "recompact") (λ n. codes "LOG" ∷ []) (app_for form.Manifest) words pruning_own e
-form_whole form.Files words e =
-    app_whole (λ n. n ≡ codes "restat") (λ n. codes "LOG" ∷ []) (app_for form.Files) words retiming_own e
+-- the names that have an arm of their own
+abbrev pub is_other : Text → Bool
+is_other name = is_reading name || (is_changing name || (bytes_eq name (codes "check") || (bytes_eq name (codes "hash")
+    || (bytes_eq name (codes "hash-file") || (bytes_eq name (codes "compare") || (bytes_eq name (codes "record")
+    || (bytes_eq name (codes "recompact") || (bytes_eq name (codes "restat") || (bytes_eq name (codes "mend") || bytes_eq name (codes "replay"))))))))))
 
--- the name is that of the one command which is not ruled out
-pub only_show : (name : Text) → IsCommandName name
-    → (name ≡ codes "check" → ⊥)
-    → (name ≡ codes "hash" → ⊥)
-    → (name ≡ codes "entries" → ⊥)
-    → (name ≡ codes "damage" → ⊥)
-    → (name ≡ codes "doubt" → ⊥)
-    → (name ≡ codes "builds" → ⊥)
-    → (name ≡ codes "summary" → ⊥)
-    → (name ≡ codes "compare" → ⊥)
-    → (name ≡ codes "trace" → ⊥)
-    → (name ≡ codes "picture" → ⊥)
-    → (name ≡ codes "hash-file" → ⊥)
-    → (name ≡ codes "record" → ⊥)
-    → (name ≡ codes "recompact" → ⊥)
-    → (name ≡ codes "restat" → ⊥)
-    → (name ≡ codes "repair" → ⊥)
-    → (name ≡ codes "replay" → ⊥)
-    → (name ≡ codes "apply" → ⊥)
-    → (name ≡ codes "mend" → ⊥)
-    → name ≡ codes "show"
-only_show name (inl h) a b c d e f k m n v u o p q r s t w = h
-only_show name (inr (inl h)) a b c d e f k m n v u o p q r s t w = absurd (a h)
-only_show name (inr (inr (inl h))) a b c d e f k m n v u o p q r s t w = absurd (b h)
-only_show name (inr (inr (inr (inl h)))) a b c d e f k m n v u o p q r s t w = absurd (c h)
-only_show name (inr (inr (inr (inr (inl h))))) a b c d e f k m n v u o p q r s t w = absurd (d h)
-only_show name (inr (inr (inr (inr (inr (inl h)))))) a b c d e f k m n v u o p q r s t w = absurd (e h)
-only_show name (inr (inr (inr (inr (inr (inr (inl h))))))) a b c d e f k m n v u o p q r s t w = absurd (f h)
-only_show name (inr (inr (inr (inr (inr (inr (inr (inl h)))))))) a b c d e f k m n v u o p q r s t w = absurd (k h)
-only_show name (inr (inr (inr (inr (inr (inr (inr (inr (inl h))))))))) a b c d e f k m n v u o p q r s t w = absurd (m h)
-only_show name (inr (inr (inr (inr (inr (inr (inr (inr (inr (inl h)))))))))) a b c d e f k m n v u o p q r s t w = absurd (n h)
-only_show name (inr (inr (inr (inr (inr (inr (inr (inr (inr (inr (inl h))))))))))) a b c d e f k m n v u o p q r s t w = absurd (v h)
-only_show name (inr (inr (inr (inr (inr (inr (inr (inr (inr (inr (inr (inl h)))))))))))) a b c d e f k m n v u o p q r s t w = absurd (u h)
-only_show name (inr (inr (inr (inr (inr (inr (inr (inr (inr (inr (inr (inr (inl h))))))))))))) a b c d e f k m n v u o p q r s t w = absurd (o h)
-only_show name (inr (inr (inr (inr (inr (inr (inr (inr (inr (inr (inr (inr (inr (inl h)))))))))))))) a b c d e f k m n v u o p q r s t w = absurd (p h)
-only_show name (inr (inr (inr (inr (inr (inr (inr (inr (inr (inr (inr (inr (inr (inr (inl h))))))))))))))) a b c d e f k m n v u o p q r s t w = absurd (q h)
-only_show name (inr (inr (inr (inr (inr (inr (inr (inr (inr (inr (inr (inr (inr (inr (inr (inl h)))))))))))))))) a b c d e f k m n v u o p q r s t w = absurd (r h)
-only_show name (inr (inr (inr (inr (inr (inr (inr (inr (inr (inr (inr (inr (inr (inr (inr (inr (inl h))))))))))))))))) a b c d e f k m n v u o p q r s t w = absurd (s h)
-only_show name (inr (inr (inr (inr (inr (inr (inr (inr (inr (inr (inr (inr (inr (inr (inr (inr (inr (inl h)))))))))))))))))) a b c d e f k m n v u o p q r s t w = absurd (t h)
-only_show name (inr (inr (inr (inr (inr (inr (inr (inr (inr (inr (inr (inr (inr (inr (inr (inr (inr (inr h)))))))))))))))))) a b c d e f k m n v u o p q r s t w = absurd (w h)
+abbrev is_known : Text → Bool
+is_known name = bytes_eq name (codes "show") || is_other name
 
--- an error that is passed on has the kind that it had
-pub fails_on : {T : Type 0} (r : Result T Error) (e : Error) (kinds : Kinds) → IsErrAnd r (λ x. x ≡ e)
-    → HasKind kinds e → FailsBy kinds r
-fails_on (Ok x) e kinds h k = absurd h
-fails_on (Err x) e kinds h k = subst (HasKind kinds) (sym h) k
+all_known : list_all (λ (word : Text × List Rule). is_known word.0) word_rows ≡ true
+all_known = refl
 
--- a program that was made by adding a command to another, each by its name
-pub added_as_named : {E : Type 0} (new old named sub_named : App) (command : Result Command E)
-    → IsOkAnd command (λ sub. new ≡ with_command old (app_of sub)) → old ≡ named → IfOk command (λ sub. app_of sub ≡ sub_named)
-    → new ≡ with_command named sub_named
-added_as_named new old named sub_named (Ok sub) e f g = e ∙ ap₂ with_command f g
-added_as_named new old named sub_named (Err error) e f g = absurd e
+pub only_show : (name : Text) → IsName name → is_other name ≡ false → name ≡ codes "show"
+only_show name named other =
+    let met = any_passes (λ (word : Text × List Rule). bytes_eq word.0 name) (λ word. is_known word.0) word_rows named all_known in
+    let same : met.0.0 ≡ name = (bytes_eq-Decides met.0.0 name).0 met.1 in
+    elim (either (bytes_eq name (codes "show")) (is_other name) (subst (λ n. is_known n ≡ true) same met.2)) [
+      | inl show ↦ (bytes_eq-Decides name (codes "show")).0 show
+      | inr one ↦ absurd (true≢false (sym one ∙ other))
+    ]
+
+pub unlike : (a b : Text) → (a ≡ b → ⊥) → bytes_eq a b ≡ false
+unlike a b apart = go (bytes_eq a b) refl
+  where
+    go : (x : Bool) → bytes_eq a b ≡ x → bytes_eq a b ≡ false
+    go true e = absurd (apart ((bytes_eq-Decides a b).0 e))
+    go false e = e
+
+pub neither : (a b : Bool) → a ≡ false → b ≡ false → (a || b) ≡ false
+neither a b e f = rw e f

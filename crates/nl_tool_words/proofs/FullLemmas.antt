@@ -1,7 +1,7 @@
 -- A walk over words leaves no row without a value, but for that of an option.
 use Rattle.std.proofs.Common.{◌≡◌, ◌∙◌, ◌<◌, ◌&&◌, ◌||◌, ◌⊎◌, not, inl, inr, ℕ, Bool, true, false, zero, suc, List, [], ◌∷◌, ◌++◌, length}
 use Rattle.std.proofs.Common.{Option, Some, None, is_some, cond, refl, sym, subst, arith, true≢false, length-append}
-use Rattle.std.specs.Prelude.{slice_get}
+use Rattle.std.specs.Prelude.{nat_lt, slice_get}
 use Rattle.std.specs.List.{find, fold, list_all}
 use Rattle.std.specs.Str.{bytes_eq, chars}
 use Rattle.clap.specs.Lexer.{long_of, short_of}
@@ -21,11 +21,11 @@ use Rattle.clap.specs.declared.builder.value_parser.Reading.{Reading}
 use Rattle.clap.proofs.WalkLemmas.{both}
 use Rattle.clap.proofs.SimpleLemmas.{is_false}
 use Rattle.std.proofs.lemmas.Slice.Eq.{bytes_eq-Decides}
-use Rattle.nl_tool_words.specs.CommandLine.{build_id, folder_id, graph_id, least_id, kind_id, lines_id, manifest_id, version_id}
 
--- the id is that of an option with a value
+-- the id is that of an option: it begins with a small letter, and that of a value by its place with a capital
 abbrev pub is_option : Text → Bool
-is_option id = bytes_eq id version_id || (bytes_eq id lines_id || (bytes_eq id manifest_id || (bytes_eq id build_id || (bytes_eq id kind_id || (bytes_eq id graph_id || (bytes_eq id least_id || bytes_eq id folder_id))))))
+is_option [] = false
+is_option (c ∷ cs) = nat_lt 96 c
 
 -- there is a value, where the id isn't the option's
 abbrev pub IsFilled : Text → List Text → Type 0
@@ -81,7 +81,7 @@ set_true_is : (x : ArgAction) → is_set_true x ≡ true → x ≡ SetTrue
 set_true_is SetTrue e = refl
 set_true_is _ e = absurd (true≢false (sym e))
 
-either : (a b : Bool) → (a || b) ≡ true → (a ≡ true) ⊎ (b ≡ true)
+pub either : (a b : Bool) → (a || b) ≡ true → (a ≡ true) ⊎ (b ≡ true)
 either true b e = inl refl
 either false b e = inr e
 
@@ -124,7 +124,7 @@ plain_rule a e =
     ]
 
 -- what is found passes the test, and every other that all pass
-found_passes : {X : Type 0} (p q : X → Bool) (xs : List X) (x : X) → list_all q xs ≡ true → find p xs ≡ Some x → (p x ≡ true) × (q x ≡ true)
+pub found_passes : {X : Type 0} (p q : X → Bool) (xs : List X) (x : X) → list_all q xs ≡ true → find p xs ≡ Some x → (p x ≡ true) × (q x ≡ true)
 found_passes p q [] x all is = cc
 found_passes p q (y ∷ ys) x all is = go (p y) refl is (found_passes p q ys x (both (q y) _ all).1)
   where

@@ -1,6 +1,6 @@
 pub mod ValueLemmas
-pub mod CommandLemmas
-pub mod AskedLemmas
 pub mod FullLemmas
 pub mod RequiredLemmas
+pub mod HelpLemmas
 pub mod DefinitionLemmas
+pub mod AskedLemmas

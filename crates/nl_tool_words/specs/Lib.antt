@@ -1,3 +1,3 @@
-pub mod Form
+pub mod Rows
 pub mod CommandLine
 pub use Rattle.clap.specs.Words

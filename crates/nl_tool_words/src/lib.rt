@@ -1,12 +1,14 @@
-//! The command line of `nlog`: its commands and their values, read by `clap`.
+//! The command line of `nlog`: its words and their values, read by `clap`.
 #![tactic(auto)]
 
+mod changing;
 mod command_line;
-mod commands;
-mod definition;
-mod form;
+mod looking;
+mod shape;
+mod values;
 mod version;
+mod words;
 
-pub use command_line::{CommandLine, Words, read_words};
-pub use form::{Form, form_of};
+pub use command_line::{CommandLine, path_in_place, read_words};
 pub use version::AskedVersion;
+pub use words::{Changing, Choices, Reading, Words};

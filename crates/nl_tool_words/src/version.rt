@@ -2,6 +2,8 @@
 ghost use Rattle.std.specs.Prelude.{◌≡◌, is_some, IfSome};
 ghost use Rattle.nl_tool_words.specs.CommandLine.{is_version_for, is_version_text, tells_version, version_text};
 
+use crate::words::reading_of;
+
 /// The version of logs that the option `--log-version` names.
 #[derive(Clone, Copy, Debug, PartialEq, Eq)]
 pub enum AskedVersion {
@@ -46,8 +48,5 @@ pub fn version_for(command: &str, text: &str) -> Option<AskedVersion>
 pub fn tells_version(command: &str) -> bool
     ensures value { result ≡ tells_version command.now }
 {
-    matches!(
-        command,
-        "entries" | "damage" | "doubt" | "builds" | "summary" | "compare" | "trace" | "picture"
-    )
+    reading_of(command).is_some() || command == "compare"
 }

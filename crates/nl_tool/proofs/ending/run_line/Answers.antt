@@ -1,20 +1,18 @@
 use Rattle.std.proofs.Common.{arith, map, string_bytes}
 use Rattle.nl_tool_words.specs.CommandLine.{entered_of, fault_in}
-use Rattle.nl_tool_words.specs.Form.{form_of}
 use Rattle.nl_tool.proofs.EndingLemmas.{IsStatusBy_kind, command_ended}
 use Rattle.nl_tool.proofs.ending.run_line.Goals as goal
 
 pub returns-in-Ok-clause-status : goal.returns-in-Ok-clause-status
 returns-in-Ok-clause-status g c =
     let line = map string_bytes c.args.line.now in
-    command_ended (fault_in line) (form_of line) c.in-Ok.said.words (entered_of line) c.run_with_notes-answer.result c.end.result
+    command_ended (fault_in line) c.in-Ok.said.words (entered_of line) c.run_with_notes-answer.result c.end.result
     c.in-Ok.ensures.accepts c.in-Ok.ensures.value c.run_with_notes-answer.ensures.outcome c.end.ensures.status
 
 pub returns-in-Err : goal.returns-in-Err
 returns-in-Err g c =
     let line = map string_bytes c.args.line.now in
     record {
-      status = IsStatusBy_kind (fault_in line) (form_of line)
-          (entered_of line) c.in-Err.error c.explain.result c.in-Err.ensures.accepts c.explain.ensures.status;
+      status = IsStatusBy_kind (fault_in line) (entered_of line) c.in-Err.error c.explain.result c.in-Err.ensures.accepts c.explain.ensures.status;
       bound = omega (arith, c.explain.ensures.bound);
     }

@@ -1,0 +1,165 @@
+//! What a row says of a word, and the command of `clap` that it makes.
+ghost use Rattle.std.specs.Prelude.{◌≡◌, IfOk, false, map};
+ghost use Rattle.clap.specs.Words.{app_of, new_app, rule_of, with_rule};
+ghost use Rattle.clap.specs.declared.builder.command.Command.TheViews.{out-Command};
+ghost use Rattle.nl_tool_words.specs.Rows.{app_by, named, nlog, rule_by, with_rules, with_words, word_by};
+
+use crate::changing::CHANGING;
+use crate::looking::LOOKING;
+use crate::values::VERBOSE;
+use clap::{Arg, ArgAction, Command};
+use std::alloc::{AllocError, Global};
+
+/// A word of the program: what its help says, and what it takes, in the order of that help.
+#[derive(Clone, Copy, Drop)]
+pub struct WordRow {
+    pub name: &'static str,
+    pub about: &'static str,
+    /// What stands behind the options, if anything does.
+    pub after: &'static str,
+    /// All but the flag for the reason of a refusal, which each word takes.
+    pub takes: &'static [Value],
+}
+
+/// A value, an option or a flag, with its text of the help.
+#[derive(Clone, Copy, Drop)]
+pub struct Value {
+    pub id: &'static str,
+    pub given: Given,
+    pub help: &'static str,
+}
+
+/// How a value is given: by its place or by an option of its name, which may have a letter, and has the name of its value.
+#[derive(Clone, Copy, Drop)]
+pub enum Given {
+    /// It may be left out.
+    Place,
+    /// It can't be left out.
+    Required,
+    Long(&'static str),
+    Letter(char, &'static str),
+    LetterLong(char, &'static str),
+    Flag,
+    LetterFlag(char),
+}
+
+const VERSION: &str = "0.1.0";
+
+const AFTER: &str = "\
+`show` to `hash-file` look and change nothing, `mend` to `repair` change LOG, and `apply` keeps a
+log for a build tool. Without a command, or without LOG, a log is read from standard input.
+
+Ninja 1.12 and 1.13 write logs of version 6 and 7: put `--log-version auto` behind `show`, `check`,
+`record`, `recompact` or `restat`. The other commands take such a LOG as it is.
+Change no log while Ninja builds, because it locks nothing. A LOG that is missing is refused by
+`doubt`, `prune` and `retime`, and without `--missing-ok` by `entries` to `picture` and `repair`.
+
+Examples:
+  nlog mend                                after a crash, and before each build
+  nlog show --log-version auto .ninja_log
+  nlog check --log-version auto .ninja_log
+
+Status: 0 done; 1 refused, and a line `nlog: ...` on standard error says why (a second one says more
+with `--verbose`, behind the command); 2 wrong words; 3 `mend`, `damage`, `doubt`,
+`prune` or `retime` found some.";
+
+/// What reads a command line.
+pub fn nlog_command<'a>(alloc: Global) -> Result<Command<'a>, AllocError>
+    ensures { IfOk result (λ c. app_of c ≡ nlog) }
+{
+    let looking = with_words(alloc, named_command(alloc), &LOOKING)?;
+    with_words(alloc, looking, &CHANGING)
+}
+
+fn named_command<'a>(alloc: Global) -> Command<'a>
+    ensures { app_of result ≡ named }
+{
+    Command::new(alloc, "nlog")
+        .version(VERSION)
+        .about("Reads, checks and changes build logs of Ninja, versions 4 to 7")
+        .after_help(AFTER)
+}
+
+fn with_words<'a>(
+    alloc: Global,
+    nlog: Command<'a>,
+    rows: &[WordRow],
+) -> Result<Command<'a>, AllocError>
+    ensures { IfOk result
+        (λ c. app_of c ≡ with_words (app_of nlog.entry) (map word_by rows.now)) }
+{
+    let mut nlog = nlog;
+    let mut rest = rows;
+    'rows: while let Some((row, later)) = rest.split_first() {
+        nlog = nlog.subcommand(command_of(alloc, row)?)?;
+        rest = later;
+    }
+    Ok(nlog)
+}
+
+fn command_of<'a>(alloc: Global, row: &WordRow) -> Result<Command<'a>, AllocError>
+    ensures shape { IfOk result (λ c. app_of c ≡ app_by (word_by row.now)) }
+    ensures local { IfOk result (λ c. (out-Command c).has_globals ≡ false) }
+{
+    let command = with_values(alloc, begun_command(alloc, row), row.takes)?;
+    with_value(alloc, command, &VERBOSE)
+}
+
+fn begun_command<'a>(alloc: Global, row: &WordRow) -> Command<'a>
+    ensures shape { app_of result ≡ new_app row.now.name.now }
+    ensures local { (out-Command result).has_globals ≡ false }
+{
+    let command = Command::new(alloc, row.name).about(row.about);
+    if row.after.is_empty() {
+        return command;
+    }
+    command.after_help(row.after)
+}
+
+fn with_values<'a>(
+    alloc: Global,
+    command: Command<'a>,
+    values: &[Value],
+) -> Result<Command<'a>, AllocError>
+    ensures shape { IfOk result
+        (λ c. app_of c ≡ with_rules (app_of command.entry) (map rule_by values.now)) }
+    ensures local { IfOk result
+        (λ c. (out-Command c).has_globals ≡ (out-Command command.entry).has_globals) }
+{
+    let mut command = command;
+    let mut rest = values;
+    'values: while let Some((value, later)) = rest.split_first() {
+        command = with_value(alloc, command, value)?;
+        rest = later;
+    }
+    Ok(command)
+}
+
+fn with_value<'a>(
+    alloc: Global,
+    command: Command<'a>,
+    value: &Value,
+) -> Result<Command<'a>, AllocError>
+    ensures shape { IfOk result
+        (λ c. app_of c ≡ with_rule (app_of command.entry) (rule_by value.now)) }
+    ensures local { IfOk result
+        (λ c. (out-Command c).has_globals ≡ (out-Command command.entry).has_globals) }
+{
+    command.arg(arg_of(alloc, value))
+}
+
+fn arg_of<'a>(alloc: Global, value: &Value) -> Arg<'a>
+    ensures rule { rule_of result ≡ rule_by value.now }
+    ensures local { result.global ≡ false }
+{
+    let arg = Arg::new(alloc, value.id).help(value.help);
+    match value.given {
+        Given::Place => arg,
+        Given::Required => arg.required(true),
+        Given::Long(name) => arg.long(value.id).value_name(name),
+        Given::Letter(letter, name) => arg.short(letter).value_name(name),
+        Given::LetterLong(letter, name) => arg.long(value.id).short(letter).value_name(name),
+        Given::Flag => arg.long(value.id).action(ArgAction::SetTrue),
+        Given::LetterFlag(letter) => { arg.long(value.id).short(letter).action(ArgAction::SetTrue) }
+    }
+}
