@@ -1,5 +1,5 @@
 #!/usr/bin/env python3
-"""Makes the completions for zsh and fish of what the help screens of the program say: nlog.zsh and nlog.fish in this folder.
+"""Makes the completions for bash, zsh and fish of what the help screens of the program say: nlog.bash, nlog.zsh and nlog.fish in this folder.
 
     python3 completions/make.py PROGRAM [FOLDER]
 
@@ -13,7 +13,7 @@ import sys
 
 FOLDER = os.path.dirname(os.path.abspath(__file__))
 # The values that are files. A log is one, whatever else the usage calls it.
-FILES = {"LOG", "OLD", "NEW", "KEEP", "TIMES", "SCRIPT", "FILE", "DIR"}
+FILES = {"LOG", "OLD", "NEW", "KEEP", "TIMES", "TARGETS", "SCRIPT", "FILE", "DIR"}
 
 
 class Option:
@@ -50,23 +50,111 @@ def command_of(program, name, does):
     screen = said(program, name, "--help")
     usage = re.search(r"(?m)^Usage: (.*)$", screen)[1].replace("[OPTIONS]", "")
     values = re.findall(r"[<\[]([A-Z]+)[>\]]", usage)
-    options = [*options_of(program, screen, [name], values)]
-    # Another way to give a value is told below: by an option in its place, whose help screen it has itself.
-    for long in re.findall(r"`(--[a-z]+)(?: [A-Z]+)?`\s+in\s+the\s+place\s+of", screen):
-        other = said(program, name, long, *["-"] * (f"`{long} " in screen), "--help")
-        options += [it for it in options_of(program, other, [name], values) if it.long == long]
-    return Command(name, does, options, values)
+    return Command(name, does, [*options_of(program, screen, [name], values)], values)
 
 
 def commands_of(program):
     screen = said(program, "--help")
     part = screen[screen.index("\nCommands:\n") + 1 : screen.index("\nOptions:\n")]
     own = [*options_of(program, screen)]
-    return own, [command_of(program, *it) for it in re.findall(r"(?m)^  ([a-z-]+) +(.*)$", part)]
+    # `help` has no help screen of its own: behind it stands a command.
+    return own, [command_of(program, *it) if it[0] != "help" else Command(*it, [], []) for it in re.findall(r"(?m)^  ([a-z-]+) +(.*)$", part)]
 
 
 def quoted(text):
     return "'" + text.replace("'", "'\\''") + "'"
+
+
+BASH = """\
+# Completion of the words of nlog for bash: `. completions/nlog.bash`, or as a file `nlog` where bash-completion looks for it.
+# completions/make.py makes it.
+
+# What an option takes: its words, or files or folders; it takes no value where this fails.
+_nlog_takes() {
+    case $1 in
+@TAKES@
+        *) return 1 ;;
+    esac
+}
+
+# The options of a command.
+_nlog_options() {
+    case $1 in
+@OPTIONS@
+    esac
+}
+
+# Sets COMPREPLY by what a value may be.
+_nlog_reply() {
+    case $1 in
+        -f | -d)
+            compopt -o filenames 2> /dev/null
+            mapfile -t COMPREPLY < <(compgen "$1" -- "$2")
+            ;;
+        *) mapfile -t COMPREPLY < <(compgen -W "$1" -- "$2") ;;
+    esac
+}
+
+_nlog() {
+    local word=${COMP_WORDS[COMP_CWORD]} command=${COMP_WORDS[1]} values=0 dashes='' at takes
+    COMPREPLY=()
+    if ((COMP_CWORD == 1)); then
+        _nlog_reply '@COMMANDS@' "$word"
+        return
+    fi
+    # How many values stand before the word, without that of an option. Behind `--` each word is one.
+    for ((at = 2; at < COMP_CWORD; at++)); do
+        if [[ ! $dashes && ${COMP_WORDS[at]} == -- ]]; then
+            dashes=yes
+        elif [[ ! $dashes ]] && takes=$(_nlog_takes "$command:${COMP_WORDS[at]}"); then
+            # Bash has the `=` of `--log-version=7` as a word of its own.
+            [[ ${COMP_WORDS[at + 1]} == '=' ]] && at=$((at + 1))
+            if ((++at >= COMP_CWORD)); then
+                _nlog_reply "$takes" "$word"
+                return
+            fi
+        elif [[ $dashes || ${COMP_WORDS[at]} != -?* ]]; then
+            values=$((values + 1))
+        fi
+    done
+    if [[ ! $dashes && $word == -* ]]; then
+        _nlog_reply "$(_nlog_options "$command")" "$word"
+        return
+    fi
+    case $command:$values in
+        @FILES@) _nlog_reply -f "$word" ;;
+        help:0) _nlog_reply '@NAMES@' "$word" ;;
+    esac
+}
+
+complete -F _nlog nlog
+"""
+
+
+def bash_takes(option):
+    return "-d" if option.value == "DIR" else "-f" if option.value in FILES else " ".join(option.words)
+
+
+def bash(own, commands):
+    takes = {}
+    for command in commands:
+        for option in command.options:
+            if option.value:
+                takes.setdefault(bash_takes(option), []).extend(f"{command.name}:{it}" for it in option.spellings)
+    spelt = [(it.name, " ".join(spelling for option in it.options for spelling in option.spellings)) for it in commands if it.options]
+    names = [it.name for it in commands]
+    own = [it for option in own for it in option.spellings]
+    parts = {
+        "TAKES": "\n".join(f"        {' | '.join(where)}) printf %s '{words}' ;;" for words, where in takes.items()),
+        "OPTIONS": "\n".join(f"        {name}) printf %s '{options}' ;;" for name, options in spelt),
+        "COMMANDS": " ".join([*names, *own]),
+        "NAMES": " ".join(names),
+        "FILES": " | ".join(f"{it.name}:{at}" for it in commands for at, value in enumerate(it.values) if value in FILES),
+    }
+    text = BASH
+    for name, part in parts.items():
+        text = text.replace(f"@{name}@", part)
+    return text
 
 
 def zsh_option(option):
@@ -91,7 +179,10 @@ def zsh(own, commands):
     lines += [f"    {spec} \\" for it in own for spec in zsh_option(it)]
     lines += ["    ': :->command' '*:: :->values' && ret=0", "  case $state in", "    command) _describe -t commands command commands && ret=0 ;;", "    values)"]
     lines += ["      curcontext=${curcontext%:*:*}:nlog-$words[1]:", "      case $words[1] in"]
+    lines += ["        help) ((CURRENT == 2)) && _describe -t commands command commands && ret=0 ;;"]
     for command in commands:
+        if command.name == "help":
+            continue
         lines += [f"        {command.name})", "          _arguments -S -s \\"]
         lines += [f"            {spec} \\" for it in command.options for spec in zsh_option(it)]
         values = [quoted(f":{it}:{'_files' if it in FILES else ' '}") for it in command.values]
@@ -119,6 +210,8 @@ def fish(own, commands):
     lines += ["function __nlog_is", "    set -l words (commandline -opc)", "    contains -- $words[2] $argv", "end", ""]
     lines += ["complete -c nlog -f", "complete -c nlog -n __nlog_takes_file -F"]
     lines += [f"complete -c nlog -n 'not __nlog_has_command' -a {it.name} -d {fish_quoted(it.does)}" for it in commands]
+    behind = "__nlog_is help; and test (count (commandline -opc)) -eq 2"
+    lines += [f"complete -c nlog -n '{behind}' -a {fish_quoted(' '.join(it.name for it in commands))}"]
     lines += [fish_option("not __nlog_has_command", it) for it in own]
     lines += [fish_option(f"__nlog_is {command.name}", it) for command in commands for it in command.options]
     return "\n".join([*lines, ""])
@@ -137,7 +230,7 @@ def main():
         print("usage: python3 completions/make.py PROGRAM [FOLDER]", file=sys.stderr)
         return 2
     found = commands_of(os.path.abspath(sys.argv[1]))
-    for shell, text in (("zsh", zsh(*found)), ("fish", fish(*found))):
+    for shell, text in (("bash", bash(*found)), ("zsh", zsh(*found)), ("fish", fish(*found))):
         with open(f"{sys.argv[2] if len(sys.argv) == 3 else FOLDER}/nlog.{shell}", "w", encoding="utf-8") as it:
             it.write(text)
     return 0

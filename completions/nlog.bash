@@ -1,80 +1,86 @@
 # Completion of the words of nlog for bash: `. completions/nlog.bash`, or as a file `nlog` where bash-completion looks for it.
+# completions/make.py makes it.
+
+# What an option takes: its words, or files or folders; it takes no value where this fails.
+_nlog_takes() {
+    case $1 in
+        show:--log-version | check:--log-version | hash:--log-version | hash-file:--log-version | record:--log-version | recompact:--log-version | restat:--log-version | prune:--log-version | retime:--log-version | repair:--log-version | apply:--log-version) printf %s '5 6 7 auto' ;;
+        entries:--log-version | damage:--log-version | doubt:--log-version | builds:--log-version | summary:--log-version | compare:--log-version | trace:--log-version | picture:--log-version) printf %s 'auto' ;;
+        summary:--build | summary:-n | summary:--lines | summary:--jobs | compare:-n | compare:--lines | compare:--at-least | trace:--build | picture:--build) printf %s '' ;;
+        summary:--kind) printf %s 'extension folder top' ;;
+        summary:--graph | picture:--graph) printf %s '-f' ;;
+        mend:-C) printf %s '-d' ;;
+        *) return 1 ;;
+    esac
+}
+
+# The options of a command.
+_nlog_options() {
+    case $1 in
+        show) printf %s '--log-version -v --verbose -h --help' ;;
+        check) printf %s '--log-version -v --verbose -h --help' ;;
+        hash) printf %s '--log-version -v --verbose -h --help' ;;
+        entries) printf %s '--log-version --missing-ok -v --verbose -h --help' ;;
+        damage) printf %s '--log-version --missing-ok -v --verbose -h --help' ;;
+        doubt) printf %s '--log-version -v --verbose -h --help' ;;
+        builds) printf %s '--log-version --missing-ok --tabs -v --verbose -h --help' ;;
+        summary) printf %s '--log-version --missing-ok --build --all --kind -n --lines --graph --jobs --tabs -v --verbose -h --help' ;;
+        compare) printf %s '--log-version --missing-ok -n --lines --at-least --tabs -v --verbose -h --help' ;;
+        trace) printf %s '--log-version --missing-ok --build --all -v --verbose -h --help' ;;
+        picture) printf %s '--log-version --missing-ok --build --all --graph -v --verbose -h --help' ;;
+        hash-file) printf %s '--log-version -v --verbose -h --help' ;;
+        mend) printf %s '-C --dry-run --all -v --verbose -h --help' ;;
+        record) printf %s '--log-version -v --verbose -h --help' ;;
+        recompact) printf %s '--log-version -v --verbose -h --help' ;;
+        restat) printf %s '--log-version -v --verbose -h --help' ;;
+        prune) printf %s '--log-version -v --verbose -h --help' ;;
+        retime) printf %s '--log-version -v --verbose -h --help' ;;
+        repair) printf %s '--log-version --missing-ok -v --verbose -h --help' ;;
+        replay) printf %s '-v --verbose -h --help' ;;
+        apply) printf %s '--log-version -v --verbose -h --help' ;;
+    esac
+}
+
+# Sets COMPREPLY by what a value may be.
+_nlog_reply() {
+    case $1 in
+        -f | -d)
+            compopt -o filenames 2> /dev/null
+            mapfile -t COMPREPLY < <(compgen "$1" -- "$2")
+            ;;
+        *) mapfile -t COMPREPLY < <(compgen -W "$1" -- "$2") ;;
+    esac
+}
 
 _nlog() {
-    local word=${COMP_WORDS[COMP_CWORD]} values=0 dashes='' at
+    local word=${COMP_WORDS[COMP_CWORD]} command=${COMP_WORDS[1]} values=0 dashes='' at takes
     COMPREPLY=()
     if ((COMP_CWORD == 1)); then
-        mapfile -t COMPREPLY < <(compgen -W 'show check hash entries damage doubt builds summary compare trace picture hash-file mend record recompact restat repair replay apply
-            --help -h --version -V' -- "$word")
+        _nlog_reply 'show check hash entries damage doubt builds summary compare trace picture hash-file mend record recompact restat prune retime repair replay apply help -h --help -V --version' "$word"
         return
     fi
     # How many values stand before the word, without that of an option. Behind `--` each word is one.
     for ((at = 2; at < COMP_CWORD; at++)); do
         if [[ ! $dashes && ${COMP_WORDS[at]} == -- ]]; then
             dashes=yes
-        elif [[ ! $dashes && ${COMP_WORDS[at]} == --log-version ]]; then
+        elif [[ ! $dashes ]] && takes=$(_nlog_takes "$command:${COMP_WORDS[at]}"); then
             # Bash has the `=` of `--log-version=7` as a word of its own.
             [[ ${COMP_WORDS[at + 1]} == '=' ]] && at=$((at + 1))
             if ((++at >= COMP_CWORD)); then
-                case ${COMP_WORDS[1]} in
-                    entries | damage | doubt | builds | summary | compare | trace | picture) mapfile -t COMPREPLY < <(compgen -W 'auto' -- "$word") ;;
-                    *) mapfile -t COMPREPLY < <(compgen -W '5 6 7 auto' -- "$word") ;;
-                esac
+                _nlog_reply "$takes" "$word"
                 return
             fi
-        elif [[ ! $dashes && ${COMP_WORDS[1]} == recompact && ${COMP_WORDS[at]} == --manifest ]]; then
-            # It stands in the place of KEEP, and its value is a file.
-            [[ ${COMP_WORDS[at + 1]} == '=' ]] && at=$((at + 1))
-            if ((++at >= COMP_CWORD)); then
-                compopt -o filenames 2> /dev/null
-                mapfile -t COMPREPLY < <(compgen -f -- "$word")
-                return
-            fi
-        elif [[ ! $dashes && ${COMP_WORDS[1]} == mend && ${COMP_WORDS[at]} == -C ]]; then
-            if ((++at >= COMP_CWORD)); then
-                compopt -o filenames 2> /dev/null
-                mapfile -t COMPREPLY < <(compgen -d -- "$word")
-                return
-            fi
-        elif [[ ! $dashes && ${COMP_WORDS[1]} == summary && ${COMP_WORDS[at]} == --kind ]]; then
-            [[ ${COMP_WORDS[at + 1]} == '=' ]] && at=$((at + 1))
-            if ((++at >= COMP_CWORD)); then
-                mapfile -t COMPREPLY < <(compgen -W 'extension folder top' -- "$word")
-                return
-            fi
-        elif [[ ! $dashes && ${COMP_WORDS[1]} == summary && ${COMP_WORDS[at]} == --graph ]]; then
-            [[ ${COMP_WORDS[at + 1]} == '=' ]] && at=$((at + 1))
-            if ((++at >= COMP_CWORD)); then
-                compopt -o filenames 2> /dev/null
-                mapfile -t COMPREPLY < <(compgen -f -- "$word")
-                return
-            fi
-        elif [[ ! $dashes && ${COMP_WORDS[1]} =~ ^(summary|compare)$ && ${COMP_WORDS[at]} =~ ^(--build|--at-least|--lines|-n)$ ]]; then
-            [[ ${COMP_WORDS[at + 1]} == '=' ]] && at=$((at + 1))
-            ((++at >= COMP_CWORD)) && return
         elif [[ $dashes || ${COMP_WORDS[at]} != -?* ]]; then
             values=$((values + 1))
         fi
     done
     if [[ ! $dashes && $word == -* ]]; then
-        case ${COMP_WORDS[1]} in
-            replay) mapfile -t COMPREPLY < <(compgen -W '--verbose -v --help -h' -- "$word") ;;
-            mend) mapfile -t COMPREPLY < <(compgen -W '-C --dry-run --all --verbose -v --help -h' -- "$word") ;;
-            builds) mapfile -t COMPREPLY < <(compgen -W '--log-version --missing-ok --tabs --verbose -v --help -h' -- "$word") ;;
-            entries | damage | trace | picture | repair) mapfile -t COMPREPLY < <(compgen -W '--log-version --missing-ok --verbose -v --help -h' -- "$word") ;;
-            summary) mapfile -t COMPREPLY < <(compgen -W '--log-version --missing-ok --build --all --kind --lines -n --graph --tabs --verbose -v --help -h' -- "$word") ;;
-            compare) mapfile -t COMPREPLY < <(compgen -W '--log-version --missing-ok --at-least --lines -n --tabs --verbose -v --help -h' -- "$word") ;;
-            recompact) mapfile -t COMPREPLY < <(compgen -W '--log-version --manifest --verbose -v --help -h' -- "$word") ;;
-            restat) mapfile -t COMPREPLY < <(compgen -W '--log-version --files --verbose -v --help -h' -- "$word") ;;
-            *) mapfile -t COMPREPLY < <(compgen -W '--log-version --verbose -v --help -h' -- "$word") ;;
-        esac
+        _nlog_reply "$(_nlog_options "$command")" "$word"
         return
     fi
-    case ${COMP_WORDS[1]}:$values in
-        show:0 | check:0 | entries:0 | damage:0 | doubt:0 | builds:0 | summary:0 | compare:[01] | trace:0 | picture:0 | hash-file:0 | mend:0 | record:0 | recompact:[01] | restat:[01] | repair:0 | replay:0 | apply:[01])
-            compopt -o filenames 2> /dev/null
-            mapfile -t COMPREPLY < <(compgen -f -- "$word")
-            ;;
+    case $command:$values in
+        show:0 | check:0 | entries:0 | damage:0 | doubt:0 | builds:0 | summary:0 | compare:0 | compare:1 | trace:0 | picture:0 | hash-file:0 | mend:0 | record:0 | recompact:0 | recompact:1 | restat:0 | restat:1 | prune:0 | prune:1 | retime:0 | repair:0 | replay:0 | apply:0 | apply:1) _nlog_reply -f "$word" ;;
+        help:0) _nlog_reply 'show check hash entries damage doubt builds summary compare trace picture hash-file mend record recompact restat prune retime repair replay apply help' "$word" ;;
     esac
 }
 

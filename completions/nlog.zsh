@@ -14,16 +14,19 @@ _nlog() {
     'builds:Prints a line for each build that a log tells of: what it ran, and how long'
     'summary:Prints how long a build took, how much ran at a time, and its slowest commands'
     'compare:Prints which commands are new, gone, changed, slower and faster in another log'
-    'trace:Prints the last build as JSON for a trace viewer: a lane for what ran beside others'
-    'picture:Draws the last build as SVG: a bar for each command, and how many ran at a time'
+    'trace:Prints a build as JSON for a trace viewer: a lane for what ran beside others'
+    'picture:Draws a build as SVG: a bar for each command, and how many ran at a time'
     'hash-file:Prints the hash of a command that stands in a file: of each of its bytes'
     'mend:Has Ninja make each output anew that a log can'\''t vouch for; run it after a crash'
     'record:Adds one entry to a log; prints nothing'
     'recompact:Rewrites a log with the last entry of each output that KEEP names; prints nothing'
     'restat:Rewrites a log with the time stamps that TIMES gives; prints nothing'
+    'prune:Rewrites a log with the last entry of each output that a build has; prints nothing'
+    'retime:Rewrites a log with the time stamps that the outputs'\'' files have; prints nothing'
     'repair:Rewrites a log with the last entry of each output; prints nothing'
     'replay:Runs the events of a script on a log in memory, and prints the replies and that log'
     'apply:Answers lines that ask for changes and entries, one after another, on one open log'
+    'help:Print this message or the help of the given subcommand(s)'
   )
   _arguments -C -S \
     '(- *)-h[Print help]' \
@@ -36,6 +39,7 @@ _nlog() {
     values)
       curcontext=${curcontext%:*:*}:nlog-$words[1]:
       case $words[1] in
+        help) ((CURRENT == 2)) && _describe -t commands command commands && ret=0 ;;
         show)
           _arguments -S -s \
             '(--log-version)--log-version=[5, 6 or 7\: the version of LOG; auto\: the one that its first line names; 4 or 5 where it is left out]:VERSION:(5 6 7 auto)' \
@@ -65,7 +69,7 @@ _nlog() {
           ;;
         entries)
           _arguments -S -s \
-            '(--log-version)--log-version=[auto alone\: the version is the one that LOG'\''s first line names, as where it is left out]:VERSION:(auto)' \
+            '(--log-version)--log-version=[auto alone\: the version that LOG'\''s first line names, as where it is left out]:VERSION:(auto)' \
             '(--missing-ok)--missing-ok[Takes a LOG that is missing for an empty one]' \
             '(-v --verbose)-v[Says which file or value a refusal is of, and why; also that LOG is missing, or locked]' \
             '(-v --verbose)--verbose[Says which file or value a refusal is of, and why; also that LOG is missing, or locked]' \
@@ -75,7 +79,7 @@ _nlog() {
           ;;
         damage)
           _arguments -S -s \
-            '(--log-version)--log-version=[auto alone\: the version is the one that LOG'\''s first line names, as where it is left out]:VERSION:(auto)' \
+            '(--log-version)--log-version=[auto alone\: the version that LOG'\''s first line names, as where it is left out]:VERSION:(auto)' \
             '(--missing-ok)--missing-ok[Takes a LOG that is missing for an empty one]' \
             '(-v --verbose)-v[Says which file or value a refusal is of, and why; also that LOG is missing, or locked]' \
             '(-v --verbose)--verbose[Says which file or value a refusal is of, and why; also that LOG is missing, or locked]' \
@@ -85,7 +89,7 @@ _nlog() {
           ;;
         doubt)
           _arguments -S -s \
-            '(--log-version)--log-version=[auto alone\: the version is the one that LOG'\''s first line names, as where it is left out]:VERSION:(auto)' \
+            '(--log-version)--log-version=[auto alone\: the version that LOG'\''s first line names, as where it is left out]:VERSION:(auto)' \
             '(-v --verbose)-v[Says which file or value a refusal is of, and why; also that LOG is missing, or locked]' \
             '(-v --verbose)--verbose[Says which file or value a refusal is of, and why; also that LOG is missing, or locked]' \
             '(- *)-h[Print help]' \
@@ -94,7 +98,7 @@ _nlog() {
           ;;
         builds)
           _arguments -S -s \
-            '(--log-version)--log-version=[auto alone\: the version is the one that LOG'\''s first line names, as where it is left out]:VERSION:(auto)' \
+            '(--log-version)--log-version=[auto alone\: the version that LOG'\''s first line names, as where it is left out]:VERSION:(auto)' \
             '(--missing-ok)--missing-ok[Takes a LOG that is missing for an empty one]' \
             '(--tabs)--tabs[Puts a tab between fields at a terminal too, in place of columns]' \
             '(-v --verbose)-v[Says which file or value a refusal is of, and why; also that LOG is missing, or locked]' \
@@ -105,14 +109,15 @@ _nlog() {
           ;;
         summary)
           _arguments -S -s \
-            '(--log-version)--log-version=[auto alone\: the version is the one that LOG'\''s first line names, as where it is left out]:VERSION:(auto)' \
+            '(--log-version)--log-version=[auto alone\: the version that LOG'\''s first line names, as where it is left out]:VERSION:(auto)' \
             '(--missing-ok)--missing-ok[Takes a LOG that is missing for an empty one]' \
-            '(--build)--build=[The number of a build, as in `builds`; where it is left out, the last that made more than `build.ninja`]:BUILD: ' \
+            '(--build)--build=[The number of a build in `builds`; left out, the last that made more than `build.ninja`]:BUILD: ' \
             '(--all)--all[Tells of all builds, one after another, with the last entry of each output alone]' \
             '(--kind)--kind=[What a kind goes by\: extension, folder, or top, the first folder; extension where it is left out]:RULE:(extension folder top)' \
             '(-n --lines)-n+[How many lines a list has at most\: 10 where it is left out, 0 for none]:N: ' \
             '(-n --lines)--lines=[How many lines a list has at most\: 10 where it is left out, 0 for none]:N: ' \
             '(--graph)--graph=[What `ninja -t graph` prints\: the critical path is told too; `-` is standard input]:FILE:_files' \
+            '(--jobs)--jobs=[Numbers with commas\: tells too what the build would take with so many commands at a time]:LIST: ' \
             '(--tabs)--tabs[Puts a tab between fields at a terminal too, in place of columns]' \
             '(-v --verbose)-v[Says which file or value a refusal is of, and why; also that LOG is missing, or locked]' \
             '(-v --verbose)--verbose[Says which file or value a refusal is of, and why; also that LOG is missing, or locked]' \
@@ -122,7 +127,7 @@ _nlog() {
           ;;
         compare)
           _arguments -S -s \
-            '(--log-version)--log-version=[auto alone\: the version is the one that LOG'\''s first line names, as where it is left out]:VERSION:(auto)' \
+            '(--log-version)--log-version=[auto alone\: the version that LOG'\''s first line names, as where it is left out]:VERSION:(auto)' \
             '(--missing-ok)--missing-ok[Takes a LOG that is missing for an empty one]' \
             '(-n --lines)-n+[How many lines a list has at most\: 10 where it is left out, 0 for none]:N: ' \
             '(-n --lines)--lines=[How many lines a list has at most\: 10 where it is left out, 0 for none]:N: ' \
@@ -136,8 +141,10 @@ _nlog() {
           ;;
         trace)
           _arguments -S -s \
-            '(--log-version)--log-version=[auto alone\: the version is the one that LOG'\''s first line names, as where it is left out]:VERSION:(auto)' \
+            '(--log-version)--log-version=[auto alone\: the version that LOG'\''s first line names, as where it is left out]:VERSION:(auto)' \
             '(--missing-ok)--missing-ok[Takes a LOG that is missing for an empty one]' \
+            '(--build)--build=[The number of a build in `builds`; left out, the last that made more than `build.ninja`]:BUILD: ' \
+            '(--all)--all[Tells of all builds, one after another, with the last entry of each output alone]' \
             '(-v --verbose)-v[Says which file or value a refusal is of, and why; also that LOG is missing, or locked]' \
             '(-v --verbose)--verbose[Says which file or value a refusal is of, and why; also that LOG is missing, or locked]' \
             '(- *)-h[Print help]' \
@@ -146,8 +153,11 @@ _nlog() {
           ;;
         picture)
           _arguments -S -s \
-            '(--log-version)--log-version=[auto alone\: the version is the one that LOG'\''s first line names, as where it is left out]:VERSION:(auto)' \
+            '(--log-version)--log-version=[auto alone\: the version that LOG'\''s first line names, as where it is left out]:VERSION:(auto)' \
             '(--missing-ok)--missing-ok[Takes a LOG that is missing for an empty one]' \
+            '(--build)--build=[The number of a build in `builds`; left out, the last that made more than `build.ninja`]:BUILD: ' \
+            '(--all)--all[Tells of all builds, one after another, with the last entry of each output alone]' \
+            '(--graph)--graph=[What `ninja -t graph` prints\: the critical path is drawn too; `-` is standard input]:FILE:_files' \
             '(-v --verbose)-v[Says which file or value a refusal is of, and why; also that LOG is missing, or locked]' \
             '(-v --verbose)--verbose[Says which file or value a refusal is of, and why; also that LOG is missing, or locked]' \
             '(- *)-h[Print help]' \
@@ -190,7 +200,6 @@ _nlog() {
             '(-v --verbose)--verbose[Says which file or value a refusal is of, and why; also that LOG is missing, or locked]' \
             '(- *)-h[Print help]' \
             '(- *)--help[Print help]' \
-            '(--manifest)--manifest=[What `ninja -t targets all` prints; `-` is standard input]:FILE:_files' \
             ':LOG:_files' ':KEEP:_files' && ret=0
           ;;
         restat)
@@ -200,8 +209,25 @@ _nlog() {
             '(-v --verbose)--verbose[Says which file or value a refusal is of, and why; also that LOG is missing, or locked]' \
             '(- *)-h[Print help]' \
             '(- *)--help[Print help]' \
-            '(--files)--files[Takes the time stamps of the files]' \
             ':LOG:_files' ':TIMES:_files' && ret=0
+          ;;
+        prune)
+          _arguments -S -s \
+            '(--log-version)--log-version=[5, 6 or 7\: the version of LOG; auto\: the one that its first line names, as where it is left out]:VERSION:(5 6 7 auto)' \
+            '(-v --verbose)-v[Says which file or value a refusal is of, and why; also that LOG is missing, or locked]' \
+            '(-v --verbose)--verbose[Says which file or value a refusal is of, and why; also that LOG is missing, or locked]' \
+            '(- *)-h[Print help]' \
+            '(- *)--help[Print help]' \
+            ':LOG:_files' ':TARGETS:_files' && ret=0
+          ;;
+        retime)
+          _arguments -S -s \
+            '(--log-version)--log-version=[5, 6 or 7\: the version of LOG; auto\: the one that its first line names, as where it is left out]:VERSION:(5 6 7 auto)' \
+            '(-v --verbose)-v[Says which file or value a refusal is of, and why; also that LOG is missing, or locked]' \
+            '(-v --verbose)--verbose[Says which file or value a refusal is of, and why; also that LOG is missing, or locked]' \
+            '(- *)-h[Print help]' \
+            '(- *)--help[Print help]' \
+            ':LOG:_files' && ret=0
           ;;
         repair)
           _arguments -S -s \

@@ -3,7 +3,7 @@
 
     python3 tests/completions.py PROGRAM
 
-Those for zsh and fish have to be the ones that completions/make.py makes of PROGRAM. Each shell is asked by its own machinery: bash by the function,
+They have to be the ones that completions/make.py makes of PROGRAM. Each shell is asked by its own machinery: bash by the function,
 fish by `complete -C`, zsh at a terminal. Wants bash, zsh and fish; each that is missing is said.
 """
 import os
@@ -17,9 +17,7 @@ import time
 from trials import SECONDS, main, read, run, write
 
 TOP = os.path.dirname(os.path.dirname(os.path.abspath(__file__)))
-# The options by which a command takes other values. Its own help has them in its text.
-FORMS = {"recompact": ["--manifest"], "restat": ["--files"]}
-FILES = {"LOG", "OLD", "NEW", "KEEP", "TIMES", "SCRIPT", "FILE"}
+FILES = {"LOG", "OLD", "NEW", "KEEP", "TIMES", "TARGETS", "SCRIPT", "FILE"}
 STREAMED = ("entries", "damage", "doubt", "builds", "summary", "compare", "trace", "picture")
 # Prints what is completed of the words, of which the last one is begun.
 BASH = '. "$0"; COMP_WORDS=("$@"); COMP_CWORD=$(($# - 1)); _nlog; printf "%s\\n" "${COMPREPLY[@]}"'
@@ -110,9 +108,14 @@ def cases(program, shell):
     yield ["re"], [it for it in commands if it.startswith("re")]
     yield ["--"], [it for it in options_of(help_text) if it.startswith("--")]
     yield ["frob", ""], []
+    yield ["help", ""], commands
+    yield ["help", "re"], [it for it in commands if it.startswith("re")]
+    yield ["help", "show", ""], []
     for name in commands:
+        if name == "help":
+            continue
         own = run([program, name, "--help"])[1].decode()
-        options = [*options_of(own), *FORMS.get(name, [])]
+        options = options_of(own)
         yield [name, "-"], options
         yield [name, "--"], [it for it in options if it.startswith("--")]
         values = re.findall(r"[\[<]([A-Z]+)[\]>]", re.search(r"Usage: (.*)", own)[1].replace("[OPTIONS]", ""))
@@ -133,11 +136,9 @@ def cases(program, shell):
             yield [name, "--kind", "f"], ["folder"]
             yield [name, "--kind", "top", "b"], ["b.log"]
             yield [name, "--", "--kind", ""], []
-        for option in ("--graph", *FORMS.get(name, [])):
-            if f"{option} " in own and option != "--files":
-                yield [name, option, ""], files
-                yield [name, option, "b"], ["b.log"]
         if "--graph" in own:
+            yield [name, "--graph", ""], files
+            yield [name, "--graph", "b"], ["b.log"]
             yield [name, "--graph", "b.log", "b"], ["b.log"]
 
 
@@ -149,7 +150,7 @@ def trial(trials, program, room):
     os.mkdir(f"{room}/made")
     made = run([sys.executable, f"{TOP}/completions/make.py", program, f"{room}/made"])
     trials.want("completions/make.py ends well", made, (0, b"", b""))
-    for name in ("nlog.zsh", "nlog.fish"):
+    for name in ("nlog.bash", "nlog.zsh", "nlog.fish"):
         trials.check(f"completions/{name} is what completions/make.py makes", read(f"{room}/made/{name}") == read(f"{TOP}/completions/{name}"))
     zsh = Zsh(room, folder) if shutil.which("zsh") else None
     ways = {"bash": by_bash, "fish": by_fish, "zsh": lambda _, words, __: zsh.offers(words)}
