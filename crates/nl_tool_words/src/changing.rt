@@ -14,7 +14,7 @@ It looks at LOG and at the files of its outputs, repairs LOG, and changes the en
 that can't be trusted, so that no command passes for them. It removes no file, and changes none but
 LOG, in one step. One line for each of these outputs, WHY and NAME with a tab between them:
 
-WHY   `damaged`: a damaged line of LOG may be about it; `newer`: its file was written behind what LOG
+WHY   `damaged`: a damaged line of LOG may be about it; `newer`: its file was written after what LOG
       says; `unsure`: that may be so, as of a directory, and it is left alone without `--all`
 NAME  the output
 
@@ -34,7 +34,7 @@ No build by Ninja may change LOG meanwhile; another nlog waits.",
         after: "\
 The log is made where it is missing: one of version 5, or of 6 for Ninja 1.12 or 7 for 1.13 where
 `--log-version` has that number. START and END are from -2147483648 to 2147483647, MTIME is a 64-bit
-number. A value that begins with `-` stands behind `--`, as in
+number. A value that begins with `-` stands after `--`, as in
 
   nlog record -- .ninja_log -1 2 3 out 'cc out.c'
 
@@ -80,8 +80,9 @@ No build by Ninja may change LOG meanwhile; another nlog waits.",
         name: "retime",
         about: "Rewrites a log with the time stamps that the outputs' files have; prints nothing",
         after: "\
-An output without a file keeps its time stamp, and so does a directory. The names are those of the
-folder in which you run it. If LOG is damaged, it prints what `damage` prints, ends with status 3 and
+An output without a file keeps its time stamp, and so does a directory. So does an output whose command
+didn't end: with another time stamp, Ninja would take it for done. The names are those of the folder in
+which you run it. If LOG is damaged, it prints what `damage` prints, ends with status 3 and
 changes nothing.
 
 No build by Ninja may change LOG meanwhile; another nlog waits.",
@@ -94,9 +95,8 @@ No build by Ninja may change LOG meanwhile; another nlog waits.",
 What is torn, skipped or stale is gone after it, version 4 is 5, and what a device forgot is written
 anew. The new log is written to LOG.recompact, and renamed over LOG. With `--missing-ok` a LOG that is
 missing is made: one of version 5, or of 6 for Ninja 1.12 or 7 for 1.13 where `--log-version` has that
-number. What `damage` prints of LOG can't be seen after it, so it is kept first, as by
-
-  nlog damage --missing-ok .ninja_log >> damaged || { test $? = 3 && nlog repair .ninja_log; }
+number. An output whose entry was damaged has an older entry then, or none, and Ninja may take a stale file
+for good: `nlog mend` repairs LOG, too, and has Ninja make such outputs again.
 
 No build by Ninja may change LOG meanwhile; another nlog waits.",
         takes: &[ANY_LOG, OWN_VERSION, MISSING_OK],

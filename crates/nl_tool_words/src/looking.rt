@@ -59,17 +59,13 @@ LINE    its number; 1 is the first line of LOG, which is told only where it is t
 WHAT    `skipped`: it is no entry; `long`: it has more than 262143 bytes; `torn`: the bytes after
         the last newline
 LENGTH  its bytes, without the newline
-OUTPUT  the output of the entry at the line's end, also where that was written behind a torn one;
+OUTPUT  the output of the entry at the line's end, also where that was written after a torn one;
         else `-`
 FIRST   the output that Ninja takes the line for an entry of, between the third tab and the
         fourth, as that of the torn line; else `-`
 
-Status: 0 where nothing is printed, 3 where there is damage. A log is repaired where it has some by
-
-  nlog damage --missing-ok .ninja_log >> damaged || { test $? = 3 && nlog repair .ninja_log; }
-
-Before Ninja runs, remove the files that the last two columns of `damaged` name. Where both are `-`,
-remove LOG.",
+Status: 0 where nothing is printed, 3 where there is damage. `nlog mend` repairs LOG, and has Ninja make
+again each output that a damaged line may be about.",
         takes: &[OPTIONAL_ANY_LOG, AUTO_VERSION, MISSING_OK],
     },
     WordRow {
@@ -80,15 +76,13 @@ Run it in the folder of the build: it looks at the file of each output. A crash 
 command and leave its file, and then an older entry passes for it. One line for each output, by its
 last entry: WHAT and NAME with a tab between them.
 
-WHAT  `newer`: the file was written behind what the entry says, so the entry isn't of the command
+WHAT  `newer`: the file was written after what the entry says, so the entry isn't of the command
       that wrote it; `unsure`: it may have been; `missing`: there is no file; `directory`: the output
       is one, so its time says nothing; `no-time`: the entry has no time; `unknown`: the file can't be
       looked at
 NAME  the output
 
-Remove files that are newer or unsure, but not `build.ninja`, and build. Their names are printed by
-
-  nlog doubt .ninja_log | sed -n -E 's/^(newer|unsure)\t//p'
+`nlog mend` has Ninja make again those that are newer, and `nlog mend --all` those that are unsure, too.
 
 Status: 0 where nothing is printed, 3 where something is. A LOG that is missing is refused.",
         takes: &[OPTIONAL_ANY_LOG, AUTO_VERSION],
@@ -97,7 +91,7 @@ Status: 0 where nothing is printed, 3 where something is. A LOG that is missing 
         name: "builds",
         about: "Prints a line for each build that a log tells of: what it ran, and how long",
         after: "\
-One line for each, the oldest first: NUMBER, COMMANDS, OUTPUTS, WALL, TOTAL, BORDERS, and behind
+One line for each, the oldest first: NUMBER, COMMANDS, OUTPUTS, WALL, TOTAL, BORDERS, and after
 `again` TAKEN, with a tab between neighbours.
 
 NUMBER    its number, from 1
@@ -119,7 +113,7 @@ The last build is printed by
         name: "summary",
         about: "Prints how long a build took, how much ran at a time, and its slowest commands",
         after: "\
-A line for each of these, with a tab behind its name:
+A line for each of these, with a tab after its name:
 
 commands    how many commands ended in it
 outputs     how many outputs these made

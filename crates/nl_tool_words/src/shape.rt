@@ -15,7 +15,7 @@ use std::alloc::{AllocError, Global};
 pub struct WordRow {
     pub name: &'static str,
     pub about: &'static str,
-    /// What stands behind the options, if anything does.
+    /// What stands after the options, if anything does.
     pub after: &'static str,
     /// All but the flag for the reason of a refusal, which each word takes.
     pub takes: &'static [Value],
@@ -49,7 +49,7 @@ const AFTER: &str = "\
 `show` to `hash-file` look and change nothing, `mend` to `repair` change LOG, and `apply` keeps a
 log for a build tool. Without a command, or without LOG, a log is read from standard input.
 
-Ninja 1.12 and 1.13 write logs of version 6 and 7: put `--log-version auto` behind `show`, `check`,
+Ninja 1.12 and 1.13 write logs of version 6 and 7: put `--log-version auto` after `show`, `check`,
 `record`, `recompact` or `restat`. The other commands take such a LOG as it is.
 Change no log while Ninja builds, because it locks nothing. A LOG that is missing is refused by
 `doubt`, `prune` and `retime`, and without `--missing-ok` by `entries` to `picture` and `repair`.
@@ -60,7 +60,7 @@ Examples:
   nlog check --log-version auto .ninja_log
 
 Status: 0 done; 1 refused, and a line `nlog: ...` on standard error says why (a second one says more
-with `--verbose`, behind the command); 2 wrong words; 3 `mend`, `damage`, `doubt`,
+with `--verbose`, after the command); 2 wrong words; 3 `mend`, `damage`, `doubt`,
 `prune` or `retime` found some.";
 
 /// What reads a command line.
