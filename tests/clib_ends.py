@@ -117,6 +117,11 @@ def sizes(trials, made, room):
         return int(out) if status == 0 else 10**9
 
     trials.check("a name of an edge of 80,000 takes no longer than of one of 100", *is_within(4, lambda: seconds_of_edge(80_000), lambda: seconds_of_edge(100)))
+    # What grows by half or more asks for memory some 30 times for these lines; what grows line by line would ask 80,000 times.
+    if "refused" in made:
+        write(log, HEADER)
+        asked_for = [int(run([made["refused"], "edges", log, "80000", "1"])[1] or -1) for _ in range(2)]
+        trials.check("an edge of 80,000 outputs that come again asks for memory up to 100 times", 0 <= asked_for[1] <= 100, f"{asked_for} times")
 
 
 def trial(trials, made, room, may_trace):

@@ -27,14 +27,16 @@ void *__real_calloc(size_t count, size_t size);
 void *__wrap_calloc(size_t count, size_t size);
 void __real_free(void *block);
 void __wrap_free(void *block);
-static long left = -1, blocks = 0;
+static long left = -1, blocks = 0, requests = 0;
 static void *counted(void *block) {
   blocks += block != NULL;
+  requests++;
   return block;
 }
 void *__wrap_malloc(size_t size) { return left >= 0 && left-- == 0 ? NULL : counted(__real_malloc(size)); }
 void *__wrap_realloc(void *block, size_t size) {
   void *again = left >= 0 && left-- == 0 ? NULL : __real_realloc(block, size);
+  requests++;
   blocks += block == NULL && again != NULL;
   return again;
 }
@@ -1069,7 +1071,8 @@ static int time_records(const char *log, const char *plain, int count, int outpu
   return status != NLOG_OK;
 }
 
-/* The time of a name of so many edges of so many outputs, which are the same in each, in nanoseconds. */
+/* The time of a name of so many edges of so many outputs, which are the same in each, in nanoseconds; where memory can be refused, how often it
+ * was asked for. */
 static int time_edges(const char *log, size_t count, int edges) {
   char(*bytes)[16] = (char(*)[16])malloc(count * sizeof *bytes);
   nlog_name *names = (nlog_name *)malloc(count * sizeof *names);
@@ -1085,9 +1088,17 @@ static int time_edges(const char *log, size_t count, int edges) {
     names[i].len = (size_t)snprintf(bytes[i], sizeof bytes[i], "out%zu", i);
   }
   if (status == NLOG_OK) status = nlog_writer_open(writer);
+#ifdef REFUSES
+  requests = 0;
+#endif
   begun = seconds();
   for (edge = 0; status == NLOG_OK && edge < edges; edge++) status = nlog_writer_record_edge(writer, names, count, &entry);
+#ifdef REFUSES
+  printf("%ld\n", requests);
+  (void)begun;
+#else
   printf("%.0f\n", (seconds() - begun) / ((double)count * edges) * 1e9);
+#endif
   nlog_writer_free(&writer);
   free(names);
   free(bytes);
