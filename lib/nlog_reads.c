@@ -128,12 +128,42 @@ static nlog_status read_file(const char *path, char **bytes, size_t *len, int *e
   return NLOG_FAULT;
 }
 
+/* Loads an open file, in blocks, of which none is kept. The first one goes to its last newline; what
+ * stands behind that is read again. *error: as above. */
+static nlog_status load_blocks(nlog *log, int fd, char *block, int *error) {
+  struct stat about;
+  nlog_status status = NLOG_OK;
+  uint64_t at = 0;
+  ssize_t got = BLOCK;
+  *error = ask_regular(fd, &about);
+  if (*error != 0) return NLOG_FAULT;
+  while (status == NLOG_OK && got == BLOCK) {
+    size_t used;
+    got = read_whole(fd, block, BLOCK, at);
+    if (got < 0) *error = errno;
+    if (got < 0) return NLOG_FAULT;
+    used = (size_t)got;
+    if (at == 0 && got == BLOCK) while (used > 0 && block[used - 1] != '\n') used--;
+    if (at == 0) status = nlog_load(log, block, used > 0 ? used : (size_t)got);
+    else status = carried_more(log, block, used);
+    at += used;
+  }
+  return status;
+}
+
 nlog_status nlog_load_file(nlog *log, const char *path, int *error) {
-  size_t len;
-  char *bytes;
-  nlog_status status = read_file(path, &bytes, &len, error);
-  if (status == NLOG_OK) status = nlog_load(log, bytes, len);
-  free(bytes);
+  nlog found = NLOG_INIT;
+  char *block = (char *)malloc(BLOCK);
+  /* A pipe without a writer would keep it waiting. */
+  int fd = open_off_streams(AT_FDCWD, path, O_RDONLY | O_NONBLOCK, 0), failed = errno;
+  nlog_status status = NLOG_FAULT;
+  if (fd >= 0) status = block != NULL ? load_blocks(&found, fd, block, &failed) : NLOG_OUT_OF_MEMORY;
+  close_at(&fd);
+  free(block);
+  if (status == NLOG_FAULT) *error = failed;
+  if (status == NLOG_OK) nlog_free(log);
+  if (status == NLOG_OK) *log = found;
+  else nlog_free(&found);
   return status;
 }
 

@@ -87,7 +87,9 @@ struct nlog_writer {
   const char *failed_call, *failed_path;
 };
 
-/* The proved calls of a log whose text its caller carries (crates/nl_c/src/exports.rt). */
+/* The proved calls of crates/nl_c/src/exports.rt: of a log that is loaded, and of one whose text its
+ * caller carries. */
+nlog_status carried_more(nlog *log, const void *bytes, size_t len);
 nlog_status carried_new(nlog *log);
 nlog_status carried_room(nlog *log, size_t len);
 nlog_status carried_give(nlog *log, const void *bytes, size_t len);

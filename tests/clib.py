@@ -777,7 +777,8 @@ def refusals(trials, made, room):
 
 
 def kept_memory(trials, made, room):
-    """How much memory a writer takes: at its open the log's bytes and the table, while it is open what a load takes, and behind its close less."""
+    """How much memory a load takes: the table; and a writer: at its open the log's bytes and the table, while it is open what a load takes, and behind
+    its close less."""
     for first in ("open", "look"):
         kept_memory_behind(trials, made, f"{room}/kept.log", first)
 
@@ -792,6 +793,8 @@ def kept_memory_behind(trials, made, log, first):
         begun = [resident(it.pid, "VmRSS") for it in (loader, writer) if answers_of(it, "is_open")]
         trials.want(f"a log of long names, {first}", [answers_of(loader, "load"), answers_of(writer, first)], ["OK", "OK"])
         loaded, most = resident(loader.pid, "VmRSS") - begun[0], resident(writer.pid, "VmHWM") - begun[1]
+        peak = resident(loader.pid, "VmHWM") - begun[0]
+        trials.check("a load of a file takes the table, and not the bytes", peak < table + 3_000_000, f"{peak} bytes for a log of {size}")
         trials.check("an open takes the bytes and the table", most < size + table + 4_000_000, f"{most} bytes for a log of {size}")
         held = [resident(writer.pid, "VmRSS") - begun[1]]
         again = {answers_of(writer, f"record {i} 2 3 aa {hexed(names[i % 20])}") for i in range(60)}

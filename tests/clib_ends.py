@@ -83,6 +83,35 @@ def distrusted(trials, made, room):
     trials.check("memory was refused to wary opens", refused > 40, str(refused))
 
 
+BLOCK, MAX_LINE = 262144, 262143
+
+
+def blocks(trials, made, room):
+    """A file is loaded in blocks as its bytes are loaded from memory, wherever a block ends, with lines and rests of all lengths."""
+    log, line = f"{room}/blocks", [line_of(b"%07d" % (i % 9000), (i, i + 1, i * 7, 10**15 + i)) for i in range(24_000)]
+    four = [b"%d\t%d\t%d\t%07d\tcc -c %d.c\n" % (i, i + 1, i * 7, i % 9000, i) for i in range(24_000)]
+    rests = [b"", b"7", b"7\t8\t9\ta", b"r" * MAX_LINE, b"r" * (MAX_LINE + 1), b"r" * (2 * BLOCK + 5)]
+    for version, lines in ((b"5", line), (b"6", line), (b"7", line), (b"4", four)):
+        first = b"# ninja log v" + version + b"\n"
+        for pad in (0, 1, 2, MAX_LINE - 1, MAX_LINE, MAX_LINE + 1, BLOCK + 9, 3 * BLOCK):
+            # A line that is no entry shifts the others against the blocks.
+            shift = b"x" * pad + b"\n" if pad else b""
+            for count in (5000, 24_000):
+                for rest in rests if version == b"5" or pad == 1 else rests[:2]:
+                    write(log, first + b"".join(lines[: count // 2]) + shift + b"".join(lines[count // 2 : count]) + rest)
+                    wanted = b"NLOG_OK %s %d %d %d %d %d\n" % (version, count, min(count, 9000), pad > 0, os.stat(log).st_size - len(rest), len(rest))
+                    trials.want(f"version {version}, {count} lines, {pad} bytes that are no entry, a rest of {len(rest)}", run([made["C11"], "load-both", log]), (0, wanted, b""))
+    for whole in range(BLOCK - 2, BLOCK + 3):
+        # The last newline of a block is its last byte, or stands just before or behind it.
+        lines = HEADER + b"".join(line[:4000])
+        lines += b"y" * (whole - len(lines) - 1) + b"\n" + A + B
+        write(log, lines)
+        trials.want(f"a line that ends at {whole}", run([made["C11"], "load-both", log])[:2], (0, b"NLOG_OK 5 4002 4002 1 %d 0\n" % len(lines)))
+    for text, wanted in ((b"# ninja log v9\n" + b"".join(line), b"OTHER_VERSION"), (b"ninja\n" + b"".join(line), b"NOT_A_LOG"), (b"z" * (BLOCK + 7) + b"\n" + A, b"NOT_A_LOG"), (b"z" * (3 * BLOCK), b"NOT_A_LOG")):
+        write(log, text)
+        trials.want(f"a file of {len(text)} bytes that begins {text[:14]}", run([made["C11"], "load-both", log])[:2], (0, b"NLOG_%s 0 0 0 0 0 0\n" % wanted))
+
+
 def sizes(trials, made, room):
     """More marks, and more outputs of a rewriting, than a body could stop at; and that a record takes no longer behind many."""
     log, count = f"{room}/sizes", 101_000
@@ -129,5 +158,6 @@ def trial(trials, made, room, may_trace):
     devices(trials, made, room)
     distrusted(trials, made, room)
     sizes(trials, made, room)
+    blocks(trials, made, room)
     if may_trace:
         files_that_fail(trials, made, room)

@@ -999,6 +999,37 @@ static void load_file(const char *path) {
   nlog_free(&log);
 }
 
+/* Loads a file by its path and from memory. Prints the status and the facts of the first, and wants the same of both. */
+static void load_both(const char *path) {
+  nlog one = NLOG_INIT, other = NLOG_INIT;
+  nlog_facts facts, others;
+  size_t len, place, count = 0, one_len, other_len;
+  char *bytes = file_of(path, &len);
+  static char one_name[NLOG_MAX_NAME], other_name[NLOG_MAX_NAME];
+  int error = 77;
+  nlog_status status = nlog_load_file(&one, path, &error);
+  WANT(nlog_load(&other, bytes, len) == status && error == 77);
+  printf("%s", nlog_status_name(status));
+  memset(&facts, 0, sizeof facts);
+  memset(&others, 0, sizeof others);
+  WANT(nlog_get_facts(&one, &facts) == nlog_get_facts(&other, &others));
+  WANT(memcmp(&facts, &others, sizeof facts) == 0);
+  printf(" %" PRIu32 " %" PRIu64 " %" PRIu64, facts.version, facts.total, facts.unique);
+  printf(" %" PRIu64 " %" PRIu64 " %" PRIu64 "\n", facts.skipped, facts.whole, facts.torn);
+  nlog_count(&one, &count);
+  for (place = 0; place < count; place++) {
+    nlog_entry entry, others_entry;
+    WANT(nlog_at(&one, place, &entry, one_name, sizeof one_name, &one_len) == NLOG_OK);
+    WANT(nlog_at(&other, place, &others_entry, other_name, sizeof other_name, &other_len) == NLOG_OK);
+    WANT(one_len == other_len && memcmp(one_name, other_name, one_len) == 0);
+    WANT(entry.start_ms == others_entry.start_ms && entry.end_ms == others_entry.end_ms);
+    WANT(entry.mtime == others_entry.mtime && entry.hash == others_entry.hash);
+  }
+  nlog_free(&one);
+  nlog_free(&other);
+  free(bytes);
+}
+
 /* Records so many entries, and syncs after each so many, or only at the end; prints how many then stand. */
 static int write_many(const char *log, int count, int syncs) {
   nlog_writer *writer;
@@ -1197,6 +1228,8 @@ int main(int count, char **words) {
     write_log(words[2], (uint32_t)strtoul(words[3], NULL, 10));
   } else if (count == 3 && strcmp(words[1], "load") == 0) {
     load_file(words[2]);
+  } else if (count == 3 && strcmp(words[1], "load-both") == 0) {
+    load_both(words[2]);
   } else if (count == 5 && strcmp(words[1], "many") == 0) {
     wrong |= write_many(words[2], atoi(words[3]), atoi(words[4]));
   } else if (count == 4 && strcmp(words[1], "large") == 0) {

@@ -5,6 +5,7 @@ mod FaultLemmas
 mod JoinLemmas
 mod KeptValues
 mod LogDrop
+mod MoreLemmas
 mod PlanLemmas
 mod RecordLemmas
 mod RewritingLemmas

@@ -1,6 +1,6 @@
 //! What is exported. Each call takes the log out of its handle, and puts it back. One that makes a log is given two numbers: the
 //! secret under which names are hashed. In `lib/` stand the calls of the header that give them.
-ghost use Rattle.std.specs.Prelude.{◌≡◌, ◌≢◌, ◌↔◌, ◌⊎◌, true, false, None, IfErr, IfOk, IsErrOf, IsOk, IsSomeAnd};
+ghost use Rattle.std.specs.Prelude.{◌≡◌, ◌≢◌, ◌↔◌, ◌⊎◌, ◌++◌, ℕ, List, true, false, None, IfErr, IfOk, IsErrOf, IsOk, IsSomeAnd};
 ghost use Rattle.nl_distrust.specs.Distrusted.{is_whole};
 ghost use Rattle.nl_fields.specs.CommandHash.{IsHash, hash_of};
 ghost use Rattle.nl_fields.specs.RapidHash.{rapid_hash_of};
@@ -76,6 +76,26 @@ pub extern "C" fn nlog_load(
         }
         Err(_) => status::OUT_OF_MEMORY,
     }
+}
+
+/// Loads the next bytes of a log, behind those that the handle's log was loaded of: these ended in a newline, or were loaded by
+/// this call. If that fails, the log is let go of.
+#[unsafe(no_mangle)]
+pub extern "C" fn carried_more(handle: &mut Handle, alloc: Global, bytes: &[u8]) -> u32
+    ensures ok { result ≡ ok → (before : List ℕ)
+        → IsSomeAnd handle.old.kept.log (λ held. IsSomeAnd (loaded_of held) (IsLoadedFrom before))
+        → IsSomeAnd handle.new.kept.log (λ held. IsSomeAnd (loaded_of held) (IsLoadedFrom (before ++ bytes.now))) }
+    ensures refusals { (result ≡ ok) ⊎ (result ≡ no_handle) ⊎ (result ≡ out_of_memory) }
+    ensures gone { result ≢ ok → handle.new.kept.log ≡ None }
+{
+    let Some(mut held) = handle.take(alloc) else {
+        return status::NO_HANDLE;
+    };
+    let answer = held.load_more(bytes);
+    if answer == status::OK {
+        *handle = Handle::of(held);
+    }
+    answer
 }
 
 /// Loads those entries alone of the log that the bytes are whose outputs can't be trusted. Where the handle has a log, the

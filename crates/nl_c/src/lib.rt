@@ -13,6 +13,7 @@ mod laws;
 mod loaded_log;
 mod look_up;
 mod marks;
+mod more;
 mod plans;
 mod status;
 mod written_log;
