@@ -87,8 +87,8 @@ struct nlog_writer {
   const char *failed_call, *failed_path;
 };
 
-/* The proved calls of crates/nl_c/src/exports.rt: of a log that is loaded, and of one whose text its
- * caller carries. */
+/* The proved calls of crates/nl_c/src/carried_exports.rt: of a log that is loaded in pieces, and of
+ * one whose text its caller carries. */
 nlog_status carried_more(nlog *log, const void *bytes, size_t len);
 nlog_status carried_new(nlog *log);
 nlog_status carried_room(nlog *log, size_t len);

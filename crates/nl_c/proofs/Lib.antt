@@ -9,6 +9,7 @@ mod MoreLemmas
 mod PlanLemmas
 mod RecordLemmas
 mod RewritingLemmas
+mod StepLemmas
 mod ToldLemmas
 mod WaitLemmas
 mod WholeLemmas

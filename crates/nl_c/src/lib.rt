@@ -1,6 +1,7 @@
 //! The library for callers in C. `include/nlog.h` declares what is exported here.
 #![tactic(auto)]
 
+mod carried_exports;
 mod carried_folder;
 mod carried_log;
 mod disk_record;
@@ -14,6 +15,7 @@ mod loaded_log;
 mod look_up;
 mod marks;
 mod more;
+mod opening;
 mod plans;
 mod status;
 mod written_log;

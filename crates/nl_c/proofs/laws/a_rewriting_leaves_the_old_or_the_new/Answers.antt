@@ -1,5 +1,5 @@
 use Rattle.nl_c.specs.Changes.{file_steps, replace}
-use Rattle.nl_c.proofs.ChangeLemmas.{unlocked}
+use Rattle.nl_c.proofs.StepLemmas.{unlocked}
 use Rattle.nl_c.proofs.RewritingLemmas.{old_or_text}
 use Rattle.nl_c.proofs.laws.a_rewriting_leaves_the_old_or_the_new.Goals as goal
 

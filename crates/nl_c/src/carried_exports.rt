@@ -1,0 +1,438 @@
+//! What is exported for the C of `lib/` alone: of a log that is loaded in pieces, and of one that is carried.
+ghost use Rattle.std.specs.Prelude.{◌≡◌, ◌≢◌, ◌↔◌, ◌⊎◌, ◌++◌, ℕ, List, true, false, None, IfErr, IfOk, IsErrOf, IsOk, IsSomeAnd};
+ghost use Rattle.nl_distrust.specs.Distrusted.{is_whole};
+ghost use Rattle.nl_table.specs.Log.{NotALog, OtherVersion, log_of};
+ghost use Rattle.nl_versions.specs.VersionOf.{as_five, lines_version};
+ghost use Rattle.nl_c.specs.LoadedLogs.{IsDistrustedFrom, IsLoadedFrom};
+ghost use Rattle.nl_c.specs.CarriedLogs.{IsNewCarried, MadeRoom, Given, CarriedOpened, WholeOpened, Keeps, Anew, CarriedWritten, CarriedText, CarriedHeader, CarriedLine, Ends, Planned, Withdrawn, LooseLine, intent_stamp};
+ghost use Rattle.nl_c.specs.Held.{InCarried, IsCarriedAnd, given_in, given_of, has_carried, is_carried, loaded_of};
+ghost use Rattle.nl_c.specs.Written.{Recorded, Begun, Synced, Stopped, Recompacted, Restatted, DeadMarked, TimeMarked, Cleared};
+ghost use Rattle.nl_c.specs.Statuses.{ok, no_handle, not_a_log, not_found, other_version, out_of_memory};
+
+use crate::carried_log::CarriedLog;
+use crate::handle::Handle;
+use crate::held::Held;
+use crate::loaded_log::{CStamp, LoadedLog};
+use crate::status;
+use nl_distrust::is_whole;
+use nl_table::Secret;
+use nl_versions::lines_version;
+use std::alloc::Global;
+
+/// Loads the next bytes of a log, behind those that the handle's log was loaded of: these ended in a newline, or were loaded by
+/// this call. If that fails, the log is let go of.
+#[unsafe(no_mangle)]
+pub extern "C" fn carried_more(handle: &mut Handle, alloc: Global, bytes: &[u8]) -> u32
+    ensures ok { result ≡ ok → (before : List ℕ)
+        → IsSomeAnd handle.old.kept.log (λ held. IsSomeAnd (loaded_of held) (IsLoadedFrom before))
+        → IsSomeAnd handle.new.kept.log (λ held. IsSomeAnd (loaded_of held) (IsLoadedFrom (before ++ bytes.now))) }
+    ensures refusals { (result ≡ ok) ⊎ (result ≡ no_handle) ⊎ (result ≡ out_of_memory) }
+    ensures gone { result ≢ ok → handle.new.kept.log ≡ None }
+{
+    let Some(mut held) = handle.take(alloc) else {
+        return status::NO_HANDLE;
+    };
+    let answer = held.load_more(bytes);
+    if answer == status::OK {
+        *handle = Handle::of(held);
+    }
+    answer
+}
+
+/// A closed log without marks, whose text the caller carries. What the handle held is let go.
+#[unsafe(no_mangle)]
+pub extern "C" fn carried_new(handle: &mut Handle, alloc: Global, key0: u64, key1: u64) -> u32
+    ensures ok { result ≡ ok → IsSomeAnd handle.new.kept.log (IsCarriedAnd IsNewCarried) }
+    ensures refusals { (result ≡ ok) ⊎ (result ≡ out_of_memory) }
+    ensures unchanged { result ≢ ok → handle.new.kept.log ≡ handle.old.kept.log }
+{
+    let secret = Secret::of(key0, key1);
+    match Box::new(alloc, Held::Carried(CarriedLog::new(alloc, secret))) {
+        Ok(held) => {
+            drop(handle.take(alloc));
+            *handle = Handle::of(held);
+            status::OK
+        }
+        Err(_) => status::OUT_OF_MEMORY,
+    }
+}
+
+/// Makes room for so many bytes of the file, of which none are given yet.
+#[unsafe(no_mangle)]
+pub extern "C" fn carried_room(handle: &mut Handle, alloc: Global, len: usize) -> u32
+    ensures call { InCarried MadeRoom result handle.old.kept.log handle.new.kept.log }
+{
+    let Some(mut held) = handle.take(alloc) else {
+        return status::NO_HANDLE;
+    };
+    let answer = held.make_room(alloc, len);
+    *handle = Handle::of(held);
+    answer
+}
+
+/// Gives the next bytes of the file.
+#[unsafe(no_mangle)]
+pub extern "C" fn carried_give(handle: &mut Handle, alloc: Global, bytes: &[u8]) -> u32
+    ensures call { InCarried (Given bytes.now) result handle.old.kept.log handle.new.kept.log }
+{
+    let Some(mut held) = handle.take(alloc) else {
+        return status::NO_HANDLE;
+    };
+    let answer = held.give(bytes);
+    *handle = Handle::of(held);
+    answer
+}
+
+/// Opens the log that the bytes are which were given.
+#[unsafe(no_mangle)]
+pub extern "C" fn carried_open(
+    handle: &mut Handle,
+    alloc: Global,
+    version: u32,
+    change: &mut u32,
+) -> u32
+    ensures call { InCarried (CarriedOpened version (change.old, change.new)) result handle.old.kept.log handle.new.kept.log }
+{
+    let Some(mut held) = handle.take(alloc) else {
+        return status::NO_HANDLE;
+    };
+    let answer = held.open(alloc, version, change);
+    *handle = Handle::of(held);
+    answer
+}
+
+/// Opens the log that the bytes are which were given, where each of their lines is an entry and none is torn: then all of its
+/// outputs can be trusted. Else nothing is opened, and that is answered as what isn't found.
+#[unsafe(no_mangle)]
+pub extern "C" fn carried_open_whole(
+    handle: &mut Handle,
+    alloc: Global,
+    version: u32,
+    change: &mut u32,
+) -> u32
+    ensures call { InCarried (WholeOpened version (change.old, change.new)) result handle.old.kept.log handle.new.kept.log }
+{
+    let Some(mut held) = handle.take(alloc) else {
+        return status::NO_HANDLE;
+    };
+    let answer = held.open_whole(alloc, version, change);
+    *handle = Handle::of(held);
+    answer
+}
+
+/// Loads those entries alone of the bytes that were given whose outputs can't be trusted, into another handle. Where the log
+/// is whole, none is loaded.
+#[unsafe(no_mangle)]
+pub extern "C" fn carried_distrusted(handle: &mut Handle, alloc: Global, other: &mut Handle) -> u32
+    ensures same { handle.new.kept.log ≡ handle.old.kept.log }
+    ensures ok { result ≡ ok → IsSomeAnd other.new.kept.log
+        (λ held. IsSomeAnd (loaded_of held) (IsDistrustedFrom (given_in handle.old.kept.log))) }
+    ensures no_handle { result ≡ no_handle ↔ (has_carried handle.old.kept.log ≡ false) }
+    ensures whole { result ≡ not_found ↔ (has_carried handle.old.kept.log ≡ true)
+        × (is_whole (lines_version (given_in handle.old.kept.log)) (given_in handle.old.kept.log) ≡ true) }
+    ensures not_a_log { result ≡ not_a_log → log_of (as_five (given_in handle.old.kept.log)) ≡ NotALog }
+    ensures other_version { result ≡ other_version
+        → log_of (as_five (given_in handle.old.kept.log)) ≡ OtherVersion }
+    ensures refusals { (result ≡ ok) ⊎ (result ≡ no_handle) ⊎ (result ≡ not_found) ⊎ (result ≡ not_a_log)
+        ⊎ (result ≡ other_version) ⊎ (result ≡ out_of_memory) }
+    ensures unchanged { result ≢ ok → other.new.kept.log ≡ other.old.kept.log }
+{
+    let Some(held) = handle.take(alloc) else {
+        return status::NO_HANDLE;
+    };
+    let found = distrusted_of(&held, alloc);
+    *handle = Handle::of(held);
+    match found {
+        Err(refused) => refused,
+        Ok(log) => match Box::new(alloc, Held::Loaded(log)) {
+            Ok(log) => {
+                drop(other.take(alloc));
+                *other = Handle::of(log);
+                status::OK
+            }
+            Err(_) => status::OUT_OF_MEMORY,
+        },
+    }
+}
+
+// Those entries alone of the bytes that a log was given whose outputs can't be trusted; or the status of their absence.
+fn distrusted_of(held: &Held, alloc: Global) -> Result<LoadedLog, u32>
+    ensures ok { IfOk result (IsDistrustedFrom (given_of held.now)) }
+    ensures whole { IsOk result → is_whole (lines_version (given_of held.now)) (given_of held.now) ≡ false }
+    ensures carried { IsOk result → is_carried held.now ≡ true }
+    ensures no_handle { IsErrOf result no_handle ↔ (is_carried held.now ≡ false) }
+    ensures none { IsErrOf result not_found ↔ (is_carried held.now ≡ true)
+        × (is_whole (lines_version (given_of held.now)) (given_of held.now) ≡ true) }
+    ensures not_a_log { IsErrOf result not_a_log → log_of (as_five (given_of held.now)) ≡ NotALog }
+    ensures other_version { IsErrOf result other_version
+        → log_of (as_five (given_of held.now)) ≡ OtherVersion }
+    ensures refusals { IfErr result (λ why. (why ≡ no_handle) ⊎ (why ≡ not_found) ⊎ (why ≡ not_a_log)
+        ⊎ (why ≡ other_version) ⊎ (why ≡ out_of_memory)) }
+{
+    let Some(bytes) = held.given() else {
+        return Err(status::NO_HANDLE);
+    };
+    if is_whole(lines_version(bytes), bytes) {
+        return Err(status::NOT_FOUND);
+    }
+    match LoadedLog::load_distrusted(alloc, held.secret(), bytes) {
+        Ok(log) => Ok(log),
+        Err(fault) => Err(status::of_fault(fault)),
+    }
+}
+
+/// Adds the line of an entry to the text of an open log. It waits to be carried.
+#[unsafe(no_mangle)]
+pub extern "C" fn carried_record(
+    handle: &mut Handle,
+    alloc: Global,
+    name: &[u8],
+    stamp: &CStamp,
+) -> u32
+    ensures call { InCarried (Ends name.now (Recorded name.now stamp.now)) result handle.old.kept.log handle.new.kept.log }
+{
+    let Some(mut held) = handle.take(alloc) else {
+        return status::NO_HANDLE;
+    };
+    let answer = held.record(name, stamp);
+    *handle = Handle::of(held);
+    answer
+}
+
+/// Adds the line of an intent to the text of an open log, where the entry of the name isn't such an intent.
+#[unsafe(no_mangle)]
+pub extern "C" fn carried_begin(
+    handle: &mut Handle,
+    alloc: Global,
+    name: &[u8],
+    moment_ms: i32,
+    hash: u64,
+) -> u32
+    ensures call { InCarried (Ends name.now (Begun name.now moment_ms hash)) result handle.old.kept.log handle.new.kept.log }
+{
+    let Some(mut held) = handle.take(alloc) else {
+        return status::NO_HANDLE;
+    };
+    let answer = held.begin(alloc, name, moment_ms, hash);
+    *handle = Handle::of(held);
+    answer
+}
+
+/// Adds the line of an intent over the entry of a name, of which the stamp is filled, or if it has none and that is wanted.
+#[unsafe(no_mangle)]
+pub extern "C" fn carried_plan(
+    handle: &mut Handle,
+    alloc: Global,
+    name: &[u8],
+    moment_ms: i32,
+    hash: u64,
+    anew: bool,
+    before: &mut CStamp,
+) -> u32
+    ensures call { InCarried (Planned name.now (intent_stamp moment_ms hash) anew (before.old, before.new)) result handle.old.kept.log handle.new.kept.log }
+{
+    let Some(mut held) = handle.take(alloc) else {
+        return status::NO_HANDLE;
+    };
+    let answer = held.plan(name, moment_ms, hash, anew, before);
+    *handle = Handle::of(held);
+    answer
+}
+
+/// Adds the line of the entry that a name had before its plan, where that stands.
+#[unsafe(no_mangle)]
+pub extern "C" fn carried_withdraw(
+    handle: &mut Handle,
+    alloc: Global,
+    name: &[u8],
+    before: &CStamp,
+) -> u32
+    ensures call { InCarried (Withdrawn name.now before.now) result handle.old.kept.log handle.new.kept.log }
+{
+    let Some(mut held) = handle.take(alloc) else {
+        return status::NO_HANDLE;
+    };
+    let answer = held.withdraw(name, before);
+    *handle = Handle::of(held);
+    answer
+}
+
+/// The line of an entry whose name has a plan that stands, which ends. It isn't added: whoever writes it gives it back later.
+#[unsafe(no_mangle)]
+pub extern "C" fn carried_loose_line(
+    handle: &mut Handle,
+    alloc: Global,
+    name: &[u8],
+    stamp: &CStamp,
+    bytes: &mut [u8],
+    len: &mut usize,
+) -> u32
+    ensures call { InCarried (LooseLine name.now stamp.now (bytes.old, bytes.new) (len.old, len.new)) result handle.old.kept.log handle.new.kept.log }
+{
+    let Some(mut held) = handle.take(alloc) else {
+        return status::NO_HANDLE;
+    };
+    let answer = held.loose_line(name, stamp, bytes, len);
+    *handle = Handle::of(held);
+    answer
+}
+
+/// The file holds the whole text of an open log, which is this long.
+#[unsafe(no_mangle)]
+pub extern "C" fn carried_written(handle: &mut Handle, alloc: Global, len: u64) -> u32
+    ensures call { InCarried (CarriedWritten len) result handle.old.kept.log handle.new.kept.log }
+{
+    let Some(mut held) = handle.take(alloc) else {
+        return status::NO_HANDLE;
+    };
+    let answer = held.note_written(len);
+    *handle = Handle::of(held);
+    answer
+}
+
+/// What the file holds was made durable, by a sync of it.
+#[unsafe(no_mangle)]
+pub extern "C" fn carried_sync(handle: &mut Handle, alloc: Global) -> u32
+    ensures call { InCarried (Keeps Synced) result handle.old.kept.log handle.new.kept.log }
+{
+    let Some(mut held) = handle.take(alloc) else {
+        return status::NO_HANDLE;
+    };
+    let answer = held.sync();
+    *handle = Handle::of(held);
+    answer
+}
+
+/// Writes the text anew without what is marked dead.
+#[unsafe(no_mangle)]
+pub extern "C" fn carried_recompact(handle: &mut Handle, alloc: Global) -> u32
+    ensures call { InCarried (Anew Recompacted) result handle.old.kept.log handle.new.kept.log }
+{
+    let Some(mut held) = handle.take(alloc) else {
+        return status::NO_HANDLE;
+    };
+    let answer = held.recompact(alloc);
+    *handle = Handle::of(held);
+    answer
+}
+
+/// Writes the text anew with the mtimes that are marked.
+#[unsafe(no_mangle)]
+pub extern "C" fn carried_restat(handle: &mut Handle, alloc: Global, place: &mut usize) -> u32
+    ensures call { InCarried (Anew (Restatted (place.old, place.new))) result handle.old.kept.log handle.new.kept.log }
+{
+    let Some(mut held) = handle.take(alloc) else {
+        return status::NO_HANDLE;
+    };
+    let answer = held.restat(alloc, place);
+    *handle = Handle::of(held);
+    answer
+}
+
+/// Closes the log, and frees its table and what waits.
+#[unsafe(no_mangle)]
+pub extern "C" fn carried_close(handle: &mut Handle, alloc: Global) -> u32
+    ensures call { InCarried (Anew Stopped) result handle.old.kept.log handle.new.kept.log }
+{
+    let Some(mut held) = handle.take(alloc) else {
+        return status::NO_HANDLE;
+    };
+    let answer = held.stop(alloc);
+    *handle = Handle::of(held);
+    answer
+}
+
+/// Marks an output as dead.
+#[unsafe(no_mangle)]
+pub extern "C" fn carried_mark_dead(handle: &mut Handle, alloc: Global, name: &[u8]) -> u32
+    ensures call { InCarried (Keeps (DeadMarked name.now)) result handle.old.kept.log handle.new.kept.log }
+{
+    let Some(mut held) = handle.take(alloc) else {
+        return status::NO_HANDLE;
+    };
+    let answer = held.mark_dead(name);
+    *handle = Handle::of(held);
+    answer
+}
+
+/// Marks an output with a new mtime.
+#[unsafe(no_mangle)]
+pub extern "C" fn carried_mark_time(
+    handle: &mut Handle,
+    alloc: Global,
+    name: &[u8],
+    mtime: i64,
+) -> u32
+    ensures call { InCarried (Keeps (TimeMarked name.now mtime)) result handle.old.kept.log handle.new.kept.log }
+{
+    let Some(mut held) = handle.take(alloc) else {
+        return status::NO_HANDLE;
+    };
+    let answer = held.mark_time(alloc, name, mtime);
+    *handle = Handle::of(held);
+    answer
+}
+
+/// Forgets the marks.
+#[unsafe(no_mangle)]
+pub extern "C" fn carried_clear_marks(handle: &mut Handle, alloc: Global) -> u32
+    ensures call { InCarried (Keeps Cleared) result handle.old.kept.log handle.new.kept.log }
+{
+    let Some(mut held) = handle.take(alloc) else {
+        return status::NO_HANDLE;
+    };
+    let answer = held.clear_marks(alloc);
+    *handle = Handle::of(held);
+    answer
+}
+
+/// How long the text is, and as much of it from a place on as there is room for, where that wasn't carried.
+#[unsafe(no_mangle)]
+pub extern "C" fn carried_text(
+    handle: &mut Handle,
+    alloc: Global,
+    from: u64,
+    bytes: &mut [u8],
+    len: &mut u64,
+) -> u32
+    ensures call { InCarried (CarriedText from (bytes.old, bytes.new) (len.old, len.new)) result handle.old.kept.log handle.new.kept.log }
+{
+    let Some(mut held) = handle.take(alloc) else {
+        return status::NO_HANDLE;
+    };
+    let answer = held.text(from, bytes, len);
+    *handle = Handle::of(held);
+    answer
+}
+
+/// The first line, as much of it as there is room for.
+#[unsafe(no_mangle)]
+pub extern "C" fn carried_header(handle: &mut Handle, alloc: Global, bytes: &mut [u8]) -> u32
+    ensures call { InCarried (CarriedHeader (bytes.old, bytes.new)) result handle.old.kept.log handle.new.kept.log }
+{
+    let Some(mut held) = handle.take(alloc) else {
+        return status::NO_HANDLE;
+    };
+    let answer = held.header(bytes);
+    *handle = Handle::of(held);
+    answer
+}
+
+/// The line of the entry at a place.
+#[unsafe(no_mangle)]
+pub extern "C" fn carried_line(
+    handle: &mut Handle,
+    alloc: Global,
+    place: usize,
+    bytes: &mut [u8],
+    len: &mut usize,
+) -> u32
+    ensures call { InCarried (CarriedLine place (bytes.old, bytes.new) (len.old, len.new)) result handle.old.kept.log handle.new.kept.log }
+{
+    let Some(mut held) = handle.take(alloc) else {
+        return status::NO_HANDLE;
+    };
+    let answer = held.entry_line(place, bytes, len);
+    *handle = Handle::of(held);
+    answer
+}
