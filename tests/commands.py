@@ -208,7 +208,7 @@ BAD_NUMBER = b"nlog: bad number\n"
 ANEW = b"# ninja log v7\n0\t2\t1700000100000000000\ta\t1\n0\t1\t1700000000000000000\tb\t2\n"
 ANEW_BUILT = b"1\t1\t1\t1\t1\tagain\t1\n2\t1\t1\t2\t2\tagain\t0\n"
 ANEW_COUNTED = b"commands\t1\noutputs\t1\nwall\t2\ntotal\t2\nbusy\t2\nalone\t2\nparallel\t1.00\nslowest\t2\ta\n"
-ALL_ANEW = b"commands\t2\noutputs\t2\nwall\t3\ntotal\t3\nbusy\t3\nalone\t3\nparallel\t1.00\nslowest\t2\ta\nagain\t0\n"
+ALL_ANEW = b"commands\t2\noutputs\t2\nwall\t3\ntotal\t3\nbusy\t3\nalone\t3\nparallel\t1.00\nslowest\t2\ta\n"
 ONE_COUNTED = b"commands\t1\noutputs\t1\nwall\t1\ntotal\t1\nbusy\t1\nalone\t1\nparallel\t1.00\nslowest\t1\t%b\n"
 # What `compare` prints but for its lists: whether hashes were compared, and of each class the count, the difference and both times.
 COMPARED = b"hashes\t%bcompared\n" + b"".join(b"total\t%b\t%%b\n" % it for it in (b"new", b"gone", b"changed", b"slower", b"faster", b"unfinished", b"same"))

@@ -392,7 +392,7 @@ def summary_of(text, most=10, number=None, of_all=False, rule="extension", versi
     told = [row for it in asked for row in told_commands(it.jobs)]
     counts = (commands, outputs, wall, total, busy, alone, parallel, *slowest_of(told))
     eight = b"commands\t%d\noutputs\t%d\nwall\t%d\ntotal\t%d\nbusy\t%d\nalone\t%d\nparallel\t%s\nslowest\t%d\t%s\n" % counts
-    again = b"again\t%d\n" % max(it.taken or 0 for it in asked) if is_found_again(asked) else b""
+    again = b"again\t%d\n" % max(it.taken or 0 for it in asked) if is_found_again(asked) and not of_all else b""
     slowest = ranked_of(b"by-time", 0, told, most) + ranked_of(b"by-weight", 1, told, most)
     kinds = kinds_of(rule, told)
     return eight + again + unfinished + slowest + ranked_kinds(b"kinds-by-time", 1, kinds, most) + ranked_kinds(b"kinds-by-weight", 2, kinds, most)

@@ -134,16 +134,16 @@ SUMMED_ALL = {
     "version 4": (2, 2, 2, 2, 2, 2, b"1.00", 1, b"a"),
     # `c`, `b` and the second `a`, each in a build of its own.
     "a later build": (3, 3, 175, 175, 175, 175, b"1.00", 90, b"c"),
-    "written anew": (2, 2, 90, 90, 90, 90, b"1.00", 50, b"a", 0),
+    "written anew": (2, 2, 90, 90, 90, 90, b"1.00", 50, b"a"),
     # Its second build has no output left.
-    "written anew and added to": (2, 2, 60, 60, 60, 60, b"1.00", 40, b"b", 0),
-    "taking turns": (4, 4, 180, 220, 180, 140, b"1.22", 100, b"a", 0),
+    "written anew and added to": (2, 2, 60, 60, 60, 60, b"1.00", 40, b"b"),
+    "taking turns": (4, 4, 180, 220, 180, 140, b"1.22", 100, b"a"),
     "the manifest last": (2, 2, 70, 70, 70, 70, b"1.00", 40, b"a"),
     # Two of its last build but one, from 8 to 14, and the five of its last.
     "many builds": (7, 7, 15, 35, 15, 4, b"2.33", 5, b"o1"),
 }
 # In version 6 and 7 one command alone of the first build runs up to -5, and from 1 to 2; `early` and `none` then run up to the end.
-SUMMED_ALL_LATE = {"odd numbers": (6, 6, 6442450942, 8589934581, 6442450936, 4294967291, b"1.33", 2147483647, b"last", 0)}
+SUMMED_ALL_LATE = {"odd numbers": (6, 6, 6442450942, 8589934581, 6442450936, 4294967291, b"1.33", 2147483647, b"last")}
 # How many bars `picture` has to draw of each, by hand, and how many for commands that are too short: those of no time, or of less than half a
 # pixel of 1,440.
 DRAWN = {

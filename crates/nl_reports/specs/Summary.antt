@@ -15,6 +15,7 @@ use Rattle.nl_reports.specs.declared.rows.Row.{Row}
 use Rattle.nl_reports.specs.Sweep.{alone_time, busy_time}
 use Rattle.nl_reports.specs.declared.choice.Choice.{Choice}
 use Rattle.nl_reports.specs.declared.choice.Scope.{Scope}
+use Rattle.nl_reports.specs.declared.choice.Scope.TheVariants.{Last, Numbered, All}
 use Rattle.nl_reports.specs.declared.lists.Lists.{Lists}
 use Rattle.nl_reports.specs.declared.rows.Listed.TheVariants.{Commands, Kinds}
 use Rattle.nl_reports.specs.declared.rows.Rank.TheVariants.{Time, Weight}
@@ -99,6 +100,12 @@ abbrev pub most_taken : Option ℕ → List Build → Option ℕ
 most_taken most [] = most
 most_taken most (b ∷ bs) = most_taken (more_taken most b.how) bs
 
+-- what later ones took of all builds isn't lacking: it is told of there
+abbrev pub again_in : Scope → List Build → Option ℕ
+again_in All bs = None
+again_in Last bs = most_taken None bs
+again_in (Numbered number) bs = most_taken None bs
+
 -- of one of the builds that are told of
 abbrev pub taken_in : Scope → BuildsTold → Option ℕ
 taken_in scope t = option_and_then (λ (c : Choice). most_taken None (between (c.first - 1) c.last t.builds)) (chosen scope t)
@@ -127,15 +134,15 @@ text_of lists unfinished ts told taken = number_lines ts told ++ (slowest_line (
     ++ (again_line taken ++ (unfinished_line unfinished ++ lists_text lists told)))
 
 -- of these, of which the first has this number; where there is none, it is said alone how many outputs wait
-abbrev pub builds_told : Lists → ℕ → BuildsTold → ℕ → List Build → List ℕ
-builds_told lists unfinished t number [] = unfinished_line unfinished
-builds_told lists unfinished t number (b ∷ bs) =
-    text_of lists unfinished (totals_from no_totals t number (b ∷ bs)) (rows_from t number (b ∷ bs)) (most_taken None (b ∷ bs))
+abbrev pub builds_told : Scope → Lists → ℕ → BuildsTold → ℕ → List Build → List ℕ
+builds_told scope lists unfinished t number [] = unfinished_line unfinished
+builds_told scope lists unfinished t number (b ∷ bs) =
+    text_of lists unfinished (totals_from no_totals t number (b ∷ bs)) (rows_from t number (b ∷ bs)) (again_in scope (b ∷ bs))
 
 -- of the builds that are told of; and where there are fewer than the number that is asked for, how many there are
-abbrev pub chosen_text : Option Choice → Lists → ℕ → BuildsTold → List ℕ
-chosen_text None lists unfinished t = count_line (codes "builds") (length t.builds) ++ unfinished_line unfinished
-chosen_text (Some c) lists unfinished t = builds_told lists unfinished t c.first (between (c.first - 1) c.last t.builds)
+abbrev pub chosen_text : Scope → Option Choice → Lists → ℕ → BuildsTold → List ℕ
+chosen_text scope None lists unfinished t = count_line (codes "builds") (length t.builds) ++ unfinished_line unfinished
+chosen_text scope (Some c) lists unfinished t = builds_told scope lists unfinished t c.first (between (c.first - 1) c.last t.builds)
 
 abbrev pub summary_text : Scope → Lists → ℕ → BuildsTold → List ℕ
-summary_text scope lists unfinished t = chosen_text (chosen scope t) lists unfinished t
+summary_text scope lists unfinished t = chosen_text scope (chosen scope t) lists unfinished t

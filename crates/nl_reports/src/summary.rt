@@ -6,7 +6,7 @@ ghost use Rattle.nl_reports.specs.Kinds.{IsOfOne};
 ghost use Rattle.nl_reports.specs.Numbers.{IsSmall, spans_of};
 ghost use Rattle.nl_reports.specs.Rows.{Told, falling, rank_told, told_job, told_jobs, told_row};
 ghost use Rattle.nl_reports.specs.Shares.{AreSharesOf};
-ghost use Rattle.nl_reports.specs.Summary.{AreTotalsOf, again_line, chosen_text, count_line, first_of, lists_text, more_taken, most_taken, no_totals, number_lines, rows_from, slowest_line, so_far, summary_text, taken_in, total_of, totals_from, unfinished_line, with_build, with_numbers};
+ghost use Rattle.nl_reports.specs.Summary.{AreTotalsOf, again_in, again_line, chosen_text, count_line, first_of, lists_text, more_taken, most_taken, no_totals, number_lines, rows_from, slowest_line, so_far, summary_text, taken_in, total_of, totals_from, unfinished_line, with_build, with_numbers};
 ghost use Rattle.nl_reports.specs.declared.rows.Rank.TheVariants.{Time};
 ghost use Rattle.nl_reports.specs.declared.span.Span.{Span};
 
@@ -45,7 +45,7 @@ pub fn summary_lines(
 {
     let mut lines = Vec::new(alloc);
     match chosen(scope, from) {
-        Some(choice) => append_chosen(alloc, choice, lists, unfinished, from, &mut lines)?,
+        Some(choice) => append_chosen(alloc, scope, choice, lists, unfinished, from, &mut lines)?,
         None => {
             append_count(alloc, "builds", from.builds.len(), &mut lines)?;
             append_unfinished(alloc, unfinished, &mut lines)?;
@@ -57,6 +57,7 @@ pub fn summary_lines(
 // What is told of these builds.
 fn append_chosen(
     alloc: Global,
+    scope: Scope,
     choice: Choice,
     lists: Lists,
     unfinished: usize,
@@ -65,7 +66,7 @@ fn append_chosen(
 ) -> Result<(), AllocError>
     requires small { choice.first < 2 ^ 63 }
     ensures items { OnOk result
-        (lines.new.items ≡ lines.old.items ++ chosen_text (Some choice) lists unfinished (told from.now)) }
+        (lines.new.items ≡ lines.old.items ++ chosen_text scope (Some choice) lists unfinished (told from.now)) }
 {
     let told = between(
         choice.first.saturating_sub(1),
@@ -79,7 +80,7 @@ fn append_chosen(
     let rows = all.rows.as_slice();
     append_totals(alloc, &all.totals, rows, lines)?;
     append_slowest(alloc, rows, lines)?;
-    append_again(alloc, most_taken(told), lines)?;
+    append_again(alloc, again_in(scope, told), lines)?;
     append_unfinished(alloc, unfinished, lines)?;
     append_lists(alloc, lists, rows, lines)
 }
@@ -270,6 +271,16 @@ fn slower_of<'a>(before: Option<Row<'a>>, row: &Row<'a>) -> Row<'a>
         return first;
     }
     *row
+}
+
+// How many outputs later builds may have taken at most of one of these; of all builds nothing is lacking.
+fn again_in(scope: Scope, builds: &[Build]) -> Option<usize>
+    ensures { result ≡ again_in scope builds.now }
+{
+    match scope {
+        Scope::All => None,
+        Scope::Last | Scope::Numbered(_) => most_taken(builds),
+    }
 }
 
 /// How many outputs later builds may have taken at most of one of the builds that are told of, if one was found again.

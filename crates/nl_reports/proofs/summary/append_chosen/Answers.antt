@@ -19,7 +19,7 @@ returns c =
     let ts = c.in_ok-all.all.totals in
     let rows = c.as_slice-rows.ensures.value in
     let us = map told_row c.as_slice-rows.result.now in
-    let taken = c.most_taken.result in
+    let taken = c.again_in.result in
     let slow = slowest_line (first_of (falling (rank_told Time) us)) in
     let last = unfinished_line c.args.unfinished in
     let chosen : bs ≡ between (first - 1) c.args.choice.last c.args.from.now.builds.items =
@@ -34,7 +34,7 @@ returns c =
           ∙ parts_in_order old (number_lines ts us) slow (again_line taken) last (lists_text c.args.lists us)
           ∙ ap (λ (l : List ℕ). old ++ l) (text_parts c.args.lists c.args.unfinished ts us taken) in
           whole
-          ∙ (λ i. old ++ text_of c.args.lists c.args.unfinished (c.in_ok-all.ensures.totals i) ((ap (map told_row) rows ∙ c.in_ok-all.ensures.rows) i) (c.most_taken.ensures i))
-          ∙ ap (λ (l : List ℕ). old ++ l) (sym (some_told c.args.lists c.args.unfinished t first bs (λ none. true≢false (sym (eq-eqb _ 0 none) ∙ sym c.is_empty.ensures ∙ c.if-is_empty.false))))
-          ∙ ap (λ (l : List Build). old ++ builds_told c.args.lists c.args.unfinished t first l) chosen) c.append_lists.ensures.items;
+          ∙ (λ i. old ++ text_of c.args.lists c.args.unfinished (c.in_ok-all.ensures.totals i) ((ap (map told_row) rows ∙ c.in_ok-all.ensures.rows) i) (c.again_in.ensures i))
+          ∙ ap (λ (l : List ℕ). old ++ l) (sym (some_told c.args.scope c.args.lists c.args.unfinished t first bs (λ none. true≢false (sym (eq-eqb _ 0 none) ∙ sym c.is_empty.ensures ∙ c.if-is_empty.false))))
+          ∙ ap (λ (l : List Build). old ++ builds_told c.args.scope c.args.lists c.args.unfinished t first l) chosen) c.append_lists.ensures.items;
     }
