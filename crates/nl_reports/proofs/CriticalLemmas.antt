@@ -6,7 +6,7 @@ use Rattle.std.proofs.lemmas.List.Concat.{flat_map-append}
 use Rattle.std.specs.Global.{Vec}
 use Rattle.std.specs.Map.{lookup}
 use Rattle.nl_fields.specs.declared.entry.Entry.{Entry}
-use Rattle.nl_reports.specs.Critical.{IsCritical, IsCriticalText, lacking_line, any_named, is_named, lacking}
+use Rattle.nl_reports.specs.Critical.{IsCritical, IsCriticalText, IsFoundPath, IsPathText, Ran, told_path, lacking_line, any_named, is_named, lacking}
 use Rattle.nl_reports.specs.GraphText.{HeldNode, node_of, nodes_of}
 use Rattle.nl_reports.specs.Jobs.{Job, seen}
 use Rattle.nl_reports.specs.Lasting.{is_among}
@@ -19,6 +19,15 @@ use Rattle.nl_reports.proofs.GraphLemmas.{Name, same}
 pub critical_told : (g : Graph) (js : List Job) (text : Vec ℕ) → IsCriticalText g js text.items → IsCritical g js (Some text)
 critical_told g [] text is = absurd (is.some refl)
 critical_told g (j ∷ js) text is = is
+
+-- the text of a path that was found
+pub path_told : (g : Graph) (js : List Job) (length : ℕ) (rans : List Ran) (text : List ℕ) → IsFoundPath g js length rans
+    → text ≡ told_path length rans → IsPathText g js text
+path_told g js length rans text found told = record {
+  path = found.path;
+  longest = found.longest;
+  is = told ∙ (λ i. told_path (found.length_is i) (found.rans_are i));
+}
 
 -- what a graph lacks is appended, where it lacks any
 pub lacking_told : (count time : ℕ) (old line new : List ℕ) → 0 < count

@@ -1,6 +1,6 @@
 -- How little is left over where shares don't come out even.
 use Rattle.std.proofs.Common.{◌≡◌, ◌∙◌, ℕ, zero, suc, ◌-◌, ◌*◌, ◌≤◌, false, List, [], ◌∷◌}
-use Rattle.std.proofs.Common.{refl, arith, inl, inr}
+use Rattle.std.proofs.Common.{refl, sym, arith, inl, inr}
 use Rattle.std.specs.Prelude.{if◌then◌else◌}
 use Rattle.std.specs.List.{All, sum_by}
 use Rattle.std.proofs.lemmas.Bool.{cases_lt}
@@ -12,7 +12,7 @@ use Rattle.nl_reports.specs.Sweep.{before, runs_at, running, left_of, last_momen
 use Rattle.nl_reports.proofs.SweepLemmas.{before-same, before-swap, before-within, counted}
 use Rattle.nl_reports.proofs.SharesLemmas.{before-beyond, below_last}
 
-before-below : (f g : ℕ → ℕ) (n : ℕ) → ((t : ℕ) → f t ≤ g t) → before f n ≤ before g n
+pub before-below : (f g : ℕ → ℕ) (n : ℕ) → ((t : ℕ) → f t ≤ g t) → before f n ≤ before g n
 before-below f g zero under = omega arith
 before-below f g (suc n) under = omega (arith, before-below f g n under, under n)
 
@@ -52,16 +52,19 @@ times (c ∷ cs) n all =
       sum_by-cons (λ (d : Span). d.ended - d.began) c cs,
     )
 
+-- their times are how many run at each moment
+pub total_is : (cs : List Span) → sum_by (λ c. c.ended - c.began) cs ≡ before (λ t. running cs t * 1) (last_moment cs)
+total_is cs =
+    let n = last_moment cs in
+    sym (times cs n (below_last cs 0)) ∙ before-swap (λ c t. if runs_at t c then 1 else 0) cs n
+    ∙ before-same (λ t. sum_by (λ c. if runs_at t c then 1 else 0) cs) (λ t. running cs t * 1) n (λ t. counted (runs_at t) 1 cs)
+
 -- no more parts than the commands' times have milliseconds
 pub little_left : (cs : List Span) → left_over cs ≤ sum_by (λ c. c.ended - c.began) cs
 little_left cs =
     let n = last_moment cs in
-    let swapped : sum_by (λ c. before (λ t. if runs_at t c then 1 else 0) n) cs ≡ before (λ t. running cs t * 1) n =
-    before-swap (λ c t. if runs_at t c then 1 else 0) cs n
-    ∙ before-same (λ t. sum_by (λ c. if runs_at t c then 1 else 0) cs) (λ t. running cs t * 1) n (λ t. counted (runs_at t) 1 cs) in
     omega (
       arith,
       before-below (λ t. left_of (running cs t)) (λ t. running cs t * 1) n (λ t. omega (arith, left_of_below (running cs t))),
-      swapped,
-      times cs n (below_last cs 0),
+      total_is cs,
     )

@@ -44,3 +44,5 @@ mod DrawLemmas
 mod ReadLemmas
 mod FitLemmas
 mod SizeLemmas
+mod PlanLemmas
+mod GainLemmas

@@ -30,14 +30,19 @@ module _ (edges : List Edge) (w far : List ℕ → ℕ) (bounded : All (IsBounde
       let first : sum_by w (a ∷ b ∷ path) ≡ w a + sum_by w (b ∷ path) = sum_by-cons w a (b ∷ path) in
       omega (arith, first, from_bound a b is.0, reach_bounds b path is.1 (to_bound a b is.0))
 
+  -- no path is longer than what bounds how far each number reaches
+  pub path_bound : (most : ℕ) → ((id : List ℕ) → w id ≤ far id) → ((id : List ℕ) → far id ≤ most)
+      → (path : List (List ℕ)) → IsPath edges path → sum_by w path ≤ most
+  path_bound most light farthest [] along = omega arith
+  path_bound most light farthest (a ∷ path) along = omega (arith, farthest a, reach_bounds a path along (light a))
+
   -- a path that is as long as any number reaches is a longest one
   pub longest_by : (most : ℕ) → ((id : List ℕ) → w id ≤ far id) → ((id : List ℕ) → far id ≤ most)
       → (path : List (List ℕ)) → IsPath edges path → sum_by w path ≡ most → IsLongest edges w path
-  longest_by most light farthest path is length_is = record { is_path = is; longest = longest }
-    where
-      longest : (other : List (List ℕ)) → IsPath edges other → sum_by w other ≤ sum_by w path
-      longest [] along = omega arith
-      longest (a ∷ other) along = omega (arith, length_is, farthest a, reach_bounds a other along (light a))
+  longest_by most light farthest path is length_is = record {
+    is_path = is;
+    longest = λ other along. omega (arith, length_is, path_bound most light farthest other along);
+  }
 
 -- a path so far goes on by an edge
 pub path_on : (edges : List Edge) (front : List (List ℕ)) (a b : List ℕ) → Leads edges a b

@@ -1,24 +1,30 @@
 -- What is guessed of a graph's places, seen by its numbers.
-use Rattle.std.proofs.Common.{◌≡◌, ◌<◌, ◌≤◌, ◌∙◌, ◌+◌, ◌⊎◌, append-nil, append_assoc, ℕ, zero, suc, true, false, List, [], ◌∷◌, ◌++◌, Option, None, Some, inl, inr, ap, arith, bytes_eq, codes, cond, decimal, get_or, length, map, option_and_then, option_map, refl, subst, sym, take}
+use Rattle.std.proofs.Common.{◌≡◌, ◌<◌, ◌≤◌, ◌∙◌, ◌+◌, ◌-◌, ◌⊎◌, append-nil, append_assoc, ℕ, zero, suc, true, false, List, [], ◌∷◌, ◌++◌, Option, None, Some, inl, inr, ap, arith, bytes_eq, codes, cond, decimal, get_or, length, map, option_and_then, option_map, refl, subst, sym, take}
 use Rattle.std.proofs.lemmas.Bool.{cases_Bool}
 use Rattle.std.proofs.lemmas.Cmp.{nat_list_eq_equiv}
 use Rattle.std.proofs.lemmas.List.{get_or-map, length-map, map-append, take_more}
 use Rattle.std.proofs.lemmas.List.Concat.{flat_map-append}
 use Rattle.std.proofs.lemmas.List.Elements.{All-map, All-weaker}
 use Rattle.std.proofs.lemmas.Map.Keys.{IsDistinct-head, IsDistinct-tail}
-use Rattle.std.specs.Prelude.{nat_lt}
+use Rattle.std.specs.Borrow.{Bor}
+use Rattle.std.specs.Global.{Vec}
+use Rattle.std.specs.Prelude.{IfSome}
 use Rattle.std.specs.Cmp.Lexicographic.{bytes_decides}
 use Rattle.std.specs.List.{All, AllByRecursion, Contains, IsDistinct, flat_map, sum_by}
 use Rattle.std.specs.Map.{keys_of, lookup}
-use Rattle.nl_reports.specs.Critical.{Ran, ran_at, ran_line, ran_named, ran_time, told_moment, told_ran, weight}
+use Rattle.nl_reports.specs.Critical.{Ran, ran_at, ran_line, ran_named, ran_time, told_moment, took_time, weight}
 use Rattle.nl_reports.specs.GraphText.{HeldNode, ids_of, nodes_of, seen_edge, seen_graph}
 use Rattle.nl_reports.specs.Jobs.{Job}
-use Rattle.nl_reports.specs.Paths.{IsLongest, IsPath, Leads}
-use Rattle.nl_reports.specs.Reaches.{AreOf, IsFarthest, IsFollowed, IsTight, behind_at, far_at, ran_in, ran_named_in, ran_seen, rans_seen}
+use Rattle.nl_reports.specs.Paths.{Edge, IsLongest, IsPath, Leads}
+use Rattle.nl_reports.specs.Plans.{HavePlan, IsPlan, kept}
+use Rattle.nl_reports.specs.Rows.{spans}
+use Rattle.nl_reports.specs.Reaches.{AreOf, IsBegun, IsFarthest, IsFollowed, IsTight, behind_at, far_at, ran_in, ran_named_in, ran_seen, rans_seen}
 use Rattle.nl_reports.specs.Spans.{time_of}
+use Rattle.nl_reports.specs.Sweep.{last_moment, running}
 use Rattle.nl_reports.specs.declared.critical.Ran.{Ran as HeldRan}
 use Rattle.nl_reports.specs.declared.critical.Reaches.{Reaches}
 use Rattle.nl_reports.specs.declared.graph.Edge.{Edge as HeldEdge}
+use Rattle.nl_reports.specs.declared.graph.NinjaGraph.{NinjaGraph}
 use Rattle.nl_reports.proofs.GraphLemmas.{Name, named, of_name, same}
 use Rattle.nl_reports.proofs.OrderLemmas.{edge_among}
 use Rattle.nl_reports.proofs.PathsLemmas.{IsBounded, longest_by, path_on, sum_on}
@@ -125,6 +131,66 @@ module _ (ps : List HeldNode) (js : List Job) (r : Reaches) (distinct : IsDistin
       (All-weaker (IsTight r) (λ e. IsBounded wf far (seen_edge (ids_of ps) e)) tight hs are_tight))
       most light (λ id. far_most r most ps 0 id (λ k inside. under k (omega (arith, inside, count_is ps js r are))))
 
+  -- a plan is one, if no edge is too short for it, and commands begin as it says
+  pub planned : (hs : List HeldEdge) (ks : List Job) (n wall : ℕ) → map kept js ≡ map kept ks → ((t : ℕ) → running (spans js) t ≤ n)
+      → wall ≡ last_moment (spans js) → All (IsTight r) hs → ((k : ℕ) → k < length r.ran.items → IsBegun r wall k)
+      → IsPlan (record { nodes = nodes_of ps; edges = map (seen_edge (ids_of ps)) hs }) ks n wall js
+  unfolding far
+  planned hs ks n wall same few last are_tight begun =
+      let wf = weight (nodes_of ps) js in
+      let edges = map (seen_edge (ids_of ps)) hs in
+      let count = count_is ps js r are in
+      let under : (id : List ℕ) → far id ≤ wall = λ id. far_most r wall ps 0 id (λ k inside. (begun k (omega (arith, inside, count))).within) in
+      let bounded : All (IsBounded wf far) edges = All-map (IsBounded wf far) (seen_edge (ids_of ps)) hs
+      (All-weaker (IsTight r) (λ e. IsBounded wf far (seen_edge (ids_of ps) e)) tight hs are_tight) in
+      record {
+        same = same;
+        few = few;
+        last = last;
+        begun = λ id. wall - far id;
+        at = λ id. elim (key_or_none ps id) [
+          | inl none ↦
+              let P : Option Ran → Type 0 = λ o. IfSome o (λ (x : Ran). wall - far id ≡ x.span.began) in
+              subst P (sym (nobody id none)) tt
+          | inr found ↦
+              let P : List ℕ → Type 0 = λ x. IfSome (ran_at (nodes_of ps) js x) (λ (y : Ran). wall - far x ≡ y.span.began) in
+              let Q : Option Ran → Type 0 = λ o. IfSome o (λ (y : Ran). wall - far (get_or (ids_of ps) found.0 []) ≡ y.span.began) in
+              let there : found.0 < length r.ran.items = omega (arith, found.1, count) in
+              subst P found.2 (subst Q (ran_is ps js r are found.0 found.1)
+              (by (ran_in r found.0) (far_at r found.0) (far (get_or (ids_of ps) found.0 [])) (far_is found.0 found.1) (begun found.0 there).at))
+        ];
+        waits = All-weaker (IsBounded wf far) (λ (e : Edge). (wall - far e.from) + wf e.from ≤ wall - far e.to)
+            (λ e is. omega (arith, is.from, under e.from)) edges bounded;
+        within = λ id. omega (arith, light id, under id);
+      }
+    where
+      nobody : (id : List ℕ) → lookup (λ (k : Name). bytes_eq id k.now) ps ≡ None → ran_at (nodes_of ps) js id ≡ None
+      nobody id none =
+          ap (λ (o : Option (List ℕ)). option_and_then (ran_named js) o) (named ps distinct id ∙ ap (option_and_then of_name) none)
+
+      by : (o : Option Ran) (a b : ℕ) → b ≡ a → IfSome o (λ (y : Ran). a + y.span.began ≡ wall) → IfSome o (λ (y : Ran). wall - b ≡ y.span.began)
+      by None a b same is = tt
+      by (Some y) a b same is = omega (arith, is, same)
+
+-- what ran doesn't go by how far it is said to be
+pub are_still : (g : NinjaGraph) (js : List Job) (r s : Reaches) → AreOf g js r → s.graph ≡ r.graph → s.ran ≡ r.ran → AreOf g js s
+are_still g js r s are graph ran = record {
+  graph = ap (λ (x : Bor NinjaGraph). x.now) graph ∙ are.graph;
+  distinct = are.distinct;
+  ran = ap (λ (v : Vec (Option HeldRan)). rans_seen v.items) ran ∙ are.ran;
+}
+
+-- what holds by the graph of these holds by that graph
+pub by_graph : (g : NinjaGraph) (js : List Job) (r : Reaches) → AreOf g js r → (P : NinjaGraph → Type 0) → (AreOf r.graph.now js r → P r.graph.now) → P g
+by_graph g js r are P by = subst P are.graph (by (subst (λ (x : NinjaGraph). AreOf x js r) (sym are.graph) are))
+
+pub have_plan : (g : NinjaGraph) (js ks : List Job) (n wall : ℕ) (r : Reaches) → AreOf g js r → map kept js ≡ map kept ks
+    → ((t : ℕ) → running (spans js) t ≤ n) → wall ≡ last_moment (spans js) → All (IsTight r) r.graph.now.edges.items
+    → ((k : ℕ) → k < length r.ran.items → IsBegun r wall k) → HavePlan (seen_graph g) ks n wall
+have_plan g js ks n wall r are same few last are_tight begun =
+    let within : All (IsTight r) g.edges.items = subst (λ (x : NinjaGraph). All (IsTight r) x.edges.items) are.graph are_tight in
+    record { plan = js; is = planned g.nodes.entries js r are.distinct are.ran g.edges.items ks n wall same few last within begun }
+
 -- what a key has is its own
 own_value : (ps : List HeldNode) (i : ℕ) (d : HeldNode) → i < length ps → IsDistinct same (keys_of ps)
     → lookup (λ (k : Name). bytes_eq (get_or (ids_of ps) i []) k.now) ps ≡ Some (get_or ps i d).1
@@ -176,26 +242,26 @@ ran_none (h ∷ hs) (suc i) past = ran_none hs i (omega (arith, past))
 abbrev pub id_at : Reaches → ℕ → List ℕ
 id_at r place = get_or (ids_of r.graph.now.nodes.entries) place []
 
-abbrev pub told_at : Reaches → List Job → List ℕ → List ℕ
-told_at r js id = told_ran (ran_at (nodes_of r.graph.now.nodes.entries) js id)
+abbrev pub rans_at : Reaches → List Job → List ℕ → List Ran
+rans_at r js id = took_time (ran_at (nodes_of r.graph.now.nodes.entries) js id)
 
 abbrev pub time_at : Reaches → List Job → List ℕ → ℕ
 time_at r js id = weight (nodes_of r.graph.now.nodes.entries) js id
 
--- it goes on from a place, is as long as it is said to be but for what is from there on, and its lines are told
-pub record SoFar (js : List Job) (r : Reaches) (start place : ℕ) (old new : List ℕ) : Type 0 where
+-- it goes on from a place, is as long as it is said to be but for what is from there on, and has these commands
+pub record SoFar (js : List Job) (r : Reaches) (start place : ℕ) (old new : List Ran) : Type 0 where
   pub path : List (List ℕ)
   pub joins : (tail : List (List ℕ)) → IsPath (seen_graph r.graph.now).edges (id_at r place ∷ tail)
       → IsPath (seen_graph r.graph.now).edges (path ++ id_at r place ∷ tail)
   pub long : sum_by (time_at r js) path + far_at r place ≡ far_at r start
-  pub told : new ≡ old ++ flat_map (told_at r js) path
+  pub rans_are : new ≡ old ++ flat_map (rans_at r js) path
   pub ran : ran_in r place ≡ ran_at (nodes_of r.graph.now.nodes.entries) js (id_at r place)
 
-pub so_far_as : (js : List Job) (r : Reaches) (start n m : ℕ) (old a b : List ℕ) → n ≡ m → a ≡ b → SoFar js r start m old b → SoFar js r start n old a
-so_far_as js r start n m old a b place text so_far =
+pub so_far_as : (js : List Job) (r : Reaches) (start n m : ℕ) (old a b : List Ran) → n ≡ m → a ≡ b → SoFar js r start m old b → SoFar js r start n old a
+so_far_as js r start n m old a b place same so_far =
     let P : ℕ → Type 0 = λ k. SoFar js r start k old a in
-    let Q : List ℕ → Type 0 = λ t. SoFar js r start m old t in
-    subst P (sym place) (subst Q (sym text) so_far)
+    let Q : List Ran → Type 0 = λ t. SoFar js r start m old t in
+    subst P (sym place) (subst Q (sym same) so_far)
 
 ran_start : (js : List Job) (r : Reaches) (ps : List HeldNode) (start : ℕ) → rans_seen r.ran.items ≡ map (ran_at (nodes_of ps) js) (ids_of ps)
     → (0 < length r.ran.items → start < length r.ran.items) → ran_in r start ≡ ran_at (nodes_of ps) js (get_or (ids_of ps) start [])
@@ -204,18 +270,18 @@ ran_start js r (p ∷ ps) start are within =
     let count = count_is (p ∷ ps) js r are in
     ran_is (p ∷ ps) js r are start (omega (arith, count, within (omega (arith, count))))
 
-pub path_begun : (js : List Job) (r : Reaches) (start : ℕ) (text : List ℕ) → AreOf r.graph.now js r → IsFarthest r start
-    → SoFar js r start start text text
-path_begun js r start text are is = record {
+pub path_begun : (js : List Job) (r : Reaches) (start : ℕ) (rans : List Ran) → AreOf r.graph.now js r → IsFarthest r start
+    → SoFar js r start start rans rans
+path_begun js r start rans are is = record {
   path = [];
   joins = λ tail along. along;
   long = omega arith;
-  told = sym (append-nil text);
+  rans_are = sym (append-nil rans);
   ran = ran_start js r r.graph.now.nodes.entries start are.ran is.within;
 }
 
-module _ (js : List Job) (r : Reaches) (start place : ℕ) (old mid new : List ℕ) (so_far : SoFar js r start place old mid)
-    (line : new ≡ mid ++ told_ran (ran_in r place)) where
+module _ (js : List Job) (r : Reaches) (start place : ℕ) (old mid new : List Ran) (so_far : SoFar js r start place old mid)
+    (more : new ≡ mid ++ took_time (ran_in r place)) where
   path_now : List (List ℕ)
   path_now = so_far.path ++ id_at r place ∷ []
 
@@ -225,14 +291,14 @@ module _ (js : List Job) (r : Reaches) (start place : ℕ) (old mid new : List �
       let time : time_at r js (id_at r place) ≡ ran_time (ran_in r place) = ap ran_time (sym so_far.ran) in
       omega (arith, time, sum_on (time_at r js) so_far.path (id_at r place))
 
-  told_now : new ≡ old ++ flat_map (told_at r js) path_now
+  rans_now : new ≡ old ++ flat_map (rans_at r js) path_now
   unfolding path_now
-  told_now =
-      let told = flat_map (told_at r js) so_far.path in
-      let last : told_ran (ran_in r place) ≡ told_at r js (id_at r place) ++ [] = ap told_ran so_far.ran
-      ∙ sym (append-nil (told_at r js (id_at r place))) in
-      line ∙ (λ i. so_far.told i ++ last i) ∙ append_assoc old told (flat_map (told_at r js) (id_at r place ∷ []))
-      ∙ ap (λ (l : List ℕ). old ++ l) (sym (flat_map-append (told_at r js) so_far.path (id_at r place ∷ [])))
+  rans_now =
+      let rans = flat_map (rans_at r js) so_far.path in
+      let last : took_time (ran_in r place) ≡ rans_at r js (id_at r place) ++ [] = ap took_time so_far.ran
+      ∙ sym (append-nil (rans_at r js (id_at r place))) in
+      more ∙ (λ i. so_far.rans_are i ++ last i) ∙ append_assoc old rans (flat_map (rans_at r js) (id_at r place ∷ []))
+      ∙ ap (λ (l : List Ran). old ++ l) (sym (flat_map-append (rans_at r js) so_far.path (id_at r place ∷ [])))
 
   pub path_more : (e : HeldEdge) → Contains r.graph.now.edges.items e → AreOf r.graph.now js r → e.from ≡ place → e.to < length r.ran.items
       → far_at r e.to ≡ behind_at r place → SoFar js r start e.to old new
@@ -251,7 +317,7 @@ module _ (js : List Job) (r : Reaches) (start place : ℕ) (old mid new : List �
         path = path_now;
         joins = path_on (map (seen_edge ids) edges) so_far.path (id_at r place) (id_at r e.to) leads so_far.joins;
         long = omega (arith, long_now, so_far.long, far);
-        told = told_now;
+        rans_are = rans_now;
         ran = ran_is r.graph.now.nodes.entries js r are.ran e.to (omega (arith, to, count));
       }
 
@@ -261,7 +327,7 @@ module _ (js : List Job) (r : Reaches) (start place : ℕ) (old mid new : List �
     path = path_now;
     is_path = so_far.joins [] tt;
     length_is = omega (arith, long_now, so_far.long, none);
-    told = told_now;
+    rans_are = rans_now;
   }
 
 -- ---- a line
@@ -271,13 +337,10 @@ abbrev pub line_head : ℕ → List ℕ → List ℕ → List ℕ
 line_head time began ended = codes "on-path\t" ++ decimal time ++ codes "\t" ++ began ++ codes "\t" ++ ended ++ codes "\t"
 
 -- by its parts: that, an output and a newline
-pub ran_appended : (r : Ran) (old key a b new : List ℕ) → nat_lt 0 (time_of r.span) ≡ true
-    → key ≡ line_head (time_of r.span) (told_moment r.span.began) (told_moment r.span.ended) → a ≡ old ++ key → b ≡ a ++ r.name
-    → new ≡ b ++ codes "\n"
-    → new ≡ old ++ told_ran (Some r)
-ran_appended r old key a b new long is e1 e2 e3 =
+pub ran_appended : (r : Ran) (old key a b new : List ℕ) → key ≡ line_head (time_of r.span) (told_moment r.span.began) (told_moment r.span.ended)
+    → a ≡ old ++ key → b ≡ a ++ r.name → new ≡ b ++ codes "\n" → new ≡ old ++ ran_line r
+ran_appended r old key a b new is e1 e2 e3 =
     let joined : ((old ++ line_head (time_of r.span) (told_moment r.span.began) (told_moment r.span.ended)) ++ r.name) ++ codes "\n"
     ≡ old ++ ran_line r =
     simp append_assoc refl in
     e3 ∙ ap (λ (l : List ℕ). l ++ codes "\n") (e2 ∙ ap (λ (l : List ℕ). l ++ r.name) (e1 ∙ ap (λ (l : List ℕ). old ++ l) is)) ∙ joined
-    ∙ ap (λ b. old ++ cond b (ran_line r) []) (sym long)

@@ -14,14 +14,18 @@ use Rattle.nl_reports.specs.declared.span.Span.{Span}
 abbrev pub names_of : List Node → List (List ℕ × List ℕ)
 names_of nodes = map (λ (n : Node). (n.id, n.name)) nodes
 
--- when a command ran, and the output by which it is told
+-- when a command ran, the output by which it is told, and its place
 pub record Ran : Type 0 where
   pub span : Span
   pub name : List ℕ
+  pub place : ℕ
+
+abbrev pub ran_in_place : List Job → List ℕ → ℕ → Option Ran
+ran_in_place js name k = option_map (λ (j : Job). record { span = j.span; name = name; place = k }) (slice_get js k)
 
 -- the last of these commands that has this output
 abbrev pub ran_named : List Job → List ℕ → Option Ran
-ran_named js name = option_map (λ (j : Job). record { span = j.span; name = name }) (option_and_then (slice_get js) (last_at (places_of js) name))
+ran_named js name = option_and_then (ran_in_place js name) (last_at (places_of js) name)
 
 -- the command whose output is the node of this number, by the last name that the node has
 abbrev pub ran_at : List Node → List Job → List ℕ → Option Ran
@@ -44,10 +48,10 @@ abbrev pub ran_line : Ran → List ℕ
 ran_line r = codes "on-path\t" ++ decimal (time_of r.span) ++ codes "\t" ++ told_moment r.span.began ++ codes "\t"
     ++ told_moment r.span.ended ++ codes "\t" ++ r.name ++ codes "\n"
 
--- a node at which no command ran that took time has no line
-abbrev pub told_ran : Option Ran → List ℕ
-told_ran None = []
-told_ran (Some r) = if nat_lt 0 (time_of r.span) then ran_line r else []
+-- a node at which no command ran that took time is passed over
+abbrev pub took_time : Option Ran → List Ran
+took_time None = []
+took_time (Some r) = if nat_lt 0 (time_of r.span) then r ∷ [] else []
 
 -- the commands that a graph lacks: none of their outputs is the name of a node
 abbrev pub is_named : Graph → List ℕ → Bool
@@ -70,10 +74,22 @@ lacking_line count time = if count == 0 then [] else codes "not-in-graph\t" ++ d
 abbrev pub lacking_text : List Job → List ℕ
 lacking_text js = lacking_line (length js) (sum_by (λ (j : Job). time_of j.span) js)
 
--- how long a path is, and its commands in order
+-- the commands of a path that took time, and its text: how long it is, and these in order
+abbrev pub path_rans : Graph → List Job → List (List ℕ) → List Ran
+path_rans g js path = flat_map (λ id. took_time (ran_at g.nodes js id)) path
+
+abbrev pub told_path : ℕ → List Ran → List ℕ
+told_path length rans = codes "critical-path\t" ++ decimal length ++ codes "\n" ++ flat_map ran_line rans
+
 abbrev pub path_text : Graph → List Job → List (List ℕ) → List ℕ
-path_text g js path = codes "critical-path\t" ++ decimal (length_of (weight g.nodes js) path) ++ codes "\n"
-    ++ flat_map (λ id. told_ran (ran_at g.nodes js id)) path
+path_text g js path = told_path (length_of (weight g.nodes js) path) (path_rans g js path)
+
+-- a longest path is so long, and has these commands
+pub record IsFoundPath (g : Graph) (js : List Job) (length : ℕ) (rans : List Ran) : Type 0 where
+  pub path : List (List ℕ)
+  pub longest : IsLongest g.edges (weight g.nodes js) path
+  pub length_is : length ≡ length_of (weight g.nodes js) path
+  pub rans_are : rans ≡ path_rans g js path
 
 -- the text of a longest path
 pub record IsPathText (g : Graph) (js : List Job) (text : List ℕ) : Type 0 where

@@ -28,9 +28,11 @@ pub mod Columns
 pub mod Escape
 pub mod Bars
 pub mod Curve
-pub mod Picture
 pub mod Paths
 pub mod Critical
+pub mod Gains
+pub mod Picture
 pub mod GraphLine
 pub mod GraphText
 pub mod Reaches
+pub mod Plans

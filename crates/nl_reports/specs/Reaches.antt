@@ -1,9 +1,9 @@
 -- How far it is from each node of a graph, as it is guessed, and what shows that a path is a longest one.
-use Rattle.std.specs.Prelude.{◌≡◌, ◌≤◌, ◌<◌, ◌+◌, ℕ, List, ◌++◌, Option, None, get_or, length, map, bytes_eq, is_some, option_and_then, option_map}
+use Rattle.std.specs.Prelude.{◌≡◌, ◌≤◌, ◌<◌, ◌+◌, ℕ, List, ◌++◌, Option, None, get_or, length, map, bytes_eq, is_some, option_and_then, option_map, IfSome}
 use Rattle.std.specs.Borrow.{Bor}
-use Rattle.std.specs.List.{IsDistinct, flat_map}
+use Rattle.std.specs.List.{IsDistinct}
 use Rattle.std.specs.Map.{keys_of, lookup}
-use Rattle.nl_reports.specs.Critical.{Ran, ran_at, ran_named, ran_time, told_ran, weight}
+use Rattle.nl_reports.specs.Critical.{Ran, path_rans, ran_at, ran_named, ran_time, weight}
 use Rattle.nl_reports.specs.GraphText.{ids_of, nodes_of}
 use Rattle.nl_reports.specs.Jobs.{Job}
 use Rattle.nl_reports.specs.Lasting.{is_among}
@@ -15,7 +15,7 @@ use Rattle.nl_reports.specs.declared.graph.NinjaGraph.{NinjaGraph}
 
 -- what ran, as it is held
 abbrev pub ran_seen : HeldRan → Ran
-ran_seen r = record { span = r.span; name = r.name.now }
+ran_seen r = record { span = r.span; name = r.name.now; place = r.place }
 
 abbrev pub rans_seen : List (Option HeldRan) → List (Option Ran)
 rans_seen rs = map (option_map ran_seen) rs
@@ -55,9 +55,14 @@ pub record IsTight (r : Reaches) (e : HeldEdge) : Type 0 where
   pub to : e.to < length r.ran.items
   pub far : far_at r e.to ≤ behind_at r e.from
 
--- the lines of a path that is so long
-pub record IsFollowed (g : Graph) (js : List Job) (far : ℕ) (old new : List ℕ) : Type 0 where
+-- in a plan that takes so long: a place isn't begun before the beginning, and if a command ran there, as that begins
+pub record IsBegun (r : Reaches) (wall : ℕ) (place : ℕ) : Type 0 where
+  pub within : far_at r place ≤ wall
+  pub at : IfSome (ran_in r place) (λ ran. far_at r place + ran.span.began ≡ wall)
+
+-- the commands of a path that is so long, behind others
+pub record IsFollowed (g : Graph) (js : List Job) (far : ℕ) (old new : List Ran) : Type 0 where
   pub path : List (List ℕ)
   pub is_path : IsPath g.edges path
   pub length_is : length_of (weight g.nodes js) path ≡ far
-  pub told : new ≡ old ++ flat_map (λ id. told_ran (ran_at g.nodes js id)) path
+  pub rans_are : new ≡ old ++ path_rans g js path

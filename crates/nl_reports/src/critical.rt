@@ -1,12 +1,13 @@
 //! What `summary` tells of the critical path.
 ghost use Rattle.std.specs.Prelude.{◌≡◌, ◌<◌, ◌≤◌, ◌+◌, ◌^◌, ◌++◌, ℕ, List, Some, IfOk, IsTrue, OnOk, get_or, length, map, option_and_then, option_map, string_bytes};
 ghost use Rattle.std.specs.List.{All, sum_by};
-ghost use Rattle.nl_reports.specs.Critical.{IsCritical, IsPathText, any_named, lacking, told_moment, told_ran};
+ghost use Rattle.nl_reports.specs.Critical.{IsCritical, IsFoundPath, any_named, lacking, ran_line, told_moment, told_path, took_time};
+ghost use Rattle.nl_reports.specs.Gains.{half_ran, halved, span_if};
 ghost use Rattle.nl_reports.specs.GraphText.{HeldNode, seen_graph};
 ghost use Rattle.nl_reports.specs.Jobs.{Job as SeenJob, seen};
 ghost use Rattle.nl_reports.specs.Paths.{Graph};
 ghost use Rattle.nl_reports.specs.Outputs.{HoldPlaces, places_of};
-ghost use Rattle.nl_reports.specs.Reaches.{AreOf, HoldNames, IsFarthest, IsFollowed, IsTight, behind_at, far_at, ran_in, ran_named_in, ran_seen};
+ghost use Rattle.nl_reports.specs.Reaches.{AreOf, HoldNames, IsBegun, IsFarthest, IsFollowed, IsTight, behind_at, far_at, ran_in, ran_named_in, ran_seen};
 ghost use Rattle.nl_reports.specs.Spans.{time_of};
 
 use crate::graph::NinjaGraph;
@@ -21,11 +22,12 @@ use std::alloc::{AllocError, Global};
 // The moment at which a build begins: a moment is a count from 2^31 milliseconds before it.
 const BEGINNING: u64 = 2_147_483_648;
 
-// When the command ran whose output is a node, and the node's name.
+/// When the command ran whose output is a node, the node's name, and the place of the command.
 #[derive(Clone, Copy, Drop)]
-struct Ran<'a> {
-    span: Span,
-    name: &'a [u8],
+pub(crate) struct Ran<'a> {
+    pub(crate) span: Span,
+    pub(crate) name: &'a [u8],
+    pub(crate) place: usize,
 }
 
 /// How long the critical path of these commands is, which stand in the order of START, its commands in order, and how many commands the
@@ -47,7 +49,8 @@ pub fn critical_lines(
         return Ok(None);
     }
     let reaches = Reaches::of(alloc, secret, graph, jobs)?;
-    let mut lines = reaches.path_lines(alloc)?;
+    let found = reaches.path(alloc)?;
+    let mut lines = path_lines(alloc, &found)?;
     if count > 0 {
         let line = format!(in alloc; "not-in-graph\t{count}\t{time}\n")?;
         lines.extend_from_slice(line.as_bytes())?;
@@ -100,8 +103,8 @@ fn names_in<'a>(
     Ok(names)
 }
 
-// The name of the node at a place.
-fn name_at<'a>(graph: &NinjaGraph<'a>, node: usize) -> Option<&'a [u8]>
+/// The name of the node at a place.
+pub(crate) fn name_at<'a>(graph: &NinjaGraph<'a>, node: usize) -> Option<&'a [u8]>
     ensures value { (d : HeldNode) → node < length graph.now.nodes.entries → result ≡ (get_or graph.now.nodes.entries node d).1 }
 {
     match graph.nodes.get_index(node) {
@@ -131,23 +134,59 @@ fn ran_named<'a>(
         → option_map ran_seen result ≡ ran_named_in (map seen jobs.now) name.entry }
 {
     let name = name?;
-    let job = jobs.get(outputs.place_of(name)?)?;
+    let place = outputs.place_of(name)?;
+    let job = jobs.get(place)?;
     Some(Ran {
         span: job.span,
         name,
+        place,
     })
 }
 
-// What ran at each node of a graph, and how far it is said to be behind each.
+/// A longest path: how long it is, and its commands that took time, in order.
 #[derive(Drop)]
-struct Reaches<'g, 'a> {
+pub(crate) struct FoundPath<'a> {
+    pub(crate) length: u128,
+    pub(crate) commands: Vec<Ran<'a>>,
+}
+
+// Its text.
+fn path_lines(alloc: Global, found: &FoundPath<'_>) -> Result<Vec<u8>, AllocError>
+    ensures value { IfOk result (λ lines. lines.items ≡ told_path found.now.length (map ran_seen found.now.commands.items)) }
+{
+    let length = found.length;
+    let head = format!(in alloc; "critical-path\t{length}\n")?;
+    let mut lines = Vec::from_slice(alloc, head.as_bytes())?;
+    for ran in found.commands.as_slice() {
+        append_ran(alloc, ran, &mut lines)?;
+    }
+    Ok(lines)
+}
+
+// Appends the line of a command.
+fn append_ran(alloc: Global, ran: &Ran<'_>, lines: &mut Vec<u8>) -> Result<(), AllocError>
+    ensures items { OnOk result (lines.new.items ≡ lines.old.items ++ ran_line (ran_seen ran.now)) }
+{
+    let time = ran.span.time();
+    let began = moment_text(alloc, ran.span.began)?;
+    let ended = moment_text(alloc, ran.span.ended)?;
+    let head = format!(in alloc; "on-path\t{time}\t{began}\t{ended}\t")?;
+    lines.extend_from_slice(head.as_bytes())?;
+    lines.extend_from_slice(ran.name)?;
+    lines.push(b'\n')?;
+    Ok(())
+}
+
+/// What ran at each node of a graph, and how far it is said to be behind each.
+#[derive(Drop)]
+pub(crate) struct Reaches<'g, 'a> {
     graph: &'g NinjaGraph<'a>,
     ran: Vec<Option<Ran<'a>>>,
     behind: Vec<u64>,
 }
 
 impl<'g, 'a> Reaches<'g, 'a> {
-    fn of(
+    pub(crate) fn of(
         alloc: Global,
         secret: Secret,
         graph: &'g NinjaGraph<'a>,
@@ -227,7 +266,7 @@ impl<'g, 'a> Reaches<'g, 'a> {
     }
 
     // Whether it is no farther from where an edge ends than it is behind where it begins.
-    fn are_tight(&self) -> bool
+    pub(crate) fn are_tight(&self) -> bool
         ensures value { IsTrue result → All (IsTight self.now) self.now.graph.now.edges.items }
     {
         let count = self.ran.len();
@@ -242,32 +281,94 @@ impl<'g, 'a> Reaches<'g, 'a> {
         true
     }
 
-    // The text of a longest path. That one is found isn't shown: if none is, memory is told to be wanting. No such case is known.
-    fn path_lines(&self, alloc: Global) -> Result<Vec<u8>, AllocError>
-        ensures value { (js : List SeenJob) → AreOf self.now.graph.now js self.now
-            → IfOk result (λ lines. IsPathText (seen_graph self.now.graph.now) js lines.items) }
+    /// A longest path. That one is found isn't shown: if none is, memory is told to be wanting. No such case is known.
+    pub(crate) fn path(&self, alloc: Global) -> Result<FoundPath<'a>, AllocError>
+        ensures value { (js : List SeenJob) → AreOf self.now.graph.now js self.now → IfOk result
+            (λ found. IsFoundPath (seen_graph self.now.graph.now) js found.length (map ran_seen found.commands.items)) }
     {
         if !self.are_tight() {
             return Err(AllocError);
         }
         let start = self.farthest();
-        let length = self.far_at(start);
-        let head = format!(in alloc; "critical-path\t{length}\n")?;
-        let mut lines = Vec::new(alloc);
-        lines.extend_from_slice(head.as_bytes())?;
-        self.append_path(alloc, start, &mut lines)?;
-        Ok(lines)
+        let mut commands = Vec::new(alloc);
+        self.append_path(start, &mut commands)?;
+        Ok(FoundPath {
+            length: self.far_at(start),
+            commands,
+        })
     }
 
-    // The lines of a path from a node on that is as long as it is said to be.
-    fn append_path(
+    /// The same, if the command at a place took half as long.
+    pub(crate) fn with_half(
         &self,
         alloc: Global,
-        start: usize,
-        lines: &mut Vec<u8>,
-    ) -> Result<(), AllocError>
+        place: usize,
+    ) -> Result<Reaches<'g, 'a>, AllocError>
+        ensures value { (js : List SeenJob) → AreOf self.now.graph.now js self.now → IfOk result (AreOf self.now.graph.now (halved place js)) }
+    {
+        let mut ran = Vec::with_capacity(alloc, self.ran.len())?;
+        for node in 0..self.ran.len() {
+            ran.push(halved(self.ran_at(node), place))?;
+        }
+        let mut behind = Vec::new(alloc);
+        behind.resize(ran.len(), 0)?;
+        let mut reaches = Reaches {
+            graph: self.graph,
+            ran,
+            behind,
+        };
+        reaches.spread();
+        Ok(reaches)
+    }
+
+    /// Says how far it is behind each node in a plan that takes so long, in which they are there from these moments on.
+    pub(crate) fn with_plan(
+        self,
+        alloc: Global,
+        wall: u64,
+        there: &[u64],
+    ) -> Result<Reaches<'g, 'a>, AllocError>
+        ensures graph { IfOk result (λ r. r.graph ≡ self.entry.graph) }
+        ensures ran { IfOk result (λ r. r.ran ≡ self.entry.ran) }
+    {
+        let mut behind = Vec::new(alloc);
+        for at in there {
+            behind.push(wall.saturating_sub(*at))?;
+        }
+        let Reaches { graph, ran, .. } = self;
+        Ok(Reaches { graph, ran, behind })
+    }
+
+    /// Whether no node is begun before the beginning of a plan that takes so long, and those of commands as these begin.
+    pub(crate) fn are_begun(&self, wall: u64) -> bool
+        ensures value { IsTrue result → (k : ℕ) → k < length self.now.ran.items → IsBegun self.now wall k }
+    {
+        for node in 0..self.ran.len() {
+            if !self.is_begun(wall, node) {
+                return false;
+            }
+        }
+        true
+    }
+
+    fn is_begun(&self, wall: u64, node: usize) -> bool
+        ensures value { IsTrue result → IsBegun self.now wall node }
+    {
+        let wall = u128::from(wall);
+        let far = self.far_at(node);
+        if far > wall {
+            return false;
+        }
+        match self.ran_at(node) {
+            Some(ran) => far + u128::from(ran.span.began) == wall,
+            None => true,
+        }
+    }
+
+    // The commands of a path from a node on that is as long as it is said to be.
+    fn append_path(&self, start: usize, commands: &mut Vec<Ran<'a>>) -> Result<(), AllocError>
         ensures ok { (js : List SeenJob) → AreOf self.now.graph.now js self.now → IsFarthest self.now start → OnOk result
-            (IsFollowed (seen_graph self.now.graph.now) js (far_at self.now start) lines.old.items lines.new.items) }
+            (IsFollowed (seen_graph self.now.graph.now) js (far_at self.now start) (map ran_seen commands.old.items) (map ran_seen commands.new.items)) }
     {
         let mut node = start;
         for place in &self.graph.order {
@@ -276,7 +377,7 @@ impl<'g, 'a> Reaches<'g, 'a> {
                     && edge.to < self.ran.len()
                     && self.far_at(edge.to) == self.behind_at(node)
                 {
-                    self.append_ran(alloc, node, lines)?;
+                    self.push_ran(node, commands)?;
                     node = edge.to;
                 }
             }
@@ -284,28 +385,52 @@ impl<'g, 'a> Reaches<'g, 'a> {
         if self.behind_at(node) != 0 {
             return Err(AllocError);
         }
-        self.append_ran(alloc, node, lines)
+        self.push_ran(node, commands)
     }
 
-    // Appends the line of a node, if its command took time.
-    fn append_ran(&self, alloc: Global, node: usize, lines: &mut Vec<u8>) -> Result<(), AllocError>
-        ensures items { OnOk result (lines.new.items ≡ lines.old.items ++ told_ran (ran_in self.now node)) }
+    // Adds the command of a node, if it took time.
+    fn push_ran(&self, node: usize, commands: &mut Vec<Ran<'a>>) -> Result<(), AllocError>
+        ensures items { OnOk result (map ran_seen commands.new.items ≡ map ran_seen commands.old.items ++ took_time (ran_in self.now node)) }
     {
-        let Some(Ran { span, name }) = self.ran_at(node) else {
-            return Ok(());
-        };
-        let time = span.time();
-        if time == 0 {
-            return Ok(());
+        match self.ran_at(node) {
+            Some(ran) => push_long(ran, commands),
+            None => Ok(()),
         }
-        let began = moment_text(alloc, span.began)?;
-        let ended = moment_text(alloc, span.ended)?;
-        let head = format!(in alloc; "on-path\t{time}\t{began}\t{ended}\t")?;
-        lines.extend_from_slice(head.as_bytes())?;
-        lines.extend_from_slice(name)?;
-        lines.push(b'\n')?;
-        Ok(())
     }
+}
+
+fn push_long<'a>(ran: Ran<'a>, commands: &mut Vec<Ran<'a>>) -> Result<(), AllocError>
+    ensures items { OnOk result (map ran_seen commands.new.items ≡ map ran_seen commands.old.items ++ took_time (Some (ran_seen ran.entry))) }
+{
+    if ran.span.time() == 0 {
+        return Ok(());
+    }
+    commands.push(ran)?;
+    Ok(())
+}
+
+fn halved<'a>(found: Option<Ran<'a>>, place: usize) -> Option<Ran<'a>>
+    ensures value { option_map ran_seen result ≡ option_map (half_ran place) (option_map ran_seen found.entry) }
+{
+    match found {
+        Some(ran) => Some(Ran {
+            span: span_if(ran.place == place, ran.span),
+            ..ran
+        }),
+        None => None,
+    }
+}
+
+fn span_if(half: bool, span: Span) -> Span
+    ensures { result ≡ span_if half span }
+{
+    if half {
+        return Span {
+            began: span.began,
+            ended: span.began + span.time() / 2,
+        };
+    }
+    span
 }
 
 // A moment as an entry tells it.

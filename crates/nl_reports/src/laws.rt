@@ -1,4 +1,4 @@
-//! Laws of weighted times, lists, kinds, comparisons, lanes, events, names and columns, each the contract of a function that does nothing.
+//! Laws of weighted times, lists, kinds, comparisons, plans, lanes, events, names and columns, each the contract of a function that does nothing.
 ghost use Rattle.std.specs.Prelude.{◌≡◌, ◌+◌, ◌*◌, ◌/◌, ◌<◌, ◌≤◌, ◌^◌, ◌++◌, ◌∷◌, [], ℕ, Bool, true, false, List, Some, count_by, length, map, slice_index, slice_index_or, take};
 ghost use Rattle.std.specs.List.{All, filter, flat_map, sum_by};
 ghost use Rattle.std.specs.List.Sorted.{IsPermutation};
@@ -18,7 +18,10 @@ ghost use Rattle.nl_reports.specs.Kinds.{kinds, named, of_kind};
 ghost use Rattle.nl_reports.specs.Lanes.{Begin, lanes};
 ghost use Rattle.nl_reports.specs.Lasting.{Rise, has_outputs, is_among, jobs_left, last_of, lasting, marked, of_name};
 ghost use Rattle.nl_reports.specs.Numbers.{total_time};
+ghost use Rattle.nl_reports.specs.Critical.{weight as node_weight};
+ghost use Rattle.nl_reports.specs.Paths.{Graph, IsPath, length_of};
 ghost use Rattle.nl_reports.specs.Picture.{bars_of};
+ghost use Rattle.nl_reports.specs.Plans.{IsPlan};
 ghost use Rattle.nl_reports.specs.Reading.{FewTaken, IsEvent};
 ghost use Rattle.nl_reports.specs.Rows.{Told, by_start, falling, ranked, spans, told_jobs};
 ghost use Rattle.nl_reports.specs.Spans.{IsEarly, time_of};
@@ -207,4 +210,12 @@ pub fn columns_line_up()
 /// No name makes a terminal do anything: what is laid out has no control character, of one byte or of two, but tabs and newlines.
 pub fn nothing_is_obeyed()
     ensures { (text : List ℕ) → IsQuiet 0 (shown text) }
+{}
+
+/// No plan for so many processors ends before the critical path does, nor before so many have done all that there is to do.
+pub fn no_plan_comes_below_the_floor()
+    ensures path { (g : Graph) (js : List Job) (n wall : ℕ) (plan : List Job) → IsPlan g js n wall plan
+        → (path : List (List ℕ)) → IsPath g.edges path → length_of (node_weight g.nodes js) path ≤ wall }
+    ensures total { (g : Graph) (js : List Job) (n wall : ℕ) (plan : List Job) → IsPlan g js n wall plan
+        → total_time js ≤ n * wall }
 {}

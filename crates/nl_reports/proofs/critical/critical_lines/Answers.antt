@@ -5,7 +5,7 @@ use Rattle.nl_reports.specs.GraphText.{seen_graph}
 use Rattle.nl_reports.specs.Jobs.{seen}
 use Rattle.nl_reports.specs.Reaches.{AreOf}
 use Rattle.nl_reports.specs.declared.graph.NinjaGraph.{NinjaGraph}
-use Rattle.nl_reports.proofs.CriticalLemmas.{critical_told, lacking_told, nothing_told}
+use Rattle.nl_reports.proofs.CriticalLemmas.{critical_told, path_told, lacking_told, nothing_told}
 use Rattle.nl_reports.proofs.critical.critical_lines.Goals as goal
 use Rattle.nl_reports.proofs.critical.critical_lines.Goals.{then-count-gt0+in_ok-line+in_ok-extend_from_slice, else-count-gt0}
 
@@ -32,7 +32,8 @@ returns c =
       value = critical_told g js c.if-count-gt0.lines (record {
         some = λ e. omega (arith, c.if-count-jobs.false, c.in_ok-count.ensures.count, e, length-map jobs seen);
         path = path;
-        is_path = subst (λ (x : NinjaGraph). IsPathText (seen_graph x) js path) are.graph (c.in_ok-lines.ensures.value js there);
+        is_path = subst (λ (x : NinjaGraph). IsPathText (seen_graph x) js path) are.graph
+            (path_told (seen_graph reaches.graph.now) js _ _ path (c.in_ok-found.ensures.value js there) c.in_ok-lines.ensures.value);
         is = told ∙ (λ i. path ++ lacking_line (c.in_ok-count.ensures.count i) (c.in_ok-count.ensures.time i));
       });
     }

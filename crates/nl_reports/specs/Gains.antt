@@ -1,0 +1,58 @@
+-- What a build gains if a command of its critical path took half as long (docs/CLI.md, "summary").
+use Rattle.std.specs.Prelude.{◌≡◌, ℕ, ◌+◌, ◌-◌, ◌/◌, ◌==◌, Bool, List, [], ◌∷◌, ◌++◌, take, codes, decimal, if◌then◌else◌}
+use Rattle.nl_reports.specs.Critical.{Ran, path_rans, weight}
+use Rattle.nl_reports.specs.Jobs.{Job}
+use Rattle.nl_reports.specs.Paths.{Graph, IsLongest, length_of}
+use Rattle.nl_reports.specs.Rows.{falling}
+use Rattle.nl_reports.specs.Spans.{time_of}
+use Rattle.nl_reports.specs.declared.span.Span.{Span}
+
+-- a command in half its time, rounded down, and commands of which the one at a place is so
+abbrev pub half_span : Span → Span
+half_span s = record { began = s.began; ended = s.began + time_of s / 2 }
+
+abbrev pub span_if : Bool → Span → Span
+span_if half s = if half then half_span s else s
+
+abbrev pub job_if : Bool → Job → Job
+job_if half j = record { span = span_if half j.span; hash = j.hash; outputs = j.outputs }
+
+abbrev pub halved_from : ℕ → ℕ → List Job → List Job
+halved_from at place [] = []
+halved_from at place (j ∷ js) = job_if (at == place) j ∷ halved_from (at + 1) place js
+
+abbrev pub halved : ℕ → List Job → List Job
+halved place js = halved_from 0 place js
+
+abbrev pub half_ran : ℕ → Ran → Ran
+half_ran place r = record { span = span_if (r.place == place) r.span; name = r.name; place = r.place }
+
+-- a line: by how much the critical path gets shorter, and the output
+abbrev pub gain_line : ℕ → Ran → List ℕ
+gain_line gain r = codes "gain\t" ++ decimal gain ++ codes "\t" ++ r.name ++ codes "\n"
+
+-- how long the critical path is, if the command took half
+pub record IsHalfPath (g : Graph) (js : List Job) (r : Ran) (length : ℕ) : Type 0 where
+  pub path : List (List ℕ)
+  pub longest : IsLongest g.edges (weight g.nodes (halved r.place js)) path
+  pub length_is : length ≡ length_of (weight g.nodes (halved r.place js)) path
+
+-- the line of a command of a critical path that is so long, behind a text
+pub record IsGain (g : Graph) (js : List Job) (long : ℕ) (r : Ran) (before text : List ℕ) : Type 0 where
+  pub half : ℕ
+  pub is_half : IsHalfPath g js r half
+  pub is : text ≡ before ++ gain_line (long - half) r
+
+-- the lines of these
+abbrev pub AreGains : Graph → List Job → ℕ → List Ran → List ℕ → List ℕ → Type 0
+AreGains g js long [] before text = text ≡ before
+AreGains g js long (r ∷ rs) before text = (line : List ℕ) × IsGain g js long r before line × AreGains g js long rs line text
+
+-- so many commands of it, those that took the longest
+abbrev pub longest_rans : ℕ → List Ran → List Ran
+longest_rans most rs = take most (falling (λ (r : Ran). time_of r.span) rs)
+
+pub record AreGainsOf (g : Graph) (js : List Job) (most : ℕ) (text : List ℕ) : Type 0 where
+  pub path : List (List ℕ)
+  pub longest : IsLongest g.edges (weight g.nodes js) path
+  pub are : AreGains g js (length_of (weight g.nodes js) path) (longest_rans most (path_rans g js path)) [] text

@@ -1,0 +1,269 @@
+//! What so many commands at a time would take: estimates by a graph and by measured times.
+ghost use Rattle.std.specs.Prelude.{◌≡◌, ◌≤◌, ◌<◌, ◌^◌, ◌++◌, ℕ, List, map, IfOk, IfSome, IsTrue, OnOk};
+ghost use Rattle.std.specs.List.Sorted.{IsPermutation};
+ghost use Rattle.nl_reports.specs.GraphText.{seen_graph};
+ghost use Rattle.nl_reports.specs.Jobs.{Job as SeenJob, seen};
+ghost use Rattle.nl_reports.specs.Numbers.{total_time};
+ghost use Rattle.nl_reports.specs.Plans.{AreEstimates, HavePlan, AreBehind, IsToldBy, estimate_line, floor_of, kept};
+ghost use Rattle.nl_reports.specs.Rows.{spans};
+ghost use Rattle.nl_reports.specs.Spans.{began_of, closed_of};
+ghost use Rattle.nl_reports.specs.Sweep.{last_moment, running};
+
+use crate::critical::{Reaches, critical_lines};
+use crate::gains::gain_lines;
+use crate::graph::NinjaGraph;
+use crate::job::Job;
+use crate::simulation::{Priority, Waiting};
+use crate::span::Span;
+use nl_table::Secret;
+use std::alloc::{AllocError, Global};
+
+/// A graph, for how many commands at a time it is estimated how long they take, and of how many at most it is told what is gained by them.
+#[derive(Clone, Copy, Drop)]
+pub struct ByGraph<'g, 't> {
+    pub graph: &'g NinjaGraph<'t>,
+    pub counts: &'g [usize],
+    pub most: usize,
+}
+
+/// What a graph tells of these commands, which stand in the order of START: the critical path, gains, and the estimates that are asked for. None,
+/// where it lacks all commands, or no plan is found: commands wait for themselves. In both cases it isn't the graph of this build. Names are
+/// hashed under a secret.
+pub fn graph_lines(
+    alloc: Global,
+    secret: Secret,
+    by: &ByGraph<'_, '_>,
+    priority: Priority,
+    jobs: &[Job<'_, '_>],
+) -> Result<Option<Vec<u8>>, AllocError>
+    ensures value { IfOk result (IsToldBy (seen_graph by.now.graph.now) by.now.most by.now.counts.now (map seen jobs.now)) }
+{
+    let Some(path) = critical_lines(alloc, secret, by.graph, jobs)? else {
+        return Ok(None);
+    };
+    let mut lines = path;
+    let gains = gain_lines(alloc, secret, by.graph, by.most, jobs)?;
+    lines.extend_from_slice(gains.as_slice())?;
+    if by.counts.is_empty() {
+        return Ok(Some(lines));
+    }
+    let estimates = estimate_lines(alloc, secret, by.graph, jobs, priority, by.counts)?;
+    let Some(estimates) = estimates else {
+        return Ok(None);
+    };
+    lines.extend_from_slice(estimates.as_slice())?;
+    Ok(Some(lines))
+}
+
+// For each of these numbers how long the commands would take if so many ran at a time, and below what no order of them comes; None, where no
+// plan is found.
+fn estimate_lines(
+    alloc: Global,
+    secret: Secret,
+    graph: &NinjaGraph<'_>,
+    jobs: &[Job<'_, '_>],
+    priority: Priority,
+    counts: &[usize],
+) -> Result<Option<Vec<u8>>, AllocError>
+    ensures value { IfOk result (λ o. IfSome o (λ lines. AreEstimates (seen_graph graph.now) (map seen jobs.now) counts.now lines.items)) }
+{
+    let waiting = Waiting::of(alloc, secret, graph, jobs, priority)?;
+    let reaches = Reaches::of(alloc, secret, graph, jobs)?;
+    let found = reaches.path(alloc)?;
+    let path = found.length;
+    let total = total_of(jobs);
+    let mut lines = Vec::new(alloc);
+    for count in counts {
+        let wall = wall_of(alloc, secret, graph, jobs, &waiting, *count)?;
+        let Some(wall) = wall else {
+            return Ok(None);
+        };
+        let fits = is_at_bounds(*count, jobs.len(), wall, total, path);
+        if !fits {
+            return Ok(None);
+        }
+        let floor = floor_of(path, total, *count);
+        append_estimate(alloc, *count, wall, floor, &mut lines)?;
+    }
+    Ok(Some(lines))
+}
+
+// There is a place, one at a time takes the sum of the commands' times, and with a place for each only the critical path is waited for.
+fn is_at_bounds(count: usize, commands: usize, wall: u64, total: u128, path: u128) -> bool
+    ensures some { IsTrue result → 0 < count }
+    ensures one { IsTrue result → count ≡ 1 → wall ≡ total }
+    ensures enough { IsTrue result → commands ≤ count → wall ≡ path }
+{
+    let wall = u128::from(wall);
+    count > 0 && (count != 1 || wall == total) && (count < commands || wall == path)
+}
+
+// The sum of the times of commands.
+fn total_of(jobs: &[Job<'_, '_>]) -> u128
+    ensures value { result ≡ total_time (map seen jobs.now) }
+    ensures bound { result < 2 ^ 127 }
+{
+    let mut total = 0;
+    for job in jobs {
+        total += u128::from(job.span.time());
+    }
+    total
+}
+
+// What no plan comes below.
+fn floor_of(path: u128, total: u128, count: usize) -> u128
+    requires room { total < 2 ^ 127 }
+    ensures value { 0 < count → result ≡ floor_of path total count }
+{
+    if count == 0 {
+        return path;
+    }
+    let count = count as u128;
+    path.max((total + (count - 1)) / count)
+}
+
+fn append_estimate(
+    alloc: Global,
+    count: usize,
+    wall: u64,
+    floor: u128,
+    lines: &mut Vec<u8>,
+) -> Result<(), AllocError>
+    ensures items { OnOk result (lines.new.items ≡ lines.old.items ++ estimate_line count wall floor) }
+{
+    let line = format!(in alloc; "estimate\t{count}\t{wall}\t{floor}\n")?;
+    lines.extend_from_slice(line.as_bytes())?;
+    Ok(())
+}
+
+// How long a plan takes in which so many run at a time; None, if none is found.
+fn wall_of(
+    alloc: Global,
+    secret: Secret,
+    graph: &NinjaGraph<'_>,
+    jobs: &[Job<'_, '_>],
+    waiting: &Waiting,
+    count: usize,
+) -> Result<Option<u64>, AllocError>
+    ensures value { IfOk result (λ o. IfSome o (HavePlan (seen_graph graph.now) (map seen jobs.now) count)) }
+{
+    let run = waiting.run(alloc, count)?;
+    let plan = planned_jobs(alloc, jobs, run.began.as_slice())?;
+    let there = run.there.as_slice();
+    checked(alloc, secret, graph, plan.as_slice(), there, count)
+}
+
+// How long these commands take as they run, if that is a plan in which so many run at a time, and nodes are there from these moments on.
+fn checked(
+    alloc: Global,
+    secret: Secret,
+    graph: &NinjaGraph<'_>,
+    plan: &[Job<'_, '_>],
+    there: &[u64],
+    count: usize,
+) -> Result<Option<u64>, AllocError>
+    ensures value { (ks : List SeenJob) → map kept (map seen plan.now) ≡ map kept ks
+        → IfOk result (λ o. IfSome o (HavePlan (seen_graph graph.now) ks count)) }
+{
+    let spans = planned_spans(alloc, plan)?;
+    let few = are_few(alloc, spans.as_slice(), count)?;
+    let wall = last_of(spans.as_slice());
+    let reaches = Reaches::of(alloc, secret, graph, plan)?;
+    let reaches = reaches.with_plan(alloc, wall, there)?;
+    let tight = reaches.are_tight();
+    let begun = reaches.are_begun(wall);
+    if few && tight && begun {
+        return Ok(Some(wall));
+    }
+    Ok(None)
+}
+
+// The commands as they run if they begin at these moments.
+fn planned_jobs<'s, 'a>(
+    alloc: Global,
+    jobs: &[Job<'s, 'a>],
+    began: &[u64],
+) -> Result<Vec<Job<'s, 'a>>, AllocError>
+    ensures value { IfOk result (λ plan. map kept (map seen plan.items) ≡ map kept (map seen jobs.now)) }
+{
+    let mut plan = Vec::with_capacity(alloc, jobs.len())?;
+    for place in 0..jobs.len() {
+        let job = jobs[place];
+        let began = began.get(place).copied().unwrap_or(0);
+        let Some(ended) = began.checked_add(job.span.time()) else {
+            return Err(AllocError);
+        };
+        plan.push(Job {
+            span: Span { began, ended },
+            ..job
+        })?;
+    }
+    Ok(plan)
+}
+
+// When they run.
+fn planned_spans(alloc: Global, plan: &[Job<'_, '_>]) -> Result<Vec<Span>, AllocError>
+    ensures items { IfOk result (λ found. found.items ≡ spans (map seen plan.now)) }
+{
+    let mut found = Vec::with_capacity(alloc, plan.len())?;
+    for job in plan {
+        found.push(job.span)?;
+    }
+    Ok(found)
+}
+
+// Whether no more than so many run at a time: each but the first so many begins when another has ended, by the order of both.
+fn are_few(alloc: Global, plan: &[Span], count: usize) -> Result<bool, AllocError>
+    ensures value { IfOk result (λ is. IsTrue is → (t : ℕ) → running plan.now t ≤ count) }
+{
+    let starts = starts_of(alloc, plan)?;
+    let ends = ends_of(alloc, plan)?;
+    Ok(are_behind(starts.as_slice(), ends.as_slice(), count))
+}
+
+// When each begins, and when each has ended, in order.
+fn starts_of(alloc: Global, plan: &[Span]) -> Result<Vec<u64>, AllocError>
+    ensures items { IfOk result (λ starts. IsPermutation (map began_of plan.now) starts.items) }
+{
+    let starts = sorted(plan.iter().map(|span| span.began).collect(alloc)?);
+    Ok(starts)
+}
+
+fn ends_of(alloc: Global, plan: &[Span]) -> Result<Vec<u64>, AllocError>
+    ensures items { IfOk result (λ ends. IsPermutation (map closed_of plan.now) ends.items) }
+{
+    let ends = sorted(plan.iter().map(|span| span.closed()).collect(alloc)?);
+    Ok(ends)
+}
+
+fn sorted(moments: Vec<u64>) -> Vec<u64>
+    ensures items { IsPermutation moments.items result.items }
+{
+    let mut sorted = moments;
+    sorted.sort_unstable();
+    sorted
+}
+
+// Whether each start but the first so many isn't before the end at its place without these.
+fn are_behind(starts: &[u64], ends: &[u64], count: usize) -> bool
+    ensures value { IsTrue result → AreBehind count starts.now ends.now }
+{
+    for place in 0..ends.len() {
+        let at = place.saturating_add(count);
+        if at < starts.len() && starts[at] < ends[place] {
+            return false;
+        }
+    }
+    true
+}
+
+// When the last one ends.
+fn last_of(plan: &[Span]) -> u64
+    ensures value { result ≡ last_moment plan.now }
+{
+    let mut last = 0;
+    for span in plan {
+        last = last.max(span.ended);
+    }
+    last
+}
