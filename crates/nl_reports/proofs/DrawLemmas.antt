@@ -3,20 +3,23 @@ use Rattle.std.proofs.Common.{◌≡◌, ◌∙◌, ℕ, ◌+◌, ◌<◌, ◌�
 use Rattle.std.specs.List.{flat_map, zip}
 use Rattle.std.specs.Result.{IsErr}
 use Rattle.std.proofs.lemmas.List.{at_drop_all, at_drop_more}
-use Rattle.nl_builds.specs.declared.build.How.{How}
 use Rattle.nl_tool_texts.specs.declared.fault.ToolFault.{ToolFault}
 use Rattle.nl_reports.specs.Bars.{bar, joined, joined_bars, marks, rank_of}
 use Rattle.nl_reports.specs.Frame.{frame_of}
 use Rattle.nl_reports.specs.Jobs.{Job, seen}
 use Rattle.nl_reports.specs.Lanes.{lanes}
-use Rattle.nl_reports.specs.Picture.{bars, bars_of, end, long_head, long_jobs, long_line, long_lines, longest, picture, start}
+use Rattle.nl_reports.specs.Picture.{bars, bars_of, end, long_head, long_jobs, long_line, long_lines, longest, outline, outlined, picture, start}
 use Rattle.nl_reports.specs.Picture.{frame as frame_in}
+use Rattle.nl_reports.specs.Critical.{Ran}
 use Rattle.nl_reports.specs.Curve.{curve}
+use Rattle.nl_reports.specs.Reaches.{ran_seen}
 use Rattle.nl_reports.specs.Rows.{falling, spans}
 use Rattle.nl_reports.specs.Spans.{time_of}
 use Rattle.nl_reports.specs.Writing.{HoldsAllBut, Writes}
+use Rattle.nl_reports.specs.declared.critical.Ran.{Ran as HeldRan}
 use Rattle.nl_reports.specs.declared.bars.Mark.{Mark}
 use Rattle.nl_reports.specs.declared.frame.Frame.{Frame}
+use Rattle.nl_reports.specs.declared.picture.Known.{Known}
 use Rattle.nl_reports.specs.declared.job.Job.{Job as HeldJob}
 use Rattle.nl_reports.specs.declared.span.Span.{Span}
 use Rattle.nl_reports.proofs.FallingLemmas.{map-falling}
@@ -24,12 +27,20 @@ use Rattle.nl_reports.proofs.ListedLemmas.{map-take}
 use Rattle.nl_reports.proofs.PairLemmas.{pair_next, pairs_over}
 use Rattle.nl_reports.proofs.WritingLemmas.{err_writes, more_held, none_written}
 
-pub end_some : (f : Frame) (cs : List Span) (js : List Job) → 0 < length (end f cs js)
-end_some f cs js = omega (arith, length-append (codes "</g>\n" ++ curve f cs) (longest f js), length-append (codes "</g>\n") (curve f cs))
+pub end_some : (f : Frame) (ls : List ℕ) (path : Option (List Ran)) (cs : List Span) (js : List Job) → 0 < length (end f ls path cs js)
+end_some f ls path cs js = omega (
+  arith,
+  length-append ((codes "</g>\n" ++ curve f cs) ++ outlined f ls path) (longest f js),
+  length-append (codes "</g>\n" ++ curve f cs) (outlined f ls path),
+  length-append (codes "</g>\n") (curve f cs),
+)
 
-picture_some : (how : How) (js : List Job) → 0 < length (picture how js)
-picture_some how js =
-    omega (arith, end_some (frame_in js) (spans js) js, length-append (start (frame_in js) how js ++ bars_of js) (end (frame_in js) (spans js) js))
+picture_some : (known : Known) (path : Option (List Ran)) (js : List Job) → 0 < length (picture known path js)
+picture_some known path js = omega (
+  arith,
+  end_some (frame_in js) (lanes (spans js)) path (spans js) js,
+  length-append (start (frame_in js) known js ++ bars_of js) (end (frame_in js) (lanes (spans js)) path (spans js) js),
+)
 
 -- ---- the bars of the commands from one on, and those of short commands
 
@@ -61,17 +72,19 @@ bars_over old mid whole held f js found i short sorted all is holds =
 
 -- ---- the whole
 
-pub picture_is : (js : List Job) (how : How) (cs : List Span) (ls : List ℕ) (f : Frame) (first last : List ℕ) → cs ≡ spans js → ls ≡ lanes cs
-    → f ≡ frame_of cs ls → first ≡ start f how js → last ≡ end f cs js → first ++ bars f (zip js ls) ++ last ≡ picture how js
-picture_is js how cs ls f first last ran found frame begins ends =
+pub picture_is : (js : List Job) (known : Known) (path : Option (List Ran)) (cs : List Span) (ls : List ℕ) (f : Frame) (first last : List ℕ)
+    → cs ≡ spans js → ls ≡ lanes cs → f ≡ frame_of cs ls → first ≡ start f known js → last ≡ end f ls path cs js
+    → first ++ bars f (zip js ls) ++ last ≡ picture known path js
+picture_is js known path cs ls f first last ran found frame begins ends =
     let lane : ls ≡ lanes (spans js) = found ∙ ap lanes ran in
     (λ i. begins i ++ bars f (zip js ls) ++ ends i)
-    ∙ (λ i. start ((frame ∙ (λ n. frame_of (ran n) (lane n))) i) how js ++ bars ((frame ∙ (λ n. frame_of (ran n) (lane n))) i) (zip js (lane i))
-    ++ end ((frame ∙ (λ n. frame_of (ran n) (lane n))) i) (ran i) js)
+    ∙ (λ i. start ((frame ∙ (λ n. frame_of (ran n) (lane n))) i) known js ++ bars ((frame ∙ (λ n. frame_of (ran n) (lane n))) i) (zip js (lane i))
+    ++ end ((frame ∙ (λ n. frame_of (ran n) (lane n))) i) (lane i) path (ran i) js)
 
-pub none_drawn : (known : Option (List ℕ)) (how : How) (js : List Job) (r : Result (Unit {0}) ToolFault) → IsErr r
-    → Writes known known (picture how js) r
-none_drawn known how js r is = err_writes known known (picture how js) r is (none_written known (picture how js) (picture_some how js))
+pub none_drawn : (bytes : Option (List ℕ)) (known : Known) (path : Option (List Ran)) (js : List Job) (r : Result (Unit {0}) ToolFault) → IsErr r
+    → Writes bytes bytes (picture known path js) r
+none_drawn bytes known path js r is =
+    err_writes bytes bytes (picture known path js) r is (none_written bytes (picture known path js) (picture_some known path js))
 
 -- ---- the lines of the longest commands
 
@@ -101,3 +114,14 @@ lines_told f js ks i old out new all kept before last =
     let lines : out ≡ (old ++ long_head f) ++ long_lines f 1 (map seen ks) = sym (append-nil out) ∙ ap (λ (l : List ℕ). out ++ l) (sym none) ∙ before in
     last ∙ ap (λ (l : List ℕ). l ++ codes "</svg>\n") (lines ∙ ap (λ (l : List Job). (old ++ long_head f) ++ long_lines f 1 l) same)
     ∙ simp append_assoc
+
+-- ---- the outlines of a critical path
+
+pub outlines_next : (f : Frame) (ls : List ℕ) (xs : List HeldRan) (i : ℕ) (d : HeldRan) (out new whole : List ℕ) → i < length xs
+    → new ≡ out ++ outline f ls (ran_seen (get_or xs i d)) → out ++ flat_map (outline f ls) (map ran_seen (drop i xs)) ≡ whole
+    → new ++ flat_map (outline f ls) (map ran_seen (drop (i + 1) xs)) ≡ whole
+outlines_next f ls xs i d out new whole within more before =
+    let o = outline f ls in
+    let rest = flat_map o (map ran_seen (drop (i + 1) xs)) in
+    ap (λ (l : List ℕ). l ++ rest) more ∙ append_assoc out (o (ran_seen (get_or xs i d))) rest
+    ∙ ap (λ (l : List ℕ). out ++ l) (sym (at_drop_more (λ (l : List HeldRan). flat_map o (map ran_seen l)) xs i d within)) ∙ before

@@ -34,7 +34,7 @@ mod OrderLemmas
 mod PathsLemmas
 mod ReachesLemmas
 mod CriticalLemmas
-mod WritingLemmas
+pub mod WritingLemmas
 mod PairLemmas
 mod MarkLemmas
 mod NameLemmas
@@ -42,6 +42,7 @@ mod EventLemmas
 mod TraceLemmas
 mod DrawLemmas
 mod ReadLemmas
+mod TurnLemmas
 mod FitLemmas
 mod SizeLemmas
 mod PlanLemmas

@@ -1,12 +1,13 @@
 -- A text that is written piece by piece, as it is made.
-use Rattle.std.proofs.Common.{◌≡◌, ◌∙◌, ◌++◌, ◌<◌, [], List, ℕ, Option, Result, Ok, Err, length, ap, sym, subst, refl, arith, append_assoc, append-nil, length-append, true≢false}
-use Rattle.std.specs.Prelude.{OnErr, OnOk}
+use Rattle.std.proofs.Common.{◌≡◌, ◌∙◌, ◌++◌, ◌<◌, [], List, ℕ, Option, Result, Ok, Err, length, ap, sym, subst, refl, arith, append_assoc, append-nil, inr, length-append, true≢false}
+use Rattle.std.specs.Prelude.{IfErr, OnErr, OnOk}
 use Rattle.std.specs.Io.KnownBytes.{Appends}
 use Rattle.std.specs.Result.{IsErr}
 use Rattle.std.proofs.KnownBytes.{Appends-nil, Appends-trans}
 use Rattle.nl_tool_texts.specs.Output.{AppendsPrefixOf}
 use Rattle.nl_tool_texts.specs.declared.fault.ToolFault.{ToolFault}
-use Rattle.nl_reports.specs.Writing.{AppendsSomeOf, HoldsAllBut, Moves, Writes}
+use Rattle.nl_tool_texts.specs.declared.fault.ToolFault.TheVariants.{NotALog as NoLog, OtherVersion as Other, Read, Memory, Write, Folder, NegativeTime, BadNumber, EmptyName, BadByte, LongName, BadLine, OtherGraph, Elsewhere}
+use Rattle.nl_reports.specs.Writing.{AppendsSomeOf, HoldsAllBut, IsWriteFault, Moves, PrintsInPieces, Writes}
 
 -- nothing is written yet
 pub all_held : (known : Option (List ℕ)) (text : List ℕ) → HoldsAllBut known known text text
@@ -102,3 +103,22 @@ pub out_writes : (old new : Option (List ℕ)) (text : List ℕ) (result : Resul
     → OnErr result (AppendsPrefixOf old new text) → Writes old new text result
 out_writes old new text (Ok done) ok part = ok
 out_writes old new text (Err fault) ok part = part
+
+-- what is written so is one of the texts
+pub pieces_of : (IsText : List ℕ → Type 0) (text : List ℕ) → IsText text → (old new : Option (List ℕ)) (r : Result (Unit {0}) ToolFault)
+    → Writes old new text r → IfErr r IsWriteFault → PrintsInPieces IsText old new r
+pieces_of IsText text is old new (Ok done) w f = (text, is, w)
+pieces_of IsText text is old new (Err Memory) w f = inr (text, is, w)
+pieces_of IsText text is old new (Err Write) w f = (text, is, w)
+pieces_of IsText text is old new (Err NoLog) w f = absurd f
+pieces_of IsText text is old new (Err Other) w f = absurd f
+pieces_of IsText text is old new (Err Read) w f = absurd f
+pieces_of IsText text is old new (Err Folder) w f = absurd f
+pieces_of IsText text is old new (Err (NegativeTime index)) w f = absurd f
+pieces_of IsText text is old new (Err BadNumber) w f = absurd f
+pieces_of IsText text is old new (Err EmptyName) w f = absurd f
+pieces_of IsText text is old new (Err (BadByte at)) w f = absurd f
+pieces_of IsText text is old new (Err LongName) w f = absurd f
+pieces_of IsText text is old new (Err (BadLine number)) w f = absurd f
+pieces_of IsText text is old new (Err OtherGraph) w f = absurd f
+pieces_of IsText text is old new (Err Elsewhere) w f = absurd f

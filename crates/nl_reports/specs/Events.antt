@@ -1,5 +1,5 @@
 -- The events of a trace, as JSON values (docs/CLI.md, "`trace`"). Members stand in the order of their keys.
-use Rattle.std.specs.Prelude.{ℕ, true, false, ◌+◌, ◌-◌, ◌*◌, List, ◌++◌, map, codes, decimal}
+use Rattle.std.specs.Prelude.{ℕ, true, false, ◌+◌, ◌-◌, ◌*◌, ◌==◌, List, ◌++◌, map, codes, decimal, if◌then◌else◌}
 use Rattle.std.specs.Str.Lossy.{utf8_lossy}
 use Rattle.serde_json.specs.Data.{Data, Members, array, boolean, member, no_members, number, object, string, unsigned}
 use Rattle.serde_json.specs.View.{items_of}
@@ -28,10 +28,13 @@ whole n = number (unsigned n)
 abbrev pub micros : ℕ → ℕ
 micros ms = ms * 1000
 
--- a build's name, and how it is known
+-- a build's name, or that of all builds, and how it is known
+abbrev pub build_name : ℕ → List ℕ
+build_name n = if n == 0 then codes "all builds" else codes "build " ++ decimal n
+
 abbrev pub name_of : ℕ → How → List ℕ
-name_of n AsWritten = codes "build " ++ decimal n
-name_of n (FoundAgain taken) = codes "build " ++ decimal n ++ codes ", found again"
+name_of n AsWritten = build_name n
+name_of n (FoundAgain taken) = build_name n ++ codes ", found again"
 
 abbrev pub taken_of : How → Members
 taken_of AsWritten = member (codes "rewritten") (boolean false) no_members

@@ -17,6 +17,7 @@ pub mod Outputs
 pub mod Compare
 pub mod Lanes
 pub mod Frame
+pub mod Turns
 pub mod Texts
 pub mod Ticks
 pub mod Work

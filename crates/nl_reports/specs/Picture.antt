@@ -1,24 +1,29 @@
--- The text of `picture`: the last build as SVG (docs/CLI.md, "picture").
-use Rattle.std.specs.Prelude.{ℕ, ◌+◌, ◌*◌, ◌/◌, ◌%◌, ◌==◌, max, min, List, [], ◌∷◌, ◌++◌, length, take, codes, decimal, if◌then◌else◌}
+-- The text of `picture`: builds as SVG (docs/CLI.md, "picture").
+use Rattle.std.specs.Prelude.{◌≡◌, ℕ, ◌+◌, ◌-◌, ◌*◌, ◌/◌, ◌%◌, ◌==◌, max, min, List, [], ◌∷◌, ◌++◌, Option, None, Some, get_or, is_some, length, take, codes, decimal, if◌then◌else◌}
 use Rattle.std.specs.List.{flat_map, zip}
-use Rattle.std.specs.Option.{unwrap_or}
 use Rattle.nl_builds.specs.Builds.{Told}
-use Rattle.nl_builds.specs.declared.build.How.{How}
-use Rattle.nl_builds.specs.declared.build.How.TheVariants.{AsWritten, FoundAgain}
 use Rattle.nl_reports.specs.Bars.{bar, joined_bars, marks}
+use Rattle.nl_reports.specs.Choice.{chosen}
+use Rattle.nl_reports.specs.Critical.{IsFoundPath, Ran}
 use Rattle.nl_reports.specs.Curve.{curve}
 use Rattle.nl_reports.specs.Escape.{label}
-use Rattle.nl_reports.specs.Frame.{frame_of, line_at}
-use Rattle.nl_reports.specs.Jobs.{Job, build_jobs, first_name, last_number}
+use Rattle.nl_reports.specs.Frame.{frame_of, height, line_at, x_at, y_at}
+use Rattle.nl_reports.specs.Jobs.{Job, first_name}
 use Rattle.nl_reports.specs.Lanes.{lanes}
-use Rattle.nl_reports.specs.Rows.{by_start, falling, spans}
-use Rattle.nl_reports.specs.Spans.{time_of}
+use Rattle.nl_reports.specs.Paths.{Graph}
+use Rattle.nl_reports.specs.Rows.{falling, spans}
+use Rattle.nl_reports.specs.Spans.{closed_of, time_of}
+use Rattle.nl_reports.specs.Summary.{taken_in}
 use Rattle.nl_reports.specs.Texts.{joined, time_text}
 use Rattle.nl_reports.specs.Ticks.{ticks}
 use Rattle.nl_reports.specs.Times.{share_of, times_of, total}
-use Rattle.nl_reports.specs.Trace.{how_of}
+use Rattle.nl_reports.specs.Turns.{jobs_in_turn}
 use Rattle.nl_reports.specs.Work.{place, word}
+use Rattle.nl_reports.specs.declared.choice.Scope.{Scope}
+use Rattle.nl_reports.specs.declared.choice.Scope.TheVariants.{Last, Numbered, All}
 use Rattle.nl_reports.specs.declared.frame.Frame.{Frame}
+use Rattle.nl_reports.specs.declared.picture.Known.{Known}
+use Rattle.nl_reports.specs.declared.picture.Known.TheVariants.{AsWritten, FoundAgain, SomeAgain, Missing}
 use Rattle.nl_reports.specs.declared.span.Span.{Span}
 use Rattle.nl_reports.specs.declared.times.Times.{Times}
 use Rattle.nl_reports.specs.declared.work.Work.{Work}
@@ -35,11 +40,24 @@ name_of commands wall tenths = joined (decimal commands ∷ commands_word comman
 abbrev pub name : Frame → Times → ℕ → List ℕ
 name f t commands = name_of commands f.wall (total t * 10 / max 1 f.wall)
 
+-- how what is drawn is known: a build, or all builds, of which some were found again; and there may be no build of that number
+abbrev pub known_by : Scope → Option ℕ → Known
+known_by scope None = AsWritten
+known_by Last (Some taken) = FoundAgain taken
+known_by (Numbered number) (Some taken) = FoundAgain taken
+known_by All (Some taken) = SomeAgain
+
+abbrev pub known_in : Scope → Told → Known
+known_in scope t = if is_some (chosen scope t) then known_by scope (taken_in scope t) else Missing (length t.builds)
+
 -- a build that was found again says so, and how many of its outputs later builds may have taken
-abbrev pub how_line : How → List ℕ
-how_line AsWritten = []
-how_line (FoundAgain taken) = joined (codes "<text class=\"m\" x=\"15400\" y=\"380\" text-anchor=\"end\">found again: later builds may have taken "
+abbrev pub known_line : Known → List ℕ
+known_line AsWritten = []
+known_line (FoundAgain taken) = joined (codes "<text class=\"m\" x=\"15400\" y=\"380\" text-anchor=\"end\">found again: later builds may have taken "
     ∷ decimal taken ∷ codes " of its outputs</text>\n" ∷ [])
+known_line SomeAgain = codes "<text class=\"m\" x=\"15400\" y=\"380\" text-anchor=\"end\">builds were found again</text>\n"
+known_line (Missing builds) = joined (codes "<text class=\"m\" x=\"15400\" y=\"380\" text-anchor=\"end\">no such build; builds: " ∷ decimal builds
+    ∷ codes "</text>\n" ∷ [])
 
 -- the name, which a screen reader tells and which is shown too, stands first, and the colours behind it
 abbrev pub root : List ℕ
@@ -52,8 +70,8 @@ abbrev pub root_start : ℕ → List ℕ
 root_start height = joined (codes "<svg xmlns=\"http://www.w3.org/2000/svg\" width=\"1600\" height=\"" ∷ decimal (height / 10)
     ∷ codes "\" viewBox=\"0 0 16000 " ∷ decimal height ∷ root ∷ [])
 
-abbrev pub head : Frame → Times → ℕ → How → List ℕ
-head f t commands how = root_start (line_at f (min commands 10 + 1)) ++ name f t commands ++ style ++ name f t commands ++ codes "</text>\n" ++ how_line how
+abbrev pub head : Frame → Times → ℕ → Known → List ℕ
+head f t commands known = root_start (line_at f (min commands 10 + 1)) ++ name f t commands ++ style ++ name f t commands ++ codes "</text>\n" ++ known_line known
 
 -- the colour of a kind and its part of the time; and of all
 abbrev pub legend_text : ℕ → List ℕ → ℕ → List ℕ
@@ -68,11 +86,11 @@ abbrev pub legend : Times → List ℕ
 legend t = legend_kind t Compile ++ legend_kind t Link ++ legend_kind t Archive ++ legend_kind t Generate ++ legend_kind t Test ++ legend_kind t Other
 
 -- what stands before the bars
-abbrev pub start_with : Frame → How → Times → ℕ → List ℕ
-start_with f how t commands = head f t commands how ++ legend t ++ ticks f ++ codes "<g class=\"t\" font-size=\"110\">\n"
+abbrev pub start_with : Frame → Known → Times → ℕ → List ℕ
+start_with f known t commands = head f t commands known ++ legend t ++ ticks f ++ codes "<g class=\"t\" font-size=\"110\">\n"
 
-abbrev pub start : Frame → How → List Job → List ℕ
-start f how js = start_with f how (times_of js) (length js)
+abbrev pub start : Frame → Known → List Job → List ℕ
+start f known js = start_with f known (times_of js) (length js)
 
 -- the bars: those of commands, and those of short ones together
 abbrev pub bars : Frame → List (Job × ℕ) → List ℕ
@@ -102,20 +120,52 @@ long_head f = long_head_text (line_at f 0)
 abbrev pub longest : Frame → List Job → List ℕ
 longest f js = long_head f ++ long_lines f 1 (long_jobs js) ++ codes "</svg>\n"
 
--- what stands behind the bars
-abbrev pub end : Frame → List Span → List Job → List ℕ
-end f cs js = codes "</g>\n" ++ curve f cs ++ longest f js
+-- an outline around the bar of a command, which is a pixel wide at the least, in these lanes; and of a critical path those of its commands
+abbrev pub edge_at : Frame → ℕ → ℕ
+edge_at f at = x_at f (min at 4294967295)
 
--- of commands in the order of START, each in its lane: their bars, and all
+abbrev pub outline_text : Frame → ℕ → ℕ → ℕ → List ℕ
+outline_text f lane x until = joined (codes "<rect class=\"c\" x=\"" ∷ decimal x ∷ codes "\" y=\"" ∷ decimal (y_at f lane)
+    ∷ codes "\" width=\"" ∷ decimal (max 10 (until - x)) ∷ codes "\" height=\"" ∷ decimal (height f) ∷ codes "\"/>\n" ∷ [])
+
+abbrev pub outline : Frame → List ℕ → Ran → List ℕ
+outline f ls r = outline_text f (get_or ls r.place 0) (edge_at f r.span.began) (edge_at f (closed_of r.span))
+
+abbrev pub outlined_style : List ℕ
+outlined_style = codes "<style>.c{fill:none;stroke:#d00000;stroke-width:30;pointer-events:none}@media(prefers-color-scheme:dark){.c{stroke:#ff6b6b}}</style>\n<rect class=\"c\" x=\"11800\" y=\"540\" width=\"140\" height=\"140\"/><text x=\"12000\" y=\"655\">critical path</text>\n"
+
+abbrev pub outlined : Frame → List ℕ → Option (List Ran) → List ℕ
+outlined f ls None = []
+outlined f ls (Some rans) = outlined_style ++ flat_map (outline f ls) rans
+
+-- what stands behind the bars
+abbrev pub end : Frame → List ℕ → Option (List Ran) → List Span → List Job → List ℕ
+end f ls path cs js = codes "</g>\n" ++ curve f cs ++ outlined f ls path ++ longest f js
+
+-- of commands, each in its lane: their bars, and all
 abbrev pub frame : List Job → Frame
 frame js = frame_of (spans js) (lanes (spans js))
 
 abbrev pub bars_of : List Job → List ℕ
 bars_of js = bars (frame js) (zip js (lanes (spans js)))
 
-abbrev pub picture : How → List Job → List ℕ
-picture how js = start (frame js) how js ++ bars_of js ++ end (frame js) (spans js) js
+abbrev pub picture : Known → Option (List Ran) → List Job → List ℕ
+picture known path js = start (frame js) known js ++ bars_of js ++ end (frame js) (lanes (spans js)) path (spans js) js
+
+-- of the builds that are asked for, one after another; by a graph, also of their critical path
+pub record IsOutlined (g : Graph) (known : Known) (js : List Job) (text : List ℕ) : Type 0 where
+  pub length : ℕ
+  pub rans : List Ran
+  pub is_path : IsFoundPath g js length rans
+  pub is : text ≡ picture known (Some rans) js
+
+abbrev pub IsDrawn : Option Graph → Known → List Job → List ℕ → Type 0
+IsDrawn None known js text = text ≡ picture known None js
+IsDrawn (Some g) known js text = IsOutlined g known js text
+
+abbrev pub IsPicture : Scope → Option Graph → Told → List ℕ → Type 0
+IsPicture scope g t text = IsDrawn g (known_in scope t) (jobs_in_turn scope t) text
 
 -- of the last build that isn't the manifest's alone
 abbrev pub picture_text : Told → List ℕ
-picture_text t = picture (unwrap_or (how_of (last_number t) t.builds) AsWritten) (by_start (build_jobs t (last_number t)))
+picture_text t = picture (known_in Last t) None (jobs_in_turn Last t)

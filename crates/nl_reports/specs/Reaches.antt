@@ -8,6 +8,7 @@ use Rattle.nl_reports.specs.GraphText.{ids_of, nodes_of}
 use Rattle.nl_reports.specs.Jobs.{Job}
 use Rattle.nl_reports.specs.Lasting.{is_among}
 use Rattle.nl_reports.specs.Paths.{Graph, IsPath, Node, length_of}
+use Rattle.nl_reports.specs.declared.critical.FoundPath.{FoundPath}
 use Rattle.nl_reports.specs.declared.critical.Ran.{Ran as HeldRan}
 use Rattle.nl_reports.specs.declared.critical.Reaches.{Reaches}
 use Rattle.nl_reports.specs.declared.graph.Edge.{Edge as HeldEdge}
@@ -19,6 +20,10 @@ ran_seen r = record { span = r.span; name = r.name.now; place = r.place }
 
 abbrev pub rans_seen : List (Option HeldRan) → List (Option Ran)
 rans_seen rs = map (option_map ran_seen) rs
+
+-- those of a path, if there is one
+abbrev pub rans_of : Option (Bor FoundPath) → Option (List Ran)
+rans_of path = option_map (λ (p : Bor FoundPath). map ran_seen p.now.commands.items) path
 
 -- the last command that has a name which a node may have
 abbrev pub ran_named_in : List Job → Option (Bor (List ℕ)) → Option Ran

@@ -1,5 +1,5 @@
 //! What `summary` tells of the critical path.
-ghost use Rattle.std.specs.Prelude.{◌≡◌, ◌<◌, ◌≤◌, ◌+◌, ◌^◌, ◌++◌, ℕ, List, Some, IfOk, IsTrue, OnOk, get_or, length, map, option_and_then, option_map, string_bytes};
+ghost use Rattle.std.specs.Prelude.{◌≡◌, ◌<◌, ◌≤◌, ◌+◌, ◌^◌, ◌++◌, ℕ, List, Some, IfOk, IfSome, IsTrue, OnOk, get_or, length, map, option_and_then, option_map, string_bytes};
 ghost use Rattle.std.specs.List.{All, sum_by};
 ghost use Rattle.nl_reports.specs.Critical.{IsCritical, IsFoundPath, any_named, lacking, ran_line, told_moment, told_path, took_time};
 ghost use Rattle.nl_reports.specs.Gains.{half_ran, halved, span_if};
@@ -56,6 +56,24 @@ pub fn critical_lines(
         lines.extend_from_slice(line.as_bytes())?;
     }
     Ok(Some(lines))
+}
+
+/// The critical path of these commands; None, where the graph lacks them all.
+pub(crate) fn path_in<'a>(
+    alloc: Global,
+    secret: Secret,
+    graph: &NinjaGraph<'a>,
+    jobs: &[Job<'_, '_>],
+) -> Result<Option<FoundPath<'a>>, AllocError>
+    ensures value { IfOk result (λ o. IfSome o
+        (λ found. IsFoundPath (seen_graph graph.now) (map seen jobs.now) found.length (map ran_seen found.commands.items))) }
+{
+    let Lacking { count, .. } = lacking_of(alloc, secret, graph, jobs)?;
+    if count > 0 && count == jobs.len() {
+        return Ok(None);
+    }
+    let reaches = Reaches::of(alloc, secret, graph, jobs)?;
+    Ok(Some(reaches.path(alloc)?))
 }
 
 // How many commands a graph lacks, and the sum of their milliseconds.

@@ -1,6 +1,6 @@
 //! The events of a trace.
-ghost use Rattle.std.specs.Prelude.{◌≡◌, ◌<◌, ◌^◌, ◌++◌, ◌∷◌, List, OnOk};
-ghost use Rattle.nl_reports.specs.Events.{args_of, build_event, command_event, event_text, running_event, shown};
+ghost use Rattle.std.specs.Prelude.{◌≡◌, ◌<◌, ◌^◌, ◌++◌, ◌∷◌, List, IfOk, OnOk, string_bytes};
+ghost use Rattle.nl_reports.specs.Events.{args_of, build_event, build_name, command_event, event_text, running_event, shown};
 ghost use Rattle.nl_reports.specs.Jobs.{seen};
 ghost use Rattle.nl_reports.specs.Moments.{AreMoments};
 ghost use Rattle.nl_reports.specs.Spans.{IsEarly};
@@ -14,7 +14,7 @@ use nl_builds::How;
 use nl_fields::append_hex64;
 use std::alloc::{AllocError, Global};
 
-/// The build that a trace is of: its number, when it began, and how it is known.
+/// The builds that a trace is of: their number, which is 0 of all, when they began, and how they are known.
 #[derive(Clone, Copy, Drop)]
 pub(crate) struct BuildEvent {
     pub number: u64,
@@ -31,20 +31,30 @@ pub(crate) fn append_build(
     ensures items { OnOk result (out.new.items ≡ out.old.items ++ event_text (build_event build)) }
 {
     let number = build.number;
+    let name = build_name(alloc, number)?;
     match build.how {
         How::AsWritten => {
             let text = format!(in alloc;
-                "{{\"args\":{{\"name\":\"build {number}\",\"rewritten\":false}},\"name\":\"process_name\",\"ph\":\"M\",\"pid\":{number}}}"
+                "{{\"args\":{{\"name\":\"{name}\",\"rewritten\":false}},\"name\":\"process_name\",\"ph\":\"M\",\"pid\":{number}}}"
             )?;
             append(text.as_bytes(), out)
         }
         How::FoundAgain { taken } => {
             let text = format!(in alloc;
-                "{{\"args\":{{\"name\":\"build {number}, found again\",\"rewritten\":true,\"taken\":{taken}}},\"name\":\"process_name\",\"ph\":\"M\",\"pid\":{number}}}"
+                "{{\"args\":{{\"name\":\"{name}, found again\",\"rewritten\":true,\"taken\":{taken}}},\"name\":\"process_name\",\"ph\":\"M\",\"pid\":{number}}}"
             )?;
             append(text.as_bytes(), out)
         }
     }
+}
+
+fn build_name(alloc: Global, number: u64) -> Result<String, AllocError>
+    ensures value { IfOk result (λ name. string_bytes name ≡ build_name number) }
+{
+    if number == 0 {
+        return format!(in alloc; "all builds");
+    }
+    format!(in alloc; "build {number}")
 }
 
 /// Appends a command in a lane, behind a comma.

@@ -1,19 +1,18 @@
 //! Laws of weighted times, lists, kinds, comparisons, plans, lanes, events, names and columns, each the contract of a function that does nothing.
-ghost use Rattle.std.specs.Prelude.{◌≡◌, ◌+◌, ◌*◌, ◌/◌, ◌<◌, ◌≤◌, ◌^◌, ◌++◌, ◌∷◌, [], ℕ, Bool, true, false, List, Some, count_by, length, map, slice_index, slice_index_or, take};
+ghost use Rattle.std.specs.Prelude.{◌≡◌, ◌+◌, ◌*◌, ◌/◌, ◌<◌, ◌≤◌, ◌^◌, ◌++◌, ◌∷◌, [], ℕ, Bool, true, false, IfSome, List, Some, count_by, length, map, slice_index, slice_index_or, take};
 ghost use Rattle.std.specs.List.{All, filter, flat_map, sum_by};
 ghost use Rattle.std.specs.List.Sorted.{IsPermutation};
 ghost use Rattle.serde_json.specs.Data.{Data, array};
 ghost use Rattle.serde_json.specs.Read.{read};
 ghost use Rattle.serde_json.specs.View.{items_of};
 ghost use Rattle.nl_builds.specs.Builds.{Told as BuildsTold};
-ghost use Rattle.nl_builds.specs.declared.build.Build.{Build};
 ghost use Rattle.nl_reports.specs.Bars.{bar, drawn_width, width_of};
 ghost use Rattle.nl_reports.specs.Columns.{IsQuiet, cell, column, field_at, fields_of, room, shown, width};
 ghost use Rattle.nl_reports.specs.Compare.{Compared, Log, classes, compared, is_of, new_of, of_class, old_of, pairs, told_pair};
 ghost use Rattle.nl_reports.specs.Escape.{IsMadeOfPieces, begins_character, cut_at, escaped};
 ghost use Rattle.nl_reports.specs.Escape.{IsQuiet as IsQuietByte};
 ghost use Rattle.nl_reports.specs.Frame.{x_at};
-ghost use Rattle.nl_reports.specs.Jobs.{Job, build_jobs, first_name, jobs_from, last_number};
+ghost use Rattle.nl_reports.specs.Jobs.{Job, first_name, jobs_from};
 ghost use Rattle.nl_reports.specs.Kinds.{kinds, named, of_kind};
 ghost use Rattle.nl_reports.specs.Lanes.{Begin, lanes};
 ghost use Rattle.nl_reports.specs.Lasting.{Rise, has_outputs, is_among, jobs_left, last_of, lasting, marked, of_name};
@@ -28,11 +27,13 @@ ghost use Rattle.nl_reports.specs.Spans.{IsEarly, time_of};
 ghost use Rattle.nl_reports.specs.Sweep.{busy_time, left_over, parts, runs_at, weight};
 ghost use Rattle.nl_reports.specs.Ticks.{IsRound, step_of};
 ghost use Rattle.nl_reports.specs.Times.{job_work, share_of, time_in, times_of, total};
-ghost use Rattle.nl_reports.specs.Trace.{array_text, trace_events, trace_text};
+ghost use Rattle.nl_reports.specs.Trace.{array_text, how_in, number_in, scoped_text, trace_events};
+ghost use Rattle.nl_reports.specs.Turns.{jobs_in_turn};
 ghost use Rattle.nl_reports.specs.Work.{is_same};
 ghost use Rattle.nl_reports.specs.declared.times.Times.{Times};
 ghost use Rattle.nl_reports.specs.declared.work.Work.{Work};
 ghost use Rattle.nl_reports.specs.declared.work.Work.TheVariants.{Archive, Compile, Generate, Link, Other, Test};
+ghost use Rattle.nl_reports.specs.declared.choice.Scope.{Scope};
 ghost use Rattle.nl_reports.specs.declared.sides.Rules.{Rules};
 ghost use Rattle.nl_reports.specs.declared.frame.Frame.{Frame};
 ghost use Rattle.nl_reports.specs.declared.kind.KindRule.{KindRule};
@@ -145,11 +146,10 @@ pub fn an_array_reads_as_its_events()
     ensures { (ds : List Data) → All IsEvent ds → read (array_text ds) ≡ Some (array (items_of ds)) }
 {}
 
-/// The text of a trace reads as the array of its events, where there are no more commands, builds and outputs than a memory holds.
+/// The text of a trace reads as the array of its events, where there are no more commands and outputs than a memory holds.
 pub fn a_trace_reads_as_its_events()
-    ensures { (t : BuildsTold) → All (λ (j : Job). IsEarly j.span) (build_jobs t (last_number t))
-        → length t.commands < 2 ^ 63 → length t.builds < 2 ^ 63 → All (λ (b : Build). FewTaken b.how) t.builds
-        → read (trace_text t) ≡ Some (array (items_of (trace_events t))) }
+    ensures { (scope : Scope) (t : BuildsTold) → length (jobs_in_turn scope t) < 2 ^ 63 → number_in scope t < 2 ^ 64
+        → IfSome (how_in scope t) FewTaken → read (scoped_text scope t) ≡ Some (array (items_of (trace_events scope t))) }
 {}
 
 /// No escaped text has a `<`, a `>`, a `"` or a control character below 32, and each `&` in it begins an entity.

@@ -1,34 +1,40 @@
-//! The text of `picture`: the last build as SVG.
-ghost use Rattle.std.specs.Prelude.{◌≡◌, ◌<◌, ◌^◌, ◌++◌, List, length, map, IfErr, IfOk, OnOk};
+//! The text of `picture`: builds as SVG.
+ghost use Rattle.std.specs.Prelude.{◌≡◌, ◌<◌, ◌^◌, ◌++◌, List, Some, length, map, option_map, IfErr, IfOk, OnOk};
 ghost use Rattle.std.specs.List.{All, zip};
 ghost use Rattle.nl_reports.specs.Bars.{joined};
 ghost use Rattle.nl_reports.specs.Frame.{IsFrame};
+ghost use Rattle.nl_reports.specs.GraphText.{seen_graph};
 ghost use Rattle.nl_reports.specs.Jobs.{seen, told};
 ghost use Rattle.nl_reports.specs.Moments.{AreMoments};
-ghost use Rattle.nl_reports.specs.Picture.{bars, commands_word, end, head, how_line, legend, legend_kind, long_line, longest, name, picture, picture_text, start};
+ghost use Rattle.nl_reports.specs.Picture.{IsOutlined, IsPicture, bars, commands_word, end, head, known_by, known_in, known_line, legend, legend_kind, long_line, longest, name, edge_at, outline, outline_text, outlined, picture, picture_text, start};
+ghost use Rattle.nl_reports.specs.Reaches.{ran_seen, rans_of};
 ghost use Rattle.nl_reports.specs.Rows.{falling};
 ghost use Rattle.nl_reports.specs.Spans.{IsEarly, time_of};
 ghost use Rattle.nl_reports.specs.Times.{AreTimesOf};
-ghost use Rattle.nl_reports.specs.Writing.{IsWriteFault, Moves, Writes};
+ghost use Rattle.nl_reports.specs.Writing.{IsFoundFault, IsWriteFault, Moves, PrintsInPieces, Writes};
 ghost use Rattle.nl_reports.specs.declared.span.Span.{Span};
 
 use crate::bars::{Mark, append_bar, append_mark, falling_marks};
-use crate::choice::last_number;
+use crate::choice::{Scope, chosen};
+use crate::critical::{FoundPath, Ran, path_in};
 use crate::curve::append_curve;
 use crate::escape::append_label;
 use crate::frame::Frame;
-use crate::job::{Job, jobs_by_start, jobs_of};
-use crate::lanes::lanes_of;
+use crate::graph::NinjaGraph;
+use crate::job::Job;
+use crate::lanes::{lane_at, lanes_of};
 use crate::moments::Moments;
 use crate::numbers::spans_of;
 use crate::ranking::{Ranking, highest};
+use crate::summary::taken_in;
 use crate::text::{Part, append, append_parts};
 use crate::ticks::append_ticks;
 use crate::times::Times;
-use crate::trace::how_of;
+use crate::turns::jobs_in_turn;
 use crate::work::{Work, place, word};
 use crate::writing::{write_full, write_rest};
-use nl_builds::{Builds, How};
+use nl_builds::Builds;
+use nl_table::Secret;
 use nl_tool_texts::ToolFault;
 use std::alloc::{AllocError, Global};
 use std::io::Write;
@@ -42,11 +48,24 @@ const ROOT: &[u8] =
 const STYLE: &[u8] =
     b"</title>\n<style>svg{fill:#222;background:#fff}.p{fill:#fff}.m{fill:#666}.g{stroke:#ddd;stroke-width:10}.q{fill:#cfd8e3}.t{fill:#111}.t text{pointer-events:none}.k0{fill:#56b4e9}.k1{fill:#e69f00}.k2{fill:#f0e442}.k3{fill:#009e73}.k4{fill:#cc79a7}.k5{fill:#bbb}@media(prefers-color-scheme:dark){svg{fill:#eee;background:#1b1b1b}.p{fill:#1b1b1b}.m{fill:#aaa}.g{stroke:#444}.q{fill:#3b4656}}</style>\n<rect class=\"p\" width=\"100%\" height=\"100%\"/>\n<text x=\"1000\" y=\"380\" font-size=\"220\">";
 
-/// Writes a picture of the last build that isn't the manifest's alone: each command is a bar in a lane, in which no other runs as it does,
-/// with its name where there is room for it, and with its first output, how many more it has, and its time as a title. Commands that are
-/// too short for a bar have one together, by lane, pixel and kind. Above is the part of each kind, below the curve of how many run, and
-/// the commands that took the longest. If the build was found again, a line of text says so. The text is written as it is made, so a part
-/// of it may stand where memory is refused.
+// An outline for the commands of a critical path, and what it is called.
+const OUTLINED: &[u8] =
+    b"<style>.c{fill:none;stroke:#d00000;stroke-width:30;pointer-events:none}@media(prefers-color-scheme:dark){.c{stroke:#ff6b6b}}</style>\n<rect class=\"c\" x=\"11800\" y=\"540\" width=\"140\" height=\"140\"/><text x=\"12000\" y=\"655\">critical path</text>\n";
+
+/// How what is drawn is known.
+#[derive(Clone, Copy, Drop)]
+pub enum Known {
+    AsWritten,
+    /// Later builds may have taken so many of its outputs.
+    FoundAgain { taken: usize },
+    /// Of all builds, some were.
+    SomeAgain,
+    /// There is no such build, but so many.
+    Missing { builds: usize },
+}
+
+/// Writes a picture of the last build that isn't the manifest's alone.
+#[tactic(auto, using(crate::proofs::DrawLemmas::none_drawn))]
 pub fn write_picture<W: Write>(
     alloc: Global,
     from: &Builds,
@@ -55,22 +74,88 @@ pub fn write_picture<W: Write>(
     ensures writes { Writes (W.contents writer.old) (W.contents writer.new) (picture_text (told from.now)) result }
     ensures faults { IfErr result IsWriteFault }
 {
-    let number = last_number(from);
-    let how = how_of(number, from.builds.as_slice()).unwrap_or(How::AsWritten);
-    let jobs = jobs_by_start(jobs_of(alloc, from, number)?)?;
-    write_jobs(alloc, how, jobs.as_slice(), writer)
+    let known = known_in(Scope::Last, from);
+    let jobs = jobs_in_turn(alloc, Scope::Last, from)?;
+    write_jobs(alloc, known, None, jobs.as_slice(), writer)
 }
 
-// Writes a picture of these commands, which are in the order of START.
-#[tactic(auto, using(crate::proofs::DrawLemmas::none_drawn))]
-fn write_jobs<W: Write>(
+/// Writes a picture of builds, one after another on one clock: each command is a bar in a lane, in which no other runs as it does, with its
+/// name where there is room for it, and with its first output, how many more it has, and its time as a title. Commands that are too short
+/// for a bar have one together, by lane, pixel and kind. By a graph, the commands of the critical path have an outline. Above is the part
+/// of each kind, below the curve of how many run, and the commands that took the longest. If a build was found again, a line of text says
+/// so. The text is written as it is made, so a part of it may stand where memory is refused. Names are hashed under a secret.
+pub fn draw_builds<W: Write>(
     alloc: Global,
-    how: How,
+    secret: Secret,
+    scope: Scope,
+    graph: Option<&NinjaGraph<'_>>,
+    from: &Builds,
+    writer: &mut W,
+) -> Result<(), ToolFault>
+    ensures prints { PrintsInPieces (IsPicture scope (option_map (λ g. seen_graph g.now) graph.entry) (told from.now))
+        (W.contents writer.old) (W.contents writer.new) result }
+    ensures faults { IfErr result (IsFoundFault graph.entry) }
+{
+    let known = known_in(scope, from);
+    let jobs = jobs_in_turn(alloc, scope, from)?;
+    let jobs = jobs.as_slice();
+    match graph {
+        Some(graph) => write_outlined(alloc, secret, graph, known, jobs, writer),
+        None => write_jobs(alloc, known, None, jobs, writer),
+    }
+}
+
+// Writes a picture of these commands with their critical path by a graph.
+fn write_outlined<W: Write>(
+    alloc: Global,
+    secret: Secret,
+    graph: &NinjaGraph<'_>,
+    known: Known,
     jobs: &[Job<'_, '_>],
     writer: &mut W,
 ) -> Result<(), ToolFault>
     requires early { All (λ j. IsEarly j.span) jobs.now }
-    ensures writes { Writes (W.contents writer.old) (W.contents writer.new) (picture how (map seen jobs.now)) result }
+    ensures prints { PrintsInPieces (IsOutlined (seen_graph graph.now) known (map seen jobs.now)) (W.contents writer.old) (W.contents writer.new) result }
+    ensures faults { IfErr result (IsFoundFault (Some graph)) }
+{
+    let Some(found) = path_in(alloc, secret, graph, jobs)? else {
+        return Err(ToolFault::OtherGraph);
+    };
+    write_jobs(alloc, known, Some(&found), jobs, writer)
+}
+
+fn known_in(scope: Scope, from: &Builds) -> Known
+    ensures { result ≡ known_in scope (told from.now) }
+{
+    if chosen(scope, from).is_none() {
+        return Known::Missing {
+            builds: from.builds.len(),
+        };
+    }
+    known_by(scope, taken_in(scope, from))
+}
+
+fn known_by(scope: Scope, taken: Option<usize>) -> Known
+    ensures { result ≡ known_by scope taken }
+{
+    match (scope, taken) {
+        (_, None) => Known::AsWritten,
+        (Scope::All, Some(_)) => Known::SomeAgain,
+        (Scope::Last | Scope::Numbered(_), Some(taken)) => Known::FoundAgain { taken },
+    }
+}
+
+// Writes a picture of these commands, each build's in the order of START, and of those of a path.
+#[tactic(auto, using(crate::proofs::DrawLemmas::none_drawn))]
+fn write_jobs<W: Write>(
+    alloc: Global,
+    known: Known,
+    path: Option<&FoundPath<'_>>,
+    jobs: &[Job<'_, '_>],
+    writer: &mut W,
+) -> Result<(), ToolFault>
+    requires early { All (λ j. IsEarly j.span) jobs.now }
+    ensures writes { Writes (W.contents writer.old) (W.contents writer.new) (picture known (rans_of path.entry) (map seen jobs.now)) result }
     ensures faults { IfErr result IsWriteFault }
 {
     let spans = spans_of(alloc, jobs)?;
@@ -78,9 +163,17 @@ fn write_jobs<W: Write>(
     let moments = Moments::of(alloc, spans.as_slice())?;
     let frame = Frame::of(spans.as_slice(), lanes.as_slice());
     let mut start = Vec::new(alloc);
-    append_start(&frame, how, jobs, &mut start)?;
+    append_start(&frame, known, jobs, &mut start)?;
     let mut end = Vec::new(alloc);
-    append_end(alloc, &frame, &moments, jobs, &mut end)?;
+    append_end(
+        alloc,
+        &frame,
+        &moments,
+        path,
+        lanes.as_slice(),
+        jobs,
+        &mut end,
+    )?;
     write_bars(
         alloc,
         &frame,
@@ -95,38 +188,117 @@ fn write_jobs<W: Write>(
 // Appends what stands before the bars.
 fn append_start(
     frame: &Frame,
-    how: How,
+    known: Known,
     jobs: &[Job<'_, '_>],
     out: &mut Vec<u8>,
 ) -> Result<(), AllocError>
     requires early { All (λ j. IsEarly j.span) jobs.now }
     requires frame { IsFrame frame.now }
-    ensures items { OnOk result (out.new.items ≡ out.old.items ++ start frame.now how (map seen jobs.now)) }
+    ensures items { OnOk result (out.new.items ≡ out.old.items ++ start frame.now known (map seen jobs.now)) }
 {
     let times = Times::of(jobs);
     let commands = jobs.len() as u64;
-    append_head(frame, &times, commands, how, out)?;
+    append_head(frame, &times, commands, known, out)?;
     append_legend(&times, commands, out)?;
     append_ticks(frame, out)?;
     append(b"<g class=\"t\" font-size=\"110\">\n", out)
 }
 
-// Appends what stands behind the bars of commands that ran at these moments.
+// Appends what stands behind the bars of commands that ran at these moments, in these lanes.
 fn append_end(
     alloc: Global,
     frame: &Frame,
     moments: &Moments,
+    path: Option<&FoundPath<'_>>,
+    lanes: &[u64],
     jobs: &[Job<'_, '_>],
     out: &mut Vec<u8>,
 ) -> Result<(), AllocError>
     requires early { All (λ j. IsEarly j.span) jobs.now }
     requires frame { IsFrame frame.now }
     ensures items { (cs : List Span) → AreMoments cs moments.now
-        → OnOk result (out.new.items ≡ out.old.items ++ end frame.now cs (map seen jobs.now)) }
+        → OnOk result (out.new.items ≡ out.old.items ++ end frame.now lanes.now (rans_of path.entry) cs (map seen jobs.now)) }
 {
     append(b"</g>\n", out)?;
     append_curve(frame, moments, out)?;
+    append_outlined(frame, lanes, path, out)?;
     append_longest(alloc, frame, jobs, out)
+}
+
+// Appends the outlines of the commands of a path, if there is one.
+fn append_outlined(
+    frame: &Frame,
+    lanes: &[u64],
+    path: Option<&FoundPath<'_>>,
+    out: &mut Vec<u8>,
+) -> Result<(), AllocError>
+    ensures items { OnOk result (out.new.items ≡ out.old.items ++ outlined frame.now lanes.now (rans_of path.entry)) }
+{
+    match path {
+        Some(found) => append_outlines(frame, lanes, found.commands.as_slice(), out),
+        None => Ok(()),
+    }
+}
+
+fn append_outlines(
+    frame: &Frame,
+    lanes: &[u64],
+    commands: &[Ran<'_>],
+    out: &mut Vec<u8>,
+) -> Result<(), AllocError>
+    ensures items { OnOk result (out.new.items ≡ out.old.items ++ outlined frame.now lanes.now (Some (map ran_seen commands.now))) }
+{
+    append(OUTLINED, out)?;
+    for i in 0..commands.len() {
+        append_outline(frame, lanes, &commands[i], out)?;
+    }
+    Ok(())
+}
+
+fn append_outline(
+    frame: &Frame,
+    lanes: &[u64],
+    ran: &Ran<'_>,
+    out: &mut Vec<u8>,
+) -> Result<(), AllocError>
+    ensures items { OnOk result (out.new.items ≡ out.old.items ++ outline frame.now lanes.now (ran_seen ran.now)) }
+{
+    let x = edge_at(frame, ran.span.began);
+    let until = edge_at(frame, ran.span.closed());
+    append_edges(frame, lane_at(lanes, ran.place), x, until, out)
+}
+
+// Where a moment stands, as far as commands run.
+fn edge_at(frame: &Frame, at: u64) -> u64
+    ensures { result ≡ edge_at frame.now at }
+{
+    frame.x_at(at.min(4_294_967_295))
+}
+
+fn append_edges(
+    frame: &Frame,
+    lane: u64,
+    x: u64,
+    until: u64,
+    out: &mut Vec<u8>,
+) -> Result<(), AllocError>
+    ensures items { OnOk result (out.new.items ≡ out.old.items ++ outline_text frame.now lane x until) }
+{
+    let width = until.saturating_sub(x).max(10);
+    append_parts(
+        &[
+            Part::Text(b"<rect class=\"c\" x=\""),
+            Part::Number(u128::from(x)),
+            Part::Text(b"\" y=\""),
+            Part::Number(frame.y_at(lane)),
+            Part::Text(b"\" width=\""),
+            Part::Number(u128::from(width)),
+            Part::Text(b"\" height=\""),
+            Part::Number(frame.height()),
+            Part::Text(b"\"/>\n"),
+        ],
+        out,
+    )
 }
 
 // Writes the bars of commands that have these lanes, between what stands before and behind them.
@@ -182,12 +354,12 @@ fn append_head(
     frame: &Frame,
     times: &Times,
     commands: u64,
-    how: How,
+    known: Known,
     out: &mut Vec<u8>,
 ) -> Result<(), AllocError>
     requires few { AreTimesOf commands times.now }
     requires small { commands < 2 ^ 63 }
-    ensures items { OnOk result (out.new.items ≡ out.old.items ++ head frame.now times.now commands how) }
+    ensures items { OnOk result (out.new.items ≡ out.old.items ++ head frame.now times.now commands known) }
 {
     let height = frame.line_at(commands.min(LISTED) + 1);
     append_parts(
@@ -204,7 +376,7 @@ fn append_head(
     append(STYLE, out)?;
     append_name(frame, times, commands, out)?;
     append(b"</text>\n", out)?;
-    append_how(how, out)
+    append_known(known, out)
 }
 
 // What was built: how many commands, how long it took, and how many ran at a time.
@@ -244,18 +416,32 @@ fn commands_word(commands: u64) -> &'static [u8]
     }
 }
 
-fn append_how(how: How, out: &mut Vec<u8>) -> Result<(), AllocError>
-    ensures items { OnOk result (out.new.items ≡ out.old.items ++ how_line how) }
+fn append_known(known: Known, out: &mut Vec<u8>) -> Result<(), AllocError>
+    ensures items { OnOk result (out.new.items ≡ out.old.items ++ known_line known) }
 {
-    match how {
-        How::AsWritten => Ok(()),
-        How::FoundAgain { taken } => append_parts(
+    match known {
+        Known::AsWritten => Ok(()),
+        Known::FoundAgain { taken } => append_parts(
             &[
                 Part::Text(
                     b"<text class=\"m\" x=\"15400\" y=\"380\" text-anchor=\"end\">found again: later builds may have taken ",
                 ),
                 Part::Number(taken as u128),
                 Part::Text(b" of its outputs</text>\n"),
+            ],
+            out,
+        ),
+        Known::SomeAgain => append(
+            b"<text class=\"m\" x=\"15400\" y=\"380\" text-anchor=\"end\">builds were found again</text>\n",
+            out,
+        ),
+        Known::Missing { builds } => append_parts(
+            &[
+                Part::Text(
+                    b"<text class=\"m\" x=\"15400\" y=\"380\" text-anchor=\"end\">no such build; builds: ",
+                ),
+                Part::Number(builds as u128),
+                Part::Text(b"</text>\n"),
             ],
             out,
         ),

@@ -295,8 +295,8 @@ pub fn taken_in(scope: Scope, from: &Builds) -> Option<usize>
     ))
 }
 
-// Of one of these.
-fn most_taken(builds: &[Build]) -> Option<usize>
+/// Of one of these.
+pub(crate) fn most_taken(builds: &[Build]) -> Option<usize>
     ensures { result ≡ most_taken None builds.now }
 {
     let mut most = None;

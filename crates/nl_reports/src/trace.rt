@@ -4,51 +4,86 @@ ghost use Rattle.std.specs.List.{All};
 ghost use Rattle.nl_reports.specs.Jobs.{seen, told};
 ghost use Rattle.nl_reports.specs.Moments.{AreMoments};
 ghost use Rattle.nl_reports.specs.Spans.{IsEarly};
-ghost use Rattle.nl_reports.specs.Trace.{array_text, behind_commas, build_events, events_of, how_of, trace_text};
+ghost use Rattle.nl_reports.specs.Trace.{array_text, behind_commas, build_events, events_of, how_among, how_in, number_in, scoped_text, trace_text};
 ghost use Rattle.nl_reports.specs.Writing.{IsWriteFault, Writes};
 ghost use Rattle.nl_reports.specs.declared.span.Span.{Span};
 
-use crate::choice::last_number;
+use crate::choice::{Choice, Scope, chosen, last_number};
 use crate::events::{BuildEvent, append_build, append_command, append_running};
 use crate::frame::first_began;
-use crate::job::{Job, jobs_by_start, jobs_of};
+use crate::job::{Job, between};
 use crate::lanes::{lane_at, lanes_of};
 use crate::moments::Moments;
 use crate::numbers::spans_of;
+use crate::summary::most_taken;
 use crate::text::append;
+use crate::turns::jobs_in_turn;
 use crate::writing::{write_full, write_rest};
 use nl_builds::{Build, Builds, How};
 use nl_tool_texts::{ToolFault, write_out};
 use std::alloc::{AllocError, Global};
 use std::io::Write;
 
-/// Writes what the last build did that isn't the manifest's alone, as the events of a trace: a JSON array. Each command has a lane, in
-/// which no other runs as it does, and all its outputs; and it is told how many run as it begins and as it has ended. The text is written
-/// as it is made, so a part of it may stand where memory is refused.
-#[tactic(auto, using(crate::proofs::TraceLemmas::none_told))]
+/// Writes what the last build did that isn't the manifest's alone.
 pub fn write_trace<W: Write>(alloc: Global, from: &Builds, writer: &mut W) -> Result<(), ToolFault>
     ensures writes { Writes (W.contents writer.old) (W.contents writer.new) (trace_text (told from.now)) result }
     ensures faults { IfErr result IsWriteFault }
 {
-    let number = last_number(from);
-    let Some(how) = how_of(number, from.builds.as_slice()) else {
-        return write_out(b"[]", writer);
-    };
-    let jobs = jobs_by_start(jobs_of(alloc, from, number)?)?;
-    write_events(alloc, number as u64, how, jobs.as_slice(), writer)
+    trace_builds(alloc, Scope::Last, from, writer)
 }
 
-/// How the build of a number is known; None if there is no such build.
-pub(crate) fn how_of(number: usize, builds: &[Build]) -> Option<How>
-    ensures { result ≡ how_of number builds.now }
+/// Writes what builds did, one after another on one clock, as the events of a trace: a JSON array. Each command has a lane, in which no other
+/// runs as it does, and all its outputs; and it is told how many run as it begins and as it has ended. The text is written as it is made, so
+/// a part of it may stand where memory is refused.
+#[tactic(auto, using(crate::proofs::TraceLemmas::none_told))]
+pub fn trace_builds<W: Write>(
+    alloc: Global,
+    scope: Scope,
+    from: &Builds,
+    writer: &mut W,
+) -> Result<(), ToolFault>
+    ensures writes { Writes (W.contents writer.old) (W.contents writer.new) (scoped_text scope (told from.now)) result }
+    ensures faults { IfErr result IsWriteFault }
 {
-    match builds.get(number.saturating_sub(1)) {
-        Some(build) => Some(build.how),
-        None => None,
+    let Some(how) = how_in(scope, from) else {
+        return write_out(b"[]", writer);
+    };
+    let number = number_in(scope, from);
+    let jobs = jobs_in_turn(alloc, scope, from)?;
+    write_events(alloc, number, how, jobs.as_slice(), writer)
+}
+
+fn number_in(scope: Scope, from: &Builds) -> u64
+    ensures { result ≡ number_in scope (told from.now) }
+{
+    match scope {
+        Scope::Last => last_number(from) as u64,
+        Scope::Numbered(number) => number,
+        Scope::All => 0,
     }
 }
 
-// Writes the events of the build of this number, which has these commands.
+// How the builds are known of which is told; None if there is no such build.
+fn how_in(scope: Scope, from: &Builds) -> Option<How>
+    ensures { result ≡ how_in scope (told from.now) }
+{
+    let Choice { first, last } = chosen(scope, from)?;
+    how_among(between(first.saturating_sub(1), last, from.builds.as_slice()))
+}
+
+fn how_among(builds: &[Build]) -> Option<How>
+    ensures { result ≡ how_among builds.now }
+{
+    if builds.is_empty() {
+        return None;
+    }
+    match most_taken(builds) {
+        Some(taken) => Some(How::FoundAgain { taken }),
+        None => Some(How::AsWritten),
+    }
+}
+
+// Writes the events of the builds of this number, which have these commands.
 #[tactic(auto, using(crate::proofs::TraceLemmas::none_told))]
 fn write_events<W: Write>(
     alloc: Global,

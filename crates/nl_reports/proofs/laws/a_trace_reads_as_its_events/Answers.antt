@@ -4,4 +4,4 @@ use Rattle.nl_reports.proofs.ReadLemmas.{reads_as}
 use Rattle.nl_reports.proofs.laws.a_trace_reads_as_its_events.Goals as goal
 
 pub returns : goal.returns
-returns c = λ t early commands builds taken. reads_as (trace_events t) (trace_fits t early commands builds taken)
+returns c = λ scope t few low taken. reads_as (trace_events scope t) (trace_fits scope t few low taken)

@@ -1,7 +1,7 @@
 use Rattle.std.proofs.Common.{◌∙◌, ◌+◌, ◌++◌, ℕ, ap, codes}
 use Rattle.std.proofs.lemmas.Result.{on_ok_weaker}
 use Rattle.nl_reports.specs.Frame.{line_at}
-use Rattle.nl_reports.specs.Picture.{how_line, name, root_start, style}
+use Rattle.nl_reports.specs.Picture.{known_line, name, root_start, style}
 use Rattle.nl_reports.proofs.TextLemmas.{two_parts}
 use Rattle.nl_reports.proofs.picture.append_head.Goals as goal
 
@@ -16,4 +16,4 @@ returns c =
     let styled = two_parts old _ _ _ style named c.in_ok-append.ensures.items in
     let shown = two_parts old _ _ _ text styled c.in_ok-append_name-2.ensures.items in
     let closed = two_parts old _ _ _ (codes "</text>\n") shown c.in_ok-append-2.ensures.items in
-    record { items = on_ok_weaker c.append_how.result (λ h. two_parts old _ _ _ (how_line c.args.how) closed h) c.append_how.ensures.items }
+    record { items = on_ok_weaker c.append_known.result (λ h. two_parts old _ _ _ (known_line c.args.known) closed h) c.append_known.ensures.items }

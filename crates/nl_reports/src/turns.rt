@@ -1,0 +1,140 @@
+//! Builds one after another on one clock.
+ghost use Rattle.std.specs.Prelude.{◌≡◌, ◌<◌, ◌++◌, ◌^◌, map, IfOk};
+ghost use Rattle.std.specs.List.{All};
+ghost use Rattle.nl_reports.specs.Frame.{first_began};
+ghost use Rattle.nl_reports.specs.Jobs.{build_jobs, seen, told};
+ghost use Rattle.nl_reports.specs.Rows.{by_start, spans};
+ghost use Rattle.nl_reports.specs.Spans.{IsEarly};
+ghost use Rattle.nl_reports.specs.Turns.{clock_behind, jobs_in_turn, jobs_turned, turned, turned_job, turned_jobs, turned_span};
+
+use crate::choice::{Choice, Scope, chosen};
+use crate::job::{Job, between, jobs_by_start, jobs_of};
+use crate::span::Span;
+use nl_builds::{Build, Builds};
+use std::alloc::{AllocError, Global};
+
+// The last moment of the clock.
+const LAST: u64 = 4_294_967_295;
+
+/// The commands of these builds, on a clock on which each build begins as the one before it has ended, the first at 0; those of each in the
+/// order of START.
+pub fn jobs_in_turn<'s, 'a>(
+    alloc: Global,
+    scope: Scope,
+    from: &'s Builds<'a>,
+) -> Result<Vec<Job<'s, 'a>>, AllocError>
+    ensures value { IfOk result (λ jobs. map seen jobs.items ≡ jobs_in_turn scope (told from.now)) }
+    ensures early { IfOk result (λ jobs. All (λ j. IsEarly j.span) jobs.items) }
+{
+    match chosen(scope, from) {
+        Some(Choice { first, last }) => {
+            let builds = between(first.saturating_sub(1), last, from.builds.as_slice());
+            jobs_turned(alloc, from, first, builds)
+        }
+        None => Ok(Vec::new(alloc)),
+    }
+}
+
+// Those of these builds, of which the first has this number.
+fn jobs_turned<'s, 'a>(
+    alloc: Global,
+    from: &'s Builds<'a>,
+    first: usize,
+    builds: &[Build],
+) -> Result<Vec<Job<'s, 'a>>, AllocError>
+    requires small { first < 2 ^ 63 }
+    ensures value { IfOk result (λ jobs. map seen jobs.items ≡ jobs_turned 0 (told from.now) first builds.now) }
+    ensures early { IfOk result (λ jobs. All (λ j. IsEarly j.span) jobs.items) }
+{
+    let mut all = Vec::new(alloc);
+    let mut clock = 0;
+    let mut number = first;
+    for _build in builds {
+        let jobs = jobs_by_start(jobs_of(alloc, from, number)?)?;
+        clock = push_build(jobs.as_slice(), clock, &mut all)?;
+        number += 1;
+    }
+    Ok(all)
+}
+
+// Adds the commands of a build that begins at a moment of the clock, and tells when all have ended.
+fn push_build<'s, 'a>(
+    jobs: &[Job<'s, 'a>],
+    clock: u64,
+    all: &mut Vec<Job<'s, 'a>>,
+) -> Result<u64, AllocError>
+    requires jobs { All (λ j. IsEarly j.span) jobs.now }
+    requires clock { clock < 2 ^ 32 }
+    requires early { All (λ j. IsEarly j.span) all.old.items }
+    ensures jobs { IfOk result (λ last. map seen all.new.items ≡ map seen all.old.items ++ turned_jobs clock (map seen jobs.now)) }
+    ensures clock { IfOk result (λ last. last ≡ clock_behind clock (turned_jobs clock (map seen jobs.now))) }
+    ensures bound { IfOk result (λ last. last < 2 ^ 32) }
+    ensures early { IfOk result (λ last. All (λ j. IsEarly j.span) all.new.items) }
+{
+    push_turned(jobs, began_of(jobs), clock, all)
+}
+
+fn began_of(jobs: &[Job<'_, '_>]) -> u64
+    ensures { result ≡ first_began (spans (map seen jobs.now)) }
+{
+    match jobs.first() {
+        Some(job) => job.span.began,
+        None => 0,
+    }
+}
+
+fn push_turned<'s, 'a>(
+    jobs: &[Job<'s, 'a>],
+    began: u64,
+    clock: u64,
+    all: &mut Vec<Job<'s, 'a>>,
+) -> Result<u64, AllocError>
+    requires jobs { All (λ j. IsEarly j.span) jobs.now }
+    requires clock { clock < 2 ^ 32 }
+    requires early { All (λ j. IsEarly j.span) all.old.items }
+    ensures jobs { IfOk result (λ last. map seen all.new.items ≡ map seen all.old.items ++ map (turned_job began clock) (map seen jobs.now)) }
+    ensures clock { IfOk result (λ last. last ≡ clock_behind clock (map (turned_job began clock) (map seen jobs.now))) }
+    ensures bound { IfOk result (λ last. last < 2 ^ 32) }
+    ensures early { IfOk result (λ last. All (λ j. IsEarly j.span) all.new.items) }
+{
+    let mut last = clock;
+    for job in jobs {
+        let moved = turned_job(job, began, clock);
+        last = last.max(moved.span.closed());
+        all.push(moved)?;
+    }
+    Ok(last)
+}
+
+fn turned_job<'s, 'a>(job: &Job<'s, 'a>, began: u64, clock: u64) -> Job<'s, 'a>
+    requires early { IsEarly job.now.span }
+    requires clock { clock < 2 ^ 32 }
+    ensures value { seen result ≡ turned_job began clock (seen job.now) }
+    ensures early { IsEarly result.span }
+{
+    Job {
+        span: turned_span(job.span, began, clock),
+        ..*job
+    }
+}
+
+fn turned_span(span: Span, began: u64, clock: u64) -> Span
+    requires early { IsEarly span }
+    requires clock { clock < 2 ^ 32 }
+    ensures value { result ≡ turned_span began clock span }
+    ensures early { IsEarly result }
+{
+    Span {
+        began: turned(span.began, began, clock),
+        ended: turned(span.ended, began, clock),
+    }
+}
+
+fn turned(at: u64, began: u64, clock: u64) -> u64
+    requires early { at < 2 ^ 32 }
+    requires clock { clock < 2 ^ 32 }
+    ensures value { result ≡ turned began clock at }
+    ensures bound { result < 2 ^ 32 }
+{
+    (at.saturating_sub(began) + clock).min(LAST)
+}
