@@ -1,9 +1,10 @@
 #!/usr/bin/env python3
-"""Tries what the program prints at a terminal: columns in place of tabs, and how far a log is read where that takes long.
+"""Tries what the program prints at a terminal: columns in place of tabs, why something was refused, which log is read where none is named,
+and how far a log is read where that takes long.
 
     python3 tests/terminal.py PROGRAM
 
-A pseudoterminal stands for standard output, or for standard error. What is wanted is laid out by hand, or by `columns_of`
+A pseudoterminal stands for standard output, for standard error, or for all three streams. What is wanted is laid out by hand, or by `columns_of`
 here: fields that tabs part, where the lines with as many fields share their columns.
 """
 import os
@@ -11,6 +12,7 @@ import pty
 import subprocess
 import sys
 import tempfile
+import termios
 import time
 
 from trials import main, run
@@ -42,6 +44,7 @@ HOSTILE_SHOWN = [
     "äß€.o".encode(),
     b"a\\b\x80\x9b\xff.o",
 ]
+LOST = "nlog: LOG {}: No such file or directory (os error 2)\n"
 WIDE_BY_TIME = b"by-time    9  4.50  \xe2\x82\xac.o\nby-time    9  4.50  longer.o\n"
 # Of the commands of both, that of `b.o` took 5 ms less, and that of `a.o` and `a.d` 10 ms.
 COMPARED = (
@@ -145,6 +148,61 @@ def try_columns(trials, program, log, earlier):
         trials.want(f"{word}: with --tabs", run([*words, "--tabs"])[0], 2)
 
 
+def typed(words, room, text=b""):
+    """Runs a program with one terminal for all three streams, at which a text is typed, and Ctrl-D: its status, and what the terminal shows."""
+    ours, theirs = pty.openpty()
+    mode = termios.tcgetattr(theirs)
+    mode[3] &= ~termios.ECHO
+    termios.tcsetattr(theirs, termios.TCSANOW, mode)
+    os.write(ours, text + b"\x04")
+    ran = subprocess.Popen(words, stdin=theirs, stdout=theirs, stderr=theirs, cwd=room)
+    os.close(theirs)
+    shown = read_all(ours)
+    return ran.wait(), shown
+
+
+def try_refusals(trials, program, room, log):
+    """At a terminal a refusal says why, and in a pipe only where that is asked for."""
+    lost = f"{room}/lost"
+    cases = (
+        (["builds", lost], b"", "cannot read", f"LOG {lost}: No such file or directory (os error 2)"),
+        (["show", log], b"", "log version not supported", f"LOG {log}: version 7; add --log-version auto"),
+        (["check"], b"hello\n", "not a ninja log", 'standard input: it begins with "hello\\x0a"'),
+        (["summary", "--build", "0", log], b"", "bad number", "BUILD 0: it is less than 1"),
+        (["record", lost, "1", "2", "x", "out", "c"], b"", "bad number", "MTIME x: it isn't a number"),
+    )
+    for words, text, fault, why in cases:
+        words = [program, *words]
+        both = f"nlog: {fault}\nnlog: {why}\n".encode()
+        what = f"{words[1]}: {fault}"
+        trials.want(f"{what}: at a terminal", at_terminal(words, False, text), (1, b"", both))
+        trials.want(f"{what}: in a pipe", run(words, stdin=None, input=text), (1, b"", f"nlog: {fault}\n".encode()))
+        trials.want(f"{what}: in a pipe, with -v", run([*words[:2], "-v", *words[2:]], stdin=None, input=text), (1, b"", both))
+    trials.want("show: a missing log at a terminal", at_terminal([program, "show", lost], False), (0, b"", b""))
+
+
+def try_typed(trials, program, room):
+    """With a terminal for standard input a report is of the log of the folder, and what reads standard input says so."""
+    here = f"{room}/here"
+    os.mkdir(here)
+    reads = b"nlog: it reads standard input, up to Ctrl-D\n"
+    lost = b"nlog: cannot read\n" + LOST.format(".ninja_log").encode()
+    for word in ("entries", "damage", "doubt", "builds", "summary", "trace", "picture"):
+        trials.want(f"{word}: no log in the folder", typed([program, word], here), (1, lost))
+    with open(f"{here}/.ninja_log", "wb") as file:
+        file.write(LOG)
+    trials.want("builds: the log of the folder", typed([program, "builds"], here), (0, BUILDS))
+    trials.want("summary: the log of the folder", typed([program, "summary"], here), (0, SUMMARY))
+    for word in ("entries", "damage", "trace", "picture"):
+        trials.want(f"{word}: the log of the folder", typed([program, word], here), (0, run([program, word, f"{here}/.ninja_log"])[1]))
+    trials.want("builds: from a pipe", run([program, "builds"], stdin=None, input=b"", cwd=here), (0, b"", b""))
+    # The seven read what is typed.
+    for words, printed in ((["show"], b""), ([], b""), (["replay"], b"log 0\n")):
+        trials.want(f"{words}: standard input", typed([program, *words], here), (0, reads + printed))
+    trials.want("check: standard input", typed([program, "check"], here, b"hello\n"), (1, reads + b'nlog: not a ninja log\nnlog: standard input: it begins with "hello\\x0a"\n'))
+    trials.want("hash: no standard input", typed([program, "hash", "cc"], here), (0, run([program, "hash", "cc"])[1]))
+
+
 def try_controls(trials, program, room):
     """A name's control characters are shown by their numbers at a terminal, and stay as they are in a pipe."""
     log, earlier = f"{room}/hostile", f"{room}/tame"
@@ -195,6 +253,8 @@ def trial(trials, program, room):
         with open(path, "wb") as file:
             file.write(text)
     try_columns(trials, program, log, earlier)
+    try_refusals(trials, program, room, log)
+    try_typed(trials, program, room)
     try_controls(trials, program, room)
     try_progress(trials, program)
 

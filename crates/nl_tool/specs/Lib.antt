@@ -2,6 +2,7 @@ pub mod VersionChoice
 pub mod Answers
 pub mod Reports
 pub mod Faults
+pub mod Meant
 pub mod Ending
 pub mod Looks
 pub mod Wrong

@@ -1,6 +1,6 @@
 -- What is said behind a refusal where `--verbose` asks for it: docs/CLI.md, "Why something was refused".
 use Rattle.std.specs.List.{flat_map}
-use Rattle.std.specs.Prelude.{⊤, ◌≡◌, ◌≢◌, ◌⊎◌, ◌++◌, IsSomeAnd, [], List, ℕ, Option, None, Some, IfSome, codes, decimal, string_bytes, Bool, true, bytes_eq, length, if◌then◌else◌, FitsSigned, ℤ}
+use Rattle.std.specs.Prelude.{⊤, ◌≡◌, ◌≢◌, ◌⊎◌, ◌++◌, IsSomeAnd, [], List, ℕ, Option, None, Some, IfSome, codes, decimal, string_bytes, ◌||◌, Bool, true, false, bytes_eq, length, if◌then◌else◌, FitsSigned, ℤ}
 use Rattle.std.specs.Int.{Width, w32, w64}
 use Rattle.nl_fields.specs.Digits.{IsDecimal}
 use Rattle.std.specs.Borrow.{Bor}
@@ -175,6 +175,14 @@ abbrev pub words_heard : Words → Bool → Words
 words_heard (Compare old new lines least) is_second = Show (Some (if is_second then new else old))
 words_heard (Read what log choices) is_second = with_graph choices.graph is_second (Read what log choices)
 words_heard words is_second = words
+
+-- one of the files that words read is standard input
+abbrev pub is_input : Option Place → Bool
+is_input (Some at.Input) = true
+is_input place = false
+
+abbrev pub reads_input : Words → Bool
+reads_input words = is_input (read_place (words_heard words false)) || is_input (read_place (words_heard words true))
 
 -- those that give the reason of a fault: where a number is bad, the words as they are
 abbrev pub words_for : ToolFault → Words → Bool → Words

@@ -6,16 +6,19 @@ ghost use Rattle.clap.specs.Words.{kind_of};
 ghost use Rattle.nl_tool.specs.Ending.{status_after, IsStatusBy, IsStatusOfKind};
 ghost use Rattle.nl_tool_words.specs.CommandLine.{entered_of, fault_in};
 
+use crate::meant::{log_here, meant};
 use crate::notes::Notes;
 use crate::program::{Verdict, run_with_notes};
-use crate::reason::{Refusal, again_note, masked_note, note_of, refusal_of, unsynced_note};
+use crate::reason::{
+    Refusal, again_note, masked_note, note_of, reads_input, refusal_of, unsynced_note,
+};
 use crate::screen::Screen;
 use clap::Error;
 use clap::error::ErrorKind;
 use nl_os::SystemFile;
 use nl_table::{NO_SECRET, Secret};
 use nl_tool_texts::{ToolFault, status_of};
-use nl_tool_words::{CommandLine, path_in_place, read_words};
+use nl_tool_words::{CommandLine, Words, path_in_place, read_words};
 use std::alloc::Global;
 use std::random::RandomSource;
 use std::rt::Runtime;
@@ -58,11 +61,24 @@ where
 {
     match read_words(alloc, line) {
         Ok(said) => {
-            let mut notes = Notes::new(alloc, said.verbose, screen, secret);
-            let answer = run_with_notes(rt, alloc, &said, &mut notes);
-            end(rt, alloc, &said, answer, &notes)
+            let line = CommandLine {
+                words: meant(said.words, log_here(screen)),
+                ..said
+            };
+            say_reads(rt, &line.words, screen);
+            let looks = line.verbose || screen.errors;
+            let mut notes = Notes::new(alloc, looks, screen, secret);
+            let answer = run_with_notes(rt, alloc, &line, &mut notes);
+            end(rt, alloc, &line, answer, &notes)
         }
         Err(error) => explain(rt, line, &error),
+    }
+}
+
+// Says at a terminal that a command waits for what is typed there.
+fn say_reads(rt: &impl Eprint, words: &Words<'_>, screen: Screen) {
+    if screen.input && screen.errors && reads_input(words) {
+        let _ = eprintln!(rt; "nlog: it reads standard input, up to Ctrl-D");
     }
 }
 

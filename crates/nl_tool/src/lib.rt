@@ -8,6 +8,7 @@ mod ending;
 mod files;
 pub mod laws;
 mod looks;
+mod meant;
 mod mending;
 mod notes;
 mod printing;

@@ -5,7 +5,7 @@ ghost use Rattle.nl_os.specs.declared.failed_call.FileRole.{FileRole};
 ghost use Rattle.nl_tool_texts.specs.declared.fault.ToolFault.{ToolFault};
 ghost use Rattle.nl_tool.specs.declared.reason.Place.{Place};
 ghost use Rattle.nl_tool.specs.Looks.{look_of};
-ghost use Rattle.nl_tool.specs.Reasons.{change_place, with_graph, IsBadNumberOf, IsBadOption, IsBadRule, IsByteAt, IsEarly, IsFirstBad, IsLongNameOf, IsLookAt, IsMasked, IsNegative, IsNoteFor, IsNumber, IsNumberFault, IsReasonFor, IsSystem, IsUnsynced, IsVersion, again_text, file_place, graph_file, heard_of, log_place, mended_place, missing_text, place_text, read_place, reason_text, refusal_text, why_text, words_for, words_heard};
+ghost use Rattle.nl_tool.specs.Reasons.{change_place, with_graph, IsBadNumberOf, IsBadOption, IsBadRule, IsByteAt, IsEarly, IsFirstBad, IsLongNameOf, IsLookAt, IsMasked, IsNegative, IsNoteFor, IsNumber, IsNumberFault, IsReasonFor, IsSystem, IsUnsynced, IsVersion, again_text, file_place, graph_file, heard_of, is_input, log_place, mended_place, missing_text, place_text, read_place, reads_input, reason_text, refusal_text, why_text, words_for, words_heard};
 
 use crate::comparing::least_of;
 use crate::looks::{Look, escaped_of, look_of, start_of};
@@ -305,7 +305,7 @@ pub fn masked_note<'a>(line: &CommandLine<'a>, notes: &Notes) -> Option<Why<'a>>
     }
 }
 
-/// What is said of a fault of a command: its reason only where the command line asks for it, and it is known.
+/// What is said of a fault of a command: its reason, where it is known, if the command line asks for it, or a person reads it.
 pub fn refusal_of<'a>(
     alloc: Global,
     line: &CommandLine<'a>,
@@ -313,12 +313,12 @@ pub fn refusal_of<'a>(
     notes: &Notes,
 ) -> Refusal<'a>
     ensures fault { result.fault ≡ fault }
-    ensures quiet { line.now.verbose ≡ false → result.why ≡ None }
+    ensures quiet { line.now.verbose ≡ false → notes.now.screen.errors ≡ false → result.why ≡ None }
     ensures why { IfSome result.why
         (IsReasonFor (words_for fault line.now.words notes.now.is_second) fault notes.now.folder
         (heard_of notes.now)) }
 {
-    let why = if line.verbose {
+    let why = if line.verbose || notes.screen.errors {
         why_of(
             alloc,
             &words_for(fault, &line.words, notes.is_second),
@@ -360,6 +360,23 @@ fn with_graph<'a>(graph: Option<&'a str>, is_second: bool, words: &Words<'a>) ->
     match graph {
         Some(path) if is_second => Words::HashFile(graph_file(path)),
         _ => *words,
+    }
+}
+
+/// Whether words read standard input, for one of the files that they read.
+pub fn reads_input(words: &Words<'_>) -> bool
+    ensures value { result ≡ reads_input words.now }
+{
+    is_input(read_place(&words_heard(words, false)))
+        || is_input(read_place(&words_heard(words, true)))
+}
+
+fn is_input(place: Option<Place<'_>>) -> bool
+    ensures value { result ≡ is_input place.entry }
+{
+    match place {
+        Some(Place::Input) => true,
+        _ => false,
     }
 }
 

@@ -7,6 +7,7 @@ use std::process::ExitCode;
 
 fn main(rt: HostRuntime) -> ExitCode {
     let screen = Screen {
+        input: rt.stdin().is_terminal(),
         output: rt.stdout().is_terminal(),
         errors: rt.stderr().is_terminal(),
     };

@@ -1,13 +1,16 @@
 use Rattle.std.proofs.Common.{arith, map, string_bytes}
+use Rattle.std.proofs.lemmas.Result.{IfOk-weaker}
 use Rattle.nl_tool_words.specs.CommandLine.{entered_of, fault_in}
 use Rattle.nl_tool.proofs.EndingLemmas.{IsStatusBy_kind, command_ended}
 use Rattle.nl_tool.proofs.ending.run_line.Goals as goal
 
-pub returns-in-Ok-clause-status : goal.returns-in-Ok-clause-status
-returns-in-Ok-clause-status g c =
+pub returns-after-line-clause-status : goal.returns-after-line-clause-status
+returns-after-line-clause-status g c =
     let line = map string_bytes c.args.line.now in
     command_ended (fault_in line) c.in-Ok.said.words (entered_of line) c.run_with_notes-answer.result c.end.result
-    c.in-Ok.ensures.accepts c.in-Ok.ensures.value c.run_with_notes-answer.ensures.outcome c.end.ensures.status
+    c.in-Ok.ensures.accepts c.in-Ok.ensures.value
+    (IfOk-weaker c.run_with_notes-answer.result _ _ (λ outcome finds is. c.meant.ensures.can_find (finds is)) c.run_with_notes-answer.ensures.outcome)
+    c.end.ensures.status
 
 pub returns-in-Err : goal.returns-in-Err
 returns-in-Err g c =
