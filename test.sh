@@ -112,6 +112,7 @@ else
     printf 'skipped: all of it: it takes a quarter of an hour, and --strict runs it\n0 passed, 0 failed\n' > "$room/part"
     count 0 "$room/part" python3 tests/targets.py
 fi
+[[ -z $strict ]] || export NLOG_PARTS="own steps without cmake tests faults differ stale cost"
 peer ninja-1.11.1 integrations/ninja/try.sh 1.11.1
 peer ninja-1.13.2 integrations/ninja/try.sh 1.13.2
 peer muon-0.4.0 integrations/samurai/try.sh
