@@ -493,6 +493,16 @@ def try_no_place(trial, ninja, header):
         trial.want(f"{text}: -n leaves it", (ninja.run("-n")[0], read(LOG)), (0, text))
 
 
+def try_moved(trial, ninja, header):
+    """A builddir that moves takes its log with it. Once it comes back, so does what that log says: as plain Ninja has it."""
+    for builder in (Builder([ninja.plain], f"{ninja.folder}/plain"), Builder(ninja.command, f"{ninja.folder}/patched")):
+        for folder, word in (("one", "A"), ("two", "B"), ("one", "A")):
+            echoing(word)
+            write("build.ninja", f"builddir = {folder}\n".encode() + read("build.ninja"))
+            said = builder.run()[1]
+        trial.want("a builddir that moves and comes back: it is stale", (said, read("out")), (IDLE, b"B\n"))
+
+
 def try_order(trial, ninja, header):
     """A rewritten log has its outputs in the order in which they first appeared."""
     names = [f"o{it * 7 % 40}" for it in range(40)]
@@ -709,7 +719,7 @@ def try_locked(trial, ninja, header):
     trial.want("once it is free: the log", names_in(read(LOG)), [b"a", b"b"])
 
 
-OTHERWISE = [try_distrusted, try_restat_rule, try_outputs, try_generator, try_no_intent, try_due, try_syncs, try_unreadable, try_withdrawn, try_late_dyndep, try_no_place, try_order, try_torn_header, try_permissions, try_damaged, try_other_versions, try_no_log, try_names, try_early_time, try_idle, try_calls, try_foreseen, try_kill_in_a_build, try_inner, try_two, try_locked]
+OTHERWISE = [try_distrusted, try_restat_rule, try_outputs, try_generator, try_no_intent, try_due, try_syncs, try_unreadable, try_withdrawn, try_late_dyndep, try_no_place, try_moved, try_order, try_torn_header, try_permissions, try_damaged, try_other_versions, try_no_log, try_names, try_early_time, try_idle, try_calls, try_foreseen, try_kill_in_a_build, try_inner, try_two, try_locked]
 
 
 def main(plain, patched):

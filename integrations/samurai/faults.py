@@ -530,7 +530,22 @@ def try_hands(trial, samu):
     trial.want("hands: A by plain samurai", (plain.run()[0], read("out"), samu.run()), (0, b"A\n", (0, "")))
 
 
-OTHERWISE = [try_hashes, try_distrusted, try_restat_rule, try_outputs, try_manifest, try_due, try_refused, try_early_time, try_syncs, try_hands]
+def try_places(trial, samu):
+    """As plain samurai has it: a log that is a link to /dev/null is refused, and a builddir that moves and comes back has a stale output."""
+    for name, command in (("plain", [samu.plain, "samu"]), ("patched", samu.command)):
+        builder = Builder(command, f"{samu.folder}/{name}")
+        touching("a")
+        os.symlink("/dev/null", LOG)
+        trial.want(f"a link to /dev/null, {name}", (builder.run()[0], os.path.exists("a"), os.path.islink(LOG)), (1, False, True))
+        for folder, word in (("one", "A"), ("two", "B"), ("one", "A")):
+            os.makedirs(folder, exist_ok=True)
+            echoing(word)
+            write("build.ninja", f"builddir = {folder}\n".encode() + read("build.ninja"))
+            ended = builder.run()
+        trial.want(f"a builddir that moves and comes back, {name}", (ended, read("out")), ((0, ""), b"B\n"))
+
+
+OTHERWISE = [try_hashes, try_distrusted, try_restat_rule, try_outputs, try_manifest, try_due, try_refused, try_early_time, try_syncs, try_hands, try_places]
 TRACED = [try_write_error, try_rewriting, try_idle, try_distrusted, try_outputs, try_refused, try_syncs]
 
 
