@@ -460,6 +460,20 @@ def try_withdrawn(trial, ninja, header):
     trial.want("withdrawn: it is made again", (ninja.run()[0], read("z")), (0, b"A\n"))
 
 
+def try_stopped(trial, ninja, header):
+    """What runs behind a SIGKILL that b's command gives Ninja: of the same manifest what plain Ninja runs. If it went back, what never started too."""
+    text = "rule c\n  command = echo $word > $out; echo $out >> ran; (test $out != b || ($more))\nbuild a: c\nbuild b: c || a\nbuild z: c || b\n"
+    for name, command, back in (("plain", [ninja.plain], b"a\n"), ("patched", ninja.command, b"a\nb\nz\n")):
+        for then, wanted in (("B", b"b\nz\n"), ("A", back)):
+            builder = Builder(command, f"{ninja.folder}/{name}{then}")
+            for word in ("A", "B"):
+                making(f"word = {word}\n{text}")
+                status = with_file("die", builder.run)[0] if word == "B" else builder.run()[0]
+            write("ran", "")
+            making(f"word = {then}\n{text}")
+            trial.want(f"stopped: {name}: {then} after that", (status, builder.run()[0], read("ran")), (-signal.SIGKILL, 0, wanted))
+
+
 def try_late_dyndep(trial, ninja, header):
     """A dyndep file that the build makes names an output, and an input that has to be made: these have their intents before they start."""
     made = "ninja_dyndep_version = 1\nbuild out | hid: dyndep | more\n".replace("\n", "\\n")
@@ -719,7 +733,7 @@ def try_locked(trial, ninja, header):
     trial.want("once it is free: the log", names_in(read(LOG)), [b"a", b"b"])
 
 
-OTHERWISE = [try_distrusted, try_restat_rule, try_outputs, try_generator, try_no_intent, try_due, try_syncs, try_unreadable, try_withdrawn, try_late_dyndep, try_no_place, try_moved, try_order, try_torn_header, try_permissions, try_damaged, try_other_versions, try_no_log, try_names, try_early_time, try_idle, try_calls, try_foreseen, try_kill_in_a_build, try_inner, try_two, try_locked]
+OTHERWISE = [try_distrusted, try_restat_rule, try_outputs, try_generator, try_no_intent, try_due, try_syncs, try_unreadable, try_withdrawn, try_stopped, try_late_dyndep, try_no_place, try_moved, try_order, try_torn_header, try_permissions, try_damaged, try_other_versions, try_no_log, try_names, try_early_time, try_idle, try_calls, try_foreseen, try_kill_in_a_build, try_inner, try_two, try_locked]
 
 
 def main(plain, patched):

@@ -67,12 +67,12 @@ check_build() { # folder, what is said of it
     check "$2 Ninja $version is built" "$status"
 }
 
-# Ninja's own tests: how many ran, where all of them passed.
+# Ninja's own tests: how many ran, where all of them passed. They write files of one name into the folder of temporary files.
 own_tests() { # plain or patched
     local count
     cd "$room/$1" || return
     ulimit -n 2000 2> /dev/null
-    ./ninja_test > "$room/$1.tests" 2>&1 || { tail -n 5 "$room/$1.tests" && return 1; }
+    TMPDIR=$room ./ninja_test > "$room/$1.tests" 2>&1 || { tail -n 5 "$room/$1.tests" && return 1; }
     count=$(tr '\r' '\n' < "$room/$1.tests" | sed -n -e 's/^\[\([0-9]*\)\/\1\].*/\1/p' -e 's/^\[  PASSED  \] \([0-9]*\) tests.*/\1/p' | tail -n 1)
     echo "$1: $count tests of ninja_test passed"
     [[ -n $count ]]
