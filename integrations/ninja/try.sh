@@ -117,9 +117,9 @@ if wants without; then
     check "--without-nlog builds plain Ninja" $?
 fi
 
-# The same by CMake's switch; and Ninja on the library by CMake.
+# The same by CMake's switch; and Ninja on the library by CMake. An assert would have its line and the path of its file in the object.
 by_cmake() { # folder, flags
-    cd "$room/$1" && cmake -S . -B by_cmake -DBUILD_TESTING=OFF -DCMAKE_CXX_FLAGS="-ffile-prefix-map=$room/$1=." "${@:2}" && cmake --build by_cmake -j "${NLOG_JOBS:-2}" --target ninja
+    cd "$room/$1" && cmake -S . -B by_cmake -DBUILD_TESTING=OFF -DCMAKE_CXX_FLAGS="-DNDEBUG -ffile-prefix-map=$room/$1=." "${@:2}" && cmake --build by_cmake -j "${NLOG_JOBS:-2}" --target ninja
 }
 cmake_without() {
     lay_out_without
