@@ -128,8 +128,8 @@ static nlog_status read_file(const char *path, char **bytes, size_t *len, int *e
   return NLOG_FAULT;
 }
 
-/* Loads an open file, in blocks, of which none is kept. The first one goes to its last newline; what
- * stands behind that is read again. *error: as above. */
+/* Loads an open file in blocks, of which none is kept. The first one ends in its last newline, and
+ * what stands behind that is read again. *error: the errno where it answers NLOG_FAULT. */
 static nlog_status load_blocks(nlog *log, int fd, char *block, int *error) {
   struct stat about;
   nlog_status status = NLOG_OK;
@@ -156,8 +156,8 @@ nlog_status nlog_load_file(nlog *log, const char *path, int *error) {
   char *block = (char *)malloc(BLOCK);
   /* A pipe without a writer would keep it waiting. */
   int fd = open_off_streams(AT_FDCWD, path, O_RDONLY | O_NONBLOCK, 0), failed = errno;
-  nlog_status status = NLOG_FAULT;
-  if (fd >= 0) status = block != NULL ? load_blocks(&found, fd, block, &failed) : NLOG_OUT_OF_MEMORY;
+  nlog_status status = fd < 0 ? NLOG_FAULT : NLOG_OUT_OF_MEMORY;
+  if (fd >= 0 && block != NULL) status = load_blocks(&found, fd, block, &failed);
   close_at(&fd);
   free(block);
   if (status == NLOG_FAULT) *error = failed;
