@@ -7,7 +7,7 @@ use Rattle.std.specs.Option.{option_map_or}
 use Rattle.std.specs.Str.{bytes_eq}
 use Rattle.clap.specs.Words.{Kinds, Row, Rule, Text, fault_of, first_of, subcommand_of}
 use Rattle.clap.specs.Kinds.{or_else}
-use Rattle.clap.specs.declared.error.kind.ErrorKind.TheVariants.{ArgumentConflict, InvalidValue}
+use Rattle.clap.specs.declared.error.kind.ErrorKind.TheVariants.{ArgumentConflict, InvalidValue, MissingRequiredArgument}
 use Rattle.nl_tool_words.specs.Rows.{nlog, word_rows}
 use Rattle.nl_tool_words.specs.declared.version.AskedVersion.{AskedVersion}
 use Rattle.nl_tool_words.specs.declared.version.AskedVersion.TheVariants.{Auto, Five, Six, Seven}
@@ -211,9 +211,16 @@ asks_twice entered = option_map_or (λ text. bytes_eq text (codes "-")) (given_i
 abbrev pub input_fault : Option (Text × List Row) → Kinds
 input_fault entered = if asks_twice entered then ArgumentConflict ∷ [] else []
 
--- of choices: of two that don't go together, then of a rule, and then of standard input
+-- how many commands at a time is asked for, and no graph is given that tells which waits for which
+abbrev pub lacks_graph : Option (Text × List Row) → Bool
+lacks_graph entered = is_some (given_in (codes "jobs") entered) && not (is_some (given_in (codes "graph") entered))
+
+abbrev pub jobs_fault : Option (Text × List Row) → Kinds
+jobs_fault entered = if lacks_graph entered then MissingRequiredArgument ∷ [] else []
+
+-- of choices: of two that don't go together, then of a rule, then of standard input, and then of a graph that is lacking
 abbrev pub choice_fault : Option (Text × List Row) → Kinds
-choice_fault entered = or_else (or_else (scope_fault entered) (kind_fault entered)) (input_fault entered)
+choice_fault entered = or_else (or_else (scope_fault entered) (kind_fault entered)) (or_else (input_fault entered) (jobs_fault entered))
 
 -- the kinds of error that the words may give: those of clap's definition, and where these are none, that of the version, and then that of
 -- the choices

@@ -2,7 +2,7 @@
 ghost use Rattle.std.specs.Prelude.{◌≡◌, codes, map, option_map, string_bytes, IfErr, IfOk};
 ghost use Rattle.clap.specs.Kinds.{or_else};
 ghost use Rattle.clap.specs.Words.{kind_of, subcommand_rows_of, FailsBy};
-ghost use Rattle.nl_tool_words.specs.CommandLine.{IsAsked, IsSaid, asks_both, asks_twice, choice_fault, entered_of, fault_in, given_in, input_fault, is_flagged, is_kind_text, is_path, kind_fault, path_in_place, scope_fault, version_fault, version_id};
+ghost use Rattle.nl_tool_words.specs.CommandLine.{IsAsked, IsSaid, asks_both, asks_twice, choice_fault, entered_of, fault_in, given_in, input_fault, is_flagged, is_kind_text, is_path, jobs_fault, kind_fault, lacks_graph, path_in_place, scope_fault, version_fault, version_id};
 
 use crate::shape::nlog_command;
 use crate::version::{AskedVersion, tells_version, version_for};
@@ -120,7 +120,7 @@ fn known_choices(alloc: Global, matches: &ArgMatches<'_>) -> Result<(), Error>
     ensures accepts { FailsBy (choice_fault (subcommand_rows_of matches.now)) result }
 {
     known_scope_and_kind(alloc, matches)?;
-    one_input(alloc, matches)
+    known_inputs(alloc, matches)
 }
 
 fn known_scope_and_kind(alloc: Global, matches: &ArgMatches<'_>) -> Result<(), Error>
@@ -171,6 +171,13 @@ fn kind_text(alloc: Global, text: &str) -> Result<String, AllocError> {
     format!(in alloc; "invalid value '{text}' for '--kind <RULE>': it is extension, folder or top")
 }
 
+fn known_inputs(alloc: Global, matches: &ArgMatches<'_>) -> Result<(), Error>
+    ensures accepts { FailsBy (or_else (input_fault (subcommand_rows_of matches.now)) (jobs_fault (subcommand_rows_of matches.now))) result }
+{
+    one_input(alloc, matches)?;
+    has_graph(alloc, matches)
+}
+
 // Refuses a graph and a log that are both to be read from standard input.
 fn one_input(alloc: Global, matches: &ArgMatches<'_>) -> Result<(), Error>
     ensures accepts { FailsBy (input_fault (subcommand_rows_of matches.now)) result }
@@ -189,6 +196,23 @@ fn asks_twice(matches: &ArgMatches<'_>) -> bool
         Some("-") => given(matches, "LOG").is_none(),
         _ => false,
     }
+}
+
+// Refuses estimates without a graph, because nothing else tells which command waits for which.
+fn has_graph(alloc: Global, matches: &ArgMatches<'_>) -> Result<(), Error>
+    ensures accepts { FailsBy (jobs_fault (subcommand_rows_of matches.now)) result }
+{
+    if lacks_graph(matches) {
+        let message = "the argument '--jobs <LIST>' needs '--graph <FILE>'";
+        return Err(refusal(alloc, ErrorKind::MissingRequiredArgument, message)?);
+    }
+    Ok(())
+}
+
+fn lacks_graph(matches: &ArgMatches<'_>) -> bool
+    ensures { result ≡ lacks_graph (subcommand_rows_of matches.now) }
+{
+    given(matches, "jobs").is_some() && given(matches, "graph").is_none()
 }
 
 // What is said of a version that the command of this name doesn't take.

@@ -123,7 +123,7 @@ busy        milliseconds in which at least one command ran
 alone       milliseconds in which exactly one ran
 parallel    how many ran at a time on average: total / wall, rounded down
 slowest     the command that took the longest: its milliseconds, and its first output
-again       if the build is `again` in `builds`: its TAKEN; with `--all` 0
+again       if the build is `again` in `builds`: its TAKEN
 unfinished  if a command didn't end: how many outputs wait for one
 
 Two lists of commands follow, and two of kinds of commands, the largest first:
@@ -139,6 +139,10 @@ With `--graph` the critical path follows, the commands that waited for each othe
 critical-path  how long its commands took together, in milliseconds
 on-path        of each that took any time, in order: TIME, START, END and output
 not-in-graph   if FILE lacks commands of the build: how many, and their TIME
+gain           of the commands on the path that took the longest: how much shorter the path is if the
+               command takes half, and its output
+estimate       of each N of `--jobs`: N, how long the build would take with N commands at a time, and
+               what no order of them comes below
 
 If LOG has fewer builds than BUILD, a line `builds` tells how many it has.",
         takes: &[
@@ -187,8 +191,8 @@ A JSON array of events in Chrome's format, which https://ui.perfetto.dev and chr
           the build, \"dur\" how long it took, \"name\" its first output; \"args\" has all outputs, and HASH
 \"ph\":\"C\"  how many commands run at \"ts\": for each command as it begins, and as it has ended
 
-No lane has two commands at one time. A byte that isn't UTF-8 is shown as U+FFFD. If LOG has no entry,
-the array is empty.",
+No lane has two commands at one time. With `--all` each build begins as the one before it has ended. A
+byte that isn't UTF-8 is shown as U+FFFD. If LOG has no entry, the array is empty.",
         takes: &[OPTIONAL_ANY_LOG, AUTO_VERSION, MISSING_OK, BUILD, ALL],
     },
     WordRow {
@@ -203,7 +207,8 @@ Each command is a bar in a lane, and no lane has two commands at one time. Hold 
 tells the first output, how many more there are, how long the command took, and when it began, in seconds
 from the first START of the build. The colour is that of its kind, by the first output's extension; the
 legend tells each kind's part of the time. Below are the curve of how many commands ran, and the ten that
-took the longest.
+took the longest. With `--graph` the commands of the critical path have an outline. With `--all` each
+build begins as the one before it has ended.
 
 Neighbours in a lane that are narrower than half a pixel share a bar. A byte that isn't UTF-8, or that XML
 can't have, is shown as U+FFFD.",

@@ -178,13 +178,13 @@ pub const GRAPH: Value = Value {
 pub const DRAWN_GRAPH: Value = Value {
     id: "graph",
     given: Given::Long("FILE"),
-    help: "What `ninja -t graph` prints: the critical path is drawn too; `-` is standard input",
+    help: "What `ninja -t graph` prints: the critical path has an outline; `-` is standard input",
 };
 
 pub const JOBS: Value = Value {
     id: "jobs",
     given: Given::Long("LIST"),
-    help: "Numbers with commas: tells too what the build would take with so many commands at a time",
+    help: "Numbers with commas: estimates by the graph how long the build takes with so many commands at a time",
 };
 
 pub const AT_LEAST: Value = Value {
