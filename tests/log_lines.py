@@ -223,28 +223,42 @@ def lanes_of(commands):
     return lanes
 
 
-def events_of(text, version=None):
-    """The events that `trace` tells of a log, as JSON values."""
-    events = []
-    for number, build in last_of(told_of(text, version)[0]):
+def in_turn(builds):
+    """The commands of builds one after another on one clock, each build's by START: it begins as the one before it has ended, the first at 0."""
+    clock, told = 0, []
+    for build in builds:
         jobs = sorted(build.jobs, key=lambda it: it.start)
-        known = {"name": f"build {number}", "rewritten": False}
-        if build.taken is not None:
-            known = {"name": f"build {number}, found again", "rewritten": True, "taken": build.taken}
-        events.append({"name": "process_name", "ph": "M", "pid": number, "args": known})
-        for job, lane in zip(jobs, lanes_of([it[:2] for it in jobs])):
-            names = [it.decode(errors="replace") for it in job.outputs]
-            bar = {"ts": (job.start - jobs[0].start) * 1000, "dur": time_of(job) * 1000, "name": names[0], "args": {"hash": f"{job.hash:x}", "outputs": names}}
-            events.append({"ph": "X", "pid": number, "tid": lane + 1, **bar})
-            for at in (job.start, max(job.start, job.end)):
-                count = sum(it.start <= at < it.end for it in jobs)
-                events.append({"ph": "C", "pid": number, "name": "running", "ts": (at - jobs[0].start) * 1000, "args": {"commands": count}})
+        at = lambda moment: min(max(0, moment - jobs[0].start) + clock, 2**32 - 1)
+        jobs = [it._replace(start=at(it.start), end=at(it.end)) for it in jobs]
+        clock = max([clock, *(max(it.start, it.end) for it in jobs)])
+        told += jobs
+    return told
+
+
+def events_of(text, version=None, number=None, of_all=False):
+    """The events that `trace` tells of a log, as JSON values: of its last build, of that of a number, or of all."""
+    builds = asked_of(text, number, of_all, version) or []
+    if not builds:
+        return []
+    taken = max((it.taken for it in builds if it.taken is not None), default=None)
+    number = 0 if of_all else number or last_of(told_of(text, version)[0])[0][0]
+    name = "all builds" if of_all else f"build {number}"
+    known = {"name": name, "rewritten": False} if taken is None else {"name": f"{name}, found again", "rewritten": True, "taken": taken}
+    events = [{"name": "process_name", "ph": "M", "pid": number, "args": known}]
+    jobs = in_turn(builds)
+    for job, lane in zip(jobs, lanes_of([it[:2] for it in jobs])):
+        names = [it.decode(errors="replace") for it in job.outputs]
+        bar = {"ts": job.start * 1000, "dur": time_of(job) * 1000, "name": names[0], "args": {"hash": f"{job.hash:x}", "outputs": names}}
+        events.append({"ph": "X", "pid": number, "tid": lane + 1, **bar})
+        for at in (job.start, max(job.start, job.end)):
+            count = sum(it.start <= at < it.end for it in jobs)
+            events.append({"ph": "C", "pid": number, "name": "running", "ts": at * 1000, "args": {"commands": count}})
     return events
 
 
-def trace_of(text, version=None):
+def trace_of(text, version=None, number=None, of_all=False):
     """What `trace` prints of a log."""
-    return json.dumps(events_of(text, version), sort_keys=True, separators=(",", ":"), ensure_ascii=False).encode()
+    return json.dumps(events_of(text, version, number, of_all), sort_keys=True, separators=(",", ":"), ensure_ascii=False).encode()
 
 
 def name_in_xml(name, most=100):
@@ -310,16 +324,26 @@ def cut(name, most):
     return name_in_xml(begun, 5 * len(begun)) + "\u2026".encode()
 
 
-def picture_of(text, version=None):
-    """What `picture` prints of a log."""
-    build = next((it for _, it in last_of(told_of(text, version)[0])), Build([], None, True))
-    jobs = sorted(build.jobs, key=lambda it: it.start)
-    return drawn(jobs, lanes_of([it[:2] for it in jobs]), build.taken)
+def picture_of(text, version=None, number=None, of_all=False, path=None):
+    """What `picture` prints of a log: of its last build, of that of a number, or of all. `path`: the first outputs of the commands with an outline."""
+    builds = asked_of(text, number, of_all, version)
+    jobs = in_turn(builds or [])
+    taken = max((it.taken for it in builds or [] if it.taken is not None), default=None)
+    said = f"no such build; builds: {len(told_of(text, version)[0])}" if builds is None else None
+    if taken is not None:
+        said = "builds were found again" if of_all else f"found again: later builds may have taken {taken} of its outputs"
+    return drawn(jobs, lanes_of([it[:2] for it in jobs]), said, path)
 
 
-def drawn(commands, lanes, taken=None):
+OUTLINE = (
+    "<style>.c{fill:none;stroke:#d00000;stroke-width:30;pointer-events:none}@media(prefers-color-scheme:dark){.c{stroke:#ff6b6b}}</style>\n"
+    '<rect class="c" x="11800" y="540" width="140" height="140"/><text x="12000" y="655">critical path</text>\n'
+)
+
+
+def drawn(commands, lanes, said=None, path=None):
     """The picture of commands in their lanes, in tenths of a pixel: the build is 14,400 wide, from 1000 on. A command is its START, its END,
-    anything, and its outputs. `taken`: how many outputs of the build later ones may have taken, if it was found again."""
+    anything, and its outputs. `said`: what is said of the build. `path`: those with an outline, by their first outputs."""
     out, short, times = [], collections.Counter(), [0] * len(WORKS)
     began, top = commands[0][0] if commands else 0, max(lanes, default=0)
     wall = max([max(it[:2]) for it in commands], default=0) - began
@@ -336,8 +360,8 @@ def drawn(commands, lanes, taken=None):
     )
     out.append("<style>%s</style>\n" % STYLE)
     out.append('<rect class="p" width="100%%" height="100%%"/>\n<text x="1000" y="380" font-size="220">%s</text>\n' % title)
-    if taken is not None:
-        out.append('<text class="m" x="15400" y="380" text-anchor="end">found again: later builds may have taken %d of its outputs</text>\n' % taken)
+    if said is not None:
+        out.append('<text class="m" x="15400" y="380" text-anchor="end">%s</text>\n' % said)
     for at, (word, time) in enumerate(zip(WORKS, times)):
         x = 1000 + 1800 * at
         line = '<rect class="k%d" x="%d" y="540" width="140" height="140"/><text x="%d" y="655">%s %d %%</text>\n'
@@ -371,6 +395,11 @@ def drawn(commands, lanes, taken=None):
     out.append('</g>\n<path class="q" d="M1000 %d%sV%dz"/>\n' % (foot, curve, foot))
     for y, told in ((foot - 720, "%d at a time" % (top + 1)), (foot, "0")):
         out.append('<text class="m" x="950" y="%d" text-anchor="end">%s</text>\n' % (y, told))
+    out += [] if path is None else [OUTLINE]
+    for name in path or ():
+        (start, end, *_), lane = next(it for it in zip(commands, lanes) if name in it[0][3])
+        x, until = (1000 + (it - began) * 14400 // max(wall, 1) for it in (start, max(start, end)))
+        out.append('<rect class="c" x="%d" y="%d" width="%d" height="%d"/>\n' % (x, 1100 + pitch * lane, max(10, until - x), high))
     out.append('<text x="1000" y="%d">The commands that took the longest:</text>\n' % (foot + 600))
     slow = sorted(commands, key=lambda it: -max(0, it[1] - it[0]))[:10]
     for at, (start, end, _, names) in enumerate(slow):
@@ -458,37 +487,48 @@ def bad_graph_lines(text):
     return [graph] if isinstance(graph, int) else lines_of_cycles(graph[1])
 
 
-def paths_of(graph, text, number=None, of_all=False, version=None):
-    """What `summary` may print behind the summary by the text of a graph without a cycle: that of each path than which none is longer, and what the
-    graph lacks. None of it where the graph lacks all commands: then it is refused."""
+def paths_of(graph, text, number=None, of_all=False, version=None, most=0):
+    """What `summary` may print behind the summary by the text of a graph without a cycle: that of each path than which none is longer, what the
+    graph lacks, and of so many commands of the path what is gained by half their time. None of it where the graph lacks all commands: then it is refused."""
     jobs = sorted((job for it in asked_of(text, number, of_all, version) or [] for job in it.jobs), key=lambda it: it.start)
     if not jobs:
         return {b""}
-    ran = {name: (job.start, job.end) for job in jobs for name in job.outputs}
+    ran = {name: place for place, job in enumerate(jobs) for name in job.outputs}
     names, edges = graph_of(graph)
+    nodes = [*names, *(it for edge in edges for it in edge[:2])]
     lacking = [it for it in jobs if not {*it.outputs} & {*names.values()}]
     if len(lacking) == len(jobs):
         return set()
     ways = collections.defaultdict(set)
     for start, end, _ in edges:
         ways[start].add(end)
-    found = {}
 
-    def longest(own):
-        """The length of the longest paths from a node on, and what is told of each."""
-        if own not in found:
-            start, end = ran.get(names.get(own), (0, 0))
-            time = max(0, end - start)
-            line = (b"on-path\t%d\t%d\t%d\t%s\n" % (time, start, end, names[own]),) if time else ()
-            later = [longest(it) for it in ways.get(own, ())] or [(0, {()})]
-            most = max(length for length, _ in later)
-            found[own] = time + most, {line + it for length, told in later if length == most for it in told}
-        return found[own]
+    def longest(half=None):
+        """The length of the longest paths, and the outputs of each that took time, if the command at this place took half of it."""
+        found = {}
 
-    all_found = [longest(it) for it in [*names, *(it for edge in edges for it in edge[:2])]]
-    most = max(length for length, _ in all_found)
+        def of(own):
+            if own not in found:
+                place = ran.get(names.get(own))
+                time = 0 if place is None else time_of(jobs[place]) // (1 + (place == half))
+                later = [of(it) for it in ways.get(own, ())] or [(0, {()})]
+                far = max(length for length, _ in later)
+                front = (names[own],) if time else ()
+                found[own] = time + far, {front + it for length, told in later if length == far for it in told}
+            return found[own]
+
+        far = max(length for length, _ in map(of, nodes))
+        return far, {it for length, told in map(of, nodes) if length == far for it in told}
+
+    def told_of_path(path):
+        on_path = [jobs[ran[it]] for it in path]
+        lines = [b"on-path\t%d\t%d\t%d\t%s\n" % (time_of(job), *job[:2], name) for job, name in zip(on_path, path)]
+        slowest = sorted(path, key=lambda it: -time_of(jobs[ran[it]]))[:most]
+        return b"".join(lines), b"".join(b"gain\t%d\t%s\n" % (far - longest(ran[it])[0], it) for it in slowest)
+
+    far, paths = longest()
     behind = b"not-in-graph\t%d\t%d\n" % (len(lacking), sum(map(time_of, lacking))) if lacking else b""
-    return {b"critical-path\t%d\n" % most + b"".join(it) + behind for length, told in all_found if length == most for it in told}
+    return {(b"critical-path\t%d\n" % far) + lines + behind + gains for lines, gains in map(told_of_path, paths)}
 
 
 CLASSES = (b"new", b"gone", b"changed", b"slower", b"faster", b"unfinished", b"same")

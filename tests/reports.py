@@ -16,6 +16,7 @@ import heapq
 import itertools
 import json
 import os
+import random
 import re
 import resource
 import shutil
@@ -26,7 +27,8 @@ import zlib
 
 from examples import read_page
 from log_format import HEADER, Log, as_version, line_of
-from log_lines import builds_of, compare_of, entries_of, picture_of, summary_of, trace_of
+from log_lines import asked_of, builds_of, compare_of, entries_of, picture_of, summary_of, trace_of
+from simulated import Graph, graph_text, random_project
 from trials import main, read, run, write
 
 AWKS = {"mawk": ["mawk"], "gawk": ["gawk"], "busybox": ["busybox", "awk"], "original-awk": ["original-awk"]}
@@ -308,8 +310,14 @@ def try_builds(trials, program, room):
             got = run([program, "summary", "-n", "2", "--build", str(number), f"{room}/LOG"])
             wanted = (0, summary_of(text, 2, number, version=version), said[0] if again[number - 1 : number] == [True] else b"")
             trials.want(f"{about}: summary of build {number}", got, wanted)
+            for word, told in (("trace", trace_of), ("picture", picture_of)):
+                got = run([program, word, "--build", str(number), f"{room}/LOG"])
+                trials.want(f"{about}: {word} of build {number}", got, (0, told(text, version, number), wanted[2]))
         got = run([program, "summary", "-n", "3", "--all", f"{room}/LOG"])
         trials.want(f"{about}: summary of all outputs", got, (0, summary_of(text, 3, of_all=True, version=version), said[0]))
+        for word, told in (("trace", trace_of), ("picture", picture_of)):
+            got = run([program, word, "--all", f"{room}/LOG"])
+            trials.want(f"{about}: {word} of all builds", got, (0, told(text, version, of_all=True), said[0]))
         for rule in ("extension", "folder", "top"):
             got = run([program, "summary", f"--kind={rule}", f"{room}/LOG"])
             trials.want(f"{about}: its kinds by {rule}", got, (0, summary_of(text, rule=rule, version=version), said[1]))
@@ -384,7 +392,9 @@ class Drawn:
         self.bars = [box(it) for it in group if it.tag == f"{SVG}rect"]
         self.feet = [int(it.get("y")) + int(it.get("height")) for it in group if it.tag == f"{SVG}rect"]
         self.names = [(int(it.get("x")), int(it.get("y")), it.text) for it in group if it.tag == f"{SVG}text"]
-        self.axis = [it.text for it in root.findall(f"{SVG}text") if it.get("text-anchor") == "middle"]
+        self.axis = [(int(it.get("x")), it.text) for it in root.findall(f"{SVG}text") if it.get("text-anchor") == "middle"]
+        around = lambda it: (int(it.get("x")), int(it.get("x")) + int(it.get("width")), int(it.get("y")))
+        self.outlines = [around(it) for it in root.findall(f"{SVG}rect") if it.get("class") == "c"]
         self.texts = [it.text for it in root.iter(f"{SVG}text")]
         self.labelled = root[0].tag == f"{SVG}title" and root.get("aria-labelledby") == root[0].get("id") and root.get("role") == "img"
 
@@ -417,7 +427,13 @@ def want_drawn(trials, what, picture, count, short):
     trials.want(f"{what}: the titles that aren't two lines", [it for it in long if it[3].count("\n") != 1], [])
     outside = [it for it, foot in zip(bars, drawn.feet) if not (1000 <= it[0] <= it[1] <= 15410 and 1000 <= it[2] <= foot <= drawn.tall)]
     trials.want(f"{what}: bars out of bounds", (outside, drawn.labelled), ([], True))
-    ticks = [milliseconds(it) for it in drawn.axis]
+    ticks = [milliseconds(it) for _, it in drawn.axis]
+    wall = re.search(r" in (.*), ", drawn.name)[1]
+    # A time in words is rounded down to a part of its second unit.
+    dropped = next(it for unit, it in (("h", 59_999), ("min", 999), ("ms", 0), ("s", 99)) if unit in wall.split())
+    least, most = milliseconds(wall), milliseconds(wall) + dropped
+    wrong = [it for it, ms in zip(drawn.axis, ticks) if not ms * 14400 // max(1, most) <= it[0] - 1000 <= ms * 14400 // max(1, least)]
+    trials.want(f"{what}: ticks that don't stand at their time", wrong, [])
     steps = {later - sooner for sooner, later in itertools.pairwise(ticks)}
     trials.check(f"{what}: round ticks", ticks[0] == 0 and len(ticks) <= 13 and len(steps) <= 1 and steps <= ROUND, drawn.axis)
     # A name stands in the bar that it begins.
@@ -583,6 +599,31 @@ GRAPHED = b"# ninja log v7\n0\t40\t1\ta\tcc\n40\t60\t1\tb\tdd\n"
 ON_PATH = b"critical-path\t60\non-path\t40\t0\t40\ta\non-path\t20\t40\t60\tb\n"
 
 
+# Three commands, of which the second waits for the first, and by hand the bars of these two: of 100 ms the first takes 40 and the second 60.
+OUTLINED = b"# ninja log v7\n0\t40\t1\ta\tcc\n0\t90\t1\tlone\tee\n40\t100\t1\tb\tdd\n"
+OUTLINES = [(11800, 11940, 540), (1000, 6760, 1100), (6760, 15400, 1100)]
+
+
+def try_outlines(trials, program, room):
+    """The outlines of the critical path in a picture, by hand, and as rsvg shows them."""
+    write(f"{room}/GRAPH", GRAPH)
+    write(f"{room}/LOG", OUTLINED)
+    status, out, err = run([program, "picture", "--graph", f"{room}/GRAPH", f"{room}/LOG"])
+    trials.want("a picture with a graph", (status, out, err), (0, picture_of(OUTLINED, path=[b"a", b"b"]), b""))
+    drawn = Drawn(out)
+    trials.want("the outlines of a critical path", (drawn.outlines, "critical path" in drawn.texts), (OUTLINES, True))
+    write(f"{room}/LOG", OUTLINED.replace(b"\ta\t", b"\tx\t").replace(b"\tb\t", b"\ty\t"))
+    got = run([program, "picture", "--graph", f"{room}/GRAPH", f"{room}/LOG"])
+    trials.want("a picture with another build's graph", got, (1, b"", b"nlog: not the graph of this build\n"))
+    if shutil.which("rsvg-convert") is None:
+        return trials.skip("pictures by rsvg: an outline", "rsvg-convert isn't there")
+    for name, image in (("outlined", out), ("plain", re.sub(rb'<rect class="c"[^>]*>', b"", out))):
+        write(f"{room}/{name}.svg", image)
+        trials.want(f"rsvg, {name}", run(["rsvg-convert", "-o", f"{room}/{name}.png", f"{room}/{name}.svg"]), (0, b"", b""))
+    colours = [b"\xd0\x00\x00" in pixels_of(f"{room}/{it}.png")[2] for it in ("outlined", "plain")]
+    return trials.want("the colour of an outline by rsvg", colours, [True, False])
+
+
 def try_graphs(trials, program, room):
     """What `summary --graph` prints, by hand, and of graphs that are broken."""
     eight = summary_of(GRAPHED, 0)
@@ -615,10 +656,20 @@ def try_graphs(trials, program, room):
         else:
             trials.want(what, got, (1, b"", b"nlog: bad line %d\n" % line) if line else (0, out, b""))
     write(f"{room}/GRAPH", GRAPH)
+    # Half of `a` gains 20 ms, and then half of `b` 10; where another path is as long but for 5 ms, that is all.
+    got = run([program, "summary", "--graph", f"{room}/GRAPH", f"{room}/LOG"])
+    trials.want("gains", got, (0, summary_of(GRAPHED) + ON_PATH + b"gain\t20\ta\ngain\t10\tb\n", b""))
+    beside = GRAPHED.replace(b"40\t60", b"0\t55\t1\tc\tee\n40\t60")
+    write(f"{room}/BESIDE", beside)
+    write(f"{room}/GRAPH", GRAPH.replace(b"}\n", b'"3" [label="c"]\n}\n'))
+    got = run([program, "summary", "-n", "1", "--graph", f"{room}/GRAPH", f"{room}/BESIDE"])
+    trials.want("a gain beside another path", got, (0, summary_of(beside, 1) + ON_PATH + b"gain\t5\ta\n", b""))
+    write(f"{room}/GRAPH", GRAPH)
     piped = run(["bash", "-c", f"'{program}' summary -n 0 --graph <(cat '{room}/GRAPH') '{room}/LOG'"])
     trials.want("a graph by a pipe", piped, (0, eight + ON_PATH, b""))
     got = run([program, "summary", "-n", "0", "--graph", "-", f"{room}/LOG"], stdin=None, input=GRAPH)
     trials.want("a graph by standard input", got, (0, eight + ON_PATH, b""))
+    try_outlines(trials, program, room)
     # The builds of `written anew` are found again, the first of `b`, which the graph has, and the last of `a`.
     write(f"{room}/ANEW", LOGS["written anew"])
     said = b"nlog: LOG %s/ANEW: it was written anew, so builds were found again by their time stamps\n" % room.encode()
@@ -639,6 +690,110 @@ def try_graphs(trials, program, room):
     status, out, err = run([program, "summary", "-n", "0", "--graph", f"{room}/GRAPH", f"{room}/LOG"])
     wanted = b"critical-path\t100000\n" + b"".join(b"on-path\t1\t%d\t%d\t%d\n" % (it, it + 1, it) for it in range(1, count + 1))
     return trials.want("a path of 100,000 commands", (status, out[out.find(b"critical-path"):], err), (0, wanted, b""))
+
+
+# `app` needs three objects, of 10, 20 and 30 ms: two at a time, the third begins when the first has ended. And what is no number of commands.
+FOUR = [((0, 10), [b"a.o"]), ((0, 20), [b"b.o"]), ((0, 30), [b"c.o"]), ((30, 35), [b"app"])]
+FOUR_GRAPH = graph_text([([b"a.c"], [b"a.o"], b"cc"), ([b"b.c"], [b"b.o"], b"cc"), ([b"c.c"], [b"c.o"], b"cc"), ([b"a.o", b"b.o", b"c.o"], [b"app"], b"link")], [b"app"])
+FOUR_ESTIMATES = b"estimate\t1\t65\t65\nestimate\t2\t45\t35\nestimate\t3\t35\t35\nestimate\t4\t35\t35\n"
+NO_COUNTS = ["", "0", "1,", ",1", "1,,2", "01", "+1", "1.5", "1, 2", "9223372036854775808", "x"]
+
+
+def log_of_build(version, commands):
+    """The log of one build of these commands, each a START, an END and its outputs."""
+    lines = []
+    for place, ((start, end), outputs) in enumerate(commands):
+        lines += [(end, place, line_of(it, (start, end, NANO + (end if version < 6 else start) * 1_000_000, place + 1))) for it in outputs]
+    return b"# ninja log v%d\n" % version + b"".join(it for _, _, it in sorted(lines))
+
+
+def estimates_of(program, room, graph, log, counts):
+    write(f"{room}/GRAPH", graph)
+    write(f"{room}/LOG", log)
+    status, out, err = run([program, "summary", "-n", "0", "--graph", f"{room}/GRAPH", "--jobs", counts, f"{room}/LOG"])
+    at = out.find(b"estimate\t")
+    return status, out[at:] if at >= 0 else b"", err
+
+
+def try_estimates(trials, program, room):
+    """What `summary --jobs` prints: by hand, and of graphs at random by a simulation that is written here."""
+    trials.want("estimates by hand", estimates_of(program, room, FOUR_GRAPH, log_of_build(7, FOUR), "1,2,3,4"), (0, FOUR_ESTIMATES, b""))
+    for counts in NO_COUNTS:
+        got = estimates_of(program, room, FOUR_GRAPH, log_of_build(7, FOUR), counts)
+        trials.want(f"{counts!r} is no number of commands", got, (1, b"", b"nlog: bad number\n"))
+    status, out, _ = run([program, "summary", "--jobs", "4", f"{room}/LOG"])
+    trials.want("estimates without a graph", (status, out), (2, b""))
+    # By this graph `b.o` needs `a.o`, and by the log one command made both.
+    both = [((0, 10), [b"a.o", b"b.o"])]
+    got = estimates_of(program, room, graph_text([([b"a.c"], [b"a.o"], b"cc"), ([b"a.o"], [b"b.o"], b"cc")], [b"b.o"]), log_of_build(7, both), "2")
+    trials.want("a command that waits for itself", got, (1, b"", b"nlog: not the graph of this build\n"))
+    numbers = (1, 2, 3, 8, 1000)
+    for seed in range(60):
+        rng = random.Random(seed)
+        edges, targets = random_project(seed, rng.randrange(1, 80))
+        graph = graph_text(edges, targets)
+        # Some commands didn't run, and the graph lacks one of those that did.
+        ran = [outputs for _, outputs, rule in edges if rule != b"phony" and rng.random() < 0.9] + [[b"elsewhere"]]
+        starts = [rng.randrange(300) for _ in ran]
+        commands = [((start, start + rng.choice((0, 1, 10, 10, 25, 200))), outputs) for start, outputs in zip(starts, ran)]
+        for version in (5, 6, 7):
+            log = log_of_build(version, commands)
+            # Those of one END are told in their order, and then they are taken by START.
+            told = sorted(sorted(commands, key=lambda it: it[0][1]), key=lambda it: it[0][0])
+            model = Graph(graph, [(end - start, outputs) for (start, end), outputs in told])
+            wanted = b"".join(b"estimate\t%d\t%d\t%d\n" % (it, model.wall(it, version > 5), model.floor(it)) for it in numbers)
+            got = estimates_of(program, room, graph, log, ",".join(map(str, numbers)))
+            other = (1, b"", b"nlog: not the graph of this build\n")
+            trials.want(f"estimates {seed} of version {version}", got, (0, wanted, b"") if len(ran) > 1 else other)
+
+
+# Two projects that CMake lays out: an archive, a generated header and two programs; and a chain of generated sources with a library of each folder.
+CMAKE = "cmake_minimum_required(VERSION 3.13)\nproject(%s C)\n"
+UNITS = {f"u{it}.c": f"int u{it}(int x) {{ return x * {it} + 1; }}\n" for it in range(9)}
+HEADER_OF = "add_custom_command(OUTPUT made.h COMMAND ${CMAKE_COMMAND} -E copy ${CMAKE_SOURCE_DIR}/base.h made.h DEPENDS base.h)\n"
+PROJECTS = {
+    "archive": {
+        **UNITS,
+        "base.h": "#define MADE 1\n",
+        "main.c": '#include "made.h"\nint u1(int);\nint main(void) { return u1(MADE) - 2; }\n',
+        "CMakeLists.txt": CMAKE % "archive" + HEADER_OF
+        + "add_library(units STATIC " + " ".join(UNITS) + ")\nadd_executable(one main.c ${CMAKE_BINARY_DIR}/made.h)\nadd_executable(two main.c ${CMAKE_BINARY_DIR}/made.h)\n"
+        + "target_include_directories(one PRIVATE ${CMAKE_BINARY_DIR})\ntarget_include_directories(two PRIVATE ${CMAKE_BINARY_DIR})\ntarget_link_libraries(one units)\ntarget_link_libraries(two units)\n",
+    },
+    "chain": {
+        "CMakeLists.txt": CMAKE % "chain" + "add_subdirectory(low)\nadd_subdirectory(high)\n"
+        + "".join(f"add_custom_command(OUTPUT s{it}.c COMMAND ${{CMAKE_COMMAND}} -E copy {src} s{it}.c DEPENDS {src})\n" for it, src in enumerate(["${CMAKE_SOURCE_DIR}/main.c", "s0.c", "s1.c"]))
+        + "add_executable(chained s2.c)\ntarget_link_libraries(chained high low)\n",
+        "main.c": "int high(void);\nint main(void) { return high(); }\n",
+        "low/CMakeLists.txt": "add_library(low STATIC low.c more.c)\n",
+        "low/low.c": "int low(void) { return 0; }\n",
+        "low/more.c": "int more(void) { return 1; }\n",
+        "high/CMakeLists.txt": "add_library(high SHARED high.c)\ntarget_link_libraries(high low)\n",
+        "high/high.c": "int low(void);\nint high(void) { return low(); }\n",
+    },
+}
+
+
+def try_projects(trials, program, room):
+    """The estimates of real builds, by the graphs that Ninja prints of them, and by the simulation that is written here."""
+    for name, files in PROJECTS.items():
+        if not all(shutil.which(it) for it in ("cmake", "ninja", "cc")):
+            trials.skip(f"estimates of the project {name}", "CMake, Ninja or a C compiler isn't there")
+            continue
+        top = f"{room}/project-{name}"
+        for path, text in files.items():
+            os.makedirs(os.path.dirname(f"{top}/{path}"), exist_ok=True)
+            write(f"{top}/{path}", text.encode())
+        laid = run(["cmake", "-G", "Ninja", "-DCMAKE_POSITION_INDEPENDENT_CODE=ON", "-S", top, "-B", f"{top}/out"])
+        trials.want(f"the project {name}: laid out and built", (laid[0], run(["ninja", "-j3"], cwd=f"{top}/out")[0]), (0, 0))
+        graph, log = run(["ninja", "-t", "graph"], cwd=f"{top}/out")[1], read(f"{top}/out/.ninja_log")
+        jobs = sorted((job for it in asked_of(log) for job in it.jobs), key=lambda it: it.start)
+        model = Graph(graph, [(max(0, it.end - it.start), it.outputs) for it in jobs])
+        trials.check(f"the project {name}: its commands", len(jobs) > 6, len(jobs))
+        numbers = (1, 2, 3, 4, 16, 1000)
+        wanted = b"".join(b"estimate\t%d\t%d\t%d\n" % (it, model.wall(it, not log.startswith(HEADER)), model.floor(it)) for it in numbers)
+        trials.want(f"the project {name}: its estimates", estimates_of(program, room, graph, log, ",".join(map(str, numbers))), (0, wanted, b""))
+    return None
 
 
 def try_ninja_graph(trials, program, room):
@@ -672,8 +827,8 @@ def try_ninja_graph(trials, program, room):
     length = sum(ran[it][1] - ran[it][0] for it in path)
     wanted = b"critical-path\t%d\n" % length
     wanted += b"".join(b"on-path\t%d\t%d\t%d\t%b\n" % (ran[it][1] - ran[it][0], *ran[it], it) for it in path)
-    got = run([program, "summary", "--graph", f"{room}/graphed/GRAPH", log])
-    return trials.want("the critical path of a real build", got, (0, summary_of(read(log)) + wanted, b""))
+    got = run([program, "summary", "-n", "0", "--graph", f"{room}/graphed/GRAPH", log])
+    return trials.want("the critical path of a real build", got, (0, summary_of(read(log), 0) + wanted, b""))
 
 
 def limit(most):
@@ -692,6 +847,8 @@ def trial(trials, program, room):
     try_compared(trials, program, room)
     try_ninja(trials, program, room)
     try_graphs(trials, program, room)
+    try_estimates(trials, program, room)
+    try_projects(trials, program, room)
     try_ninja_graph(trials, program, room)
     try_many(trials, program, room)
     try_shown(trials, program, room)

@@ -165,7 +165,3 @@ IsDrawn (Some g) known js text = IsOutlined g known js text
 
 abbrev pub IsPicture : Scope → Option Graph → Told → List ℕ → Type 0
 IsPicture scope g t text = IsDrawn g (known_in scope t) (jobs_in_turn scope t) text
-
--- of the last build that isn't the manifest's alone
-abbrev pub picture_text : Told → List ℕ
-picture_text t = picture (known_in Last t) None (jobs_in_turn Last t)

@@ -65,10 +65,6 @@ array_text events = compact_text (array (items_of events))
 abbrev pub scoped_text : Scope → Told → List ℕ
 scoped_text scope t = array_text (trace_events scope t)
 
--- of the last build that isn't the manifest's alone
-abbrev pub trace_text : Told → List ℕ
-trace_text t = scoped_text Last t
-
 -- the text of each event behind a comma
 abbrev pub behind_commas : List Data → List ℕ
 behind_commas events = flat_map (λ d. 44 ∷ event_text d) events

@@ -6,7 +6,7 @@ ghost use Rattle.nl_reports.specs.Frame.{IsFrame};
 ghost use Rattle.nl_reports.specs.GraphText.{seen_graph};
 ghost use Rattle.nl_reports.specs.Jobs.{seen, told};
 ghost use Rattle.nl_reports.specs.Moments.{AreMoments};
-ghost use Rattle.nl_reports.specs.Picture.{IsOutlined, IsPicture, bars, commands_word, end, head, known_by, known_in, known_line, legend, legend_kind, long_line, longest, name, edge_at, outline, outline_text, outlined, picture, picture_text, start};
+ghost use Rattle.nl_reports.specs.Picture.{IsOutlined, IsPicture, bars, commands_word, end, head, known_by, known_in, known_line, legend, legend_kind, long_line, longest, name, edge_at, outline, outline_text, outlined, picture, start};
 ghost use Rattle.nl_reports.specs.Reaches.{ran_seen, rans_of};
 ghost use Rattle.nl_reports.specs.Rows.{falling};
 ghost use Rattle.nl_reports.specs.Spans.{IsEarly, time_of};
@@ -62,21 +62,6 @@ pub enum Known {
     SomeAgain,
     /// There is no such build, but so many.
     Missing { builds: usize },
-}
-
-/// Writes a picture of the last build that isn't the manifest's alone.
-#[tactic(auto, using(crate::proofs::DrawLemmas::none_drawn))]
-pub fn write_picture<W: Write>(
-    alloc: Global,
-    from: &Builds,
-    writer: &mut W,
-) -> Result<(), ToolFault>
-    ensures writes { Writes (W.contents writer.old) (W.contents writer.new) (picture_text (told from.now)) result }
-    ensures faults { IfErr result IsWriteFault }
-{
-    let known = known_in(Scope::Last, from);
-    let jobs = jobs_in_turn(alloc, Scope::Last, from)?;
-    write_jobs(alloc, known, None, jobs.as_slice(), writer)
 }
 
 /// Writes a picture of builds, one after another on one clock: each command is a bar in a lane, in which no other runs as it does, with its

@@ -4,7 +4,7 @@ ghost use Rattle.std.specs.List.{All};
 ghost use Rattle.nl_reports.specs.Jobs.{seen, told};
 ghost use Rattle.nl_reports.specs.Moments.{AreMoments};
 ghost use Rattle.nl_reports.specs.Spans.{IsEarly};
-ghost use Rattle.nl_reports.specs.Trace.{array_text, behind_commas, build_events, events_of, how_among, how_in, number_in, scoped_text, trace_text};
+ghost use Rattle.nl_reports.specs.Trace.{array_text, behind_commas, build_events, events_of, how_among, how_in, number_in, scoped_text};
 ghost use Rattle.nl_reports.specs.Writing.{IsWriteFault, Writes};
 ghost use Rattle.nl_reports.specs.declared.span.Span.{Span};
 
@@ -23,14 +23,6 @@ use nl_builds::{Build, Builds, How};
 use nl_tool_texts::{ToolFault, write_out};
 use std::alloc::{AllocError, Global};
 use std::io::Write;
-
-/// Writes what the last build did that isn't the manifest's alone.
-pub fn write_trace<W: Write>(alloc: Global, from: &Builds, writer: &mut W) -> Result<(), ToolFault>
-    ensures writes { Writes (W.contents writer.old) (W.contents writer.new) (trace_text (told from.now)) result }
-    ensures faults { IfErr result IsWriteFault }
-{
-    trace_builds(alloc, Scope::Last, from, writer)
-}
 
 /// Writes what builds did, one after another on one clock, as the events of a trace: a JSON array. Each command has a lane, in which no other
 /// runs as it does, and all its outputs; and it is told how many run as it begins and as it has ended. The text is written as it is made, so

@@ -1,6 +1,6 @@
 -- A text that is told of builds, laid out, or written piece by piece.
-use Rattle.std.proofs.Common.{◌≡◌, ◌⊎◌, ◌++◌, Bool, true, false, List, ℕ, Option, None, Some, Result, Ok, Err, inl, inr, refl, sym, subst, ap, ◌∙◌}
-use Rattle.std.specs.Prelude.{IfErr, IfSome, IsSome, length}
+use Rattle.std.proofs.Common.{◌≡◌, ◌⊎◌, ◌++◌, Bool, List, ℕ, Option, None, Some, Result, Ok, Err, inl, inr, refl, sym, subst, ap, ◌∙◌}
+use Rattle.std.specs.Prelude.{IfErr, IfSome, IsSome, length, option_map}
 use Rattle.std.specs.Borrow.{Bor}
 use Rattle.std.specs.Global.{Vec}
 use Rattle.std.specs.Io.KnownBytes.{Consumes, Keeps}
@@ -22,38 +22,23 @@ use Rattle.nl_tool_texts.specs.declared.fault.ToolFault.TheVariants.{NotALog as 
 use Rattle.nl_reports.specs.Choice.{chosen_jobs}
 use Rattle.nl_reports.specs.Compare.{Log as Compared, are_comparable, compare_text}
 use Rattle.nl_versions.specs.declared.version.LogVersion.{LogVersion}
-use Rattle.nl_reports.specs.Critical.{IsCritical}
 use Rattle.nl_reports.specs.GraphText.{seen_graph}
 use Rattle.nl_reports.specs.Jobs.{Job, told}
 use Rattle.nl_reports.specs.Summary.{summary_text}
 use Rattle.nl_reports.specs.declared.choice.Scope.{Scope}
-use Rattle.nl_reports.specs.declared.graph.NinjaGraph.{NinjaGraph}
+use Rattle.nl_reports.specs.declared.jobs.ByGraph.{ByGraph}
+use Rattle.nl_reports.specs.Plans.{IsToldBy}
 use Rattle.nl_reports.specs.declared.lists.Lists.{Lists}
-use Rattle.nl_reports.specs.Writing.{IsWriteFault, Writes}
+use Rattle.nl_reports.specs.Picture.{IsPicture}
+use Rattle.nl_reports.specs.Trace.{scoped_text}
+use Rattle.nl_reports.specs.Writing.{IsFoundFault, IsWriteFault, PrintsInPieces, Writes}
+use Rattle.nl_reports.specs.declared.graph.NinjaGraph.{NinjaGraph}
+use Rattle.nl_reports.proofs.WritingLemmas.{pieces_of}
 use Rattle.nl_tool.specs.Answers.{RefusesLog}
-use Rattle.nl_tool.specs.Faults.{IsFoundFault, IsGraphFault, IsPathFault, IsReportFault, IsToldFault}
-use Rattle.nl_tool.specs.Reports.{asked_told, IsLaidOut, IsReport, IsSummary, PrintsInPieces, PrintsReport, laid_out}
+use Rattle.nl_tool.specs.Faults.{IsGraphFault, IsPathFault, IsReportFault, IsToldFault}
+use Rattle.nl_tool.specs.Reports.{asked_told, IsLaidOut, IsReport, IsSummary, PrintsReport, laid_out}
 use Rattle.nl_tool.specs.declared.reporting.Report.{Report}
 use Rattle.nl_tool.specs.declared.reporting.Report.TheVariants.{Builds, Picture, Summary, Trace}
-
--- what is written so is one of the texts
-pub pieces_of : (IsText : List ℕ → Type 0) (text : List ℕ) → IsText text → (old new : Option (List ℕ)) (r : Result (Unit {0}) ToolFault)
-    → Writes old new text r → IfErr r IsWriteFault → PrintsInPieces IsText old new r
-pieces_of IsText text is old new (Ok done) w f = (text, is, w)
-pieces_of IsText text is old new (Err Memory) w f = inr (text, is, w)
-pieces_of IsText text is old new (Err Write) w f = (text, is, w)
-pieces_of IsText text is old new (Err NoLog) w f = absurd f
-pieces_of IsText text is old new (Err Other) w f = absurd f
-pieces_of IsText text is old new (Err Read) w f = absurd f
-pieces_of IsText text is old new (Err Folder) w f = absurd f
-pieces_of IsText text is old new (Err (NegativeTime index)) w f = absurd f
-pieces_of IsText text is old new (Err BadNumber) w f = absurd f
-pieces_of IsText text is old new (Err EmptyName) w f = absurd f
-pieces_of IsText text is old new (Err (BadByte at)) w f = absurd f
-pieces_of IsText text is old new (Err LongName) w f = absurd f
-pieces_of IsText text is old new (Err (BadLine number)) w f = absurd f
-pieces_of IsText text is old new (Err OtherGraph) w f = absurd f
-pieces_of IsText text is old new (Err Elsewhere) w f = absurd f
 
 -- what is written of one kind is of another, where each text of the one is
 pieces_as : (P Q : List ℕ → Type 0) → ((text : List ℕ) → P text → Q text) → (old new : Option (List ℕ)) (r : Result (Unit {0}) ToolFault)
@@ -84,8 +69,8 @@ pub report_as : (columns : Bool) (report : Report) (P Q : List ℕ → Type 0) �
 report_as columns Builds P Q is old new r w = prints_as (IsLaidOut columns P) (IsLaidOut columns Q) (laid_as columns P Q is) old new r w
 report_as columns (Summary scope lists graph) P Q is old new r w =
     prints_as (IsLaidOut columns P) (IsLaidOut columns Q) (laid_as columns P Q is) old new r w
-report_as columns Trace P Q is old new r w = pieces_as P Q is old new r w
-report_as columns Picture P Q is old new r w = pieces_as P Q is old new r w
+report_as columns (Trace scope) P Q is old new r w = pieces_as P Q is old new r w
+report_as columns (Picture scope graph) P Q is old new r w = pieces_as P Q is old new r w
 
 -- a text in columns where they are wanted
 pub laid_of : (columns : Bool) (IsText : List ℕ → Type 0) (lines : List ℕ) → IsText lines → (old new : Option (List ℕ))
@@ -111,8 +96,8 @@ pub not_read : (columns : Bool) (report : Report) (IsText : List ℕ → Type 0)
     → PrintsReport columns report IsText old new (Err (of_load_fault e))
 not_read columns Builds IsText old new e kept = not_printed (IsLaidOut columns IsText) old new e kept
 not_read columns (Summary scope lists graph) IsText old new e kept = not_printed (IsLaidOut columns IsText) old new e kept
-not_read columns Trace IsText old new e kept = not_in_pieces IsText old new e kept
-not_read columns Picture IsText old new e kept = not_in_pieces IsText old new e kept
+not_read columns (Trace scope) IsText old new e kept = not_in_pieces IsText old new e kept
+not_read columns (Picture scope graph) IsText old new e kept = not_in_pieces IsText old new e kept
 
 -- what was read so far is none of a log, so nothing that follows makes it one
 pub refused_by : (known left : Option (List ℕ)) (read : List ℕ) → Consumes known left read
@@ -143,23 +128,23 @@ pub as_log_by : {A : Type 0} (r : Result A ToolFault) → IfErr r IsWriteFault �
 as_log_by (Ok x) h = tt
 as_log_by (Err fault) h = as_log fault h
 
-found : (g : Option (Bor NinjaGraph)) (fault : ToolFault) → IsWriteFault fault → IsFoundFault g fault
+found : {G : Type 0} (g : Option G) (fault : ToolFault) → IsWriteFault fault → IsFoundFault g fault
 found None fault h = h
 found (Some g) fault h = inl h
 
-pub found_by : {A : Type 0} (g : Option (Bor NinjaGraph)) (r : Result A ToolFault) → IfErr r IsWriteFault → IfErr r (IsFoundFault g)
+pub found_by : {A G : Type 0} (g : Option G) (r : Result A ToolFault) → IfErr r IsWriteFault → IfErr r (IsFoundFault g)
 found_by g (Ok x) h = tt
 found_by g (Err fault) h = found g fault h
 
-pub other_found : (g : Option (Bor NinjaGraph)) → IsSome g → IsFoundFault g OtherGraph
+pub other_found : {G : Type 0} (g : Option G) → IsSome g → IsFoundFault g OtherGraph
 other_found None there = absurd (cc)
 other_found (Some g) there = inr refl
 
 told_fault : (report : Report) (fault : ToolFault) → IsWriteFault fault → IsToldFault report fault
 told_fault Builds fault h = h
 told_fault (Summary scope lists graph) fault h = found graph fault h
-told_fault Trace fault h = h
-told_fault Picture fault h = h
+told_fault (Trace scope) fault h = h
+told_fault (Picture scope graph) fault h = found graph fault h
 
 pub told_fault_by : {A : Type 0} (report : Report) (r : Result A ToolFault) → IfErr r IsWriteFault → IfErr r (IsToldFault report)
 told_fault_by report (Ok x) h = tt
@@ -188,16 +173,20 @@ no_log_told Builds h = h
 no_log_told (Summary scope lists None) h = h
 no_log_told (Summary scope lists (Some g)) (inl h) = h
 no_log_told (Summary scope lists (Some g)) (inr h) = absurd (cc)
-no_log_told Trace h = h
-no_log_told Picture h = h
+no_log_told (Trace scope) h = h
+no_log_told (Picture scope None) h = h
+no_log_told (Picture scope (Some g)) (inl h) = h
+no_log_told (Picture scope (Some g)) (inr h) = absurd (cc)
 
 no_version_told : (report : Report) → IsToldFault report Other → ⊥
 no_version_told Builds h = h
 no_version_told (Summary scope lists None) h = h
 no_version_told (Summary scope lists (Some g)) (inl h) = h
 no_version_told (Summary scope lists (Some g)) (inr h) = absurd (cc)
-no_version_told Trace h = h
-no_version_told Picture h = h
+no_version_told (Trace scope) h = h
+no_version_told (Picture scope None) h = h
+no_version_told (Picture scope (Some g)) (inl h) = h
+no_version_told (Picture scope (Some g)) (inr h) = absurd (cc)
 
 abbrev IsErrFault : Report → Result (Unit {0}) ToolFault → Type 0
 IsErrFault report r = IfErr r (IsToldFault report)
@@ -212,19 +201,19 @@ not_refused report reading known (Err fault) h = record {
 
 -- ---- what is told
 
-pub summary_plain : (scope : Scope) (lists : Lists) (g : Option (Bor NinjaGraph)) (count : ℕ) (t : Told) (text : List ℕ)
-    → ((x : Bor NinjaGraph) → g ≡ Some x → ⊥) → text ≡ summary_text scope lists count t → IsSummary scope lists g count t text
+pub summary_plain : (scope : Scope) (lists : Lists) (g : Option ByGraph) (count : ℕ) (t : Told) (text : List ℕ)
+    → ((x : ByGraph) → g ≡ Some x → ⊥) → text ≡ summary_text scope lists count t → IsSummary scope lists g count t text
 summary_plain scope lists None count t text none is = is
 summary_plain scope lists (Some x) count t text none is = absurd (none x refl)
 
-pub summary_by : (scope : Scope) (lists : Lists) (g : Option (Bor NinjaGraph)) (graph : Bor NinjaGraph) (count : ℕ) (t : Told) (js : List Job)
-    (found : Option (Vec ℕ)) (path : Vec ℕ) (lines text : List ℕ) → g ≡ Some graph → IsCritical (seen_graph graph.now) js found
-    → found ≡ Some path → js ≡ chosen_jobs scope t → lines ≡ summary_text scope lists count t → text ≡ lines ++ path.items
+pub summary_by : (scope : Scope) (lists : Lists) (g : Option ByGraph) (by : ByGraph) (count : ℕ) (t : Told) (js : List Job)
+    (found : Option (Vec ℕ)) (more : Vec ℕ) (lines text : List ℕ) → g ≡ Some by → IsToldBy (seen_graph by.graph.now) by.most by.counts.now js found
+    → found ≡ Some more → js ≡ chosen_jobs scope t → lines ≡ summary_text scope lists count t → text ≡ lines ++ more.items
     → IsSummary scope lists g count t text
-summary_by scope lists g graph count t js found path lines text given critical is jobs told whole =
-    let by_path : IsCritical (seen_graph graph.now) js (Some path) = subst (IsCritical (seen_graph graph.now) js) is critical in
-    let by_jobs = subst (λ js. IsCritical (seen_graph graph.now) js (Some path)) jobs by_path in
-    subst (λ g. IsSummary scope lists g count t text) (sym given) (path, by_jobs, whole ∙ ap (λ (l : List ℕ). l ++ path.items) told)
+summary_by scope lists g by count t js found more lines text given told is jobs summed whole =
+    let by_graph : IsToldBy (seen_graph by.graph.now) by.most by.counts.now js (Some more) = subst (IsToldBy (seen_graph by.graph.now) by.most by.counts.now js) is told in
+    let by_jobs = subst (λ js. IsToldBy (seen_graph by.graph.now) by.most by.counts.now js (Some more)) jobs by_graph in
+    subst (λ g. IsSummary scope lists g count t text) (sym given) (more, by_jobs, whole ∙ ap (λ (l : List ℕ). l ++ more.items) summed)
 
 -- what is held is what was told
 told_by : (es : List Entry) (cs : List Command) (bs : List Build) (t : Told) → es ≡ t.entries → cs ≡ t.commands → bs ≡ t.builds
@@ -251,7 +240,7 @@ pub printed_so : (columns : Bool) (lines text : List ℕ) (old new : Option (Lis
     → Prints (λ out. out ≡ laid_out columns lines) old new r → Prints (λ out. out ≡ laid_out columns text) old new r
 printed_so columns lines text old new r is printed = subst (λ l. Prints (λ out. out ≡ laid_out columns l) old new r) is printed
 
-pub summary_told : (columns : Bool) (report : Report) (scope : Scope) (lists : Lists) (graph : Option (Bor NinjaGraph))
+pub summary_told : (columns : Bool) (report : Report) (scope : Scope) (lists : Lists) (graph : Option ByGraph)
     → report ≡ Summary scope lists graph → (names : List (List ℕ)) (t asked : Told) (count : ℕ) (old new : Option (List ℕ))
     (r : Result (Unit {0}) ToolFault) → asked ≡ asked_told scope names t → count ≡ length names
     → Prints (IsLaidOut columns (IsSummary scope lists graph count asked)) old new r
@@ -260,3 +249,18 @@ summary_told columns report scope lists graph is names t asked count old new r s
     let one = subst (λ a. Prints (IsLaidOut columns (IsSummary scope lists graph count a)) old new r) same printed in
     let two = subst (λ n. Prints (IsLaidOut columns (IsSummary scope lists graph n (asked_told scope names t))) old new r) counted one in
     subst (λ p. PrintsReport columns p (IsReport p names t) old new r) (sym is) two
+
+pub trace_told : (columns : Bool) (report : Report) (scope : Scope) → report ≡ Trace scope → (names : List (List ℕ)) (t asked : Told)
+    (old new : Option (List ℕ)) (r : Result (Unit {0}) ToolFault) → asked ≡ asked_told scope names t → Writes old new (scoped_text scope asked) r
+    → IfErr r IsWriteFault → PrintsReport columns report (IsReport report names t) old new r
+trace_told columns report scope is names t asked old new r same writes faults =
+    subst (λ p. PrintsReport columns p (IsReport p names t) old new r) (sym is)
+    (pieces_of (IsReport (Trace scope) names t) (scoped_text scope asked) (ap (scoped_text scope) same) old new r writes faults)
+
+pub picture_told : (columns : Bool) (report : Report) (scope : Scope) (graph : Option (Bor NinjaGraph)) → report ≡ Picture scope graph
+    → (names : List (List ℕ)) (t asked : Told) (old new : Option (List ℕ)) (r : Result (Unit {0}) ToolFault) → asked ≡ asked_told scope names t
+    → PrintsInPieces (IsPicture scope (option_map (λ g. seen_graph g.now) graph) asked) old new r
+    → PrintsReport columns report (IsReport report names t) old new r
+picture_told columns report scope graph is names t asked old new r same printed =
+    subst (λ p. PrintsReport columns p (IsReport p names t) old new r) (sym is)
+    (subst (λ a. PrintsInPieces (IsPicture scope (option_map (λ g. seen_graph g.now) graph) a) old new r) same printed)

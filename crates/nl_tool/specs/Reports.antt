@@ -1,7 +1,8 @@
 -- What each command prints that tells of builds.
-use Rattle.std.specs.Prelude.{◌≡◌, ◌⊎◌, ◌++◌, ℕ, Bool, true, false, ◌<◌, ◌^◌, pos, List, Option, None, Some, IsSome, Result, Err, length, map, bytes_eq, codes, if◌then◌else◌}
+use Rattle.std.specs.Prelude.{⊤, ◌≡◌, ◌==◌, ◌++◌, [], ◌∷◌, ℕ, Bool, true, false, ◌<◌, ◌^◌, pos, List, Option, None, Some, IsSome, Result, length, map, option_map, bytes_eq, codes, if◌then◌else◌}
 use Rattle.std.specs.Borrow.{Bor}
 use Rattle.std.specs.Global.{Vec}
+use Rattle.std.specs.List.{slice_split}
 use Rattle.nl_fields.specs.Digits.{IsDecimal}
 use Rattle.nl_fields.specs.declared.entry.Entry.{Entry}
 use Rattle.nl_table.specs.Log.{Log, log_of}
@@ -10,24 +11,23 @@ use Rattle.nl_builds.specs.Builds.{Told, builds_of}
 use Rattle.nl_builds.specs.Recorded.{recorded, unfinished}
 use Rattle.nl_builds.specs.Stamps.{stamps_of}
 use Rattle.nl_builds.specs.declared.log.LogBuilds.{LogBuilds}
-use Rattle.std.specs.Io.KnownBytes.{Keeps}
-use Rattle.nl_tool_texts.specs.Output.{AppendsPrefixOf, Prints}
+use Rattle.nl_tool_texts.specs.Output.{Prints}
 use Rattle.nl_tool_texts.specs.declared.fault.ToolFault.{ToolFault}
-use Rattle.nl_tool_texts.specs.declared.fault.ToolFault.TheVariants.{Memory}
 use Rattle.nl_reports.specs.BuildsText.{builds_text}
 use Rattle.nl_reports.specs.Choice.{chosen_jobs}
 use Rattle.nl_reports.specs.Columns.{in_columns}
 use Rattle.nl_reports.specs.Compare.{Log as Compared}
-use Rattle.nl_reports.specs.Critical.{IsCritical}
 use Rattle.nl_reports.specs.GraphText.{seen_graph}
 use Rattle.nl_reports.specs.Jobs.{jobs_from, told}
 use Rattle.nl_reports.specs.Lasting.{is_among, lasting}
-use Rattle.nl_reports.specs.Picture.{picture_text}
+use Rattle.nl_reports.specs.Picture.{IsPicture}
+use Rattle.nl_reports.specs.Plans.{IsToldBy}
 use Rattle.nl_reports.specs.Summary.{summary_text}
-use Rattle.nl_reports.specs.Trace.{trace_text}
+use Rattle.nl_reports.specs.Trace.{scoped_text}
+use Rattle.nl_reports.specs.Writing.{PrintsInPieces}
 use Rattle.nl_reports.specs.declared.choice.Scope.{Scope}
 use Rattle.nl_reports.specs.declared.choice.Scope.TheVariants.{Last, Numbered, All}
-use Rattle.nl_reports.specs.declared.graph.NinjaGraph.{NinjaGraph}
+use Rattle.nl_reports.specs.declared.jobs.ByGraph.{ByGraph}
 use Rattle.nl_reports.specs.declared.kind.KindRule.{KindRule}
 use Rattle.nl_reports.specs.declared.kind.KindRule.TheVariants.{Extension, Folder, Top}
 use Rattle.nl_reports.specs.declared.lists.Lists.{Lists}
@@ -58,6 +58,17 @@ abbrev pub IsScope : Bool → Option (Bor (List ℕ)) → Scope → Type 0
 IsScope true build scope = scope ≡ All
 IsScope false build scope = IsBuild build scope
 
+-- the numbers of commands at a time, from 1, with commas between them; none where nothing is given
+abbrev pub ArePositive : List (List ℕ) → List ℕ → Type 0
+ArePositive [] [] = ⊤
+ArePositive [] (n ∷ ns) = ⊥
+ArePositive (text ∷ texts) [] = ⊥
+ArePositive (text ∷ texts) (n ∷ ns) = ((0 < n) × (n < 2 ^ 63) × IsDecimal (pos n) text) × ArePositive texts ns
+
+abbrev pub AreCounts : Option (Bor (List ℕ)) → List ℕ → Type 0
+AreCounts None ns = ns ≡ []
+AreCounts (Some text) ns = ArePositive (slice_split (λ b. b == 44) text.now) ns
+
 -- the rule by which kinds are told apart, by its word: that of extensions where it is left out
 abbrev pub rule_of : Option (Bor (List ℕ)) → KindRule
 rule_of None = Extension
@@ -71,14 +82,14 @@ asked_told Last names t = t
 asked_told (Numbered number) names t = t
 asked_told All names t = lasting names t
 
--- a summary of these builds, where so many outputs wait, and behind it the critical path by a graph
-abbrev pub IsSummary : Scope → Lists → Option (Bor NinjaGraph) → ℕ → Told → List ℕ → Type 0
+-- a summary of these builds, where so many outputs wait, and behind it what a graph tells
+abbrev pub IsSummary : Scope → Lists → Option ByGraph → ℕ → Told → List ℕ → Type 0
 IsSummary scope lists None count t text = text ≡ summary_text scope lists count t
-IsSummary scope lists (Some graph) count t text = (path : Vec ℕ) × IsCritical (seen_graph graph.now) (chosen_jobs scope t) (Some path)
-    × (text ≡ summary_text scope lists count t ++ path.items)
+IsSummary scope lists (Some by) count t text = (told : Vec ℕ) × IsToldBy (seen_graph by.graph.now) by.most by.counts.now (chosen_jobs scope t) (Some told)
+    × (text ≡ summary_text scope lists count t ++ told.items)
 
--- a summary, or none, where the graph has no command of these builds
-abbrev pub IsFound : Scope → Lists → Option (Bor NinjaGraph) → ℕ → Told → Option (Vec ℕ) → Type 0
+-- a summary, or none, where the graph isn't that of these builds
+abbrev pub IsFound : Scope → Lists → Option ByGraph → ℕ → Told → Option (Vec ℕ) → Type 0
 IsFound scope lists graph count t None = IsSome graph
 IsFound scope lists graph count t (Some lines) = IsSummary scope lists graph count t lines.items
 
@@ -86,8 +97,8 @@ IsFound scope lists graph count t (Some lines) = IsSummary scope lists graph cou
 abbrev pub IsReport : Report → List (List ℕ) → Told → List ℕ → Type 0
 IsReport Builds names t text = text ≡ builds_text t
 IsReport (Summary scope lists graph) names t text = IsSummary scope lists graph (length names) (asked_told scope names t) text
-IsReport Trace names t text = text ≡ trace_text t
-IsReport Picture names t text = text ≡ picture_text t
+IsReport (Trace scope) names t text = text ≡ scoped_text scope (asked_told scope names t)
+IsReport (Picture scope graph) names t text = IsPicture scope (option_map (λ g. seen_graph g.now) graph) (asked_told scope names t) text
 
 -- what a log tells, as it is held
 abbrev pub waiting : LogBuilds → List (List ℕ)
@@ -123,11 +134,6 @@ side_in held = record {
 abbrev pub laid_out : Bool → List ℕ → List ℕ
 laid_out columns text = if columns then in_columns text else text
 
--- where memory is refused, nothing more was written, or a part of the text; all else as `Prints`
-abbrev pub PrintsInPieces : (List ℕ → Type 0) → Option (List ℕ) → Option (List ℕ) → Result (Unit {0}) ToolFault → Type 0
-PrintsInPieces IsText old new (Err Memory) = Keeps old new ⊎ ((text : List ℕ) × IsText text × AppendsPrefixOf old new text)
-PrintsInPieces IsText old new result = Prints IsText old new result
-
 -- a text in columns where they are wanted; a trace and a picture piece by piece
 abbrev pub IsLaidOut : Bool → (List ℕ → Type 0) → List ℕ → Type 0
 IsLaidOut columns IsText text = (lines : List ℕ) × IsText lines × (text ≡ laid_out columns lines)
@@ -135,5 +141,5 @@ IsLaidOut columns IsText text = (lines : List ℕ) × IsText lines × (text ≡ 
 abbrev pub PrintsReport : Bool → Report → (List ℕ → Type 0) → Option (List ℕ) → Option (List ℕ) → Result (Unit {0}) ToolFault → Type 0
 PrintsReport columns Builds IsText old new result = Prints (IsLaidOut columns IsText) old new result
 PrintsReport columns (Summary scope lists graph) IsText old new result = Prints (IsLaidOut columns IsText) old new result
-PrintsReport columns Trace IsText old new result = PrintsInPieces IsText old new result
-PrintsReport columns Picture IsText old new result = PrintsInPieces IsText old new result
+PrintsReport columns (Trace scope) IsText old new result = PrintsInPieces IsText old new result
+PrintsReport columns (Picture scope graph) IsText old new result = PrintsInPieces IsText old new result

@@ -8,7 +8,7 @@ use crate::doubting::doubt_in;
 use crate::mending::mend_in;
 use crate::notes::Notes;
 use crate::printing::{Printing, Streaming, print_file, print_from, print_log, stream_log};
-use crate::reporting::{Report, report_in, summary_in};
+use crate::reporting::{Report, picture_in, report_in, summary_in, trace_in};
 use crate::screen::NO_SCREEN;
 use crate::settling::{prune_in, retime_in};
 use crate::version_choice::{number_of, or_auto, or_five};
@@ -166,14 +166,31 @@ where
                 kind,
                 lines,
                 graph,
-                ..
+                jobs,
             } = choices;
             summary_in(
-                rt, alloc, columns, log, all, build, kind, lines, graph, missing_ok, notes,
+                rt, alloc, columns, log, all, build, kind, lines, graph, jobs, missing_ok, notes,
             )
         }
-        Reading::Trace => report_in(rt, alloc, false, Report::Trace, log, missing_ok, notes),
-        Reading::Picture => report_in(rt, alloc, false, Report::Picture, log, missing_ok, notes),
+        Reading::Trace => trace_in(
+            rt,
+            alloc,
+            log,
+            choices.all,
+            choices.build,
+            missing_ok,
+            notes,
+        ),
+        Reading::Picture => picture_in(
+            rt,
+            alloc,
+            log,
+            choices.all,
+            choices.build,
+            choices.graph,
+            missing_ok,
+            notes,
+        ),
     };
     done?;
     Ok(Verdict::Done)

@@ -1,5 +1,6 @@
 //! The words that tell what the builds of a log did, over LOG or standard input, with standard output for their text.
-ghost use Rattle.std.specs.Prelude.{◌≡◌, ◌++◌, ◌<◌, ◌^◌, ℕ, map, pos, Some, IfErr, IfOk, IfSome, OnOk};
+ghost use Rattle.std.specs.Prelude.{◌≡◌, ◌==◌, ◌++◌, ◌<◌, ◌^◌, ℕ, List, map, pos, Some, IfErr, IfOk, IfSome, IsSome, OnOk};
+ghost use Rattle.std.specs.List.{slice_split};
 ghost use Rattle.nl_builds.specs.declared.log.LogBuilds.{LogBuilds};
 ghost use Rattle.nl_fields.specs.Digits.{IsDecimal};
 ghost use Rattle.nl_tool_texts.specs.Output.{Prints};
@@ -7,19 +8,19 @@ ghost use Rattle.nl_versions.specs.VersionOf.{as_five};
 ghost use Rattle.nl_table.specs.Log.{log_of};
 ghost use Rattle.nl_reports.specs.BuildsText.{builds_text};
 ghost use Rattle.nl_reports.specs.Jobs.{told};
-ghost use Rattle.nl_reports.specs.Writing.{IsWriteFault};
+ghost use Rattle.nl_reports.specs.Writing.{IsFoundFault, IsWriteFault};
 ghost use Rattle.nl_reports.specs.declared.choice.Scope.{Scope};
 ghost use Rattle.nl_tool.specs.Answers.{RefusesLog};
-ghost use Rattle.nl_tool.specs.Faults.{IsFoundFault, IsPathFault, IsReportFault, IsSummaryFault, IsToldFault};
-ghost use Rattle.nl_tool.specs.Reports.{IsBuild, IsFound, IsLaidOut, IsMost, IsReport, IsReportOf, IsScope, IsSummary, PrintsReport, asked_told, laid_out, rule_of, waiting};
+ghost use Rattle.nl_tool.specs.Faults.{IsBuildFault, IsPathFault, IsPictureFault, IsReportFault, IsSummaryFault, IsToldFault};
+ghost use Rattle.nl_tool.specs.Reports.{AreCounts, ArePositive, IsBuild, IsFound, IsLaidOut, IsMost, IsReport, IsReportOf, IsScope, IsSummary, PrintsReport, asked_told, laid_out, rule_of, waiting};
 
 use crate::notes::{NotedWriter, Notes};
 use crate::reading::{graph_bytes, log_bytes};
-use nl_builds::{Builds, LogBuilds, read_builds};
+use nl_builds::{Builds, LogBuilds, Stamps, read_builds};
 use nl_fields::read_i64;
 use nl_reports::{
-    KindRule, Lists, NinjaGraph, Scope, builds_lines, chosen_jobs, critical_lines, in_columns,
-    lasting, read_graph, summary_lines, taken_in, write_picture, write_trace,
+    ByGraph, KindRule, Lists, NinjaGraph, Priority, Scope, builds_lines, chosen_jobs, draw_builds,
+    graph_lines, in_columns, lasting, read_graph, summary_lines, taken_in, trace_builds,
 };
 use nl_table::Secret;
 use nl_tool_texts::{ToolFault, write_out};
@@ -31,15 +32,19 @@ use std::rt::Runtime;
 #[derive(Clone, Copy, Drop)]
 pub enum Report<'g, 't> {
     Builds,
-    /// With the critical path, where there is a graph.
+    /// With what a graph tells, where there is one.
     Summary {
         scope: Scope,
         lists: Lists,
-        graph: Option<&'g NinjaGraph<'t>>,
+        graph: Option<ByGraph<'g, 't>>,
     },
     /// As the events of a trace.
-    Trace,
-    Picture,
+    Trace(Scope),
+    /// With the critical path outlined, where there is a graph.
+    Picture {
+        scope: Scope,
+        graph: Option<&'g NinjaGraph<'t>>,
+    },
 }
 
 // Tells of what the words say, with lists of as many lines at most as they say.
@@ -53,17 +58,22 @@ pub fn summary_in<R: Runtime>(
     kind: Option<&str>,
     lines: Option<&str>,
     graph: Option<&str>,
+    jobs: Option<&str>,
     missing_ok: bool,
     notes: &mut Notes,
 ) -> Result<(), ToolFault>
     ensures scope { OnOk result ((scope : Scope) × IsScope all build.entry scope) }
     ensures accepts { OnOk result ((most : ℕ) × IsMost lines.entry most) }
-    ensures faults { IfErr result (IsSummaryFault all build.entry lines.entry graph.entry) }
+    ensures counts { OnOk result ((counts : List ℕ) × AreCounts jobs.entry counts) }
+    ensures faults { IfErr result (IsSummaryFault all build.entry lines.entry graph.entry jobs.entry) }
 {
     let Some(most) = most_of(lines) else {
         return Err(ToolFault::BadNumber);
     };
     let Some(scope) = scope_of(all, build) else {
+        return Err(ToolFault::BadNumber);
+    };
+    let Some(counts) = counts_of(alloc, jobs)? else {
         return Err(ToolFault::BadNumber);
     };
     let lists = Lists {
@@ -73,7 +83,16 @@ pub fn summary_in<R: Runtime>(
     };
     match graph {
         Some(path) => summary_with(
-            rt, alloc, columns, scope, lists, path, log, missing_ok, notes,
+            rt,
+            alloc,
+            columns,
+            scope,
+            lists,
+            path,
+            counts.as_slice(),
+            log,
+            missing_ok,
+            notes,
         ),
         None => {
             let report = Report::Summary {
@@ -94,6 +113,7 @@ fn summary_with<R: Runtime>(
     scope: Scope,
     lists: Lists,
     path: &str,
+    counts: &[usize],
     log: Option<&str>,
     missing_ok: bool,
     notes: &mut Notes,
@@ -108,9 +128,90 @@ fn summary_with<R: Runtime>(
     let report = Report::Summary {
         scope,
         lists,
-        graph: Some(&graph),
+        graph: Some(ByGraph {
+            graph: &graph,
+            counts,
+            most: lists.most,
+        }),
     };
     report_in(rt, alloc, columns, report, log, missing_ok, notes)
+}
+
+// Tells of builds as the events of a trace.
+pub fn trace_in<R: Runtime>(
+    rt: &R,
+    alloc: Global,
+    log: Option<&str>,
+    all: bool,
+    build: Option<&str>,
+    missing_ok: bool,
+    notes: &mut Notes,
+) -> Result<(), ToolFault>
+    ensures scope { OnOk result ((scope : Scope) × IsScope all build.entry scope) }
+    ensures faults { IfErr result (IsBuildFault all build.entry) }
+{
+    let Some(scope) = scope_of(all, build) else {
+        return Err(ToolFault::BadNumber);
+    };
+    report_in(
+        rt,
+        alloc,
+        false,
+        Report::Trace(scope),
+        log,
+        missing_ok,
+        notes,
+    )
+}
+
+// Draws builds, with the critical path outlined, where there is a graph.
+pub fn picture_in<R: Runtime>(
+    rt: &R,
+    alloc: Global,
+    log: Option<&str>,
+    all: bool,
+    build: Option<&str>,
+    graph: Option<&str>,
+    missing_ok: bool,
+    notes: &mut Notes,
+) -> Result<(), ToolFault>
+    ensures scope { OnOk result ((scope : Scope) × IsScope all build.entry scope) }
+    ensures faults { IfErr result (IsPictureFault all build.entry graph.entry) }
+{
+    let Some(scope) = scope_of(all, build) else {
+        return Err(ToolFault::BadNumber);
+    };
+    match graph {
+        Some(path) => picture_with(rt, alloc, scope, path, log, missing_ok, notes),
+        None => {
+            let report = Report::Picture { scope, graph: None };
+            report_in(rt, alloc, false, report, log, missing_ok, notes)
+        }
+    }
+}
+
+// Reads the graph, and then the log.
+fn picture_with<R: Runtime>(
+    rt: &R,
+    alloc: Global,
+    scope: Scope,
+    path: &str,
+    log: Option<&str>,
+    missing_ok: bool,
+    notes: &mut Notes,
+) -> Result<(), ToolFault>
+    ensures faults { IfErr result IsPathFault }
+{
+    notes.begin_second();
+    let text = graph_bytes(rt, alloc, path, notes)?;
+    let graph = read_graph(alloc, notes.secret, text.as_slice())?;
+    notes.begin_second();
+    notes.is_second = false;
+    let report = Report::Picture {
+        scope,
+        graph: Some(&graph),
+    };
+    report_in(rt, alloc, false, report, log, missing_ok, notes)
 }
 
 // Of what is told.
@@ -183,7 +284,61 @@ pub fn count_of(text: &str) -> Option<usize>
     ensures value { IfSome result (λ n. (n < 2 ^ 63) × IsDecimal (pos n) text.now) }
     ensures accepts { (n : ℕ) → n < 2 ^ 63 → IsDecimal (pos n) text.now → result ≡ Some n }
 {
-    usize::try_from(read_i64(text.as_bytes())?).ok()
+    count_in(text.as_bytes())
+}
+
+fn count_in(text: &[u8]) -> Option<usize>
+    ensures value { IfSome result (λ n. (n < 2 ^ 63) × IsDecimal (pos n) text.now) }
+    ensures accepts { (n : ℕ) → n < 2 ^ 63 → IsDecimal (pos n) text.now → result ≡ Some n }
+{
+    usize::try_from(read_i64(text)?).ok()
+}
+
+// How many commands run at a time in what is estimated.
+pub fn counts_of(alloc: Global, jobs: Option<&str>) -> Result<Option<Vec<usize>>, AllocError>
+    ensures value { IfOk result (λ o. IfSome o (λ counts. AreCounts jobs.entry counts.items)) }
+    ensures accepts { (counts : List ℕ) → AreCounts jobs.entry counts → IfOk result IsSome }
+{
+    match jobs {
+        None => Ok(Some(Vec::new(alloc))),
+        Some(text) => {
+            let texts = texts_in(alloc, text.as_bytes())?;
+            positive_in(alloc, texts.as_slice())
+        }
+    }
+}
+
+// What stands between commas.
+fn texts_in(alloc: Global, text: &[u8]) -> Result<Vec<&[u8]>, AllocError>
+    ensures value { IfOk result (λ texts. map (λ text. text.now) texts.items ≡ slice_split (λ b. b == 44) text.now) }
+{
+    text.split(|b| *b == b',').collect(alloc)
+}
+
+// Numbers of 1 up to 2^63 - 1, each in its one spelling.
+fn positive_in(alloc: Global, texts: &[&[u8]]) -> Result<Option<Vec<usize>>, AllocError>
+    ensures value { IfOk result (λ o. IfSome o (λ counts. ArePositive (map (λ text. text.now) texts.now) counts.items)) }
+    ensures accepts { (counts : List ℕ) → ArePositive (map (λ text. text.now) texts.now) counts → IfOk result IsSome }
+{
+    let mut counts = Vec::new(alloc);
+    for text in texts {
+        match positive_of(text) {
+            Some(count) => counts.push(count)?,
+            None => return Ok(None),
+        }
+    }
+    Ok(Some(counts))
+}
+
+fn positive_of(text: &[u8]) -> Option<usize>
+    ensures value { IfSome result (λ n. (0 < n) × (n < 2 ^ 63) × IsDecimal (pos n) text.now) }
+    ensures accepts { (n : ℕ) → 0 < n → n < 2 ^ 63 → IsDecimal (pos n) text.now → result ≡ Some n }
+{
+    let count = count_in(text)?;
+    if count == 0 {
+        return None;
+    }
+    Some(count)
 }
 
 // Tells it of the log at this path, or of standard input, in columns where they are wanted.
@@ -250,9 +405,9 @@ fn tell<W: Write>(
     ensures faults { IfErr result (IsToldFault report.entry) }
 {
     let LogBuilds {
+        stamps,
         told,
         unfinished,
-        ..
     } = log;
     match report {
         Report::Builds => tell_builds(alloc, columns, &told, writer, again),
@@ -264,17 +419,20 @@ fn tell<W: Write>(
             let names = unfinished.as_slice();
             let asked = asked_builds(alloc, secret, scope, names, told)?;
             let count = names.len();
+            let priority = priority_in(stamps);
             tell_summary(
-                alloc, columns, scope, lists, graph, count, &asked, writer, again,
+                alloc, columns, scope, lists, graph, priority, count, &asked, writer, again,
             )
         }
-        Report::Trace => {
-            *again = taken_in(Scope::Last, &told).is_some();
-            write_trace(alloc, &told, writer)
+        Report::Trace(scope) => {
+            let asked = asked_builds(alloc, secret, scope, unfinished.as_slice(), told)?;
+            *again = taken_in(scope, &asked).is_some();
+            trace_builds(alloc, scope, &asked, writer)
         }
-        Report::Picture => {
-            *again = taken_in(Scope::Last, &told).is_some();
-            write_picture(alloc, &told, writer)
+        Report::Picture { scope, graph } => {
+            let asked = asked_builds(alloc, secret, scope, unfinished.as_slice(), told)?;
+            *again = taken_in(scope, &asked).is_some();
+            draw_builds(alloc, secret, scope, graph, &asked, writer)
         }
     }
 }
@@ -299,7 +457,8 @@ fn tell_summary<W: Write>(
     columns: bool,
     scope: Scope,
     lists: Lists,
-    graph: Option<&NinjaGraph<'_>>,
+    graph: Option<ByGraph<'_, '_>>,
+    priority: Priority,
     unfinished: usize,
     from: &Builds,
     writer: &mut W,
@@ -310,7 +469,7 @@ fn tell_summary<W: Write>(
     ensures faults { IfErr result (IsFoundFault graph.entry) }
 {
     *again = taken_in(scope, from).is_some();
-    let Some(lines) = summary_of(alloc, scope, lists, graph, unfinished, from)? else {
+    let Some(lines) = summary_of(alloc, scope, lists, graph, priority, unfinished, from)? else {
         return Err(ToolFault::OtherGraph);
     };
     write_lines(alloc, columns, lines, writer)
@@ -332,27 +491,36 @@ fn asked_builds<'a>(
     }
 }
 
-// What is told of these builds, with the critical path by a graph, where so many outputs wait for a command that didn't end. None, where the
-// graph has no command of them.
+// The order in which Ninja takes commands: from the version on that tells when they started, it goes by the critical path.
+fn priority_in(stamps: Stamps) -> Priority {
+    match stamps {
+        Stamps::OfStart => Priority::Critical,
+        Stamps::OfEnd | Stamps::Unknown => Priority::Graph,
+    }
+}
+
+// What is told of these builds, also by a graph, where so many outputs wait for a command that didn't end. None, where the graph isn't theirs.
 fn summary_of(
     alloc: Global,
     scope: Scope,
     lists: Lists,
-    graph: Option<&NinjaGraph<'_>>,
+    graph: Option<ByGraph<'_, '_>>,
+    priority: Priority,
     unfinished: usize,
     from: &Builds,
 ) -> Result<Option<Vec<u8>>, AllocError>
     ensures value { IfOk result (IsFound scope lists graph.entry unfinished (told from.now)) }
 {
     let mut lines = summary_lines(alloc, scope, lists, unfinished, from)?;
-    let Some(graph) = graph else {
+    let Some(by) = graph else {
         return Ok(Some(lines));
     };
     let jobs = chosen_jobs(alloc, scope, from)?;
-    let Some(path) = critical_lines(alloc, lists.secret, graph, jobs.as_slice())? else {
+    let told = graph_lines(alloc, lists.secret, &by, priority, jobs.as_slice())?;
+    let Some(told) = told else {
         return Ok(None);
     };
-    lines.extend_from_slice(path.as_slice())?;
+    lines.extend_from_slice(told.as_slice())?;
     Ok(Some(lines))
 }
 

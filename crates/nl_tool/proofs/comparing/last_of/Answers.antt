@@ -1,5 +1,4 @@
-use Rattle.std.proofs.Common.{◌≡◌, ◌∙◌, ap, ap₂, map, List, ℕ}
-use Rattle.nl_reports.specs.Jobs.{told}
+use Rattle.std.proofs.Common.{◌∙◌, ap, ap₂, map}
 use Rattle.nl_reports.specs.Lasting.{lasting}
 use Rattle.nl_tool.proofs.ReportLemmas.{told_is}
 use Rattle.nl_tool.proofs.comparing.last_of.Goals as goal

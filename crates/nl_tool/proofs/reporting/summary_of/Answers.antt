@@ -14,5 +14,5 @@ returns c =
     let jobs : map seen c.as_slice.result.now ≡ chosen_jobs c.args.scope (told c.args.from.now) =
     ap (map seen) c.as_slice.ensures.value ∙ c.in_ok-jobs.ensures.value in
     record {
-      value = summary_by _ _ _ _ _ _ _ _ _ _ _ c.in-Some.is c.in_ok-path.ensures.value c.in-Some-2.is jobs c.in_ok-lines.ensures.value (search rules);
+      value = summary_by _ _ _ _ _ _ _ _ _ _ _ c.in-Some.is c.in_ok-told.ensures.value c.in-Some-told.is jobs c.in_ok-lines.ensures.value (search rules);
     }

@@ -1,5 +1,4 @@
-use Rattle.std.proofs.Common.{rules}
-use Rattle.nl_tool.proofs.ReportLemmas.{found_by, laid_of, other_found}
+use Rattle.nl_tool.proofs.ReportLemmas.{found_by}
 use Rattle.nl_tool.proofs.reporting.tell_summary.Goals as goal
 
 pub returns-clause-faults : goal.returns-clause-faults
