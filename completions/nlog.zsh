@@ -117,7 +117,7 @@ _nlog() {
             '(-n --lines)-n+[How many lines a list has at most\: 10 where it is left out, 0 for none]:N: ' \
             '(-n --lines)--lines=[How many lines a list has at most\: 10 where it is left out, 0 for none]:N: ' \
             '(--graph)--graph=[What `ninja -t graph` prints\: the critical path is told too; `-` is standard input]:FILE:_files' \
-            '(--jobs)--jobs=[Numbers with commas\: tells too what the build would take with so many commands at a time]:LIST: ' \
+            '(--jobs)--jobs=[Numbers with commas\: estimates by the graph how long the build takes with so many commands at a time]:LIST: ' \
             '(--tabs)--tabs[Puts a tab between fields at a terminal too, in place of columns]' \
             '(-v --verbose)-v[Says which file or value a refusal is of, and why; also that LOG is missing, or locked]' \
             '(-v --verbose)--verbose[Says which file or value a refusal is of, and why; also that LOG is missing, or locked]' \
@@ -157,7 +157,7 @@ _nlog() {
             '(--missing-ok)--missing-ok[Takes a LOG that is missing for an empty one]' \
             '(--build)--build=[The number of a build in `builds`; left out, the last that made more than `build.ninja`]:BUILD: ' \
             '(--all)--all[Tells of all builds, one after another, with the last entry of each output alone]' \
-            '(--graph)--graph=[What `ninja -t graph` prints\: the critical path is drawn too; `-` is standard input]:FILE:_files' \
+            '(--graph)--graph=[What `ninja -t graph` prints\: the critical path has an outline; `-` is standard input]:FILE:_files' \
             '(-v --verbose)-v[Says which file or value a refusal is of, and why; also that LOG is missing, or locked]' \
             '(-v --verbose)--verbose[Says which file or value a refusal is of, and why; also that LOG is missing, or locked]' \
             '(- *)-h[Print help]' \

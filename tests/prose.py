@@ -37,7 +37,7 @@ WORDS = {
     "docs/DISK_MODEL.md": 3000,
     "docs/FORMAT.md": 4000,
     "docs/GATE.md": 600,
-    "docs/HELP.md": 5000,
+    "docs/HELP.md": 5_100,
     "docs/LIBRARY.md": 3000,
     "docs/BUILDS.md": 1250,
     "docs/RELEASE.md": 700,
