@@ -31,7 +31,7 @@ FAULTS = {
               "a file that isn't behind MTIME is judged", "there is no tick", "no change time counts", "change times always count", "one copy is a copied tree",
               "change times count in each version"],
     "prune": ["a target without a file goes", "a file that is no target goes", "a folder is no file", "what can't be looked at goes", "what is missing stays"],
-    "retime": ["a file of 1970 has its own time", "a folder is a file", "what is missing is of 0", "only later times are taken"],
+    "retime": ["a file of 1970 has its own time", "a folder is a file", "what is missing is of 0", "only later times are taken", "an intent has a time"],
     "mend": ["damage tells nothing", "what is damaged is newer", "what is missing is told of", "an intent is told of", "what is unsure is passed over", "what is unsure is taken",
              "--all is passed over", "--dry-run is passed over", "one name is taken", "what is taken is dropped", "the moment is START", "MTIME stands", "the hash stands",
              "a whole log is written anew", "damage alone is left", "no file has to be here"],
@@ -144,10 +144,11 @@ def prune_of(table, version, files, targets, lines, fault=None):
 
 
 def retime_of(table, version, files, targets, lines, fault=None):
-    """What `retime` leaves: of each file its time."""
+    """What `retime` leaves: of each file its time, but not over an intent, because a command would pass for it."""
     for name, (start, end, mtime, command) in table.items():
         kind, time = files[name][:2]
         is_taken = kind == "file" or kind == "folder" and fault == "a folder is a file"
+        is_taken = is_taken and (start != end or mtime != 0 or fault == "an intent has a time")
         if kind == "missing" and fault == "what is missing is of 0":
             is_taken, time = True, 0
             mtime = 0
