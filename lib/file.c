@@ -2,11 +2,11 @@
  * (tests/clib.py), and not proved.
  *
  * The steps are `steps_of` of crates/nl_c/specs/Changes.antt. A sync is one of the folder, and then
- * of the file; behind an open, and behind a rename that was synced, of the file alone.
+ * of the file; after an open, and after a rename that was synced, of the file alone.
  *
  *   KEEP     sync
  *   APPEND   sync; a part of the first line is cut to nothing, and synced; write the line; sync
- *   CUT      sync; cut what is behind the text; sync
+ *   CUT      sync; cut what is after the text; sync
  *   REPLACE  sync; make a scratch and lock it; write the text, give it the log's rights, and sync
  *            it; rename it over the log; sync
  *
@@ -18,7 +18,7 @@
  * answer the next sync well. */
 #include "writer.h"
 
-/* So often lines are written that stand behind half a line each time. */
+/* How often lines are written at most, if they come after half a line each time. */
 #define MOST_TRIES 8
 
 /* ---- Calls of the system ---- */
@@ -35,7 +35,7 @@ nlog_status of_text(nlog_writer *writer, nlog_status status) {
   return status == NLOG_FAULT ? fail(writer, "write", writer->path, EFBIG) : status;
 }
 
-/* A descriptor is let go of once, whatever is answered. */
+/* A close that fails isn't tried again, because the descriptor may be another's by then. */
 void close_at(int *fd) {
   if (*fd >= 0) close(*fd);
   *fd = -1;
@@ -66,7 +66,6 @@ ssize_t read_whole(int fd, char *bytes, size_t room, uint64_t at) {
   return (ssize_t)got;
 }
 
-/* Writes all the bytes at the end of the file. */
 static bool write_whole(int fd, const char *bytes, size_t len) {
   while (len > 0) {
     ssize_t count = write(fd, bytes, len);
@@ -155,14 +154,13 @@ static nlog_status sync_log(nlog_writer *writer) {
   return sync_file(writer);
 }
 
-/* Makes durable what was recorded. */
 nlog_status sync_text(nlog_writer *writer) {
   TRY(sync_file(writer));
   return carried_sync(&writer->log);
 }
 
-/* Writes bytes at the end of a log that is shared, where others may write without the lock. Behind
- * half a line, of theirs or of a write that was cut off, all is written once more. */
+/* Writes bytes at the end of a log that is shared, where others may write without the lock. After
+ * half a line, theirs or one of a write that was cut off, it writes all once more. */
 static bool write_shared(nlog_writer *writer, size_t len) {
   int tries;
   for (tries = 0; tries < MOST_TRIES; tries++) {

@@ -30,7 +30,6 @@ tried rattle_realloc(void *block, size_t kept, size_t size, size_t align) {
   return answer(realloc(block, size != 0 ? size : align));
 }
 
-/* Frees what either gave. */
 void rattle_dealloc(void *block) {
   free(block);
 }

@@ -15,13 +15,13 @@
 #include <sys/mman.h>
 #include <time.h>
 
-/* How long at most before a lock is asked for again, in microseconds. */
+/* The longest pause before a lock is asked for again, in microseconds. */
 #define MAX_PAUSE 20000
 
-/* Among so many descriptors the lock is looked for that the process was started with. */
+/* How many descriptors are searched for a lock that the process was started with. */
 #define MOST_LENT 256
 
-/* So often the log may be replaced before its lock, until that counts as a lock of another. */
+/* How often the log may be replaced before its lock, until that counts as a lock of another. */
 #define MOST_REPLACED 100
 
 /* ---- The process ---- */
@@ -198,7 +198,6 @@ static nlog_status make_log(nlog_writer *writer) {
   return writer->log_fd < 0 ? fail(writer, "open", writer->path, error) : NLOG_OK;
 }
 
-/* Keeps by what the log's file is known again. */
 void know_log(nlog_writer *writer, const struct stat *about) {
   writer->device = about->st_dev;
   writer->inode = about->st_ino;
@@ -232,7 +231,6 @@ nlog_status lock_again(nlog_writer *writer) {
   return status;
 }
 
-/* Opens the log and asks for its lock once. */
 static nlog_status try_lock(nlog_writer *writer, struct stat *about, lock *answer, int *other) {
   uint64_t len;
   TRY(make_log(writer));

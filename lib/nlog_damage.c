@@ -7,14 +7,13 @@
 /* The longest line that is looked at, without its newline. */
 #define MAX_LINE 262143
 
-/* Whether the line is an entry. */
 static bool is_entry(uint32_t version, const char *line, size_t len) {
   nlog_entry entry;
   size_t name_len;
   return nlog_read_line(version, line, len, &entry, NULL, 0, &name_len) != NLOG_NOT_FOUND;
 }
 
-/* Finds the output of the entry that the last five fields of a line are, of the first of them the last byte alone: a line that was written behind
+/* Finds the output of the entry that the last five fields of a line are, of the first of them the last byte alone: a line that was written after
  * a torn one begins somewhere in that field. */
 static void find_output(uint32_t version, const char *bytes, nlog_damage *damage) {
   const char *line = bytes + damage->from;

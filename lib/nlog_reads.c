@@ -33,7 +33,7 @@ nlog_status nlog_find(const nlog *log, const char *name, size_t len, nlog_entry 
   return proved_find(&copy, name, len, entry);
 }
 
-/* ---- Of a writer ---- */
+/* ---- A writer ---- */
 
 nlog_status nlog_writer_is_open(const nlog_writer *writer, bool *is_open) {
   TRY(check_process(writer));
@@ -94,7 +94,7 @@ const char *nlog_writer_failed_call(const nlog_writer *writer) {
   return writer == NULL ? NULL : writer->failed_call;
 }
 
-/* ---- Of a file ---- */
+/* ---- A file ---- */
 
 /* Reads all of an open file. The bytes are the caller's to free. *error: 0 where memory ran out. */
 static char *read_all(int fd, size_t *len, int *error) {
@@ -129,7 +129,7 @@ static nlog_status read_file(const char *path, char **bytes, size_t *len, int *e
 }
 
 /* Loads an open file in blocks, of which none is kept. The first one ends in its last newline, and
- * what stands behind that is read again. *error: the errno where it answers NLOG_FAULT. */
+ * what comes after that is read again. *error: the errno where it answers NLOG_FAULT. */
 static nlog_status load_blocks(nlog *log, int fd, char *block, int *error) {
   struct stat about;
   nlog_status status = NLOG_OK;

@@ -16,7 +16,7 @@ nlog_status carried_new(nlog *log);
 
 static _Atomic(uint64_t) keys[2];
 
-/* Of two threads that come first, one gives the number. A system without random numbers has the time, and where the library lies in memory. */
+/* If two threads come first, one gives the number. A system without random numbers has the time, and where the library lies in memory. */
 static uint64_t key(int place) {
   uint64_t known = atomic_load(&keys[place]), made = 0;
   struct timespec now;

@@ -9,7 +9,7 @@
  *
  * OPEN    Locked, and the file is the text. It is looked at before each sync and each rewriting: a
  *         sync of another file would acknowledge what no load finds. Shared, the lock is let go of
- *         behind each call, and the next one takes in what others did. A record of planned names is
+ *         after each call, and the next one takes in what others did. A record of planned names is
  *         written without the lock, and is taken in then too. Where such a line of another came
  *         between a look and a write, or was cut off, the file is apart from the text, which the
  *         next call reads anew.
@@ -18,13 +18,13 @@
  * BROKEN  What is on disk isn't known.
  *
  * A wary writer marks outputs that can't be trusted as dead, and rewrites the log without them.
- * Until the rename the file tells of them, and behind it they have no entry. */
+ * Until the rename the file tells of them, and after it they have no entry. */
 #include "writer.h"
 
 /* How long a lock is waited for where the caller doesn't say, in milliseconds. */
 #define WAIT 10000
 
-/* Each so many records without the lock it is looked whether the file is the log's still. */
+/* After how many records without the lock the writer looks whether the file is still the log's. */
 #define LOOK_EVERY 8
 
 /* ---- The writer ---- */
@@ -264,7 +264,7 @@ static bool is_seen(nlog_writer *writer, const struct stat *about) {
   if (seen->fd < 0) return about->st_size == 0;
   if (about->st_dev != before->st_dev || about->st_ino != before->st_ino) return false;
   if (size_of(before) != seen->len || size_of(about) < seen->whole) return false;
-  /* So long a torn line leaves too little of the lines before it. */
+  /* A torn line of this length leaves too little of the lines before it. */
   if (from > 0 && seen->whole < from + LAST / 2) return false;
   if (size_of(about) == seen->len) {
     if (!is_when(about->st_mtim, before->st_mtim)) return false;
@@ -311,7 +311,6 @@ static nlog_status bring_up(nlog_writer *writer) {
 
 /* ---- A call begins, and ends ---- */
 
-/* Whether the writer is there, and this process's. */
 nlog_status check_process(const nlog_writer *writer) {
   if (writer == NULL) return NLOG_NO_HANDLE;
   return is_forked(writer) ? NLOG_FORKED : NLOG_OK;
@@ -323,8 +322,8 @@ nlog_status check(const nlog_writer *writer) {
   return writer->state == BROKEN ? NLOG_BROKEN : NLOG_OK;
 }
 
-/* Begins a change. Of a shared log it takes the lock, and takes in what others did. Where the lock
- * isn't to be had, there may be no file that is open: the next call opens it. */
+/* Begins a change. If the log is shared, it takes the lock and takes in what others did. Where the
+ * lock isn't to be had, there may be no file that is open: the next call opens it. */
 static nlog_status enter(nlog_writer *writer) {
   int other = ENOENT;
   uint64_t len;
@@ -380,7 +379,6 @@ static nlog_status leave(nlog_writer *writer, nlog_status status) {
   return status;
 }
 
-/* Ends a call that changed the text and the file. */
 static nlog_status end(nlog_writer *writer, nlog_status status) {
   return leave(writer, settle(writer, status));
 }
@@ -462,7 +460,6 @@ nlog_status nlog_writer_release(nlog_writer *writer) {
   return leave(writer, NLOG_OK);
 }
 
-/* Makes room for all lines of an edge. */
 static nlog_status make_room(nlog_writer *writer, const nlog_name *names, size_t count) {
   size_t needed = 0, i;
   char *more;

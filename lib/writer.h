@@ -28,7 +28,7 @@
 #define FIRST_LINE 15
 #define DIGIT_AT 13
 
-/* So many bytes before the end of what was read tell whether the file begins as it did. */
+/* How many bytes before the end of what was read tell whether the file begins as it did. */
 #define LAST 1024
 
 #define TRY(call)                       \

@@ -12,7 +12,6 @@ use Rattle.nl_c.specs.contracts.held.Held.{the_row}
 abbrev pub made : ℕ
 made = 0x6e6c6f6768616e64
 
--- the heap
 abbrev pub heap : Global
 heap = record { memory = record { seal = tt } }
 

@@ -44,21 +44,20 @@ fault = 11
 abbrev pub bad_name : ℕ
 bad_name = 12
 
--- of the writer of files alone, which no function of the crate answers
+-- only the writer of files answers this one
 abbrev pub locked : ℕ
 locked = 13
 
 abbrev pub forked : ℕ
 forked = 14
 
--- the status of a load that failed; a read fails in no load from memory
+-- a load from memory meets no failed read
 abbrev pub status_of : LoadFault → ℕ
 status_of refusal.NotALog = not_a_log
 status_of refusal.OtherVersion = other_version
 status_of refusal.Read = out_of_memory
 status_of refusal.OutOfMemory = out_of_memory
 
--- the status of a call of a log that was refused or failed
 abbrev pub status_of_fault : LogFault → ℕ
 status_of_fault log_fault.NotOpen = not_open
 status_of_fault log_fault.AlreadyOpen = already_open
@@ -88,7 +87,6 @@ abbrev pub place_in : Result (Unit {0}) LogFault → ℕ → ℕ
 place_in (Ok done) old = old
 place_in (Err why) old = place_of why old
 
--- what a status says
 abbrev pub status_text : ℕ → List ℕ
 status_text status = if status == ok then codes "ok"
     else (if status == no_handle then codes "no log is loaded"
@@ -106,7 +104,7 @@ status_text status = if status == ok then codes "ok"
     else (if status == locked then codes "another process has the log"
     else (if status == forked then codes "the parent process opened the log" else codes "unknown status"))))))))))))))
 
--- the first n bytes of a text at the beginning of a buffer, and a NUL behind them
+-- the first n bytes of a text at the beginning of a buffer, and then a NUL
 abbrev pub written_in : ℕ → List ℕ → List ℕ → List ℕ
 written_in n text buf = take n text ++ 0 ∷ drop (n + 1) buf
 

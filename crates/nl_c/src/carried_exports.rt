@@ -1,4 +1,4 @@
-//! What is exported for the C of `lib/` alone: of a log that is loaded in pieces, and of one that is carried.
+//! The calls that only the library's own C makes: they load a log in pieces, or serve a log that its caller carries to a file.
 ghost use Rattle.std.specs.Prelude.{◌≡◌, ◌≢◌, ◌↔◌, ◌⊎◌, ◌++◌, ℕ, List, true, false, None, IfErr, IfOk, IsErrOf, IsOk, IsSomeAnd};
 ghost use Rattle.nl_distrust.specs.Distrusted.{is_whole};
 ghost use Rattle.nl_table.specs.Log.{NotALog, OtherVersion, log_of};
@@ -19,8 +19,7 @@ use nl_table::Secret;
 use nl_versions::lines_version;
 use std::alloc::Global;
 
-/// Loads the next bytes of a log, behind those that the handle's log was loaded of: these ended in a newline, or were loaded by
-/// this call. If that fails, the log is let go of.
+/// Call it after a load whose bytes ended in a newline, or after another call of this. If it fails, it frees the log.
 #[unsafe(no_mangle)]
 pub extern "C" fn carried_more(handle: &mut Handle, alloc: Global, bytes: &[u8]) -> u32
     ensures ok { result ≡ ok → (before : List ℕ)
@@ -39,7 +38,7 @@ pub extern "C" fn carried_more(handle: &mut Handle, alloc: Global, bytes: &[u8])
     answer
 }
 
-/// A closed log without marks, whose text the caller carries. What the handle held is let go.
+/// Frees what the handle held, unless memory is lacking.
 #[unsafe(no_mangle)]
 pub extern "C" fn carried_new(handle: &mut Handle, alloc: Global, key0: u64, key1: u64) -> u32
     ensures ok { result ≡ ok → IsSomeAnd handle.new.kept.log (IsCarriedAnd IsNewCarried) }
@@ -57,7 +56,7 @@ pub extern "C" fn carried_new(handle: &mut Handle, alloc: Global, key0: u64, key
     }
 }
 
-/// Makes room for so many bytes of the file, of which none are given yet.
+/// Call it before the bytes are given: it drops those that an earlier open left.
 #[unsafe(no_mangle)]
 pub extern "C" fn carried_room(handle: &mut Handle, alloc: Global, len: usize) -> u32
     ensures call { InCarried MadeRoom result handle.old.kept.log handle.new.kept.log }
@@ -70,7 +69,6 @@ pub extern "C" fn carried_room(handle: &mut Handle, alloc: Global, len: usize) -
     answer
 }
 
-/// Gives the next bytes of the file.
 #[unsafe(no_mangle)]
 pub extern "C" fn carried_give(handle: &mut Handle, alloc: Global, bytes: &[u8]) -> u32
     ensures call { InCarried (Given bytes.now) result handle.old.kept.log handle.new.kept.log }
@@ -83,7 +81,7 @@ pub extern "C" fn carried_give(handle: &mut Handle, alloc: Global, bytes: &[u8])
     answer
 }
 
-/// Opens the log that the bytes are which were given.
+/// Frees the bytes that were given, whatever the status.
 #[unsafe(no_mangle)]
 pub extern "C" fn carried_open(
     handle: &mut Handle,
@@ -101,8 +99,8 @@ pub extern "C" fn carried_open(
     answer
 }
 
-/// Opens the log that the bytes are which were given, where each of their lines is an entry and none is torn: then all of its
-/// outputs can be trusted. Else nothing is opened, and that is answered as what isn't found.
+/// Opens only a log whose lines are all entries, none of them torn, because all of its outputs can be trusted then. Another log
+/// is answered as not found.
 #[unsafe(no_mangle)]
 pub extern "C" fn carried_open_whole(
     handle: &mut Handle,
@@ -120,8 +118,7 @@ pub extern "C" fn carried_open_whole(
     answer
 }
 
-/// Loads those entries alone of the bytes that were given whose outputs can't be trusted, into another handle. Where the log
-/// is whole, none is loaded.
+/// Loads into another handle only the entries whose outputs can't be trusted. A whole log gives none.
 #[unsafe(no_mangle)]
 pub extern "C" fn carried_distrusted(handle: &mut Handle, alloc: Global, other: &mut Handle) -> u32
     ensures same { handle.new.kept.log ≡ handle.old.kept.log }
@@ -155,7 +152,6 @@ pub extern "C" fn carried_distrusted(handle: &mut Handle, alloc: Global, other: 
     }
 }
 
-// Those entries alone of the bytes that a log was given whose outputs can't be trusted; or the status of their absence.
 fn distrusted_of(held: &Held, alloc: Global) -> Result<LoadedLog, u32>
     ensures ok { IfOk result (IsDistrustedFrom (given_of held.now)) }
     ensures whole { IsOk result → is_whole (lines_version (given_of held.now)) (given_of held.now) ≡ false }
@@ -181,7 +177,7 @@ fn distrusted_of(held: &Held, alloc: Global) -> Result<LoadedLog, u32>
     }
 }
 
-/// Adds the line of an entry to the text of an open log. It waits to be carried.
+/// The line waits until the caller carries it.
 #[unsafe(no_mangle)]
 pub extern "C" fn carried_record(
     handle: &mut Handle,
@@ -199,7 +195,7 @@ pub extern "C" fn carried_record(
     answer
 }
 
-/// Adds the line of an intent to the text of an open log, where the entry of the name isn't such an intent.
+/// Adds nothing if the name's entry is such an intent already.
 #[unsafe(no_mangle)]
 pub extern "C" fn carried_begin(
     handle: &mut Handle,
@@ -218,7 +214,7 @@ pub extern "C" fn carried_begin(
     answer
 }
 
-/// Adds the line of an intent over the entry of a name, of which the stamp is filled, or if it has none and that is wanted.
+/// Fills the stamp with the entry that the intent covers. A name without an entry gets an intent only where the caller wants one.
 #[unsafe(no_mangle)]
 pub extern "C" fn carried_plan(
     handle: &mut Handle,
@@ -239,7 +235,7 @@ pub extern "C" fn carried_plan(
     answer
 }
 
-/// Adds the line of the entry that a name had before its plan, where that stands.
+/// Adds nothing where the plan of the name has ended.
 #[unsafe(no_mangle)]
 pub extern "C" fn carried_withdraw(
     handle: &mut Handle,
@@ -257,7 +253,7 @@ pub extern "C" fn carried_withdraw(
     answer
 }
 
-/// The line of an entry whose name has a plan that stands, which ends. It isn't added: whoever writes it gives it back later.
+/// Spells the line without adding it to the text: whoever writes it to the file gives it back later.
 #[unsafe(no_mangle)]
 pub extern "C" fn carried_loose_line(
     handle: &mut Handle,
@@ -277,7 +273,7 @@ pub extern "C" fn carried_loose_line(
     answer
 }
 
-/// The file holds the whole text of an open log, which is this long.
+/// Call it after the file was written: no line waits then.
 #[unsafe(no_mangle)]
 pub extern "C" fn carried_written(handle: &mut Handle, alloc: Global, len: u64) -> u32
     ensures call { InCarried (CarriedWritten len) result handle.old.kept.log handle.new.kept.log }
@@ -290,7 +286,7 @@ pub extern "C" fn carried_written(handle: &mut Handle, alloc: Global, len: u64) 
     answer
 }
 
-/// What the file holds was made durable, by a sync of it.
+/// Call it after the file was synced.
 #[unsafe(no_mangle)]
 pub extern "C" fn carried_sync(handle: &mut Handle, alloc: Global) -> u32
     ensures call { InCarried (Keeps Synced) result handle.old.kept.log handle.new.kept.log }
@@ -303,7 +299,6 @@ pub extern "C" fn carried_sync(handle: &mut Handle, alloc: Global) -> u32
     answer
 }
 
-/// Writes the text anew without what is marked dead.
 #[unsafe(no_mangle)]
 pub extern "C" fn carried_recompact(handle: &mut Handle, alloc: Global) -> u32
     ensures call { InCarried (Anew Recompacted) result handle.old.kept.log handle.new.kept.log }
@@ -316,7 +311,7 @@ pub extern "C" fn carried_recompact(handle: &mut Handle, alloc: Global) -> u32
     answer
 }
 
-/// Writes the text anew with the mtimes that are marked.
+/// If a marked mtime is negative, `place` tells which.
 #[unsafe(no_mangle)]
 pub extern "C" fn carried_restat(handle: &mut Handle, alloc: Global, place: &mut usize) -> u32
     ensures call { InCarried (Anew (Restatted (place.old, place.new))) result handle.old.kept.log handle.new.kept.log }
@@ -329,7 +324,7 @@ pub extern "C" fn carried_restat(handle: &mut Handle, alloc: Global, place: &mut
     answer
 }
 
-/// Closes the log, and frees its table and what waits.
+/// Frees the table and the lines that wait.
 #[unsafe(no_mangle)]
 pub extern "C" fn carried_close(handle: &mut Handle, alloc: Global) -> u32
     ensures call { InCarried (Anew Stopped) result handle.old.kept.log handle.new.kept.log }
@@ -342,7 +337,6 @@ pub extern "C" fn carried_close(handle: &mut Handle, alloc: Global) -> u32
     answer
 }
 
-/// Marks an output as dead.
 #[unsafe(no_mangle)]
 pub extern "C" fn carried_mark_dead(handle: &mut Handle, alloc: Global, name: &[u8]) -> u32
     ensures call { InCarried (Keeps (DeadMarked name.now)) result handle.old.kept.log handle.new.kept.log }
@@ -355,7 +349,6 @@ pub extern "C" fn carried_mark_dead(handle: &mut Handle, alloc: Global, name: &[
     answer
 }
 
-/// Marks an output with a new mtime.
 #[unsafe(no_mangle)]
 pub extern "C" fn carried_mark_time(
     handle: &mut Handle,
@@ -373,7 +366,6 @@ pub extern "C" fn carried_mark_time(
     answer
 }
 
-/// Forgets the marks.
 #[unsafe(no_mangle)]
 pub extern "C" fn carried_clear_marks(handle: &mut Handle, alloc: Global) -> u32
     ensures call { InCarried (Keeps Cleared) result handle.old.kept.log handle.new.kept.log }
@@ -386,7 +378,7 @@ pub extern "C" fn carried_clear_marks(handle: &mut Handle, alloc: Global) -> u32
     answer
 }
 
-/// How long the text is, and as much of it from a place on as there is room for, where that wasn't carried.
+/// Gives only bytes that weren't carried yet, and the length of the whole text.
 #[unsafe(no_mangle)]
 pub extern "C" fn carried_text(
     handle: &mut Handle,
@@ -405,7 +397,6 @@ pub extern "C" fn carried_text(
     answer
 }
 
-/// The first line, as much of it as there is room for.
 #[unsafe(no_mangle)]
 pub extern "C" fn carried_header(handle: &mut Handle, alloc: Global, bytes: &mut [u8]) -> u32
     ensures call { InCarried (CarriedHeader (bytes.old, bytes.new)) result handle.old.kept.log handle.new.kept.log }
@@ -418,7 +409,6 @@ pub extern "C" fn carried_header(handle: &mut Handle, alloc: Global, bytes: &mut
     answer
 }
 
-/// The line of the entry at a place.
 #[unsafe(no_mangle)]
 pub extern "C" fn carried_line(
     handle: &mut Handle,

@@ -6,7 +6,7 @@ ghost use Rattle.nl_folder.specs.Calls as calls;
 
 use std::marker::{Model, PhantomData};
 
-/// A record without a byte. Each call gives a new one.
+/// It has no byte.
 #[derive(Drop)]
 pub struct DiskRecord {
     marker: PhantomData<()>,
@@ -17,7 +17,7 @@ impl Model for DiskRecord {
     ghost also_owns = { λ _. ftrue };
 }
 
-// The record that the caller names in its proof, of what it passes.
+// The caller's proof names the record.
 fn note<T>(x: &T) -> DiskRecord
     ghost disk: { Disk }
     ensures { result.disk ≡ disk }

@@ -1,5 +1,4 @@
-//! What is exported. Each call takes the log out of its handle, and puts it back. One that makes a log is given two numbers: the
-//! secret under which names are hashed. In `lib/` stand the calls of the header that give them.
+//! The exported calls: each takes the log out of its handle and puts it back, and one that makes a log is given a secret to hash names under.
 ghost use Rattle.std.specs.Prelude.{◌≡◌, ◌≢◌, ◌↔◌, ◌⊎◌, None, IsSomeAnd};
 ghost use Rattle.nl_fields.specs.CommandHash.{IsHash, hash_of};
 ghost use Rattle.nl_fields.specs.RapidHash.{rapid_hash_of};
@@ -27,7 +26,7 @@ pub extern "C" fn nlog_version() -> u32
     2000
 }
 
-/// Writes as much of the text of a status as the buffer has room for, and a NUL behind it. The length of the whole text comes back.
+/// Cuts the text to the buffer and ends it with a NUL. The result is the length of the whole text, in bytes.
 #[unsafe(no_mangle)]
 pub extern "C" fn nlog_status_text(status: u32, buf: &mut [u8]) -> usize
     ensures { (result, buf.new) ≡ text_in (status_text status) buf.old }
@@ -41,7 +40,7 @@ pub extern "C" fn nlog_status_text(status: u32, buf: &mut [u8]) -> usize
     text.len()
 }
 
-/// Loads the log that the bytes are. Where the handle has a log, the new one takes its place.
+/// Frees the log that the handle had before; a load that is refused leaves that log.
 #[unsafe(no_mangle)]
 pub extern "C" fn nlog_load(
     handle: &mut Handle,
@@ -72,8 +71,8 @@ pub extern "C" fn nlog_load(
     }
 }
 
-/// Loads those entries alone of the log that the bytes are whose outputs can't be trusted. Where the handle has a log, the
-/// new one takes its place.
+/// Keeps only the entries whose outputs can't be trusted. Frees the log that the handle had before; a load that
+/// is refused leaves that log.
 #[unsafe(no_mangle)]
 pub extern "C" fn nlog_load_distrusted(
     handle: &mut Handle,
@@ -104,7 +103,7 @@ pub extern "C" fn nlog_load_distrusted(
     }
 }
 
-/// Frees the log, if there is one.
+/// A handle without a log stays as it is.
 #[unsafe(no_mangle)]
 pub extern "C" fn nlog_free(handle: &mut Handle, alloc: Global)
     ensures { handle.new.kept.log ≡ None }
@@ -151,7 +150,7 @@ pub extern "C" fn nlog_count(handle: &mut Handle, alloc: Global, count: &mut usi
     answer
 }
 
-/// The entry at a place, and its name where the buffer has room for it.
+/// A buffer that is too short for the name is left alone.
 #[unsafe(no_mangle)]
 pub extern "C" fn nlog_at(
     handle: &mut Handle,
@@ -177,7 +176,6 @@ pub extern "C" fn nlog_at(
     answer
 }
 
-/// The entry of a name.
 #[unsafe(no_mangle)]
 pub extern "C" fn nlog_find(
     handle: &mut Handle,
@@ -200,7 +198,7 @@ pub extern "C" fn nlog_find(
     answer
 }
 
-/// The entry of a line in a log of a version, and its name where the buffer has room for it.
+/// The line is passed without its newline. A buffer that is too short for the name is left alone.
 #[unsafe(no_mangle)]
 pub extern "C" fn nlog_read_line(
     version: u32,
@@ -216,7 +214,6 @@ pub extern "C" fn nlog_read_line(
     look_up::line(version, line, stamp, name, name_len)
 }
 
-/// Whether bytes are a name.
 #[unsafe(no_mangle)]
 pub extern "C" fn nlog_check_name(name: &[u8]) -> u32
     ensures ok { result ≡ ok ↔ IsName name.now }
@@ -228,7 +225,7 @@ pub extern "C" fn nlog_check_name(name: &[u8]) -> u32
     }
 }
 
-/// The hash of a command in logs of version 5 and 6.
+/// For logs of version 5 and 6.
 #[unsafe(no_mangle)]
 pub extern "C" fn nlog_command_hash(command: &[u8]) -> u64
     ensures value { result ≡ hash_of command.now }
@@ -237,7 +234,7 @@ pub extern "C" fn nlog_command_hash(command: &[u8]) -> u64
     command_hash(command)
 }
 
-/// The hash of a command in logs of version 7.
+/// For logs of version 7.
 #[unsafe(no_mangle)]
 pub extern "C" fn nlog_command_hash_v7(command: &[u8]) -> u64
     ensures value { result ≡ rapid_hash_of command.now }

@@ -1,4 +1,4 @@
-//! The handle that a caller in C has. Memory of zeros is one without a log.
+//! The handle that a caller in C has: memory of zeros is a handle without a log.
 ghost use Rattle.std.specs.Prelude.{◌≡◌, ◌↔◌, IsSome, Some, None, option_map};
 ghost use Rattle.nl_c.specs.Kept.{made as made_mark};
 
@@ -7,10 +7,9 @@ use crate::kept::Kept;
 use std::alloc::Global;
 use std::mem::replace;
 
-// What stands in a handle with a log, and in no memory by chance.
+// Memory that was never a handle doesn't hold this number by chance.
 const MADE: u64 = 0x6e6c_6f67_6861_6e64;
 
-/// A handle, with a log or without.
 #[repr(C)]
 #[derive(Drop)]
 pub struct Handle {
@@ -49,7 +48,7 @@ impl Handle {
         }
     }
 
-    /// Takes the log out, if there is one. It leaves a handle without a log.
+    /// The caller owns the log then.
     pub(crate) fn take(&mut self, alloc: Global) -> Option<Box<Held>>
         ensures held { self.old.kept.log ≡ option_map (λ log. log.value) result }
         ensures empty { self.new.kept.log ≡ None }

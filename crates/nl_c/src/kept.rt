@@ -8,7 +8,6 @@ use std::alloc::Global;
 use std::marker::Model;
 use std::ptr::null_mut;
 
-/// A pointer to what it holds on the heap, or to none.
 #[repr(C)]
 #[derive(Drop)]
 pub struct Kept {

@@ -14,22 +14,20 @@ ghost use Rattle.nl_c.specs.Changes.{Ending, IsOpenText, StepsLeave, exit_of, re
 ghost use Rattle.nl_c.specs.Faults.{CarriedFaults};
 ghost use Rattle.nl_c.specs.PlanLaws.{PlansStand, WithdrawalsGiveBack};
 
-/// A rewriting puts a new file in the place of the log. Wherever its steps end, and the power then fails, what is found could be found
-/// before, or is the text, whatever text that is.
+/// Wherever a rewriting stops, even if the power then fails, the log is what could be found before, or is the new text.
 pub fn a_rewriting_leaves_the_old_or_the_new()
     ensures { (old new : Disk) (text bs : List ℕ) → IsDisk old
         → StepsLeave (steps_of replace old.visible text) old new → IsImage new bs
         → IsImage old bs ⊎ (bs ≡ text) }
 {}
 
-/// What a call of the writer lets go of as it ends changes nothing on disk, wherever that stops.
+/// When a call of the writer unlocks and closes, it changes nothing on disk.
 pub fn an_end_leaves_the_disk()
     ensures { (ending : Ending) (is_shared : Bool) (old new : Disk)
         → StepsLeave (exit_of ending is_shared) old new → new ≡ old }
 {}
 
-/// Lines of entries behind the text of an open log: the table in which each was entered is that of the whole, which an open leaves as it
-/// is where it isn't due.
+/// Someone else's lines at the end of an open log's file are recorded one by one: the table is then that of the whole file.
 pub fn appended_lines_are_recorded()
     ensures contents { (text : List ℕ) (entries table : List Entry) → IsOpenText text
         → IsTableOf table text → All IsEntry entries
@@ -44,13 +42,13 @@ pub fn appended_lines_are_recorded()
         → opened_bytes dead text ≡ text }
 {}
 
-/// A call of a log that is written answers a fault only where the longest line has no place within the limit of a log, or where its folder
-/// was asked for what it doesn't keep.
+/// A call answers a fault only where the longest line would exceed the limit of a log, or where its folder was asked for what it doesn't
+/// keep.
 pub fn a_fault_is_want_of_room()
     ensures { CarriedFaults }
 {}
 
-/// A plan puts an intent over the entry of a name. A withdrawal while the plan stands gives that entry back, whatever came between.
+/// If a plan is withdrawn while it stands, its name gets back the entry that it had, whatever came between.
 pub fn a_withdrawn_name_has_what_it_had()
     ensures planned { PlansStand }
     ensures withdrawn { WithdrawalsGiveBack }

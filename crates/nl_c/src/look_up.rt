@@ -23,7 +23,6 @@ pub(crate) fn find(table: &Table, name: &[u8], stamp: &mut CStamp) -> u32
     }
 }
 
-/// Fills a stamp, a buffer and a length with an entry, where there is one.
 fn fill(found: Option<EntryRef>, stamp: &mut CStamp, name: &mut [u8], name_len: &mut usize) -> u32
     ensures { (result, record { stamp = stamp.new; name = name.new; len = name_len.new })
         ≡ entry_in found.entry (record { stamp = stamp.old; name = name.old; len = name_len.old }) }
@@ -55,7 +54,7 @@ pub(crate) fn at(
     fill(table.at(place), stamp, name, name_len)
 }
 
-/// The entry of a line in a log of a version, which is passed without its newline.
+/// The line is passed without its newline.
 pub(crate) fn line(
     version: u32,
     line: &[u8],
@@ -78,7 +77,7 @@ pub(crate) fn line(
     fill(entry, stamp, name, name_len)
 }
 
-/// Fills a buffer and a length with the line of an entry, which is spelled in a text first.
+/// `line` is memory that this overwrites.
 pub(crate) fn spell(entry: &EntryRef, line: &mut Vec<u8>, buf: &mut [u8], len: &mut usize) -> u32
     ensures done { result ≡ ok → (buf.new, len.new) ≡ holds_line entry.now buf.old }
     ensures short { result ≡ no_room → length buf.old < length (with_newline (line_of entry.now)) }

@@ -1,4 +1,4 @@
-//! The names of plans: of which of them the last line is the one that a plan left.
+//! The names that were planned, and whether the last line of each is the one that its plan left.
 ghost use Rattle.std.specs.Prelude.{◌≡◌, ◌≢◌, ◌⊎◌, ◌↔◌, ℕ, List, true, false};
 ghost use Rattle.nl_fields.specs.Name.{IsName};
 ghost use Rattle.nl_c.specs.Plans.{PlanSet, is_planned};
@@ -9,7 +9,6 @@ use nl_fields::EntryRef;
 use nl_table::{Secret, Table};
 use std::alloc::Global;
 
-/// The names so far.
 #[derive(Drop)]
 pub struct Plans {
     // An entry for each name that was planned, with the hash 1 as long as its plan stands.
@@ -17,7 +16,6 @@ pub struct Plans {
 }
 
 impl Plans {
-    /// No names, which are hashed under a secret.
     pub(crate) fn new(alloc: Global, secret: Secret) -> Plans
         ensures none { (name : List ℕ) → is_planned result.names name ≡ false }
     {
@@ -26,14 +24,13 @@ impl Plans {
         }
     }
 
-    /// Every plan ends, and its memory is let go of.
+    /// Frees the memory of all names.
     pub(crate) fn clear(&mut self, alloc: Global)
         ensures none { (name : List ℕ) → is_planned self.new.names name ≡ false }
     {
         self.names = Table::with_secret(alloc, self.names.secret());
     }
 
-    /// Whether the plan of a name stands.
     pub(crate) fn stands(&self, name: &[u8]) -> bool
         ensures { result ≡ is_planned self.now.names name.now }
     {
@@ -43,7 +40,6 @@ impl Plans {
         }
     }
 
-    /// The plan of a name begins.
     pub(crate) fn begin(&mut self, name: &[u8]) -> u32
         ensures ok { result ≡ ok → PlanSet name.now true self.old.names self.new.names }
         ensures unchanged { result ≢ ok → self.new ≡ self.old }
@@ -59,7 +55,7 @@ impl Plans {
         }
     }
 
-    /// The plan of a name ends, if it has one. It takes no memory.
+    /// Takes no memory, so it can't fail.
     pub(crate) fn end(&mut self, name: &[u8])
         ensures ended { IsName name.now → PlanSet name.now false self.old.names self.new.names }
         ensures unchanged { ¬ IsName name.now → self.new ≡ self.old }

@@ -31,12 +31,12 @@ pub(crate) const FAULT: u32 = 11;
 
 pub(crate) const BAD_NAME: u32 = 12;
 
-// The writer's of files, which no function here answers.
+// Only the writer of files answers this one.
 const LOCKED: u32 = 13;
 
 const FORKED: u32 = 14;
 
-/// The status of a load that failed. A load from memory meets no other fault.
+/// A load from memory meets no other fault.
 pub(crate) fn of_fault(fault: LoadFault) -> u32
     requires { fault ≢ LoadFault.Read }
     ensures { result ≡ status_of fault }
@@ -48,7 +48,6 @@ pub(crate) fn of_fault(fault: LoadFault) -> u32
     }
 }
 
-/// The status of a call of a log that was refused or failed.
 pub(crate) fn of_log_fault(fault: LogFault) -> u32
     ensures { result ≡ status_of_fault fault }
 {
@@ -73,7 +72,6 @@ pub(crate) fn of_answer(answer: Result<(), LogFault>) -> u32
     }
 }
 
-/// What a status says, in words.
 pub(crate) fn text(status: u32) -> &'static [u8]
     ensures { result.now ≡ status_text status }
 {
