@@ -11,7 +11,6 @@ use Rattle.nl_reports.specs.Texts.{joined as parts}
 use Rattle.nl_reports.specs.declared.frame.Frame.{Frame}
 use Rattle.nl_reports.specs.declared.bars.Mark.{Mark}
 
--- the kind of a command, as a number
 abbrev pub kind_of : Job → ℕ
 kind_of j = place (work_of (first_name j.outputs))
 
@@ -72,11 +71,11 @@ marks f p = if is_short f p.0 then mark_of f p ∷ [] else []
 abbrev pub is_alike : Mark → Mark → Bool
 is_alike m n = m.lane == n.lane && (m.pixel == n.pixel && m.kind == n.kind)
 
--- one bar, a pixel wide, for so many of them
+-- one bar, a pixel wide, for so many short commands
 abbrev pub joined_bar : Frame → ℕ → Mark → List ℕ
 joined_bar f count m = rect f m.lane (m.pixel * 10) 10 m.kind ++ decimal count ++ codes " short</title></rect>\n"
 
--- none that is alike follows
+-- no mark that is alike follows
 abbrev pub is_last : Mark → List Mark → Bool
 is_last m [] = true
 is_last m (n ∷ ms) = not (is_alike m n)
@@ -86,7 +85,7 @@ abbrev pub joined : Frame → ℕ → List Mark → List ℕ
 joined f count [] = []
 joined f count (m ∷ ms) = if is_last m ms then joined_bar f (count + 1) m ++ joined f 0 ms else joined f (count + 1) ms
 
--- by lane, pixel and kind
+-- marks stand by lane, pixel and kind
 abbrev pub rank_of : Mark → ℕ
 rank_of m = (m.lane * 2048 + m.pixel) * 16 + m.kind
 

@@ -7,7 +7,7 @@ use Rattle.nl_reports.specs.declared.columns.Column.{Column}
 
 -- ---- what a terminal shows
 
--- a byte that a terminal of UTF-8 takes for a control character, behind another byte; tabs and newlines part the text
+-- a byte that a terminal of UTF-8 takes for a control character after another byte; tabs and newlines part the text
 abbrev pub is_control : ℕ → ℕ → Bool
 is_control before b =
     (nat_lt b 32 && (not (b == 9) && not (b == 10))) || (b == 127 || (before == 194 && (nat_le 128 b && nat_lt b 160)))
@@ -20,7 +20,7 @@ by_number b = 92 ∷ 120 ∷ digit_of (b / 16) ∷ digit_of (b % 16) ∷ []
 abbrev pub shown_byte : ℕ → ℕ → List ℕ
 shown_byte before b = if is_control before b then by_number b else b ∷ []
 
--- the bytes that stand behind another byte
+-- a text after another byte, with its control characters by their numbers
 abbrev pub shown_behind : ℕ → List ℕ → List ℕ
 shown_behind before [] = []
 shown_behind before (b ∷ text) = shown_byte before b ++ shown_behind b text
@@ -28,7 +28,7 @@ shown_behind before (b ∷ text) = shown_byte before b ++ shown_behind b text
 abbrev pub shown : List ℕ → List ℕ
 shown text = shown_behind 0 text
 
--- behind a byte, a text has no control character but tabs and newlines
+-- after a byte, a text has no control character but tabs and newlines
 abbrev pub IsQuiet : ℕ → List ℕ → Type 0
 IsQuiet before [] = ⊤
 IsQuiet before (b ∷ text) = (is_control before b ≡ false) × IsQuiet b text
@@ -118,11 +118,10 @@ abbrev pub cells_up_to : ℕ → List Column → List ℕ → List ℕ
 cells_up_to zero cs line = []
 cells_up_to (suc k) cs line = cells_up_to k cs line ++ cell (k + 1 == length cs) (get_or cs k no_column) (field_at line k)
 
--- all of them, in these columns
 abbrev pub cells : List Column → List ℕ → List ℕ
 cells cs line = cells_up_to (length cs) cs line
 
--- a line of these
+-- a line in the columns of these lines
 abbrev pub row_of : List (List ℕ) → List ℕ → List ℕ
 row_of lines line = cells (columns (length (fields_of line)) lines) line
 

@@ -61,7 +61,6 @@ partner places left [] = None
 partner places left (e ∷ es) =
     if is_left left (last_at places e.name) then last_at places e.name else partner places left es
 
--- the command at a place
 abbrev pub job_at : List Job → Option ℕ → Option Job
 job_at ks None = None
 job_at ks (Some place) = slice_get ks place
@@ -78,7 +77,6 @@ pairs_from ks left (j ∷ js) =
     let place = partner (places_of ks) left j.outputs in
     pair_of j (job_at ks place) ∷ pairs_from ks (with_taken left place) js
 
--- all commands of two logs
 abbrev pub pairs : List Job → List Job → List Pair
 pairs js ks = pairs_from ks (replicate (length ks) true) js
 
@@ -107,12 +105,12 @@ abbrev pub class_by_time : ℕ → ℕ → ℕ → Class
 class_by_time least old new =
     if nat_lt (abs_diff old new) least || old == new then Same else (if nat_lt old new then Slower else Faster)
 
--- of another hash it is another command
+-- a command of another hash is another command
 abbrev pub class_of : Rules → Log → Log → Job → Job → Class
 class_of rules old new j k =
     if rules.hashes && not (j.hash == k.hash) then Changed else class_by_time rules.least (time_in old j) (time_in new k)
 
--- whatever it is else, where an output of it waits
+-- a command is unfinished where an output of it waits, whatever else it is
 abbrev pub or_unfinished : Class → Bool → Class
 or_unfinished class is_waiting = if is_waiting then Unfinished else class
 
@@ -131,7 +129,6 @@ told_pair rules old new (OldAlone j) =
     record { class = or_unfinished Gone (waits new j); old = time_in old j; new = 0; output = first_name j.outputs }
 told_pair rules old new (NewAlone k) = fresh old new k
 
--- all of them, as they are told
 abbrev pub compared : Rules → Log → Log → List Compared
 compared rules old new = map (told_pair rules old new) (pairs old.jobs new.jobs)
 
@@ -144,7 +141,6 @@ held_side h = record { jobs = map seen h.jobs.items; waiting = is_held h.waiting
 
 -- ---- classes
 
--- each class by a number
 abbrev pub class_number : Class → ℕ
 class_number New = 0
 class_number Gone = 1
@@ -164,7 +160,6 @@ told_classes = New ∷ Gone ∷ Changed ∷ Slower ∷ Faster ∷ Unfinished ∷
 abbrev pub is_of : Class → Compared → Bool
 is_of class c = class_number c.class == class_number class
 
--- those of a class, in order
 abbrev pub of_class : Class → List Compared → List Compared
 of_class class cs = filter (is_of class) cs
 
@@ -204,7 +199,7 @@ old_time cs = sum_by (λ (c : Compared). c.old) cs
 abbrev pub new_time : List Compared → ℕ
 new_time cs = sum_by (λ (c : Compared). c.new) cs
 
--- of the commands of a class: how many there are, by how much they took longer, and how long they took in each log
+-- how many commands a class has, by how much they took longer, and how long they took in each log
 abbrev pub total_of : Class → List Compared → List ℕ
 total_of class cs = codes "total\t" ++ class_text class ++ codes "\t" ++ decimal (length cs) ++ codes "\t"
     ++ times_text (old_time cs) (new_time cs) ++ codes "\n"
@@ -220,14 +215,12 @@ row_line c = class_text c.class ++ codes "\t" ++ times_text c.old c.new ++ codes
 abbrev pub class_lines : ℕ → List Compared → Class → List ℕ
 class_lines most cs class = flat_map row_line (take most (falling cost (of_class class cs)))
 
--- whether hashes were compared
 abbrev pub hashes_line : Bool → List ℕ
 hashes_line hashes = if hashes then codes "hashes\tcompared\n" else codes "hashes\tnot-compared\n"
 
 abbrev pub told_of_all : ℕ → Bool → List Compared → List ℕ
 told_of_all most hashes cs = hashes_line hashes ++ flat_map (total_line cs) classes ++ flat_map (class_lines most cs) told_classes
 
--- of two logs
 abbrev pub compare_text : ℕ → ℕ → Bool → Log → Log → List ℕ
 compare_text most least hashes old new = told_of_all most hashes (compared (record { hashes = hashes; least = least }) old new)
 

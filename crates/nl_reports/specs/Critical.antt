@@ -67,7 +67,7 @@ is_lacking g j = not (any_named g j.outputs)
 abbrev pub lacking : Graph → List Job → List Job
 lacking g js = filter (is_lacking g) js
 
--- how many there are, and the sum of their milliseconds
+-- how many commands the graph lacks, and the sum of their milliseconds
 abbrev pub lacking_line : ℕ → ℕ → List ℕ
 lacking_line count time = if count == 0 then [] else codes "not-in-graph\t" ++ decimal count ++ codes "\t" ++ decimal time ++ codes "\n"
 
@@ -97,14 +97,14 @@ pub record IsPathText (g : Graph) (js : List Job) (text : List ℕ) : Type 0 whe
   pub longest : IsLongest g.edges (weight g.nodes js) path
   pub is : text ≡ path_text g js path
 
--- and behind it what the graph lacks, which isn't all
+-- the text of a longest path, and after it what the graph lacks, which isn't all
 pub record IsCriticalText (g : Graph) (js : List Job) (text : List ℕ) : Type 0 where
   pub some : length (lacking g js) ≢ length js
   pub path : List ℕ
   pub is_path : IsPathText g js path
   pub is : text ≡ path ++ lacking_text (lacking g js)
 
--- that of these commands: nothing, where there is none; and no text, where the graph lacks them all
+-- the text of these commands: nothing, where there is none; and no text, where the graph lacks them all
 abbrev pub IsCritical : Graph → List Job → Option (Vec ℕ) → Type 0
 IsCritical g [] told = IsSomeAnd told (λ text. text.items ≡ [])
 IsCritical g (j ∷ js) None = length (lacking g (j ∷ js)) ≡ length (j ∷ js)

@@ -47,13 +47,11 @@ build_event b = object
     (member (codes "ph") (text (codes "M"))
     (member (codes "pid") (whole b.number) no_members))))
 
--- the hash and the outputs of a command
 abbrev pub args_of : Job → Data
 args_of j = object
     (member (codes "hash") (shown (digits_of 16 j.hash))
     (member (codes "outputs") (array (items_of (map (λ (e : Entry). shown e.name) j.outputs))) no_members))
 
--- a command in a lane of a build
 abbrev pub command_event : BuildEvent → ℕ → Job → Data
 command_event b lane j = object
     (member (codes "args") (args_of j)
@@ -73,6 +71,5 @@ running_event b cs at = object
     (member (codes "pid") (whole b.number)
     (member (codes "ts") (whole (micros (at - b.began))) no_members)))))
 
--- the JSON text of an event
 unfoldable pub event_text : Data → List ℕ
 event_text event = compact_text event

@@ -37,18 +37,18 @@ pub record IsHalfPath (g : Graph) (js : List Job) (r : Ran) (length : ℕ) : Typ
   pub longest : IsLongest g.edges (weight g.nodes (halved r.place js)) path
   pub length_is : length ≡ length_of (weight g.nodes (halved r.place js)) path
 
--- the line of a command of a critical path that is so long, behind a text
+-- the line of a command of a critical path that is so long, after a text
 pub record IsGain (g : Graph) (js : List Job) (long : ℕ) (r : Ran) (before text : List ℕ) : Type 0 where
   pub half : ℕ
   pub is_half : IsHalfPath g js r half
   pub is : text ≡ before ++ gain_line (long - half) r
 
--- the lines of these
+-- the lines of these commands
 abbrev pub AreGains : Graph → List Job → ℕ → List Ran → List ℕ → List ℕ → Type 0
 AreGains g js long [] before text = text ≡ before
 AreGains g js long (r ∷ rs) before text = (line : List ℕ) × IsGain g js long r before line × AreGains g js long rs line text
 
--- so many commands of it, those that took the longest
+-- so many commands of the path, those that took the longest
 abbrev pub longest_rans : ℕ → List Ran → List Ran
 longest_rans most rs = take most (falling (λ (r : Ran). time_of r.span) rs)
 

@@ -29,7 +29,7 @@ use Rattle.nl_reports.specs.declared.times.Times.{Times}
 use Rattle.nl_reports.specs.declared.work.Work.{Work}
 use Rattle.nl_reports.specs.declared.work.Work.TheVariants.{Compile, Link, Archive, Generate, Test, Other}
 
--- what was built: how many commands, how long it took, and how many ran at a time, with one digit behind the point
+-- what was built: how many commands, how long it took, and how many ran at a time, with one digit after the point
 abbrev pub commands_word : ℕ → List ℕ
 commands_word n = if n == 1 then codes " command in " else codes " commands in "
 
@@ -59,7 +59,7 @@ known_line SomeAgain = codes "<text class=\"m\" x=\"15400\" y=\"380\" text-ancho
 known_line (Missing builds) = joined (codes "<text class=\"m\" x=\"15400\" y=\"380\" text-anchor=\"end\">no such build; builds: " ∷ decimal builds
     ∷ codes "</text>\n" ∷ [])
 
--- the name, which a screen reader tells and which is shown too, stands first, and the colours behind it
+-- the name, which a screen reader tells and which is shown too, stands first, and the colours after the name
 abbrev pub root : List ℕ
 root = codes "\" role=\"img\" aria-labelledby=\"t\" font-family=\"sans-serif\" font-size=\"120\">\n<title id=\"t\">"
 
@@ -138,11 +138,11 @@ abbrev pub outlined : Frame → List ℕ → Option (List Ran) → List ℕ
 outlined f ls None = []
 outlined f ls (Some rans) = outlined_style ++ flat_map (outline f ls) rans
 
--- what stands behind the bars
+-- what stands after the bars
 abbrev pub end : Frame → List ℕ → Option (List Ran) → List Span → List Job → List ℕ
 end f ls path cs js = codes "</g>\n" ++ curve f cs ++ outlined f ls path ++ longest f js
 
--- of commands, each in its lane: their bars, and all
+-- the frame of commands, each in its lane, their bars, and the whole picture
 abbrev pub frame : List Job → Frame
 frame js = frame_of (spans js) (lanes (spans js))
 
@@ -152,7 +152,7 @@ bars_of js = bars (frame js) (zip js (lanes (spans js)))
 abbrev pub picture : Known → Option (List Ran) → List Job → List ℕ
 picture known path js = start (frame js) known js ++ bars_of js ++ end (frame js) (lanes (spans js)) path (spans js) js
 
--- of the builds that are asked for, one after another; by a graph, also of their critical path
+-- the picture of the builds that are asked for, one after another, with their critical path by a graph
 pub record IsOutlined (g : Graph) (known : Known) (js : List Job) (text : List ℕ) : Type 0 where
   pub length : ℕ
   pub rans : List Ran

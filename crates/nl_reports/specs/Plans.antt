@@ -53,14 +53,14 @@ pub record IsEstimate (g : Graph) (js : List Job) (n wall floor : ℕ) : Type 0 
 abbrev pub estimate_line : ℕ → ℕ → ℕ → List ℕ
 estimate_line n wall floor = codes "estimate\t" ++ decimal n ++ codes "\t" ++ decimal wall ++ codes "\t" ++ decimal floor ++ codes "\n"
 
--- one more line behind those of other numbers
+-- one more line after those of other numbers
 pub record IsLineMore (g : Graph) (js : List Job) (n : ℕ) (before text : List ℕ) : Type 0 where
   pub wall : ℕ
   pub floor : ℕ
   pub is_estimate : IsEstimate g js n wall floor
   pub is : text ≡ before ++ estimate_line n wall floor
 
--- the lines for these numbers, behind a text
+-- the lines for these numbers, after a text
 abbrev pub AreMore : Graph → List Job → List ℕ → List ℕ → List ℕ → Type 0
 AreMore g js [] before text = text ≡ before
 AreMore g js (n ∷ ns) before text = (line : List ℕ) × IsLineMore g js n before line × AreMore g js ns line text

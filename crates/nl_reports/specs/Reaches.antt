@@ -21,7 +21,7 @@ ran_seen r = record { span = r.span; name = r.name.now; place = r.place }
 abbrev pub rans_seen : List (Option HeldRan) → List (Option Ran)
 rans_seen rs = map (option_map ran_seen) rs
 
--- those of a path, if there is one
+-- the commands of a path, if there is one
 abbrev pub rans_of : Option (Bor FoundPath) → Option (List Ran)
 rans_of path = option_map (λ (p : Bor FoundPath). map ran_seen p.now.commands.items) path
 
@@ -65,7 +65,7 @@ pub record IsBegun (r : Reaches) (wall : ℕ) (place : ℕ) : Type 0 where
   pub within : far_at r place ≤ wall
   pub at : IfSome (ran_in r place) (λ ran. far_at r place + ran.span.began ≡ wall)
 
--- the commands of a path that is so long, behind others
+-- the commands of a path that is so long, after others
 pub record IsFollowed (g : Graph) (js : List Job) (far : ℕ) (old new : List Ran) : Type 0 where
   pub path : List (List ℕ)
   pub is_path : IsPath g.edges path

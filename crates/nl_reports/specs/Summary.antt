@@ -25,7 +25,7 @@ use Rattle.nl_reports.specs.declared.summary.Totals.{Totals}
 
 -- ---- the numbers
 
--- of no build, and with those of one more behind them
+-- the numbers of no build
 abbrev pub no_totals : Totals
 no_totals = record { outputs = 0; wall = 0; busy = 0; alone = 0 }
 
@@ -40,12 +40,12 @@ with_numbers t n cs = record {
 abbrev pub with_build : Totals → BuildsTold → ℕ → Totals
 with_build so_far t number = with_numbers so_far (numbers_of t number) (spans_of (build_jobs t number))
 
--- of these builds one after another, of which the first has this number
+-- the numbers of builds one after another, the first with this number
 abbrev pub totals_from : Totals → BuildsTold → ℕ → List Build → Totals
 totals_from so_far t number [] = so_far
 totals_from so_far t number (b ∷ bs) = totals_from (with_build so_far t number) t (number + 1) bs
 
--- no larger than those of so many builds can be
+-- no number is larger than so many builds can make it
 pub record AreTotalsOf (n : ℕ) (t : Totals) : Type 0 where
   pub outputs : t.outputs ≤ n * 2 ^ 64
   pub wall : t.wall ≤ n * 2 ^ 32
@@ -59,7 +59,6 @@ rows_from t number (b ∷ bs) = told_jobs (build_jobs t number) ++ rows_from t (
 
 -- ---- the lines
 
--- seven lines, each a key and a value
 abbrev pub told_lines : ℕ → ℕ → ℕ → ℕ → ℕ → ℕ → List ℕ → List ℕ
 told_lines commands outputs wall total busy alone parallel = codes "commands\t" ++ decimal commands ++ codes "\noutputs\t" ++ decimal outputs
     ++ codes "\nwall\t" ++ decimal wall ++ codes "\ntotal\t" ++ decimal total ++ codes "\nbusy\t" ++ decimal busy
@@ -100,13 +99,13 @@ abbrev pub most_taken : Option ℕ → List Build → Option ℕ
 most_taken most [] = most
 most_taken most (b ∷ bs) = most_taken (more_taken most b.how) bs
 
--- what later ones took of all builds isn't lacking: it is told of there
+-- for all builds nothing is lacking, because what later ones took is told of there
 abbrev pub again_in : Scope → List Build → Option ℕ
 again_in All bs = None
 again_in Last bs = most_taken None bs
 again_in (Numbered number) bs = most_taken None bs
 
--- of one of the builds that are told of
+-- how many outputs later builds may have taken at most of one of the builds that are told of
 abbrev pub taken_in : Scope → BuildsTold → Option ℕ
 taken_in scope t = option_and_then (λ (c : Choice). most_taken None (between (c.first - 1) c.last t.builds)) (chosen scope t)
 
@@ -118,7 +117,6 @@ again_line (Some taken) = count_line (codes "again") taken
 abbrev pub unfinished_line : ℕ → List ℕ
 unfinished_line count = if count == 0 then [] else count_line (codes "unfinished") count
 
--- the lists: the slowest commands, and the kinds
 abbrev pub all_lists : Lists → List Told → List Told → List ℕ
 all_lists lists ts ks = list_lines Commands Time lists.most ts ++ list_lines Commands Weight lists.most ts
     ++ list_lines Kinds Time lists.most ks ++ list_lines Kinds Weight lists.most ks
@@ -128,18 +126,18 @@ lists_text lists ts = all_lists lists ts (kinds lists.rule ts)
 
 -- ---- the text
 
--- of builds, by their numbers and commands, and of how they are known
+-- the text of builds by their numbers and commands, and by how they are known
 abbrev pub text_of : Lists → ℕ → Totals → List Told → Option ℕ → List ℕ
 text_of lists unfinished ts told taken = number_lines ts told ++ (slowest_line (first_of (falling (rank_told Time) told))
     ++ (again_line taken ++ (unfinished_line unfinished ++ lists_text lists told)))
 
--- of these, of which the first has this number; where there is none, it is said alone how many outputs wait
+-- the text of builds, the first with this number; where there is none, it says only how many outputs wait
 abbrev pub builds_told : Scope → Lists → ℕ → BuildsTold → ℕ → List Build → List ℕ
 builds_told scope lists unfinished t number [] = unfinished_line unfinished
 builds_told scope lists unfinished t number (b ∷ bs) =
     text_of lists unfinished (totals_from no_totals t number (b ∷ bs)) (rows_from t number (b ∷ bs)) (again_in scope (b ∷ bs))
 
--- of the builds that are told of; and where there are fewer than the number that is asked for, how many there are
+-- the text of the builds that are asked for; where there are fewer than that number, it says how many there are
 abbrev pub chosen_text : Scope → Option Choice → Lists → ℕ → BuildsTold → List ℕ
 chosen_text scope None lists unfinished t = count_line (codes "builds") (length t.builds) ++ unfinished_line unfinished
 chosen_text scope (Some c) lists unfinished t = builds_told scope lists unfinished t c.first (between (c.first - 1) c.last t.builds)

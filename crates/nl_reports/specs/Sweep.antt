@@ -20,7 +20,7 @@ running cs t = count_by (runs_at t) cs
 abbrev pub parts : ℕ
 parts = 232792560
 
--- of a millisecond in which so many run, what each of them counts for, what is left, and whether any runs, or one alone
+-- in a millisecond in which so many run: what each of them counts for, what is left, and whether any runs, or one alone
 abbrev pub share_of : ℕ → ℕ
 share_of k = if k == 0 then 0 else parts / k
 

@@ -23,11 +23,11 @@ use Rattle.nl_reports.specs.declared.choice.Scope.TheVariants.{Last, Numbered, A
 use Rattle.nl_reports.specs.declared.events.BuildEvent.{BuildEvent}
 use Rattle.nl_reports.specs.declared.span.Span.{Span}
 
--- of a command in its lane: the command, and how many run as it begins, and as it has ended
+-- the events of a command in its lane: the command, and how many run as it begins, and as it has ended
 abbrev pub events_of : BuildEvent → List Span → Job × ℕ → List Data
 events_of b cs p = command_event b p.1 p.0 ∷ running_event b cs p.0.span.began ∷ running_event b cs (closed_of p.0.span) ∷ []
 
--- of builds of a number and of their commands
+-- the events of builds of a number, and of their commands
 abbrev pub named_events : BuildEvent → List Job → List Data
 named_events b js = build_event b ∷ flat_map (events_of b (spans js)) (zip js (lanes (spans js)))
 
@@ -51,7 +51,7 @@ number_in Last t = last_number t
 number_in (Numbered number) t = number
 number_in All t = 0
 
--- of the builds that are asked for, one after another; no event, where there is none
+-- the events of the builds that are asked for, one after another; none, where there is no such build
 abbrev pub numbered_events : ℕ → Option How → List Job → List Data
 numbered_events number None js = []
 numbered_events number (Some how) js = build_events number how js
@@ -65,6 +65,6 @@ array_text events = compact_text (array (items_of events))
 abbrev pub scoped_text : Scope → Told → List ℕ
 scoped_text scope t = array_text (trace_events scope t)
 
--- the text of each event behind a comma
+-- the text of each event after a comma
 abbrev pub behind_commas : List Data → List ℕ
 behind_commas events = flat_map (λ d. 44 ∷ event_text d) events

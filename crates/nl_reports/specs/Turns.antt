@@ -39,6 +39,6 @@ abbrev pub jobs_by : Option Choice → Told → List Job
 jobs_by None t = []
 jobs_by (Some c) t = jobs_turned 0 t c.first (between (c.first - 1) c.last t.builds)
 
--- those that are told of; the first begins at 0
+-- the commands of the builds that are told of, the first of which begins at 0
 abbrev pub jobs_in_turn : Scope → Told → List Job
 jobs_in_turn scope t = jobs_by (chosen scope t) t

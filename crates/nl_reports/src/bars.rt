@@ -12,7 +12,7 @@ use crate::text::{Part, append, append_parts, append_with};
 use crate::work::{place, work_of};
 use std::alloc::{AllocError, Global};
 
-// A narrower bar is none of its own.
+// A command whose bar would be narrower shares one with others.
 const NARROW: u64 = 5;
 
 // So wide is a letter, and so many bytes of a name stand in a bar.
@@ -55,7 +55,6 @@ pub(crate) fn append_bar(
     append_long(alloc, frame, job, lane, out)
 }
 
-// Appends the bar of a command that isn't too short for one.
 fn append_long(
     alloc: Global,
     frame: &Frame,
@@ -80,7 +79,6 @@ fn append_long(
     append_name(alloc, frame, lane, x, width, job.name(), out)
 }
 
-// How wide the bar of a command is.
 fn width_of(frame: &Frame, job: &Job<'_, '_>) -> u64
     requires early { IsEarly job.now.span }
     ensures value { result ≡ width_of frame.now (seen job.now) }
@@ -89,7 +87,6 @@ fn width_of(frame: &Frame, job: &Job<'_, '_>) -> u64
     frame.x_at(job.span.closed()).saturating_sub(x)
 }
 
-// The kind of a command, as a number.
 fn kind_of(job: &Job<'_, '_>) -> u64
     ensures value { result ≡ kind_of (seen job.now) }
 {
@@ -103,7 +100,6 @@ fn drawn_width(width: u64) -> u64
     if width < 20 { width } else { width - 6 }
 }
 
-// Appends a rectangle in a lane, up to its title.
 fn append_rect(
     frame: &Frame,
     lane: u64,
@@ -149,7 +145,6 @@ fn append_title(
     append(b" s</title></rect>\n", out)
 }
 
-// How many more outputs there are.
 fn append_more(count: usize, out: &mut Vec<u8>) -> Result<(), AllocError>
     ensures items { OnOk result (out.new.items ≡ out.old.items ++ more_outputs count) }
 {
@@ -160,7 +155,6 @@ fn append_more(count: usize, out: &mut Vec<u8>) -> Result<(), AllocError>
     append(b" more", out)
 }
 
-// Appends the name in a bar, if the bar is wide and high enough.
 fn append_name(
     alloc: Global,
     frame: &Frame,
@@ -228,7 +222,6 @@ pub(crate) fn append_mark(
     Ok(0)
 }
 
-// Whether none that is alike follows.
 fn is_last(mark: &Mark, rest: &[Mark]) -> bool
     ensures { result ≡ is_last mark.now rest.now }
 {

@@ -71,7 +71,6 @@ fn border_word(build: &Build) -> &'static str
     }
 }
 
-// How many outputs later builds may have taken, behind a tab.
 fn taken_text(alloc: Global, how: How) -> Result<String, AllocError>
     ensures value { IfOk result (λ text. string_bytes text ≡ taken_text how) }
 {

@@ -9,12 +9,12 @@ use crate::job::{Job, between, commands_to, jobs_by_start, jobs_in};
 use nl_builds::{Builds, Command};
 use std::alloc::{AllocError, Global};
 
-/// Of which builds is told.
+/// Which builds a report tells of.
 #[derive(Clone, Copy, Drop)]
 pub enum Scope {
     /// The last one that isn't the manifest's alone; if each is, the last one.
     Last,
-    /// That of this number, from 1.
+    /// The build of this number, from 1.
     Numbered(u64),
     /// All of them, one after another, with the last entry of each output alone.
     All,

@@ -40,7 +40,7 @@ pub(crate) fn lines_of(alloc: Global, text: &[u8]) -> Result<Vec<&[u8]>, AllocEr
     text.split(|b| *b == b'\n').collect(alloc)
 }
 
-// Adds a line, in the columns of those that have as many fields. The ones of the line before are kept for it.
+// Keeps the columns of the line before, for a next line with as many fields.
 fn append_row(
     alloc: Global,
     lines: &[&[u8]],
@@ -62,7 +62,6 @@ fn append_row(
     append_cells(found.as_slice(), line, out)
 }
 
-// The columns of the lines that have so many fields.
 fn columns_of(alloc: Global, lines: &[&[u8]], count: usize) -> Result<Vec<Column>, AllocError>
     ensures value { IfOk result
         (λ found. found.items ≡ columns count (map (λ line. line.now) lines.now)) }
@@ -75,7 +74,6 @@ fn columns_of(alloc: Global, lines: &[&[u8]], count: usize) -> Result<Vec<Column
     Ok(found)
 }
 
-// The column at this place, of the lines that have so many fields.
 fn column_of(lines: &[&[u8]], count: usize, place: usize) -> Column
     ensures value { result ≡ column count place (map (λ line. line.now) lines.now) room }
 {
@@ -91,7 +89,6 @@ fn column_of(lines: &[&[u8]], count: usize, place: usize) -> Column
     found
 }
 
-// The column with room for a field more.
 fn widened(column: Column, field: &[u8]) -> Column
     ensures value { result ≡ widened column field.now }
 {
@@ -101,7 +98,6 @@ fn widened(column: Column, field: &[u8]) -> Column
     }
 }
 
-// Adds the cells of a line.
 fn append_cells(found: &[Column], line: &[u8], out: &mut Vec<u8>) -> Result<(), AllocError>
     ensures items { OnOk result
         (out.new.items ≡ out.old.items ++ cells found.now line.now) }
@@ -150,7 +146,6 @@ fn count_fields(line: &[u8]) -> usize
     line.split(|b| *b == b'\t').count()
 }
 
-// The field at this place; empty where there is none.
 fn field_at(line: &[u8], place: usize) -> &[u8]
     ensures value { result.now ≡ field_at line.now place }
 {
@@ -170,7 +165,6 @@ fn begins_one(byte: u8) -> bool
     !(128..192).contains(&byte)
 }
 
-// Whether a field has digits, minus signs and points alone, and one of them at least.
 fn is_number(field: &[u8]) -> bool
     ensures value { result ≡ is_number field.now }
 {

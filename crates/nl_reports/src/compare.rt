@@ -37,7 +37,6 @@ fn are_comparable(old: LogVersion, new: LogVersion) -> bool
     old.is_rapid() == new.is_rapid()
 }
 
-// What is told of all commands.
 fn told_of_all(
     alloc: Global,
     most: usize,
@@ -66,7 +65,6 @@ fn told_of_all(
     Ok(lines)
 }
 
-// Appends the totals of all of these classes, and then the commands of those that are listed.
 fn append_classes(
     alloc: Global,
     most: usize,
@@ -87,7 +85,6 @@ fn append_classes(
     Ok(())
 }
 
-// Appends how many commands of a class there are, and how long they took.
 fn append_total(
     alloc: Global,
     class: Class,
@@ -106,7 +103,6 @@ fn append_total(
     Ok(())
 }
 
-// Appends the commands of a class, those with the largest differences first.
 fn append_class(
     alloc: Global,
     most: usize,
@@ -138,7 +134,6 @@ fn append_row(alloc: Global, row: &ComparedRow<'_>, lines: &mut Vec<u8>) -> Resu
     Ok(())
 }
 
-// The difference of two numbers, and these.
 fn times_text(alloc: Global, old: u128, new: u128) -> Result<String, AllocError>
     ensures value { IfOk result (λ text. string_bytes text ≡ times_text old new) }
 {
@@ -147,7 +142,6 @@ fn times_text(alloc: Global, old: u128, new: u128) -> Result<String, AllocError>
     format!(in alloc; "{sign}{apart}\t{old}\t{new}")
 }
 
-// What stands before the difference of two numbers.
 fn sign_of(old: u128, new: u128) -> &'static str
     ensures { result.now ≡ sign old new }
 {

@@ -76,14 +76,12 @@ pub(crate) fn path_in<'a>(
     Ok(Some(reaches.path(alloc)?))
 }
 
-// How many commands a graph lacks, and the sum of their milliseconds.
 #[derive(Clone, Copy, Drop)]
 struct Lacking {
     count: usize,
     time: u128,
 }
 
-// Those of which no output is the name of a node.
 fn lacking_of(
     alloc: Global,
     secret: Secret,
@@ -104,7 +102,6 @@ fn lacking_of(
     Ok(lacking)
 }
 
-// The names of a graph's nodes.
 fn names_in<'a>(
     alloc: Global,
     secret: Secret,
@@ -121,7 +118,6 @@ fn names_in<'a>(
     Ok(names)
 }
 
-/// The name of the node at a place.
 pub(crate) fn name_at<'a>(graph: &NinjaGraph<'a>, node: usize) -> Option<&'a [u8]>
     ensures value { (d : HeldNode) → node < length graph.now.nodes.entries → result ≡ (get_or graph.now.nodes.entries node d).1 }
 {
@@ -142,7 +138,6 @@ fn any_named(names: &IndexMap<&[u8], (), Secret>, outputs: &[EntryRef<'_>]) -> b
     false
 }
 
-// The last command that has this output.
 fn ran_named<'a>(
     name: Option<&'a [u8]>,
     outputs: &Outputs<'_>,
@@ -168,7 +163,6 @@ pub(crate) struct FoundPath<'a> {
     pub(crate) commands: Vec<Ran<'a>>,
 }
 
-// Its text.
 fn path_lines(alloc: Global, found: &FoundPath<'_>) -> Result<Vec<u8>, AllocError>
     ensures value { IfOk result (λ lines. lines.items ≡ told_path found.now.length (map ran_seen found.now.commands.items)) }
 {
@@ -181,7 +175,6 @@ fn path_lines(alloc: Global, found: &FoundPath<'_>) -> Result<Vec<u8>, AllocErro
     Ok(lines)
 }
 
-// Appends the line of a command.
 fn append_ran(alloc: Global, ran: &Ran<'_>, lines: &mut Vec<u8>) -> Result<(), AllocError>
     ensures items { OnOk result (lines.new.items ≡ lines.old.items ++ ran_line (ran_seen ran.now)) }
 {
@@ -224,7 +217,7 @@ impl<'g, 'a> Reaches<'g, 'a> {
         Ok(reaches)
     }
 
-    // Says how far it is behind each node. The last edges come first.
+    // Takes the last edges first.
     fn spread(&mut self)
         ensures graph { self.new.graph ≡ self.old.graph }
         ensures ran { self.new.ran ≡ self.old.ran }
@@ -259,7 +252,6 @@ impl<'g, 'a> Reaches<'g, 'a> {
         }
     }
 
-    // How far it is from a node on.
     fn far_at(&self, node: usize) -> u128
         ensures { result ≡ far_at self.now node }
     {
@@ -270,7 +262,6 @@ impl<'g, 'a> Reaches<'g, 'a> {
         u128::from(time) + self.behind_at(node)
     }
 
-    // The node from which it is farthest.
     fn farthest(&self) -> usize
         ensures value { IsFarthest self.now result }
     {
@@ -283,7 +274,6 @@ impl<'g, 'a> Reaches<'g, 'a> {
         best
     }
 
-    // Whether it is no farther from where an edge ends than it is behind where it begins.
     pub(crate) fn are_tight(&self) -> bool
         ensures value { IsTrue result → All (IsTight self.now) self.now.graph.now.edges.items }
     {
@@ -383,7 +373,6 @@ impl<'g, 'a> Reaches<'g, 'a> {
         }
     }
 
-    // The commands of a path from a node on that is as long as it is said to be.
     fn append_path(&self, start: usize, commands: &mut Vec<Ran<'a>>) -> Result<(), AllocError>
         ensures ok { (js : List SeenJob) → AreOf self.now.graph.now js self.now → IsFarthest self.now start → OnOk result
             (IsFollowed (seen_graph self.now.graph.now) js (far_at self.now start) (map ran_seen commands.old.items) (map ran_seen commands.new.items)) }
@@ -406,7 +395,6 @@ impl<'g, 'a> Reaches<'g, 'a> {
         self.push_ran(node, commands)
     }
 
-    // Adds the command of a node, if it took time.
     fn push_ran(&self, node: usize, commands: &mut Vec<Ran<'a>>) -> Result<(), AllocError>
         ensures items { OnOk result (map ran_seen commands.new.items ≡ map ran_seen commands.old.items ++ took_time (ran_in self.now node)) }
     {
@@ -451,7 +439,6 @@ fn span_if(half: bool, span: Span) -> Span
     span
 }
 
-// A moment as an entry tells it.
 fn moment_text(alloc: Global, at: u64) -> Result<String, AllocError>
     ensures value { IfOk result (λ text. string_bytes text ≡ told_moment at) }
 {

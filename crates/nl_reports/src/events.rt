@@ -57,7 +57,7 @@ fn build_name(alloc: Global, number: u64) -> Result<String, AllocError>
     format!(in alloc; "build {number}")
 }
 
-/// Appends a command in a lane, behind a comma.
+/// Appends a command in a lane, after a comma.
 pub(crate) fn append_command(
     alloc: Global,
     build: BuildEvent,
@@ -85,7 +85,6 @@ pub(crate) fn append_command(
     append(b"}", out)
 }
 
-// The hash and the outputs of a command.
 fn append_args(alloc: Global, job: &Job<'_, '_>, out: &mut Vec<u8>) -> Result<(), AllocError>
     ensures items { OnOk result (out.new.items ≡ out.old.items ++ event_text (args_of (seen job.now))) }
 {
@@ -116,7 +115,7 @@ fn append_shown(alloc: Global, name: &[u8], out: &mut Vec<u8>) -> Result<(), All
     append(json.into_inner().as_slice(), out)
 }
 
-/// Appends how many commands run at a moment, behind a comma.
+/// Appends how many commands run at a moment, after a comma.
 pub(crate) fn append_running(
     build: BuildEvent,
     moments: &Moments,

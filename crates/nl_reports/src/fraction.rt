@@ -4,7 +4,7 @@ ghost use Rattle.nl_reports.specs.Fraction.{ratio};
 
 use std::alloc::{AllocError, Global};
 
-// A fraction with two digits behind the point, rounded down.
+// A fraction with two digits after the point, rounded down.
 pub(crate) fn ratio(alloc: Global, part: u128, whole: u128) -> Result<String, AllocError>
     requires room { whole < 2 ^ 120 }
     ensures value { IfOk result (λ text. string_bytes text ≡ ratio part whole) }

@@ -34,7 +34,6 @@ pub(crate) fn gain_lines(
     Ok(lines)
 }
 
-// Appends what is gained if a command takes half.
 fn append_gain(
     alloc: Global,
     reaches: &Reaches<'_, '_>,
@@ -49,7 +48,6 @@ fn append_gain(
     append_line(alloc, length.saturating_sub(half), ran, lines)
 }
 
-// How long the critical path is, if a command took half.
 fn half_length(alloc: Global, reaches: &Reaches<'_, '_>, ran: &Ran<'_>) -> Result<u128, AllocError>
     ensures value { (js : List SeenJob) → AreOf reaches.now.graph.now js reaches.now
         → IfOk result (IsHalfPath (seen_graph reaches.now.graph.now) js (ran_seen ran.now)) }
@@ -74,7 +72,6 @@ fn append_line(
     Ok(())
 }
 
-// By how long commands ran.
 struct ByTime;
 
 impl<'a> Ranking<Ran<'a>> for ByTime {

@@ -18,7 +18,7 @@ use crate::span::Span;
 use nl_table::Secret;
 use std::alloc::{AllocError, Global};
 
-/// A graph, for how many commands at a time it is estimated how long they take, and of how many at most it is told what is gained by them.
+/// A graph, the numbers of commands at a time that estimates are asked for, and of how many commands at most it is told what is gained by them.
 #[derive(Clone, Copy, Drop)]
 pub struct ByGraph<'g, 't> {
     pub graph: &'g NinjaGraph<'t>,
@@ -55,8 +55,6 @@ pub fn graph_lines(
     Ok(Some(lines))
 }
 
-// For each of these numbers how long the commands would take if so many ran at a time, and below what no order of them comes; None, where no
-// plan is found.
 fn estimate_lines(
     alloc: Global,
     secret: Secret,
@@ -88,7 +86,6 @@ fn estimate_lines(
     Ok(Some(lines))
 }
 
-// There is a place, one at a time takes the sum of the commands' times, and with a place for each only the critical path is waited for.
 fn is_at_bounds(count: usize, commands: usize, wall: u64, total: u128, path: u128) -> bool
     ensures some { IsTrue result → 0 < count }
     ensures one { IsTrue result → count ≡ 1 → wall ≡ total }
@@ -98,7 +95,6 @@ fn is_at_bounds(count: usize, commands: usize, wall: u64, total: u128, path: u12
     count > 0 && (count != 1 || wall == total) && (count < commands || wall == path)
 }
 
-// The sum of the times of commands.
 fn total_of(jobs: &[Job<'_, '_>]) -> u128
     ensures value { result ≡ total_time (map seen jobs.now) }
     ensures bound { result < 2 ^ 127 }
@@ -110,7 +106,6 @@ fn total_of(jobs: &[Job<'_, '_>]) -> u128
     total
 }
 
-// What no plan comes below.
 fn floor_of(path: u128, total: u128, count: usize) -> u128
     requires room { total < 2 ^ 127 }
     ensures value { 0 < count → result ≡ floor_of path total count }
@@ -153,7 +148,6 @@ fn wall_of(
     checked(alloc, secret, graph, plan.as_slice(), there, count)
 }
 
-// How long these commands take as they run, if that is a plan in which so many run at a time, and nodes are there from these moments on.
 fn checked(
     alloc: Global,
     secret: Secret,
@@ -178,7 +172,6 @@ fn checked(
     Ok(None)
 }
 
-// The commands as they run if they begin at these moments.
 fn planned_jobs<'s, 'a>(
     alloc: Global,
     jobs: &[Job<'s, 'a>],
@@ -201,7 +194,6 @@ fn planned_jobs<'s, 'a>(
     Ok(plan)
 }
 
-// When they run.
 fn planned_spans(alloc: Global, plan: &[Job<'_, '_>]) -> Result<Vec<Span>, AllocError>
     ensures items { IfOk result (λ found. found.items ≡ spans (map seen plan.now)) }
 {
@@ -221,7 +213,6 @@ fn are_few(alloc: Global, plan: &[Span], count: usize) -> Result<bool, AllocErro
     Ok(are_behind(starts.as_slice(), ends.as_slice(), count))
 }
 
-// When each begins, and when each has ended, in order.
 fn starts_of(alloc: Global, plan: &[Span]) -> Result<Vec<u64>, AllocError>
     ensures items { IfOk result (λ starts. IsPermutation (map began_of plan.now) starts.items) }
 {
@@ -244,7 +235,6 @@ fn sorted(moments: Vec<u64>) -> Vec<u64>
     sorted
 }
 
-// Whether each start but the first so many isn't before the end at its place without these.
 fn are_behind(starts: &[u64], ends: &[u64], count: usize) -> bool
     ensures value { IsTrue result → AreBehind count starts.now ends.now }
 {
@@ -257,7 +247,6 @@ fn are_behind(starts: &[u64], ends: &[u64], count: usize) -> bool
     true
 }
 
-// When the last one ends.
 fn last_of(plan: &[Span]) -> u64
     ensures value { result ≡ last_moment plan.now }
 {

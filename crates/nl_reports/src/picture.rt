@@ -39,7 +39,6 @@ use nl_tool_texts::ToolFault;
 use std::alloc::{AllocError, Global};
 use std::io::Write;
 
-// So many commands are listed.
 const LISTED: u64 = 10;
 
 const ROOT: &[u8] =
@@ -58,7 +57,7 @@ pub enum Known {
     AsWritten,
     /// Later builds may have taken so many of its outputs.
     FoundAgain { taken: usize },
-    /// Of all builds, some were.
+    /// All builds are drawn, and some of them were found again.
     SomeAgain,
     /// There is no such build, but so many.
     Missing { builds: usize },
@@ -90,7 +89,6 @@ pub fn draw_builds<W: Write>(
     }
 }
 
-// Writes a picture of these commands with their critical path by a graph.
 fn write_outlined<W: Write>(
     alloc: Global,
     secret: Secret,
@@ -130,7 +128,6 @@ fn known_by(scope: Scope, taken: Option<usize>) -> Known
     }
 }
 
-// Writes a picture of these commands, each build's in the order of START, and of those of a path.
 #[tactic(auto, using(crate::proofs::DrawLemmas::none_drawn))]
 fn write_jobs<W: Write>(
     alloc: Global,
@@ -170,7 +167,6 @@ fn write_jobs<W: Write>(
     )
 }
 
-// Appends what stands before the bars.
 fn append_start(
     frame: &Frame,
     known: Known,
@@ -189,7 +185,6 @@ fn append_start(
     append(b"<g class=\"t\" font-size=\"110\">\n", out)
 }
 
-// Appends what stands behind the bars of commands that ran at these moments, in these lanes.
 fn append_end(
     alloc: Global,
     frame: &Frame,
@@ -210,7 +205,6 @@ fn append_end(
     append_longest(alloc, frame, jobs, out)
 }
 
-// Appends the outlines of the commands of a path, if there is one.
 fn append_outlined(
     frame: &Frame,
     lanes: &[u64],
@@ -253,7 +247,6 @@ fn append_outline(
     append_edges(frame, lane_at(lanes, ran.place), x, until, out)
 }
 
-// Where a moment stands, as far as commands run.
 fn edge_at(frame: &Frame, at: u64) -> u64
     ensures { result ≡ edge_at frame.now at }
 {
@@ -286,7 +279,6 @@ fn append_edges(
     )
 }
 
-// Writes the bars of commands that have these lanes, between what stands before and behind them.
 fn write_bars<W: Write>(
     alloc: Global,
     frame: &Frame,
@@ -333,8 +325,6 @@ fn write_marks<W: Write>(
     Ok(())
 }
 
-// Appends what stands before the axis: how large the picture is, its name, its colours, what was built, and, of a build that was found
-// again, that it was.
 fn append_head(
     frame: &Frame,
     times: &Times,
@@ -364,7 +354,6 @@ fn append_head(
     append_known(known, out)
 }
 
-// What was built: how many commands, how long it took, and how many ran at a time.
 fn append_name(
     frame: &Frame,
     times: &Times,
@@ -433,7 +422,6 @@ fn append_known(known: Known, out: &mut Vec<u8>) -> Result<(), AllocError>
     }
 }
 
-// Appends the colour of each kind and its part of the time.
 fn append_legend(times: &Times, commands: u64, out: &mut Vec<u8>) -> Result<(), AllocError>
     requires few { AreTimesOf commands times.now }
     requires small { commands < 2 ^ 63 }
@@ -477,7 +465,6 @@ fn append_kind(
     )
 }
 
-// Appends the commands that took the longest, and the end.
 fn append_longest(
     alloc: Global,
     frame: &Frame,
@@ -502,7 +489,6 @@ fn append_longest(
     append(b"</svg>\n", out)
 }
 
-// Appends the line of one of them: its time and its first output.
 fn append_long(
     alloc: Global,
     frame: &Frame,
@@ -529,7 +515,6 @@ fn append_long(
     append(b"</text>\n", out)
 }
 
-// By how long commands ran.
 struct ByTime;
 
 impl<'s, 'a> Ranking<Job<'s, 'a>> for ByTime {

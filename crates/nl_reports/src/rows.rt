@@ -121,7 +121,6 @@ fn append_row(
     Ok(())
 }
 
-// What a line begins with: of kinds with how many commands there are.
 fn append_key(
     alloc: Global,
     listed: Listed,
@@ -151,7 +150,6 @@ fn rank_key(rank: Rank) -> &'static str
     }
 }
 
-// How a row is named: a kind without a name has one here.
 fn shown_name(listed: Listed, name: &[u8]) -> &[u8]
     ensures { result.now ≡ shown_name listed name.now }
 {

@@ -9,13 +9,12 @@ use std::alloc::{AllocError, Global};
 use std::cmp::Reverse;
 use std::collections::BinaryHeap;
 
-// No place.
 const NONE: usize = usize::MAX;
 
 /// Which of the commands that are ready is taken first, as Ninja does.
 #[derive(Clone, Copy, Drop)]
 pub enum Priority {
-    /// The one behind which the most commands wait for each other: from Ninja 1.12 on.
+    /// The one after which the most commands wait for each other: from Ninja 1.12 on.
     Critical,
     /// The one whose output the graph names first: before.
     Graph,
@@ -100,7 +99,6 @@ impl Waiting {
         Ok(waiting)
     }
 
-    // Gives each node its command.
     fn take_nodes(
         &mut self,
         alloc: Global,
@@ -149,7 +147,7 @@ impl Waiting {
         Ok(())
     }
 
-    // Says in what order commands are taken. Those of no node come last.
+    // Says in what order commands are taken. Commands of no node come last.
     fn rank(
         &mut self,
         alloc: Global,
@@ -246,7 +244,6 @@ fn number_at(numbers: &[usize], place: usize) -> usize {
     numbers.get(place).copied().unwrap_or(0)
 }
 
-// A run up to a moment.
 #[derive(Drop)]
 struct Going {
     now: u64,
@@ -286,7 +283,6 @@ impl Going {
         Ok(going)
     }
 
-    // What waits for nothing is ready.
     fn begin(&mut self, waiting: &Waiting) -> Result<(), AllocError> {
         for place in 0..waiting.nodes.len() {
             if waiting.nodes[place].waits == 0 {
@@ -325,7 +321,6 @@ impl Going {
         self.met.push(place).map_err(AllocError::from)
     }
 
-    // Follows the edges from the nodes that are there.
     fn follow(&mut self, waiting: &Waiting) -> Result<(), AllocError> {
         for _ in 0..u64::MAX {
             let Some(place) = self.met.pop() else {
@@ -344,7 +339,6 @@ impl Going {
         Ok(())
     }
 
-    // An edge to a node is waited for no more.
     fn pass(&mut self, waiting: &Waiting, to: usize) -> Result<(), AllocError> {
         if to < self.edges.len() {
             self.edges[to] = self.edges[to].saturating_sub(1);
@@ -375,7 +369,6 @@ impl Going {
         Ok(())
     }
 
-    // The outputs of a command are there.
     fn end(&mut self, waiting: &Waiting, command: usize) -> Result<(), AllocError> {
         let mut node = waiting.task_at(command).node;
         for _ in 0..waiting.nodes.len() {

@@ -54,7 +54,6 @@ pub fn summary_lines(
     Ok(lines)
 }
 
-// What is told of these builds.
 fn append_chosen(
     alloc: Global,
     scope: Scope,
@@ -85,14 +84,12 @@ fn append_chosen(
     append_lists(alloc, lists, rows, lines)
 }
 
-// The numbers and the commands of builds.
 #[derive(Drop)]
 struct Summed<'a> {
     totals: Totals,
     rows: Vec<Row<'a>>,
 }
 
-// Those of these builds, of which the first has this number.
 fn all_of<'a>(
     alloc: Global,
     from: &Builds<'a>,
@@ -122,7 +119,6 @@ fn all_of<'a>(
     Ok(all)
 }
 
-// Adds the numbers of a build, and its commands.
 fn add_build<'a>(
     alloc: Global,
     from: &Builds<'a>,
@@ -146,7 +142,6 @@ fn add_build<'a>(
     push_rows(jobs.as_slice(), &shares, &mut all.rows)
 }
 
-// The totals with the numbers of a build more.
 fn with_numbers(totals: &Totals, numbers: &Numbers, shares: &Shares) -> Totals
     requires few { (n : ℕ) × ((n < 2 ^ 63) × AreTotalsOf n totals.now) }
     requires small { IsSmall numbers.now }
@@ -161,7 +156,6 @@ fn with_numbers(totals: &Totals, numbers: &Numbers, shares: &Shares) -> Totals
     }
 }
 
-// Adds the commands of a build, each with its time and its weighted time.
 fn push_rows<'a>(
     jobs: &[Job<'_, 'a>],
     shares: &Shares,
@@ -221,7 +215,6 @@ fn append_totals(
     Ok(())
 }
 
-// The sum of the times of commands.
 fn total_of(rows: &[Row<'_>]) -> u128
     requires one { All IsOfOne rows.now }
     ensures value { result ≡ total_of (map told_row rows.now) }
@@ -233,7 +226,6 @@ fn total_of(rows: &[Row<'_>]) -> u128
     total
 }
 
-// The command that took the longest, the first such one.
 fn append_slowest(alloc: Global, rows: &[Row<'_>], lines: &mut Vec<u8>) -> Result<(), AllocError>
     ensures items { OnOk result
         (lines.new.items ≡ lines.old.items ++ slowest_line (first_of (falling (rank_told Time) (map told_row rows.now)))) }
@@ -259,7 +251,6 @@ fn slowest_of<'a>(rows: &[Row<'a>]) -> Option<Row<'a>>
     slowest
 }
 
-// The slower one of a command and the slowest before it, and of equal ones the first.
 fn slower_of<'a>(before: Option<Row<'a>>, row: &Row<'a>) -> Row<'a>
     ensures value { (ts : List Told) → first_of (falling (rank_told Time) (so_far before.entry ++ told_row row.now ∷ ts))
         ≡ first_of (falling (rank_told Time) (told_row result ∷ ts)) }
@@ -273,7 +264,7 @@ fn slower_of<'a>(before: Option<Row<'a>>, row: &Row<'a>) -> Row<'a>
     *row
 }
 
-// How many outputs later builds may have taken at most of one of these; of all builds nothing is lacking.
+// None for all builds, because what later ones took is told of there.
 fn again_in(scope: Scope, builds: &[Build]) -> Option<usize>
     ensures { result ≡ again_in scope builds.now }
 {
@@ -295,7 +286,7 @@ pub fn taken_in(scope: Scope, from: &Builds) -> Option<usize>
     ))
 }
 
-/// Of one of these.
+/// How many outputs later builds may have taken at most of one of these.
 pub(crate) fn most_taken(builds: &[Build]) -> Option<usize>
     ensures { result ≡ most_taken None builds.now }
 {
@@ -325,7 +316,6 @@ fn append_again(alloc: Global, taken: Option<usize>, lines: &mut Vec<u8>) -> Res
     }
 }
 
-// How many outputs wait for a command that didn't end, where one does.
 fn append_unfinished(alloc: Global, count: usize, lines: &mut Vec<u8>) -> Result<(), AllocError>
     ensures items { OnOk result (lines.new.items ≡ lines.old.items ++ unfinished_line count) }
 {
@@ -348,7 +338,6 @@ fn append_count(
     Ok(())
 }
 
-// The lists of the slowest commands and of kinds.
 fn append_lists(
     alloc: Global,
     lists: Lists,

@@ -15,7 +15,7 @@ pub(crate) fn append(text: &[u8], out: &mut Vec<u8>) -> Result<(), AllocError>
     Ok(())
 }
 
-/// Appends a text and a number behind it.
+/// Appends a text and a number after the text.
 pub(crate) fn append_with<I: Integer>(
     text: &[u8],
     number: I,
@@ -92,7 +92,6 @@ fn append_two(
     append_rest(b" ", rest, small, out)
 }
 
-// Appends a number, if it isn't 0.
 fn append_rest(before: &[u8], number: u64, unit: &[u8], out: &mut Vec<u8>) -> Result<(), AllocError>
     ensures items { OnOk result (out.new.items ≡ out.old.items ++ rest_text before.now number unit.now) }
 {

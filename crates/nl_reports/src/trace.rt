@@ -55,7 +55,6 @@ fn number_in(scope: Scope, from: &Builds) -> u64
     }
 }
 
-// How the builds are known of which is told; None if there is no such build.
 fn how_in(scope: Scope, from: &Builds) -> Option<How>
     ensures { result ≡ how_in scope (told from.now) }
 {
@@ -75,7 +74,6 @@ fn how_among(builds: &[Build]) -> Option<How>
     }
 }
 
-// Writes the events of the builds of this number, which have these commands.
 #[tactic(auto, using(crate::proofs::TraceLemmas::none_told))]
 fn write_events<W: Write>(
     alloc: Global,
@@ -108,7 +106,6 @@ fn write_events<W: Write>(
     write_rest(held, writer)
 }
 
-// Appends the events of a command in its lane: the command, and how many run as it begins, and as it has ended.
 fn append_events(
     alloc: Global,
     build: BuildEvent,

@@ -35,7 +35,6 @@ pub fn jobs_in_turn<'s, 'a>(
     }
 }
 
-// Those of these builds, of which the first has this number.
 fn jobs_turned<'s, 'a>(
     alloc: Global,
     from: &'s Builds<'a>,
@@ -57,7 +56,6 @@ fn jobs_turned<'s, 'a>(
     Ok(all)
 }
 
-// Adds the commands of a build that begins at a moment of the clock, and tells when all have ended.
 fn push_build<'s, 'a>(
     jobs: &[Job<'s, 'a>],
     clock: u64,

@@ -1,4 +1,4 @@
--- What is said behind a refusal where `--verbose` asks for it: docs/CLI.md, "Why something was refused".
+-- What is said after a refusal where `--verbose` asks for it: docs/CLI.md, "Why something was refused".
 use Rattle.std.specs.List.{flat_map}
 use Rattle.std.specs.Prelude.{⊤, ◌≡◌, ◌≢◌, ◌⊎◌, ◌++◌, IsSomeAnd, [], List, ℕ, Option, None, Some, IfSome, codes, decimal, string_bytes, ◌||◌, Bool, true, false, bytes_eq, length, if◌then◌else◌, FitsSigned, ℤ}
 use Rattle.std.specs.Int.{Width, w32, w64}
@@ -80,24 +80,24 @@ reason_text (Long length) = codes "it has " ++ (decimal length ++ codes " bytes,
 abbrev pub why_text : Why → List ℕ
 why_text why = place_text why.place ++ (codes ": " ++ reason_text why.reason)
 
--- nothing, or a line of its own behind another
+-- nothing, or a line of its own after another
 abbrev pub behind : Option Why → List ℕ
 behind None = []
 behind (Some why) = codes "\nnlog: " ++ why_text why
 
--- the text of the fault, and behind it that of the reason, where there is one
+-- the text of the fault, and after it the text of the reason, where there is one
 abbrev pub refusal_text : Refusal → List ℕ
 refusal_text refusal = fault_text refusal.fault ++ behind refusal.why
 
--- what is said behind a command that was done over a log that is missing
+-- what is said after a command that was done over a log that is missing
 abbrev pub missing_text : Place → List ℕ
 missing_text place = place_text place ++ codes ": it is missing, and was read as empty"
 
--- what is said behind a command that told of builds which were found again
+-- what is said after a command that told of builds which were found again
 abbrev pub again_text : Place → List ℕ
 again_text place = place_text place ++ codes ": it was written anew, so builds were found again by their time stamps"
 
--- ---- of which file it is
+-- ---- which file a reason is of
 
 -- a file of the log at a path
 abbrev pub file_place : Bor (List ℕ) → FileRole → Place
@@ -165,7 +165,7 @@ IsMasked _ = ⊥
 abbrev pub graph_file : Bor (List ℕ) → Option (Bor (List ℕ))
 graph_file path = if bytes_eq path.now (codes "-") then None else Some path
 
--- of two logs, the words that read the second of them, or the first; of a log and a graph, the words that read the log, or a file; else
+-- with two logs, the words that read the second of them, or the first; with a log and a graph, the words that read the log, or a file; else
 -- the words as they are
 abbrev pub with_graph : Option (Bor (List ℕ)) → Bool → Words → Words
 with_graph (Some graph) true words = HashFile (graph_file graph)
@@ -196,7 +196,6 @@ IsSystem (Full text) = ⊤
 IsSystem (Locked text) = ⊤
 IsSystem _ = ⊥
 
--- the reason is a version
 abbrev pub IsVersion : Reason → Type 0
 IsVersion (Version version) = ⊤
 IsVersion _ = ⊥
@@ -260,7 +259,7 @@ abbrev pub IsLine : ℕ → Reason → Type 0
 IsLine number (Line at fault) = at ≡ number
 IsLine number _ = ⊥
 
--- it is of the file of this output, which has a name
+-- the reason names the file of this output, which has a name
 abbrev pub IsEarly : List ℕ → Reason → Type 0
 IsEarly name (Early text) = (name ≢ []) × (string_bytes text ≡ flat_map escaped name)
 IsEarly name _ = ⊥
@@ -290,6 +289,6 @@ IsReasonFor words fault.Memory failed bytes why = ⊥
 IsReasonFor words fault.OtherGraph failed bytes why = ⊥
 IsReasonFor words fault.Elsewhere failed bytes why = ⊥
 
--- it is said only of a log that was missing
+-- the note is said only of a log that was missing
 abbrev pub IsNoteFor : Words → Bool → Missing → Type 0
 IsNoteFor words missing note = (log_place words file.Log ≡ Some note.place) × (missing ≡ true)

@@ -47,13 +47,13 @@ abbrev pub IsLeast : Option (Bor (List ℕ)) → ℕ → Type 0
 IsLeast None least = least ≡ 0
 IsLeast (Some text) least = (least < 2 ^ 63) × IsDecimal (pos least) text.now
 
--- of which build is told: of the one of a number, from 1, or of the last one where none is given
+-- which build is told of: the one of a number, from 1, or the last one where none is given
 abbrev pub IsBuild : Option (Bor (List ℕ)) → Scope → Type 0
 IsBuild None scope = scope ≡ Last
 IsBuild (Some text) (Numbered number) = (0 < number) × (number < 2 ^ 63) × IsDecimal (pos number) text.now
 IsBuild (Some text) scope = ⊥
 
--- of what is told: of all builds, or of one
+-- what is told of: all builds, or one
 abbrev pub IsScope : Bool → Option (Bor (List ℕ)) → Scope → Type 0
 IsScope true build scope = scope ≡ All
 IsScope false build scope = IsBuild build scope
@@ -76,13 +76,13 @@ rule_of (Some text) = if bytes_eq text.now (codes "folder") then Folder else (if
 
 -- ---- what is told
 
--- the builds of which is told: where it is of all, with the last entry of each output alone that doesn't wait
+-- the builds that are told of: where these are all, with the last entry of each output alone that doesn't wait
 abbrev pub asked_told : Scope → List (List ℕ) → Told → Told
 asked_told Last names t = t
 asked_told (Numbered number) names t = t
 asked_told All names t = lasting names t
 
--- a summary of these builds, where so many outputs wait, and behind it what a graph tells
+-- a summary of these builds, where so many outputs wait, and after it what a graph tells
 abbrev pub IsSummary : Scope → Lists → Option ByGraph → ℕ → Told → List ℕ → Type 0
 IsSummary scope lists None count t text = text ≡ summary_text scope lists count t
 IsSummary scope lists (Some by) count t text = (told : Vec ℕ) × IsToldBy (seen_graph by.graph.now) by.most by.counts.now (chosen_jobs scope t) (Some told)
@@ -93,7 +93,7 @@ abbrev pub IsFound : Scope → Lists → Option ByGraph → ℕ → Told → Opt
 IsFound scope lists graph count t None = IsSome graph
 IsFound scope lists graph count t (Some lines) = IsSummary scope lists graph count t lines.items
 
--- of builds, where outputs of these names wait for a command that didn't end
+-- a report of builds, where outputs of these names wait for a command that didn't end
 abbrev pub IsReport : Report → List (List ℕ) → Told → List ℕ → Type 0
 IsReport Builds names t text = text ≡ builds_text t
 IsReport (Summary scope lists graph) names t text = IsSummary scope lists graph (length names) (asked_told scope names t) text
@@ -104,7 +104,7 @@ IsReport (Picture scope graph) names t text = IsPicture scope (option_map (λ g.
 abbrev pub waiting : LogBuilds → List (List ℕ)
 waiting log = map (λ n. n.now) log.unfinished.items
 
--- of a log
+-- a report of a log
 pub record IsReportOf (report : Report) (bytes : List ℕ) (text : List ℕ) : Type 0 where
   pub version : ℕ
   pub entries : List Entry
@@ -130,7 +130,6 @@ side_in held = record {
 
 -- ---- how it is written
 
--- as it is, or in columns
 abbrev pub laid_out : Bool → List ℕ → List ℕ
 laid_out columns text = if columns then in_columns text else text
 

@@ -133,7 +133,6 @@ fn say_notes(rt: &impl Eprint, alloc: Global, line: &CommandLine<'_>, notes: &No
     }
 }
 
-// Says that a command was refused, and why.
 fn refuse(rt: &impl Eprint, fault: ToolFault) -> u8
     ensures { result ≡ 1 }
 {

@@ -104,7 +104,6 @@ fn push_all(bytes: &[u8], out: &mut Vec<u8>) -> Result<(), AllocError>
     Ok(())
 }
 
-// Adds a byte as it is said: one that a terminal shows as it is, but for `"` and `\`, and any other by its number.
 fn push_escaped(byte: u8, out: &mut Vec<u8>) -> Result<(), AllocError>
     ensures ok { OnOk result (out.new.items ≡ out.old.items ++ escaped byte) }
 {

@@ -20,7 +20,7 @@ const PIECE: usize = 512;
 /// What is kept of a command.
 #[derive(Drop)]
 pub struct Notes {
-    /// Of the file that the command reads, or of standard input.
+    /// What is kept of the file that the command reads, or of standard input.
     pub heard: Heard,
     /// The error of the last write to standard output that failed.
     pub written: Option<io::Error>,

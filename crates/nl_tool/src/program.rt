@@ -133,7 +133,6 @@ where
     Ok(Verdict::Done)
 }
 
-// Does what a word says that reads a log which tells its version.
 fn read_in<R: Runtime>(
     rt: &R,
     alloc: Global,
@@ -196,7 +195,6 @@ where
     Ok(Verdict::Done)
 }
 
-// Does what a word says that changes a log which tells its version.
 fn change_in<R: Runtime>(
     rt: &R,
     alloc: Global,
@@ -222,7 +220,6 @@ where
     Ok(Verdict::Done)
 }
 
-// Whether what stands in fields is put in columns.
 fn wants_columns(notes: &Notes, line: &CommandLine<'_>) -> bool
     ensures { result ≡ (notes.now.screen.output && not line.now.tabs) }
 {

@@ -45,7 +45,7 @@ pub enum Place<'a> {
     Name,
     /// How many lines a list of `summary` or `compare` has at most.
     Count(&'a str),
-    /// Of which build a word tells.
+    /// The build that a word tells of.
     Build(&'a str),
     /// How many milliseconds a difference of `compare` has at the least.
     Least(&'a str),
@@ -91,7 +91,7 @@ impl fmt::Display for Place<'_> {
 // The number of the error of a disk that has no room.
 const FULL: i32 = 28;
 
-// What is said behind a version that another choice of the command line takes.
+// What is said after a version that another choice of the command line takes.
 const KNOWN: &str = "; add --log-version auto";
 
 /// What is known of a refusal beside its fault.
@@ -162,7 +162,7 @@ impl fmt::Display for Reason {
     }
 }
 
-/// Of which file a refusal is, and its reason.
+/// The file that a refusal is of, and its reason.
 #[derive(Debug, PartialEq, Eq, Drop)]
 pub struct Why<'a> {
     pub place: Place<'a>,
@@ -178,7 +178,7 @@ impl fmt::Display for Why<'_> {
     }
 }
 
-/// A refusal as it is said: its fault, and behind it what else is to be said of it.
+/// A refusal as it is said: its fault, and after it what else is to be said of it.
 #[derive(Debug, PartialEq, Eq, Drop)]
 pub struct Refusal<'a> {
     pub fault: ToolFault,
@@ -331,7 +331,6 @@ pub fn refusal_of<'a>(
     Refusal { fault, why }
 }
 
-// The words that give the reason of a fault: where a number is bad, the words as they are.
 fn words_for<'a>(fault: ToolFault, words: &Words<'a>, is_second: bool) -> Words<'a>
     ensures { result ≡ words_for fault words.now is_second }
 {
@@ -341,7 +340,7 @@ fn words_for<'a>(fault: ToolFault, words: &Words<'a>, is_second: bool) -> Words<
     }
 }
 
-// Of two logs, the words that read the second of them, or the first; of a log and a graph, the words that read the log, or a file;
+// With two logs, the words that read the second of them, or the first; with a log and a graph, the words that read the log, or a file;
 // else the words as they are.
 fn words_heard<'a>(words: &Words<'a>, is_second: bool) -> Words<'a>
     ensures { result ≡ words_heard words.now is_second }
@@ -353,7 +352,6 @@ fn words_heard<'a>(words: &Words<'a>, is_second: bool) -> Words<'a>
     }
 }
 
-// The words that read the graph, where there is one and it is what was read, or these.
 fn with_graph<'a>(graph: Option<&'a str>, is_second: bool, words: &Words<'a>) -> Words<'a>
     ensures { result ≡ with_graph graph.entry is_second words.now }
 {
@@ -380,7 +378,6 @@ fn is_input(place: Option<Place<'_>>) -> bool
     }
 }
 
-// The file of a graph, or standard input.
 fn graph_file(path: &str) -> Option<&str>
     ensures { result ≡ graph_file path.entry }
 {
@@ -390,7 +387,6 @@ fn graph_file(path: &str) -> Option<&str>
     Some(path)
 }
 
-// The reason of a fault, where it is known.
 fn why_of<'a>(alloc: Global, words: &Words<'a>, fault: ToolFault, notes: &Notes) -> Option<Why<'a>>
     ensures { IfSome result
         (IsReasonFor words.now fault notes.now.folder (heard_of notes.now)) }
@@ -417,7 +413,6 @@ fn why_of<'a>(alloc: Global, words: &Words<'a>, fault: ToolFault, notes: &Notes)
     }
 }
 
-// What the system said of the file that the words read, or of LOG beside it.
 fn unread_of<'a>(alloc: Global, words: &Words<'a>, notes: &Notes) -> Option<Why<'a>>
     ensures { IfSome result
         (IsReasonFor words.now ToolFault.Read notes.now.folder (heard_of notes.now)) }
@@ -429,7 +424,6 @@ fn unread_of<'a>(alloc: Global, words: &Words<'a>, notes: &Notes) -> Option<Why<
     said_of(alloc, log_place(words, failure.file)?, failure.error)
 }
 
-// Which line has a negative time, or the file of which output.
 fn negative_why<'a>(
     alloc: Global,
     words: &Words<'a>,
@@ -461,7 +455,6 @@ fn early_reason(alloc: Global, name: &[u8]) -> Option<Reason>
     Some(Reason::Early(escaped_of(alloc, name)?))
 }
 
-// What the system said of a file of the log, and what there is to say beside it.
 fn failed_of<'a>(alloc: Global, place: Place<'a>, failure: &Failure) -> Option<Why<'a>>
     ensures place { IfSome result (λ why. why.place ≡ place.entry) }
     ensures reason { IfSome result (λ why. IsSystem why.reason) }
@@ -478,7 +471,6 @@ fn failed_of<'a>(alloc: Global, place: Place<'a>, failure: &Failure) -> Option<W
     Some(Why { place, reason })
 }
 
-// What the file of the words looks like that is no log.
 fn looks_of<'a>(alloc: Global, words: &Words<'a>, notes: &Notes) -> Option<Why<'a>>
     ensures place { IfSome result (λ why. log_place words.now FileRole.Log ≡ Some why.place) }
     ensures reason { IfSome result (λ why. IsLookAt (heard_of notes.now) why.reason) }
@@ -488,7 +480,6 @@ fn looks_of<'a>(alloc: Global, words: &Words<'a>, notes: &Notes) -> Option<Why<'
     Some(Why { place, reason })
 }
 
-// What a file looks like that begins with these bytes, or these.
 fn look_reason(alloc: Global, bytes: &[u8]) -> Option<Reason>
     ensures { IfSome result (IsLookAt bytes.now) }
 {
@@ -522,7 +513,6 @@ fn is_i64(text: &str) -> bool
     read_i64(text.as_bytes()).is_some()
 }
 
-// Which number of the words is none, and why.
 fn bad_number<'a>(words: &Words<'a>) -> Option<Why<'a>>
     ensures { IfSome result (IsBadNumberOf words.now) }
 {
@@ -539,7 +529,6 @@ fn bad_number<'a>(words: &Words<'a>) -> Option<Why<'a>>
     }
 }
 
-// Which of these two numbers is none, and why.
 fn bad_option<'a>(all: bool, build: Option<&'a str>, lines: Option<&'a str>) -> Option<Why<'a>>
     ensures { IfSome result (λ why. IsBadOption all build.entry lines.entry why.place
         × IsNumberFault why.reason) }
@@ -557,7 +546,6 @@ fn bad_option<'a>(all: bool, build: Option<&'a str>, lines: Option<&'a str>) -> 
     }
 }
 
-// Which of these two numbers is none, and why.
 fn bad_rule<'a>(lines: Option<&'a str>, least: Option<&'a str>) -> Option<Why<'a>>
     ensures { IfSome result (λ why. IsBadRule lines.entry least.entry why.place
         × IsNumberFault why.reason) }
@@ -575,7 +563,6 @@ fn bad_rule<'a>(lines: Option<&'a str>, least: Option<&'a str>) -> Option<Why<'a
     }
 }
 
-// Which of the three numbers of an entry is none, and why.
 fn bad_value<'a>(start: &'a str, end: &'a str, mtime: &'a str) -> Option<Why<'a>>
     ensures { IfSome result (λ why. IsFirstBad start.entry end.entry mtime.entry why.place
         × IsNumberFault why.reason) }
@@ -610,7 +597,6 @@ fn of_name<'a>(reason: Reason) -> Why<'a>
     }
 }
 
-// Which byte no name has.
 fn bad_byte<'a>(words: &Words<'a>, at: usize) -> Option<Why<'a>>
     ensures { IfSome result (λ why. (why.place ≡ Place.Name) × IsByteAt at why.reason) }
 {
@@ -632,7 +618,6 @@ fn long_name<'a>(words: &Words<'a>) -> Option<Why<'a>>
     Some(of_name(Reason::Long(name.len())))
 }
 
-// What the system said of a file.
 fn said_of<'a>(alloc: Global, place: Place<'a>, error: io::Error) -> Option<Why<'a>>
     ensures place { IfSome result (λ why. why.place ≡ place.entry) }
     ensures reason { IfSome result (λ why. IsSystem why.reason) }
@@ -644,7 +629,6 @@ fn said_of<'a>(alloc: Global, place: Place<'a>, error: io::Error) -> Option<Why<
     })
 }
 
-// Which version the log of the words names.
 fn version_why<'a>(alloc: Global, words: &Words<'a>, notes: &Notes) -> Option<Why<'a>>
     ensures place { IfSome result (λ why. log_place words.now FileRole.Log ≡ Some why.place) }
     ensures reason { IfSome result (λ why. IsVersion why.reason) }
@@ -657,7 +641,6 @@ fn version_why<'a>(alloc: Global, words: &Words<'a>, notes: &Notes) -> Option<Wh
     })
 }
 
-// The version that a first line names, where it stands whole in these bytes.
 fn named_version(beginning: &[u8]) -> Option<&[u8]> {
     let rest = beginning.strip_prefix(b"# ninja log v")?;
     let end = rest.iter().position(|byte| *byte == b'\n')?;
@@ -669,7 +652,6 @@ fn named_version(beginning: &[u8]) -> Option<&[u8]> {
     }
 }
 
-// The file that the words have read or looked for, or standard input.
 fn read_place<'a>(words: &Words<'a>) -> Option<Place<'a>>
     ensures { result ≡ read_place words.now }
 {
@@ -691,7 +673,6 @@ fn read_place<'a>(words: &Words<'a>) -> Option<Place<'a>>
     }
 }
 
-// The file beside the log that a word changes, or that log.
 fn change_place<'a>(what: Changing, log: &'a str, file: Option<&'a str>) -> Place<'a>
     ensures { result ≡ change_place what log.entry file.entry }
 {
@@ -703,7 +684,6 @@ fn change_place<'a>(what: Changing, log: &'a str, file: Option<&'a str>) -> Plac
     }
 }
 
-// A file of the log that the words name, or what they read a log from.
 fn log_place<'a>(words: &Words<'a>, file: FileRole) -> Option<Place<'a>>
     ensures { result ≡ log_place words.now file }
 {
@@ -718,7 +698,6 @@ fn log_place<'a>(words: &Words<'a>, file: FileRole) -> Option<Place<'a>>
     }
 }
 
-// A file of the log that is mended: the one that is named, or else that of the build in the folder.
 fn mended_place<'a>(log: Option<&'a str>, folder: Option<&'a str>, file: FileRole) -> Place<'a>
     ensures { result ≡ mended_place log.entry folder.entry file }
 {

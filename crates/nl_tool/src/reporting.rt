@@ -47,7 +47,6 @@ pub enum Report<'g, 't> {
     },
 }
 
-// Tells of what the words say, with lists of as many lines at most as they say.
 pub fn summary_in<R: Runtime>(
     rt: &R,
     alloc: Global,
@@ -137,7 +136,6 @@ fn summary_with<R: Runtime>(
     report_in(rt, alloc, columns, report, log, missing_ok, notes)
 }
 
-// Tells of builds as the events of a trace.
 pub fn trace_in<R: Runtime>(
     rt: &R,
     alloc: Global,
@@ -164,7 +162,6 @@ pub fn trace_in<R: Runtime>(
     )
 }
 
-// Draws builds, with the critical path outlined, where there is a graph.
 pub fn picture_in<R: Runtime>(
     rt: &R,
     alloc: Global,
@@ -214,7 +211,6 @@ fn picture_with<R: Runtime>(
     report_in(rt, alloc, false, report, log, missing_ok, notes)
 }
 
-// Of what is told.
 pub fn scope_of(all: bool, build: Option<&str>) -> Option<Scope>
     ensures value { IfSome result (IsScope all build.entry) }
     ensures accepts { (scope : Scope) → IsScope all build.entry scope → result ≡ Some scope }
@@ -225,7 +221,6 @@ pub fn scope_of(all: bool, build: Option<&str>) -> Option<Scope>
     build_of(build)
 }
 
-// Of which build is told.
 fn build_of(build: Option<&str>) -> Option<Scope>
     ensures value { IfSome result (IsBuild build.entry) }
     ensures accepts { (scope : Scope) → IsBuild build.entry scope → result ≡ Some scope }
@@ -248,7 +243,6 @@ fn numbered_by(text: &str) -> Option<Scope>
     Some(Scope::Numbered(count as u64))
 }
 
-// The rule by which kinds are told apart, by its word.
 pub fn rule_of(kind: Option<&str>) -> KindRule
     ensures value { result ≡ rule_of kind.entry }
 {
@@ -268,7 +262,6 @@ fn rule_by(text: &str) -> KindRule
     }
 }
 
-// How many lines a list has at most.
 pub fn most_of(lines: Option<&str>) -> Option<usize>
     ensures value { IfSome result (IsMost lines.entry) }
     ensures accepts { (most : ℕ) → IsMost lines.entry most → result ≡ Some most }
@@ -294,7 +287,6 @@ fn count_in(text: &[u8]) -> Option<usize>
     usize::try_from(read_i64(text)?).ok()
 }
 
-// How many commands run at a time in what is estimated.
 pub fn counts_of(alloc: Global, jobs: Option<&str>) -> Result<Option<Vec<usize>>, AllocError>
     ensures value { IfOk result (λ o. IfSome o (λ counts. AreCounts jobs.entry counts.items)) }
     ensures accepts { (counts : List ℕ) → AreCounts jobs.entry counts → IfOk result IsSome }
@@ -308,7 +300,6 @@ pub fn counts_of(alloc: Global, jobs: Option<&str>) -> Result<Option<Vec<usize>>
     }
 }
 
-// What stands between commas.
 fn texts_in(alloc: Global, text: &[u8]) -> Result<Vec<&[u8]>, AllocError>
     ensures value { IfOk result (λ texts. map (λ text. text.now) texts.items ≡ slice_split (λ b. b == 44) text.now) }
 {
@@ -341,7 +332,6 @@ fn positive_of(text: &[u8]) -> Option<usize>
     Some(count)
 }
 
-// Tells it of the log at this path, or of standard input, in columns where they are wanted.
 pub fn report_in<R: Runtime>(
     rt: &R,
     alloc: Global,
@@ -370,7 +360,6 @@ pub fn report_in<R: Runtime>(
     answer
 }
 
-// Tells it of the log of these bytes, in columns where they are wanted, and whether builds of which it tells were found again.
 fn report_to<W: Write>(
     alloc: Global,
     secret: Secret,
@@ -389,7 +378,6 @@ fn report_to<W: Write>(
     tell(alloc, secret, columns, report, log, writer, again)
 }
 
-// Tells it of what a log tells.
 fn tell<W: Write>(
     alloc: Global,
     secret: Secret,
@@ -475,7 +463,6 @@ fn tell_summary<W: Write>(
     write_lines(alloc, columns, lines, writer)
 }
 
-// The builds of which is told: where it is of all, with the last entry of each output alone.
 fn asked_builds<'a>(
     alloc: Global,
     secret: Secret,
@@ -499,7 +486,6 @@ fn priority_in(stamps: Stamps) -> Priority {
     }
 }
 
-// What is told of these builds, also by a graph, where so many outputs wait for a command that didn't end. None, where the graph isn't theirs.
 fn summary_of(
     alloc: Global,
     scope: Scope,
@@ -524,7 +510,6 @@ fn summary_of(
     Ok(Some(lines))
 }
 
-// Writes lines, in columns where they are wanted.
 pub fn write_lines<W: Write>(
     alloc: Global,
     columns: bool,
