@@ -15,250 +15,156 @@
 #include <sys/mman.h>
 #include <time.h>
 
-/* The longest pause before a lock is asked for again, in microseconds. */
-#define MAX_PAUSE 20000
-
-/* How many descriptors are searched for a lock that the process was started with. */
-#define MOST_LENT 256
-
-/* How often the log may be replaced before its lock, until that counts as a lock of another. */
-#define MOST_REPLACED 100
-
-/* ---- The process ---- */
+enum {
+  MAX_PAUSE = 20000,  /* microseconds, before a lock is asked for again */
+  MOST_LENT = 256,    /* descriptors, among which is one that has a lock from the start */
+  MOST_REPLACED = 100 /* times that the log is another before its lock: then it counts as locked */
+};
 
 /* Remembers the process that opens the log, by a page that the system clears in a forked child: a
  * record makes no call of the system but its write. An emulator may answer any advice with 0. */
-void remember_process(nlog_writer *writer) {
-  writer->process = getpid();
-  writer->mark = NULL;
+void remember_process(nlog_writer *w) {
+  w->process = getpid();
 #ifdef MADV_WIPEONFORK
   void *page = mmap(NULL, 1, PROT_READ | PROT_WRITE, MAP_PRIVATE | MAP_ANONYMOUS, -1, 0);
   if (page == MAP_FAILED) return;
-  writer->mark = (volatile char *)page;
-  if (madvise(page, 1, MADV_WIPEONFORK) != 0 || madvise(page, 1, -1) == 0) forget_process(writer);
-  else *writer->mark = 1;
+  w->mark = (volatile char *)page;
+  if (madvise(page, 1, MADV_WIPEONFORK) != 0 || madvise(page, 1, -1) == 0) forget_process(w);
+  else *w->mark = 1;
 #endif
 }
-
-void forget_process(nlog_writer *writer) {
-  if (writer->mark != NULL) munmap((void *)writer->mark, 1);
-  writer->mark = NULL;
+void forget_process(nlog_writer *w) {
+  if (w->mark != NULL) munmap((void *)w->mark, 1);
+  w->mark = NULL;
 }
 
-/* Whether the log was opened before a fork, in this process's parent. */
-bool is_forked(const nlog_writer *writer) {
-  if (writer->state == CLOSED) return false;
-  return writer->mark != NULL ? *writer->mark == 0 : writer->process != getpid();
+bool is_forked(const nlog_writer *w) {
+  return w->state != CLOSED && (w->mark != NULL ? *w->mark == 0 : w->process != getpid());
 }
 
-/* ---- Locks ---- */
-
-lock ask_lock(int fd) {
+lock set_lock(int fd, bool is_locked) {
   int answer;
-  do answer = flock(fd, LOCK_EX | LOCK_NB);
-  while (answer != 0 && errno == EINTR);
+  AGAIN(answer, flock(fd, is_locked ? LOCK_EX | LOCK_NB : LOCK_UN));
   if (answer == 0) return TAKEN;
   if (errno == EWOULDBLOCK) return HELD;
-  if (errno == ENOLCK || errno == ENOSYS) return NO_LOCKS;
-  return errno == EOPNOTSUPP || errno == ENOTSUP ? NO_LOCKS : LOCK_FAILED;
-}
-
-void unlock(int fd) {
-  while (flock(fd, LOCK_UN) != 0 && errno == EINTR) continue;
+  return errno == ENOLCK || is_lacking(errno) ? NO_LOCKS : LOCK_FAILED;
 }
 
 /* A forked child may have the descriptor too, and a lock is held until the last one is closed. */
-void unlock_and_close(int *fd) {
-  if (*fd >= 0) unlock(*fd);
+void unlock_and_close(const nlog_writer *w, int *fd) {
+  if (*fd >= 0 && !is_forked(w)) set_lock(*fd, false);
   close_at(fd);
 }
 
+bool is_one_file(const struct stat *one, const struct stat *two) {
+  return one->st_dev == two->st_dev && one->st_ino == two->st_ino;
+}
+
+/* Whether the process has the lock already, as by `flock LOG COMMAND`: by a descriptor that whoever
+ * started it left open. One that is close-on-exec is of a program's own. */
+static bool has_lock(const nlog_writer *w) {
 #ifdef __linux__
-/* Whether a descriptor is one of the log's file that the process was started with, and that has the
- * lock, as by `flock LOG COMMAND`. One that is close-on-exec is of a program's own. */
-static bool is_lent(int fd, const struct stat *log) {
   char path[64], text[1024];
-  const char *line;
-  struct stat about;
-  ssize_t got = -1;
-  int flags = fcntl(fd, F_GETFD), file;
-  if (flags < 0 || (flags & FD_CLOEXEC) != 0) return false;
-  if (fstat(fd, &about) != 0) return false;
-  if (about.st_dev != log->st_dev || about.st_ino != log->st_ino) return false;
-  snprintf(path, sizeof path, "/proc/self/fdinfo/%d", fd);
-  file = open_off_streams(AT_FDCWD, path, O_RDONLY, 0);
-  if (file >= 0) got = read_whole(file, text, sizeof text - 1, 0);
-  close_at(&file);
-  text[got < 0 ? 0 : got] = 0;
-  for (line = strstr(text, "FLOCK"); line != NULL; line = strstr(line + 1, "FLOCK")) {
-    const char *kind = strstr(line, "WRITE"), *end = strchr(line, '\n');
-    if (kind != NULL && (end == NULL || kind < end)) return true;
+  struct stat log, about;
+  if (fstat(w->log_fd, &log) != 0) return false;
+  for (int fd = 0; fd < MOST_LENT; fd++) {
+    const int flags = fcntl(fd, F_GETFD);
+    if (flags < 0 || (flags & FD_CLOEXEC) != 0 || fstat(fd, &about) != 0) continue;
+    if (!is_one_file(&about, &log)) continue;
+    snprintf(path, sizeof path, "/proc/self/fdinfo/%d", fd);
+    int file = open_off_streams(AT_FDCWD, path, O_RDONLY, 0);
+    const ssize_t got = file < 0 ? 0 : read_whole(file, text, sizeof text - 1, 0);
+    close_at(&file);
+    text[got < 0 ? 0 : got] = 0;
+    if (strstr(text, "FLOCK  ADVISORY  WRITE") != NULL) return true;
   }
-  return false;
-}
-
-/* Whether the process has the lock already, by a descriptor that whoever started it left open. */
-static bool has_lock(const nlog_writer *writer) {
-  struct stat log;
-  int fd;
-  if (fstat(writer->log_fd, &log) != 0) return false;
-  for (fd = 0; fd < MOST_LENT; fd++) {
-    if (fd != writer->log_fd && is_lent(fd, &log)) return true;
-  }
-  return false;
-}
-#else
-static bool has_lock(const nlog_writer *writer) {
-  (void)writer;
-  return false;
-}
 #endif
-
-/* Asks for the lock of the log that is open, which may be there already. */
-static lock ask_lock_of_log(nlog_writer *writer) {
-  lock answer = ask_lock(writer->log_fd);
-  return answer == HELD && has_lock(writer) ? TAKEN : answer;
-}
-
-/* ---- The wait for a lock ---- */
-
-/* As long as a wait goes on, all signals are kept back but within its pauses: none is missed. */
-typedef struct waiting {
-  uint64_t since;  /* by the clock; 0: it hasn't begun */
-  bool is_begun;
-  sigset_t before; /* the signals that the caller keeps back */
-} waiting;
-
-static void end_wait(const waiting *waiting) {
-  if (waiting->is_begun) sigprocmask(SIG_SETMASK, &waiting->before, NULL);
-}
-
-/* Whether a signal that asks for an end is kept back, also by the caller. */
-static bool is_end_asked(void) {
-  sigset_t kept;
-  if (sigpending(&kept) != 0) return false;
-  return sigismember(&kept, SIGINT) == 1 || sigismember(&kept, SIGTERM) == 1 ||
-         sigismember(&kept, SIGHUP) == 1;
-}
-
-/* The time by a clock that nobody sets, in microseconds. */
-static uint64_t clock_now(void) {
-  struct timespec now;
-  clock_gettime(CLOCK_MONOTONIC, &now);
-  return (uint64_t)now.tv_sec * 1000000 + (uint64_t)now.tv_nsec / 1000;
+  (void)w;
+  return false;
 }
 
 /* Waits before a lock is asked for once more: a millisecond at first, and longer by and by, so that
- * of several that take turns none waits long. A signal ends the wait. */
-static nlog_status wait_on(nlog_writer *writer, waiting *waiting) {
-  uint64_t now = clock_now(), wait = (uint64_t)writer->wait * 1000, waited, pause;
-  struct timespec time = {0, 0};
-  const sigset_t *kept = NULL;
-  sigset_t all;
-  int error = 0;
-  if (waiting->since == 0) waiting->since = now;
-  waited = now - waiting->since;
-  pause = 1000 + waited / 16;
-  if (pause > MAX_PAUSE) pause = MAX_PAUSE;
-  if (waited < wait && pause > wait - waited) pause = wait - waited;
-  time.tv_nsec = (long)pause * 1000;
-  sigfillset(&all);
-  if (waited >= wait) {
-    error = EWOULDBLOCK;
-  } else {
-    if (!waiting->is_begun) waiting->is_begun = sigprocmask(SIG_BLOCK, &all, &waiting->before) == 0;
-    if (waiting->is_begun) kept = &waiting->before;
-    if (is_end_asked() || (ppoll(NULL, 0, &time, kept) != 0 && errno == EINTR)) error = EINTR;
+ * of several that take turns none waits long. A signal ends the wait. All are kept back but within
+ * its pauses, so that none is missed. `since`: when it waited first, or 0 before. */
+static nlog_status wait_on(nlog_writer *w, uint64_t *since, sigset_t *before) {
+  sigset_t set;
+  struct timespec time;
+  clock_gettime(CLOCK_MONOTONIC, &time);
+  const uint64_t now = (uint64_t)time.tv_sec * 1000000 + (uint64_t)time.tv_nsec / 1000;
+  if (*since == 0) {
+    *since = now;
+    sigfillset(&set);
+    sigprocmask(SIG_BLOCK, &set, before);
   }
-  if (error == 0) return NLOG_OK;
-  fail(writer, "flock", writer->path, error);
+  const uint64_t waited = now - *since, wait = (uint64_t)w->wait * 1000;
+  const uint64_t rest = wait - LEAST(waited, wait), pause = LEAST(1000 + waited / 16, MAX_PAUSE);
+  time.tv_sec = 0;
+  time.tv_nsec = (long)LEAST(pause, rest) * 1000;
+  bool is_ended = sigpending(&set) == 0 && (sigismember(&set, SIGINT) == 1 ||
+      sigismember(&set, SIGTERM) == 1 || sigismember(&set, SIGHUP) == 1);
+  if (rest > 0 && !is_ended) is_ended = ppoll(NULL, 0, &time, before) != 0 && errno == EINTR;
+  if (rest > 0 && !is_ended) return NLOG_OK;
+  fail(w, "flock", w->path, rest > 0 ? EINTR : EWOULDBLOCK);
   return NLOG_LOCKED;
 }
 
-/* ---- The log's file ---- */
-
 /* Opens the log, and makes it where it is missing. One that may not be written is opened for
  * reading: what it holds is told before that it can't be changed. */
-static nlog_status make_log(nlog_writer *writer) {
+static nlog_status make_log(nlog_writer *w) {
   const int how = O_RDWR | O_APPEND | O_CREAT;
-  int error;
-  writer->denied = 0;
-  writer->log_fd = open_off_streams(writer->folder_fd, writer->name, how, 0666);
+  int fd = open_off_streams(w->folder_fd, w->name, how, 0666);
   /* The folder may have been removed since it was opened, and another be there. */
-  if (writer->log_fd < 0 && errno == ENOENT) {
-    if (open_folder(writer) != NLOG_OK) return fail(writer, "open", writer->path, ENOENT);
-    writer->log_fd = open_off_streams(writer->folder_fd, writer->name, how, 0666);
+  if (fd < 0 && errno == ENOENT) {
+    if (open_folder(w) != NLOG_OK) return fail(w, "open", w->path, ENOENT);
+    fd = open_off_streams(w->folder_fd, w->name, how, 0666);
   }
-  if (writer->log_fd >= 0) return NLOG_OK;
-  error = errno;
-  if (error == EACCES || error == EPERM || error == EROFS) {
-    writer->log_fd = open_off_streams(writer->folder_fd, writer->name, O_RDONLY | O_NONBLOCK, 0);
-    writer->denied = writer->log_fd < 0 ? 0 : error;
-  }
-  return writer->log_fd < 0 ? fail(writer, "open", writer->path, error) : NLOG_OK;
+  const int error = fd < 0 ? errno : 0;
+  w->denied = error == EACCES || error == EPERM || error == EROFS ? error : 0;
+  if (w->denied != 0) fd = open_off_streams(w->folder_fd, w->name, O_RDONLY | O_NONBLOCK, 0);
+  w->log_fd = fd;
+  return fd >= 0 ? NLOG_OK : fail(w, "open", w->path, error);
 }
 
-void know_log(nlog_writer *writer, const struct stat *about) {
-  writer->device = about->st_dev;
-  writer->inode = about->st_ino;
-}
-
-/* Looks what the log's name shows. *other: 0, the file that was opened; ENOENT, none; or ESTALE,
- * another. *len: its length. */
-nlog_status look(nlog_writer *writer, int *other, uint64_t *len) {
+/* What the log's name shows: 0, the file that was opened; -1, another; or the errno. */
+int look(nlog_writer *w) {
   struct stat shown;
+  if (fstatat(w->folder_fd, w->name, &shown, 0) != 0) return errno;
+  if (!is_one_file(&shown, &w->about)) return -1;
+  w->about = shown;
+  return 0;
+}
+
+/* Asks once for the lock of the log, which is opened if it isn't. *other: as of a look then. */
+static nlog_status try_lock(nlog_writer *w, bool is_open, lock *answer, int *other) {
   *other = 0;
-  *len = 0;
-  if (fstatat(writer->folder_fd, writer->name, &shown, 0) != 0) {
-    *other = errno;
-    return *other == ENOENT ? NLOG_OK : fail(writer, "stat", writer->path, *other);
-  }
-  *len = size_of(&shown);
-  if (shown.st_dev != writer->device || shown.st_ino != writer->inode) *other = ESTALE;
-  return NLOG_OK;
-}
-
-/* Takes the lock of the log that is open, for which it waits. */
-nlog_status lock_again(nlog_writer *writer) {
-  waiting waiting = {0};
-  nlog_status status = NLOG_OK;
-  lock answer = HELD;
-  while (status == NLOG_OK && (answer = ask_lock_of_log(writer)) == HELD) {
-    status = wait_on(writer, &waiting);
-  }
-  if (answer == LOCK_FAILED) status = fail(writer, "flock", writer->path, errno);
-  end_wait(&waiting);
-  return status;
-}
-
-static nlog_status try_lock(nlog_writer *writer, struct stat *about, lock *answer, int *other) {
-  uint64_t len;
-  TRY(make_log(writer));
+  if (!is_open) TRY(make_log(w));
   /* What may only be read isn't locked: some file systems ask for the right to write for it. */
-  *answer = writer->denied != 0 ? NO_LOCKS : ask_lock_of_log(writer);
-  *other = 0;
-  if (*answer == LOCK_FAILED) return fail(writer, "flock", writer->path, errno);
+  *answer = w->denied != 0 ? NO_LOCKS : set_lock(w->log_fd, true);
+  TRY(done(w, *answer != LOCK_FAILED, "flock", w->path));
+  if (*answer == HELD && has_lock(w)) *answer = TAKEN;
   if (*answer == HELD) return NLOG_OK;
-  if (fstat(writer->log_fd, about) != 0) return fail(writer, "fstat", writer->path, errno);
-  know_log(writer, about);
-  return *answer == TAKEN ? look(writer, other, &len) : NLOG_OK;
+  if (!is_open) TRY(done(w, fstat(w->log_fd, &w->about) == 0, "fstat", w->path));
+  if (is_open || *answer == TAKEN) *other = look(w);
+  return *other > 0 && *other != ENOENT ? fail(w, "stat", w->path, *other) : NLOG_OK;
 }
 
-/* Opens the log and takes its lock, for which it waits. `about`: what it is. */
-nlog_status lock_log(nlog_writer *writer, struct stat *about) {
-  waiting waiting = {0};
-  uint32_t replaced = 0;
+/* Takes the log's lock, for which it waits. *is_same: of the file that was open before. */
+nlog_status lock_log(nlog_writer *w, bool *is_same) {
+  sigset_t before;
+  uint64_t since = 0;
   lock answer = HELD;
-  int other = 0;
+  int replaced = 0, other;
   nlog_status status;
-  while ((status = try_lock(writer, about, &answer, &other)) == NLOG_OK) {
+  *is_same = w->log_fd >= 0;
+  while ((status = try_lock(w, *is_same, &answer, &other)) == NLOG_OK) {
     if (answer != HELD && other == 0) break;
-    if (answer == HELD) close_at(&writer->log_fd);
-    else unlock_and_close(&writer->log_fd);
-    if (answer == TAKEN && replaced++ < MOST_REPLACED) continue;
-    status = wait_on(writer, &waiting);
+    if (answer != HELD) unlock_and_close(w, &w->log_fd);
+    else if (!*is_same) close_at(&w->log_fd);
+    *is_same = *is_same && answer == HELD;
+    if (answer != HELD && replaced++ < MOST_REPLACED) continue;
+    status = wait_on(w, &since, &before);
     if (status != NLOG_OK) break;
   }
-  end_wait(&waiting);
+  if (since != 0) sigprocmask(SIG_SETMASK, &before, NULL);
   return status;
 }

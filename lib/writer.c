@@ -9,10 +9,9 @@
  *
  * OPEN    Locked, and the file is the text. It is looked at before each sync and each rewriting: a
  *         sync of another file would acknowledge what no load finds. Shared, the lock is let go of
- *         after each call, and the next one takes in what others did. A record of planned names is
- *         written without the lock, and is taken in then too. Where such a line of another came
- *         between a look and a write, or was cut off, the file is apart from the text, which the
- *         next call reads anew.
+ *         after each call, and the next one takes in what others did, records of planned names too,
+ *         which are written without it. Where one of these came between a look and a write, or was
+ *         cut off, the file is apart from the text, and the next call reads it anew.
  * READ    Not locked. The file stays open, so that no other one can have its number. The first
  *         change goes on from it where it is the log's still, and else reads the log anew.
  * BROKEN  What is on disk isn't known.
@@ -21,644 +20,467 @@
  * Until the rename the file tells of them, and after it they have no entry. */
 #include "writer.h"
 
-/* How long a lock is waited for where the caller doesn't say, in milliseconds. */
-#define WAIT 10000
+#define SCRATCH ".recompact" /* comes behind the log's path */
+enum {
+  WAIT = 10000,  /* milliseconds for a lock, where the caller doesn't say */
+  LOOK_EVERY = 8 /* records without the lock, before it is looked whether the file is the log's */
+};
 
-/* After how many records without the lock the writer looks whether the file is still the log's. */
-#define LOOK_EVERY 8
-
-/* ---- The writer ---- */
-
-/* A status of a call that changed files, or was to: any refusal breaks the writer. */
-static nlog_status settle(nlog_writer *writer, nlog_status status) {
-  if (status != NLOG_OK) writer->state = BROKEN;
-  return status;
+nlog_status check_process(const nlog_writer *w) {
+  return w == NULL ? NLOG_NO_HANDLE : is_forked(w) ? NLOG_FORKED : NLOG_OK;
+}
+nlog_status check(const nlog_writer *w) {
+  TRY(check_process(w));
+  return w->state == CLOSED ? NLOG_NOT_OPEN : w->state == BROKEN ? NLOG_BROKEN : NLOG_OK;
 }
 
-/* Closes the files. In a forked child they aren't unlocked: the lock is the parent's. */
-static void let_go(nlog_writer *writer) {
-  if (!is_forked(writer)) {
-    unlock_and_close(&writer->log_fd);
-    unlock_and_close(&writer->other_fd);
-  }
-  close_at(&writer->log_fd);
-  close_at(&writer->other_fd);
-  close_at(&writer->seen.fd);
-  close_at(&writer->folder_fd);
-  free(writer->buffer);
-  writer->buffer = NULL;
-  writer->room = 0;
-  writer->is_pending = writer->is_held = writer->is_apart = false;
-  forget_process(writer);
-  writer->state = CLOSED;
-}
-
-static void free_all(nlog_writer *writer) {
-  nlog_free(&writer->log);
-  free(writer->path);
-  free(writer->scratch);
-  free(writer->folder);
-  free(writer);
-}
-
-static char *joined(const char *bytes, size_t len, const char *end) {
-  char *text = (char *)malloc(len + strlen(end) + 1);
-  if (text == NULL) return NULL;
-  memcpy(text, bytes, len);
-  memcpy(text + len, end, strlen(end) + 1);
-  return text;
+static void let_go(nlog_writer *w) {
+  carried_close(&w->log);
+  unlock_and_close(w, &w->log_fd);
+  unlock_and_close(w, &w->other_fd);
+  close_at(&w->seen.fd);
+  close_at(&w->folder_fd);
+  free(w->buffer);
+  w->buffer = NULL;
+  forget_process(w);
+  w->state = CLOSED;
 }
 
 nlog_status nlog_writer_new(nlog_writer **writer, const char *path, uint32_t version) {
   const char *slash = strrchr(path, '/');
-  const size_t before = slash == NULL ? 0 : (size_t)(slash + 1 - path);
-  nlog_writer *made;
+  const size_t len = strlen(path), before = slash == NULL ? 0 : (size_t)(slash + 1 - path);
   *writer = NULL;
   if (version != 0 && (version < 5 || version > 7)) return NLOG_OTHER_VERSION;
-  made = (nlog_writer *)calloc(1, sizeof *made);
-  if (made == NULL) return NLOG_OUT_OF_MEMORY;
-  made->log_fd = made->other_fd = made->folder_fd = made->seen.fd = -1;
-  made->version = version;
-  made->wait = WAIT;
-  made->path = joined(path, strlen(path), "");
-  made->scratch = joined(path, strlen(path), ".recompact");
-  made->folder = before == 0 ? joined(".", 1, "") : joined(path, before > 1 ? before - 1 : 1, "");
-  if (made->path == NULL || made->scratch == NULL || made->folder == NULL ||
-      carried_new(&made->log) != NLOG_OK) {
-    free_all(made);
+  nlog_writer *w = (nlog_writer *)calloc(1, sizeof *w + 3 * (len + sizeof SCRATCH));
+  if (w == NULL || carried_new(&w->log) != NLOG_OK) {
+    free(w);
     return NLOG_OUT_OF_MEMORY;
   }
-  made->name = path[before] == 0 && before > 0 ? "." : made->path + before;
-  made->scratch_name = made->scratch + before;
-  *writer = made;
+  w->log_fd = w->other_fd = w->folder_fd = w->seen.fd = -1;
+  w->version = version;
+  w->wait = WAIT;
+  w->path = (char *)(w + 1);
+  w->scratch = w->path + len + 1;
+  w->folder = w->scratch + len + sizeof SCRATCH;
+  memcpy(w->path, path, len);
+  snprintf(w->scratch, len + sizeof SCRATCH, "%s" SCRATCH, path);
+  memcpy(w->folder, before == 0 ? "." : path, before > 1 ? before - 1 : 1);
+  w->name = path[before] == 0 && before > 0 ? "." : w->path + before;
+  w->scratch_name = w->scratch + before;
+  *writer = w;
   return NLOG_OK;
 }
 
 void nlog_writer_free(nlog_writer **writer) {
-  nlog_writer *freed = *writer;
+  nlog_writer *w = *writer;
   *writer = NULL;
-  if (freed == NULL) return;
-  let_go(freed);
-  free_all(freed);
+  if (w != NULL) let_go(w);
+  if (w != NULL) nlog_free(&w->log);
+  free(w);
 }
 
-/* ---- The log is read, and opened ---- */
-
-/* Notes what a block of the log has, which begins at a place. */
-static void note_block(seen *seen, const char *bytes, size_t len, uint64_t at) {
-  size_t end = len, kept = len < LAST ? len : LAST;
-  if (at == 0) memcpy(seen->first, bytes, len < sizeof seen->first ? len : sizeof seen->first);
+static void note_block(seen *seen, const char *bytes, size_t len) {
+  const size_t kept = LEAST(len, LAST);
+  size_t end = len;
+  if (seen->len == 0) memcpy(seen->first, bytes, LEAST(len, sizeof seen->first - 1));
   memmove(seen->last, seen->last + kept, LAST - kept);
   memcpy(seen->last + LAST - kept, bytes + len - kept, kept);
-  seen->len = at + len;
   while (end > 0 && bytes[end - 1] != '\n') end--;
-  if (end > 0) seen->whole = at + end;
+  if (end > 0) seen->whole = seen->len + end;
+  seen->len += len;
 }
 
-/* Reads an open file of the log, in blocks, up to its end. */
-static nlog_status give_log(nlog_writer *writer, int fd) {
-  seen *seen = &writer->seen;
-  ssize_t got = BLOCK;
-  int error = ask_regular(fd, &seen->about);
-  if (error != 0) return fail(writer, "fstat", writer->path, error);
+static nlog_status give_log(nlog_writer *w, int fd) {
+  seen *seen = &w->seen;
+  const int error = ask_regular(fd, &seen->about);
+  if (error != 0) return fail(w, "fstat", w->path, error);
   seen->len = seen->whole = 0;
-  TRY(carried_room(&writer->log, size_of(&seen->about)));
-  while (got == BLOCK) {
-    got = read_whole(fd, writer->buffer, BLOCK, seen->len);
-    if (got < 0) return fail(writer, "pread", writer->path, errno);
-    TRY(carried_give(&writer->log, writer->buffer, (size_t)got));
-    note_block(seen, writer->buffer, (size_t)got, seen->len);
+  memset(seen->first, 0, sizeof seen->first);
+  TRY(carried_room(&w->log, size_of(&seen->about)));
+  for (ssize_t got = BLOCK; got == BLOCK;) {
+    got = read_whole(fd, w->buffer, BLOCK, seen->len);
+    TRY(done(w, got >= 0, "pread", w->path));
+    TRY(carried_give(&w->log, w->buffer, (size_t)got));
+    note_block(seen, w->buffer, (size_t)got);
   }
   return NLOG_OK;
 }
 
-/* The number of the version that a first line names, or the largest one; 0 if it begins so. */
-static uint64_t named_version(const seen *seen) {
-  size_t len = seen->len < sizeof seen->first ? (size_t)seen->len : sizeof seen->first, at;
-  uint64_t number = 0;
-  if (len > DIGIT_AT && seen->first[DIGIT_AT] == '0') return 0;
-  for (at = DIGIT_AT; at < len && seen->first[at] >= '0' && seen->first[at] <= '9'; at++) {
-    uint64_t digit = (uint64_t)(seen->first[at] - '0');
-    if (number > (UINT64_MAX - digit) / 10) return UINT64_MAX;
-    number = number * 10 + digit;
-  }
-  return number;
-}
-
 /* Marks as dead each output that can't be trusted. Bytes that are refused are so by their open. */
-static nlog_status mark_distrusted(nlog_writer *writer, bool *is_any) {
+static nlog_status mark_distrusted(nlog_writer *w, bool *is_any) {
   nlog distrusted = NLOG_INIT;
-  nlog_status status = carried_distrusted(&writer->log, &distrusted);
-  size_t place = 0, len;
-  nlog_entry entry;
+  nlog_status status = carried_distrusted(&w->log, &distrusted);
   if (status != NLOG_OK) return status == NLOG_OUT_OF_MEMORY ? status : NLOG_OK;
-  while (status == NLOG_OK) {
-    status = nlog_at(&distrusted, place++, &entry, writer->buffer, NLOG_MAX_NAME, &len);
-    if (status != NLOG_OK) break;
-    *is_any = true;
-    status = carried_mark_dead(&writer->log, writer->buffer, len);
+  for (size_t place = 0, len; status == NLOG_OK; place++) {
+    nlog_entry entry;
+    status = nlog_at(&distrusted, place, &entry, w->buffer, NLOG_MAX_NAME, &len);
+    *is_any = *is_any || status == NLOG_OK;
+    if (status == NLOG_OK) status = carried_mark_dead(&w->log, w->buffer, len);
   }
   nlog_free(&distrusted);
   return status == NLOG_NOT_FOUND ? NLOG_OK : status;
 }
 
-static nlog_status open_given(nlog_writer *writer) {
-  return of_text(writer, carried_open(&writer->log, writer->version, &writer->seen.change));
+/* Opens what was given; or, of a wary writer, what is whole. */
+static nlog_status open_given(nlog_writer *w, bool is_wary) {
+  return of_text(w, is_wary ? carried_open_whole(&w->log, w->version, &w->seen.change)
+                            : carried_open(&w->log, w->version, &w->seen.change));
 }
 
 /* Reads a file of the log, if there is one, and opens what it is. A wary writer reads again what
  * isn't whole, since its bytes are let go of by then. */
-static nlog_status open_text(nlog_writer *writer, int fd) {
-  seen *seen = &writer->seen;
+static nlog_status open_text(nlog_writer *w, int fd) {
   bool is_any = false;
-  nlog_status status = fd < 0 ? carried_room(&writer->log, 0) : give_log(writer, fd);
-  if (status == NLOG_OK && writer->is_wary) {
-    status = of_text(writer, carried_open_whole(&writer->log, writer->version, &seen->change));
-    if (status == NLOG_NOT_FOUND) {
-      status = give_log(writer, fd);
-      if (status == NLOG_OK) status = mark_distrusted(writer, &is_any);
-      if (status == NLOG_OK) status = open_given(writer);
-      if (status == NLOG_OK && is_any && seen->change != REPLACE) {
-        seen->change = REPLACE;
-        status = of_text(writer, carried_recompact(&writer->log));
-      }
+  nlog_status status = fd < 0 ? carried_room(&w->log, 0) : give_log(w, fd);
+  if (status == NLOG_OK) status = open_given(w, w->is_wary);
+  if (status == NLOG_NOT_FOUND) {
+    status = give_log(w, fd);
+    if (status == NLOG_OK) status = mark_distrusted(w, &is_any);
+    if (status == NLOG_OK) status = open_given(w, false);
+    if (status == NLOG_OK && is_any && w->seen.change != REPLACE) {
+      w->seen.change = REPLACE;
+      status = of_text(w, carried_recompact(&w->log));
     }
-  } else if (status == NLOG_OK) {
-    status = open_given(writer);
   }
-  if (status != NLOG_OK) carried_room(&writer->log, 0); /* the bytes of a read that failed */
-  if (status == NLOG_OTHER_VERSION) writer->other_version = named_version(seen);
+  if (status != NLOG_OK) carried_room(&w->log, 0); /* the bytes of a read that failed */
+  const char *number = w->seen.first + DIGIT_AT;
+  if (status == NLOG_OTHER_VERSION && *number != '0') w->other_version = strtoull(number, NULL, 10);
   return status;
 }
 
-/* Reads the log that is locked, and makes its file the text. */
-static nlog_status open_log(nlog_writer *writer) {
-  writer->is_apart = false;
-  TRY(open_text(writer, writer->log_fd));
-  return carry_out(writer, writer->seen.change, writer->seen.len);
+/* Reads anew the log that is locked, and makes its file the text. */
+static nlog_status open_log(nlog_writer *w) {
+  w->is_apart = false;
+  carried_close(&w->log);
+  TRY(open_text(w, w->log_fd));
+  return carry_out(w);
 }
 
 /* Reads the log as it stands, without a lock. Without it, and without its folder, it is empty. */
-static nlog_status read_log(nlog_writer *writer) {
-  nlog_status status = open_folder(writer);
-  writer->seen.len = writer->seen.whole = 0;
-  if (status == NLOG_OK) {
-    const int how = O_RDONLY | O_NONBLOCK;
-    writer->seen.fd = open_off_streams(writer->folder_fd, writer->name, how, 0);
-    if (writer->seen.fd < 0) status = fail(writer, "open", writer->path, errno);
+static nlog_status read_log(nlog_writer *w) {
+  if (open_folder(w) == NLOG_OK) {
+    w->seen.fd = open_off_streams(w->folder_fd, w->name, O_RDONLY | O_NONBLOCK, 0);
+    if (w->seen.fd < 0) fail(w, "open", w->path, errno);
   }
-  if (status != NLOG_OK && writer->error != ENOENT) return status;
-  if (status != NLOG_OK) fail(writer, NULL, NULL, 0);
-  return open_text(writer, writer->seen.fd);
-}
-
-/* ---- What others added ---- */
-
-/* Records the whole lines of the buffer's first block, each of which is to be an entry's. *taken:
- * how many bytes these are. */
-static bool record_lines(nlog_writer *writer, size_t len, size_t *taken) {
-  const char *bytes = writer->buffer, *end;
-  char *name = writer->buffer + BLOCK;
-  *taken = 0;
-  while ((end = (const char *)memchr(bytes + *taken, '\n', len - *taken)) != NULL) {
-    const size_t line = (size_t)(end - (bytes + *taken));
-    nlog_entry entry;
-    size_t name_len;
-    nlog_status status =
-        nlog_read_line(5, bytes + *taken, line, &entry, name, NLOG_MAX_NAME, &name_len);
-    if (status == NLOG_OK) status = carried_record(&writer->log, name, name_len, &entry);
-    if (status != NLOG_OK) return false;
-    *taken += line + 1;
-  }
-  return *taken > 0;
+  if (w->error != 0 && w->error != ENOENT) return NLOG_FAULT;
+  fail(w, NULL, NULL, 0);
+  w->seen.len = w->seen.whole = 0;
+  return open_text(w, w->seen.fd);
 }
 
 /* Records what was appended to the file, which was the text up to a place. A line has one spelling,
  * so the text is the file then. Where a line is torn or no entry, it is of no use. */
-static bool join(nlog_writer *writer, uint64_t at, uint64_t len) {
-  size_t held = 0, taken;
+static bool join(nlog_writer *w, uint64_t at, uint64_t len) {
+  char *const bytes = w->buffer, *const name = bytes + BLOCK;
+  size_t held = 0;
+  if (len < at) return false;
   while (at + held < len) {
-    size_t wanted = len - at - held < BLOCK - held ? (size_t)(len - at - held) : BLOCK - held;
-    ssize_t got = read_whole(writer->log_fd, writer->buffer + held, wanted, at + held);
-    if (got != (ssize_t)wanted || !record_lines(writer, held += wanted, &taken)) return false;
-    held -= taken;
-    at += taken;
-    if (carried_written(&writer->log, at) != NLOG_OK) return false;
-    memmove(writer->buffer, writer->buffer + taken, held);
+    if (!read_on(w, at, len, &held)) return false;
+    char *line = bytes, *end;
+    while ((end = (char *)memchr(line, '\n', held - (size_t)(line - bytes))) != NULL) {
+      const size_t line_len = (size_t)(end - line);
+      size_t name_len;
+      nlog_entry entry;
+      if (nlog_read_line(5, line, line_len, &entry, name, NLOG_MAX_NAME, &name_len) != NLOG_OK ||
+          carried_record(&w->log, name, name_len, &entry) != NLOG_OK) return false;
+      line = end + 1;
+    }
+    at += (size_t)(line - bytes);
+    held -= (size_t)(line - bytes);
+    if (line == bytes || carried_written(&w->log, at) != NLOG_OK) return false;
+    memmove(bytes, line, held);
   }
-  writer->len = len;
+  w->len = len;
   return held == 0;
 }
 
-static bool is_when(struct timespec one, struct timespec two) {
-  return one.tv_sec == two.tv_sec && one.tv_nsec == two.tv_nsec;
-}
-
-/* Whether the locked file is the one that was read, or begins with its whole lines. Times may be
- * too coarse to tell: what was read last is compared, up to its end. */
-static bool is_seen(nlog_writer *writer, const struct stat *about) {
-  const seen *seen = &writer->seen;
-  const struct stat *before = &seen->about;
-  size_t kept = seen->len < LAST ? (size_t)seen->len : LAST, len = kept;
-  uint64_t from = seen->len - kept;
-  if (seen->fd < 0) return about->st_size == 0;
-  if (about->st_dev != before->st_dev || about->st_ino != before->st_ino) return false;
-  if (size_of(before) != seen->len || size_of(about) < seen->whole) return false;
+/* Whether the text that was read is that of the locked file, or was made so where that begins with
+ * what was read. Times may be too coarse to tell: what was read last is compared, up to its end. */
+static bool is_text(nlog_writer *w) {
+  seen *seen = &w->seen;
+  const struct stat *now = &w->about, *then = &seen->about;
+  const uint64_t len = size_of(now), kept = LEAST(seen->len, LAST), from = seen->len - kept;
+  const size_t when = sizeof now->st_mtim;
+  const bool is_more = len != seen->len;
+  if (seen->fd < 0) return len == 0;
+  if (!is_one_file(now, then) || size_of(then) != seen->len || len < seen->whole) return false;
   /* A torn line of this length leaves too little of the lines before it. */
   if (from > 0 && seen->whole < from + LAST / 2) return false;
-  if (size_of(about) == seen->len) {
-    if (!is_when(about->st_mtim, before->st_mtim)) return false;
-    if (!is_when(about->st_ctim, before->st_ctim)) return false;
-  } else {
-    /* A line of version 4 has a command in the place of its hash. */
-    if (seen->whole == 0 || seen->first[DIGIT_AT] == '4') return false;
-    len = (size_t)(seen->whole - from);
+  /* A line of version 4 has a command in the place of its hash. */
+  if (is_more && (seen->change == REPLACE || seen->whole == 0 || seen->first[DIGIT_AT] == '4')) {
+    return false;
   }
-  return read_whole(writer->log_fd, writer->buffer, len, from) == (ssize_t)len &&
-         memcmp(writer->buffer, seen->last + LAST - kept, len) == 0;
-}
-
-/* Whether the text that was read is that of the locked file, or could be made so. */
-static bool is_text(nlog_writer *writer, const struct stat *about) {
-  seen *seen = &writer->seen;
-  if (!is_seen(writer, about)) return false;
-  if (size_of(about) == seen->len || seen->fd < 0) return true;
-  if (seen->change == REPLACE || !join(writer, seen->whole, size_of(about))) return false;
-  seen->change = KEEP;
-  seen->len = size_of(about);
-  return true;
+  if (!is_more && memcmp(&now->st_mtim, &then->st_mtim, when) != 0) return false;
+  if (!is_more && memcmp(&now->st_ctim, &then->st_ctim, when) != 0) return false;
+  const size_t same = (size_t)(is_more ? seen->whole - from : kept);
+  if (read_whole(w->log_fd, w->buffer, same, from) != (ssize_t)same) return false;
+  if (memcmp(w->buffer, seen->last + LAST - kept, same) != 0) return false;
+  if (is_more) seen->change = KEEP;
+  seen->len = len;
+  return !is_more || join(w, seen->whole, len);
 }
 
 /* Locks the log, and does what an open owes: from the text that was read, where it is open to read.
- * NLOG_LOCKED: nothing was done. */
-static nlog_status bring_up(nlog_writer *writer) {
-  const bool is_read = writer->state == READ;
+ * A log whose scratch would have too long a name is refused: it could never be rewritten. */
+static nlog_status bring_up(nlog_writer *w) {
   struct stat about;
-  nlog_status status = writer->folder_fd < 0 ? open_folder(writer) : NLOG_OK;
-  if (status == NLOG_OK) status = check_scratch_name(writer);
-  if (status == NLOG_OK) status = lock_log(writer, &about);
-  if (status == NLOG_LOCKED) return status;
-  if (status == NLOG_OK && is_read && is_text(writer, &about)) {
-    if (writer->seen.change == REPLACE) status = of_text(writer, carried_recompact(&writer->log));
-    if (status == NLOG_OK) status = carry_out(writer, writer->seen.change, writer->seen.len);
-  } else if (status == NLOG_OK) {
-    carried_close(&writer->log);
-    status = open_log(writer);
-  }
-  close_at(&writer->seen.fd);
+  bool is_read = w->state == READ, is_same;
+  if (w->folder_fd < 0) TRY(open_folder(w));
+  const int answer = fstatat(w->folder_fd, w->scratch_name, &about, AT_SYMLINK_NOFOLLOW);
+  TRY(done(w, answer == 0 || errno == ENOENT || errno == EACCES, "stat", w->scratch));
+  TRY(lock_log(w, &is_same));
+  is_read = is_read && is_text(w);
+  close_at(&w->seen.fd);
+  if (is_read && w->seen.change == REPLACE) TRY(of_text(w, carried_recompact(&w->log)));
+  return is_read ? carry_out(w) : open_log(w);
+}
+
+/* A status of a call that changed files, or was to: any refusal breaks the writer. */
+static nlog_status settle(nlog_writer *w, nlog_status status) {
+  if (status != NLOG_OK) w->state = BROKEN;
+  if (status != NLOG_OK) close_at(&w->seen.fd);
   return status;
 }
 
-/* ---- A call begins, and ends ---- */
-
-nlog_status check_process(const nlog_writer *writer) {
-  if (writer == NULL) return NLOG_NO_HANDLE;
-  return is_forked(writer) ? NLOG_FORKED : NLOG_OK;
-}
-
-nlog_status check(const nlog_writer *writer) {
-  TRY(check_process(writer));
-  if (writer->state == CLOSED) return NLOG_NOT_OPEN;
-  return writer->state == BROKEN ? NLOG_BROKEN : NLOG_OK;
-}
-
-/* Begins a change. If the log is shared, it takes the lock and takes in what others did. Where the
- * lock isn't to be had, there may be no file that is open: the next call opens it. */
-static nlog_status enter(nlog_writer *writer) {
-  int other = ENOENT;
-  uint64_t len;
-  struct stat about;
-  nlog_status status;
-  TRY(check(writer));
-  if (writer->state == READ) {
-    status = bring_up(writer);
-    if (status != NLOG_LOCKED) writer->state = status == NLOG_OK ? OPEN : BROKEN;
-    return status;
+/* Begins a change: of a shared log it takes the lock, and takes in what others did. */
+static nlog_status enter(nlog_writer *w) {
+  bool is_same;
+  nlog_status status = NLOG_OK;
+  TRY(check(w));
+  if (w->state == READ) {
+    status = bring_up(w);
+  } else if (w->is_shared && (!w->is_held || w->is_apart)) {
+    status = lock_log(w, &is_same);
+    is_same = is_same && status == NLOG_OK && !w->is_apart && join(w, w->len, size_of(&w->about));
+    if (status == NLOG_OK && !is_same) status = open_log(w);
   }
-  if (!writer->is_shared || (writer->is_held && !writer->is_apart)) return NLOG_OK;
-  if (writer->log_fd >= 0) {
-    status = lock_again(writer);
-    if (status == NLOG_LOCKED) return status;
-    if (status == NLOG_OK) status = look(writer, &other, &len);
-    if (status != NLOG_OK) return settle(writer, status);
-    if (other == 0 && !writer->is_apart) {
-      if (len == writer->len) return NLOG_OK;
-      if (len > writer->len && join(writer, writer->len, len)) return NLOG_OK;
-    }
-    if (other != 0) unlock_and_close(&writer->log_fd);
-  }
-  status = other != 0 ? lock_log(writer, &about) : NLOG_OK;
   if (status == NLOG_LOCKED) return status;
-  carried_close(&writer->log);
-  return settle(writer, status == NLOG_OK ? open_log(writer) : status);
+  if (status == NLOG_OK) w->state = OPEN;
+  return settle(w, status);
 }
 
 /* As enter, before a sync or a rewriting. Nobody else was to write a log that isn't shared. */
-static nlog_status enter_to_keep(nlog_writer *writer) {
-  int other = 0;
-  uint64_t len;
-  nlog_status status;
-  TRY(enter(writer));
-  if (writer->is_shared && !writer->is_held) return NLOG_OK;
-  status = look(writer, &other, &len);
-  if (status == NLOG_OK && other == 0 && len != writer->len) {
-    const bool is_more = writer->is_shared && len > writer->len;
-    if (is_more && join(writer, writer->len, len)) return NLOG_OK;
-    other = ESTALE;
-  }
-  if (status == NLOG_OK && other != 0) status = fail(writer, "stat", writer->path, other);
-  return settle(writer, status);
+static nlog_status enter_to_keep(nlog_writer *w) {
+  TRY(enter(w));
+  if (w->is_shared && !w->is_held) return NLOG_OK;
+  const int other = look(w);
+  const uint64_t len = size_of(&w->about);
+  if (other == 0 && (w->is_shared ? join(w, w->len, len) : len == w->len)) return NLOG_OK;
+  return settle(w, fail(w, "stat", w->path, other > 0 ? other : ESTALE));
 }
 
 /* Ends a call. The lock is let go of where it is shared; what else a close lets go of stays. */
-static nlog_status leave(nlog_writer *writer, nlog_status status) {
-  if (writer->is_shared && !writer->is_held && writer->state == OPEN) {
-    unlock_and_close(&writer->other_fd);
-    unlock(writer->log_fd);
+static nlog_status leave(nlog_writer *w, nlog_status status) {
+  if (w->is_shared && !w->is_held && w->state == OPEN) {
+    unlock_and_close(w, &w->other_fd);
+    set_lock(w->log_fd, false);
   }
   return status;
 }
+static nlog_status end(nlog_writer *w, nlog_status status) { return leave(w, settle(w, status)); }
 
-static nlog_status end(nlog_writer *writer, nlog_status status) {
-  return leave(writer, settle(writer, status));
+/* Ends a call that added lines, the last by this status. Those before a refusal are in the file. */
+static nlog_status end_lines(nlog_writer *w, nlog_status status, bool is_synced) {
+  const bool is_refused = status == NLOG_OUT_OF_MEMORY;
+  if (status == NLOG_OK || is_refused) status = write_new(w);
+  if (status == NLOG_OK && is_synced && !is_refused) status = sync_log(w, false);
+  status = end(w, status);
+  return status == NLOG_OK && is_refused ? NLOG_OUT_OF_MEMORY : status;
 }
 
-/* Begins an open. All that a change of files takes memory for is there before it. */
-static nlog_status begin_open(nlog_writer *writer) {
-  const size_t room = BLOCK + NLOG_MAX_NAME + MAX_NUMBERS;
-  TRY(check_process(writer));
-  if (writer->state == BROKEN) return NLOG_BROKEN;
-  if (writer->state != CLOSED) return NLOG_ALREADY_OPEN;
-  fail(writer, NULL, NULL, 0);
-  writer->other_version = 0;
-  writer->is_rewritten = false;
-  writer->buffer = (char *)malloc(room);
-  if (writer->buffer == NULL) return NLOG_OUT_OF_MEMORY;
-  writer->room = room;
-  remember_process(writer);
-  return NLOG_OK;
-}
-
-/* Ends an open: it leaves the writer in this state, or closed. */
-static nlog_status end_open(nlog_writer *writer, nlog_status status, state opened) {
-  if (status == NLOG_OK) {
-    writer->state = opened;
-    return leave(writer, status);
+/* Opens the log. All that a change of files takes memory for is there before it. */
+static nlog_status open_as(nlog_writer *w, state opened) {
+  TRY(check_process(w));
+  const bool is_read = w->state == READ && opened == OPEN;
+  if (!is_read) {
+    if (w->state != CLOSED) return w->state == BROKEN ? NLOG_BROKEN : NLOG_ALREADY_OPEN;
+    fail(w, NULL, NULL, 0);
+    w->other_version = 0;
+    w->is_rewritten = w->is_pending = w->is_held = w->is_apart = false;
+    w->room = BLOCK + NLOG_MAX_NAME + MAX_NUMBERS;
+    w->buffer = (char *)malloc(w->room);
+    if (w->buffer == NULL) return NLOG_OUT_OF_MEMORY;
+    remember_process(w);
   }
-  carried_close(&writer->log);
-  let_go(writer);
-  return status;
+  const nlog_status status = opened == READ ? read_log(w) : bring_up(w);
+  if (status == NLOG_LOCKED && is_read) return status;
+  if (status == NLOG_OK) w->state = opened;
+  else let_go(w);
+  return leave(w, status);
 }
 
-/* ---- The calls ---- */
+nlog_status nlog_writer_open(nlog_writer *w) { return open_as(w, OPEN); }
+nlog_status nlog_writer_open_to_read(nlog_writer *w) { return open_as(w, READ); }
 
-nlog_status nlog_writer_open(nlog_writer *writer) {
-  nlog_status status;
-  TRY(check_process(writer));
-  if (writer->state != READ) TRY(begin_open(writer));
-  status = bring_up(writer);
-  return status == NLOG_LOCKED && writer->state == READ ? status : end_open(writer, status, OPEN);
-}
+/* nlog_writer_set_shared and nlog_writer_set_wary, of a closed writer; and nlog_writer_set_wait. */
+#define SETS(name, type, field, is_any)                                  \
+  nlog_status nlog_writer_set_##name(nlog_writer *w, type set) {         \
+    TRY(check_process(w));                                               \
+    if (!(is_any) && w->state != CLOSED) return NLOG_ALREADY_OPEN;       \
+    w->field = set;                                                      \
+    return NLOG_OK;                                                      \
+  }
+SETS(shared, bool, is_shared, false)
+SETS(wary, bool, is_wary, false)
+SETS(wait, uint32_t, wait, true)
 
-nlog_status nlog_writer_open_to_read(nlog_writer *writer) {
-  TRY(begin_open(writer));
-  return end_open(writer, read_log(writer), READ);
-}
-
-static nlog_status check_closed(const nlog_writer *writer) {
-  TRY(check_process(writer));
-  return writer->state == CLOSED ? NLOG_OK : NLOG_ALREADY_OPEN;
-}
-
-nlog_status nlog_writer_set_shared(nlog_writer *writer, bool is_shared) {
-  TRY(check_closed(writer));
-  writer->is_shared = is_shared;
+nlog_status nlog_writer_hold(nlog_writer *w) {
+  TRY(enter(w));
+  w->is_held = true;
   return NLOG_OK;
 }
-
-nlog_status nlog_writer_set_wary(nlog_writer *writer, bool is_wary) {
-  TRY(check_closed(writer));
-  writer->is_wary = is_wary;
-  return NLOG_OK;
+nlog_status nlog_writer_release(nlog_writer *w) {
+  TRY(check(w));
+  w->is_held = false;
+  return leave(w, NLOG_OK);
 }
 
-nlog_status nlog_writer_set_wait(nlog_writer *writer, uint32_t milliseconds) {
-  TRY(check_process(writer));
-  writer->wait = milliseconds;
-  return NLOG_OK;
-}
-
-nlog_status nlog_writer_hold(nlog_writer *writer) {
-  TRY(enter(writer));
-  writer->is_held = true;
-  return NLOG_OK;
-}
-
-nlog_status nlog_writer_release(nlog_writer *writer) {
-  TRY(check(writer));
-  writer->is_held = false;
-  return leave(writer, NLOG_OK);
-}
-
-static nlog_status make_room(nlog_writer *writer, const nlog_name *names, size_t count) {
-  size_t needed = 0, i;
-  char *more;
-  for (i = 0; i < count; i++) {
+static nlog_status make_room(nlog_writer *w, const nlog_name *names, size_t count) {
+  size_t needed = 0;
+  for (size_t i = 0; i < count; i++) {
     TRY(nlog_check_name(names[i].bytes, names[i].len));
     if (needed > SIZE_MAX - NLOG_MAX_NAME - MAX_NUMBERS) return NLOG_OUT_OF_MEMORY;
     needed += names[i].len + MAX_NUMBERS;
   }
-  if (needed <= writer->room) return NLOG_OK;
-  more = (char *)realloc(writer->buffer, needed);
+  if (needed <= w->room) return NLOG_OK;
+  char *more = (char *)realloc(w->buffer, needed);
   if (more == NULL) return NLOG_OUT_OF_MEMORY;
-  writer->buffer = more;
-  writer->room = needed;
+  w->buffer = more;
+  w->room = needed;
   return NLOG_OK;
 }
 
-/* Whether a record may go into the file of a shared log without the lock. Now and then it is looked
- * whether that is the log's still. */
-static bool may_write_loosely(nlog_writer *writer) {
-  int other = 0;
-  uint64_t len;
-  if (!writer->is_shared || writer->is_held || writer->state != OPEN) return false;
-  if (writer->log_fd < 0 || writer->is_apart) return false;
-  if (++writer->loose % LOOK_EVERY != 0) return true;
-  return look(writer, &other, &len) == NLOG_OK && other == 0;
-}
-
-/* Adds the lines of names whose plans stand, by one write, without the lock and not to the text: the
- * next call that has the lock reads them. Where a rewriting loses them, the intents stand. */
-static bool write_loosely(nlog_writer *writer, const nlog_name *names, size_t count,
-    const nlog_entry *entry) {
-  size_t used = 0, line, i;
+/* Adds the lines of names whose plans stand, by one write, without the lock, and not to the text:
+ * the next call that has the lock reads them. Where a rewriting loses them, the intents stand. */
+static bool write_loosely(nlog_writer *w, const nlog_name *n, size_t count, const nlog_entry *e) {
+  size_t used = 0, line;
   ssize_t written;
-  if (!may_write_loosely(writer)) return false;
-  for (i = 0; i < count; i++, used += line) {
-    char *to = writer->buffer + used;
-    nlog_status status = carried_loose_line(&writer->log, names[i].bytes, names[i].len, entry, to,
-        writer->room - used, &line);
+  if (!w->is_shared || w->is_held || w->is_apart || w->state != OPEN || w->log_fd < 0) return false;
+  if (++w->loose % LOOK_EVERY == 0 && look(w) != 0) return false;
+  for (size_t i = 0; i < count; i++, used += line) {
+    const nlog_status status = carried_loose_line(&w->log, n[i].bytes, n[i].len, e,
+        w->buffer + used, w->room - used, &line);
     if (status != NLOG_OK) return false;
   }
-  writer->is_pending = true;
-  do written = write(writer->log_fd, writer->buffer, used);
-  while (written < 0 && errno == EINTR);
+  w->is_pending = true;
+  AGAIN(written, write(w->log_fd, w->buffer, used));
   /* A line that was cut off is cut away by who has the lock. */
-  writer->is_apart = written != (ssize_t)used;
-  return !writer->is_apart;
+  w->is_apart = written != (ssize_t)used;
+  return !w->is_apart;
 }
 
-/* Adds a line for each name, by one write: of the entry, or of an intent where the name wants one.
- * Those before a refusal are a part of the text, and so of the file. */
-static nlog_status add_lines(nlog_writer *writer, const nlog_name *names, size_t count,
-    const nlog_entry *entry, bool is_begin) {
-  nlog_status status, written;
-  nlog *log;
-  TRY(check(writer));
-  TRY(make_room(writer, names, count));
-  if (count == 0 || (!is_begin && write_loosely(writer, names, count, entry))) return NLOG_OK;
-  TRY(enter(writer));
-  log = &writer->log;
-  for (status = NLOG_OK; status == NLOG_OK && count > 0; count--, names++) {
-    const char *name = names->bytes;
-    if (is_begin) status = carried_begin(log, name, names->len, entry->start_ms, entry->hash);
-    else status = carried_record(log, name, names->len, entry);
+/* Adds a line for each name, by one write: of the entry, or of an intent where one is wanted. */
+static nlog_status add_lines(nlog_writer *w, const nlog_name *it, size_t count, bool is_begin,
+    const nlog_entry *e) {
+  nlog_status status = NLOG_OK;
+  TRY(check(w));
+  TRY(make_room(w, it, count));
+  if (count == 0 || (!is_begin && write_loosely(w, it, count, e))) return NLOG_OK;
+  TRY(enter(w));
+  for (; status == NLOG_OK && count > 0; count--, it++) {
+    status = is_begin ? carried_begin(&w->log, it->bytes, it->len, e->start_ms, e->hash)
+                      : carried_record(&w->log, it->bytes, it->len, e);
   }
-  if (status != NLOG_OK && status != NLOG_OUT_OF_MEMORY) {
-    return end(writer, of_text(writer, status));
-  }
-  written = end(writer, write_new(writer));
-  return written == NLOG_OK ? status : written;
+  return end_lines(w, of_text(w, status), false);
 }
 
-nlog_status nlog_writer_record(nlog_writer *writer, const char *name, size_t len,
-    const nlog_entry *entry) {
+nlog_status nlog_writer_record(nlog_writer *w, const char *name, size_t len, const nlog_entry *e) {
   const nlog_name one = {name, len};
-  return nlog_writer_record_edge(writer, &one, 1, entry);
+  return add_lines(w, &one, 1, false, e);
+}
+nlog_status nlog_writer_record_edge(nlog_writer *w, const nlog_name *it, size_t count,
+    const nlog_entry *e) {
+  return add_lines(w, it, count, false, e);
+}
+nlog_status nlog_writer_begin(nlog_writer *w, const nlog_name *it, size_t count, int32_t moment,
+    uint64_t hash) {
+  const nlog_entry e = {moment, moment, 0, hash};
+  return add_lines(w, it, count, true, &e);
 }
 
-nlog_status nlog_writer_record_edge(nlog_writer *writer, const nlog_name *names, size_t count,
-    const nlog_entry *entry) {
-  return add_lines(writer, names, count, entry, false);
-}
-
-nlog_status nlog_writer_begin(nlog_writer *writer, const nlog_name *names, size_t count,
-    int32_t moment_ms, uint64_t hash) {
-  nlog_entry entry = {moment_ms, moment_ms, 0, hash};
-  return add_lines(writer, names, count, &entry, true);
-}
-
-/* ---- Plans ---- */
-
-/* Makes room for one more line of a plan: what waits is written where there is none. */
-static nlog_status make_way(nlog_writer *writer, size_t len, size_t *used) {
-  if (*used + len + MAX_NUMBERS > writer->room) {
-    TRY(write_new(writer));
-    *used = 0;
-  }
-  *used += len + MAX_NUMBERS;
-  return NLOG_OK;
-}
-
-/* Ends the lines of a plan, of which the last status is this one. Those before a refusal are a part
- * of the text, and so of the file. */
-static nlog_status end_plan(nlog_writer *writer, nlog_status status, bool is_synced) {
-  const bool is_refused = status == NLOG_OUT_OF_MEMORY;
-  if (status == NLOG_OK || is_refused) status = write_new(writer);
-  else status = of_text(writer, status);
-  if (status == NLOG_OK && is_synced && !is_refused) status = sync_text(writer);
-  status = end(writer, status);
-  return status == NLOG_OK && is_refused ? NLOG_OUT_OF_MEMORY : status;
-}
-
-nlog_status nlog_writer_begin_plan(nlog_writer *writer, nlog_planned *planned, size_t count,
-    int32_t moment_ms) {
+/* Adds the lines of a plan that is `begun`, or else those that withdraw it, of which it tells how
+ * many. What waits is written where the buffer has no room for one more. */
+static nlog_status add_plan(nlog_writer *w, const nlog_planned *it, size_t count,
+    nlog_planned *begun, int32_t moment, size_t *withdrawn) {
   nlog_status status = NLOG_OK;
   bool is_any = false;
-  size_t used = 0, i;
-  TRY(check(writer));
-  for (i = 0; i < count; i++) TRY(nlog_check_name(planned[i].name.bytes, planned[i].name.len));
-  if (count == 0) return NLOG_OK;
-  TRY(enter_to_keep(writer));
-  for (i = 0; i < count; i++) planned[i].had = planned[i].written = false;
-  for (; status == NLOG_OK && count > 0; count--, planned++) {
-    const nlog_name *name = &planned->name;
-    status = make_way(writer, name->len, &used);
-    if (status != NLOG_OK) return end(writer, status);
-    status = carried_plan(&writer->log, name->bytes, name->len, moment_ms, planned->hash,
-        planned->anew, &planned->before);
-    planned->had = status == NLOG_OK;
-    planned->written = planned->had || (status == NLOG_NOT_FOUND && planned->anew);
-    is_any = is_any || planned->written;
+  for (size_t i = 0, used = 0; status == NLOG_OK && i < count; i++, it++) {
+    const nlog_name n = it->name;
+    if (begun == NULL && !(it->had && it->written)) continue;
+    if (used + n.len + MAX_NUMBERS > w->room) {
+      status = write_new(w);
+      if (status != NLOG_OK) return end(w, status);
+      used = 0;
+    }
+    used += n.len + MAX_NUMBERS;
+    if (begun != NULL) {
+      nlog_entry *const old = &begun[i].before;
+      status = carried_plan(&w->log, n.bytes, n.len, moment, it->hash, it->anew, old);
+      begun[i].had = status == NLOG_OK;
+      begun[i].written = status == NLOG_OK || (status == NLOG_NOT_FOUND && it->anew);
+      is_any = is_any || it->written;
+    } else {
+      status = carried_withdraw(&w->log, n.bytes, n.len, &it->before);
+      *withdrawn += status == NLOG_OK;
+    }
     if (status == NLOG_NOT_FOUND) status = NLOG_OK;
   }
-  return end_plan(writer, status, is_any);
+  return end_lines(w, of_text(w, status), is_any);
 }
 
-nlog_status nlog_writer_withdraw(nlog_writer *writer, const nlog_planned *planned, size_t count,
-    size_t *withdrawn) {
-  nlog_status status = NLOG_OK;
-  size_t used = 0;
-  TRY(check(writer));
-  *withdrawn = 0;
-  while (count > 0 && !(planned->had && planned->written)) planned++, count--;
+nlog_status nlog_writer_begin_plan(nlog_writer *w, nlog_planned *it, size_t count, int32_t moment) {
+  TRY(check(w));
+  for (size_t i = 0; i < count; i++) TRY(nlog_check_name(it[i].name.bytes, it[i].name.len));
   if (count == 0) return NLOG_OK;
-  TRY(enter(writer));
-  for (; status == NLOG_OK && count > 0; count--, planned++) {
-    const nlog_name *name = &planned->name;
-    if (!planned->had || !planned->written) continue;
-    status = make_way(writer, name->len, &used);
-    if (status != NLOG_OK) return end(writer, status);
-    status = carried_withdraw(&writer->log, name->bytes, name->len, &planned->before);
-    *withdrawn += status == NLOG_OK;
-    if (status == NLOG_NOT_FOUND) status = NLOG_OK;
-  }
-  return end_plan(writer, status, false);
+  TRY(enter_to_keep(w));
+  for (size_t i = 0; i < count; i++) it[i].had = it[i].written = false;
+  return add_plan(w, it, count, it, moment, NULL);
 }
 
-nlog_status nlog_writer_sync(nlog_writer *writer) {
-  TRY(enter_to_keep(writer));
-  return end(writer, sync_text(writer));
+nlog_status nlog_writer_withdraw(nlog_writer *w, const nlog_planned *it, size_t count, size_t *n) {
+  TRY(check(w));
+  *n = 0;
+  while (count > 0 && !(it->had && it->written)) it++, count--;
+  if (count == 0) return NLOG_OK;
+  TRY(enter(w));
+  return add_plan(w, it, count, NULL, 0, n);
 }
 
-nlog_status nlog_writer_recompact(nlog_writer *writer) {
-  nlog_status status;
-  TRY(enter_to_keep(writer));
-  status = of_text(writer, carried_recompact(&writer->log));
-  return end(writer, status == NLOG_OK ? replace_log(writer, 0) : status);
+nlog_status nlog_writer_sync(nlog_writer *w) {
+  TRY(enter_to_keep(w));
+  return end(w, sync_log(w, false));
 }
 
-nlog_status nlog_writer_restat(nlog_writer *writer, size_t *place) {
-  nlog_status status;
-  TRY(enter_to_keep(writer));
-  status = of_text(writer, carried_restat(&writer->log, place));
-  if (status == NLOG_NEGATIVE_TIME) return leave(writer, status);
-  return end(writer, status == NLOG_OK ? replace_log(writer, 0) : status);
+/* Rewrites the log; with the times that are marked, where it tells the place of a bad one. */
+static nlog_status rewrite(nlog_writer *w, size_t *place) {
+  TRY(enter_to_keep(w));
+  const nlog_status status = place ? carried_restat(&w->log, place) : carried_recompact(&w->log);
+  if (status == NLOG_NEGATIVE_TIME) return leave(w, status);
+  return end(w, status == NLOG_OK ? replace_log(w, 0) : of_text(w, status));
 }
 
-nlog_status nlog_writer_mark_dead(nlog_writer *writer, const char *name, size_t len) {
-  TRY(check_process(writer));
-  return carried_mark_dead(&writer->log, name, len);
+nlog_status nlog_writer_recompact(nlog_writer *w) { return rewrite(w, NULL); }
+nlog_status nlog_writer_restat(nlog_writer *w, size_t *place) { return rewrite(w, place); }
+
+nlog_status nlog_writer_mark_dead(nlog_writer *w, const char *name, size_t len) {
+  TRY(check_process(w));
+  return carried_mark_dead(&w->log, name, len);
+}
+nlog_status nlog_writer_mark_time(nlog_writer *w, const char *name, size_t len, int64_t mtime) {
+  TRY(check_process(w));
+  return carried_mark_time(&w->log, name, len, mtime);
+}
+nlog_status nlog_writer_clear_marks(nlog_writer *w) {
+  TRY(check_process(w));
+  return carried_clear_marks(&w->log);
 }
 
-nlog_status nlog_writer_mark_time(nlog_writer *writer, const char *name, size_t len,
-    int64_t mtime) {
-  TRY(check_process(writer));
-  return carried_mark_time(&writer->log, name, len, mtime);
-}
-
-nlog_status nlog_writer_clear_marks(nlog_writer *writer) {
-  TRY(check_process(writer));
-  return carried_clear_marks(&writer->log);
-}
-
-nlog_status nlog_writer_close(nlog_writer *writer) {
-  nlog_status status = check(writer);
+nlog_status nlog_writer_close(nlog_writer *w) {
+  nlog_status status = check(w);
   if (status != NLOG_OK && status != NLOG_BROKEN) return status;
-  if (status == NLOG_OK && writer->is_pending) status = enter_to_keep(writer);
+  if (status == NLOG_OK && w->is_pending) status = enter_to_keep(w);
   if (status == NLOG_LOCKED) return status;
-  if (status == NLOG_OK && writer->is_pending) status = sync_text(writer);
-  carried_close(&writer->log);
-  let_go(writer);
+  if (status == NLOG_OK && w->is_pending) status = sync_log(w, false);
+  let_go(w);
   return status;
 }

@@ -37,6 +37,14 @@
     if (tried != NLOG_OK) return tried; \
   } while (0)
 
+#define LEAST(one, two) ((one) < (two) ? (one) : (two))
+
+/* Makes a call of the system, and again where a signal interrupted it. */
+#define AGAIN(answer, call)                         \
+  do {                                              \
+    (answer) = (call);                              \
+  } while ((answer) < 0 && errno == EINTR)
+
 /* What makes a file the text, by the steps of `steps_of` in crates/nl_c/specs/Changes.antt. */
 enum { KEEP, APPEND, CUT, REPLACE };
 
@@ -50,7 +58,7 @@ typedef struct seen {
   uint64_t len, whole; /* how much was read, and up to and with the last newline */
   uint32_t change;     /* that makes it the text */
   char last[LAST];     /* the bytes before `len`, where there are so many, at its end */
-  char first[DIGIT_AT + 20];
+  char first[DIGIT_AT + 22]; /* and a NUL, behind the longest number of a version that is told */
 } seen;
 
 struct nlog_writer {
@@ -64,10 +72,9 @@ struct nlog_writer {
   seen seen;
   uint64_t other_version; /* that the last refusal of another version was about, or 0 */
   uint64_t len;           /* of the file, which is that of the text while the log is open */
-  dev_t device;           /* by which the log's file is known again */
-  ino_t inode;
+  struct stat about;      /* the log's file, by which it is known again, as it was last seen */
   int log_fd;    /* the descriptors, or -1: a locked one stays so until it is unlocked and closed */
-  int other_fd;  /* a file that the log's name may still show: before a rename that isn't synced */
+  int other_fd;  /* the scratch; or behind a rename that isn't synced the file that was the log's */
   int folder_fd; /* by which each file is opened, looked at, renamed and removed */
   int denied;    /* the errno by which the log could be opened for reading alone, or 0 */
   bool is_pending;        /* something was recorded since the last sync */
@@ -119,35 +126,35 @@ nlog_status carried_clear_marks(nlog *log);
 int keep_rights(int log, int scratch, char *room, struct stat *about, const char **call);
 
 /* lib/file.c */
-nlog_status fail(nlog_writer *writer, const char *call, const char *path, int error);
-nlog_status of_text(nlog_writer *writer, nlog_status status);
+nlog_status fail(nlog_writer *w, const char *call, const char *path, int error);
+nlog_status done(nlog_writer *w, bool is_done, const char *call, const char *path);
+nlog_status of_text(nlog_writer *w, nlog_status status);
+bool is_lacking(int error);
 void close_at(int *fd);
 int open_off_streams(int folder, const char *path, int how, mode_t mode);
 ssize_t read_whole(int fd, char *bytes, size_t room, uint64_t at);
+bool read_on(nlog_writer *w, uint64_t at, uint64_t end, size_t *used);
 int ask_regular(int fd, struct stat *about);
 size_t size_of(const struct stat *about);
-nlog_status open_folder(nlog_writer *writer);
-nlog_status check_scratch_name(nlog_writer *writer);
-nlog_status write_new(nlog_writer *writer);
-nlog_status sync_text(nlog_writer *writer);
-nlog_status replace_log(nlog_writer *writer, uint64_t own);
-nlog_status carry_out(nlog_writer *writer, uint32_t change, uint64_t found);
+nlog_status open_folder(nlog_writer *w);
+nlog_status write_new(nlog_writer *w);
+nlog_status sync_log(nlog_writer *w, bool has_folder);
+nlog_status replace_log(nlog_writer *w, uint64_t own);
+nlog_status carry_out(nlog_writer *w);
 
 /* lib/writer.c */
-nlog_status check_process(const nlog_writer *writer);
-nlog_status check(const nlog_writer *writer);
+nlog_status check_process(const nlog_writer *w);
+nlog_status check(const nlog_writer *w);
 
 /* lib/lock.c */
 typedef enum lock { TAKEN, HELD, NO_LOCKS, LOCK_FAILED } lock;
-void remember_process(nlog_writer *writer);
-void forget_process(nlog_writer *writer);
-bool is_forked(const nlog_writer *writer);
-lock ask_lock(int fd);
-void unlock(int fd);
-void unlock_and_close(int *fd);
-void know_log(nlog_writer *writer, const struct stat *about);
-nlog_status look(nlog_writer *writer, int *other, uint64_t *len);
-nlog_status lock_again(nlog_writer *writer);
-nlog_status lock_log(nlog_writer *writer, struct stat *about);
+void remember_process(nlog_writer *w);
+void forget_process(nlog_writer *w);
+bool is_forked(const nlog_writer *w);
+lock set_lock(int fd, bool is_locked);
+void unlock_and_close(const nlog_writer *w, int *fd);
+bool is_one_file(const struct stat *one, const struct stat *two);
+int look(nlog_writer *w);
+nlog_status lock_log(nlog_writer *w, bool *is_same);
 
 #endif
