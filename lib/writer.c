@@ -121,7 +121,6 @@ static nlog_status mark_distrusted(nlog_writer *w, bool *is_any) {
   return status == NLOG_NOT_FOUND ? NLOG_OK : status;
 }
 
-/* Opens what was given; or, of a wary writer, what is whole. */
 static nlog_status open_given(nlog_writer *w, bool is_wary) {
   return of_text(w, is_wary ? carried_open_whole(&w->log, w->version, &w->seen.change)
                             : carried_open(&w->log, w->version, &w->seen.change));
@@ -148,7 +147,6 @@ static nlog_status open_text(nlog_writer *w, int fd) {
   return status;
 }
 
-/* Reads anew the log that is locked, and makes its file the text. */
 static nlog_status open_log(nlog_writer *w) {
   w->is_apart = false;
   carried_close(&w->log);
@@ -200,18 +198,16 @@ static bool is_text(nlog_writer *w) {
   seen *seen = &w->seen;
   const struct stat *now = &w->about, *then = &seen->about;
   const uint64_t len = size_of(now), kept = LEAST(seen->len, LAST), from = seen->len - kept;
-  const size_t when = sizeof now->st_mtim;
   const bool is_more = len != seen->len;
   if (seen->fd < 0) return len == 0;
   if (!is_one_file(now, then) || size_of(then) != seen->len || len < seen->whole) return false;
   /* A torn line of this length leaves too little of the lines before it. */
   if (from > 0 && seen->whole < from + LAST / 2) return false;
   /* A line of version 4 has a command in the place of its hash. */
-  if (is_more && (seen->change == REPLACE || seen->whole == 0 || seen->first[DIGIT_AT] == '4')) {
-    return false;
-  }
-  if (!is_more && memcmp(&now->st_mtim, &then->st_mtim, when) != 0) return false;
-  if (!is_more && memcmp(&now->st_ctim, &then->st_ctim, when) != 0) return false;
+  if (is_more && seen->first[DIGIT_AT] == '4') return false;
+  if (is_more && (seen->change == REPLACE || seen->whole == 0)) return false;
+  if (!is_more && memcmp(&now->st_mtim, &then->st_mtim, sizeof now->st_mtim) != 0) return false;
+  if (!is_more && memcmp(&now->st_ctim, &then->st_ctim, sizeof now->st_ctim) != 0) return false;
   const size_t same = (size_t)(is_more ? seen->whole - from : kept);
   if (read_whole(w->log_fd, w->buffer, same, from) != (ssize_t)same) return false;
   if (memcmp(w->buffer, seen->last + LAST - kept, same) != 0) return false;
@@ -312,17 +308,23 @@ static nlog_status open_as(nlog_writer *w, state opened) {
 nlog_status nlog_writer_open(nlog_writer *w) { return open_as(w, OPEN); }
 nlog_status nlog_writer_open_to_read(nlog_writer *w) { return open_as(w, READ); }
 
-/* nlog_writer_set_shared and nlog_writer_set_wary, of a closed writer; and nlog_writer_set_wait. */
-#define SETS(name, type, field, is_any)                                  \
-  nlog_status nlog_writer_set_##name(nlog_writer *w, type set) {         \
-    TRY(check_process(w));                                               \
-    if (!(is_any) && w->state != CLOSED) return NLOG_ALREADY_OPEN;       \
-    w->field = set;                                                      \
-    return NLOG_OK;                                                      \
-  }
-SETS(shared, bool, is_shared, false)
-SETS(wary, bool, is_wary, false)
-SETS(wait, uint32_t, wait, true)
+nlog_status nlog_writer_set_shared(nlog_writer *w, bool is_shared) {
+  TRY(check_process(w));
+  if (w->state != CLOSED) return NLOG_ALREADY_OPEN;
+  w->is_shared = is_shared;
+  return NLOG_OK;
+}
+nlog_status nlog_writer_set_wary(nlog_writer *w, bool is_wary) {
+  TRY(check_process(w));
+  if (w->state != CLOSED) return NLOG_ALREADY_OPEN;
+  w->is_wary = is_wary;
+  return NLOG_OK;
+}
+nlog_status nlog_writer_set_wait(nlog_writer *w, uint32_t milliseconds) {
+  TRY(check_process(w));
+  w->wait = milliseconds;
+  return NLOG_OK;
+}
 
 nlog_status nlog_writer_hold(nlog_writer *w) {
   TRY(enter(w));
@@ -385,8 +387,7 @@ static nlog_status add_lines(nlog_writer *w, const nlog_name *it, size_t count, 
 }
 
 nlog_status nlog_writer_record(nlog_writer *w, const char *name, size_t len, const nlog_entry *e) {
-  const nlog_name one = {name, len};
-  return add_lines(w, &one, 1, false, e);
+  return add_lines(w, &(nlog_name){name, len}, 1, false, e);
 }
 nlog_status nlog_writer_record_edge(nlog_writer *w, const nlog_name *it, size_t count,
     const nlog_entry *e) {
@@ -394,8 +395,7 @@ nlog_status nlog_writer_record_edge(nlog_writer *w, const nlog_name *it, size_t 
 }
 nlog_status nlog_writer_begin(nlog_writer *w, const nlog_name *it, size_t count, int32_t moment,
     uint64_t hash) {
-  const nlog_entry e = {moment, moment, 0, hash};
-  return add_lines(w, it, count, true, &e);
+  return add_lines(w, it, count, true, &(nlog_entry){moment, moment, 0, hash});
 }
 
 /* Adds the lines of a plan that is `begun`, or else those that withdraw it, of which it tells how

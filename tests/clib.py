@@ -455,7 +455,7 @@ PLAN = f"plan 7 0 0 cc {hexed(b'a', b'none', b'b')}"
 E = b"-9\t-9\t0\ta\tffffffffffffff32\n"
 
 # Numbers of versions that aren't read, and as which they are told.
-OTHERS = [(b"1", 1), (b"8", 8), (b"50", 50), (b"0", 0), (b"05", 0), (b"007", 0), (b"%d" % (2**64 - 1), 2**64 - 1), (b"%d" % 2**64, 2**64 - 1), (b"9" * 300, 2**64 - 1)]
+OTHERS = [(b"1", 1), (b"8", 8), (b"50", 50), (b"0", 0), (b"05", 0), (b"007", 0), (b"%d" % (2**64 - 1), 2**64 - 1), (b"%d" % 2**64, 2**64 - 1), (b"1" + b"0" * 20, 2**64 - 1), (b"9" * 300, 2**64 - 1)]
 # A log, the version that is asked for, lines to the writer, what each is answered, and the log that is left.
 TURNS = [
     (None, 0, ["open", "version", "rewrote", "is_open", "close", "is_open"], ["OK", "OK 5", "OK 0", "OK 1", "OK", "OK 0"], HEADER),
