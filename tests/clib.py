@@ -385,8 +385,9 @@ def by_hostile_names(trials, library, path):
         trials.want(f"{name} of 10,000 names", statuses, {0})
 
 
-def header(trials):
-    """That the header has each export but the writer's own, and no more, and the numbers of the statuses those of the code."""
+def header(trials, program):
+    """That the header has each export but the writer's own, and no more, and the numbers of the statuses those of the code; and that the
+    program says the header's version."""
     text = read(f"{TOP}/include/nlog.h").decode()
     proved = {it for it in exported() if not it.startswith("carried_")}
     c_parts = "".join(read(f"{TOP}/lib/{it}").decode() for it in ("writer.c", "nlog_reads.c", "nlog_damage.c"))
@@ -398,7 +399,9 @@ def header(trials):
     statuses = {name: int(number) for name, number in re.findall(r"const (\w+): u32 = (\d+);", read(f"{TOP}/crates/nl_c/src/status.rt").decode())}
     trials.want("the numbers of the statuses", {name: numbers.get(name) for name in statuses}, statuses)
     version = int(re.search(r"#define NLOG_VERSION (\d+)", text)[1])
-    trials.want("the version", f"{version // 1000000}.{version // 1000 % 1000}.{version % 1000}", re.search(r"\n## The library for C (\d+\.\d+\.\d+)", read(f"{TOP}/CHANGELOG.md").decode())[1])
+    said = f"{version // 1000000}.{version // 1000 % 1000}.{version % 1000}"
+    trials.want("the version", said, re.search(r"\n## The library for C (\d+\.\d+\.\d+)", read(f"{TOP}/CHANGELOG.md").decode())[1])
+    trials.want("the program's version", run([program, "--version"]), (0, f"nlog {said}\n".encode(), b""))
 
 
 def pages(trials, room):
@@ -1519,7 +1522,7 @@ def records(trials, made, room):
 
 
 def trial(trials, program, room):
-    header(trials)
+    header(trials, program)
     for word in ("rt", "cc", "ar", "nm", "objcopy"):
         if shutil.which(word) is None:
             trials.skip("all but the header", f"{word} isn't there")

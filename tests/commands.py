@@ -583,7 +583,7 @@ WORDS = [
     (["picture", "script"], 1, b"", NO_LOG),
     (["damage", "seven"], 3, b"3\tskipped\t1\t-\t-\n", b""),
     (["damage", "eight"], 1, b"", OTHER_VERSION),
-    (["--version"], 0, b"nlog 0.1.0\n", b""),
+    (["--version"], 0, b"nlog 0.2.0\n", b""),
     (["frob"], 2, b"", NO_COMMAND),
     # A file in the place of a command, with or without more.
     *(([path, *more], 2, b"", NO_COMMAND.replace(b"frob", path.encode()) + b"nlog: a command comes first: nlog show %b\n" % path.encode()) for path in (".ninja_log", "out/log", "a.log") for more in ([], ["--verbose"])),

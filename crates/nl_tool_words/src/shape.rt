@@ -43,7 +43,7 @@ pub enum Given {
     LetterFlag(char),
 }
 
-const VERSION: &str = "0.1.0";
+const VERSION: &str = "0.2.0";
 
 const AFTER: &str = "\
 `show` to `hash-file` look and change nothing, `mend` to `repair` change LOG, and `apply` keeps a
