@@ -386,8 +386,8 @@ def by_hostile_names(trials, library, path):
 
 
 def header(trials, program):
-    """That the header has each export but the writer's own, and no more, and the numbers of the statuses those of the code; and that the
-    program says the header's version."""
+    """That the header has each export but the writer's own, and no more, and the numbers of the statuses those of the code; that the page has each field
+    of its structs; and that the program says the header's version."""
     text = read(f"{TOP}/include/nlog.h").decode()
     proved = {it for it in exported() if not it.startswith("carried_")}
     c_parts = "".join(read(f"{TOP}/lib/{it}").decode() for it in ("writer.c", "nlog_reads.c", "nlog_damage.c"))
@@ -402,6 +402,13 @@ def header(trials, program):
     said = f"{version // 1000000}.{version // 1000 % 1000}.{version % 1000}"
     trials.want("the version", said, re.search(r"\n## The library for C (\d+\.\d+\.\d+)", read(f"{TOP}/CHANGELOG.md").decode())[1])
     trials.want("the program's version", run([program, "--version"]), (0, f"nlog {said}\n".encode(), b""))
+    page = read(f"{TOP}/docs/LIBRARY.md").decode().partition("\n## The structs\n")[2].partition("\n## ")[0]
+    page = dict(re.findall(r"(?s)\n- `(nlog\w*)`: (.*?)(?=\n- |\Z)", page))
+    structs = re.findall(r"(?s)typedef struct (\w+) \{\n(.*?)\n\} \1;", text)
+    trials.want("the structs on the page", list(page), [name for name, _ in structs])
+    for name, body in structs:
+        fields = re.findall(r"(\w+)[,;]", re.sub(r"(?s)/\*.*?\*/", "", body))
+        trials.want(f"the fields of {name} on the page", re.findall(r"`([a-z]\w*)`", page.get(name, "")), fields)
 
 
 def pages(trials, room):
