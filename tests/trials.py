@@ -15,11 +15,11 @@ PAUSE = 0.02
 
 
 class Trials:
-    """What a script found. It ends by `end`, whose last line is `N passed, M failed`."""
+    """What a script found. It ends by `end`, whose last line is `N passed, M failed`, behind what was skipped."""
 
     def __init__(self, script):
         self.script = os.path.basename(script)
-        self.passed, self.failed = 0, 0
+        self.passed, self.failed, self.skipped = 0, 0, []
         # What is said before each of what failed.
         self.about = ""
 
@@ -36,10 +36,12 @@ class Trials:
         return is_good
 
     def skip(self, what, why):
+        self.skipped.append(what)
         print(f"{self.script}: skipped: {what}: {why}")
 
     def end(self):
-        print(f"{self.passed} passed, {self.failed} failed", flush=True)
+        skipped = f"skipped {', '.join(self.skipped)}: " if self.skipped else ""
+        print(f"{skipped}{self.passed} passed, {self.failed} failed", flush=True)
         return 1 if self.failed else 0
 
 
