@@ -1,7 +1,7 @@
 #!/bin/sh
 # Times the library for C on a log: clib.sh PROGRAM LOG [ROUNDS]
 # A load in a process of its own, in turn with `check` of PROGRAM; look-ups of each output; and records by the writer, in turn with Ninja's
-# fprintf and fflush of the same lines: of outputs that come again, and of new ones, which grow the table.
+# fprintf and fflush of the same lines: of outputs that come again, of new ones, which grow the table, and of a shared log.
 set -eu
 top=$(cd "$(dirname "$0")/.." && pwd)
 program=$1
@@ -49,14 +49,14 @@ ours, theirs = (statistics.median(it) for it in zip(*loads))
 print(f"load {ours:.0f} ms, check {theirs:.0f} ms, ratio {shown([a / b for a, b in loads])}")
 print(subprocess.run([f"{room}/bench", "find", log, str(rounds)], capture_output=True, text=True, check=True).stdout, end="")
 
-# Nanoseconds of the clock of a record, and of fprintf and fflush of the same line.
-for kind, outputs in (("an output that comes again", "10000"), ("a new output", "200000")):
+# Nanoseconds of processor time of a record, and of fprintf and fflush of the same line.
+for kind, outputs, *how in (("an output that comes again", "10000"), ("a new output", "200000"), ("a shared log", "10000", "shared"), ("a shared log that is held", "10000", "held")):
     records = []
     for _ in range(rounds):
         for name in ("ours.log", "plain.log"):
             if os.path.exists(f"{room}/{name}"):
                 os.remove(f"{room}/{name}")
-        records.append(numbers(f"{room}/driver", "time", f"{room}/ours.log", f"{room}/plain.log", "200000", outputs))
+        records.append(numbers(f"{room}/driver", "time", f"{room}/ours.log", f"{room}/plain.log", "200000", outputs, *how))
     ours, theirs = (statistics.median(it) for it in zip(*records))
     print(f"record of {kind} {ours:.0f} ns, fprintf and fflush {theirs:.0f} ns, ratio {shown([a / b for a, b in records])}")
 END

@@ -1515,12 +1515,12 @@ def by_rust(trials, made, room):
 
 
 def records(trials, made, room):
-    """The time of a record beside that of fprintf and fflush of the same line, of outputs that come again, and of new ones."""
+    """The time of a record beside that of fprintf and fflush of the same line, of outputs that come again, and of new ones, and of a shared log."""
     count = 100_000
-    for kind, outputs in (("an output that comes again", count // 10), ("a new output", count)):
+    for kind, outputs, how in (("an output that comes again", count // 10, []), ("a new output", count, []), ("a shared log", count // 10, ["shared"]), ("a shared log that is held", count // 10, ["held"])):
         write(f"{room}/plain.log", HEADER)
         write(f"{room}/ours.log", HEADER)
-        status, out, _ = run([made["C11"], "time", f"{room}/ours.log", f"{room}/plain.log", str(count), str(outputs)])
+        status, out, _ = run([made["C11"], "time", f"{room}/ours.log", f"{room}/plain.log", str(count), str(outputs), *how])
         ours, theirs = (int(it) for it in out.split()) if status == 0 else (0, 1)
         text = read(f"{room}/ours.log") if status == 0 else b""
         trials.want(f"as many lines, each of {kind}", text.count(b"\n"), count + 1)

@@ -881,11 +881,16 @@ static void handle_signals(void) {
   sigaction(SIGUSR1, &action, NULL);
 }
 
-static double seconds(void) {
+static double seconds_by(clockid_t clock) {
   struct timespec now;
-  clock_gettime(CLOCK_MONOTONIC, &now);
+  clock_gettime(clock, &now);
   return (double)now.tv_sec + (double)now.tv_nsec / 1e9;
 }
+
+static double seconds(void) { return seconds_by(CLOCK_MONOTONIC); }
+
+/* Which other processes don't stretch. */
+static double processor_seconds(void) { return seconds_by(CLOCK_PROCESS_CPUTIME_ID); }
 
 static void write_log(const char *log, uint32_t version) {
   static request it;
@@ -1068,7 +1073,7 @@ static void fill_entry(int i, nlog_entry *entry) {
   entry->hash = 0x9e3779b97f4a7c15u * (uint64_t)(i + 1);
 }
 
-static int time_records(const char *log, const char *plain, int count, int outputs) {
+static int time_records(const char *log, const char *plain, int count, int outputs, const char *how) {
   enum { TIMED = 500, ROOM = 48 };
   char(*names)[ROOM] = (char(*)[ROOM])malloc((size_t)outputs * ROOM);
   nlog_writer *writer;
@@ -1077,23 +1082,25 @@ static int time_records(const char *log, const char *plain, int count, int outpu
   double begun, ours = 0, theirs = 0;
   int i, from;
   FILE *file = fopen(plain, "ab");
+  if (status == NLOG_OK && how != NULL) status = nlog_writer_set_shared(writer, true);
   if (status == NLOG_OK) status = nlog_writer_open(writer);
+  if (status == NLOG_OK && how != NULL && strcmp(how, "held") == 0) status = nlog_writer_hold(writer);
   if (names == NULL || file == NULL || setvbuf(file, NULL, _IOLBF, BUFSIZ) != 0 || status != NLOG_OK) return 1;
   for (i = 0; i < outputs; i++) snprintf(names[i], ROOM, "obj/src/module%03d/source_file_%d.o", i % 200, i);
   for (from = 0; from < count; from += TIMED) {
-    begun = seconds();
+    begun = processor_seconds();
     for (i = from; status == NLOG_OK && i < count && i < from + TIMED; i++) {
       fill_entry(i, &entry);
       status = nlog_writer_record(writer, names[i % outputs], strlen(names[i % outputs]), &entry);
     }
-    ours += seconds() - begun;
-    begun = seconds();
+    ours += processor_seconds() - begun;
+    begun = processor_seconds();
     for (i = from; i < count && i < from + TIMED; i++) {
       fill_entry(i, &entry);
       if (fprintf(file, "%" PRId32 "\t%" PRId32 "\t%" PRId64 "\t%s\t%" PRIx64 "\n", entry.start_ms, entry.end_ms, entry.mtime, names[i % outputs], entry.hash) < 0) return 1;
       if (fflush(file) != 0) return 1;
     }
-    theirs += seconds() - begun;
+    theirs += processor_seconds() - begun;
   }
   fclose(file);
   free(names);
@@ -1122,13 +1129,13 @@ static int time_edges(const char *log, size_t count, int edges) {
 #ifdef REFUSES
   requests = 0;
 #endif
-  begun = seconds();
+  begun = processor_seconds();
   for (edge = 0; status == NLOG_OK && edge < edges; edge++) status = nlog_writer_record_edge(writer, names, count, &entry);
 #ifdef REFUSES
   printf("%ld\n", requests);
   (void)begun;
 #else
-  printf("%.0f\n", (seconds() - begun) / ((double)count * edges) * 1e9);
+  printf("%.0f\n", (processor_seconds() - begun) / ((double)count * edges) * 1e9);
 #endif
   nlog_writer_free(&writer);
   free(names);
@@ -1234,8 +1241,8 @@ int main(int count, char **words) {
     wrong |= write_many(words[2], atoi(words[3]), atoi(words[4]));
   } else if (count == 4 && strcmp(words[1], "large") == 0) {
     load_and_record(words[2], atoi(words[3]));
-  } else if (count == 6 && strcmp(words[1], "time") == 0) {
-    wrong |= time_records(words[2], words[3], atoi(words[4]), atoi(words[5]));
+  } else if ((count == 6 || count == 7) && strcmp(words[1], "time") == 0) {
+    wrong |= time_records(words[2], words[3], atoi(words[4]), atoi(words[5]), count == 7 ? words[6] : NULL);
   } else if (count == 5 && strcmp(words[1], "edges") == 0) {
     wrong |= time_edges(words[2], (size_t)atol(words[3]), atoi(words[4]));
   } else if (count == 4 && strcmp(words[1], "closed") == 0) {
