@@ -260,9 +260,9 @@ nlog_status nlog_check_name(const char *name, size_t len);
  *   and each rewriting answers NLOG_FAULT, with ESTALE or ENOENT and "stat",
  *   and changes nothing. What was recorded since the last sync may be lost.
  * Memory: a log that is open, or open to read, takes its table, as nlog_load
- *   does, and a buffer of 327,743 bytes. While it is opened it takes the log's
- *   bytes too. Without memory, a call answers NLOG_OUT_OF_MEMORY, and no file
- *   was changed, unless it says more.
+ *   does, and a buffer of 327,743 bytes. An open takes no more, but a wary one
+ *   of a damaged log also takes the log's bytes. Without memory, a call answers
+ *   NLOG_OUT_OF_MEMORY, and no file was changed, unless it says more.
  * docs/LIBRARY.md has more on each of these.
  *
  * If the writer is NULL, every call but nlog_writer_new and nlog_writer_free

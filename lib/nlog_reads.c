@@ -97,14 +97,13 @@ const char *nlog_writer_failed_call(const nlog_writer *writer) {
 /* ---- A file ---- */
 
 /* Reads all of an open file. The bytes are the caller's to free. *error: 0 where memory ran out. */
-static char *read_all(int fd, size_t *len, int *error) {
-  struct stat about;
+char *read_all(int fd, struct stat *about, size_t *len, int *error) {
   size_t room;
   char *bytes, *more;
   *len = 0;
-  *error = ask_regular(fd, &about);
+  *error = ask_regular(fd, about);
   if (*error != 0) return NULL;
-  room = size_of(&about) > 0 ? size_of(&about) + 1 : BLOCK; /* a byte more, so the end is seen */
+  room = size_of(about) > 0 ? size_of(about) + 1 : BLOCK; /* a byte more, so the end is seen */
   for (bytes = (char *)malloc(room); bytes != NULL; bytes = more, room *= 2) {
     ssize_t got = read_whole(fd, bytes + *len, room - *len, *len);
     if (got >= 0 && (*len += (size_t)got) < room) return bytes;
@@ -116,11 +115,12 @@ static char *read_all(int fd, size_t *len, int *error) {
 }
 
 static nlog_status read_file(const char *path, char **bytes, size_t *len, int *error) {
+  struct stat about;
   /* A pipe without a writer would keep it waiting. */
   int failed, fd = open_off_streams(AT_FDCWD, path, O_RDONLY | O_NONBLOCK, 0);
   *bytes = NULL;
   failed = fd < 0 ? errno : 0;
-  if (fd >= 0) *bytes = read_all(fd, len, &failed);
+  if (fd >= 0) *bytes = read_all(fd, &about, len, &failed);
   close_at(&fd);
   if (*bytes != NULL) return NLOG_OK;
   if (failed == 0) return NLOG_OUT_OF_MEMORY;
@@ -128,36 +128,51 @@ static nlog_status read_file(const char *path, char **bytes, size_t *len, int *e
   return NLOG_FAULT;
 }
 
+/* Notes what the next block of a file has. */
+void note_block(seen *seen, const char *bytes, size_t len) {
+  const size_t kept = LEAST(len, LAST);
+  size_t end = len;
+  if (seen->len == 0) memset(seen->first, 0, sizeof seen->first);
+  if (seen->len == 0) memcpy(seen->first, bytes, LEAST(len, sizeof seen->first - 1));
+  memmove(seen->last, seen->last + kept, LAST - kept);
+  memcpy(seen->last + LAST - kept, bytes + len - kept, kept);
+  while (end > 0 && bytes[end - 1] != '\n') end--;
+  if (end > 0) seen->whole = seen->len + end;
+  seen->len += len;
+}
+
 /* Loads an open file in blocks, of which none is kept. The first one ends in its last newline, and
  * what comes after that is read again. *error: the errno where it answers NLOG_FAULT. */
-static nlog_status load_blocks(nlog *log, int fd, char *block, int *error) {
-  struct stat about;
+nlog_status load_blocks(nlog *log, uint32_t version, int fd, char *block, seen *seen, int *error) {
   nlog_status status = NLOG_OK;
-  uint64_t at = 0;
   ssize_t got = BLOCK;
-  *error = ask_regular(fd, &about);
-  if (*error != 0) return NLOG_FAULT;
+  seen->len = seen->whole = 0;
   while (status == NLOG_OK && got == BLOCK) {
+    const bool is_first = seen->len == 0;
     size_t used;
-    got = read_whole(fd, block, BLOCK, at);
+    got = read_whole(fd, block, BLOCK, seen->len);
     if (got < 0) *error = errno;
     if (got < 0) return NLOG_FAULT;
     used = (size_t)got;
-    if (at == 0 && got == BLOCK) while (used > 0 && block[used - 1] != '\n') used--;
-    if (at == 0) status = nlog_load(log, block, used > 0 ? used : (size_t)got);
-    else status = carried_more(log, block, used);
-    at += used;
+    if (is_first && got == BLOCK) while (used > 0 && block[used - 1] != '\n') used--;
+    if (used == 0) used = (size_t)got;
+    note_block(seen, block, used);
+    status = is_first ? load_as(log, version, block, used) : carried_more(log, block, used);
   }
   return status;
 }
 
 nlog_status nlog_load_file(nlog *log, const char *path, int *error) {
   nlog found = NLOG_INIT;
+  seen seen;
   char *block = (char *)malloc(BLOCK);
   /* A pipe without a writer would keep it waiting. */
   int fd = open_off_streams(AT_FDCWD, path, O_RDONLY | O_NONBLOCK, 0), failed = errno;
   nlog_status status = fd < 0 ? NLOG_FAULT : NLOG_OUT_OF_MEMORY;
-  if (fd >= 0 && block != NULL) status = load_blocks(&found, fd, block, &failed);
+  if (fd >= 0 && block != NULL) {
+    failed = ask_regular(fd, &seen.about);
+    status = failed != 0 ? NLOG_FAULT : load_blocks(&found, 0, fd, block, &seen, &failed);
+  }
   close_at(&fd);
   free(block);
   if (status == NLOG_FAULT) *error = failed;

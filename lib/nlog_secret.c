@@ -1,18 +1,14 @@
 /* The calls that make a log. Each is given the secret under which names are hashed, so that nobody chooses names of one hash: two random numbers,
  * which are taken once in a process. lib/archive.sh gives the proved ones these names. This file is tested (tests/clib.py), and not proved. */
-#if !defined(_GNU_SOURCE)
-#define _GNU_SOURCE /* getrandom, where a system hides it */
-#endif
-#include "nlog.h"
+#include "writer.h"
 
 #include <stdatomic.h>
 #include <sys/random.h>
 #include <time.h>
 
-nlog_status proved_load(nlog *log, uint64_t key0, uint64_t key1, const void *bytes, size_t len);
+nlog_status proved_load(nlog *log, uint32_t version, uint64_t key0, uint64_t key1, const void *bytes, size_t len);
 nlog_status proved_load_distrusted(nlog *log, uint64_t key0, uint64_t key1, const void *bytes, size_t len);
 nlog_status proved_carried_new(nlog *log, uint64_t key0, uint64_t key1);
-nlog_status carried_new(nlog *log);
 
 static _Atomic(uint64_t) keys[2];
 
@@ -28,8 +24,12 @@ static uint64_t key(int place) {
   return atomic_compare_exchange_strong(&keys[place], &known, made) ? made : known;
 }
 
+nlog_status load_as(nlog *log, uint32_t version, const void *bytes, size_t len) {
+  return proved_load(log, version, key(0), key(1), bytes, len);
+}
+
 nlog_status nlog_load(nlog *log, const void *bytes, size_t len) {
-  return proved_load(log, key(0), key(1), bytes, len);
+  return load_as(log, 0, bytes, len);
 }
 
 nlog_status nlog_load_distrusted(nlog *log, const void *bytes, size_t len) {

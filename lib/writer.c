@@ -79,69 +79,56 @@ void nlog_writer_free(nlog_writer **writer) {
   free(w);
 }
 
-static void note_block(seen *seen, const char *bytes, size_t len) {
-  const size_t kept = LEAST(len, LAST);
-  size_t end = len;
-  if (seen->len == 0) memcpy(seen->first, bytes, LEAST(len, sizeof seen->first - 1));
-  memmove(seen->last, seen->last + kept, LAST - kept);
-  memcpy(seen->last + LAST - kept, bytes + len - kept, kept);
-  while (end > 0 && bytes[end - 1] != '\n') end--;
-  if (end > 0) seen->whole = seen->len + end;
-  seen->len += len;
-}
-
-static nlog_status give_log(nlog_writer *w, int fd) {
-  seen *seen = &w->seen;
-  const int error = ask_regular(fd, &seen->about);
+/* Loads a file of the log in blocks. Where there is none, the log is empty. */
+static nlog_status load_log(nlog_writer *w, int fd, nlog *found) {
+  if (fd < 0) return load_as(found, w->version, NULL, 0);
+  int error = ask_regular(fd, &w->seen.about);
   if (error != 0) return fail(w, "fstat", w->path, error);
-  seen->len = seen->whole = 0;
-  memset(seen->first, 0, sizeof seen->first);
-  TRY(carried_room(&w->log, size_of(&seen->about)));
-  for (ssize_t got = BLOCK; got == BLOCK;) {
-    got = read_whole(fd, w->buffer, BLOCK, seen->len);
-    TRY(done(w, got >= 0, "pread", w->path));
-    TRY(carried_give(&w->log, w->buffer, (size_t)got));
-    note_block(seen, w->buffer, (size_t)got);
-  }
-  return NLOG_OK;
+  nlog_status status = load_blocks(found, w->version, fd, w->buffer, &w->seen, &error);
+  return status == NLOG_FAULT ? fail(w, "pread", w->path, error) : status;
 }
 
-/* Marks as dead each output that can't be trusted. Bytes that are refused are so by their open. */
-static nlog_status mark_distrusted(nlog_writer *w, bool *is_any) {
+/* Reads a damaged log whole, marks as dead each output that can't be trusted, and loads it anew. */
+static nlog_status mark_distrusted(nlog_writer *w, int fd, nlog *found, bool *is_any) {
   nlog distrusted = NLOG_INIT;
-  nlog_status status = carried_distrusted(&w->log, &distrusted);
-  if (status != NLOG_OK) return status == NLOG_OUT_OF_MEMORY ? status : NLOG_OK;
-  for (size_t place = 0, len; status == NLOG_OK; place++) {
+  size_t len;
+  int error;
+  char *bytes = read_all(fd, &w->seen.about, &len, &error);
+  if (bytes == NULL) return error == 0 ? NLOG_OUT_OF_MEMORY : fail(w, "pread", w->path, error);
+  nlog_status status = nlog_load_distrusted(&distrusted, bytes, len);
+  for (size_t place = 0, name; status == NLOG_OK; place++) {
     nlog_entry entry;
-    status = nlog_at(&distrusted, place, &entry, w->buffer, NLOG_MAX_NAME, &len);
+    status = nlog_at(&distrusted, place, &entry, w->buffer, NLOG_MAX_NAME, &name);
     *is_any = *is_any || status == NLOG_OK;
-    if (status == NLOG_OK) status = carried_mark_dead(&w->log, w->buffer, len);
+    if (status == NLOG_OK) status = carried_mark_dead(&w->log, w->buffer, name);
   }
   nlog_free(&distrusted);
-  return status == NLOG_NOT_FOUND ? NLOG_OK : status;
+  w->seen.len = w->seen.whole = 0;
+  note_block(&w->seen, bytes, len);
+  if (status == NLOG_NOT_FOUND) status = load_as(found, w->version, bytes, len);
+  free(bytes);
+  return status;
 }
 
-static nlog_status open_given(nlog_writer *w, bool is_wary) {
-  return of_text(w, is_wary ? carried_open_whole(&w->log, w->version, &w->seen.change)
-                            : carried_open(&w->log, w->version, &w->seen.change));
+static nlog_status open_found(nlog_writer *w, nlog *found, bool wants_whole) {
+  return of_text(w, carried_open(&w->log, found, wants_whole, &w->seen.change));
 }
 
-/* Reads a file of the log, if there is one, and opens what it is. A wary writer reads again what
- * isn't whole, since its bytes are let go of by then. */
+/* Loads a file of the log, if there is one, and opens what it is. */
 static nlog_status open_text(nlog_writer *w, int fd) {
+  nlog found = NLOG_INIT;
   bool is_any = false;
-  nlog_status status = fd < 0 ? carried_room(&w->log, 0) : give_log(w, fd);
-  if (status == NLOG_OK) status = open_given(w, w->is_wary);
+  nlog_status status = load_log(w, fd, &found);
+  if (status == NLOG_OK) status = open_found(w, &found, w->is_wary);
   if (status == NLOG_NOT_FOUND) {
-    status = give_log(w, fd);
-    if (status == NLOG_OK) status = mark_distrusted(w, &is_any);
-    if (status == NLOG_OK) status = open_given(w, false);
+    status = mark_distrusted(w, fd, &found, &is_any);
+    if (status == NLOG_OK) status = open_found(w, &found, false);
     if (status == NLOG_OK && is_any && w->seen.change != REPLACE) {
       w->seen.change = REPLACE;
       status = of_text(w, carried_recompact(&w->log));
     }
   }
-  if (status != NLOG_OK) carried_room(&w->log, 0); /* the bytes of a read that failed */
+  nlog_free(&found);
   const char *number = w->seen.first + DIGIT_AT;
   if (status == NLOG_OTHER_VERSION && *number != '0') w->other_version = strtoull(number, NULL, 10);
   return status;

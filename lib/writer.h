@@ -98,11 +98,7 @@ struct nlog_writer {
  * one whose text its caller carries. */
 nlog_status carried_more(nlog *log, const void *bytes, size_t len);
 nlog_status carried_new(nlog *log);
-nlog_status carried_room(nlog *log, size_t len);
-nlog_status carried_give(nlog *log, const void *bytes, size_t len);
-nlog_status carried_distrusted(nlog *log, nlog *other);
-nlog_status carried_open(nlog *log, uint32_t version, uint32_t *change);
-nlog_status carried_open_whole(nlog *log, uint32_t version, uint32_t *change);
+nlog_status carried_open(nlog *log, nlog *found, bool wants_whole, uint32_t *change);
 nlog_status carried_text(nlog *log, uint64_t from, void *bytes, size_t room, uint64_t *len);
 nlog_status carried_header(nlog *log, void *bytes, size_t room);
 nlog_status carried_line(nlog *log, size_t place, void *bytes, size_t room, size_t *len);
@@ -121,6 +117,14 @@ nlog_status carried_close(nlog *log);
 nlog_status carried_mark_dead(nlog *log, const char *name, size_t len);
 nlog_status carried_mark_time(nlog *log, const char *name, size_t len, int64_t mtime);
 nlog_status carried_clear_marks(nlog *log);
+
+/* lib/nlog_secret.c */
+nlog_status load_as(nlog *log, uint32_t version, const void *bytes, size_t len);
+
+/* lib/nlog_reads.c */
+void note_block(seen *seen, const char *bytes, size_t len);
+char *read_all(int fd, struct stat *about, size_t *len, int *error);
+nlog_status load_blocks(nlog *log, uint32_t version, int fd, char *block, seen *seen, int *error);
 
 /* lib/nlog_rights.c */
 int keep_rights(int log, int scratch, char *room, struct stat *about, const char **call);

@@ -787,8 +787,8 @@ def refusals(trials, made, room):
 
 
 def kept_memory(trials, made, room):
-    """How much memory a load takes: the table; and a writer: at its open the log's bytes and the table, while it is open what a load takes, and behind
-    its close less."""
+    """How much memory a load, a look and an open take: the table, and none of the log's bytes; and a writer, while it is open what a load takes, and
+    behind its close less."""
     for first in ("open", "look"):
         kept_memory_behind(trials, made, f"{room}/kept.log", first)
 
@@ -805,7 +805,7 @@ def kept_memory_behind(trials, made, log, first):
         loaded, most = resident(loader.pid, "VmRSS") - begun[0], resident(writer.pid, "VmHWM") - begun[1]
         peak = resident(loader.pid, "VmHWM") - begun[0]
         trials.check("a load of a file takes the table, and not the bytes", peak < table + 3_000_000, f"{peak} bytes for a log of {size}")
-        trials.check("an open takes the bytes and the table", most < size + table + 4_000_000, f"{most} bytes for a log of {size}")
+        trials.check(f"an {first} takes the table, and not the bytes", most < table + 4_000_000, f"{most} bytes for a log of {size}")
         held = [resident(writer.pid, "VmRSS") - begun[1]]
         again = {answers_of(writer, f"record {i} 2 3 aa {hexed(names[i % 20])}") for i in range(60)}
         trials.want("records without a sync", again, {"OK"})

@@ -107,6 +107,8 @@ def blocks(trials, made, room):
         lines += b"y" * (whole - len(lines) - 1) + b"\n" + A + B
         write(log, lines)
         trials.want(f"a line that ends at {whole}", run([made["C11"], "load-both", log])[:2], (0, b"NLOG_OK 5 4002 4002 1 %d 0\n" % len(lines)))
+        opened = asked([made["C11"]], "write", log, 0, ["open", "count", "close"])[1]
+        trials.want(f"an open of a log with a line that ends at {whole}", (opened, read(log)), (["OK", "OK 4002", "OK"], lines))
     for text, wanted in ((b"# ninja log v9\n" + b"".join(line), b"OTHER_VERSION"), (b"ninja\n" + b"".join(line), b"NOT_A_LOG"), (b"z" * (BLOCK + 7) + b"\n" + A, b"NOT_A_LOG"), (b"z" * (3 * BLOCK), b"NOT_A_LOG")):
         write(log, text)
         trials.want(f"a file of {len(text)} bytes that begins {text[:14]}", run([made["C11"], "load-both", log])[:2], (0, b"NLOG_%s 0 0 0 0 0 0\n" % wanted))

@@ -1,3 +1,4 @@
+mod AllLemmas
 mod BoxedLog
 mod ChangeLemmas
 mod EndsLemmas

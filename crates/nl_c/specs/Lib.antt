@@ -1,11 +1,12 @@
 pub mod Statuses
 pub mod MarkedNames
 pub mod Plans
-pub mod LoadedLogs
+pub mod Loads
 pub mod Changes
 pub mod Ends
 pub mod Honest
 pub mod Written
+pub mod LoadedLogs
 pub mod Waits
 pub mod Carried
 pub mod CarriedLogs

@@ -1,30 +1,25 @@
 //! The calls that only the library's own C makes: they load a log in pieces, or serve a log that its caller carries to a file.
-ghost use Rattle.std.specs.Prelude.{◌≡◌, ◌≢◌, ◌↔◌, ◌⊎◌, ◌++◌, ℕ, List, true, false, None, IfErr, IfOk, IsErrOf, IsOk, IsSomeAnd};
-ghost use Rattle.nl_distrust.specs.Distrusted.{is_whole};
-ghost use Rattle.nl_table.specs.Log.{NotALog, OtherVersion, log_of};
-ghost use Rattle.nl_versions.specs.VersionOf.{as_five, lines_version};
-ghost use Rattle.nl_c.specs.LoadedLogs.{IsDistrustedFrom, IsLoadedFrom};
-ghost use Rattle.nl_c.specs.CarriedLogs.{IsNewCarried, MadeRoom, Given, CarriedOpened, WholeOpened, Keeps, Anew, CarriedWritten, CarriedText, CarriedHeader, CarriedLine, Ends, Planned, Withdrawn, LooseLine, intent_stamp};
-ghost use Rattle.nl_c.specs.Held.{InCarried, IsCarriedAnd, given_in, given_of, has_carried, is_carried, loaded_of};
+ghost use Rattle.std.specs.Prelude.{◌≡◌, ◌≢◌, ◌⊎◌, ◌++◌, ℕ, List, None, IsSomeAnd, option_and_then};
+ghost use Rattle.nl_c.specs.LoadedLogs.{IsLoadedAs};
+ghost use Rattle.nl_c.specs.CarriedLogs.{IsNewCarried, CarriedOpened, Keeps, Anew, CarriedWritten, CarriedText, CarriedHeader, CarriedLine, Ends, Planned, Withdrawn, LooseLine, intent_stamp};
+ghost use Rattle.nl_c.specs.Held.{InCarried, IsCarriedAnd, all_of, loaded_in, loaded_of};
 ghost use Rattle.nl_c.specs.Written.{Recorded, Begun, Synced, Stopped, Recompacted, Restatted, DeadMarked, TimeMarked, Cleared};
-ghost use Rattle.nl_c.specs.Statuses.{ok, no_handle, not_a_log, not_found, other_version, out_of_memory};
+ghost use Rattle.nl_c.specs.Statuses.{ok, no_handle, out_of_memory};
 
 use crate::carried_log::CarriedLog;
 use crate::handle::Handle;
 use crate::held::Held;
 use crate::loaded_log::{CStamp, LoadedLog};
 use crate::status;
-use nl_distrust::is_whole;
 use nl_table::Secret;
-use nl_versions::lines_version;
 use std::alloc::Global;
 
 /// Call it after a load whose bytes ended in a newline, or after another call of this. If it fails, it frees the log.
 #[unsafe(no_mangle)]
 pub extern "C" fn carried_more(handle: &mut Handle, alloc: Global, bytes: &[u8]) -> u32
-    ensures ok { result ≡ ok → (before : List ℕ)
-        → IsSomeAnd handle.old.kept.log (λ held. IsSomeAnd (loaded_of held) (IsLoadedFrom before))
-        → IsSomeAnd handle.new.kept.log (λ held. IsSomeAnd (loaded_of held) (IsLoadedFrom (before ++ bytes.now))) }
+    ensures ok { result ≡ ok → (asked : ℕ) (before : List ℕ)
+        → IsSomeAnd handle.old.kept.log (λ held. IsSomeAnd (loaded_of held) (IsLoadedAs asked before))
+        → IsSomeAnd handle.new.kept.log (λ held. IsSomeAnd (loaded_of held) (IsLoadedAs asked (before ++ bytes.now))) }
     ensures refusals { (result ≡ ok) ⊎ (result ≡ no_handle) ⊎ (result ≡ out_of_memory) }
     ensures gone { result ≢ ok → handle.new.kept.log ≡ None }
 {
@@ -56,125 +51,39 @@ pub extern "C" fn carried_new(handle: &mut Handle, alloc: Global, key0: u64, key
     }
 }
 
-/// Call it before the bytes are given: it drops those that an earlier open left.
-#[unsafe(no_mangle)]
-pub extern "C" fn carried_room(handle: &mut Handle, alloc: Global, len: usize) -> u32
-    ensures call { InCarried MadeRoom result handle.old.kept.log handle.new.kept.log }
-{
-    let Some(mut held) = handle.take(alloc) else {
-        return status::NO_HANDLE;
-    };
-    let answer = held.make_room(alloc, len);
-    *handle = Handle::of(held);
-    answer
-}
-
-#[unsafe(no_mangle)]
-pub extern "C" fn carried_give(handle: &mut Handle, alloc: Global, bytes: &[u8]) -> u32
-    ensures call { InCarried (Given bytes.now) result handle.old.kept.log handle.new.kept.log }
-{
-    let Some(mut held) = handle.take(alloc) else {
-        return status::NO_HANDLE;
-    };
-    let answer = held.give(bytes);
-    *handle = Handle::of(held);
-    answer
-}
-
-/// Frees the bytes that were given, whatever the status.
+/// Opens what was loaded into another handle, and frees that one's log whatever the status. If a whole log is wanted, one with a line that is
+/// no entry, or a torn one, is answered as not found.
 #[unsafe(no_mangle)]
 pub extern "C" fn carried_open(
     handle: &mut Handle,
     alloc: Global,
-    version: u32,
+    found: &mut Handle,
+    wants_whole: bool,
     change: &mut u32,
 ) -> u32
-    ensures call { InCarried (CarriedOpened version (change.old, change.new)) result handle.old.kept.log handle.new.kept.log }
+    ensures call { (asked : ℕ) (bytes : List ℕ) → IsSomeAnd (loaded_in found.old.kept.log) (IsLoadedAs asked bytes)
+        → InCarried (CarriedOpened asked bytes wants_whole (change.old, change.new)) result handle.old.kept.log handle.new.kept.log }
+    ensures other { option_and_then all_of found.old.kept.log ≡ None
+        → (result ≡ no_handle) × (handle.new.kept.log ≡ handle.old.kept.log) }
+    ensures used { found.new.kept.log ≡ None }
 {
+    let Some(log) = take_all(found, alloc) else {
+        return status::NO_HANDLE;
+    };
     let Some(mut held) = handle.take(alloc) else {
         return status::NO_HANDLE;
     };
-    let answer = held.open(alloc, version, change);
+    let answer = held.open(alloc, log, wants_whole, change);
     *handle = Handle::of(held);
     answer
 }
 
-/// Opens only a log whose lines are all entries, none of them torn, because all of its outputs can be trusted then. Another log
-/// is answered as not found.
-#[unsafe(no_mangle)]
-pub extern "C" fn carried_open_whole(
-    handle: &mut Handle,
-    alloc: Global,
-    version: u32,
-    change: &mut u32,
-) -> u32
-    ensures call { InCarried (WholeOpened version (change.old, change.new)) result handle.old.kept.log handle.new.kept.log }
+fn take_all(found: &mut Handle, alloc: Global) -> Option<LoadedLog>
+    ensures value { result ≡ option_and_then all_of found.old.kept.log }
+    ensures used { found.new.kept.log ≡ None }
 {
-    let Some(mut held) = handle.take(alloc) else {
-        return status::NO_HANDLE;
-    };
-    let answer = held.open_whole(alloc, version, change);
-    *handle = Handle::of(held);
-    answer
-}
-
-/// Loads into another handle only the entries whose outputs can't be trusted. A whole log gives none.
-#[unsafe(no_mangle)]
-pub extern "C" fn carried_distrusted(handle: &mut Handle, alloc: Global, other: &mut Handle) -> u32
-    ensures same { handle.new.kept.log ≡ handle.old.kept.log }
-    ensures ok { result ≡ ok → IsSomeAnd other.new.kept.log
-        (λ held. IsSomeAnd (loaded_of held) (IsDistrustedFrom (given_in handle.old.kept.log))) }
-    ensures no_handle { result ≡ no_handle ↔ (has_carried handle.old.kept.log ≡ false) }
-    ensures whole { result ≡ not_found ↔ (has_carried handle.old.kept.log ≡ true)
-        × (is_whole (lines_version (given_in handle.old.kept.log)) (given_in handle.old.kept.log) ≡ true) }
-    ensures not_a_log { result ≡ not_a_log → log_of (as_five (given_in handle.old.kept.log)) ≡ NotALog }
-    ensures other_version { result ≡ other_version
-        → log_of (as_five (given_in handle.old.kept.log)) ≡ OtherVersion }
-    ensures refusals { (result ≡ ok) ⊎ (result ≡ no_handle) ⊎ (result ≡ not_found) ⊎ (result ≡ not_a_log)
-        ⊎ (result ≡ other_version) ⊎ (result ≡ out_of_memory) }
-    ensures unchanged { result ≢ ok → other.new.kept.log ≡ other.old.kept.log }
-{
-    let Some(held) = handle.take(alloc) else {
-        return status::NO_HANDLE;
-    };
-    let found = distrusted_of(&held, alloc);
-    *handle = Handle::of(held);
-    match found {
-        Err(refused) => refused,
-        Ok(log) => match Box::new(alloc, Held::Loaded(log)) {
-            Ok(log) => {
-                drop(other.take(alloc));
-                *other = Handle::of(log);
-                status::OK
-            }
-            Err(_) => status::OUT_OF_MEMORY,
-        },
-    }
-}
-
-fn distrusted_of(held: &Held, alloc: Global) -> Result<LoadedLog, u32>
-    ensures ok { IfOk result (IsDistrustedFrom (given_of held.now)) }
-    ensures whole { IsOk result → is_whole (lines_version (given_of held.now)) (given_of held.now) ≡ false }
-    ensures carried { IsOk result → is_carried held.now ≡ true }
-    ensures no_handle { IsErrOf result no_handle ↔ (is_carried held.now ≡ false) }
-    ensures none { IsErrOf result not_found ↔ (is_carried held.now ≡ true)
-        × (is_whole (lines_version (given_of held.now)) (given_of held.now) ≡ true) }
-    ensures not_a_log { IsErrOf result not_a_log → log_of (as_five (given_of held.now)) ≡ NotALog }
-    ensures other_version { IsErrOf result other_version
-        → log_of (as_five (given_of held.now)) ≡ OtherVersion }
-    ensures refusals { IfErr result (λ why. (why ≡ no_handle) ⊎ (why ≡ not_found) ⊎ (why ≡ not_a_log)
-        ⊎ (why ≡ other_version) ⊎ (why ≡ out_of_memory)) }
-{
-    let Some(bytes) = held.given() else {
-        return Err(status::NO_HANDLE);
-    };
-    if is_whole(lines_version(bytes), bytes) {
-        return Err(status::NOT_FOUND);
-    }
-    match LoadedLog::load_distrusted(alloc, held.secret(), bytes) {
-        Ok(log) => Ok(log),
-        Err(fault) => Err(status::of_fault(fault)),
-    }
+    let held = found.take(alloc)?;
+    Box::into_inner(held).into_all()
 }
 
 /// The line waits until the caller carries it.

@@ -1,9 +1,11 @@
 //! The record of a disk, which clauses alone read: it takes no memory.
-ghost use Rattle.std.specs.Prelude.{◌≡◌, ℕ};
+ghost use Rattle.std.specs.Prelude.{◌≡◌, ◌++◌, ℕ};
+ghost use Rattle.nl_versions.specs.Version.{as_version};
 ghost use Rattle.std.specs.Borrow.{ftrue};
 ghost use Rattle.nl_folder.specs.DiskState.{Disk, durable_disk, empty_file};
 ghost use Rattle.nl_folder.specs.Calls as calls;
 
+use nl_versions::LogVersion;
 use std::marker::{Model, PhantomData};
 
 /// It has no byte.
@@ -33,6 +35,20 @@ impl DiskRecord {
         ensures { result.disk ≡ durable_disk text.now empty_file }
     {
         note(&text)
+    }
+
+    /// Of a text that goes on by these bytes, all of it durable.
+    pub(crate) fn more(&self, bytes: &[u8]) -> DiskRecord
+        ensures { result.disk ≡ durable_disk (self.now.disk.visible ++ bytes.now) empty_file }
+    {
+        note(&(self, bytes))
+    }
+
+    /// Of the text as one of a version, all of it durable.
+    pub(crate) fn seen_as(&self, version: LogVersion) -> DiskRecord
+        ensures { result.disk ≡ durable_disk (as_version version self.now.disk.visible) empty_file }
+    {
+        note(&(self, version))
     }
 
     pub(crate) fn log_grown(&self, n: usize, bytes: &[u8]) -> DiskRecord

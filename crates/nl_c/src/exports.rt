@@ -3,10 +3,12 @@ ghost use Rattle.std.specs.Prelude.{◌≡◌, ◌≢◌, ◌↔◌, ◌⊎◌, 
 ghost use Rattle.nl_fields.specs.CommandHash.{IsHash, hash_of};
 ghost use Rattle.nl_fields.specs.RapidHash.{rapid_hash_of};
 ghost use Rattle.nl_table.specs.Log.{NotALog, OtherVersion, log_of};
+ghost use Rattle.nl_versions.specs.Version.{as_version};
 ghost use Rattle.nl_versions.specs.VersionOf.{as_five};
-ghost use Rattle.nl_c.specs.LoadedLogs.{IsDistrustedFrom, IsLoadedFrom};
+ghost use Rattle.nl_c.specs.LoadedLogs.{IsDistrustedFrom, IsLoadedAs};
 ghost use Rattle.nl_c.specs.Answers.{answered_at, answered_count, answered_facts, answered_find, answer_line};
 ghost use Rattle.nl_c.specs.Held.{loaded_in, loaded_of, table_in};
+ghost use Rattle.nl_c.specs.Written.{version_for};
 ghost use Rattle.nl_fields.specs.Name.{IsName};
 ghost use Rattle.nl_c.specs.Statuses.{ok, bad_name, not_a_log, other_version, out_of_memory, text_in, status_text};
 
@@ -40,24 +42,28 @@ pub extern "C" fn nlog_status_text(status: u32, buf: &mut [u8]) -> usize
     text.len()
 }
 
-/// Frees the log that the handle had before; a load that is refused leaves that log.
+/// Loads a log of the version, or of the one that its first line names where the version is 0. Frees the log that the handle had before; a
+/// load that is refused leaves that log.
 #[unsafe(no_mangle)]
 pub extern "C" fn nlog_load(
     handle: &mut Handle,
     alloc: Global,
+    version: u32,
     key0: u64,
     key1: u64,
     bytes: &[u8],
 ) -> u32
     ensures ok { result ≡ ok → IsSomeAnd handle.new.kept.log
-        (λ held. IsSomeAnd (loaded_of held) (IsLoadedFrom bytes.now)) }
-    ensures not_a_log { result ≡ not_a_log → log_of (as_five bytes.now) ≡ NotALog }
-    ensures other_version { result ≡ other_version → log_of (as_five bytes.now) ≡ OtherVersion }
+        (λ held. IsSomeAnd (loaded_of held) (IsLoadedAs version bytes.now)) }
+    ensures not_a_log { result ≡ not_a_log
+        → IsSomeAnd (version_for version bytes.now) (λ v. log_of (as_version v bytes.now) ≡ NotALog) }
+    ensures other_version { result ≡ other_version → (version_for version bytes.now ≡ None)
+        ⊎ IsSomeAnd (version_for version bytes.now) (λ v. log_of (as_version v bytes.now) ≡ OtherVersion) }
     ensures refusals { (result ≡ ok) ⊎ (result ≡ not_a_log) ⊎ (result ≡ other_version)
         ⊎ (result ≡ out_of_memory) }
     ensures unchanged { result ≢ ok → handle.new.kept.log ≡ handle.old.kept.log }
 {
-    let log = match LoadedLog::load(alloc, Secret::of(key0, key1), bytes) {
+    let log = match LoadedLog::load(alloc, version, Secret::of(key0, key1), bytes) {
         Ok(log) => log,
         Err(fault) => return status::of_fault(fault),
     };

@@ -6,7 +6,7 @@ ghost use Rattle.nl_c.specs.CarriedLogs.{holds_line};
 ghost use Rattle.nl_c.specs.Statuses.{ok, no_room, out_of_memory};
 ghost use Rattle.nl_c.specs.Answers.{answer_at, answer_find, answer_line, entry_in};
 
-use crate::loaded_log::{CStamp, stamp_of};
+use crate::loaded_log::CStamp;
 use crate::status;
 use nl_fields::{EntryRef, MAX_LINE, append_entry, read_entry, read_entry_v4};
 use nl_table::{OLDEST_VERSION, Table};
@@ -16,7 +16,7 @@ pub(crate) fn find(table: &Table, name: &[u8], stamp: &mut CStamp) -> u32
 {
     match table.get(name) {
         Some(entry) => {
-            *stamp = stamp_of(&entry);
+            *stamp = CStamp::of(&entry);
             status::OK
         }
         None => status::NOT_FOUND,
@@ -30,7 +30,7 @@ fn fill(found: Option<EntryRef>, stamp: &mut CStamp, name: &mut [u8], name_len: 
     let Some(entry) = found else {
         return status::NOT_FOUND;
     };
-    *stamp = stamp_of(&entry);
+    *stamp = CStamp::of(&entry);
     let bytes = entry.name();
     *name_len = bytes.len();
     if bytes.len() > name.len() {
