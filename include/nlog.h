@@ -437,7 +437,8 @@ nlog_status nlog_writer_sync(nlog_writer *writer);
 nlog_status nlog_writer_recompact(nlog_writer *writer);
 
 /* Rewrites the log, and gives each output that is marked with a time this
- * mtime. Such marks are used up, also if a file fails.
+ * mtime, unless its entry is an intent. Such marks are used up, also if a file
+ * fails.
  * NLOG_OK: it is on disk.
  * NLOG_NEGATIVE_TIME: nothing was changed, and place is that of the first
  * negative one in the order of the marks. */

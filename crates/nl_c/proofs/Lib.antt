@@ -9,6 +9,7 @@ mod LogDrop
 mod MoreLemmas
 mod PlanLemmas
 mod RecordLemmas
+mod RestatLemmas
 mod RewritingLemmas
 mod StepLemmas
 mod ToldLemmas
