@@ -1,4 +1,5 @@
 """Folders in which builds crash, and whose stale outputs are counted that a build tool takes for fresh. ninja/stale.py says more of them."""
+import collections
 import os
 import random
 import shutil
@@ -10,15 +11,53 @@ import time
 from builds import LOG, tick
 from trials import Trials, in_memory, read, write
 
-# Each command writes its outputs, says who made them, and kills its builder where it is told to.
 RULES = """rule c
-  command = (echo $tag; cat $in) > $out; for it in $out; do echo $$MAKER > $$it.by; done; test ! -e kill.$name || kill -9 $$PPID
-rule two
-  command = for it in $out; do (echo $tag; cat $in) > $$it; echo $$MAKER > $$it.by; done; test ! -e kill.$name || kill -9 $$PPID
+  command = exec {maker} $name $tag $out -- $in
 rule same
-  command = (echo $tag; cat $in) > $out.new; echo $$MAKER > $out.by; if cmp -s $out.new $out; then rm $out.new; else mv $out.new $out; fi; $
-      test ! -e kill.$name || kill -9 $$PPID
+  command = exec {maker} -s $name $tag $out -- $in
   restat = 1
+"""
+
+# A command: it writes its outputs, with `-s` those alone that change, says who made them, and kills its builder where it is told to.
+MAKER = r"""
+#include <fcntl.h>
+#include <signal.h>
+#include <stdio.h>
+#include <stdlib.h>
+#include <string.h>
+#include <unistd.h>
+
+static char text[1 << 20], old[1 << 20];
+
+static size_t get(const char *path, char *to, size_t room) {
+  int fd = open(path, O_RDONLY);
+  ssize_t len = fd < 0 ? 0 : read(fd, to, room);
+  if (fd >= 0) close(fd);
+  return len < 0 ? 0 : (size_t)len;
+}
+
+static void put(const char *path, const char *bytes, size_t len) {
+  int fd = open(path, O_WRONLY | O_CREAT | O_TRUNC, 0666);
+  if (fd < 0 || write(fd, bytes, len) != (ssize_t)len || close(fd) != 0) exit(1);
+}
+
+int main(int count, char **words) {
+  int is_same = strcmp(words[1], "-s") == 0, at = 2 + is_same, first = at + 1;
+  const char *maker = getenv("MAKER");
+  char path[4096];
+  size_t len = (size_t)snprintf(text, sizeof text, "%s\n", words[at]);
+  while (strcmp(words[++at], "--") != 0) continue;
+  while (++at < count) len += get(words[at], text + len, sizeof text - len);
+  for (at = first; strcmp(words[at], "--") != 0; at++) {
+    if (!is_same || get(words[at], old, sizeof old) != len || memcmp(old, text, len) != 0) put(words[at], text, len);
+    snprintf(path, sizeof path, "%s.by", words[at]);
+    snprintf(old, sizeof old, "%s\n", maker);
+    put(path, old, strlen(old));
+  }
+  snprintf(path, sizeof path, "kill.%s", words[1 + is_same]);
+  if (access(path, F_OK) == 0) kill(getppid(), SIGKILL);
+  return 0;
+}
 """
 
 SHIM = r"""
@@ -113,10 +152,13 @@ int fclose(FILE *file) {
 
 
 class Life:
-    """A folder with so many outputs, what it builds, and what was found in it."""
+    """A folder with so many outputs, what it builds, and what was found in it. Of a control it is known what it is without."""
 
-    def __init__(self, numbers, kind, builders, shim, folder, outputs):
-        self.numbers, self.kind, self.builders, self.shim, self.folder = numbers, kind, builders, shim, folder
+    def __init__(self, numbers, name, builders, shim, folder, outputs):
+        self.numbers, self.builders, self.shim, self.folder = numbers, builders, shim, folder
+        self.kind, _, self.without = name.partition(", ")
+        self.states = self.stale = 0
+        self.happened = collections.Counter()
         os.makedirs(folder)
         os.chdir(folder)
         self.tags = ["A"] * outputs
@@ -124,17 +166,17 @@ class Life:
         made = []
         self.halves = [[], []]  # of `two`: what each of two builders makes
         while len(made) < outputs:
-            rule = numbers.choice(["c", "c", "c", "two", "same"])
-            outs = [f"o{len(made) + it}" for it in range(2 if rule == "two" and len(made) + 1 < outputs else 1)]
+            rule = numbers.choice(["c", "c", "c", "c", "same"])
+            outs = [f"o{len(made) + it}" for it in range(2 if rule == "c" and numbers.random() < 0.25 and len(made) + 1 < outputs else 1)]
             # Without an input the hash alone tells what is stale, and not the time stamp too.
             half = self.halves[len(self.edges) % 2]
-            before = half if kind == "two" else made
+            before = half if self.kind == "two" else made
             self.edges.append((rule, outs, numbers.choice([[], ["source"], [*numbers.sample(before, 1)]]) if before else []))
             made += outs
             half += outs
 
     def manifest(self):
-        lines = [RULES]
+        lines = [RULES.format(maker=f"{os.path.dirname(self.folder)}/maker")]
         for at, (rule, outs, ins) in enumerate(self.edges):
             lines.append(f"build {' '.join(outs)}: {rule} {' '.join(ins)}\n  tag = {self.tags[at]}\n  name = {outs[0]}\n")
         write("build.ninja", "".join(lines))
@@ -158,10 +200,14 @@ class Life:
             return
         text = read(LOG)
         kept = min(len(text), self.synced())
+        if kept == len(text):
+            return
         at = self.numbers.choice([kept, self.numbers.randint(kept, len(text)), max(kept, len(text) - self.numbers.randint(1, 200))])
         end = self.numbers.choice([at, at, len(text), self.numbers.randint(at, len(text))])
         if self.kind == "hands" and not self.has_tools:
             end = at  # plain samurai reads a log up to its first zero, and drops the intents behind it
+        how = "zeros" if end == len(text) > at else "holes" if end > at else "all lost" if at == kept else "lines lost" if text[at - 1 : at] == b"\n" else "lines half lost"
+        self.happened[how] += at < len(text)
         write(LOG, text[:at] + bytes(end - at) + (text[end:] if end > at else b""))
 
     def tear(self):
@@ -169,12 +215,13 @@ class Life:
         text = read(LOG)
         if text.endswith(b"\n") and b"\t" in text:
             os.truncate(LOG, self.numbers.randint(text.rindex(b"\t") + 1, len(text) - 1))
+            self.happened["torn"] += 1
 
     def build(self, crash, who=None):
-        """Runs a build to its end, or into a crash: its status, and who ran it."""
-        who = who or {"hands": self.numbers.choice(["plain", "patched"]), "plain": "plain"}.get(self.kind, "patched")
-        env = {**os.environ, "MAKER": who, "LD_PRELOAD": self.shim, "SYNCED": f"{self.folder}/synced", "NINJA_LOG_SYNC": "none" if self.kind == "no intents" else ""}
-        if self.kind == "no sync":
+        """Runs a build to its end, or into a crash: its status."""
+        who = "plain" if self.without == "plain" else who or (self.numbers.choice(["plain", "patched"]) if self.kind == "hands" else "patched")
+        env = {**os.environ, "MAKER": who, "LD_PRELOAD": self.shim, "SYNCED": f"{self.folder}/synced", "NINJA_LOG_SYNC": "none" if self.without == "no intents" else ""}
+        if self.without == "no sync":
             env["NO_SYNC"] = "1"
         for it in os.listdir("."):
             if it.startswith("kill."):
@@ -189,17 +236,20 @@ class Life:
         children = [subprocess.Popen([*words, *it], env=env, pass_fds=[theirs], stdin=subprocess.DEVNULL, stdout=subprocess.DEVNULL, stderr=subprocess.DEVNULL) for it in (self.halves if self.kind == "two" else [[]])]
         os.close(theirs)
         if crash in ("moment", "interrupt"):
-            time.sleep(self.numbers.random() * 0.1)
+            time.sleep(self.numbers.random() * 0.05)
             self.numbers.choice(children).send_signal(signal.SIGKILL if crash == "moment" else signal.SIGINT)
         status = max(abs(it.wait()) for it in children)
+        self.happened["kills" if crash != "interrupt" else "interrupts"] += status != 0
+        self.happened[f"builds by {who}"] += 1
         os.read(ours, 1)
         os.close(ours)
-        return status, who
+        return status
 
     def tool(self):
         """What a user may run between two builds, or none."""
         words = self.numbers.choice([[], [], ["restat"], ["recompact"]])
-        if words and self.kind not in ("plain", "hands") and self.has_tools:
+        if words and self.without != "plain" and self.kind != "hands" and self.has_tools:
+            self.happened[words[0]] += 1
             subprocess.run([*self.builders["patched"], "-t", *words], stdout=subprocess.DEVNULL, stderr=subprocess.DEVNULL, check=False)
 
     def wanted(self):
@@ -211,54 +261,45 @@ class Life:
         return found
 
     def live(self, builds):
-        """States that were looked at, stale ones, crashes; of a folder that changes hands the stale ones that the patched one made."""
         write("source", "source\n")
         self.manifest()
-        states = stale = crashes = 0
         for _ in range(builds):
             tick(".")
             crash = self.numbers.choice(["command", "command", "moment", "interrupt", "call", "none", "none"])
-            status, _ = self.build(crash)
-            crashes += status != 0
+            status = self.build(crash)
             if status != 0 or crash == "none":
                 if status == 0:
-                    new_states, new_stale = self.look()
-                    states, stale = states + new_states, stale + new_stale
+                    self.look()
                 if self.kind != "killed" and self.numbers.random() < 0.7:
                     self.power_cut()
-                    crashes += 1
                 self.tool()
             if self.numbers.random() < 0.8:
                 self.change()
-        return states, stale, crashes
 
     def live_torn(self, builds):
         """As live, without a crash that loses more of a line than its hash. No log of three builds is due, so plain Ninja rewrites none."""
         write("source", "source\n")
         self.manifest()
-        states = stale = torn = 0
         for at in range(builds):
             tick(".")
             who = "patched" if at % 3 == 2 else "plain"
             self.build("none", who)
             if who == "patched":
-                new_states, new_stale = self.look()
-                states, stale = states + new_states, stale + new_stale
-                subprocess.run([*self.builders[who], "-t", "recompact"], stdout=subprocess.DEVNULL, check=True)
+                self.look()
+                subprocess.run([*self.builders["plain" if self.without else who], "-t", "recompact"], stdout=subprocess.DEVNULL, check=True)
             if self.numbers.random() < 0.8:
                 self.tear()
-                torn += 1
             if self.numbers.random() < 0.8:
                 self.change()
-        return states, stale, torn
 
     def look(self):
+        """Of a folder that changes hands those count as stale that the patched one made."""
         wanted = self.wanted()
         stale = [it for it in wanted if read(it) != wanted[it]]
         if self.kind == "hands":
             # An output made of a stale input is right by its own command.
             stale = [it for it in stale if read(f"{it}.by") == b"patched\n" and self.is_own(it)]
-        return len(wanted) - 1, len(stale)
+        self.states, self.stale = self.states + len(wanted) - 1, self.stale + len(stale)
 
     def is_own(self, name):
         """Whether an output isn't what its command makes of its inputs as they are."""
@@ -268,31 +309,28 @@ class Life:
         return False
 
 
-def live_all(script, kinds, builders, states, seed, outputs, has_tools=False):
-    """Lives lives of each kind, until so many outputs were looked at, times its share. The stale ones wanted are "0", "some", or None for any."""
+def live_all(script, kinds, controls, builders, states, seed, outputs, has_tools=False):
+    """Lives lives of each kind, until so many outputs were looked at, times its share; and of its controls until some are stale, and a tenth as many were."""
     seed = seed or str(time.time_ns() % 10**9)
     print(f"seed {seed}")
     trial = Trials(script)
     room = os.path.realpath(tempfile.mkdtemp(dir=in_memory()))
     try:
-        write(f"{room}/shim.c", SHIM)
-        subprocess.run([*os.environ.get("CXX", "c++").split(), "-x", "c", "-O1", "-shared", "-fPIC", "-o", f"{room}/shim.so", f"{room}/shim.c"], check=True)
-        for kind, (share, wanted) in kinds.items():
-            found = [0, 0, 0]
-            lives = 0
-            while found[0] < int(states) * share:
-                life = Life(random.Random(f"{seed} {kind} {lives}"), kind, builders, f"{room}/shim.so", f"{room}/{kind.replace(' ', '-')}-{lives}", outputs)
+        for name, text, flags in (("shim.so", SHIM, ["-shared", "-fPIC"]), ("maker", MAKER, ["-static"])):
+            subprocess.run([*os.environ.get("CXX", "c++").split(), "-x", "c", "-O1", *flags, "-o", f"{room}/{name}", "-"], input=text, text=True, check=True)
+        for kind, share in [(it, share) for of, share in kinds.items() for it in (of, *(f"{of}, {it}" for it in controls[of]))]:
+            looked = stale = lives = 0
+            happened = collections.Counter()
+            is_control = ", " in kind
+            while looked < int(states) * (0.1 if is_control else share) or (is_control and not stale and looked < int(states)):
+                life = Life(random.Random(f"{seed} {kind} {lives}"), kind, builders, f"{room}/shim.so", f"{room}/life", outputs)
                 life.has_tools = has_tools
-                found = [it + more for it, more in zip(found, (life.live_torn if kind == "torn" else life.live)(40))]
+                (life.live_torn if life.kind == "torn" else life.live)(40)
+                looked, stale, lives, happened = looked + life.states, stale + life.stale, lives + 1, happened + life.happened
                 os.chdir(room)
                 shutil.rmtree(life.folder, ignore_errors=True)
-                lives += 1
-            said = f"{kind}: {found[0]} outputs after {found[2]} crashes in {lives} lives: {found[1]} stale"
-            print(said, flush=True)
-            if wanted == "0":
-                trial.want(said, found[1], 0)
-            elif wanted == "some":
-                trial.check(said, found[1] > 0, "nothing was tried")
+            print(f"{kind}: {looked} outputs in {lives} lives: {stale} stale; {', '.join(f'{many} {it}' for it, many in sorted(happened.items()))}", flush=True)
+            trial.check(f"{kind}: {stale} stale", (stale > 0) == bool(life.without), "" if stale else "nothing was tried")
     finally:
         os.chdir("/")
         shutil.rmtree(room, ignore_errors=True)

@@ -14,7 +14,7 @@ to build, and come back (A, B, A). Most builds crash:
   ones, all, or some with others behind them. The outputs stand. And `-t restat` or `-t recompact` may be run.
 
 After each build that ended well each output is looked at: is it what its command makes of its inputs? So many kinds of lives are lived, until
-STATES (20000) outputs were looked at in each of the first two, and some in the others:
+STATES (20000) outputs were looked at in each of the first two, and half as many in the others:
 
 - `default`: the patched one as it is, kills and power cuts. No output may be stale;
 - `killed`: the same with kills alone. No output may be stale;
@@ -24,8 +24,8 @@ STATES (20000) outputs were looked at in each of the first two, and some in the 
 - `torn`: the folder changes hands in turn, and of no command more is lost than the hash of its line, which may be torn, and be joined by the
   next. Behind a build by the patched one no output may be stale, whoever made it.
 
-Some output has to be stale in each of the others, else nothing was tried: `plain`, the plain one with kills and power cuts; `no intents`, the
-patched one with NINJA_LOG_SYNC=none; `no sync`, the patched one of which no sync does anything.
+Each kind has controls, in which some output has to be stale, else nothing was tried: `plain`, all is built by the plain one; `no intents`, the
+patched one has NINJA_LOG_SYNC=none; `no sync`, no sync of the patched one does anything.
 
 A library that is loaded before the C library's tells which bytes of the log were synced, and kills at a call.
 """
@@ -36,11 +36,13 @@ sys.path.insert(0, os.path.dirname(os.path.dirname(os.path.abspath(__file__))))
 from lives import live_all
 
 OUTPUTS = 60
-KINDS = {"default": (1, "0"), "killed": (1, "0"), "two": (0.5, "0"), "hands": (0.5, "0"), "torn": (0.5, "0"), "plain": (0.1, "some"), "no intents": (0.1, "some"), "no sync": (0.2, "some")}
+KINDS = {"default": 1, "killed": 1, "two": 0.5, "hands": 0.5, "torn": 0.5}
+CONTROLS = {"default": ["plain", "no intents", "no sync"], "killed": ["plain", "no intents"], "two": ["plain", "no intents", "no sync"],
+            "hands": ["no intents", "no sync"], "torn": ["plain"]}
 
 
 def main(plain, patched, states="20000", seed=None):
-    return live_all(__file__, KINDS, {"plain": [plain], "patched": [patched]}, states, seed, OUTPUTS, has_tools=True)
+    return live_all(__file__, KINDS, CONTROLS, {"plain": [plain], "patched": [patched]}, states, seed, OUTPUTS, has_tools=True)
 
 
 if __name__ == "__main__":

@@ -5,7 +5,7 @@
 
 PLAIN and PATCHED are programs muon. The lives are those of integrations/ninja/stale.py, which says what a life is and how its builds crash. Here a
 folder has OUTPUTS outputs, so that the log is longer than what samurai keeps in memory of it. Until STATES (20000) outputs were looked at in each
-of the first two, and some in the others:
+of the first two, and half as many in the others:
 
 - `default`: the patched one as it is, kills and power cuts. No output may be stale;
 - `killed`: the same with kills alone. No output may be stale;
@@ -13,7 +13,7 @@ of the first two, and some in the others:
 - `hands`: the folder changes hands, at random, between the plain one and the patched one. No output that the patched one made last may be stale.
   What the plain one made, and lost, may be.
 
-Some output has to be stale in `plain`, `no intents` and `no sync`, else nothing was tried.
+Each kind has the controls `plain`, `no intents` and `no sync`, in which some output has to be stale, else nothing was tried.
 """
 import os
 import sys
@@ -22,11 +22,13 @@ sys.path.insert(0, os.path.dirname(os.path.dirname(os.path.abspath(__file__))))
 from lives import live_all
 
 OUTPUTS = 150
-KINDS = {"default": (1, "0"), "killed": (1, "0"), "two": (0.5, "0"), "hands": (0.5, "0"), "plain": (0.2, "some"), "no intents": (0.2, "some"), "no sync": (0.2, "some")}
+KINDS = {"default": 1, "killed": 1, "two": 0.5, "hands": 0.5}
+CONTROLS = {"default": ["plain", "no intents", "no sync"], "killed": ["plain", "no intents"], "two": ["plain", "no intents", "no sync"],
+            "hands": ["no intents", "no sync"]}
 
 
 def main(plain, patched, states="20000", seed=None):
-    return live_all(__file__, KINDS, {"plain": [plain, "samu"], "patched": [patched, "samu"]}, states, seed, OUTPUTS)
+    return live_all(__file__, KINDS, CONTROLS, {"plain": [plain, "samu"], "patched": [patched, "samu"]}, states, seed, OUTPUTS)
 
 
 if __name__ == "__main__":
