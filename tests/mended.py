@@ -8,8 +8,9 @@ cut, at some of its bytes or, with NLOG_CUTS=0, at each, and zero bytes are left
 goes back to an earlier one, and Ninja says what it would make: an output that it leaves has to be what its edge makes. The same without `mend`
 shows stale outputs, else this trial would try nothing. Some of the cuts are followed by a build that is done.
 
-Beside that: that no file but LOG was changed, that to mend again changes nothing, that a whole log is left alone, files that became sources,
-another folder, outputs outside of the folder, a log in a `builddir`, and a file system that counts whole seconds, which wants the right to mount.
+Beside that: that `nlog doubt` names each output that would be stale without `mend`, that no file but LOG was changed, that to mend again changes
+nothing, that a whole log is left alone, files that became sources, another folder, outputs outside of the folder, a log in a `builddir`, and a file
+system that counts whole seconds, which wants the right to mount.
 """
 import os
 import random
@@ -154,9 +155,14 @@ def try_cuts(trials, life, chance, count):
     for at, kind, text in lost_ends(whole, chance, count):
         what = f"version {life.version}, {kind} at {at}: "
         write(life.log, text)
-        controls += bool(life.stale("A"))
+        stale = life.stale("A"), life.stale("B")
+        controls += bool(stale[0])
         write(life.log, text)
         files = life.tree()
+        status, out, err = run([life.program, "doubt", life.log], cwd=life.folder)
+        doubted = {it.split(b"\t")[1].decode() for it in out.splitlines() if it.startswith((b"newer\t", b"unsure\t"))}
+        trials.want(f"{what}what `doubt` says", (status in (0, 3), err), (True, b""))
+        trials.want(f"{what}what is stale and isn't doubted", (stale[0] | stale[1]) - doubted - UNTOLD[life.version], set())
         status, out, err = life.mend()
         cuts += 1
         told += out.count(b"newer\t")
