@@ -1,20 +1,21 @@
 #!/usr/bin/env python3
-"""Tries what the program prints at a terminal: columns in place of tabs, why something was refused, which log is read where none is named,
+"""Tries what the program prints at a terminal: reports for a person, why something was refused, which log is read where none is named,
 and how far a log is read where that takes long.
 
     python3 tests/terminal.py PROGRAM
 
-A pseudoterminal stands for standard output, for standard error, or for all three streams. What is wanted is laid out by hand, or by `columns_of`
-here: fields that tabs part, where the lines with as many fields share their columns.
+A pseudoterminal stands for standard output, for standard error, or for all three streams. The screens that are wanted are laid out by hand.
 """
 import os
 import pty
+import re
 import subprocess
 import sys
 import tempfile
 import termios
 import time
 
+from examples import blocks, read_page, stripped
 from trials import main, run
 
 LOG = (
@@ -23,13 +24,63 @@ LOG = (
 )
 EARLIER = b"# ninja log v7\n0\t45\t1\tb.o\tbb\n0\t50\t1\ta.o\taa\n0\t5\t1\told.o\tee\n"
 
-BUILDS = b"1  3  4  70  100  sure\n2  1  1  60   60  sure\n"
-SUMMARY = (
-    b"commands     1\noutputs      1\nwall        60\ntotal       60\nbusy        60\nalone       60\nparallel  1.00\n"
-    b"slowest  60  lib/\xc3\xa4 b.o\n"
-    b"by-time    60  60.00  lib/\xc3\xa4 b.o\nby-weight  60  60.00  lib/\xc3\xa4 b.o\n"
-    b"kinds-by-time    1  60  60.00  .o\nkinds-by-weight  1  60  60.00  .o\n"
-)
+BUILDS = """\
+Build          Began (UTC)  Elapsed  Commands  Outputs  Known
+    1  1970-01-01 00:16:40    70 ms         3        4  sure
+    2  1970-01-01 00:25:00    60 ms         1        1  sure
+""".encode()
+SUMMARY = """\
+Build 2 of 2
+60 ms  elapsed
+60 ms  of work
+    1  commands
+    1  outputs
+ 1.00  at a time on average
+    1  at a time at most
+60 ms  at best with 1 at a time
+60 ms  with one command alone
+  0 s  with none
+
+Slowest commands
+ Time  Share  Output
+60 ms   100%  lib/ä b.o
+
+Kinds of commands
+ Time  Share  Commands  Kind
+60 ms   100%         1  .o
+""".encode()
+FIRST = """\
+Build 1 of 2
+ 70 ms  elapsed
+100 ms  of work
+     3  commands
+     4  outputs
+  1.42  at a time on average
+     2  at a time at most
+ 50 ms  at best with 2 at a time
+ 40 ms  with one command alone
+   0 s  with none
+
+Slowest commands
+ Time  Share  Output
+40 ms    40%  b.o
+
+Kinds of commands
+ Time  Share  Commands  Kind
+80 ms    80%         2  .o
+""".encode()
+ALL = """\
+All 2 builds, each output once
+130 ms  elapsed
+160 ms  of work
+     4  commands
+     5  outputs
+  1.23  at a time on average
+     2  at a time at most
+ 80 ms  at best with 2 at a time
+100 ms  with one command alone
+   0 s  with none
+""".encode()
 # One build, whose first output is the slowest: its name has three characters, of five bytes.
 WIDE = b"# ninja log v7\n0\t9\t1\t\xe2\x82\xac.o\tbb\n0\t9\t1\tlonger.o\tcc\n"
 # Names that a terminal would obey: an escape sequence, each control character of one byte that a name may have, a carriage return and
@@ -44,46 +95,68 @@ HOSTILE_SHOWN = [
     "äß€.o".encode(),
     b"a\\b\x80\x9b\xff.o",
 ]
-LOST = "nlog: LOG {}: No such file or directory (os error 2)\n"
-WIDE_BY_TIME = b"by-time    9  4.50  \xe2\x82\xac.o\nby-time    9  4.50  longer.o\n"
 # Of the commands of both, that of `b.o` took 5 ms less, and that of `a.o` and `a.d` 10 ms.
-COMPARED = (
-    b"hashes  compared\n"
-    b"total  new         2   80   0  80\n"
-    b"total  gone        1   -5   5   0\n"
-    b"total  changed     0    0   0   0\n"
-    b"total  slower      0    0   0   0\n"
-    b"total  faster      2  -15  95  80\n"
-    b"total  unfinished  0    0   0   0\n"
-    b"total  same        0    0   0   0\n"
-    b"new      60   0  60  lib/\xc3\xa4 b.o\n"
-    b"new      20   0  20  app\n"
-    b"gone     -5   5   0  old.o\n"
-    b"faster  -10  50  40  a.o\n"
-    b"faster   -5  45  40  b.o\n"
+COMPARED = """\
+Commands  Change    Old    New  Class
+       2  +80 ms    0 s  80 ms  new
+       1   -5 ms   5 ms    0 s  gone
+       0     0 s    0 s    0 s  changed
+       0     0 s    0 s    0 s  slower
+       2  -15 ms  95 ms  80 ms  faster
+       0     0 s    0 s    0 s  unfinished
+       0     0 s    0 s    0 s  same
+
+Commands: new
+Change    Old    New  Output
++60 ms    0 s  60 ms  lib/ä b.o
++20 ms    0 s  20 ms  app
+
+Commands: gone
+Change    Old    New  Output
+ -5 ms   5 ms    0 s  old.o
+
+Commands: faster
+Change    Old    New  Output
+-10 ms  50 ms  40 ms  a.o
+ -5 ms  45 ms  40 ms  b.o
+""".encode()
+# A build of some time, found again with an output that a later one took, and names too long for 40 columns, and for 80.
+LONG = (
+    b"# ninja log v7\n0\t999\t0\tshort\tdd\n0\t59999\t0\tless\tff\n0\t60000\t0\tminute\tee\n"
+    b"0\t166843\t0\tlib/Transforms/Scalar/CMakeFiles/LLVMScalarOpts.dir/ScalarReplacementOfAggregates.cpp.o\tbb\n"
+    b"100\t4700100\t0\tbin/\xc3\xa4\xc3\xb6\xc3\xbc/a-name-of-forty-two-characters-or-so.exe\tcc\n"
 )
+LONG_NAMES = {
+    80: ("bin/äöü/a-name-of-forty-two-characters-or-so.exe", "…Files/LLVMScalarOpts.dir/ScalarReplacementOfAggregates.cpp.o"),
+    40: ("…characters-or-so.exe", "…ntOfAggregates.cpp.o"),
+}
+LONG_TOLD = """\
+Build 1 of 1
+1 h 18 min  elapsed
+1 h 23 min  of work
+         5  commands
+         5  outputs
+      1.06  at a time on average
+         5  at a time at most
+1 h 18 min  at best with 5 at a time
+1 h 15 min  with one command alone
+       0 s  with none
 
+Slowest commands
+      Time  Share  Output
+1 h 18 min    94%  {}
+2 min 46 s     3%  {}
+     1 min     1%  minute
+    59.9 s     1%  less
+    999 ms     0%  short
 
-def width(field):
-    """How many characters of UTF-8 a field has."""
-    return sum(not 128 <= byte < 192 for byte in field)
-
-
-def columns_of(text):
-    rows = [line.split(b"\t") for line in text.split(b"\n")]
-    laid = []
-    for row in rows:
-        cells = []
-        for at, field in enumerate(row):
-            column = [it[at] for it in rows if len(it) == len(row)]
-            spaces = b" " * (max(map(width, column)) - width(field))
-            is_last = at == len(row) - 1
-            if all(set(it) <= set(b"0123456789-.") for it in column):
-                cells.append(spaces + field + (b"" if is_last else b"  "))
-            else:
-                cells.append(field + (b"" if is_last else spaces + b"  "))
-        laid.append(b"".join(cells))
-    return b"\n".join(laid)
+Kinds of commands
+      Time  Share  Commands  Kind
+1 h 18 min    94%         1  .exe
+2 min 46 s     3%         1  .o
+     2 min     2%         3  (none)
+"""
+LOST = "nlog: LOG {}: No such file or directory (os error 2)\n"
 
 
 def read_all(end):
@@ -100,13 +173,19 @@ def read_all(end):
         found += more
 
 
-def at_terminal(words, is_output, text=b"", pause=0.0):
+def screen(columns=None):
+    """The environment of a terminal of so many columns, in a time zone without an offset."""
+    it = {name: value for name, value in os.environ.items() if name != "COLUMNS"}
+    return {**it, "TZ": "UTC", **({} if columns is None else {"COLUMNS": str(columns)})}
+
+
+def at_terminal(words, is_output, text=b"", pause=0.0, env=None, cwd=None):
     """Runs a program with a terminal for standard output, or for standard error: its status, and what it wrote to each. Standard input has two
     halves of the text, with a pause between them."""
     ours, theirs = pty.openpty()
     other = tempfile.TemporaryFile()
     streams = {"stdout": theirs, "stderr": other} if is_output else {"stdout": other, "stderr": theirs}
-    ran = subprocess.Popen(words, stdin=subprocess.PIPE, **streams)
+    ran = subprocess.Popen(words, stdin=subprocess.PIPE, env=env or screen(), cwd=cwd, **streams)
     os.close(theirs)
     half = len(text) // 2
     ran.stdin.write(text[:half])
@@ -119,35 +198,6 @@ def at_terminal(words, is_output, text=b"", pause=0.0):
     return (status, shown, other.read()) if is_output else (status, other.read(), shown)
 
 
-def try_columns(trials, program, log, earlier):
-    wide = [program, "summary", "-n", "2"]
-    cases = (
-        ("builds", [program, "builds", log], BUILDS),
-        ("summary", [program, "summary", log], SUMMARY),
-        ("summary of a name of several bytes a character", wide, None),
-        ("compare", [program, "compare", earlier, log], COMPARED),
-        ("compare, with the totals alone", [program, "compare", "-n", "0", earlier, log], None),
-        ("summary of no log", [program, "summary", os.devnull], None),
-    )
-    for what, words, by_hand in cases:
-        given = WIDE if words is wide else b""
-        piped = run(words, stdin=None, input=given)
-        status, shown, said = at_terminal(words, True, given)
-        trials.want(f"{what}: at a terminal", (status, shown, said), (piped[0], columns_of(piped[1]), piped[2]))
-        if by_hand is not None:
-            trials.want(f"{what}: by hand", shown, by_hand)
-        if words is wide:
-            trials.check(f"{what}: by hand", WIDE_BY_TIME in shown, repr(shown))
-        trials.want(f"{what}: with --tabs", at_terminal([*words, "--tabs"], True, given), piped)
-        trials.want(f"{what}: with --tabs, to a pipe", run([*words, "--tabs"], stdin=None, input=given), piped)
-    # What isn't in fields, or is for programs, is as it is everywhere.
-    for word in ("show", "check", "entries", "damage", "trace", "picture"):
-        words = [program, word, "--log-version", "auto", log]
-        piped = run(words)
-        trials.want(f"{word}: at a terminal", at_terminal(words, True), piped)
-        trials.want(f"{word}: with --tabs", run([*words, "--tabs"])[0], 2)
-
-
 def typed(words, room, text=b""):
     """Runs a program with one terminal for all three streams, at which a text is typed, and Ctrl-D: its status, and what the terminal shows."""
     ours, theirs = pty.openpty()
@@ -155,21 +205,77 @@ def typed(words, room, text=b""):
     mode[3] &= ~termios.ECHO
     termios.tcsetattr(theirs, termios.TCSANOW, mode)
     os.write(ours, text + b"\x04")
-    ran = subprocess.Popen(words, stdin=theirs, stdout=theirs, stderr=theirs, cwd=room)
+    ran = subprocess.Popen(words, stdin=theirs, stdout=theirs, stderr=theirs, cwd=room, env=screen())
     os.close(theirs)
     shown = read_all(ours)
     return ran.wait(), shown
 
 
+def try_reports(trials, program, room, log, earlier):
+    long = f"{room}/long"
+    with open(long, "wb") as file:
+        file.write(LONG)
+    told = {columns: LONG_TOLD.format(*names).encode() for columns, names in LONG_NAMES.items()}
+    cases = (
+        ("builds", ["builds", log], None, BUILDS),
+        ("summary", ["summary", log], None, SUMMARY),
+        ("summary --build", ["summary", "-n", "1", "--build", "1", log], None, FIRST),
+        ("summary --all", ["summary", "-n", "0", "--all", log], None, ALL),
+        ("summary of no log", ["summary", os.devnull], None, b""),
+        ("summary of a build that isn't there", ["summary", "--build", "9", log], None, b"2  builds in LOG\n"),
+        ("summary, 80 columns", ["summary", long], 80, told[80]),
+        ("summary, where nothing tells how many", ["summary", long], None, told[80]),
+        ("summary, where COLUMNS is no number", ["summary", long], "wide", told[80]),
+        ("summary, 40 columns", ["summary", long], 40, told[40]),
+        ("compare", ["compare", earlier, log], None, COMPARED),
+        ("compare, with the totals alone", ["compare", "-n", "0", earlier, log], None, COMPARED[: COMPARED.index(b"\nCommands: new")]),
+    )
+    for what, words, columns, wanted in cases:
+        words = [program, *words]
+        trials.want(f"{what}: at a terminal", at_terminal(words, True, env=screen(columns)), (0, wanted, b""))
+        trials.check(f"{what}: no line is too long", columns == 40 or all(len(it.decode()) <= 80 for it in wanted.split(b"\n")))
+        piped = run(words, env=screen(columns))
+        trials.check(f"{what}: tabs in a pipe", not piped[1] or b"\t" in piped[1], repr(piped[1]))
+        trials.want(f"{what}: with --tabs", at_terminal([*words, "--tabs"], True, env=screen(columns)), piped)
+        trials.want(f"{what}: with --tabs, to a pipe", run([*words, "--tabs"]), piped)
+    east = {**screen(), "TZ": "EST5"}
+    trials.want("builds: by the clock of the place", at_terminal([program, "builds", log], True, env=east)[1].split(b"\n")[1], b"    1  1969-12-31 19:16:40    70 ms         3        4  sure")
+    trials.check("builds: whose clock it is", b"UTC" not in at_terminal([program, "builds", log], True, env=east)[1])
+    # What isn't a report, or is for programs, is as it is everywhere.
+    for word in ("show", "check", "entries", "damage", "trace", "picture"):
+        words = [program, word, "--log-version", "auto", log]
+        piped = run(words)
+        trials.want(f"{word}: at a terminal", at_terminal(words, True), piped)
+        trials.want(f"{word}: with --tabs", run([*words, "--tabs"])[0], 2)
+
+
+def try_pages(trials, program, room):
+    """What pages show of a terminal, over the files that they give."""
+    for page in ("docs/CLI.md", "docs/RECIPES.md"):
+        here = f"{room}/{os.path.basename(page)}"
+        os.mkdir(here)
+        for name, text in read_page(page)[0].items():
+            with open(f"{here}/{name}", "wb") as file:
+                file.write(text)
+        shown = [(at, words[1].split(), block) for at, above, block in blocks(page) for words in re.finditer(r"[Aa]t a terminal `nlog ([^`]+)` shows$", above)]
+        trials.check(f"{page}: a screen", len(shown) == 1)
+        for at, words, block in shown:
+            trials.want(f"{page}:{at}", at_terminal([program, *words], True, cwd=here), (0, stripped(block).encode(), b""))
+
+
 def try_refusals(trials, program, room, log):
     """At a terminal a refusal says why, and in a pipe only where that is asked for."""
-    lost = f"{room}/lost"
+    lost, graph = f"{room}/lost", f"{room}/graph"
+    with open(graph, "wb") as file:
+        file.write(b'digraph ninja {\n"0" [label="elsewhere.o"]\n}\n')
     cases = (
         (["builds", lost], b"", "cannot read", f"LOG {lost}: No such file or directory (os error 2)"),
         (["show", log], b"", "log version not supported", f"LOG {log}: version 7; add --log-version auto"),
         (["check"], b"hello\n", "not a ninja log", 'standard input: it begins with "hello\\x0a"'),
         (["summary", "--build", "0", log], b"", "bad number", "BUILD 0: it is less than 1"),
         (["record", lost, "1", "2", "x", "out", "c"], b"", "bad number", "MTIME x: it isn't a number"),
+        (["summary", "--graph", graph, log], b"", "not the graph of this build", f"FILE {graph}: no output of the build is in it, or one needs itself"),
+        (["summary", "--graph", graph, "--jobs", "4,0", log], b"", "bad number", "N 4,0: number 2: it is less than 1"),
     )
     for words, text, fault, why in cases:
         words = [program, *words]
@@ -179,6 +285,15 @@ def try_refusals(trials, program, room, log):
         trials.want(f"{what}: in a pipe", run(words, stdin=None, input=text), (1, b"", f"nlog: {fault}\n".encode()))
         trials.want(f"{what}: in a pipe, with -v", run([*words[:2], "-v", *words[2:]], stdin=None, input=text), (1, b"", both))
     trials.want("show: a missing log at a terminal", at_terminal([program, "show", lost], False), (0, b"", b""))
+    script = b"open\r\nget\nrecord\t1\nget\t\nopen\n\n" + b"x" * 262_144 + b"\nstop\nstop"
+    bad = ((1, "no event begins so"), (2, "the values are wrong"), (3, "the values are wrong"), (4, "the name is empty"), (6, "no event begins so"), (7, "a line has at most 262143 bytes"), (9, "no newline ends it"))
+    said = "".join(f"nlog: standard input: line {number}: {why}\n" for number, why in bad).encode()
+    answers = b"bad line\n" * 4 + b"ok\n" + b"bad line\n" * 2 + b"ok\nbad line\n"
+    for what, ended, wanted in (
+        ("with -v", run([program, "apply", "-v", f"{room}/kept"], stdin=None, input=script), (0, answers, said)),
+        ("in a pipe", run([program, "apply", f"{room}/kept"], stdin=None, input=script), (0, answers, b"")),
+    ):
+        trials.want(f"apply: why a line is bad, {what}", ended, wanted)
 
 
 def try_typed(trials, program, room):
@@ -211,13 +326,12 @@ def try_controls(trials, program, room):
             file.write(b"# ninja log v7\n" + b"".join(lines))
     for words in (["summary", log], ["summary", "--kind", "folder", log], ["compare", earlier, log], ["builds", log]):
         piped = run([program, *words])
-        status, shown, said = at_terminal([program, *words], True)
+        status, shown, said = at_terminal([program, *words], True, env=screen(200))
         what = f"{words[0]} of names that a terminal would obey"
-        wanted = piped[1]
         for name, by_number in zip(HOSTILE, HOSTILE_SHOWN):
             trials.check(f"{what}: in a pipe as it is", words[0] == "builds" or name in piped[1], repr(name))
-            wanted = wanted.replace(name, by_number)
-        trials.want(f"{what}: at a terminal", (status, shown, said), (piped[0], columns_of(wanted), piped[2]))
+            trials.check(f"{what}: by its number", words[0] == "builds" or by_number in shown, repr(name))
+        trials.want(f"{what}: at a terminal", (status, said), (piped[0], piped[2]))
         trials.check(f"{what}: no control character", not any(it < 32 and it != 10 or it == 127 for it in shown), repr(shown))
         trials.want(f"{what}: with --tabs", at_terminal([program, *words, "--tabs"], True)[1], piped[1])
 
@@ -252,7 +366,8 @@ def trial(trials, program, room):
     for path, text in ((log, LOG), (earlier, EARLIER)):
         with open(path, "wb") as file:
             file.write(text)
-    try_columns(trials, program, log, earlier)
+    try_reports(trials, program, room, log, earlier)
+    try_pages(trials, program, room)
     try_refusals(trials, program, room, log)
     try_typed(trials, program, room)
     try_controls(trials, program, room)

@@ -6,7 +6,7 @@ use Rattle.std.proofs.lemmas.List.Concat.{flat_map-append}
 use Rattle.std.specs.Global.{Vec}
 use Rattle.std.specs.Map.{lookup}
 use Rattle.nl_fields.specs.declared.entry.Entry.{Entry}
-use Rattle.nl_reports.specs.Critical.{IsCritical, IsCriticalText, IsFoundPath, IsPathText, Ran, told_path, lacking_line, any_named, is_named, lacking}
+use Rattle.nl_reports.specs.Critical.{IsCritical, IsCriticalText, IsFoundPath, IsPathText, Ran, told_path, any_named, is_named, lacking}
 use Rattle.nl_reports.specs.GraphText.{HeldNode, node_of, nodes_of}
 use Rattle.nl_reports.specs.Jobs.{Job, seen}
 use Rattle.nl_reports.specs.Lasting.{is_among}
@@ -16,32 +16,18 @@ use Rattle.nl_reports.specs.declared.job.Job.{Job as HeldJob}
 use Rattle.nl_reports.proofs.GraphLemmas.{Name, same}
 
 -- of some commands
-pub critical_told : (g : Graph) (js : List Job) (text : Vec ℕ) → IsCriticalText g js text.items → IsCritical g js (Some text)
-critical_told g [] text is = absurd (is.some refl)
-critical_told g (j ∷ js) text is = is
+pub critical_told : (screen : Bool) (g : Graph) (js : List Job) (text : Vec ℕ) → IsCriticalText screen g js text.items → IsCritical screen g js (Some text)
+critical_told screen g [] text is = absurd (is.some refl)
+critical_told screen g (j ∷ js) text is = is
 
 -- the text of a path that was found
-pub path_told : (g : Graph) (js : List Job) (length : ℕ) (rans : List Ran) (text : List ℕ) → IsFoundPath g js length rans
-    → text ≡ told_path length rans → IsPathText g js text
-path_told g js length rans text found told = record {
+pub path_told : (screen : Bool) (g : Graph) (js : List Job) (length : ℕ) (rans : List Ran) (text : List ℕ) → IsFoundPath g js length rans
+    → text ≡ told_path screen length rans → IsPathText screen g js text
+path_told screen g js length rans text found told = record {
   path = found.path;
   longest = found.longest;
-  is = told ∙ (λ i. told_path (found.length_is i) (found.rans_are i));
+  is = told ∙ (λ i. told_path screen (found.length_is i) (found.rans_are i));
 }
-
--- what a graph lacks is appended, where it lacks any
-pub lacking_told : (count time : ℕ) (old line new : List ℕ) → 0 < count
-    → line ≡ codes "not-in-graph\t" ++ decimal count ++ codes "\t" ++ decimal time ++ codes "\n" → new ≡ old ++ line
-    → new ≡ old ++ lacking_line count time
-lacking_told count time old line new some is told =
-    let test : (count == 0) ≡ false = grind (arith, nat_tests, some) in
-    told ∙ ap (λ (l : List ℕ). old ++ l) (is
-    ∙ sym (ap (λ b. cond b [] (codes "not-in-graph\t" ++ decimal count ++ codes "\t" ++ decimal time ++ codes "\n")) test))
-
-pub nothing_told : (count time : ℕ) (old : List ℕ) → count ≡ 0 → old ≡ old ++ lacking_line count time
-nothing_told count time old none =
-    let test : (count == 0) ≡ true = grind (arith, nat_tests, none) in
-    sym (ap (λ b. old ++ cond b [] (codes "not-in-graph\t" ++ decimal count ++ codes "\t" ++ decimal time ++ codes "\n")) test ∙ append-nil old)
 
 -- ---- names
 

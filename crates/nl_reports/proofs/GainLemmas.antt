@@ -1,10 +1,10 @@
 -- Commands of which one takes half its time, and the lines of gains.
-use Rattle.std.proofs.Common.{◌≡◌, ◌∙◌, ◌==◌, ◌<◌, ℕ, zero, suc, ◌+◌, drop, List, [], ◌∷◌, ◌++◌, Option, None, Some, ap, arith, get_or, length, map, option_and_then, option_map, refl, subst, sym, take}
+use Rattle.std.proofs.Common.{◌≡◌, ◌∙◌, ◌==◌, ◌<◌, ℕ, Bool, zero, suc, ◌+◌, drop, List, [], ◌∷◌, ◌++◌, Option, None, Some, ap, arith, get_or, length, map, option_and_then, option_map, refl, subst, sym, take}
 use Rattle.std.proofs.lemmas.List.{at_drop_more, length-map, map-append, take_more}
 use Rattle.std.specs.Borrow.{Bor}
 use Rattle.std.specs.Prelude.{slice_get}
 use Rattle.nl_reports.specs.Critical.{IsFoundPath, Ran, names_of, ran_at, ran_in_place, ran_named, weight}
-use Rattle.nl_reports.specs.Gains.{AreGains, AreGainsOf, IsGain, IsHalfPath, half_ran, halved, halved_from, job_if, longest_rans}
+use Rattle.nl_reports.specs.Gains.{AreGains, AreGainsOf, IsGain, IsHalfPath, heading, half_ran, halved, halved_from, job_if, longest_rans}
 use Rattle.nl_reports.specs.GraphText.{ids_of, nodes_of}
 use Rattle.nl_reports.specs.Jobs.{Job}
 use Rattle.nl_reports.specs.Outputs.{last_at, outputs_at, places_from, places_of}
@@ -98,23 +98,23 @@ longest_held most held xs is =
     ∙ ap (take most) (map-falling ran_seen (λ (r : Ran). time_of r.span) xs)
 
 -- the gains of a path that was found
-pub gains_of : (g : Graph) (js : List Job) (most n : ℕ) (rans held : List Ran) (text : List ℕ) → IsFoundPath g js n rans → held ≡ longest_rans most rans
-    → AreGains g js n held [] text → AreGainsOf g js most text
-gains_of g js most n rans held text found is are =
+pub gains_of : (screen : Bool) (g : Graph) (js : List Job) (most n : ℕ) (rans held : List Ran) (text : List ℕ) → IsFoundPath g js n rans → held ≡ longest_rans most rans
+    → AreGains screen g js n held (heading screen most) text → AreGainsOf screen g js most text
+gains_of screen g js most n rans held text found is are =
     let w = weight g.nodes js in
-    let by_length = subst (λ k. AreGains g js k held [] text) found.length_is are in
+    let by_length = subst (λ k. AreGains screen g js k held (heading screen most) text) found.length_is are in
     record {
       path = found.path;
       longest = found.longest;
-      are = subst (λ (rs : List Ran). AreGains g js (length_of w found.path) rs [] text) (is ∙ ap (longest_rans most) found.rans_are) by_length;
+      are = subst (λ (rs : List Ran). AreGains screen g js (length_of w found.path) rs (heading screen most) text) (is ∙ ap (longest_rans most) found.rans_are) by_length;
     }
 
 -- one more line
-pub gain_more : (g : Graph) (js : List Job) (long : ℕ) (xs : List HeldRan) (i : ℕ) (x : HeldRan) (before line text : List ℕ)
-    → i < length xs → x ≡ get_or xs i x → IsGain g js long (ran_seen x) before line
-    → AreGains g js long (map ran_seen (drop (i + 1) xs)) line text → AreGains g js long (map ran_seen (drop i xs)) before text
-gain_more g js long xs i x before line text inside at is rest =
+pub gain_more : (screen : Bool) (g : Graph) (js : List Job) (long : ℕ) (xs : List HeldRan) (i : ℕ) (x : HeldRan) (before line text : List ℕ)
+    → i < length xs → x ≡ get_or xs i x → IsGain screen g js long (ran_seen x) before line
+    → AreGains screen g js long (map ran_seen (drop (i + 1) xs)) line text → AreGains screen g js long (map ran_seen (drop i xs)) before text
+gain_more screen g js long xs i x before line text inside at is rest =
     let later = map ran_seen (drop (i + 1) xs) in
     let split : map ran_seen (drop i xs) ≡ ran_seen x ∷ later =
     at_drop_more (map ran_seen) xs i x inside ∙ ap (λ (y : HeldRan). ran_seen y ∷ later) (sym at) in
-    subst (λ (l : List Ran). AreGains g js long l before text) (sym split) (line, is, rest)
+    subst (λ (l : List Ran). AreGains screen g js long l before text) (sym split) (line, is, rest)

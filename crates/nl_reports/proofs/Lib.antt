@@ -10,6 +10,7 @@ mod FractionLemmas
 mod KindLemmas
 mod SlowestLemmas
 mod SummaryLemmas
+mod BuildsTableLemmas
 mod KindSumLemmas
 mod ClassLemmas
 mod LastingLemmas

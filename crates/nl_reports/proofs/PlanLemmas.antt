@@ -1,5 +1,5 @@
 -- Plans: how many run at a time in them, and what they don't come below.
-use Rattle.std.proofs.Common.{◌≡◌, ◌∙◌, ℕ, zero, suc, ◌+◌, ◌-◌, ◌*◌, ◌<◌, ◌≤◌, ◌==◌, cond, true, drop, List, [], ◌∷◌, ◌++◌, Option, None, Some, length, map, get_or, option_and_then, option_map, refl, sym, ap, subst, take, arith}
+use Rattle.std.proofs.Common.{◌≡◌, ◌∙◌, ℕ, Bool, zero, suc, ◌+◌, ◌-◌, ◌*◌, ◌<◌, ◌≤◌, ◌==◌, cond, true, drop, List, [], ◌∷◌, ◌++◌, Option, None, Some, length, map, get_or, option_and_then, option_map, refl, sym, ap, subst, take, arith}
 use Rattle.std.specs.Prelude.{IfSome, count_by, nat_le, slice_get}
 use Rattle.std.specs.Global.{Vec}
 use Rattle.std.specs.List.{All, sum_by}
@@ -201,16 +201,16 @@ pub none_asked : (ns : List ℕ) → (length ns == 0) ≡ true → ns ≡ []
 none_asked [] is = refl
 none_asked (n ∷ ns) is = absurd (omega (arith, eqb-true (length (n ∷ ns)) 0 is))
 
-pub estimates_there : (g : Graph) (js : List Job) (ns : List ℕ) (o : Option (Vec ℕ)) (lines : Vec ℕ) → o ≡ Some lines
-    → IfSome o (λ (v : Vec ℕ). AreEstimates g js ns v.items) → AreEstimates g js ns lines.items
-estimates_there g js ns o lines is are = subst (λ (p : Option (Vec ℕ)). IfSome p (λ (v : Vec ℕ). AreEstimates g js ns v.items)) is are
+pub estimates_there : (screen : Bool) (g : Graph) (js : List Job) (ns : List ℕ) (o : Option (Vec ℕ)) (lines : Vec ℕ) → o ≡ Some lines
+    → IfSome o (λ (v : Vec ℕ). AreEstimates screen g js ns v.items) → AreEstimates screen g js ns lines.items
+estimates_there screen g js ns o lines is are = subst (λ (p : Option (Vec ℕ)). IfSome p (λ (v : Vec ℕ). AreEstimates screen g js ns v.items)) is are
 
 -- one more estimate
-pub estimate_more : (g : Graph) (js : List Job) (counts : List ℕ) (i n : ℕ) (o : Option ℕ) (wall floor long : ℕ) (rans : List Ran)
+pub estimate_more : (screen : Bool) (g : Graph) (js : List Job) (counts : List ℕ) (i n : ℕ) (o : Option ℕ) (wall floor long : ℕ) (rans : List Ran)
     (before line text : List ℕ) → i < length counts → n ≡ get_or counts i n → o ≡ Some wall → IfSome o (HavePlan g js n)
     → IsFoundPath g js long rans → floor ≡ floor_of long (total_time js) n → (n ≡ 1 → wall ≡ total_time js) → (length js ≤ n → wall ≡ long)
-    → line ≡ before ++ estimate_line n wall floor → AreMore g js (drop (i + 1) counts) line text → AreMore g js (drop i counts) before text
-estimate_more g js counts i n o wall floor long rans before line text inside at some planned found floored one enough told rest =
+    → line ≡ before ++ estimate_line screen n wall floor → AreMore screen g js (drop (i + 1) counts) line text → AreMore screen g js (drop i counts) before text
+estimate_more screen g js counts i n o wall floor long rans before line text inside at some planned found floored one enough told rest =
     let w = weight g.nodes js in
     let split : drop i counts ≡ n ∷ drop (i + 1) counts =
     at_drop_more (λ (l : List ℕ). l) counts i n inside ∙ ap (λ (m : ℕ). m ∷ drop (i + 1) counts) (sym at) in
@@ -221,5 +221,5 @@ estimate_more g js counts i n o wall floor long rans before line text inside at 
       floor_is = floored ∙ ap (λ (k : ℕ). floor_of k (total_time js) n) found.length_is;
       bounds = record { one = one; enough = λ fits. enough fits ∙ found.length_is };
     } in
-    subst (λ (l : List ℕ). AreMore g js l before text) (sym split)
+    subst (λ (l : List ℕ). AreMore screen g js l before text) (sym split)
     (line, record { wall = wall; floor = floor; is_estimate = is; is = told }, rest)

@@ -12,7 +12,7 @@ use Rattle.std.specs.Prelude.{IfSome}
 use Rattle.std.specs.Cmp.Lexicographic.{bytes_decides}
 use Rattle.std.specs.List.{All, AllByRecursion, Contains, IsDistinct, flat_map, sum_by}
 use Rattle.std.specs.Map.{keys_of, lookup}
-use Rattle.nl_reports.specs.Critical.{Ran, ran_at, ran_line, ran_named, ran_time, told_moment, took_time, weight}
+use Rattle.nl_reports.specs.Critical.{Ran, ran_at, ran_named, ran_time, took_time, weight}
 use Rattle.nl_reports.specs.GraphText.{HeldNode, ids_of, nodes_of, seen_edge, seen_graph}
 use Rattle.nl_reports.specs.Jobs.{Job}
 use Rattle.nl_reports.specs.Paths.{Edge, IsLongest, IsPath, Leads}
@@ -329,18 +329,3 @@ module _ (js : List Job) (r : Reaches) (start place : ℕ) (old mid new : List R
     length_is = omega (arith, long_now, so_far.long, none);
     rans_are = rans_now;
   }
-
--- ---- a line
-
--- what it begins with
-abbrev pub line_head : ℕ → List ℕ → List ℕ → List ℕ
-line_head time began ended = codes "on-path\t" ++ decimal time ++ codes "\t" ++ began ++ codes "\t" ++ ended ++ codes "\t"
-
--- by its parts: that, an output and a newline
-pub ran_appended : (r : Ran) (old key a b new : List ℕ) → key ≡ line_head (time_of r.span) (told_moment r.span.began) (told_moment r.span.ended)
-    → a ≡ old ++ key → b ≡ a ++ r.name → new ≡ b ++ codes "\n" → new ≡ old ++ ran_line r
-ran_appended r old key a b new is e1 e2 e3 =
-    let joined : ((old ++ line_head (time_of r.span) (told_moment r.span.began) (told_moment r.span.ended)) ++ r.name) ++ codes "\n"
-    ≡ old ++ ran_line r =
-    simp append_assoc refl in
-    e3 ∙ ap (λ (l : List ℕ). l ++ codes "\n") (e2 ∙ ap (λ (l : List ℕ). l ++ r.name) (e1 ∙ ap (λ (l : List ℕ). old ++ l) is)) ∙ joined

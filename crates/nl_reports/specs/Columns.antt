@@ -1,9 +1,8 @@
 -- A text whose fields tabs part, in columns (docs/CLI.md, "At a terminal").
-use Rattle.std.specs.Prelude.{ℕ, zero, suc, ◌+◌, ◌-◌, ◌/◌, ◌%◌, ◌≡◌, ⊤, ◌==◌, ◌&&◌, ◌||◌, nat_le, nat_lt, not, max, Bool, true, false, List, [], ◌∷◌, ◌++◌, length, get_or, slice_get, replicate, count_by, if◌then◌else◌}
-use Rattle.std.specs.List.{list_all, slice_split}
+use Rattle.std.specs.Prelude.{ℕ, zero, suc, ◌+◌, ◌-◌, ◌/◌, ◌%◌, ◌≡◌, ⊤, ◌==◌, ◌&&◌, ◌||◌, nat_le, nat_lt, not, max, Bool, false, List, [], ◌∷◌, ◌++◌, length, get_or, slice_get, replicate, count_by, if◌then◌else◌}
+use Rattle.std.specs.List.{slice_split}
 use Rattle.std.specs.Option.{unwrap_or}
 use Rattle.nl_fields.specs.Digits.{digit_of}
-use Rattle.nl_reports.specs.declared.columns.Column.{Column}
 
 -- ---- what a terminal shows
 
@@ -53,92 +52,84 @@ begins_one b = not (nat_le 128 b && nat_lt b 192)
 abbrev pub width : List ℕ → ℕ
 width field = count_by begins_one field
 
-abbrev pub is_figure : ℕ → Bool
-is_figure b = (nat_le 48 b && nat_le b 57) || b == 45 || b == 46
-
-abbrev pub are_figures : List ℕ → Bool
-are_figures field = list_all is_figure field
-
-abbrev pub is_number : List ℕ → Bool
-is_number field = not (length field == 0) && are_figures field
-
 -- ---- columns
 
--- a column without fields
-abbrev pub room : Column
-room = record { width = 0; is_number = true }
+-- with the field of a line, where the line has so many
+abbrev pub with_line : ℕ → ℕ → List ℕ → ℕ → ℕ
+with_line count place line so_far = if length (fields_of line) == count then max so_far (width (field_at line place)) else so_far
 
--- with room for a field more
-abbrev pub widened : Column → List ℕ → Column
-widened column field = record { width = max column.width (width field); is_number = column.is_number && is_number field }
+-- how many characters the longest field at a place has, of the lines that have so many
+abbrev pub widest : ℕ → ℕ → List (List ℕ) → ℕ → ℕ
+widest count place [] so_far = so_far
+widest count place (line ∷ lines) so_far = widest count place lines (with_line count place line so_far)
 
--- with room for the field of a line, where the line has so many
-abbrev pub with_line : ℕ → ℕ → List ℕ → Column → Column
-with_line count place line so_far = if length (fields_of line) == count then widened so_far (field_at line place) else so_far
-
--- with room for the fields at a place, of the lines that have so many
-abbrev pub column : ℕ → ℕ → List (List ℕ) → Column → Column
-column count place [] so_far = so_far
-column count place (line ∷ lines) so_far = column count place lines (with_line count place line so_far)
-
--- the first columns of the lines that have so many fields
-abbrev pub columns_up_to : ℕ → ℕ → List (List ℕ) → List Column
-columns_up_to zero count lines = []
-columns_up_to (suc k) count lines = columns_up_to k count lines ++ column count k lines room ∷ []
+-- how wide the first columns are of the lines that have so many fields
+abbrev pub widths_up_to : ℕ → ℕ → List (List ℕ) → List ℕ
+widths_up_to zero count lines = []
+widths_up_to (suc k) count lines = widths_up_to k count lines ++ widest count k lines 0 ∷ []
 
 -- all of them
-abbrev pub columns : ℕ → List (List ℕ) → List Column
-columns count lines = columns_up_to count count lines
+abbrev pub widths : ℕ → List (List ℕ) → List ℕ
+widths count lines = widths_up_to count count lines
 
 -- ---- cells
 
 abbrev pub spaces : ℕ → List ℕ
 spaces n = replicate n 32
 
--- the spaces that a field lacks of the width of its column
-abbrev pub padding : Column → List ℕ → List ℕ
-padding column field = spaces (column.width - width field)
+-- a field that others follow stands at the right of its column; two spaces part it from the next
+abbrev pub cell : ℕ → List ℕ → List ℕ
+cell wide field = spaces (wide - width field) ++ field ++ spaces 2
 
--- a number stands at the right of its column, and any other field at the left; two spaces part it from the next
-abbrev pub cell_before : Column → List ℕ → List ℕ
-cell_before column field = if column.is_number then padding column field else []
+-- the longest end of a field that has so many characters at most, and begins with one
+abbrev pub end_of : ℕ → List ℕ → List ℕ
+end_of room [] = []
+end_of room (b ∷ bs) = if begins_one b && nat_le (width (b ∷ bs)) room then b ∷ bs else end_of room bs
 
-abbrev pub cell_behind : Bool → Column → List ℕ → List ℕ
-cell_behind is_last column field = if is_last then [] else ((if column.is_number then [] else padding column field) ++ spaces 2)
+abbrev pub ellipsis : List ℕ
+ellipsis = 226 ∷ 128 ∷ 166 ∷ []
 
-abbrev pub cell : Bool → Column → List ℕ → List ℕ
-cell is_last column field = cell_before column field ++ field ++ cell_behind is_last column field
+-- a field whole, or an ellipsis and its end, where so many characters fit
+abbrev pub fitted : ℕ → List ℕ → List ℕ
+fitted room field = if nat_le (width field) room then field else ellipsis ++ end_of (room - 1) field
 
--- what stands for a column where there is none
-abbrev pub no_column : Column
-no_column = record { width = 0; is_number = false }
+-- the last field is cut only where others stand before it
+abbrev pub last_cell : ℕ → ℕ → List ℕ → List ℕ
+last_cell before room field = if before == 0 then field else fitted room field
 
--- the first cells of a line
-abbrev pub cells_up_to : ℕ → List Column → List ℕ → List ℕ
-cells_up_to zero cs line = []
-cells_up_to (suc k) cs line = cells_up_to k cs line ++ cell (k + 1 == length cs) (get_or cs k no_column) (field_at line k)
+-- the first cells of a line, and how many characters fit behind them
+abbrev pub cells_up_to : ℕ → List ℕ → List ℕ → List ℕ
+cells_up_to zero ws line = []
+cells_up_to (suc k) ws line = cells_up_to k ws line ++ cell (get_or ws k 0) (field_at line k)
 
-abbrev pub cells : List Column → List ℕ → List ℕ
-cells cs line = cells_up_to (length cs) cs line
+abbrev pub room_behind : ℕ → ℕ → List ℕ → ℕ
+room_behind zero most ws = most
+room_behind (suc k) most ws = room_behind k most ws - get_or ws k 0 - 2
 
--- a line in the columns of these lines
-abbrev pub row_of : List (List ℕ) → List ℕ → List ℕ
-row_of lines line = cells (columns (length (fields_of line)) lines) line
+-- all of them
+abbrev pub cells_to : ℕ → ℕ → List ℕ → List ℕ → List ℕ
+cells_to last most ws line = cells_up_to last ws line ++ last_cell last (room_behind last most ws) (field_at line last)
+
+abbrev pub cells : ℕ → List ℕ → List ℕ → List ℕ
+cells most ws line = cells_to (length ws - 1) most ws line
+
+-- a line of these
+abbrev pub row_of : ℕ → List (List ℕ) → List ℕ → List ℕ
+row_of most lines line = cells most (widths (length (fields_of line)) lines) line
 
 -- ---- the text
 
 abbrev pub newline_before : ℕ → List ℕ
-newline_before zero = []
-newline_before (suc k) = 10 ∷ []
+newline_before k = if k == 0 then [] else 10 ∷ []
 
 -- the first lines, with newlines between them
-abbrev pub rows_up_to : ℕ → List (List ℕ) → List ℕ
-rows_up_to zero lines = []
-rows_up_to (suc k) lines = rows_up_to k lines ++ newline_before k ++ row_of lines (get_or lines k [])
+abbrev pub rows_up_to : ℕ → ℕ → List (List ℕ) → List ℕ
+rows_up_to zero most lines = []
+rows_up_to (suc k) most lines = rows_up_to k most lines ++ newline_before k ++ row_of most lines (get_or lines k [])
 
-abbrev pub laid_out : List ℕ → List ℕ
-laid_out text = rows_up_to (length (lines_of text)) (lines_of text)
+abbrev pub laid_out : ℕ → List ℕ → List ℕ
+laid_out most text = rows_up_to (length (lines_of text)) most (lines_of text)
 
--- as a terminal shows it
-abbrev pub in_columns : List ℕ → List ℕ
-in_columns text = laid_out (shown text)
+-- as a terminal with lines of so many characters shows it
+abbrev pub in_columns : ℕ → List ℕ → List ℕ
+in_columns most text = laid_out most (shown text)

@@ -10,6 +10,7 @@ use Rattle.nl_reports.specs.Lasting.{is_among, is_held, marked}
 use Rattle.nl_reports.specs.Outputs.{last_at, places_of}
 use Rattle.nl_reports.specs.Rows.{falling}
 use Rattle.nl_reports.specs.Spans.{time_of}
+use Rattle.nl_reports.specs.Texts.{change_text, joined, line, took_text}
 use Rattle.nl_reports.specs.declared.class.Class.{Class}
 use Rattle.nl_reports.specs.declared.class.Class.TheVariants.{New, Gone, Changed, Slower, Faster, Unfinished, Same}
 use Rattle.nl_reports.specs.declared.sides.ComparedRow.{ComparedRow}
@@ -181,17 +182,6 @@ class_text Faster = codes "faster"
 class_text Unfinished = codes "unfinished"
 class_text Same = codes "same"
 
--- the second number less the first
-abbrev pub sign : ℕ → ℕ → List ℕ
-sign old new = if nat_lt new old then codes "-" else []
-
-abbrev pub difference : ℕ → ℕ → List ℕ
-difference old new = sign old new ++ decimal (abs_diff old new)
-
--- three numbers: the difference of two, and these
-abbrev pub times_text : ℕ → ℕ → List ℕ
-times_text old new = difference old new ++ codes "\t" ++ decimal old ++ codes "\t" ++ decimal new
-
 -- the milliseconds of some commands in the old log, and in the new one
 abbrev pub old_time : List Compared → ℕ
 old_time cs = sum_by (λ (c : Compared). c.old) cs
@@ -200,29 +190,49 @@ abbrev pub new_time : List Compared → ℕ
 new_time cs = sum_by (λ (c : Compared). c.new) cs
 
 -- how many commands a class has, by how much they took longer, and how long they took in each log
-abbrev pub total_of : Class → List Compared → List ℕ
-total_of class cs = codes "total\t" ++ class_text class ++ codes "\t" ++ decimal (length cs) ++ codes "\t"
-    ++ times_text (old_time cs) (new_time cs) ++ codes "\n"
+abbrev pub total_of : Bool → Class → ℕ → ℕ → ℕ → List ℕ
+total_of screen class count old new = if screen
+    then line (decimal count ∷ change_text screen old new ∷ took_text screen old ∷ took_text screen new ∷ class_text class ∷ [])
+    else line (codes "total" ∷ class_text class ∷ decimal count ∷ change_text screen old new ∷ took_text screen old ∷ took_text screen new ∷ [])
 
-abbrev pub total_line : List Compared → Class → List ℕ
-total_line cs class = total_of class (of_class class cs)
+abbrev pub total_line_of : Bool → Class → List Compared → List ℕ
+total_line_of screen class cs = total_of screen class (length cs) (old_time cs) (new_time cs)
+
+abbrev pub total_line : Bool → List Compared → Class → List ℕ
+total_line screen cs class = total_line_of screen class (of_class class cs)
 
 -- a command: by how much it took longer, how long it took in each log, and its first output
-abbrev pub row_line : Compared → List ℕ
-row_line c = class_text c.class ++ codes "\t" ++ times_text c.old c.new ++ codes "\t" ++ c.output ++ codes "\n"
+abbrev pub row_of : Bool → Class → ℕ → ℕ → List ℕ → List ℕ
+row_of screen class old new output = if screen
+    then line (change_text screen old new ∷ took_text screen old ∷ took_text screen new ∷ output ∷ [])
+    else line (class_text class ∷ change_text screen old new ∷ took_text screen old ∷ took_text screen new ∷ output ∷ [])
 
--- so many commands of a class at most, the largest differences first, and equal ones in order
-abbrev pub class_lines : ℕ → List Compared → Class → List ℕ
-class_lines most cs class = flat_map row_line (take most (falling cost (of_class class cs)))
+abbrev pub row_line : Bool → Compared → List ℕ
+row_line screen c = row_of screen c.class c.old c.new c.output
 
-abbrev pub hashes_line : Bool → List ℕ
-hashes_line hashes = if hashes then codes "hashes\tcompared\n" else codes "hashes\tnot-compared\n"
+-- so many commands of a class at most, the largest differences first, and equal ones in order; at a terminal under a heading
+abbrev pub class_heading : Bool → Class → List ℕ
+class_heading screen class = if screen then joined (codes "\nCommands: " ∷ class_text class ∷ codes "\nChange\tOld\tNew\tOutput\n" ∷ []) else []
 
-abbrev pub told_of_all : ℕ → Bool → List Compared → List ℕ
-told_of_all most hashes cs = hashes_line hashes ++ flat_map (total_line cs) classes ++ flat_map (class_lines most cs) told_classes
+abbrev pub lines_of : Bool → ℕ → Class → List Compared → List ℕ
+lines_of screen most class cs = if most == 0 || length cs == 0 then [] else
+    class_heading screen class ++ flat_map (row_line screen) (take most (falling cost cs))
 
-abbrev pub compare_text : ℕ → ℕ → Bool → Log → Log → List ℕ
-compare_text most least hashes old new = told_of_all most hashes (compared (record { hashes = hashes; least = least }) old new)
+abbrev pub class_lines : Bool → ℕ → List Compared → Class → List ℕ
+class_lines screen most cs class = lines_of screen most class (of_class class cs)
+
+abbrev pub head : Bool → Bool → List ℕ
+head false true = codes "hashes\tcompared\n"
+head false false = codes "hashes\tnot-compared\n"
+head true true = codes "Commands\tChange\tOld\tNew\tClass\n"
+head true false = codes "Hashes weren't compared\nCommands\tChange\tOld\tNew\tClass\n"
+
+abbrev pub told_of_all : Bool → ℕ → Bool → List Compared → List ℕ
+told_of_all screen most hashes cs =
+    (head screen hashes ++ flat_map (total_line screen cs) classes) ++ flat_map (class_lines screen most cs) told_classes
+
+abbrev pub compare_text : Bool → ℕ → ℕ → Bool → Log → Log → List ℕ
+compare_text screen most least hashes old new = told_of_all screen most hashes (compared (record { hashes = hashes; least = least }) old new)
 
 -- logs of both versions have one hash of a command
 abbrev pub are_comparable : LogVersion → LogVersion → Bool

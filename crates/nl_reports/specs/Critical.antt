@@ -8,6 +8,7 @@ use Rattle.nl_reports.specs.Lasting.{is_among}
 use Rattle.nl_reports.specs.Outputs.{last_at, places_of}
 use Rattle.nl_reports.specs.Paths.{Graph, IsLongest, Node, length_of}
 use Rattle.nl_reports.specs.Spans.{time_of}
+use Rattle.nl_reports.specs.Texts.{joined, line, time_text, told_moment, took_text}
 use Rattle.nl_reports.specs.declared.span.Span.{Span}
 
 -- the names of nodes, by their numbers
@@ -39,14 +40,20 @@ ran_time (Some r) = time_of r.span
 abbrev pub weight : List Node → List Job → List ℕ → ℕ
 weight nodes js id = ran_time (ran_at nodes js id)
 
--- a moment as an entry tells it: with a sign, if it is before the build began
-abbrev pub told_moment : ℕ → List ℕ
-told_moment at = if nat_lt at 2147483648 then codes "-" ++ decimal (2147483648 - at) else decimal (at - 2147483648)
+-- how long a command began after a moment
+abbrev pub waited : ℕ → Ran → ℕ
+waited before r = r.span.began - before
 
--- a command of the path: its milliseconds, START and END, and its output
-abbrev pub ran_line : Ran → List ℕ
-ran_line r = codes "on-path\t" ++ decimal (time_of r.span) ++ codes "\t" ++ told_moment r.span.began ++ codes "\t"
-    ++ told_moment r.span.ended ++ codes "\t" ++ r.name ++ codes "\n"
+-- a command of the path: its milliseconds, START and END, and its output; at a terminal how long it waited in place of END
+abbrev pub ran_line : Bool → ℕ → Ran → List ℕ
+ran_line screen before r = if screen
+    then line (took_text screen (time_of r.span) ∷ took_text screen (waited before r) ∷ told_moment screen r.span.began ∷ r.name ∷ [])
+    else line (codes "on-path" ∷ took_text screen (time_of r.span) ∷ told_moment screen r.span.began ∷ told_moment screen r.span.ended ∷ r.name ∷ [])
+
+-- each begins after the one before it ended, and the first after the build began
+abbrev pub ran_lines : Bool → ℕ → List Ran → List ℕ
+ran_lines screen before [] = []
+ran_lines screen before (r ∷ rs) = ran_line screen before r ++ ran_lines screen r.span.ended rs
 
 -- a node at which no command ran that took time is passed over
 abbrev pub took_time : Option Ran → List Ran
@@ -68,21 +75,28 @@ abbrev pub lacking : Graph → List Job → List Job
 lacking g js = filter (is_lacking g) js
 
 -- how many commands the graph lacks, and the sum of their milliseconds
-abbrev pub lacking_line : ℕ → ℕ → List ℕ
-lacking_line count time = if count == 0 then [] else codes "not-in-graph\t" ++ decimal count ++ codes "\t" ++ decimal time ++ codes "\n"
+abbrev pub lacking_line : Bool → ℕ → ℕ → List ℕ
+lacking_line screen count time = if count == 0 then [] else (if screen
+    then joined (codes "Commands that the graph lacks: " ∷ decimal count ∷ codes " (" ∷ took_text screen time ∷ codes ")\n" ∷ [])
+    else line (codes "not-in-graph" ∷ decimal count ∷ took_text screen time ∷ []))
 
-abbrev pub lacking_text : List Job → List ℕ
-lacking_text js = lacking_line (length js) (sum_by (λ (j : Job). time_of j.span) js)
+abbrev pub lacking_text : Bool → List Job → List ℕ
+lacking_text screen js = lacking_line screen (length js) (sum_by (λ (j : Job). time_of j.span) js)
 
 -- the commands of a path that took time, and its text: how long it is, and these in order
 abbrev pub path_rans : Graph → List Job → List (List ℕ) → List Ran
 path_rans g js path = flat_map (λ id. took_time (ran_at g.nodes js id)) path
 
-abbrev pub told_path : ℕ → List Ran → List ℕ
-told_path length rans = codes "critical-path\t" ++ decimal length ++ codes "\n" ++ flat_map ran_line rans
+abbrev pub path_head : Bool → ℕ → List ℕ
+path_head screen length = if screen
+    then joined (codes "\nCritical path: " ∷ time_text length ∷ codes "\nTime\tWaited\tBegan\tOutput\n" ∷ [])
+    else line (codes "critical-path" ∷ decimal length ∷ [])
 
-abbrev pub path_text : Graph → List Job → List (List ℕ) → List ℕ
-path_text g js path = told_path (length_of (weight g.nodes js) path) (path_rans g js path)
+abbrev pub told_path : Bool → ℕ → List Ran → List ℕ
+told_path screen length rans = path_head screen length ++ ran_lines screen 2147483648 rans
+
+abbrev pub path_text : Bool → Graph → List Job → List (List ℕ) → List ℕ
+path_text screen g js path = told_path screen (length_of (weight g.nodes js) path) (path_rans g js path)
 
 -- a longest path is so long, and has these commands
 pub record IsFoundPath (g : Graph) (js : List Job) (length : ℕ) (rans : List Ran) : Type 0 where
@@ -92,20 +106,20 @@ pub record IsFoundPath (g : Graph) (js : List Job) (length : ℕ) (rans : List R
   pub rans_are : rans ≡ path_rans g js path
 
 -- the text of a longest path
-pub record IsPathText (g : Graph) (js : List Job) (text : List ℕ) : Type 0 where
+pub record IsPathText (screen : Bool) (g : Graph) (js : List Job) (text : List ℕ) : Type 0 where
   pub path : List (List ℕ)
   pub longest : IsLongest g.edges (weight g.nodes js) path
-  pub is : text ≡ path_text g js path
+  pub is : text ≡ path_text screen g js path
 
 -- the text of a longest path, and after it what the graph lacks, which isn't all
-pub record IsCriticalText (g : Graph) (js : List Job) (text : List ℕ) : Type 0 where
+pub record IsCriticalText (screen : Bool) (g : Graph) (js : List Job) (text : List ℕ) : Type 0 where
   pub some : length (lacking g js) ≢ length js
   pub path : List ℕ
-  pub is_path : IsPathText g js path
-  pub is : text ≡ path ++ lacking_text (lacking g js)
+  pub is_path : IsPathText screen g js path
+  pub is : text ≡ path ++ lacking_text screen (lacking g js)
 
 -- the text of these commands: nothing, where there is none; and no text, where the graph lacks them all
-abbrev pub IsCritical : Graph → List Job → Option (Vec ℕ) → Type 0
-IsCritical g [] told = IsSomeAnd told (λ text. text.items ≡ [])
-IsCritical g (j ∷ js) None = length (lacking g (j ∷ js)) ≡ length (j ∷ js)
-IsCritical g (j ∷ js) (Some text) = IsCriticalText g (j ∷ js) text.items
+abbrev pub IsCritical : Bool → Graph → List Job → Option (Vec ℕ) → Type 0
+IsCritical screen g [] told = IsSomeAnd told (λ text. text.items ≡ [])
+IsCritical screen g (j ∷ js) None = length (lacking g (j ∷ js)) ≡ length (j ∷ js)
+IsCritical screen g (j ∷ js) (Some text) = IsCriticalText screen g (j ∷ js) text.items

@@ -72,7 +72,7 @@ sums_in ps kind = unwrap_or (lookup (λ k. bytes_eq kind k.now) ps) no_sums
 
 pub record IsOfOne (r : Row) : Type 0 where
   pub commands : r.sums.commands ≡ 1
-  pub time : r.sums.time < 2 ^ 64
+  pub time : r.sums.time < 2 ^ 32
   pub weight : r.sums.weight < 2 ^ 64
 
 -- no larger than the sums of `n` commands can be

@@ -19,6 +19,7 @@ pub mod Lanes
 pub mod Frame
 pub mod Turns
 pub mod Texts
+pub mod BuildsTable
 pub mod Ticks
 pub mod Work
 pub mod Times

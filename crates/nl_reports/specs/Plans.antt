@@ -1,5 +1,5 @@
 -- What so many commands at a time would take (docs/CLI.md, "summary").
-use Rattle.std.specs.Prelude.{◌≡◌, ◌≤◌, ◌<◌, ◌+◌, ◌-◌, ◌/◌, ℕ, max, IfSome, Option, None, Some, List, [], ◌∷◌, ◌++◌, get_or, length, map, codes, decimal}
+use Rattle.std.specs.Prelude.{◌≡◌, ◌≤◌, ◌<◌, ◌+◌, ◌-◌, ◌/◌, ◌&&◌, nat_lt, Bool, if◌then◌else◌, ℕ, max, IfSome, Option, None, Some, List, [], ◌∷◌, ◌++◌, get_or, length, map, codes, decimal}
 use Rattle.std.specs.List.{All}
 use Rattle.nl_fields.specs.declared.entry.Entry.{Entry}
 use Rattle.std.specs.Global.{Vec}
@@ -11,6 +11,7 @@ use Rattle.nl_reports.specs.Paths.{Edge, Graph, IsLongest, length_of}
 use Rattle.nl_reports.specs.Rows.{spans}
 use Rattle.nl_reports.specs.Spans.{time_of}
 use Rattle.nl_reports.specs.Sweep.{last_moment, running}
+use Rattle.nl_reports.specs.Texts.{line, took_text}
 
 -- what a command keeps, whenever it runs: how long it takes, and its outputs
 abbrev pub kept : Job → ℕ × List Entry
@@ -50,38 +51,43 @@ pub record IsEstimate (g : Graph) (js : List Job) (n wall floor : ℕ) : Type 0 
   pub bounds : IsAtBounds n (length js) wall (total_time js) (length_of (weight g.nodes js) path)
 
 -- a line: for so many at a time the milliseconds, and that floor
-abbrev pub estimate_line : ℕ → ℕ → ℕ → List ℕ
-estimate_line n wall floor = codes "estimate\t" ++ decimal n ++ codes "\t" ++ decimal wall ++ codes "\t" ++ decimal floor ++ codes "\n"
+abbrev pub estimate_line : Bool → ℕ → ℕ → ℕ → List ℕ
+estimate_line screen n wall floor = if screen
+    then line (decimal n ∷ took_text screen wall ∷ took_text screen floor ∷ [])
+    else line (codes "estimate" ∷ decimal n ∷ took_text screen wall ∷ took_text screen floor ∷ [])
+
+abbrev pub heading : Bool → List ℕ → List ℕ
+heading screen ns = if nat_lt 0 (length ns) && screen then codes "\nEstimates\nJobs\tElapsed\tAt least\n" else []
 
 -- one more line after those of other numbers
-pub record IsLineMore (g : Graph) (js : List Job) (n : ℕ) (before text : List ℕ) : Type 0 where
+pub record IsLineMore (screen : Bool) (g : Graph) (js : List Job) (n : ℕ) (before text : List ℕ) : Type 0 where
   pub wall : ℕ
   pub floor : ℕ
   pub is_estimate : IsEstimate g js n wall floor
-  pub is : text ≡ before ++ estimate_line n wall floor
+  pub is : text ≡ before ++ estimate_line screen n wall floor
 
 -- the lines for these numbers, after a text
-abbrev pub AreMore : Graph → List Job → List ℕ → List ℕ → List ℕ → Type 0
-AreMore g js [] before text = text ≡ before
-AreMore g js (n ∷ ns) before text = (line : List ℕ) × IsLineMore g js n before line × AreMore g js ns line text
+abbrev pub AreMore : Bool → Graph → List Job → List ℕ → List ℕ → List ℕ → Type 0
+AreMore screen g js [] before text = text ≡ before
+AreMore screen g js (n ∷ ns) before text = (more : List ℕ) × IsLineMore screen g js n before more × AreMore screen g js ns more text
 
-abbrev pub AreEstimates : Graph → List Job → List ℕ → List ℕ → Type 0
-AreEstimates g js ns text = AreMore g js ns [] text
+abbrev pub AreEstimates : Bool → Graph → List Job → List ℕ → List ℕ → Type 0
+AreEstimates screen g js ns text = AreMore screen g js ns (heading screen ns) text
 
 -- what a graph tells of commands: the critical path, so many gains, and the estimates for these numbers; where no number is asked for, it
 -- tells nothing only if it lacks all commands
-pub record IsGraphTold (g : Graph) (most : ℕ) (ns : List ℕ) (js : List Job) (text : List ℕ) : Type 0 where
+pub record IsGraphTold (screen : Bool) (g : Graph) (most : ℕ) (ns : List ℕ) (js : List Job) (text : List ℕ) : Type 0 where
   pub path : Vec ℕ
-  pub is_critical : IsCritical g js (Some path)
+  pub is_critical : IsCritical screen g js (Some path)
   pub gains : List ℕ
-  pub are_gains : AreGainsOf g js most gains
+  pub are_gains : AreGainsOf screen g js most gains
   pub estimates : List ℕ
-  pub are : AreEstimates g js ns estimates
+  pub are : AreEstimates screen g js ns estimates
   pub is : text ≡ (path.items ++ gains) ++ estimates
 
-abbrev pub IsToldBy : Graph → ℕ → List ℕ → List Job → Option (Vec ℕ) → Type 0
-IsToldBy g most ns js None = ns ≡ [] → IsCritical g js None
-IsToldBy g most ns js (Some text) = IsGraphTold g most ns js text.items
+abbrev pub IsToldBy : Bool → Graph → ℕ → List ℕ → List Job → Option (Vec ℕ) → Type 0
+IsToldBy screen g most ns js None = ns ≡ [] → IsCritical screen g js None
+IsToldBy screen g most ns js (Some text) = IsGraphTold screen g most ns js text.items
 
 -- each of the second ones, but for the first so many, isn't below the first one at its place without these
 abbrev pub AreBehind : ℕ → List ℕ → List ℕ → Type 0

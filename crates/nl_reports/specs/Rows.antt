@@ -1,10 +1,12 @@
 -- Commands and kinds of commands, the largest first (docs/CLI.md, "summary").
-use Rattle.std.specs.Prelude.{ℕ, ◌-◌, ◌^◌, ◌==◌, nat_le, List, [], ◌∷◌, ◌++◌, take, map, codes, decimal, if◌then◌else◌}
+use Rattle.std.specs.Prelude.{ℕ, ◌-◌, ◌^◌, ◌==◌, nat_le, Bool, true, false, List, [], ◌∷◌, ◌++◌, take, map, codes, decimal, if◌then◌else◌}
 use Rattle.std.specs.List.{filter, flat_map}
-use Rattle.nl_reports.specs.Fraction.{ratio}
+use Rattle.nl_reports.specs.Fraction.{percent, ratio}
 use Rattle.nl_reports.specs.Jobs.{Job, first_name}
 use Rattle.nl_reports.specs.Spans.{time_of}
 use Rattle.nl_reports.specs.Sweep.{parts, weight}
+use Rattle.nl_reports.specs.Texts.{line, time_text}
+use Rattle.nl_reports.specs.declared.lists.Lists.{Lists}
 use Rattle.nl_reports.specs.declared.rows.Listed.{Listed}
 use Rattle.nl_reports.specs.declared.rows.Listed.TheVariants.{Commands, Kinds}
 use Rattle.nl_reports.specs.declared.rows.Rank.{Rank}
@@ -79,11 +81,24 @@ abbrev pub shown_name : Listed → List ℕ → List ℕ
 shown_name Commands name = name
 shown_name Kinds name = named_kind name
 
--- a line: the milliseconds, the weighted ones with two digits, rounded down, and the first output or the kind
-abbrev pub list_line : Listed → Rank → Told → List ℕ
-list_line listed rank t = list_key listed rank t.sums.commands ++ decimal t.sums.time ++ codes "\t" ++ ratio t.sums.weight parts ++ codes "\t"
+-- at a terminal: how long it took, and its part of the time of all
+abbrev pub screen_row : Listed → ℕ → Told → List ℕ
+screen_row Commands total t = line (time_text t.sums.time ∷ (decimal (percent t.sums.time total) ++ codes "%") ∷ shown_name Commands t.name ∷ [])
+screen_row Kinds total t = line (time_text t.sums.time ∷ (decimal (percent t.sums.time total) ++ codes "%") ∷ decimal t.sums.commands
+    ∷ shown_name Kinds t.name ∷ [])
+
+abbrev pub heading : Bool → Listed → List ℕ
+heading false listed = []
+heading true Commands = codes "\nSlowest commands\nTime\tShare\tOutput\n"
+heading true Kinds = codes "\nKinds of commands\nTime\tShare\tCommands\tKind\n"
+
+-- in a pipe: the milliseconds, the weighted ones with two digits, rounded down, and the first output or the kind
+abbrev pub list_line : Bool → ℕ → Listed → Rank → Told → List ℕ
+list_line screen total listed rank t = if screen then screen_row listed total t else
+    list_key listed rank t.sums.commands ++ decimal t.sums.time ++ codes "\t" ++ ratio t.sums.weight parts ++ codes "\t"
     ++ shown_name listed t.name ++ codes "\n"
 
--- the highest rank comes first
-abbrev pub list_lines : Listed → Rank → ℕ → List Told → List ℕ
-list_lines listed rank most ts = flat_map (list_line listed rank) (take most (falling (rank_told rank) ts))
+-- the highest rank comes first; all commands take so long together
+abbrev pub list_lines : Lists → ℕ → Listed → Rank → List Told → List ℕ
+list_lines lists total listed rank ts = heading lists.screen listed
+    ++ flat_map (list_line lists.screen total listed rank) (take lists.most (falling (rank_told rank) ts))

@@ -16,6 +16,10 @@ runs_at t s = nat_le s.began t && nat_lt t s.ended
 abbrev pub running : List Span → ℕ → ℕ
 running cs t = count_by (runs_at t) cs
 
+-- how many run at a time at most: as many as when one of them begins
+abbrev pub most_at_once : List Span → ℕ
+most_at_once cs = fold (λ most s. max most (running cs s.began)) 0 cs
+
 -- a millisecond has so many parts: up to 22 commands share it with nothing left
 abbrev pub parts : ℕ
 parts = 232792560

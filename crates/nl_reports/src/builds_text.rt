@@ -62,7 +62,7 @@ fn append_line(
     Ok(())
 }
 
-fn border_word(build: &Build) -> &'static str
+pub(crate) fn border_word(build: &Build) -> &'static str
     ensures { result.now ≡ border_word build.now.how build.now.is_sure }
 {
     match build.how {

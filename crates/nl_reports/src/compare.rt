@@ -1,33 +1,47 @@
 //! The text of `compare`.
-ghost use Rattle.std.specs.Prelude.{◌≡◌, ◌++◌, map, IfOk, OnOk, string_bytes};
+ghost use Rattle.std.specs.Prelude.{◌≡◌, ◌++◌, map, take, IfOk, OnOk};
 ghost use Rattle.std.specs.List.{flat_map};
-ghost use Rattle.nl_reports.specs.Compare.{are_comparable, class_lines, compare_text, compared_of, row_line, side_of, sign, times_text, told_of_all, total_line};
+ghost use Rattle.nl_reports.specs.Compare.{are_comparable, class_heading, class_lines, compare_text, compared_of, cost, head, lines_of, row_line, side_of, told_of_all, total_line, total_of};
+ghost use Rattle.nl_reports.specs.Rows.{falling};
 
 use crate::class::{Class, class_text};
 use crate::ranking::highest;
 use crate::sides::{ByCost, ComparedRow, Rules, Side, compared, new_time, of_class, old_time};
+use crate::text::{Part, append, append_line, append_parts};
 use nl_table::Secret;
 use nl_versions::LogVersion;
 use std::alloc::{AllocError, Global};
 
+// Each class; all but the last are listed.
+const CLASSES: [Class; 7] = [
+    Class::New,
+    Class::Gone,
+    Class::Changed,
+    Class::Slower,
+    Class::Faster,
+    Class::Unfinished,
+    Class::Same,
+];
+
 /// What an old log and a new one say of their commands: whether the hashes of these were compared, which logs of version 7 and of older
 /// ones can't; for each class how many commands it has, and how long they took; and of each class but that of equal ones so many commands
 /// at most, those with the largest differences first. A difference of fewer milliseconds than the least is none. Names are hashed under a
-/// secret.
+/// secret. At a terminal these are tables.
 pub fn compare_lines(
     alloc: Global,
     secret: Secret,
+    screen: bool,
     most: usize,
     least: u64,
     old: &Side<'_, '_>,
     new: &Side<'_, '_>,
 ) -> Result<Vec<u8>, AllocError>
     ensures value { IfOk result (λ lines. lines.items
-        ≡ compare_text most least (are_comparable old.now.version new.now.version) (side_of old.now) (side_of new.now)) }
+        ≡ compare_text screen most least (are_comparable old.now.version new.now.version) (side_of old.now) (side_of new.now)) }
 {
     let hashes = are_comparable(old.version, new.version);
     let rows = compared(alloc, secret, Rules { hashes, least }, old, new)?;
-    told_of_all(alloc, most, hashes, rows.as_slice())
+    told_of_all(alloc, screen, most, hashes, rows.as_slice())
 }
 
 // Whether logs of these versions have one hash of a command.
@@ -39,111 +53,175 @@ fn are_comparable(old: LogVersion, new: LogVersion) -> bool
 
 fn told_of_all(
     alloc: Global,
+    screen: bool,
     most: usize,
     hashes: bool,
     rows: &[ComparedRow<'_>],
 ) -> Result<Vec<u8>, AllocError>
     ensures value { IfOk result
-        (λ lines. lines.items ≡ told_of_all most hashes (map compared_of rows.now)) }
+        (λ lines. lines.items ≡ told_of_all screen most hashes (map compared_of rows.now)) }
 {
-    let all = [
-        Class::New,
-        Class::Gone,
-        Class::Changed,
-        Class::Slower,
-        Class::Faster,
-        Class::Unfinished,
-        Class::Same,
-    ];
     let mut lines = Vec::new(alloc);
-    lines.extend_from_slice(if hashes {
-        b"hashes\tcompared\n"
-    } else {
-        b"hashes\tnot-compared\n"
-    })?;
-    append_classes(alloc, most, &all, &all[..6], rows, &mut lines)?;
+    append(head(screen, hashes), &mut lines)?;
+    append_classes(
+        alloc,
+        screen,
+        most,
+        &CLASSES,
+        &CLASSES[..6],
+        rows,
+        &mut lines,
+    )?;
     Ok(lines)
+}
+
+fn head(screen: bool, hashes: bool) -> &'static [u8]
+    ensures { result.now ≡ head screen hashes }
+{
+    match (screen, hashes) {
+        (false, true) => b"hashes\tcompared\n",
+        (false, false) => b"hashes\tnot-compared\n",
+        (true, true) => b"Commands\tChange\tOld\tNew\tClass\n",
+        (true, false) => b"Hashes weren't compared\nCommands\tChange\tOld\tNew\tClass\n",
+    }
 }
 
 fn append_classes(
     alloc: Global,
+    screen: bool,
     most: usize,
     all: &[Class],
     listed: &[Class],
     rows: &[ComparedRow<'_>],
     lines: &mut Vec<u8>,
 ) -> Result<(), AllocError>
-    ensures items { OnOk result (lines.new.items ≡ (lines.old.items ++ flat_map (total_line (map compared_of rows.now)) all.now)
-        ++ flat_map (class_lines most (map compared_of rows.now)) listed.now) }
+    ensures items { OnOk result (lines.new.items ≡ (lines.old.items ++ flat_map (total_line screen (map compared_of rows.now)) all.now)
+        ++ flat_map (class_lines screen most (map compared_of rows.now)) listed.now) }
 {
     for class in all {
-        append_total(alloc, *class, rows, lines)?;
+        append_total(alloc, screen, *class, rows, lines)?;
     }
     for one in listed {
-        append_class(alloc, most, *one, rows, lines)?;
+        append_class(alloc, screen, most, *one, rows, lines)?;
     }
     Ok(())
 }
 
 fn append_total(
     alloc: Global,
+    screen: bool,
     class: Class,
     rows: &[ComparedRow<'_>],
     lines: &mut Vec<u8>,
 ) -> Result<(), AllocError>
     ensures items { OnOk result
-        (lines.new.items ≡ lines.old.items ++ total_line (map compared_of rows.now) class) }
+        (lines.new.items ≡ lines.old.items ++ total_line screen (map compared_of rows.now) class) }
 {
     let kept = of_class(alloc, class, rows)?;
-    let key = class_text(class);
-    let count = kept.len();
-    let told = times_text(alloc, old_time(kept.as_slice()), new_time(kept.as_slice()))?;
-    let line = format!(in alloc; "total\t{key}\t{count}\t{told}\n")?;
-    lines.extend_from_slice(line.as_bytes())?;
-    Ok(())
+    let old = old_time(kept.as_slice());
+    let new = new_time(kept.as_slice());
+    append_total_of(screen, class, kept.len(), old, new, lines)
+}
+
+fn append_total_of(
+    screen: bool,
+    class: Class,
+    count: usize,
+    old: u128,
+    new: u128,
+    lines: &mut Vec<u8>,
+) -> Result<(), AllocError>
+    ensures items { OnOk result (lines.new.items ≡ lines.old.items ++ total_of screen class count old new) }
+{
+    let class = Part::Text(class_text(class).as_bytes());
+    let count = Part::Number(count as u128);
+    let change = Part::Change(screen, old, new);
+    let old = Part::Took(screen, old);
+    let new = Part::Took(screen, new);
+    if screen {
+        return append_line(&[count, change, old, new, class], lines);
+    }
+    let total = Part::Text(b"total");
+    append_line(&[total, class, count, change, old, new], lines)
 }
 
 fn append_class(
     alloc: Global,
+    screen: bool,
     most: usize,
     class: Class,
     rows: &[ComparedRow<'_>],
     lines: &mut Vec<u8>,
 ) -> Result<(), AllocError>
     ensures items { OnOk result
-        (lines.new.items ≡ lines.old.items ++ class_lines most (map compared_of rows.now) class) }
+        (lines.new.items ≡ lines.old.items ++ class_lines screen most (map compared_of rows.now) class) }
 {
     let kept = of_class(alloc, class, rows)?;
-    let listed = highest(alloc, &ByCost, most, kept.as_slice())?;
+    append_kept(alloc, screen, most, class, kept.as_slice(), lines)
+}
+
+fn append_kept(
+    alloc: Global,
+    screen: bool,
+    most: usize,
+    class: Class,
+    kept: &[ComparedRow<'_>],
+    lines: &mut Vec<u8>,
+) -> Result<(), AllocError>
+    ensures items { OnOk result
+        (lines.new.items ≡ lines.old.items ++ lines_of screen most class (map compared_of kept.now)) }
+{
+    if most == 0 || kept.len() == 0 {
+        return Ok(());
+    }
+    append_heading(screen, class, lines)?;
+    append_rows(alloc, screen, most, kept, lines)
+}
+
+fn append_heading(screen: bool, class: Class, lines: &mut Vec<u8>) -> Result<(), AllocError>
+    ensures items { OnOk result (lines.new.items ≡ lines.old.items ++ class_heading screen class) }
+{
+    if !screen {
+        return Ok(());
+    }
+    append_parts(
+        &[
+            Part::Text(b"\nCommands: "),
+            Part::Text(class_text(class).as_bytes()),
+            Part::Text(b"\nChange\tOld\tNew\tOutput\n"),
+        ],
+        lines,
+    )
+}
+
+fn append_rows(
+    alloc: Global,
+    screen: bool,
+    most: usize,
+    kept: &[ComparedRow<'_>],
+    lines: &mut Vec<u8>,
+) -> Result<(), AllocError>
+    ensures items { OnOk result (lines.new.items ≡ lines.old.items
+        ++ flat_map (row_line screen) (take most (falling cost (map compared_of kept.now)))) }
+{
+    let listed = highest(alloc, &ByCost, most, kept)?;
     for i in 0..listed.len() {
-        append_row(alloc, &listed[i], lines)?;
+        append_row(screen, &listed[i], lines)?;
     }
     Ok(())
 }
 
-fn append_row(alloc: Global, row: &ComparedRow<'_>, lines: &mut Vec<u8>) -> Result<(), AllocError>
+fn append_row(screen: bool, row: &ComparedRow<'_>, lines: &mut Vec<u8>) -> Result<(), AllocError>
     ensures items { OnOk result
-        (lines.new.items ≡ lines.old.items ++ row_line (compared_of row.now)) }
+        (lines.new.items ≡ lines.old.items ++ row_line screen (compared_of row.now)) }
 {
-    let key = class_text(row.class);
-    let told = times_text(alloc, u128::from(row.old), u128::from(row.new))?;
-    let start = format!(in alloc; "{key}\t{told}\t")?;
-    lines.extend_from_slice(start.as_bytes())?;
-    lines.extend_from_slice(row.output)?;
-    lines.push(b'\n')?;
-    Ok(())
-}
-
-fn times_text(alloc: Global, old: u128, new: u128) -> Result<String, AllocError>
-    ensures value { IfOk result (λ text. string_bytes text ≡ times_text old new) }
-{
-    let sign = sign_of(old, new);
-    let apart = old.abs_diff(new);
-    format!(in alloc; "{sign}{apart}\t{old}\t{new}")
-}
-
-fn sign_of(old: u128, new: u128) -> &'static str
-    ensures { result.now ≡ sign old new }
-{
-    if new < old { "-" } else { "" }
+    let change = Part::Change(screen, u128::from(row.old), u128::from(row.new));
+    let old = Part::Took(screen, u128::from(row.old));
+    let new = Part::Took(screen, u128::from(row.new));
+    let output = Part::Text(row.output);
+    if screen {
+        return append_line(&[change, old, new, output], lines);
+    }
+    let class = Part::Text(class_text(row.class).as_bytes());
+    append_line(&[class, change, old, new, output], lines)
 }

@@ -1,7 +1,7 @@
 //! What `summary` tells of the critical path.
-ghost use Rattle.std.specs.Prelude.{◌≡◌, ◌<◌, ◌≤◌, ◌+◌, ◌^◌, ◌++◌, ℕ, List, Some, IfOk, IfSome, IsTrue, OnOk, get_or, length, map, option_and_then, option_map, string_bytes};
+ghost use Rattle.std.specs.Prelude.{◌≡◌, ◌<◌, ◌≤◌, ◌+◌, ◌^◌, ◌++◌, ℕ, List, Some, IfOk, IfSome, IsTrue, OnOk, get_or, length, map, option_and_then, option_map};
 ghost use Rattle.std.specs.List.{All, sum_by};
-ghost use Rattle.nl_reports.specs.Critical.{IsCritical, IsFoundPath, any_named, lacking, ran_line, told_moment, told_path, took_time};
+ghost use Rattle.nl_reports.specs.Critical.{IsCritical, IsFoundPath, any_named, lacking, lacking_line, path_head, ran_line, told_path, took_time};
 ghost use Rattle.nl_reports.specs.Gains.{half_ran, halved, span_if};
 ghost use Rattle.nl_reports.specs.GraphText.{HeldNode, seen_graph};
 ghost use Rattle.nl_reports.specs.Jobs.{Job as SeenJob, seen};
@@ -14,13 +14,11 @@ use crate::graph::NinjaGraph;
 use crate::job::Job;
 use crate::outputs::Outputs;
 use crate::span::Span;
+use crate::text::{BEGINNING, Part, append_line, append_parts};
 use indexmap::IndexMap;
 use nl_fields::EntryRef;
 use nl_table::Secret;
 use std::alloc::{AllocError, Global};
-
-// The moment at which a build begins: a moment is a count from 2^31 milliseconds before it.
-const BEGINNING: u64 = 2_147_483_648;
 
 /// When the command ran whose output is a node, the node's name, and the place of the command.
 #[derive(Clone, Copy, Drop)]
@@ -35,11 +33,12 @@ pub(crate) struct Ran<'a> {
 /// secret.
 pub fn critical_lines(
     alloc: Global,
+    screen: bool,
     secret: Secret,
     graph: &NinjaGraph<'_>,
     jobs: &[Job<'_, '_>],
 ) -> Result<Option<Vec<u8>>, AllocError>
-    ensures value { IfOk result (IsCritical (seen_graph graph.now) (map seen jobs.now)) }
+    ensures value { IfOk result (IsCritical screen (seen_graph graph.now) (map seen jobs.now)) }
 {
     if jobs.is_empty() {
         return Ok(Some(Vec::new(alloc)));
@@ -50,11 +49,8 @@ pub fn critical_lines(
     }
     let reaches = Reaches::of(alloc, secret, graph, jobs)?;
     let found = reaches.path(alloc)?;
-    let mut lines = path_lines(alloc, &found)?;
-    if count > 0 {
-        let line = format!(in alloc; "not-in-graph\t{count}\t{time}\n")?;
-        lines.extend_from_slice(line.as_bytes())?;
-    }
+    let mut lines = path_lines(alloc, screen, &found)?;
+    append_lacking(screen, count, time, &mut lines)?;
     Ok(Some(lines))
 }
 
@@ -163,29 +159,81 @@ pub(crate) struct FoundPath<'a> {
     pub(crate) commands: Vec<Ran<'a>>,
 }
 
-fn path_lines(alloc: Global, found: &FoundPath<'_>) -> Result<Vec<u8>, AllocError>
-    ensures value { IfOk result (λ lines. lines.items ≡ told_path found.now.length (map ran_seen found.now.commands.items)) }
+fn path_lines(alloc: Global, screen: bool, found: &FoundPath<'_>) -> Result<Vec<u8>, AllocError>
+    ensures value { IfOk result (λ lines. lines.items ≡ told_path screen found.now.length (map ran_seen found.now.commands.items)) }
 {
-    let length = found.length;
-    let head = format!(in alloc; "critical-path\t{length}\n")?;
-    let mut lines = Vec::from_slice(alloc, head.as_bytes())?;
+    let mut lines = Vec::new(alloc);
+    append_head(screen, found.length, &mut lines)?;
+    let mut before = BEGINNING;
     for ran in found.commands.as_slice() {
-        append_ran(alloc, ran, &mut lines)?;
+        append_ran(screen, before, ran, &mut lines)?;
+        before = ran.span.ended;
     }
     Ok(lines)
 }
 
-fn append_ran(alloc: Global, ran: &Ran<'_>, lines: &mut Vec<u8>) -> Result<(), AllocError>
-    ensures items { OnOk result (lines.new.items ≡ lines.old.items ++ ran_line (ran_seen ran.now)) }
+fn append_head(screen: bool, length: u128, lines: &mut Vec<u8>) -> Result<(), AllocError>
+    ensures items { OnOk result (lines.new.items ≡ lines.old.items ++ path_head screen length) }
 {
-    let time = ran.span.time();
-    let began = moment_text(alloc, ran.span.began)?;
-    let ended = moment_text(alloc, ran.span.ended)?;
-    let head = format!(in alloc; "on-path\t{time}\t{began}\t{ended}\t")?;
-    lines.extend_from_slice(head.as_bytes())?;
-    lines.extend_from_slice(ran.name)?;
-    lines.push(b'\n')?;
-    Ok(())
+    if !screen {
+        return append_line(&[Part::Text(b"critical-path"), Part::Number(length)], lines);
+    }
+    append_parts(
+        &[
+            Part::Text(b"\nCritical path: "),
+            Part::Took(true, length),
+            Part::Text(b"\nTime\tWaited\tBegan\tOutput\n"),
+        ],
+        lines,
+    )
+}
+
+// The command before it on the path ended at that moment.
+fn append_ran(
+    screen: bool,
+    before: u64,
+    ran: &Ran<'_>,
+    lines: &mut Vec<u8>,
+) -> Result<(), AllocError>
+    ensures items { OnOk result (lines.new.items ≡ lines.old.items ++ ran_line screen before (ran_seen ran.now)) }
+{
+    let time = Part::Took(screen, u128::from(ran.span.time()));
+    let waited = Part::Took(screen, u128::from(ran.span.began.saturating_sub(before)));
+    let began = Part::Moment(screen, ran.span.began);
+    let ended = Part::Moment(screen, ran.span.ended);
+    let name = Part::Text(ran.name);
+    if screen {
+        return append_line(&[time, waited, began, name], lines);
+    }
+    append_line(&[Part::Text(b"on-path"), time, began, ended, name], lines)
+}
+
+fn append_lacking(
+    screen: bool,
+    count: usize,
+    time: u128,
+    lines: &mut Vec<u8>,
+) -> Result<(), AllocError>
+    ensures items { OnOk result (lines.new.items ≡ lines.old.items ++ lacking_line screen count time) }
+{
+    if count == 0 {
+        return Ok(());
+    }
+    let count = Part::Number(count as u128);
+    let time = Part::Took(screen, time);
+    if !screen {
+        return append_line(&[Part::Text(b"not-in-graph"), count, time], lines);
+    }
+    append_parts(
+        &[
+            Part::Text(b"Commands that the graph lacks: "),
+            count,
+            Part::Text(b" ("),
+            time,
+            Part::Text(b")\n"),
+        ],
+        lines,
+    )
 }
 
 /// What ran at each node of a graph, and how far it is said to be behind each.
@@ -437,15 +485,4 @@ fn span_if(half: bool, span: Span) -> Span
         };
     }
     span
-}
-
-fn moment_text(alloc: Global, at: u64) -> Result<String, AllocError>
-    ensures value { IfOk result (λ text. string_bytes text ≡ told_moment at) }
-{
-    if at < BEGINNING {
-        let before = BEGINNING - at;
-        return format!(in alloc; "-{before}");
-    }
-    let behind = at - BEGINNING;
-    format!(in alloc; "{behind}")
 }

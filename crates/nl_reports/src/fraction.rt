@@ -1,8 +1,22 @@
 //! Fractions as they are told.
 ghost use Rattle.std.specs.Prelude.{◌≡◌, ◌<◌, ◌^◌, IfOk, string_bytes};
-ghost use Rattle.nl_reports.specs.Fraction.{ratio};
+ghost use Rattle.nl_reports.specs.Fraction.{percent, ratio};
 
 use std::alloc::{AllocError, Global};
+
+// The part in a hundred of a whole, rounded down, and a hundred at most.
+pub(crate) fn percent(part: u128, whole: u128) -> u128
+    requires room { whole < 2 ^ 120 }
+    ensures value { result ≡ percent part whole }
+{
+    if whole == 0 {
+        return 0;
+    }
+    if part >= whole {
+        return 100;
+    }
+    part * 100 / whole
+}
 
 // A fraction with two digits after the point, rounded down.
 pub(crate) fn ratio(alloc: Global, part: u128, whole: u128) -> Result<String, AllocError>

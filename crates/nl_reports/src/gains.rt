@@ -1,6 +1,6 @@
 //! What a build gains if a command of its critical path took half as long.
 ghost use Rattle.std.specs.Prelude.{◌≡◌, ◌++◌, List, map, IfOk, OnOk};
-ghost use Rattle.nl_reports.specs.Gains.{AreGainsOf, IsGain, IsHalfPath, gain_line};
+ghost use Rattle.nl_reports.specs.Gains.{AreGainsOf, IsGain, IsHalfPath, gain_line, heading};
 ghost use Rattle.nl_reports.specs.GraphText.{seen_graph};
 ghost use Rattle.nl_reports.specs.Jobs.{Job as SeenJob, seen};
 ghost use Rattle.nl_reports.specs.Reaches.{AreOf, ran_seen};
@@ -11,41 +11,61 @@ use crate::critical::{Ran, Reaches};
 use crate::graph::NinjaGraph;
 use crate::job::Job;
 use crate::ranking::{Ranking, highest};
+use crate::text::{Part, append, append_line};
 use nl_table::Secret;
 use std::alloc::{AllocError, Global};
 
 /// For so many commands of the critical path, those that took the longest, how much shorter it is if one of them took half.
 pub(crate) fn gain_lines(
     alloc: Global,
+    screen: bool,
     secret: Secret,
     graph: &NinjaGraph<'_>,
     most: usize,
     jobs: &[Job<'_, '_>],
 ) -> Result<Vec<u8>, AllocError>
-    ensures value { IfOk result (λ lines. AreGainsOf (seen_graph graph.now) (map seen jobs.now) most lines.items) }
+    ensures value { IfOk result (λ lines. AreGainsOf screen (seen_graph graph.now) (map seen jobs.now) most lines.items) }
 {
     let reaches = Reaches::of(alloc, secret, graph, jobs)?;
     let found = reaches.path(alloc)?;
     let longest = highest(alloc, &ByTime, most, found.commands.as_slice())?;
     let mut lines = Vec::new(alloc);
+    append(heading(screen, most), &mut lines)?;
     for i in 0..longest.len() {
-        append_gain(alloc, &reaches, found.length, &longest[i], &mut lines)?;
+        append_gain(
+            alloc,
+            screen,
+            &reaches,
+            found.length,
+            &longest[i],
+            &mut lines,
+        )?;
     }
     Ok(lines)
 }
 
+fn heading(screen: bool, most: usize) -> &'static [u8]
+    ensures { result.now ≡ heading screen most }
+{
+    if screen && most > 0 {
+        return b"\nSaved if a command took half\nSaved\tOutput\n";
+    }
+    b""
+}
+
 fn append_gain(
     alloc: Global,
+    screen: bool,
     reaches: &Reaches<'_, '_>,
     length: u128,
     ran: &Ran<'_>,
     lines: &mut Vec<u8>,
 ) -> Result<(), AllocError>
     ensures ok { (js : List SeenJob) → AreOf reaches.now.graph.now js reaches.now → OnOk result
-        (IsGain (seen_graph reaches.now.graph.now) js length (ran_seen ran.now) lines.old.items lines.new.items) }
+        (IsGain screen (seen_graph reaches.now.graph.now) js length (ran_seen ran.now) lines.old.items lines.new.items) }
 {
     let half = half_length(alloc, reaches, ran)?;
-    append_line(alloc, length.saturating_sub(half), ran, lines)
+    append_saved(screen, length.saturating_sub(half), ran, lines)
 }
 
 fn half_length(alloc: Global, reaches: &Reaches<'_, '_>, ran: &Ran<'_>) -> Result<u128, AllocError>
@@ -57,19 +77,20 @@ fn half_length(alloc: Global, reaches: &Reaches<'_, '_>, ran: &Ran<'_>) -> Resul
     Ok(found.length)
 }
 
-fn append_line(
-    alloc: Global,
+fn append_saved(
+    screen: bool,
     gain: u128,
     ran: &Ran<'_>,
     lines: &mut Vec<u8>,
 ) -> Result<(), AllocError>
-    ensures items { OnOk result (lines.new.items ≡ lines.old.items ++ gain_line gain (ran_seen ran.now)) }
+    ensures items { OnOk result (lines.new.items ≡ lines.old.items ++ gain_line screen gain (ran_seen ran.now)) }
 {
-    let head = format!(in alloc; "gain\t{gain}\t")?;
-    lines.extend_from_slice(head.as_bytes())?;
-    lines.extend_from_slice(ran.name)?;
-    lines.push(b'\n')?;
-    Ok(())
+    let gain = Part::Took(screen, gain);
+    let name = Part::Text(ran.name);
+    if screen {
+        return append_line(&[gain, name], lines);
+    }
+    append_line(&[Part::Text(b"gain"), gain, name], lines)
 }
 
 struct ByTime;

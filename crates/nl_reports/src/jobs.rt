@@ -4,7 +4,7 @@ ghost use Rattle.std.specs.List.Sorted.{IsPermutation};
 ghost use Rattle.nl_reports.specs.GraphText.{seen_graph};
 ghost use Rattle.nl_reports.specs.Jobs.{Job as SeenJob, seen};
 ghost use Rattle.nl_reports.specs.Numbers.{total_time};
-ghost use Rattle.nl_reports.specs.Plans.{AreEstimates, HavePlan, AreBehind, IsToldBy, estimate_line, floor_of, kept};
+ghost use Rattle.nl_reports.specs.Plans.{AreEstimates, HavePlan, AreBehind, IsToldBy, estimate_line, floor_of, heading, kept};
 ghost use Rattle.nl_reports.specs.Rows.{spans};
 ghost use Rattle.nl_reports.specs.Spans.{began_of, closed_of};
 ghost use Rattle.nl_reports.specs.Sweep.{last_moment, running};
@@ -15,12 +15,15 @@ use crate::graph::NinjaGraph;
 use crate::job::Job;
 use crate::simulation::{Priority, Waiting};
 use crate::span::Span;
+use crate::text::{Part, append, append_line};
 use nl_table::Secret;
 use std::alloc::{AllocError, Global};
 
 /// A graph, the numbers of commands at a time that estimates are asked for, and of how many commands at most it is told what is gained by them.
 #[derive(Clone, Copy, Drop)]
 pub struct ByGraph<'g, 't> {
+    /// Whether a person reads at a terminal.
+    pub screen: bool,
     pub graph: &'g NinjaGraph<'t>,
     pub counts: &'g [usize],
     pub most: usize,
@@ -36,18 +39,20 @@ pub fn graph_lines(
     priority: Priority,
     jobs: &[Job<'_, '_>],
 ) -> Result<Option<Vec<u8>>, AllocError>
-    ensures value { IfOk result (IsToldBy (seen_graph by.now.graph.now) by.now.most by.now.counts.now (map seen jobs.now)) }
+    ensures value { IfOk result (IsToldBy by.now.screen (seen_graph by.now.graph.now) by.now.most by.now.counts.now (map seen jobs.now)) }
 {
-    let Some(path) = critical_lines(alloc, secret, by.graph, jobs)? else {
+    let Some(path) = critical_lines(alloc, by.screen, secret, by.graph, jobs)? else {
         return Ok(None);
     };
     let mut lines = path;
-    let gains = gain_lines(alloc, secret, by.graph, by.most, jobs)?;
+    let gains = gain_lines(alloc, by.screen, secret, by.graph, by.most, jobs)?;
     lines.extend_from_slice(gains.as_slice())?;
     if by.counts.is_empty() {
         return Ok(Some(lines));
     }
-    let estimates = estimate_lines(alloc, secret, by.graph, jobs, priority, by.counts)?;
+    let estimates = estimate_lines(
+        alloc, by.screen, secret, by.graph, jobs, priority, by.counts,
+    )?;
     let Some(estimates) = estimates else {
         return Ok(None);
     };
@@ -57,13 +62,14 @@ pub fn graph_lines(
 
 fn estimate_lines(
     alloc: Global,
+    screen: bool,
     secret: Secret,
     graph: &NinjaGraph<'_>,
     jobs: &[Job<'_, '_>],
     priority: Priority,
     counts: &[usize],
 ) -> Result<Option<Vec<u8>>, AllocError>
-    ensures value { IfOk result (λ o. IfSome o (λ lines. AreEstimates (seen_graph graph.now) (map seen jobs.now) counts.now lines.items)) }
+    ensures value { IfOk result (λ o. IfSome o (λ lines. AreEstimates screen (seen_graph graph.now) (map seen jobs.now) counts.now lines.items)) }
 {
     let waiting = Waiting::of(alloc, secret, graph, jobs, priority)?;
     let reaches = Reaches::of(alloc, secret, graph, jobs)?;
@@ -71,6 +77,7 @@ fn estimate_lines(
     let path = found.length;
     let total = total_of(jobs);
     let mut lines = Vec::new(alloc);
+    append(heading(screen, counts), &mut lines)?;
     for count in counts {
         let wall = wall_of(alloc, secret, graph, jobs, &waiting, *count)?;
         let Some(wall) = wall else {
@@ -81,7 +88,7 @@ fn estimate_lines(
             return Ok(None);
         }
         let floor = floor_of(path, total, *count);
-        append_estimate(alloc, *count, wall, floor, &mut lines)?;
+        append_estimate(screen, *count, wall, floor, &mut lines)?;
     }
     Ok(Some(lines))
 }
@@ -117,18 +124,31 @@ fn floor_of(path: u128, total: u128, count: usize) -> u128
     path.max((total + (count - 1)) / count)
 }
 
+fn heading(screen: bool, counts: &[usize]) -> &'static [u8]
+    ensures { result.now ≡ heading screen counts.now }
+{
+    if counts.len() > 0 && screen {
+        return b"\nEstimates\nJobs\tElapsed\tAt least\n";
+    }
+    b""
+}
+
 fn append_estimate(
-    alloc: Global,
+    screen: bool,
     count: usize,
     wall: u64,
     floor: u128,
     lines: &mut Vec<u8>,
 ) -> Result<(), AllocError>
-    ensures items { OnOk result (lines.new.items ≡ lines.old.items ++ estimate_line count wall floor) }
+    ensures items { OnOk result (lines.new.items ≡ lines.old.items ++ estimate_line screen count wall floor) }
 {
-    let line = format!(in alloc; "estimate\t{count}\t{wall}\t{floor}\n")?;
-    lines.extend_from_slice(line.as_bytes())?;
-    Ok(())
+    let count = Part::Number(count as u128);
+    let wall = Part::Took(screen, u128::from(wall));
+    let floor = Part::Took(screen, floor);
+    if screen {
+        return append_line(&[count, wall, floor], lines);
+    }
+    append_line(&[Part::Text(b"estimate"), count, wall, floor], lines)
 }
 
 // How long a plan takes in which so many run at a time; None, if none is found.

@@ -7,7 +7,7 @@ ghost use Rattle.serde_json.specs.Read.{read};
 ghost use Rattle.serde_json.specs.View.{items_of};
 ghost use Rattle.nl_builds.specs.Builds.{Told as BuildsTold};
 ghost use Rattle.nl_reports.specs.Bars.{bar, drawn_width, width_of};
-ghost use Rattle.nl_reports.specs.Columns.{IsQuiet, cell, column, field_at, fields_of, room, shown, width};
+ghost use Rattle.nl_reports.specs.Columns.{IsQuiet, cell, cells_to, field_at, fields_of, room_behind, shown, widest, width, widths};
 ghost use Rattle.nl_reports.specs.Compare.{Compared, Log, classes, compared, is_of, new_of, of_class, old_of, pairs, told_pair};
 ghost use Rattle.nl_reports.specs.Escape.{IsMadeOfPieces, begins_character, cut_at, escaped};
 ghost use Rattle.nl_reports.specs.Escape.{IsQuiet as IsQuietByte};
@@ -202,9 +202,16 @@ pub fn bars_take_at_most_400_bytes_a_command()
 /// and two characters more.
 pub fn columns_line_up()
     ensures { (before : List (List ℕ)) (line : List ℕ) (later : List (List ℕ)) (place : ℕ)
-        → width (cell false
-        (column (length (fields_of line)) place (before ++ line ∷ later) room) (field_at line place))
-        ≡ (column (length (fields_of line)) place (before ++ line ∷ later) room).width + 2 }
+        → width (cell (widest (length (fields_of line)) place (before ++ line ∷ later) 0) (field_at line place))
+        ≡ widest (length (fields_of line)) place (before ++ line ∷ later) 0 + 2 }
+{}
+
+/// No line has more characters than it may, if its fields but the last leave room for one.
+pub fn a_line_fits()
+    ensures { (most last : ℕ) (before : List (List ℕ)) (line : List ℕ) (later : List (List ℕ))
+        → last + 1 ≡ length (fields_of line) → 1 ≤ last
+        → 1 ≤ room_behind last most (widths (length (fields_of line)) (before ++ line ∷ later))
+        → width (cells_to last most (widths (length (fields_of line)) (before ++ line ∷ later)) line) ≤ most }
 {}
 
 /// No name makes a terminal do anything: what is laid out has no control character, of one byte or of two, but tabs and newlines.

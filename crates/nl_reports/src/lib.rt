@@ -2,6 +2,7 @@
 #![tactic(auto)]
 
 mod bars;
+mod builds_table;
 mod builds_text;
 mod choice;
 mod class;
@@ -46,10 +47,11 @@ mod turns;
 mod work;
 mod writing;
 
+pub use builds_table::builds_screen;
 pub use builds_text::builds_lines;
 pub use choice::{Choice, Scope, chosen_jobs, last_number};
 pub use class::Class;
-pub use columns::{Column, in_columns};
+pub use columns::in_columns;
 pub use compare::compare_lines;
 pub use graph::{NinjaGraph, read_graph};
 pub use job::{Job, jobs_by_start, jobs_of};

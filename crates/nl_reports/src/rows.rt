@@ -1,11 +1,14 @@
 //! Commands and kinds of commands, the largest first.
-ghost use Rattle.std.specs.Prelude.{◌≡◌, ◌++◌, map, IfOk, OnOk};
-ghost use Rattle.nl_reports.specs.Rows.{falling, list_key, list_line, list_lines, rank_key, rank_of, shown_name, told_row};
+ghost use Rattle.std.specs.Prelude.{◌≡◌, ◌<◌, ◌^◌, ◌++◌, map, take, IfOk, OnOk};
+ghost use Rattle.std.specs.List.{flat_map};
+ghost use Rattle.nl_reports.specs.Rows.{falling, heading, list_key, list_line, list_lines, rank_key, rank_of, rank_told, screen_row, shown_name, told_row};
 ghost use Rattle.nl_reports.specs.declared.rows.Rank.TheVariants.{Time, Weight};
 
-use crate::fraction::ratio;
+use crate::fraction::{percent, ratio};
+use crate::lists::Lists;
 use crate::ranking::{Ranking, highest};
 use crate::sweep::PARTS;
+use crate::text::{Part, append, append_line};
 use std::alloc::{AllocError, Global};
 
 /// How many commands there are, the sum of their milliseconds, and that of their weighted times, in parts of a millisecond.
@@ -82,35 +85,91 @@ impl<'a> Ranking<Row<'a>> for Rank {
     }
 }
 
-/// Appends the lines of so many rows at most, the highest by this rank first.
+/// Appends the lines of the highest rows by this rank, under a heading at a terminal. All commands take so long together.
 pub(crate) fn append_list(
     alloc: Global,
+    lists: Lists,
+    total: u128,
     listed: Listed,
     rank: Rank,
-    most: usize,
     rows: &[Row<'_>],
     lines: &mut Vec<u8>,
 ) -> Result<(), AllocError>
+    requires room { total < 2 ^ 120 }
     ensures items { OnOk result
-        (lines.new.items ≡ lines.old.items ++ list_lines listed rank most (map told_row rows.now)) }
+        (lines.new.items ≡ lines.old.items ++ list_lines lists total listed rank (map told_row rows.now)) }
 {
-    let kept = highest(alloc, &rank, most, rows)?;
+    append(heading(lists.screen, listed), lines)?;
+    append_highest(alloc, lists, total, listed, rank, rows, lines)
+}
+
+fn append_highest(
+    alloc: Global,
+    lists: Lists,
+    total: u128,
+    listed: Listed,
+    rank: Rank,
+    rows: &[Row<'_>],
+    lines: &mut Vec<u8>,
+) -> Result<(), AllocError>
+    requires room { total < 2 ^ 120 }
+    ensures items { OnOk result (lines.new.items ≡ lines.old.items
+        ++ flat_map (list_line lists.screen total listed rank) (take lists.most (falling (rank_told rank) (map told_row rows.now)))) }
+{
+    let kept = highest(alloc, &rank, lists.most, rows)?;
     for i in 0..kept.len() {
-        append_row(alloc, listed, rank, &kept[i], lines)?;
+        append_row(alloc, lists.screen, total, listed, rank, &kept[i], lines)?;
     }
     Ok(())
 }
 
+fn heading(screen: bool, listed: Listed) -> &'static [u8]
+    ensures { result.now ≡ heading screen listed }
+{
+    match (screen, listed) {
+        (false, _) => b"",
+        (true, Listed::Commands) => b"\nSlowest commands\nTime\tShare\tOutput\n",
+        (true, Listed::Kinds) => b"\nKinds of commands\nTime\tShare\tCommands\tKind\n",
+    }
+}
+
+fn append_screen_row(
+    listed: Listed,
+    total: u128,
+    row: &Row<'_>,
+    lines: &mut Vec<u8>,
+) -> Result<(), AllocError>
+    requires room { total < 2 ^ 120 }
+    ensures items { OnOk result
+        (lines.new.items ≡ lines.old.items ++ screen_row listed total (told_row row.now)) }
+{
+    let time = Part::Took(true, row.sums.time);
+    let share = Part::Percent(percent(row.sums.time, total));
+    let name = Part::Text(shown_name(listed, row.name));
+    match listed {
+        Listed::Commands => append_line(&[time, share, name], lines),
+        Listed::Kinds => {
+            append_line(&[time, share, Part::Number(row.sums.commands), name], lines)
+        }
+    }
+}
+
 fn append_row(
     alloc: Global,
+    screen: bool,
+    total: u128,
     listed: Listed,
     rank: Rank,
     row: &Row<'_>,
     lines: &mut Vec<u8>,
 ) -> Result<(), AllocError>
+    requires room { total < 2 ^ 120 }
     ensures items { OnOk result
-        (lines.new.items ≡ lines.old.items ++ list_line listed rank (told_row row.now)) }
+        (lines.new.items ≡ lines.old.items ++ list_line screen total listed rank (told_row row.now)) }
 {
+    if screen {
+        return append_screen_row(listed, total, row, lines);
+    }
     append_key(alloc, listed, rank, row.sums.commands, lines)?;
     let time = row.sums.time;
     let weighted = ratio(alloc, row.sums.weight, u128::from(PARTS))?;

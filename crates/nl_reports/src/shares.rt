@@ -1,8 +1,8 @@
 //! How much of the time of a build each command counts for.
-ghost use Rattle.std.specs.Prelude.{◌≡◌, ℕ, List, map, IfOk};
+ghost use Rattle.std.specs.Prelude.{◌≡◌, ℕ, List, map, max, IfOk};
 ghost use Rattle.std.specs.List.{All, Contains};
 ghost use Rattle.nl_reports.specs.declared.span.Span.{Span};
-ghost use Rattle.nl_reports.specs.Sweep.{alone_time, busy_time, weight};
+ghost use Rattle.nl_reports.specs.Sweep.{alone_time, busy_time, most_at_once, weight};
 ghost use Rattle.nl_reports.specs.SweepSteps.{Rises};
 ghost use Rattle.nl_reports.specs.Spans.{IsEarly};
 ghost use Rattle.nl_reports.specs.Shares.{AreSharesOf};
@@ -43,6 +43,18 @@ impl Shares {
         self.swept.sums.alone
     }
 
+    /// How many commands run at a time at most.
+    pub fn most(&self, spans: &[Span]) -> u64
+        requires shares { AreSharesOf spans.now self.now }
+        ensures value { result ≡ most_at_once spans.now }
+    {
+        let mut most = 0;
+        for span in spans {
+            most = larger(most, self.moments.running(span.began));
+        }
+        most
+    }
+
     /// The weighted time of a command, in parts of a millisecond.
     pub fn weight(&self, span: &Span) -> u64
         ensures value { (cs : List Span) → AreSharesOf cs self.now → Contains cs span.now
@@ -63,6 +75,12 @@ impl Shares {
         );
         after.saturating_sub(before)
     }
+}
+
+fn larger(a: u64, b: u64) -> u64
+    ensures { result ≡ max a b }
+{
+    a.max(b)
 }
 
 // What stands in the second list where the first has the moment.

@@ -6,7 +6,9 @@ ghost use Rattle.nl_reports.specs.Kinds.{IsOfOne};
 ghost use Rattle.nl_reports.specs.Numbers.{IsSmall, spans_of};
 ghost use Rattle.nl_reports.specs.Rows.{Told, falling, rank_told, told_job, told_jobs, told_row};
 ghost use Rattle.nl_reports.specs.Shares.{AreSharesOf};
-ghost use Rattle.nl_reports.specs.Summary.{AreTotalsOf, again_in, again_line, chosen_text, count_line, first_of, lists_text, more_taken, most_taken, no_totals, number_lines, rows_from, slowest_line, so_far, summary_text, taken_in, total_of, totals_from, unfinished_line, with_build, with_numbers};
+ghost use Rattle.nl_reports.specs.Spans.{IsEarly};
+ghost use Rattle.nl_reports.specs.Summary.{AreTotalsOf, again_in, again_line, all_lists, both_lists, bound, chosen_text, count_line, facts, few_text, first_of, lists_text, more_taken, most_taken, no_totals, number_lines, rows_from, slowest_line, slowest_time, so_far, summary_text, taken_in, title, total_of, totals_from, unfinished_line, with_build, with_numbers};
+ghost use Rattle.nl_reports.specs.Sweep.{most_at_once};
 ghost use Rattle.nl_reports.specs.declared.rows.Rank.TheVariants.{Time};
 ghost use Rattle.nl_reports.specs.declared.span.Span.{Span};
 
@@ -18,6 +20,7 @@ use crate::lists::Lists;
 use crate::numbers::{Numbers, numbers_of, spans_of};
 use crate::rows::{Listed, Rank, Row, Sums, append_list};
 use crate::shares::Shares;
+use crate::text::{Part, append_line, append_parts};
 use nl_builds::{Build, Builds, How};
 use std::alloc::{AllocError, Global};
 
@@ -29,11 +32,13 @@ pub struct Totals {
     /// In which one command at least ran, and in which one alone did.
     pub busy: u128,
     pub alone: u128,
+    /// How many commands ran at a time at most, in one of them.
+    pub most: u64,
 }
 
 /// What `summary` tells of the builds that are asked for, where so many outputs wait for a command that didn't end: eight lines, how
 /// many outputs later builds may have taken if they were found again, how many outputs wait, and the lists. If there are fewer builds
-/// than the number that is asked for, it tells how many there are.
+/// than the number that is asked for, it tells how many there are. At a terminal each number stands before what it is of.
 pub fn summary_lines(
     alloc: Global,
     scope: Scope,
@@ -46,12 +51,21 @@ pub fn summary_lines(
     let mut lines = Vec::new(alloc);
     match chosen(scope, from) {
         Some(choice) => append_chosen(alloc, scope, choice, lists, unfinished, from, &mut lines)?,
-        None => {
-            append_count(alloc, "builds", from.builds.len(), &mut lines)?;
-            append_unfinished(alloc, unfinished, &mut lines)?;
-        }
+        None => append_few(lists.screen, from.builds.len(), unfinished, &mut lines)?,
     }
     Ok(lines)
+}
+
+fn append_few(
+    screen: bool,
+    builds: usize,
+    unfinished: usize,
+    lines: &mut Vec<u8>,
+) -> Result<(), AllocError>
+    ensures items { OnOk result (lines.new.items ≡ lines.old.items ++ few_text screen builds unfinished) }
+{
+    append_count(screen, b"builds", b"builds in LOG", builds, lines)?;
+    append_unfinished(screen, unfinished, lines)
 }
 
 fn append_chosen(
@@ -73,15 +87,50 @@ fn append_chosen(
         from.builds.as_slice(),
     );
     if told.is_empty() {
-        return append_unfinished(alloc, unfinished, lines);
+        return append_unfinished(lists.screen, unfinished, lines);
     }
     let all = all_of(alloc, from, choice.first, told)?;
     let rows = all.rows.as_slice();
-    append_totals(alloc, &all.totals, rows, lines)?;
-    append_slowest(alloc, rows, lines)?;
-    append_again(alloc, again_in(scope, told), lines)?;
-    append_unfinished(alloc, unfinished, lines)?;
+    append_title(lists.screen, scope, choice.first, from.builds.len(), lines)?;
+    append_totals(alloc, lists.screen, &all.totals, rows, lines)?;
+    append_slowest(lists.screen, rows, lines)?;
+    append_again(lists.screen, again_in(scope, told), lines)?;
+    append_unfinished(lists.screen, unfinished, lines)?;
     append_lists(alloc, lists, rows, lines)
+}
+
+fn append_title(
+    screen: bool,
+    scope: Scope,
+    number: usize,
+    count: usize,
+    lines: &mut Vec<u8>,
+) -> Result<(), AllocError>
+    ensures items { OnOk result (lines.new.items ≡ lines.old.items ++ title screen scope number count) }
+{
+    let count = Part::Number(count as u128);
+    match (screen, scope) {
+        (false, _) => Ok(()),
+        (true, Scope::All) => append_parts(
+            &[
+                Part::Text(b"All "),
+                count,
+                Part::Text(b" builds, each output once\n"),
+            ],
+            lines,
+        ),
+        (true, Scope::Last | Scope::Numbered(_)) => {
+            let number = Part::Number(number as u128);
+            let parts = [
+                Part::Text(b"Build "),
+                number,
+                Part::Text(b" of "),
+                count,
+                Part::Text(b"\n"),
+            ];
+            append_parts(&parts, lines)
+        }
+    }
 }
 
 #[derive(Drop)]
@@ -108,6 +157,7 @@ fn all_of<'a>(
             wall: 0,
             busy: 0,
             alone: 0,
+            most: 0,
         },
         rows: Vec::new(alloc),
     };
@@ -138,14 +188,15 @@ fn add_build<'a>(
     let spans = spans_of(alloc, jobs.as_slice())?;
     let shares = Shares::of(alloc, spans.as_slice())?;
     let numbers = numbers_of(from, number, jobs.as_slice());
-    all.totals = with_numbers(&all.totals, &numbers, &shares);
+    let most = shares.most(spans.as_slice());
+    all.totals = with_numbers(&all.totals, &numbers, &shares, most);
     push_rows(jobs.as_slice(), &shares, &mut all.rows)
 }
 
-fn with_numbers(totals: &Totals, numbers: &Numbers, shares: &Shares) -> Totals
+fn with_numbers(totals: &Totals, numbers: &Numbers, shares: &Shares, most: u64) -> Totals
     requires few { (n : ℕ) × ((n < 2 ^ 63) × AreTotalsOf n totals.now) }
     requires small { IsSmall numbers.now }
-    ensures value { (cs : List Span) → AreSharesOf cs shares.now → result ≡ with_numbers totals.now numbers.now cs }
+    ensures value { (cs : List Span) → AreSharesOf cs shares.now → most ≡ most_at_once cs → result ≡ with_numbers totals.now numbers.now cs }
     ensures few { (n : ℕ) → AreTotalsOf n totals.now → AreTotalsOf (n + 1) result }
 {
     Totals {
@@ -153,6 +204,7 @@ fn with_numbers(totals: &Totals, numbers: &Numbers, shares: &Shares) -> Totals
         wall: totals.wall + u128::from(numbers.wall),
         busy: totals.busy + u128::from(shares.busy()),
         alone: totals.alone + u128::from(shares.alone()),
+        most: totals.most.max(most),
     }
 }
 
@@ -162,6 +214,7 @@ fn push_rows<'a>(
     rows: &mut Vec<Row<'a>>,
 ) -> Result<(), AllocError>
     requires shares { AreSharesOf (spans_of (map seen jobs.now)) shares.now }
+    requires early { All (λ j. IsEarly j.span) jobs.now }
     requires one { All IsOfOne rows.old.items }
     ensures rows { OnOk result
         (map told_row rows.new.items ≡ map told_row rows.old.items ++ told_jobs (map seen jobs.now)) }
@@ -176,7 +229,7 @@ fn push_rows<'a>(
 fn row_of<'a>(job: &Job<'_, 'a>, shares: &Shares) -> Row<'a>
     ensures value { (cs : List Span) → AreSharesOf cs shares.now → Contains cs job.now.span
         → told_row result ≡ told_job cs (seen job.now) }
-    ensures one { IsOfOne result }
+    ensures one { IsEarly job.now.span → IsOfOne result }
 {
     Row {
         name: job.name(),
@@ -190,6 +243,7 @@ fn row_of<'a>(job: &Job<'_, 'a>, shares: &Shares) -> Row<'a>
 
 fn append_totals(
     alloc: Global,
+    screen: bool,
     totals: &Totals,
     rows: &[Row<'_>],
     lines: &mut Vec<u8>,
@@ -197,17 +251,31 @@ fn append_totals(
     requires room { totals.now.wall < 2 ^ 120 }
     requires one { All IsOfOne rows.now }
     ensures items { OnOk result
-        (lines.new.items ≡ lines.old.items ++ number_lines totals.now (map told_row rows.now)) }
+        (lines.new.items ≡ lines.old.items ++ number_lines screen totals.now (map told_row rows.now)) }
 {
+    let commands = rows.len();
+    let total = total_of(rows);
+    let parallel = ratio(alloc, total, totals.wall)?;
+    if screen {
+        let best = bound(totals.most, total, slowest_time(rows));
+        let none = totals.wall.saturating_sub(totals.busy);
+        return append_facts(
+            totals,
+            commands,
+            total,
+            best,
+            none,
+            parallel.as_bytes(),
+            lines,
+        );
+    }
     let Totals {
         outputs,
         wall,
         busy,
         alone,
+        ..
     } = totals;
-    let commands = rows.len();
-    let total = total_of(rows);
-    let parallel = ratio(alloc, total, *wall)?;
     let text = format!(in alloc;
         "commands\t{commands}\noutputs\t{outputs}\nwall\t{wall}\ntotal\t{total}\nbusy\t{busy}\nalone\t{alone}\nparallel\t{parallel}\n"
     )?;
@@ -215,9 +283,57 @@ fn append_totals(
     Ok(())
 }
 
+// How long commands take at least that take so long together, if so many run at a time at most, and the slowest takes so long.
+fn bound(most: u64, total: u128, slowest: u128) -> u128
+    ensures value { result ≡ bound most total slowest }
+{
+    (total / u128::from(most.max(1))).max(slowest)
+}
+
+fn append_facts(
+    totals: &Totals,
+    commands: usize,
+    total: u128,
+    best: u128,
+    none: u128,
+    parallel: &[u8],
+    lines: &mut Vec<u8>,
+) -> Result<(), AllocError>
+    ensures items { OnOk result
+        (lines.new.items ≡ lines.old.items ++ facts totals.now commands total best none parallel.now) }
+{
+    let most = u128::from(totals.most);
+    append_parts(
+        &[
+            Part::Took(true, totals.wall),
+            Part::Text(b"\telapsed\n"),
+            Part::Took(true, total),
+            Part::Text(b"\tof work\n"),
+            Part::Number(commands as u128),
+            Part::Text(b"\tcommands\n"),
+            Part::Number(totals.outputs),
+            Part::Text(b"\toutputs\n"),
+            Part::Text(parallel),
+            Part::Text(b"\tat a time on average\n"),
+            Part::Number(most),
+            Part::Text(b"\tat a time at most\n"),
+            Part::Took(true, best),
+            Part::Text(b"\tat best with "),
+            Part::Number(most),
+            Part::Text(b" at a time\n"),
+            Part::Took(true, totals.alone),
+            Part::Text(b"\twith one command alone\n"),
+            Part::Took(true, none),
+            Part::Text(b"\twith none\n"),
+        ],
+        lines,
+    )
+}
+
 fn total_of(rows: &[Row<'_>]) -> u128
     requires one { All IsOfOne rows.now }
     ensures value { result ≡ total_of (map told_row rows.now) }
+    ensures room { result < 2 ^ 120 }
 {
     let mut total = 0;
     for row in rows {
@@ -226,19 +342,31 @@ fn total_of(rows: &[Row<'_>]) -> u128
     total
 }
 
-fn append_slowest(alloc: Global, rows: &[Row<'_>], lines: &mut Vec<u8>) -> Result<(), AllocError>
+// At a terminal it heads the list.
+fn append_slowest(screen: bool, rows: &[Row<'_>], lines: &mut Vec<u8>) -> Result<(), AllocError>
     ensures items { OnOk result
-        (lines.new.items ≡ lines.old.items ++ slowest_line (first_of (falling (rank_told Time) (map told_row rows.now)))) }
+        (lines.new.items ≡ lines.old.items ++ slowest_line screen (first_of (falling (rank_told Time) (map told_row rows.now)))) }
 {
     let Some(first) = slowest_of(rows) else {
         return Ok(());
     };
-    let time = first.sums.time;
-    let start = format!(in alloc; "slowest\t{time}\t")?;
-    lines.extend_from_slice(start.as_bytes())?;
-    lines.extend_from_slice(first.name)?;
-    lines.push(b'\n')?;
-    Ok(())
+    if screen {
+        return Ok(());
+    }
+    let time = Part::Number(first.sums.time);
+    append_line(
+        &[Part::Text(b"slowest"), time, Part::Text(first.name)],
+        lines,
+    )
+}
+
+fn slowest_time(rows: &[Row<'_>]) -> u128
+    ensures value { result ≡ slowest_time (first_of (falling (rank_told Time) (map told_row rows.now))) }
+{
+    match slowest_of(rows) {
+        Some(row) => row.sums.time,
+        None => 0,
+    }
 }
 
 fn slowest_of<'a>(rows: &[Row<'a>]) -> Option<Row<'a>>
@@ -307,35 +435,49 @@ fn more_taken(most: Option<usize>, how: How) -> Option<usize>
     }
 }
 
-fn append_again(alloc: Global, taken: Option<usize>, lines: &mut Vec<u8>) -> Result<(), AllocError>
-    ensures items { OnOk result (lines.new.items ≡ lines.old.items ++ again_line taken) }
+fn append_again(screen: bool, taken: Option<usize>, lines: &mut Vec<u8>) -> Result<(), AllocError>
+    ensures items { OnOk result (lines.new.items ≡ lines.old.items ++ again_line screen taken) }
 {
     match taken {
-        Some(count) => append_count(alloc, "again", count, lines),
+        Some(count) => append_count(
+            screen,
+            b"again",
+            b"outputs lost to later builds",
+            count,
+            lines,
+        ),
         None => Ok(()),
     }
 }
 
-fn append_unfinished(alloc: Global, count: usize, lines: &mut Vec<u8>) -> Result<(), AllocError>
-    ensures items { OnOk result (lines.new.items ≡ lines.old.items ++ unfinished_line count) }
+fn append_unfinished(screen: bool, count: usize, lines: &mut Vec<u8>) -> Result<(), AllocError>
+    ensures items { OnOk result (lines.new.items ≡ lines.old.items ++ unfinished_line screen count) }
 {
     if count == 0 {
         return Ok(());
     }
-    append_count(alloc, "unfinished", count, lines)
+    append_count(
+        screen,
+        b"unfinished",
+        b"outputs have yet to be made",
+        count,
+        lines,
+    )
 }
 
 fn append_count(
-    alloc: Global,
-    key: &str,
+    screen: bool,
+    key: &[u8],
+    words: &[u8],
     count: usize,
     lines: &mut Vec<u8>,
 ) -> Result<(), AllocError>
-    ensures items { OnOk result (lines.new.items ≡ lines.old.items ++ count_line key.now count) }
+    ensures items { OnOk result (lines.new.items ≡ lines.old.items ++ count_line screen key.now words.now count) }
 {
-    let line = format!(in alloc; "{key}\t{count}\n")?;
-    lines.extend_from_slice(line.as_bytes())?;
-    Ok(())
+    if screen {
+        return append_line(&[Part::Number(count as u128), Part::Text(words)], lines);
+    }
+    append_line(&[Part::Text(key), Part::Number(count as u128)], lines)
 }
 
 fn append_lists(
@@ -351,30 +493,27 @@ fn append_lists(
     if lists.most == 0 {
         return Ok(());
     }
+    let total = total_of(rows);
     let kinds = kinds_of(alloc, lists.secret, lists.rule, rows)?;
-    append_list(alloc, Listed::Commands, Rank::Time, lists.most, rows, lines)?;
-    append_list(
-        alloc,
-        Listed::Commands,
-        Rank::Weight,
-        lists.most,
-        rows,
-        lines,
-    )?;
-    append_list(
-        alloc,
-        Listed::Kinds,
-        Rank::Time,
-        lists.most,
-        kinds.as_slice(),
-        lines,
-    )?;
-    append_list(
-        alloc,
-        Listed::Kinds,
-        Rank::Weight,
-        lists.most,
-        kinds.as_slice(),
-        lines,
-    )
+    append_both(alloc, lists, total, Listed::Commands, rows, lines)?;
+    append_both(alloc, lists, total, Listed::Kinds, kinds.as_slice(), lines)
+}
+
+fn append_both(
+    alloc: Global,
+    lists: Lists,
+    total: u128,
+    listed: Listed,
+    rows: &[Row<'_>],
+    lines: &mut Vec<u8>,
+) -> Result<(), AllocError>
+    requires room { total < 2 ^ 120 }
+    ensures items { OnOk result
+        (lines.new.items ≡ lines.old.items ++ both_lists lists total listed (map told_row rows.now)) }
+{
+    append_list(alloc, lists, total, listed, Rank::Time, rows, lines)?;
+    if lists.screen {
+        return Ok(());
+    }
+    append_list(alloc, lists, total, listed, Rank::Weight, rows, lines)
 }

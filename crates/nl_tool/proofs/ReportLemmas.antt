@@ -60,20 +60,20 @@ pieces_as P Q is old new (Err (BadLine number)) w = w
 pieces_as P Q is old new (Err OtherGraph) w = w
 pieces_as P Q is old new (Err Elsewhere) w = w
 
-laid_as : (columns : Bool) (P Q : List ℕ → Type 0) → ((text : List ℕ) → P text → Q text) → (text : List ℕ) → IsLaidOut columns P text
+laid_as : (columns : Option ℕ) (P Q : List ℕ → Type 0) → ((text : List ℕ) → P text → Q text) → (text : List ℕ) → IsLaidOut columns P text
     → IsLaidOut columns Q text
 laid_as columns P Q is text laid = (laid.0, is laid.0 laid.1, laid.2)
 
-pub report_as : (columns : Bool) (report : Report) (P Q : List ℕ → Type 0) → ((text : List ℕ) → P text → Q text) → (old new : Option (List ℕ))
+pub report_as : (columns : Option ℕ) (report : Report) (P Q : List ℕ → Type 0) → ((text : List ℕ) → P text → Q text) → (old new : Option (List ℕ))
     (r : Result (Unit {0}) ToolFault) → PrintsReport columns report P old new r → PrintsReport columns report Q old new r
-report_as columns Builds P Q is old new r w = prints_as (IsLaidOut columns P) (IsLaidOut columns Q) (laid_as columns P Q is) old new r w
+report_as columns (Builds _) P Q is old new r w = prints_as (IsLaidOut columns P) (IsLaidOut columns Q) (laid_as columns P Q is) old new r w
 report_as columns (Summary scope lists graph) P Q is old new r w =
     prints_as (IsLaidOut columns P) (IsLaidOut columns Q) (laid_as columns P Q is) old new r w
 report_as columns (Trace scope) P Q is old new r w = pieces_as P Q is old new r w
 report_as columns (Picture scope graph) P Q is old new r w = pieces_as P Q is old new r w
 
 -- a text in columns where they are wanted
-pub laid_of : (columns : Bool) (IsText : List ℕ → Type 0) (lines : List ℕ) → IsText lines → (old new : Option (List ℕ))
+pub laid_of : (columns : Option ℕ) (IsText : List ℕ → Type 0) (lines : List ℕ) → IsText lines → (old new : Option (List ℕ))
     (r : Result (Unit {0}) ToolFault) → Prints (λ text. text ≡ laid_out columns lines) old new r → Prints (IsLaidOut columns IsText) old new r
 laid_of columns IsText lines is old new r w =
     prints_as (λ text. text ≡ laid_out columns lines) (IsLaidOut columns IsText) (λ text laid. (lines, is, laid)) old new r w
@@ -92,9 +92,9 @@ not_in_pieces IsText old new load.OtherVersion kept = kept
 not_in_pieces IsText old new load.Read kept = kept
 not_in_pieces IsText old new load.OutOfMemory kept = inl kept
 
-pub not_read : (columns : Bool) (report : Report) (IsText : List ℕ → Type 0) (old new : Option (List ℕ)) (e : LoadFault) → Keeps old new
+pub not_read : (columns : Option ℕ) (report : Report) (IsText : List ℕ → Type 0) (old new : Option (List ℕ)) (e : LoadFault) → Keeps old new
     → PrintsReport columns report IsText old new (Err (of_load_fault e))
-not_read columns Builds IsText old new e kept = not_printed (IsLaidOut columns IsText) old new e kept
+not_read columns (Builds _) IsText old new e kept = not_printed (IsLaidOut columns IsText) old new e kept
 not_read columns (Summary scope lists graph) IsText old new e kept = not_printed (IsLaidOut columns IsText) old new e kept
 not_read columns (Trace scope) IsText old new e kept = not_in_pieces IsText old new e kept
 not_read columns (Picture scope graph) IsText old new e kept = not_in_pieces IsText old new e kept
@@ -141,7 +141,7 @@ other_found None there = absurd (cc)
 other_found (Some g) there = inr refl
 
 told_fault : (report : Report) (fault : ToolFault) → IsWriteFault fault → IsToldFault report fault
-told_fault Builds fault h = h
+told_fault (Builds _) fault h = h
 told_fault (Summary scope lists graph) fault h = found graph fault h
 told_fault (Trace scope) fault h = h
 told_fault (Picture scope graph) fault h = found graph fault h
@@ -169,7 +169,7 @@ path_fault_by (Err fault) h = path_fault fault h
 
 -- of what was read nothing is refused for its bytes any more
 no_log_told : (report : Report) → IsToldFault report NoLog → ⊥
-no_log_told Builds h = h
+no_log_told (Builds _) h = h
 no_log_told (Summary scope lists None) h = h
 no_log_told (Summary scope lists (Some g)) (inl h) = h
 no_log_told (Summary scope lists (Some g)) (inr h) = absurd (cc)
@@ -179,7 +179,7 @@ no_log_told (Picture scope (Some g)) (inl h) = h
 no_log_told (Picture scope (Some g)) (inr h) = absurd (cc)
 
 no_version_told : (report : Report) → IsToldFault report Other → ⊥
-no_version_told Builds h = h
+no_version_told (Builds _) h = h
 no_version_told (Summary scope lists None) h = h
 no_version_told (Summary scope lists (Some g)) (inl h) = h
 no_version_told (Summary scope lists (Some g)) (inr h) = absurd (cc)
@@ -207,12 +207,12 @@ summary_plain scope lists None count t text none is = is
 summary_plain scope lists (Some x) count t text none is = absurd (none x refl)
 
 pub summary_by : (scope : Scope) (lists : Lists) (g : Option ByGraph) (by : ByGraph) (count : ℕ) (t : Told) (js : List Job)
-    (found : Option (Vec ℕ)) (more : Vec ℕ) (lines text : List ℕ) → g ≡ Some by → IsToldBy (seen_graph by.graph.now) by.most by.counts.now js found
+    (found : Option (Vec ℕ)) (more : Vec ℕ) (lines text : List ℕ) → g ≡ Some by → IsToldBy by.screen (seen_graph by.graph.now) by.most by.counts.now js found
     → found ≡ Some more → js ≡ chosen_jobs scope t → lines ≡ summary_text scope lists count t → text ≡ lines ++ more.items
     → IsSummary scope lists g count t text
 summary_by scope lists g by count t js found more lines text given told is jobs summed whole =
-    let by_graph : IsToldBy (seen_graph by.graph.now) by.most by.counts.now js (Some more) = subst (IsToldBy (seen_graph by.graph.now) by.most by.counts.now js) is told in
-    let by_jobs = subst (λ js. IsToldBy (seen_graph by.graph.now) by.most by.counts.now js (Some more)) jobs by_graph in
+    let by_graph : IsToldBy by.screen (seen_graph by.graph.now) by.most by.counts.now js (Some more) = subst (IsToldBy by.screen (seen_graph by.graph.now) by.most by.counts.now js) is told in
+    let by_jobs = subst (λ js. IsToldBy by.screen (seen_graph by.graph.now) by.most by.counts.now js (Some more)) jobs by_graph in
     subst (λ g. IsSummary scope lists g count t text) (sym given) (more, by_jobs, whole ∙ ap (λ (l : List ℕ). l ++ more.items) summed)
 
 -- what is held is what was told
@@ -228,19 +228,16 @@ pub report_of : (report : Report) (names more : List (List ℕ)) (t u : Told) (t
 report_of report names more t u text same told is =
     subst (λ u. IsReport report more u text) told (subst (λ names. IsReport report names t text) same is)
 
-pub compared_so : (most least : ℕ) (a b c d : LogVersion) (s t u v : Compared) (lines : List ℕ) → a ≡ c → b ≡ d → s ≡ u → t ≡ v
-    → lines ≡ compare_text most least (are_comparable a b) s t → lines ≡ compare_text most least (are_comparable c d) u v
-compared_so most least a b c d s t u v lines ac bd su tv is =
-    let one = subst (λ x. lines ≡ compare_text most least (are_comparable x b) s t) ac is in
-    let two = subst (λ x. lines ≡ compare_text most least (are_comparable c x) s t) bd one in
-    let three = subst (λ x. lines ≡ compare_text most least (are_comparable c d) x t) su two in
-    subst (λ x. lines ≡ compare_text most least (are_comparable c d) u x) tv three
+pub compared_so : (screen shown : Bool) (most least : ℕ) (a b c d : LogVersion) (s t u v : Compared) (lines : List ℕ) → screen ≡ shown → a ≡ c → b ≡ d
+    → s ≡ u → t ≡ v → lines ≡ compare_text screen most least (are_comparable a b) s t → lines ≡ compare_text shown most least (are_comparable c d) u v
+compared_so screen shown most least a b c d s t u v lines same ac bd su tv is =
+    is ∙ (λ i. compare_text (same i) most least (are_comparable (ac i) (bd i)) (su i) (tv i))
 
-pub printed_so : (columns : Bool) (lines text : List ℕ) (old new : Option (List ℕ)) (r : Result (Unit {0}) ToolFault) → lines ≡ text
+pub printed_so : (columns : Option ℕ) (lines text : List ℕ) (old new : Option (List ℕ)) (r : Result (Unit {0}) ToolFault) → lines ≡ text
     → Prints (λ out. out ≡ laid_out columns lines) old new r → Prints (λ out. out ≡ laid_out columns text) old new r
 printed_so columns lines text old new r is printed = subst (λ l. Prints (λ out. out ≡ laid_out columns l) old new r) is printed
 
-pub summary_told : (columns : Bool) (report : Report) (scope : Scope) (lists : Lists) (graph : Option ByGraph)
+pub summary_told : (columns : Option ℕ) (report : Report) (scope : Scope) (lists : Lists) (graph : Option ByGraph)
     → report ≡ Summary scope lists graph → (names : List (List ℕ)) (t asked : Told) (count : ℕ) (old new : Option (List ℕ))
     (r : Result (Unit {0}) ToolFault) → asked ≡ asked_told scope names t → count ≡ length names
     → Prints (IsLaidOut columns (IsSummary scope lists graph count asked)) old new r
@@ -250,14 +247,14 @@ summary_told columns report scope lists graph is names t asked count old new r s
     let two = subst (λ n. Prints (IsLaidOut columns (IsSummary scope lists graph n (asked_told scope names t))) old new r) counted one in
     subst (λ p. PrintsReport columns p (IsReport p names t) old new r) (sym is) two
 
-pub trace_told : (columns : Bool) (report : Report) (scope : Scope) → report ≡ Trace scope → (names : List (List ℕ)) (t asked : Told)
+pub trace_told : (columns : Option ℕ) (report : Report) (scope : Scope) → report ≡ Trace scope → (names : List (List ℕ)) (t asked : Told)
     (old new : Option (List ℕ)) (r : Result (Unit {0}) ToolFault) → asked ≡ asked_told scope names t → Writes old new (scoped_text scope asked) r
     → IfErr r IsWriteFault → PrintsReport columns report (IsReport report names t) old new r
 trace_told columns report scope is names t asked old new r same writes faults =
     subst (λ p. PrintsReport columns p (IsReport p names t) old new r) (sym is)
     (pieces_of (IsReport (Trace scope) names t) (scoped_text scope asked) (ap (scoped_text scope) same) old new r writes faults)
 
-pub picture_told : (columns : Bool) (report : Report) (scope : Scope) (graph : Option (Bor NinjaGraph)) → report ≡ Picture scope graph
+pub picture_told : (columns : Option ℕ) (report : Report) (scope : Scope) (graph : Option (Bor NinjaGraph)) → report ≡ Picture scope graph
     → (names : List (List ℕ)) (t asked : Told) (old new : Option (List ℕ)) (r : Result (Unit {0}) ToolFault) → asked ≡ asked_told scope names t
     → PrintsInPieces (IsPicture scope (option_map (λ g. seen_graph g.now) graph) asked) old new r
     → PrintsReport columns report (IsReport report names t) old new r

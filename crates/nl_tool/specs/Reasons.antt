@@ -19,10 +19,10 @@ use Rattle.nl_versions.specs.Version.{is_version_read}
 use Rattle.nl_tool.specs.declared.reason.Place.{Place}
 use Rattle.nl_tool.specs.declared.reason.Place.TheVariants as at
 use Rattle.nl_tool.specs.declared.reason.Reason.{Reason}
-use Rattle.nl_tool.specs.declared.reason.Reason.TheVariants.{System, Full, Locked, Unsynced, Masked, Line, Negative, Early, Version, Looks, Begins, Number, NoBytes, Tab, Newline, Long}
+use Rattle.nl_tool.specs.declared.reason.Reason.TheVariants.{System, Full, Locked, Unsynced, Masked, Line, Negative, Early, Version, Looks, Begins, Number, Nth, OtherBuild, NoBytes, Tab, Newline, Long}
 use Rattle.nl_tool.specs.declared.notes.Notes.{Notes}
 use Rattle.nl_tool.specs.Looks.{escaped, look_of, look_text, start_text}
-use Rattle.nl_tool.specs.Reports.{IsLeast, IsMost, IsScope}
+use Rattle.nl_tool.specs.Reports.{AreCounts, IsLeast, IsMost, IsScope}
 use Rattle.nl_reports.specs.declared.choice.Scope.{Scope}
 use Rattle.nl_tool.specs.Wrong.{line_fault_text, number_fault_text}
 use Rattle.nl_tool.specs.declared.reason.Why.{Why}
@@ -56,6 +56,7 @@ place_text at.Name = codes "NAME"
 place_text (at.Count text) = codes "N " ++ text.now
 place_text (at.Build text) = codes "BUILD " ++ text.now
 place_text (at.Least text) = codes "MS " ++ text.now
+place_text (at.Jobs text) = codes "N " ++ text.now
 
 abbrev pub reason_text : Reason → List ℕ
 reason_text (System text) = string_bytes text
@@ -72,6 +73,8 @@ reason_text (Version version) =
 reason_text (Looks look) = look_text look
 reason_text (Begins text) = codes "it begins with \"" ++ (string_bytes text ++ codes "\"")
 reason_text (Number fault) = number_fault_text fault
+reason_text (Nth number fault) = codes "number " ++ (decimal number ++ (codes ": " ++ number_fault_text fault))
+reason_text OtherBuild = codes "no output of the build is in it, or one needs itself"
 reason_text NoBytes = codes "it has no byte"
 reason_text (Tab at) = codes "byte " ++ (decimal at ++ codes " is a tab")
 reason_text (Newline at) = codes "byte " ++ (decimal at ++ codes " is a newline")
@@ -187,6 +190,7 @@ reads_input words = is_input (read_place (words_heard words false)) || is_input 
 -- those that give the reason of a fault: where a number is bad, the words as they are
 abbrev pub words_for : ToolFault → Words → Bool → Words
 words_for fault.BadNumber words is_second = words
+words_for fault.OtherGraph words is_second = words_heard words true
 words_for fault words is_second = words_heard words is_second
 
 -- the reason is what the system said
@@ -212,6 +216,7 @@ IsLookAt bytes _ = ⊥
 
 abbrev pub IsNumberFault : Reason → Type 0
 IsNumberFault (Number fault) = ⊤
+IsNumberFault (Nth number fault) = ⊤
 IsNumberFault _ = ⊥
 
 -- a text that spells a number of the width
@@ -228,10 +233,11 @@ IsFirstBad start end mtime (at.Mtime text) = (text ≡ mtime) × ¬ IsNumber w64
 IsFirstBad start end mtime _ = ⊥
 
 -- a number of `summary` that is none, and one of `compare`
-abbrev pub IsBadOption : Bool → Option (Bor (List ℕ)) → Option (Bor (List ℕ)) → Place → Type 0
-IsBadOption all build lines (at.Count text) = (lines ≡ Some text) × ((most : ℕ) → IsMost lines most → ⊥)
-IsBadOption all build lines (at.Build text) = (build ≡ Some text) × ((scope : Scope) → IsScope all build scope → ⊥)
-IsBadOption all build lines _ = ⊥
+abbrev pub IsBadOption : Bool → Option (Bor (List ℕ)) → Option (Bor (List ℕ)) → Option (Bor (List ℕ)) → Place → Type 0
+IsBadOption all build lines jobs (at.Count text) = (lines ≡ Some text) × ((most : ℕ) → IsMost lines most → ⊥)
+IsBadOption all build lines jobs (at.Build text) = (build ≡ Some text) × ((scope : Scope) → IsScope all build scope → ⊥)
+IsBadOption all build lines jobs (at.Jobs text) = (jobs ≡ Some text) × ((counts : List ℕ) → AreCounts jobs counts → ⊥)
+IsBadOption all build lines jobs _ = ⊥
 
 abbrev pub IsBadRule : Option (Bor (List ℕ)) → Option (Bor (List ℕ)) → Place → Type 0
 IsBadRule lines least (at.Count text) = (lines ≡ Some text) × ((most : ℕ) → IsMost lines most → ⊥)
@@ -240,7 +246,7 @@ IsBadRule lines least _ = ⊥
 
 abbrev pub IsBadNumberOf : Words → Why → Type 0
 IsBadNumberOf (Record log start end mtime name command) why = IsFirstBad start end mtime why.place × IsNumberFault why.reason
-IsBadNumberOf (Read what log choices) why = IsBadOption choices.all choices.build choices.lines why.place × IsNumberFault why.reason
+IsBadNumberOf (Read what log choices) why = IsBadOption choices.all choices.build choices.lines choices.jobs why.place × IsNumberFault why.reason
 IsBadNumberOf (Compare old new lines least) why = IsBadRule lines least why.place × IsNumberFault why.reason
 IsBadNumberOf _ why = ⊥
 
@@ -286,7 +292,7 @@ IsReasonFor words fault.EmptyName failed bytes why = (why.place ≡ at.Name) × 
 IsReasonFor words (fault.BadByte place) failed bytes why = (why.place ≡ at.Name) × IsByteAt place why.reason
 IsReasonFor words fault.LongName failed bytes why = IsLongNameOf words why
 IsReasonFor words fault.Memory failed bytes why = ⊥
-IsReasonFor words fault.OtherGraph failed bytes why = ⊥
+IsReasonFor words fault.OtherGraph failed bytes why = (read_place words ≡ Some why.place) × (why.reason ≡ OtherBuild)
 IsReasonFor words fault.Elsewhere failed bytes why = ⊥
 
 -- the note is said only of a log that was missing

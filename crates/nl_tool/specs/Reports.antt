@@ -13,6 +13,8 @@ use Rattle.nl_builds.specs.Stamps.{stamps_of}
 use Rattle.nl_builds.specs.declared.log.LogBuilds.{LogBuilds}
 use Rattle.nl_tool_texts.specs.Output.{Prints}
 use Rattle.nl_tool_texts.specs.declared.fault.ToolFault.{ToolFault}
+use Rattle.jiff_tz.specs.declared.timezone.TimeZone.{TimeZone}
+use Rattle.nl_reports.specs.BuildsTable.{IsBuildsScreen}
 use Rattle.nl_reports.specs.BuildsText.{builds_text}
 use Rattle.nl_reports.specs.Choice.{chosen_jobs}
 use Rattle.nl_reports.specs.Columns.{in_columns}
@@ -85,7 +87,7 @@ asked_told All names t = lasting names t
 -- a summary of these builds, where so many outputs wait, and after it what a graph tells
 abbrev pub IsSummary : Scope → Lists → Option ByGraph → ℕ → Told → List ℕ → Type 0
 IsSummary scope lists None count t text = text ≡ summary_text scope lists count t
-IsSummary scope lists (Some by) count t text = (told : Vec ℕ) × IsToldBy (seen_graph by.graph.now) by.most by.counts.now (chosen_jobs scope t) (Some told)
+IsSummary scope lists (Some by) count t text = (told : Vec ℕ) × IsToldBy by.screen (seen_graph by.graph.now) by.most by.counts.now (chosen_jobs scope t) (Some told)
     × (text ≡ summary_text scope lists count t ++ told.items)
 
 -- a summary, or none, where the graph isn't that of these builds
@@ -93,9 +95,14 @@ abbrev pub IsFound : Scope → Lists → Option ByGraph → ℕ → Told → Opt
 IsFound scope lists graph count t None = IsSome graph
 IsFound scope lists graph count t (Some lines) = IsSummary scope lists graph count t lines.items
 
+-- each build: in a pipe, and at a terminal by the clock of a time zone
+abbrev pub AreBuilds : Option TimeZone → Told → List ℕ → Type 0
+AreBuilds None t text = text ≡ builds_text t
+AreBuilds (Some zone) t text = IsBuildsScreen zone t text
+
 -- a report of builds, where outputs of these names wait for a command that didn't end
 abbrev pub IsReport : Report → List (List ℕ) → Told → List ℕ → Type 0
-IsReport Builds names t text = text ≡ builds_text t
+IsReport (Builds zone) names t text = AreBuilds zone t text
 IsReport (Summary scope lists graph) names t text = IsSummary scope lists graph (length names) (asked_told scope names t) text
 IsReport (Trace scope) names t text = text ≡ scoped_text scope (asked_told scope names t)
 IsReport (Picture scope graph) names t text = IsPicture scope (option_map (λ g. seen_graph g.now) graph) (asked_told scope names t) text
@@ -130,15 +137,16 @@ side_in held = record {
 
 -- ---- how it is written
 
-abbrev pub laid_out : Bool → List ℕ → List ℕ
-laid_out columns text = if columns then in_columns text else text
+abbrev pub laid_out : Option ℕ → List ℕ → List ℕ
+laid_out None text = text
+laid_out (Some most) text = in_columns most text
 
--- a text in columns where they are wanted; a trace and a picture piece by piece
-abbrev pub IsLaidOut : Bool → (List ℕ → Type 0) → List ℕ → Type 0
+-- a text in columns where a line has so many characters at most; a trace and a picture piece by piece
+abbrev pub IsLaidOut : Option ℕ → (List ℕ → Type 0) → List ℕ → Type 0
 IsLaidOut columns IsText text = (lines : List ℕ) × IsText lines × (text ≡ laid_out columns lines)
 
-abbrev pub PrintsReport : Bool → Report → (List ℕ → Type 0) → Option (List ℕ) → Option (List ℕ) → Result (Unit {0}) ToolFault → Type 0
-PrintsReport columns Builds IsText old new result = Prints (IsLaidOut columns IsText) old new result
+abbrev pub PrintsReport : Option ℕ → Report → (List ℕ → Type 0) → Option (List ℕ) → Option (List ℕ) → Result (Unit {0}) ToolFault → Type 0
+PrintsReport columns (Builds _) IsText old new result = Prints (IsLaidOut columns IsText) old new result
 PrintsReport columns (Summary scope lists graph) IsText old new result = Prints (IsLaidOut columns IsText) old new result
 PrintsReport columns (Trace scope) IsText old new result = PrintsInPieces IsText old new result
 PrintsReport columns (Picture scope graph) IsText old new result = PrintsInPieces IsText old new result

@@ -3,7 +3,7 @@ use Rattle.std.specs.Prelude.{ℕ, List, ◌++◌, codes}
 use Rattle.nl_tool.specs.declared.wrong.NumberFault.{NumberFault}
 use Rattle.nl_tool.specs.declared.wrong.NumberFault.TheVariants.{NoNumber, Spelling, Below, BelowOne, Past32, Past64}
 use Rattle.nl_tool.specs.declared.wrong.LineFault.{LineFault}
-use Rattle.nl_tool.specs.declared.wrong.LineFault.TheVariants.{NoTab, Tab, Number, NoName, NoRule, NoTarget, Zero, LongName, LongLine, NoEvent, Values}
+use Rattle.nl_tool.specs.declared.wrong.LineFault.TheVariants.{NoTab, Tab, Number, NoName, NoRule, NoTarget, Zero, LongName, LongLine, NoEvent, Values, Fields, Torn}
 
 abbrev pub number_fault_text : NumberFault → List ℕ
 number_fault_text NoNumber = codes "it isn't a number"
@@ -25,3 +25,5 @@ line_fault_text NoTarget = codes "there is no target"
 line_fault_text NoRule = codes "no target, colon, space and rule"
 line_fault_text NoEvent = codes "no event begins so"
 line_fault_text Values = codes "the values are wrong, or the line stands where it must not"
+line_fault_text Fields = codes "the values are wrong"
+line_fault_text Torn = codes "no newline ends it"

@@ -6,6 +6,7 @@ ghost use Rattle.nl_tool.specs.Faults.{IsRepairFault};
 ghost use Rattle.nl_files.specs.FileFolder.{system_of};
 ghost use Rattle.nl_os.specs.OsSystem.{is_masked, unsynced_of};
 
+use crate::bad_lines::Explaining;
 use crate::files::{look_there, note_missing, open};
 use crate::notes::{NotedReader, NotedWriter, Notes};
 use crate::waiting::Waiting;
@@ -172,11 +173,13 @@ where
 {
     let Some(path) = script else {
         let folder = DiskFolder::new(Waiting::new(rt, log, notes.looks), alloc, log)?;
-        return apply_from(rt, alloc, asked, folder, rt.reader(), notes);
+        let reader = Explaining::new(rt, alloc, None, notes.looks, rt.reader());
+        return apply_from(rt, alloc, asked, folder, reader, notes);
     };
     let lines = open(rt, path, notes)?;
     let folder = DiskFolder::new(Waiting::new(rt, log, notes.looks), alloc, log)?;
-    apply_from(rt, alloc, asked, folder, lines, notes)
+    let reader = Explaining::new(rt, alloc, Some(path), notes.looks, lines);
+    apply_from(rt, alloc, asked, folder, reader, notes)
 }
 
 fn apply_from<P: Print, F: Files + Clock + Drop, R: Read + Drop>(

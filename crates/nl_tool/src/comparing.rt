@@ -1,5 +1,5 @@
 //! `compare`, over two logs, with standard output for its text.
-ghost use Rattle.std.specs.Prelude.{◌≡◌, ℕ, Some, IfErr, IfOk, IfSome, IsErrOf, OnOk};
+ghost use Rattle.std.specs.Prelude.{◌≡◌, ℕ, Some, IfErr, IfOk, IfSome, IsErrOf, OnOk, is_some};
 ghost use Rattle.nl_tool_print.specs.Faults.{IsLogFault};
 ghost use Rattle.nl_tool_texts.specs.Output.{Prints};
 ghost use Rattle.nl_reports.specs.Writing.{IsWriteFault};
@@ -25,7 +25,7 @@ use std::rt::Runtime;
 pub fn compare_in<R: Runtime>(
     rt: &R,
     alloc: Global,
-    columns: bool,
+    columns: Option<usize>,
     old: &str,
     new: &str,
     lines: Option<&str>,
@@ -60,7 +60,7 @@ pub fn least_of(least: Option<&str>) -> Option<usize>
 fn compare_logs<R: Runtime>(
     rt: &R,
     alloc: Global,
-    columns: bool,
+    columns: Option<usize>,
     most: usize,
     least: usize,
     old: &str,
@@ -125,7 +125,7 @@ fn last_of(alloc: Global, secret: Secret, text: &[u8]) -> Result<Last<'_>, ToolF
 fn compare_to<W: Write>(
     alloc: Global,
     secret: Secret,
-    columns: bool,
+    columns: Option<usize>,
     most: usize,
     least: u64,
     old: &Last<'_>,
@@ -133,11 +133,20 @@ fn compare_to<W: Write>(
     writer: &mut W,
 ) -> Result<(), ToolFault>
     ensures prints { Prints (λ text. text ≡ laid_out columns
-        (compare_text most least (are_comparable old.now.version new.now.version) (side_in old.now) (side_in new.now)))
+        (compare_text (is_some columns) most least (are_comparable old.now.version new.now.version) (side_in old.now) (side_in new.now)))
         (W.contents writer.old) (W.contents writer.new) result }
     ensures faults { IfErr result IsWriteFault }
 {
-    let lines = compare_lines(alloc, secret, most, least, &side_of(old), &side_of(new))?;
+    let screen = columns.is_some();
+    let lines = compare_lines(
+        alloc,
+        secret,
+        screen,
+        most,
+        least,
+        &side_of(old),
+        &side_of(new),
+    )?;
     write_lines(alloc, columns, lines, writer)
 }
 

@@ -1,6 +1,7 @@
 //! The program `nlog`: what it does for the words that it was given, over real files, and the status with which it ends.
 #![tactic(auto)]
 
+mod bad_lines;
 mod changing;
 mod comparing;
 mod doubting;

@@ -1,5 +1,5 @@
 //! What the program does once its words are read.
-ghost use Rattle.std.specs.Prelude.{◌≡◌, ◌&&◌, not, IfErr, IfOk, OnOk};
+ghost use Rattle.std.specs.Prelude.{◌≡◌, ◌&&◌, is_some, not, IfErr, IfOk, OnOk};
 ghost use Rattle.nl_tool.specs.Faults.{CanBeDone, CanBeRead, CanFind, FindsBy, IsChangeFault, IsFaultOf, IsReadFault, StopsAtDamage};
 
 use crate::changing::{apply_in, recompact_in, record_in, repair_in, restat_in};
@@ -8,8 +8,8 @@ use crate::doubting::doubt_in;
 use crate::mending::mend_in;
 use crate::notes::Notes;
 use crate::printing::{Printing, Streaming, print_file, print_from, print_log, stream_log};
-use crate::reporting::{Report, picture_in, report_in, summary_in, trace_in};
-use crate::screen::NO_SCREEN;
+use crate::reporting::{builds_in, picture_in, summary_in, trace_in};
+use crate::screen::{NO_SCREEN, width_of};
 use crate::settling::{prune_in, retime_in};
 use crate::version_choice::{number_of, or_auto, or_five};
 use crate::wrong::LineKind;
@@ -67,7 +67,7 @@ where
     let asked = number_of(or_five(line.version));
     let asked_or_found = number_of(or_auto(line.version));
     let missing_ok = line.missing_ok;
-    let columns = wants_columns(notes, line);
+    let columns = columns_for(rt, notes, line);
     let done = match line.words {
         Words::Show(log) => print_log(rt, alloc, Printing::Show, asked, log, notes),
         Words::Check(log) => print_log(rt, alloc, Printing::Check, asked, log, notes),
@@ -136,7 +136,7 @@ where
 fn read_in<R: Runtime>(
     rt: &R,
     alloc: Global,
-    columns: bool,
+    columns: Option<usize>,
     what: Reading,
     log: Option<&str>,
     choices: Choices<'_>,
@@ -157,7 +157,7 @@ where
             return stream_log(rt, alloc, Streaming::Damage, log, missing_ok, notes);
         }
         Reading::Doubt => return doubt_in(rt, alloc, log, notes),
-        Reading::Builds => report_in(rt, alloc, columns, Report::Builds, log, missing_ok, notes),
+        Reading::Builds => builds_in(rt, alloc, columns, log, missing_ok, notes),
         Reading::Summary => {
             let Choices {
                 build,
@@ -220,8 +220,12 @@ where
     Ok(Verdict::Done)
 }
 
-fn wants_columns(notes: &Notes, line: &CommandLine<'_>) -> bool
-    ensures { result ≡ (notes.now.screen.output && not line.now.tabs) }
+// How many characters a line has at most, where a report is for a person.
+fn columns_for<R: Runtime>(rt: &R, notes: &Notes, line: &CommandLine<'_>) -> Option<usize>
+    ensures { is_some result ≡ (notes.now.screen.output && not line.now.tabs) }
 {
-    notes.screen.output && !line.tabs
+    if notes.screen.output && !line.tabs {
+        return Some(width_of(rt));
+    }
+    None
 }

@@ -1,21 +1,22 @@
 //! Why something was refused, as it is said where `--verbose` asks for it: which file it is of, and the reason.
-ghost use Rattle.std.specs.Prelude.{◌≡◌, None, Some, IfSome, IsSome, false, true};
+ghost use Rattle.std.specs.Prelude.{◌≡◌, ℕ, List, None, Some, IfSome, IsSome, false, true};
 ghost use Rattle.std.specs.Int.{w32, w64};
 ghost use Rattle.nl_os.specs.declared.failed_call.FileRole.{FileRole};
 ghost use Rattle.nl_tool_texts.specs.declared.fault.ToolFault.{ToolFault};
 ghost use Rattle.nl_tool.specs.declared.reason.Place.{Place};
 ghost use Rattle.nl_tool.specs.Looks.{look_of};
+ghost use Rattle.nl_tool.specs.Reports.{AreCounts};
 ghost use Rattle.nl_tool.specs.Reasons.{change_place, with_graph, IsBadNumberOf, IsBadOption, IsBadRule, IsByteAt, IsEarly, IsFirstBad, IsLongNameOf, IsLookAt, IsMasked, IsNegative, IsNoteFor, IsNumber, IsNumberFault, IsReasonFor, IsSystem, IsUnsynced, IsVersion, again_text, file_place, graph_file, heard_of, is_input, log_place, mended_place, missing_text, place_text, read_place, reads_input, reason_text, refusal_text, why_text, words_for, words_heard};
 
 use crate::comparing::least_of;
 use crate::looks::{Look, escaped_of, look_of, start_of};
 use crate::notes::Notes;
-use crate::reporting::{most_of, scope_of};
+use crate::reporting::{counts_of, most_of, positive_of, scope_of};
 use crate::wrong::{LineFault, NumberFault, build_fault, count_fault, number_fault};
 use nl_fields::{read_i32, read_i64};
 use nl_os::{Failure, FileRole, folder_part};
 use nl_tool_texts::ToolFault;
-use nl_tool_words::{Changing, CommandLine, Words};
+use nl_tool_words::{Changing, Choices, CommandLine, Words};
 use nl_versions::is_version_read;
 use std::alloc::Global;
 use std::{fmt, io, str};
@@ -49,6 +50,8 @@ pub enum Place<'a> {
     Build(&'a str),
     /// How many milliseconds a difference of `compare` has at the least.
     Least(&'a str),
+    /// How many commands at a time `summary` estimates.
+    Jobs(&'a str),
 }
 
 impl fmt::Display for Place<'_> {
@@ -84,6 +87,7 @@ impl fmt::Display for Place<'_> {
             Place::Count(text) => write!(f, "N {text}"),
             Place::Build(text) => write!(f, "BUILD {text}"),
             Place::Least(text) => write!(f, "MS {text}"),
+            Place::Jobs(text) => write!(f, "N {text}"),
         }
     }
 }
@@ -120,6 +124,10 @@ pub enum Reason {
     /// How it begins.
     Begins(String),
     Number(NumberFault),
+    /// Which of several numbers is wrong, from 1.
+    Nth(usize, NumberFault),
+    /// A graph lacks each command of a build, or one of them needs its own output.
+    OtherBuild,
     /// A name has no byte, a byte that it may not have, or too many.
     NoBytes,
     Tab(usize),
@@ -154,6 +162,8 @@ impl fmt::Display for Reason {
             Reason::Looks(look) => write!(f, "{look}"),
             Reason::Begins(text) => write!(f, "it begins with \"{text}\""),
             Reason::Number(fault) => write!(f, "{fault}"),
+            Reason::Nth(number, fault) => write!(f, "number {number}: {fault}"),
+            Reason::OtherBuild => write!(f, "no output of the build is in it, or one needs itself"),
             Reason::NoBytes => write!(f, "it has no byte"),
             Reason::Tab(at) => write!(f, "byte {at} is a tab"),
             Reason::Newline(at) => write!(f, "byte {at} is a newline"),
@@ -336,6 +346,7 @@ fn words_for<'a>(fault: ToolFault, words: &Words<'a>, is_second: bool) -> Words<
 {
     match fault {
         ToolFault::BadNumber => *words,
+        ToolFault::OtherGraph => words_heard(words, true),
         _ => words_heard(words, is_second),
     }
 }
@@ -405,11 +416,15 @@ fn why_of<'a>(alloc: Global, words: &Words<'a>, fault: ToolFault, notes: &Notes)
         ToolFault::NegativeTime(place) => negative_why(alloc, words, place, notes),
         ToolFault::OtherVersion => version_why(alloc, words, notes),
         ToolFault::NotALog => looks_of(alloc, words, notes),
-        ToolFault::BadNumber => bad_number(words),
+        ToolFault::BadNumber => bad_number(alloc, words),
         ToolFault::EmptyName => Some(of_name(Reason::NoBytes)),
         ToolFault::BadByte(at) => bad_byte(words, at),
         ToolFault::LongName => long_name(words),
-        ToolFault::Memory | ToolFault::OtherGraph | ToolFault::Elsewhere => None,
+        ToolFault::OtherGraph => Some(Why {
+            place: read_place(words)?,
+            reason: Reason::OtherBuild,
+        }),
+        ToolFault::Memory | ToolFault::Elsewhere => None,
     }
 }
 
@@ -513,7 +528,7 @@ fn is_i64(text: &str) -> bool
     read_i64(text.as_bytes()).is_some()
 }
 
-fn bad_number<'a>(words: &Words<'a>) -> Option<Why<'a>>
+fn bad_number<'a>(alloc: Global, words: &Words<'a>) -> Option<Why<'a>>
     ensures { IfSome result (IsBadNumberOf words.now) }
 {
     match *words {
@@ -523,27 +538,69 @@ fn bad_number<'a>(words: &Words<'a>) -> Option<Why<'a>>
             mtime,
             ..
         } => bad_value(start, end, mtime),
-        Words::Read { choices, .. } => bad_option(choices.all, choices.build, choices.lines),
+        Words::Read { choices, .. } => {
+            let Choices {
+                all,
+                build,
+                lines,
+                jobs,
+                ..
+            } = choices;
+            bad_option(alloc, all, build, lines, jobs)
+        }
         Words::Compare { lines, least, .. } => bad_rule(lines, least),
         _ => None,
     }
 }
 
-fn bad_option<'a>(all: bool, build: Option<&'a str>, lines: Option<&'a str>) -> Option<Why<'a>>
-    ensures { IfSome result (λ why. IsBadOption all build.entry lines.entry why.place
+fn bad_option<'a>(
+    alloc: Global,
+    all: bool,
+    build: Option<&'a str>,
+    lines: Option<&'a str>,
+    jobs: Option<&'a str>,
+) -> Option<Why<'a>>
+    ensures { IfSome result (λ why. IsBadOption all build.entry lines.entry jobs.entry why.place
         × IsNumberFault why.reason) }
 {
-    match (lines, build) {
-        (Some(text), _) if most_of(lines).is_none() => Some(Why {
+    match (lines, build, jobs) {
+        (Some(text), _, _) if most_of(lines).is_none() => Some(Why {
             place: Place::Count(text),
             reason: Reason::Number(count_fault(text.as_bytes())),
         }),
-        (_, Some(text)) if scope_of(all, build).is_none() => Some(Why {
+        (_, Some(text), _) if scope_of(all, build).is_none() => Some(Why {
             place: Place::Build(text),
             reason: Reason::Number(build_fault(text.as_bytes())),
         }),
+        (_, _, Some(text)) if are_no_counts(alloc, jobs) => Some(Why {
+            place: Place::Jobs(text),
+            reason: jobs_fault(text.as_bytes()),
+        }),
         _ => None,
     }
+}
+
+fn are_no_counts(alloc: Global, jobs: Option<&str>) -> bool
+    ensures { result ≡ true → (counts : List ℕ) → AreCounts jobs.entry counts → ⊥ }
+{
+    match counts_of(alloc, jobs) {
+        Ok(None) => true,
+        _ => false,
+    }
+}
+
+// The first of these numbers that isn't one from 1 up to 2^63 - 1.
+fn jobs_fault(text: &[u8]) -> Reason
+    ensures { IsNumberFault result }
+{
+    let mut number: usize = 0;
+    for part in text.split(|b| *b == b',') {
+        number = number.saturating_add(1);
+        if positive_of(part).is_none() {
+            return Reason::Nth(number, build_fault(part));
+        }
+    }
+    Reason::Number(NumberFault::NoNumber)
 }
 
 fn bad_rule<'a>(lines: Option<&'a str>, least: Option<&'a str>) -> Option<Why<'a>>

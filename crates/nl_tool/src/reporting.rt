@@ -6,21 +6,23 @@ ghost use Rattle.nl_fields.specs.Digits.{IsDecimal};
 ghost use Rattle.nl_tool_texts.specs.Output.{Prints};
 ghost use Rattle.nl_versions.specs.VersionOf.{as_five};
 ghost use Rattle.nl_table.specs.Log.{log_of};
-ghost use Rattle.nl_reports.specs.BuildsText.{builds_text};
 ghost use Rattle.nl_reports.specs.Jobs.{told};
 ghost use Rattle.nl_reports.specs.Writing.{IsFoundFault, IsWriteFault};
 ghost use Rattle.nl_reports.specs.declared.choice.Scope.{Scope};
 ghost use Rattle.nl_tool.specs.Answers.{RefusesLog};
 ghost use Rattle.nl_tool.specs.Faults.{IsBuildFault, IsPathFault, IsPictureFault, IsReportFault, IsSummaryFault, IsToldFault};
-ghost use Rattle.nl_tool.specs.Reports.{AreCounts, ArePositive, IsBuild, IsFound, IsLaidOut, IsMost, IsReport, IsReportOf, IsScope, IsSummary, PrintsReport, asked_told, laid_out, rule_of, waiting};
+ghost use Rattle.nl_tool_print.specs.Faults.{IsLogFault};
+ghost use Rattle.nl_tool.specs.Reports.{AreBuilds, AreCounts, ArePositive, IsBuild, IsFound, IsLaidOut, IsMost, IsReport, IsReportOf, IsScope, IsSummary, PrintsReport, asked_told, laid_out, rule_of, waiting};
 
 use crate::notes::{NotedWriter, Notes};
 use crate::reading::{graph_bytes, log_bytes};
+use jiff_tz::{SystemTimeZone, TimeZone, TimeZoneDatabase};
 use nl_builds::{Builds, LogBuilds, Stamps, read_builds};
 use nl_fields::read_i64;
 use nl_reports::{
-    ByGraph, KindRule, Lists, NinjaGraph, Priority, Scope, builds_lines, chosen_jobs, draw_builds,
-    graph_lines, in_columns, lasting, read_graph, summary_lines, taken_in, trace_builds,
+    ByGraph, KindRule, Lists, NinjaGraph, Priority, Scope, builds_lines, builds_screen,
+    chosen_jobs, draw_builds, graph_lines, in_columns, lasting, read_graph, summary_lines,
+    taken_in, trace_builds,
 };
 use nl_table::Secret;
 use nl_tool_texts::{ToolFault, write_out};
@@ -31,7 +33,8 @@ use std::rt::Runtime;
 /// What is told of builds.
 #[derive(Clone, Copy, Drop)]
 pub enum Report<'g, 't> {
-    Builds,
+    /// At a terminal by the clock of a time zone.
+    Builds(Option<TimeZone<'g>>),
     /// With what a graph tells, where there is one.
     Summary {
         scope: Scope,
@@ -50,7 +53,7 @@ pub enum Report<'g, 't> {
 pub fn summary_in<R: Runtime>(
     rt: &R,
     alloc: Global,
-    columns: bool,
+    columns: Option<usize>,
     log: Option<&str>,
     all: bool,
     build: Option<&str>,
@@ -76,6 +79,7 @@ pub fn summary_in<R: Runtime>(
         return Err(ToolFault::BadNumber);
     };
     let lists = Lists {
+        screen: columns.is_some(),
         most,
         rule: rule_of(kind),
         secret: notes.secret,
@@ -108,7 +112,7 @@ pub fn summary_in<R: Runtime>(
 fn summary_with<R: Runtime>(
     rt: &R,
     alloc: Global,
-    columns: bool,
+    columns: Option<usize>,
     scope: Scope,
     lists: Lists,
     path: &str,
@@ -128,11 +132,36 @@ fn summary_with<R: Runtime>(
         scope,
         lists,
         graph: Some(ByGraph {
+            screen: lists.screen,
             graph: &graph,
             counts,
             most: lists.most,
         }),
     };
+    report_in(rt, alloc, columns, report, log, missing_ok, notes)
+}
+
+/// By the time zone of the system, or else by UTC.
+pub fn builds_in<R: Runtime>(
+    rt: &R,
+    alloc: Global,
+    columns: Option<usize>,
+    log: Option<&str>,
+    missing_ok: bool,
+    notes: &mut Notes,
+) -> Result<(), ToolFault>
+    ensures faults { IfErr result IsLogFault }
+{
+    let zones = TimeZoneDatabase::new(alloc);
+    if columns.is_some() {
+        if let Ok(system) = SystemTimeZone::read(&(rt, alloc)) {
+            if let Ok(zone) = system.time_zone(&zones) {
+                let report = Report::Builds(Some(zone));
+                return report_in(rt, alloc, columns, report, log, missing_ok, notes);
+            }
+        }
+    }
+    let report = Report::Builds(columns.map(|_| TimeZone::UTC));
     report_in(rt, alloc, columns, report, log, missing_ok, notes)
 }
 
@@ -154,7 +183,7 @@ pub fn trace_in<R: Runtime>(
     report_in(
         rt,
         alloc,
-        false,
+        None,
         Report::Trace(scope),
         log,
         missing_ok,
@@ -182,7 +211,7 @@ pub fn picture_in<R: Runtime>(
         Some(path) => picture_with(rt, alloc, scope, path, log, missing_ok, notes),
         None => {
             let report = Report::Picture { scope, graph: None };
-            report_in(rt, alloc, false, report, log, missing_ok, notes)
+            report_in(rt, alloc, None, report, log, missing_ok, notes)
         }
     }
 }
@@ -208,7 +237,7 @@ fn picture_with<R: Runtime>(
         scope,
         graph: Some(&graph),
     };
-    report_in(rt, alloc, false, report, log, missing_ok, notes)
+    report_in(rt, alloc, None, report, log, missing_ok, notes)
 }
 
 pub fn scope_of(all: bool, build: Option<&str>) -> Option<Scope>
@@ -321,7 +350,7 @@ fn positive_in(alloc: Global, texts: &[&[u8]]) -> Result<Option<Vec<usize>>, All
     Ok(Some(counts))
 }
 
-fn positive_of(text: &[u8]) -> Option<usize>
+pub fn positive_of(text: &[u8]) -> Option<usize>
     ensures value { IfSome result (λ n. (0 < n) × (n < 2 ^ 63) × IsDecimal (pos n) text.now) }
     ensures accepts { (n : ℕ) → 0 < n → n < 2 ^ 63 → IsDecimal (pos n) text.now → result ≡ Some n }
 {
@@ -335,7 +364,7 @@ fn positive_of(text: &[u8]) -> Option<usize>
 pub fn report_in<R: Runtime>(
     rt: &R,
     alloc: Global,
-    columns: bool,
+    columns: Option<usize>,
     report: Report<'_, '_>,
     log: Option<&str>,
     missing_ok: bool,
@@ -363,7 +392,7 @@ pub fn report_in<R: Runtime>(
 fn report_to<W: Write>(
     alloc: Global,
     secret: Secret,
-    columns: bool,
+    columns: Option<usize>,
     report: Report<'_, '_>,
     text: &[u8],
     writer: &mut W,
@@ -381,7 +410,7 @@ fn report_to<W: Write>(
 fn tell<W: Write>(
     alloc: Global,
     secret: Secret,
-    columns: bool,
+    columns: Option<usize>,
     report: Report<'_, '_>,
     log: LogBuilds<'_>,
     writer: &mut W,
@@ -398,7 +427,7 @@ fn tell<W: Write>(
         unfinished,
     } = log;
     match report {
-        Report::Builds => tell_builds(alloc, columns, &told, writer, again),
+        Report::Builds(zone) => tell_builds(alloc, columns, zone, &told, writer, again),
         Report::Summary {
             scope,
             lists,
@@ -427,22 +456,37 @@ fn tell<W: Write>(
 
 fn tell_builds<W: Write>(
     alloc: Global,
-    columns: bool,
+    columns: Option<usize>,
+    zone: Option<TimeZone<'_>>,
     from: &Builds,
     writer: &mut W,
     again: &mut bool,
 ) -> Result<(), ToolFault>
-    ensures prints { Prints (λ text. text ≡ laid_out columns (builds_text (told from.now)))
+    ensures prints { Prints (IsLaidOut columns (AreBuilds zone.entry (told from.now)))
         (W.contents writer.old) (W.contents writer.new) result }
     ensures faults { IfErr result IsWriteFault }
 {
     *again = taken_in(Scope::All, from).is_some();
-    write_lines(alloc, columns, builds_lines(alloc, from)?, writer)
+    let lines = lines_of_builds(alloc, zone, from)?;
+    write_lines(alloc, columns, lines, writer)
+}
+
+fn lines_of_builds(
+    alloc: Global,
+    zone: Option<TimeZone<'_>>,
+    from: &Builds,
+) -> Result<Vec<u8>, AllocError>
+    ensures value { IfOk result (λ lines. AreBuilds zone.entry (told from.now) lines.items) }
+{
+    match zone {
+        Some(zone) => builds_screen(alloc, &zone, from),
+        None => builds_lines(alloc, from),
+    }
 }
 
 fn tell_summary<W: Write>(
     alloc: Global,
-    columns: bool,
+    columns: Option<usize>,
     scope: Scope,
     lists: Lists,
     graph: Option<ByGraph<'_, '_>>,
@@ -512,7 +556,7 @@ fn summary_of(
 
 pub fn write_lines<W: Write>(
     alloc: Global,
-    columns: bool,
+    columns: Option<usize>,
     lines: Vec<u8>,
     writer: &mut W,
 ) -> Result<(), ToolFault>
@@ -520,9 +564,9 @@ pub fn write_lines<W: Write>(
         (W.contents writer.new) result }
     ensures faults { IfErr result IsWriteFault }
 {
-    if !columns {
+    let Some(most) = columns else {
         return write_out(lines.as_slice(), writer);
-    }
-    let laid = in_columns(alloc, lines.as_slice())?;
+    };
+    let laid = in_columns(alloc, most, lines.as_slice())?;
     write_out(laid.as_slice(), writer)
 }

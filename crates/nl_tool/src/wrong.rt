@@ -79,6 +79,8 @@ pub enum LineFault {
     NoRule,
     NoEvent,
     Values,
+    Fields,
+    Torn,
 }
 
 impl fmt::Display for LineFault {
@@ -100,6 +102,8 @@ impl fmt::Display for LineFault {
                 f,
                 "the values are wrong, or the line stands where it must not"
             ),
+            LineFault::Fields => write!(f, "the values are wrong"),
+            LineFault::Torn => write!(f, "no newline ends it"),
         }
     }
 }
@@ -154,12 +158,37 @@ fn target_fault(line: &[u8]) -> Option<LineFault> {
     }
 }
 
+// What is wrong with a line that asks nothing of `apply`.
+pub fn apply_fault(line: &[u8]) -> LineFault {
+    match line {
+        [b'g', b'e', b't', b'\t', name @ ..] => keep_fault(name).unwrap_or(LineFault::Fields),
+        _ => match word_of(line) {
+            b"open"
+            | b"record"
+            | b"sync"
+            | b"recompact"
+            | b"restat"
+            | b"stop"
+            | b"begin"
+            | b"get"
+            | b"hash"
+            | b"table"
+            | b"distrusted" => LineFault::Fields,
+            _ => LineFault::NoEvent,
+        },
+    }
+}
+
+// What stands before the first tab.
+fn word_of(line: &[u8]) -> &[u8] {
+    match line.iter().position(|byte| *byte == b'\t') {
+        Some(tab) => &line[..tab],
+        None => line,
+    }
+}
+
 fn script_fault(line: &[u8]) -> Option<LineFault> {
-    let end = match line.iter().position(|byte| *byte == b'\t') {
-        Some(tab) => tab,
-        None => line.len(),
-    };
-    match &line[..end] {
+    match word_of(line) {
         b"writes"
         | b"fates"
         | b"tails"

@@ -1,14 +1,15 @@
 //! What a line of `apply` asks for.
-ghost use Rattle.std.specs.Prelude.{◌++◌, ◌∷◌, ◌≢◌, codes, IfOk, IsErrOf};
+ghost use Rattle.std.specs.Prelude.{◌++◌, ◌∷◌, ◌≢◌, codes, IfOk, IsErrOf, IsTrue};
 ghost use Rattle.nl_session.specs.declared.events.Event.TheVariants.{Crash};
 ghost use Rattle.nl_tool_script.specs.Replay.{KeepsSome, event_line};
 ghost use Rattle.nl_tool_script.specs.declared.script.LineRefusal.{LineRefusal};
+ghost use Rattle.nl_tool_change.specs.declared.asked.Asked.{Asked};
 ghost use Rattle.nl_tool_change.specs.Applying.{Asks, BeginsBy, BeginsNone};
 
 use crate::deed::Deed;
 use nl_fields::{Name, name_fault, read_hex64, read_i32};
 use nl_session::Event;
-use nl_table::Secret;
+use nl_table::{NO_SECRET, Secret};
 use nl_tool_script::{LineRefusal, read_event_line, read_names, split_tab};
 use std::alloc::Global;
 
@@ -44,6 +45,13 @@ pub fn read_asked(alloc: Global, secret: Secret, line: &[u8]) -> Asked<'_>
     } else {
         read_other(alloc, secret, line)
     }
+}
+
+/// Whether a line is answered `bad line`. Where memory is wanting, nobody knows.
+pub fn is_bad_line(alloc: Global, line: &[u8]) -> bool
+    ensures bad { IsTrue result → Asks line.now Asked.Bad }
+{
+    matches!(read_asked(alloc, NO_SECRET, line), Asked::Bad)
 }
 
 fn read_other(alloc: Global, secret: Secret, line: &[u8]) -> Asked<'_>

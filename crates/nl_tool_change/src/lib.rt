@@ -22,6 +22,7 @@ mod times_file;
 mod update;
 
 pub use apply::apply_on;
+pub use asked::is_bad_line;
 pub use manifest_file::read_manifest;
 pub use mending::mend_on;
 pub use place::{AskedFolder, FoundFolder, LogPlace};

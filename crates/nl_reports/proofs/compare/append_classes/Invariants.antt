@@ -5,9 +5,9 @@ use Rattle.nl_reports.proofs.compare.append_classes.Given as goal
 
 -- the totals of the classes before this one
 abbrev pub invariant-loop-class : goal.invariant-loop-class
-invariant-loop-class l = l.lines.items ≡ l.fn.lines.items ++ flat_map (total_line (map compared_of l.rows)) (take l.class-index l.all)
+invariant-loop-class l = l.lines.items ≡ l.fn.lines.items ++ flat_map (total_line l.screen (map compared_of l.rows)) (take l.class-index l.all)
 
 -- the commands of the classes before this one
 abbrev pub invariant-loop-one : goal.invariant-loop-one
-invariant-loop-one l = l.lines.items ≡ (l.fn.lines.items ++ flat_map (total_line (map compared_of l.rows)) l.fn.all)
-    ++ flat_map (class_lines l.most (map compared_of l.rows)) (take l.one-index l.listed)
+invariant-loop-one l = l.lines.items ≡ (l.fn.lines.items ++ flat_map (total_line l.screen (map compared_of l.rows)) l.fn.all)
+    ++ flat_map (class_lines l.screen l.most (map compared_of l.rows)) (take l.one-index l.listed)

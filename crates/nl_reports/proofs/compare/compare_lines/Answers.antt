@@ -10,8 +10,8 @@ returns c =
     let hashes = c.are_comparable-hashes.result in
     record {
       value = IfOk-weaker c.told_of_all.result _ _ (λ lines is. is
-          ∙ ap (λ (rows : List ComparedRow). told_of_all most hashes (map compared_of rows)) c.as_slice.ensures.value
-          ∙ ap (told_of_all most hashes) c.in_ok-rows.ensures.value
-          ∙ ap (λ (b : Bool). told_of_all most b (compared (record { hashes = b; least = c.args.least })
+          ∙ ap (λ (rows : List ComparedRow). told_of_all c.args.screen most hashes (map compared_of rows)) c.as_slice.ensures.value
+          ∙ ap (told_of_all c.args.screen most hashes) c.in_ok-rows.ensures.value
+          ∙ ap (λ (b : Bool). told_of_all c.args.screen most b (compared (record { hashes = b; least = c.args.least })
           (side_of c.args.old.now) (side_of c.args.new.now))) c.are_comparable-hashes.ensures) c.told_of_all.ensures.value;
     }

@@ -6,9 +6,9 @@ use Rattle.nl_reports.proofs.gains.append_gain.Goals as goal
 
 pub returns : goal.returns
 returns c = record {
-  ok = λ js are. on_ok_weaker c.append_line.result (λ told. record {
+  ok = λ js are. on_ok_weaker c.append_saved.result (λ told. record {
     half = c.in_ok-half.half;
     is_half = c.in_ok-half.ensures.value js are;
-    is = told ∙ ap (λ (k : ℕ). c.args.lines.now.items ++ gain_line k (ran_seen c.args.ran.now)) c.saturating_sub.ensures;
-  }) c.append_line.ensures.items;
+    is = told ∙ ap (λ (k : ℕ). c.args.lines.now.items ++ gain_line c.args.screen k (ran_seen c.args.ran.now)) c.saturating_sub.ensures;
+  }) c.append_saved.ensures.items;
 }

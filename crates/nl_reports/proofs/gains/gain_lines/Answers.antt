@@ -20,10 +20,10 @@ loop-i-preserved c = λ text rest.
     let x = c.index.result.now in
     let within : i < length xs = omega (arith, c.loop-i-test.true, c.len-i-end.ensures) in
     let more = by_graph g js c.in_ok-reaches.reaches c.in_ok-reaches.ensures.value
-    (λ (y : NinjaGraph). IsGain (seen_graph y) js c.in_ok-found.found.length (ran_seen x) c.loop-i.lines.items c.append_gain.new.lines.items)
+    (λ (y : NinjaGraph). IsGain c.args.screen (seen_graph y) js c.in_ok-found.found.length (ran_seen x) c.loop-i.lines.items c.append_gain.new.lines.items)
     (λ there. c.in_ok-append_gain.ensures.ok js there) in
     c.loop-i.invariant text
-    (gain_more (seen_graph g) js c.in_ok-found.found.length xs i x c.loop-i.lines.items c.append_gain.new.lines.items text within c.index.ensures more rest)
+    (gain_more c.args.screen (seen_graph g) js c.in_ok-found.found.length xs i x c.loop-i.lines.items c.append_gain.new.lines.items text within c.index.ensures more rest)
 
 pub returns : goal.returns
 returns c =
@@ -41,6 +41,6 @@ returns c =
     longest_held c.args.most xs c.as_slice.result.now c.in_ok-longest.ensures.value
     ∙ ap (λ (l : List Ran). longest_rans c.args.most (map ran_seen l)) c.as_slice.ensures.value in
     record {
-      value = gains_of (seen_graph g) js c.args.most found.length rans (map ran_seen xs) lines is kept
-          (c.loop-i.invariant lines (subst (λ (l : List Told). AreGains (seen_graph g) js found.length l lines lines) (sym (at_drop_all (map ran_seen) xs i all)) refl));
+      value = gains_of c.args.screen (seen_graph g) js c.args.most found.length rans (map ran_seen xs) lines is kept
+          (c.loop-i.invariant lines (subst (λ (l : List Told). AreGains c.args.screen (seen_graph g) js found.length l lines lines) (sym (at_drop_all (map ran_seen) xs i all)) refl));
     }

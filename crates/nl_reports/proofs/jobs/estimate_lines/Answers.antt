@@ -21,7 +21,7 @@ loop-count-preserved c = λ text rest.
     let is = by_graph g js c.in_ok-reaches.reaches c.in_ok-reaches.ensures.value
     (λ (x : NinjaGraph). IsFoundPath (seen_graph x) js found.length (map ran_seen found.commands.items)) (λ there. c.in_ok-found.ensures.value js there) in
     c.loop-count.invariant text
-    (estimate_more (seen_graph g) js c.args.counts.now c.loop-count.count-index n c.in_ok-wall.wall c.in-Some.wall c.floor_of-floor.result found.length
+    (estimate_more c.args.screen (seen_graph g) js c.args.counts.now c.loop-count.count-index n c.in_ok-wall.wall c.in-Some.wall c.floor_of-floor.result found.length
     (map ran_seen found.commands.items) c.loop-count.lines.items c.append_estimate.new.lines.items text c.loop-count-test.true (get_or_default c.args.counts.now c.loop-count.count-index 0 n c.loop-count-test.true) c.in-Some.is
     c.in_ok-wall.ensures.value is (c.floor_of-floor.ensures.value (c.if-not-fits.ensures.some refl) ∙ ap (λ (t : ℕ). floor_of found.length t n) total)
     (λ one. c.if-not-fits.ensures.one refl one ∙ total)
@@ -37,5 +37,5 @@ returns c =
     let lines = c.loop-count.lines.items in
     let all : length counts ≤ i = omega (arith, c.loop-count-test.false) in
     record {
-      value = c.loop-count.invariant lines (subst (λ (l : List ℕ). AreMore g js l lines lines) (sym (at_drop_all (λ (l : List ℕ). l) counts i all)) refl);
+      value = c.loop-count.invariant lines (subst (λ (l : List ℕ). AreMore c.args.screen g js l lines lines) (sym (at_drop_all (λ (l : List ℕ). l) counts i all)) refl);
     }

@@ -14,11 +14,11 @@ returns-then-is_empty c =
     record {
       value = record {
         path = c.in-Some.path;
-        is_critical = subst (λ (o : Option (Vec ℕ)). IsCritical g js o) c.in-Some.is c.in_ok-path.ensures.value;
+        is_critical = subst (λ (o : Option (Vec ℕ)). IsCritical c.args.by.now.screen g js o) c.in-Some.is c.in_ok-path.ensures.value;
         gains = c.in_ok-gains.gains.items;
         are_gains = c.in_ok-gains.ensures.value;
         estimates = [];
-        are = subst (λ (ns : List ℕ). AreEstimates g js ns []) (sym (none_asked _ (sym c.is_empty.ensures ∙ c.if-is_empty.true))) refl;
+        are = subst (λ (ns : List ℕ). AreEstimates c.args.by.now.screen g js ns []) (sym (none_asked _ (sym c.is_empty.ensures ∙ c.if-is_empty.true))) refl;
         is = c.in_ok-extend_from_slice.ensures.items ∙ ap (λ (l : List ℕ). c.in-Some.path.items ++ l) c.as_slice.ensures.value ∙ sym (append-nil _);
       };
     }
@@ -30,11 +30,11 @@ returns c =
     record {
       value = record {
         path = c.in-Some.path;
-        is_critical = subst (λ (o : Option (Vec ℕ)). IsCritical g js o) c.in-Some.is c.in_ok-path.ensures.value;
+        is_critical = subst (λ (o : Option (Vec ℕ)). IsCritical c.args.by.now.screen g js o) c.in-Some.is c.in_ok-path.ensures.value;
         gains = c.in_ok-gains.gains.items;
         are_gains = c.in_ok-gains.ensures.value;
         estimates = c.in-Some-estimates.estimates.items;
-        are = estimates_there g js _ _ _ c.in-Some-estimates.is c.in_ok-estimates.ensures.value;
+        are = estimates_there c.args.by.now.screen g js _ _ _ c.in-Some-estimates.is c.in_ok-estimates.ensures.value;
         is = c.in_ok-extend_from_slice-2.ensures.items ∙ (λ i. (c.in_ok-extend_from_slice.ensures.items
             ∙ ap (λ (l : List ℕ). c.in-Some.path.items ++ l) c.as_slice.ensures.value) i ++ c.as_slice-2.ensures.value i);
       };

@@ -5,9 +5,9 @@ use Rattle.std.proofs.lemmas.Bool.{eq-eqb}
 use Rattle.nl_builds.specs.declared.build.Build.{Build}
 use Rattle.nl_reports.specs.Jobs.{between, told}
 use Rattle.nl_reports.specs.Rows.{falling, rank_told, told_row}
-use Rattle.nl_reports.specs.Summary.{again_line, builds_told, first_of, lists_text, number_lines, slowest_line, text_of, unfinished_line}
+use Rattle.nl_reports.specs.Summary.{again_line, builds_told, first_of, lists_text, number_lines, slowest_line, text_of, title, unfinished_line}
 use Rattle.nl_reports.specs.declared.rows.Rank.TheVariants.{Time}
-use Rattle.nl_reports.proofs.SummaryLemmas.{parts_in_order, some_told, text_parts}
+use Rattle.nl_reports.proofs.SummaryLemmas.{parts_in_order, some_told}
 use Rattle.nl_reports.proofs.summary.append_chosen.Goals as goal
 
 pub returns : goal.returns
@@ -20,21 +20,23 @@ returns c =
     let rows = c.as_slice-rows.ensures.value in
     let us = map told_row c.as_slice-rows.result.now in
     let taken = c.again_in.result in
-    let slow = slowest_line (first_of (falling (rank_told Time) us)) in
-    let last = unfinished_line c.args.unfinished in
+    let screen = c.args.lists.screen in
+    let head = title screen c.args.scope first c.len.result in
+    let slow = slowest_line screen (first_of (falling (rank_told Time) us)) in
+    let last = unfinished_line screen c.args.unfinished in
     let chosen : bs ≡ between (first - 1) c.args.choice.last c.args.from.now.builds.items =
     c.between-told.ensures ∙ (λ i. between (c.saturating_sub.ensures i) c.args.choice.last (c.as_slice.ensures.value i)) in
     record {
       items = on_ok_weaker c.append_lists.result (λ h.
-          let whole : c.append_lists.new.lines.items ≡ old ++ text_of c.args.lists c.args.unfinished ts us taken =
+          let whole : c.append_lists.new.lines.items ≡ old ++ text_of head c.args.lists c.args.unfinished ts us taken =
           h ∙ ap (λ (l : List ℕ). l ++ lists_text c.args.lists us)
           (c.in_ok-append_unfinished.ensures.items ∙ ap (λ (l : List ℕ). l ++ last)
-          (c.in_ok-append_again.ensures.items ∙ ap (λ (l : List ℕ). l ++ again_line taken)
-          (c.in_ok-append_slowest.ensures.items ∙ ap (λ (l : List ℕ). l ++ slow) c.in_ok-append_totals.ensures.items)))
-          ∙ parts_in_order old (number_lines ts us) slow (again_line taken) last (lists_text c.args.lists us)
-          ∙ ap (λ (l : List ℕ). old ++ l) (text_parts c.args.lists c.args.unfinished ts us taken) in
+          (c.in_ok-append_again.ensures.items ∙ ap (λ (l : List ℕ). l ++ again_line screen taken)
+          (c.in_ok-append_slowest.ensures.items ∙ ap (λ (l : List ℕ). l ++ slow)
+          (c.in_ok-append_totals.ensures.items ∙ ap (λ (l : List ℕ). l ++ number_lines screen ts us) c.in_ok-append_title.ensures.items))))
+          ∙ parts_in_order old head (number_lines screen ts us) slow (again_line screen taken) last (lists_text c.args.lists us) in
           whole
-          ∙ (λ i. old ++ text_of c.args.lists c.args.unfinished (c.in_ok-all.ensures.totals i) ((ap (map told_row) rows ∙ c.in_ok-all.ensures.rows) i) (c.again_in.ensures i))
+          ∙ (λ i. old ++ text_of (title screen c.args.scope first ((c.len.ensures ∙ c.args.from.now.builds.ok.0) i)) c.args.lists c.args.unfinished (c.in_ok-all.ensures.totals i) ((ap (map told_row) rows ∙ c.in_ok-all.ensures.rows) i) (c.again_in.ensures i))
           ∙ ap (λ (l : List ℕ). old ++ l) (sym (some_told c.args.scope c.args.lists c.args.unfinished t first bs (λ none. true≢false (sym (eq-eqb _ 0 none) ∙ sym c.is_empty.ensures ∙ c.if-is_empty.false))))
           ∙ ap (λ (l : List Build). old ++ builds_told c.args.scope c.args.lists c.args.unfinished t first l) chosen) c.append_lists.ensures.items;
     }

@@ -1,10 +1,26 @@
 use Rattle.std.proofs.Common.{◌≡◌, ◌∙◌, ◌++◌, List, ℕ, append_assoc, ap, length, map, sym}
+use Rattle.std.proofs.lemmas.Bool.{cond-false, cond-true}
+use Rattle.std.proofs.lemmas.Result.{on_ok_weaker}
 use Rattle.std.specs.Prelude.{string_bytes}
 use Rattle.std.proofs.lemmas.List.{length-map}
 use Rattle.nl_reports.specs.Fraction.{ratio}
 use Rattle.nl_reports.specs.Rows.{told_row}
-use Rattle.nl_reports.specs.Summary.{told_lines}
+use Rattle.nl_reports.specs.Summary.{bound, facts, facts_of, told_lines}
 use Rattle.nl_reports.proofs.summary.append_totals.Goals as goal
+
+pub returns-then-screen : goal.returns-then-screen
+returns-then-screen c =
+    let t = c.args.totals.now in
+    let rows = c.args.rows.now in
+    let total = c.total_of-total.ensures.value in
+    let count : length rows ≡ length (map told_row rows) = sym (length-map rows told_row) in
+    let parallel = c.as_bytes.ensures.value ∙ c.in_ok-parallel.ensures.value ∙ ap (λ (n : ℕ). ratio n t.wall) total in
+    let best = c.bound-best.ensures.value ∙ (λ i. bound t.most (total i) (c.slowest_time.ensures.value i)) in
+    record {
+      items = on_ok_weaker c.append_facts.result (λ h. h
+          ∙ (λ i. c.args.lines.now.items ++ facts t (count i) (total i) (best i) (c.saturating_sub-none.ensures i) (parallel i))
+          ∙ ap (λ (l : List ℕ). c.args.lines.now.items ++ l) (sym (cond-true c.args.screen (facts_of t (map told_row rows)) _ c.if-screen.true))) c.append_facts.ensures.items;
+    }
 
 pub returns : goal.returns
 returns c =
@@ -13,9 +29,9 @@ returns c =
     let total = c.total_of-total.ensures.value in
     let count : length rows ≡ length (map told_row rows) = sym (length-map rows told_row) in
     let parallel = c.in_ok-parallel.ensures.value ∙ ap (λ (n : ℕ). ratio n t.wall) total in
-    let line : c.as_bytes.result.now ≡ told_lines (length rows) t.outputs t.wall c.total_of-total.result t.busy t.alone (string_bytes c.in_ok-parallel.parallel) =
-    c.as_bytes.ensures.value ∙ c.in_ok-text.ensures.ok ∙ simp append_assoc in
+    let line : c.as_bytes-2.result.now ≡ told_lines (length rows) t.outputs t.wall c.total_of-total.result t.busy t.alone (string_bytes c.in_ok-parallel.parallel) =
+    c.as_bytes-2.ensures.value ∙ c.in_ok-text.ensures.ok ∙ simp append_assoc in
     record {
       items = c.in_ok-extend_from_slice.ensures.items ∙ ap (λ (l : List ℕ). c.args.lines.now.items ++ l)
-          (line ∙ (λ i. told_lines (count i) t.outputs t.wall (total i) t.busy t.alone (parallel i)));
+          (line ∙ (λ i. told_lines (count i) t.outputs t.wall (total i) t.busy t.alone (parallel i)) ∙ sym (cond-false c.args.screen (facts_of t (map told_row rows)) _ c.if-screen.false));
     }

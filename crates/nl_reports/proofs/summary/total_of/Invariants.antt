@@ -7,5 +7,5 @@ use Rattle.nl_reports.proofs.summary.total_of.Given as goal
 abbrev pub invariant-loop-row : goal.invariant-loop-row
 invariant-loop-row l = record {
   total : l.total + total_of (map told_row (drop l.row-index l.rows)) ≡ total_of (map told_row l.fn.rows);
-  small : l.total ≤ l.row-index * 2 ^ 64;
+  small : l.total ≤ l.row-index * 2 ^ 32;
 }

@@ -1,0 +1,147 @@
+//! What `builds` tells at a terminal.
+ghost use Rattle.std.specs.Prelude.{◌≡◌, ◌<◌, ◌++◌, List, ℕ, IfOk, OnOk, length};
+ghost use Rattle.nl_reports.specs.BuildsTable.{AreRows, IsBegun, IsBuildsScreen, IsRow, IsShownBy, date_text, heading_for, moment_of, row_text};
+ghost use Rattle.nl_reports.specs.Jobs.{told};
+
+use crate::builds_text::border_word;
+use crate::job::jobs_of;
+use crate::numbers::{Numbers, numbers_of};
+use crate::text::{Part, append, append_line, append_parts};
+use jiff_core::Timestamp;
+use jiff_core::civil::DateTime;
+use jiff_tz::TimeZone;
+use nl_builds::{Build, Builds};
+use std::alloc::{AllocError, Global};
+
+// The moments of builds count from so many nanoseconds before 1970.
+const ZERO: i128 = 2_147_483_648_000_000;
+
+/// A line for each build: its number, when it began by a clock of this time zone, how long it took, how many commands and outputs it has,
+/// and how it is known. A heading stands before them. Tabs part fields.
+pub fn builds_screen(
+    alloc: Global,
+    zone: &TimeZone<'_>,
+    from: &Builds,
+) -> Result<Vec<u8>, AllocError>
+    ensures value { IfOk result (λ lines. IsBuildsScreen zone.now (told from.now) lines.items) }
+{
+    let rows = rows_of(alloc, zone, from)?;
+    let mut lines = Vec::new(alloc);
+    lines.extend_from_slice(heading_for(zone))?;
+    lines.extend_from_slice(rows.as_slice())?;
+    Ok(lines)
+}
+
+fn heading_for(zone: &TimeZone<'_>) -> &'static [u8]
+    ensures { result.now ≡ heading_for zone.now }
+{
+    match zone {
+        TimeZone::UTC | TimeZone::Unknown => {
+            b"Build\tBegan (UTC)\tElapsed\tCommands\tOutputs\tKnown\n"
+        }
+        TimeZone::Fixed(_) | TimeZone::Posix(_) | TimeZone::Tzif(_) => {
+            b"Build\tBegan\tElapsed\tCommands\tOutputs\tKnown\n"
+        }
+    }
+}
+
+fn rows_of(alloc: Global, zone: &TimeZone<'_>, from: &Builds) -> Result<Vec<u8>, AllocError>
+    ensures value { IfOk result
+        (λ rows. AreRows zone.now (told from.now) (length from.now.builds.items) rows.items) }
+{
+    let mut rows = Vec::new(alloc);
+    for place in 0..from.builds.len() {
+        append_row(alloc, zone, from, place, &mut rows)?;
+    }
+    Ok(rows)
+}
+
+fn append_row(
+    alloc: Global,
+    zone: &TimeZone<'_>,
+    from: &Builds,
+    place: usize,
+    rows: &mut Vec<u8>,
+) -> Result<(), AllocError>
+    requires there { place < length from.now.builds.items }
+    ensures row { OnOk result
+        ((row : List ℕ) × (IsRow zone.now (told from.now) place row × (rows.new.items ≡ rows.old.items ++ row))) }
+{
+    let build = from.builds[place];
+    let number = place + 1;
+    let began = began_text(alloc, zone, build.began)?;
+    let jobs = jobs_of(alloc, from, number)?;
+    let numbers = numbers_of(from, number, jobs.as_slice());
+    append_fields(number, began.as_slice(), &numbers, &build, rows)
+}
+
+fn append_fields(
+    number: usize,
+    began: &[u8],
+    numbers: &Numbers,
+    build: &Build,
+    rows: &mut Vec<u8>,
+) -> Result<(), AllocError>
+    ensures items { OnOk result
+        (rows.new.items ≡ rows.old.items ++ row_text number began.now numbers.now build.now) }
+{
+    append_line(
+        &[
+            Part::Number(number as u128),
+            Part::Text(began),
+            Part::Time(numbers.wall),
+            Part::Number(numbers.commands as u128),
+            Part::Number(numbers.outputs as u128),
+            Part::Text(border_word(build).as_bytes()),
+        ],
+        rows,
+    )
+}
+
+fn began_text(alloc: Global, zone: &TimeZone<'_>, began: Option<u64>) -> Result<Vec<u8>, AllocError>
+    ensures value { IfOk result (λ text. IsBegun zone.now began text.items) }
+{
+    let mut text = Vec::new(alloc);
+    let Some(began) = began else {
+        append(b"unknown", &mut text)?;
+        return Ok(text);
+    };
+    let shown = shown_at(zone, began);
+    append_date(&shown, &mut text)?;
+    Ok(text)
+}
+
+fn shown_at(zone: &TimeZone<'_>, began: u64) -> DateTime
+    ensures value { IsShownBy zone.now (moment_of began) result }
+{
+    zone.to_datetime(Timestamp {
+        nanosecond: i128::from(began) - ZERO,
+    })
+}
+
+fn append_date(shown: &DateTime, out: &mut Vec<u8>) -> Result<(), AllocError>
+    ensures items { OnOk result (out.new.items ≡ out.old.items ++ date_text shown.now) }
+{
+    let DateTime { date, time } = *shown;
+    append_parts(
+        &[
+            Part::Number(u128::from(date.year.unsigned_abs())),
+            Part::Text(b"-"),
+            Part::Number(u128::from(date.month / 10)),
+            Part::Number(u128::from(date.month % 10)),
+            Part::Text(b"-"),
+            Part::Number(u128::from(date.day / 10)),
+            Part::Number(u128::from(date.day % 10)),
+            Part::Text(b" "),
+            Part::Number(u128::from(time.hour / 10)),
+            Part::Number(u128::from(time.hour % 10)),
+            Part::Text(b":"),
+            Part::Number(u128::from(time.minute / 10)),
+            Part::Number(u128::from(time.minute % 10)),
+            Part::Text(b":"),
+            Part::Number(u128::from(time.second / 10)),
+            Part::Number(u128::from(time.second % 10)),
+        ],
+        out,
+    )
+}
