@@ -421,7 +421,9 @@ def costs(trials, made, room):
         trials.want("a record behind it", [answers_of(writer, it) for it in (RECORD, "close")], ["OK", "OK"])
         writer.communicate()
         calls, got = calls_of(room)
-        trials.want("the look reads the log once", got[1], len(text))
+        # (what comes behind the last newline of the first block is read again)
+        again = 262144 - 1 - text.rindex(b"\n", 0, 262144) if len(text) >= 262144 else 0
+        trials.want("the look reads the log once", got[1], len(text) + again)
         trials.want(f"the first record reads what it must, where another added {len(more)} bytes", got[2], most)
         trials.want("the log then", read(log), text + more + A)
 
