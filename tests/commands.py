@@ -755,7 +755,7 @@ WORDS = [
     (["summary", "-v", "--graph", "missing", "folder"], 1, b"", CANNOT_READ + b"nlog: FILE missing: " + NO_FILE),
     (["summary", "-v", "--graph=folder", "file"], 1, b"", CANNOT_READ + b"nlog: FILE folder: " + A_FOLDER),
     (["summary", "-v", "--graph", "file", "missing"], 1, b"", b"nlog: bad line 1\nnlog: FILE file: line 1\n"),
-    (["summary", "-v", "--graph=graph", "file"], 1, b"", b"nlog: not the graph of this build\n"),
+    (["summary", "-v", "--graph=graph", "file"], 1, b"", b"nlog: not the graph of this build\nnlog: FILE graph: no output of the build is in it, or one needs itself\n"),
     (["summary", "-v", "--graph=-", "file"], 1, b"", b"nlog: bad line 1\nnlog: standard input: line 1\n"),
     (["summary", "-v", "--graph", "missing", "-n", "x", "seven"], 1, b"", b"nlog: bad number\nnlog: N x: it isn't a number\n"),
     (["builds", "-v", "folder"], 1, b"", CANNOT_READ + b"nlog: LOG folder: " + A_FOLDER),
@@ -957,7 +957,7 @@ MENDS = {
     "intent": (b"2\t2\t0\tintent\te5\n", b"2\t2\t0\tintent\te5\n"),
     "timeless": (b"2\t3\t0\ttimeless\tffffffffffffffff\n", b"3\t3\t0\ttimeless\t0\n"),
 }
-ELSEWHERE = b"nlog: no output of LOG is here\nnlog: run it in the folder of the build, or name that by -C\n"
+ELSEWHERE = b"nlog: most outputs of LOG aren't here\nnlog: run it in the folder of the build, or name that to mend by -C\n"
 
 
 def mends(intents, names="old new gone folder intent timeless"):
@@ -1115,8 +1115,10 @@ def try_settling(trials, program, room):
 
 
 def try_manifests(trials, program, room):
-    names = [b"a", b"b: c", b" led", b"x.o"]
-    log = HEADER + b"".join(b"1\t2\t3\t%s\tff\n" % it for it in names)
+    names, there = [b"a", b"b: c", b" led", b"x.o"], [b"here %d" % it for it in range(4)]
+    for name in there:
+        write(f"{room}/{name.decode()}", b"")
+    log = HEADER + b"".join(b"1\t2\t3\t%s\tff\n" % it for it in [*names, *there])
     for text, wanted in MANIFESTS:
         for values, place in ((["lines"], b"TARGETS lines"), ([], b"standard input")):
             what = f"prune {values} of {text[:30]}"
@@ -1125,11 +1127,20 @@ def try_manifests(trials, program, room):
             end = asked(program, room, ["prune", "-v", "log", *values], text)
             if isinstance(wanted, list):
                 trials.want(what, end, (0, b"", b""))
-                trials.want(f"{what}: the log", read(f"{room}/log"), HEADER + b"".join(b"1\t2\t3\t%s\tff\n" % it for it in names if it in wanted))
+                trials.want(f"{what}: the log", read(f"{room}/log"), HEADER + b"".join(b"1\t2\t3\t%s\tff\n" % it for it in [*names, *there] if it in [*wanted, *there]))
             else:
                 said = b"nlog: bad line %s\nnlog: %s: line %s\n" % (wanted.split(b":")[0], place, wanted)
                 trials.want(what, end, (1, b"", said))
                 trials.want(f"{what}: the log", read(f"{room}/log"), log)
+    # Of four outputs two may go, and not three, as they would in the folder of another build.
+    for targets, is_kept in ((b"a: cc\nx.o: cc\n", True), (b"a: cc\nunknown: cc\n", False), (b"unknown: cc\n", False)):
+        log = HEADER + b"".join(b"1\t2\t3\t%s\tff\n" % it for it in names)
+        write(f"{room}/log", log)
+        trials.want(f"prune by {targets}, without a file", asked(program, room, ["prune", "log"], targets), (0, b"", b"") if is_kept else (1, b"", ELSEWHERE))
+        left = HEADER + b"".join(b"1\t2\t3\t%s\tff\n" % it for it in (b"a", b"x.o")) if is_kept else log
+        trials.want(f"prune by {targets}, without a file: the log", read(f"{room}/log"), left)
+    write(f"{room}/log", HEADER)
+    trials.want("prune without an output", asked(program, room, ["prune", "log"], b"a: cc\n"), (0, b"", b""))
 
 
 def try_settling_stops(trials, program, room):

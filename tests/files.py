@@ -30,7 +30,8 @@ FAULTS = {
               "no file is late", "9 ms are late", "20 ms are no matter", "a quarter is no matter", "no file is early",
               "a file that isn't behind MTIME is judged", "there is no tick", "no change time counts", "change times always count", "one copy is a copied tree",
               "change times count in each version"],
-    "prune": ["a target without a file goes", "a file that is no target goes", "a folder is no file", "what can't be looked at goes", "what is missing stays"],
+    "prune": ["a target without a file goes", "a file that is no target goes", "a folder is no file", "what can't be looked at goes", "what is missing stays",
+              "any folder will do", "half may not go"],
     "retime": ["a file of 1970 has its own time", "a folder is a file", "what is missing is of 0", "only later times are taken", "an intent has a time"],
     "mend": ["damage tells nothing", "what is damaged is newer", "what is missing is told of", "an intent is told of", "what is unsure is passed over", "what is unsure is taken",
              "--all is passed over", "--dry-run is passed over", "one name is taken", "what is taken is dropped", "the moment is START", "MTIME stands", "the hash stands",
@@ -130,6 +131,14 @@ def doubt_of(table, version, files, targets, lines, fault=None):
         why = why_behind(entry, lines, time, last, fault) if is_start and entry[2] > 0 else b"newer" if last > entry[2] - (fault == "the same time is newer") else b""
         if why:
             yield b"%s\t%s\n" % (why, name)
+
+
+ELSEWHERE = b"nlog: most outputs of LOG aren't here\nnlog: run it in the folder of the build, or name that to mend by -C\n"
+
+
+def is_elsewhere(table, kept, fault):
+    """Whether `prune` refuses to keep these lines alone: more outputs would go than stay."""
+    return fault != "any folder will do" and len(table) - len(kept) > len(kept) - (fault == "half may not go")
 
 
 def prune_of(table, version, files, targets, lines, fault=None):
@@ -314,9 +323,12 @@ class Rivals:
 
             def wanted(fault=None, model=model, word=word):
                 by = Log(HEADER + b"".join(it + b"\n" for it in first.values())).table if fault == "the first entry counts" and version > 4 else table
-                told = b"".join(model(by, version, files, targets, lines, fault))
+                kept = list(model(by, version, files, targets, lines, fault))
+                told = b"".join(kept)
                 if word == "doubt":
                     return 3 if told else 0, told, b""
+                if word == "prune" and is_elsewhere(by, kept, fault):
+                    return 1, b"", ELSEWHERE, text
                 return 0, b"", b"", as_version(HEADER + told, version) if version > 5 else HEADER + told
 
             got = ended if word == "doubt" else (*ended, read(f"{self.room}/log"))

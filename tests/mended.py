@@ -237,7 +237,7 @@ def try_folders(trials, life):
     text = read(life.log)
     elsewhere = f"{life.room}/elsewhere"
     os.makedirs(elsewhere)
-    words = "nlog: no output of LOG is here\nnlog: run it in the folder of the build, or name that by -C\n".encode()
+    words = "nlog: most outputs of LOG aren't here\nnlog: run it in the folder of the build, or name that to mend by -C\n".encode()
     cut = b"".join(it + b"\n" for it in text.split(b"\n")[:-3] if b"outside" not in it) + b"0\t7\t"
     write(life.log, cut)
     trials.want("in another folder", life.mend(life.log, cwd=elsewhere), (1, b"", words))

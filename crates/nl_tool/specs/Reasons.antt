@@ -19,7 +19,7 @@ use Rattle.nl_versions.specs.Version.{is_version_read}
 use Rattle.nl_tool.specs.declared.reason.Place.{Place}
 use Rattle.nl_tool.specs.declared.reason.Place.TheVariants as at
 use Rattle.nl_tool.specs.declared.reason.Reason.{Reason}
-use Rattle.nl_tool.specs.declared.reason.Reason.TheVariants.{System, Full, Locked, Unsynced, Masked, Line, Negative, Early, Version, Looks, Begins, Number, Nth, OtherBuild, NoBytes, Tab, Newline, Long}
+use Rattle.nl_tool.specs.declared.reason.Reason.TheVariants.{System, Full, Locked, Unsynced, Masked, Missing, Again, Line, Negative, Early, Version, Looks, Begins, Number, Nth, OtherBuild, NoBytes, Tab, Newline, Long}
 use Rattle.nl_tool.specs.declared.notes.Notes.{Notes}
 use Rattle.nl_tool.specs.Looks.{escaped, look_of, look_text, start_text}
 use Rattle.nl_tool.specs.Reports.{AreCounts, IsLeast, IsMost, IsScope}
@@ -27,7 +27,6 @@ use Rattle.nl_reports.specs.declared.choice.Scope.{Scope}
 use Rattle.nl_tool.specs.Wrong.{line_fault_text, number_fault_text}
 use Rattle.nl_tool.specs.declared.reason.Why.{Why}
 use Rattle.nl_tool.specs.declared.reason.Refusal.{Refusal}
-use Rattle.nl_tool.specs.declared.reason.Missing.{Missing}
 
 -- ---- what is said
 
@@ -64,6 +63,8 @@ reason_text (Full text) = string_bytes text ++ codes "; LOG keeps its entries"
 reason_text (Locked text) = string_bytes text ++ codes ": an nlog, or a tool that keeps LOG"
 reason_text (Unsynced text) = codes "it can't be synced, so a power cut may undo a rename: " ++ string_bytes text
 reason_text Masked = codes "it keeps no access control list; if it had one, its group has the rights of the mask"
+reason_text Missing = codes "it is missing, and was read as empty"
+reason_text Again = codes "it was written anew, so builds were found again by their time stamps"
 reason_text (Line number None) = codes "line " ++ decimal number
 reason_text (Line number (Some fault)) = codes "line " ++ (decimal number ++ (codes ": " ++ line_fault_text fault))
 reason_text (Negative number) = codes "line " ++ (decimal number ++ codes ": the time stamp is negative")
@@ -91,14 +92,6 @@ behind (Some why) = codes "\nnlog: " ++ why_text why
 -- the text of the fault, and after it the text of the reason, where there is one
 abbrev pub refusal_text : Refusal → List ℕ
 refusal_text refusal = fault_text refusal.fault ++ behind refusal.why
-
--- what is said after a command that was done over a log that is missing
-abbrev pub missing_text : Place → List ℕ
-missing_text place = place_text place ++ codes ": it is missing, and was read as empty"
-
--- what is said after a command that told of builds which were found again
-abbrev pub again_text : Place → List ℕ
-again_text place = place_text place ++ codes ": it was written anew, so builds were found again by their time stamps"
 
 -- ---- which file a reason is of
 
@@ -296,5 +289,5 @@ IsReasonFor words fault.OtherGraph failed bytes why = (read_place words ≡ Some
 IsReasonFor words fault.Elsewhere failed bytes why = ⊥
 
 -- the note is said only of a log that was missing
-abbrev pub IsNoteFor : Words → Bool → Missing → Type 0
-IsNoteFor words missing note = (log_place words file.Log ≡ Some note.place) × (missing ≡ true)
+abbrev pub IsNoteFor : Words → Bool → Why → Type 0
+IsNoteFor words missing note = (log_place words file.Log ≡ Some note.place) × (note.reason ≡ Missing) × (missing ≡ true)

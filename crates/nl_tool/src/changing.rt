@@ -1,39 +1,39 @@
 //! The words that change a log, over the folder of the real file LOG.
-ghost use Rattle.std.specs.Prelude.{◌≡◌, None, Some, IfErr, OnOk};
-ghost use Rattle.nl_tool_change.specs.Faults.{IsApplyFault, IsEntryFault, IsRecompactFault, IsRecordFault, IsRestatFault};
+ghost use Rattle.std.specs.Prelude.{◌⊎◌, ℕ, List, Option, IfErr, IsErrAnd, OnOk};
+ghost use Rattle.nl_folder.specs.FolderView.{FolderView, folder_view};
+ghost use Rattle.nl_tool_change.specs.Applying.{IsApplied};
+ghost use Rattle.nl_tool_change.specs.Calls.{ChangesLogFor, adding, hashed, keeping, keeping_all, touching};
+ghost use Rattle.nl_tool_change.specs.Faults.{IsApplyFault, IsEntryFault, IsFileFault, IsRecompactFault, IsRecordFault, IsRestatFault};
+ghost use Rattle.nl_tool_change.specs.Files.{keep_of, times_of};
 ghost use Rattle.nl_tool_change.specs.RecordWords.{GiveEntry};
+ghost use Rattle.nl_tool_change.specs.Updates.{AsSaid};
 ghost use Rattle.nl_tool.specs.Faults.{IsRepairFault};
-ghost use Rattle.nl_files.specs.FileFolder.{system_of};
-ghost use Rattle.nl_os.specs.OsSystem.{is_masked, unsynced_of};
 
 use crate::bad_lines::Explaining;
+use crate::desk::{Desk, close};
 use crate::files::{look_there, note_missing, open};
 use crate::notes::{NotedReader, NotedWriter, Notes};
-use crate::waiting::Waiting;
 use crate::wrong::LineKind;
 use nl_fields::EntryRef;
+use nl_folder::Folder;
 use nl_os::{DiskFolder, SystemFile};
 use nl_tool_change::{
     AskedFolder, apply_on, entry_of, recompact_on, record_command, repair_on, restat_on,
 };
 use nl_tool_texts::ToolFault;
-use nl_versions::LogVersion;
 use std::alloc::Global;
 use std::io::{self, Read};
 use std::rt::{Clock, Files, Runtime};
 
 // It refuses bad words before it asks anything of the log.
-pub fn record_in<R: Files + Clock + Eprint>(
-    rt: &R,
-    alloc: Global,
-    asked: Option<LogVersion>,
+pub fn record_in<R: Runtime>(
+    desk: &mut Desk<'_, R>,
     log: &str,
     start: &str,
     end: &str,
     mtime: &str,
     name: &str,
     command: &str,
-    notes: &mut Notes,
 ) -> Result<(), ToolFault>
 where
     R::File: SystemFile,
@@ -41,229 +41,178 @@ where
     ensures faults { IfErr result (IsEntryFault start.now end.now mtime.now name.now) }
 {
     let entry = entry_of(start, end, mtime, name)?;
-    note_missing(rt, log, notes);
-    let folder = DiskFolder::new(Waiting::new(rt, log, notes.looks), alloc, log)?;
-    record_log(alloc, asked, folder, entry, command, notes)
+    note_missing(desk, log);
+    let place = desk.log_at(log)?;
+    record_at(desk.alloc, place, entry, command, &mut desk.notes)
 }
 
-fn record_log<F: Files + Clock + Drop>(
+fn record_at<D: Files + Clock + Drop>(
     alloc: Global,
-    asked: Option<LogVersion>,
-    folder: DiskFolder<F>,
+    place: AskedFolder<DiskFolder<D>>,
     entry: EntryRef<'_>,
     command: &str,
     notes: &mut Notes,
 ) -> Result<(), ToolFault>
 where
-    F::File: SystemFile,
+    D::File: SystemFile,
+    ensures call { (left : FolderView)
+        × ChangesLogFor place.asked (λ version. adding (hashed entry.entry command.now version)) result
+        (folder_view ⟦<DiskFolder<D> as Folder>⟧ place.folder) left }
     ensures faults { IfErr result IsRecordFault }
 {
-    let (folder, answer) = record_command(
-        alloc,
-        notes.secret,
+    let AskedFolder {
+        secret,
         asked,
         folder,
-        entry,
-        command.as_bytes(),
-    );
-    note_folder(folder, answer, notes)
+    } = place;
+    let (folder, answer) = record_command(alloc, secret, asked, folder, entry, command.as_bytes());
+    close(folder, answer.err(), notes);
+    answer
 }
 
-pub fn recompact_in<R: Files + Clock + Eprint>(
-    rt: &R,
-    alloc: Global,
-    asked: Option<LogVersion>,
+pub fn recompact_in<R: Runtime>(
+    desk: &mut Desk<'_, R>,
     log: &str,
     keep: &str,
-    notes: &mut Notes,
 ) -> Result<(), ToolFault>
 where
     R::File: SystemFile,
     ensures faults { IfErr result IsRecompactFault }
 {
-    let names = open(rt, keep, notes)?;
-    notes.watch(LineKind::Keep);
-    note_missing(rt, log, notes);
-    recompact_log(
-        alloc,
-        asked,
-        DiskFolder::new(Waiting::new(rt, log, notes.looks), alloc, log)?,
-        names,
-        notes,
-    )
+    let names = open(desk, keep)?;
+    desk.notes.watch(LineKind::Keep);
+    note_missing(desk, log);
+    let place = desk.log_at(log)?;
+    recompact_at(desk.alloc, place, names, &mut desk.notes)
 }
 
-fn recompact_log<F: Files + Clock + Drop, R: Read + Drop>(
+fn recompact_at<D: Files + Clock + Drop, R: Read + Drop>(
     alloc: Global,
-    asked: Option<LogVersion>,
-    folder: DiskFolder<F>,
+    place: AskedFolder<DiskFolder<D>>,
     names: R,
     notes: &mut Notes,
 ) -> Result<(), ToolFault>
 where
-    F::File: SystemFile,
+    D::File: SystemFile,
+    ensures call { IsErrAnd result IsFileFault ⊎ ((left : FolderView) × AsSaid keep_of (R.remaining names)
+        (λ kept. ChangesLogFor place.asked (λ _. keeping kept) result (folder_view ⟦<DiskFolder<D> as Folder>⟧ place.folder) left)) }
     ensures faults { IfErr result IsRecompactFault }
 {
-    let place = AskedFolder {
-        secret: notes.secret,
-        asked,
-        folder,
-    };
     let names = NotedReader::new(names, &mut notes.heard);
     let (left, answer) = recompact_on(alloc, place, names);
-    note_folder(left.folder, answer, notes)
+    close(left.folder, answer.err(), notes);
+    answer
 }
 
-pub fn restat_in<R: Files + Clock + Eprint>(
-    rt: &R,
-    alloc: Global,
-    asked: Option<LogVersion>,
+pub fn restat_in<R: Runtime>(
+    desk: &mut Desk<'_, R>,
     log: &str,
     times: &str,
-    notes: &mut Notes,
 ) -> Result<(), ToolFault>
 where
     R::File: SystemFile,
     ensures faults { IfErr result IsRestatFault }
 {
-    let pairs = open(rt, times, notes)?;
-    notes.watch(LineKind::Times);
-    note_missing(rt, log, notes);
-    restat_log(
-        alloc,
-        asked,
-        DiskFolder::new(Waiting::new(rt, log, notes.looks), alloc, log)?,
-        pairs,
-        notes,
-    )
+    let pairs = open(desk, times)?;
+    desk.notes.watch(LineKind::Times);
+    note_missing(desk, log);
+    let place = desk.log_at(log)?;
+    restat_at(desk.alloc, place, pairs, &mut desk.notes)
 }
 
-fn restat_log<F: Files + Clock + Drop, R: Read + Drop>(
+fn restat_at<D: Files + Clock + Drop, R: Read + Drop>(
     alloc: Global,
-    asked: Option<LogVersion>,
-    folder: DiskFolder<F>,
+    place: AskedFolder<DiskFolder<D>>,
     pairs: R,
     notes: &mut Notes,
 ) -> Result<(), ToolFault>
 where
-    F::File: SystemFile,
+    D::File: SystemFile,
+    ensures call { IsErrAnd result IsFileFault ⊎ ((left : FolderView) × AsSaid times_of (R.remaining pairs)
+        (λ times. ChangesLogFor place.asked (λ _. touching times) result (folder_view ⟦<DiskFolder<D> as Folder>⟧ place.folder) left)) }
     ensures faults { IfErr result IsRestatFault }
 {
-    let place = AskedFolder {
-        secret: notes.secret,
-        asked,
-        folder,
-    };
     let pairs = NotedReader::new(pairs, &mut notes.heard);
     let (left, answer) = restat_on(alloc, place, pairs);
-    note_folder(left.folder, answer, notes)
+    close(left.folder, answer.err(), notes);
+    answer
 }
 
 pub fn apply_in<R: Runtime>(
-    rt: &R,
-    alloc: Global,
-    asked: Option<LogVersion>,
+    desk: &mut Desk<'_, R>,
     log: &str,
     script: Option<&str>,
-    notes: &mut Notes,
 ) -> Result<(), ToolFault>
 where
     R::File: SystemFile,
     ensures faults { IfErr result IsApplyFault }
 {
-    let Some(path) = script else {
-        let folder = DiskFolder::new(Waiting::new(rt, log, notes.looks), alloc, log)?;
-        let reader = Explaining::new(rt, alloc, None, notes.looks, rt.reader());
-        return apply_from(rt, alloc, asked, folder, reader, notes);
-    };
-    let lines = open(rt, path, notes)?;
-    let folder = DiskFolder::new(Waiting::new(rt, log, notes.looks), alloc, log)?;
-    let reader = Explaining::new(rt, alloc, Some(path), notes.looks, lines);
-    apply_from(rt, alloc, asked, folder, reader, notes)
+    let Desk { rt, alloc, .. } = *desk;
+    let looks = desk.notes.looks;
+    match script {
+        None => {
+            let place = desk.log_at(log)?;
+            let lines = Explaining::new(rt, alloc, None, looks, rt.reader());
+            apply_at(rt, alloc, place, lines, &mut desk.notes)
+        }
+        Some(path) => {
+            let lines = open(desk, path)?;
+            let place = desk.log_at(log)?;
+            let lines = Explaining::new(rt, alloc, Some(path), looks, lines);
+            apply_at(rt, alloc, place, lines, &mut desk.notes)
+        }
+    }
 }
 
-fn apply_from<P: Print, F: Files + Clock + Drop, R: Read + Drop>(
+fn apply_at<P: Print, D: Files + Clock + Drop, R: Read + Drop>(
     rt: &P,
     alloc: Global,
-    asked: Option<LogVersion>,
-    folder: DiskFolder<F>,
+    place: AskedFolder<DiskFolder<D>>,
     reader: R,
     notes: &mut Notes,
 ) -> Result<(), ToolFault>
 where
-    F::File: SystemFile,
+    D::File: SystemFile,
+    ensures call { (left : FolderView) × (before : Option (List ℕ)) × (after : Option (List ℕ))
+        × IsApplied place.asked (R.remaining reader) (folder_view ⟦<DiskFolder<D> as Folder>⟧ place.folder) left before after result }
     ensures faults { IfErr result IsApplyFault }
 {
     let mut out = NotedWriter::new(io::writer(rt));
-    let secret = notes.secret;
+    let AskedFolder {
+        secret,
+        asked,
+        folder,
+    } = place;
     let reader = NotedReader::new(reader, &mut notes.heard);
     let (folder, answer) = apply_on(alloc, secret, asked, folder, reader, &mut out);
     notes.written = out.failure;
-    note_folder(folder, answer, notes)
+    close(folder, answer.err(), notes);
+    answer
 }
 
-pub fn repair_in<R: Files + Clock + Eprint>(
-    rt: &R,
-    alloc: Global,
-    asked: Option<LogVersion>,
-    log: &str,
-    missing_ok: bool,
-    notes: &mut Notes,
-) -> Result<(), ToolFault>
+pub fn repair_in<R: Runtime>(desk: &mut Desk<'_, R>, log: &str) -> Result<(), ToolFault>
 where
     R::File: SystemFile,
     ensures faults { IfErr result IsRepairFault }
 {
-    look_there(rt, log, missing_ok, notes)?;
-    repair_log(
-        alloc,
-        asked,
-        DiskFolder::new(Waiting::new(rt, log, notes.looks), alloc, log)?,
-        notes,
-    )
+    let missing_ok = desk.missing_ok;
+    look_there(desk, log, missing_ok)?;
+    let place = desk.log_at(log)?;
+    repair_at(desk.alloc, place, &mut desk.notes)
 }
 
-fn repair_log<F: Files + Clock + Drop>(
+fn repair_at<D: Files + Clock + Drop>(
     alloc: Global,
-    asked: Option<LogVersion>,
-    folder: DiskFolder<F>,
+    place: AskedFolder<DiskFolder<D>>,
     notes: &mut Notes,
 ) -> Result<(), ToolFault>
 where
-    F::File: SystemFile,
+    D::File: SystemFile,
+    ensures call { (left : FolderView) × ChangesLogFor place.asked (λ _. keeping_all) result
+        (folder_view ⟦<DiskFolder<D> as Folder>⟧ place.folder) left }
     ensures faults { IfErr result IsRecordFault }
 {
-    let place = AskedFolder {
-        secret: notes.secret,
-        asked,
-        folder,
-    };
     let (left, answer) = repair_on(alloc, place);
-    note_folder(left.folder, answer, notes)
-}
-
-// If the file isn't taken for a log, its beginning is noted too, because the reason names it.
-pub fn note_folder<R: Files + Clock + Drop>(
-    folder: DiskFolder<R>,
-    answer: Result<(), ToolFault>,
-    notes: &mut Notes,
-) -> Result<(), ToolFault>
-where
-    R::File: SystemFile,
-    ensures same { result ≡ answer }
-    ensures kept { notes.new.folder ≡ folder.last_failure }
-    ensures unsynced { notes.new.unsynced ≡ unsynced_of (system_of folder.folder) }
-    ensures masked { notes.new.is_masked ≡ is_masked (system_of folder.folder) }
-{
-    let mut folder = folder;
-    notes.folder = folder.last_failure();
-    notes.unsynced = folder.unsynced_folder();
-    notes.is_masked = folder.is_masked();
-    match answer {
-        Err(ToolFault::OtherVersion | ToolFault::NotALog) if notes.looks => {
-            notes.look_at(&mut folder);
-        }
-        _ => {}
-    }
+    close(left.folder, answer.err(), notes);
     answer
 }

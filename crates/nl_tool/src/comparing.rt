@@ -10,7 +10,8 @@ ghost use Rattle.nl_versions.specs.VersionOf.{as_five};
 ghost use Rattle.nl_reports.specs.Compare.{are_comparable, compare_text, side_of};
 ghost use Rattle.nl_tool.specs.Reports.{IsLastOf, IsLeast, IsMost, laid_out, side_in};
 
-use crate::notes::{NotedWriter, Notes};
+use crate::desk::Desk;
+use crate::notes::NotedWriter;
 use crate::reading::log_bytes;
 use crate::reporting::{count_of, most_of, write_lines};
 use nl_builds::{Builds, LogBuilds, read_builds};
@@ -23,15 +24,11 @@ use std::io::{self, Write};
 use std::rt::Runtime;
 
 pub fn compare_in<R: Runtime>(
-    rt: &R,
-    alloc: Global,
-    columns: Option<usize>,
+    desk: &mut Desk<'_, R>,
     old: &str,
     new: &str,
     lines: Option<&str>,
     least: Option<&str>,
-    missing_ok: bool,
-    notes: &mut Notes,
 ) -> Result<(), ToolFault>
     ensures accepts { OnOk result ((most : ℕ) × IsMost lines.entry most) }
     ensures least { OnOk result ((ms : ℕ) × IsLeast least.entry ms) }
@@ -43,7 +40,7 @@ pub fn compare_in<R: Runtime>(
     let Some(ms) = least_of(least) else {
         return Err(ToolFault::BadNumber);
     };
-    compare_logs(rt, alloc, columns, most, ms, old, new, missing_ok, notes)
+    compare_logs(desk, most, ms, old, new)
 }
 
 pub fn least_of(least: Option<&str>) -> Option<usize>
@@ -58,28 +55,31 @@ pub fn least_of(least: Option<&str>) -> Option<usize>
 
 // Each log is closed before anything else is done.
 fn compare_logs<R: Runtime>(
-    rt: &R,
-    alloc: Global,
-    columns: Option<usize>,
+    desk: &mut Desk<'_, R>,
     most: usize,
     least: usize,
     old: &str,
     new: &str,
-    missing_ok: bool,
-    notes: &mut Notes,
 ) -> Result<(), ToolFault>
     ensures faults { IfErr result IsLogFault }
 {
-    let secret = notes.secret;
-    let old_text = log_bytes(rt, alloc, Some(old), missing_ok, notes)?;
+    let Desk {
+        rt,
+        alloc,
+        missing_ok,
+        columns,
+        ..
+    } = *desk;
+    let secret = desk.notes.secret;
+    let old_text = log_bytes(desk, Some(old), missing_ok)?;
     let old = last_of(alloc, secret, old_text.as_slice())?;
-    let is_missing = notes.is_missing;
-    notes.begin_second();
-    let new_text = log_bytes(rt, alloc, Some(new), missing_ok, notes)?;
+    let is_missing = desk.notes.is_missing;
+    desk.notes.begin(true);
+    let new_text = log_bytes(desk, Some(new), missing_ok)?;
     let new = last_of(alloc, secret, new_text.as_slice())?;
-    if is_missing && !notes.is_missing {
-        notes.is_missing = true;
-        notes.is_second = false;
+    if is_missing && !desk.notes.is_missing {
+        desk.notes.is_missing = true;
+        desk.notes.is_second = false;
     }
     let mut out = NotedWriter::new(io::writer(rt));
     let answer = compare_to(
@@ -92,7 +92,7 @@ fn compare_logs<R: Runtime>(
         &new,
         &mut out,
     );
-    notes.written = out.failure;
+    desk.notes.written = out.failure;
     answer
 }
 

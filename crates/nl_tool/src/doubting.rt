@@ -10,7 +10,8 @@ ghost use Rattle.nl_table.specs.Log.{NotALog, OtherVersion, log_of};
 ghost use Rattle.nl_tool_texts.specs.declared.fault.ToolFault.{ToolFault};
 ghost use Rattle.nl_tool.specs.declared.program.Verdict.{Verdict};
 
-use crate::notes::{NotedWriter, Notes};
+use crate::desk::Desk;
+use crate::notes::NotedWriter;
 use crate::program::Verdict;
 use crate::reading::log_bytes;
 use nl_table::Secret;
@@ -67,19 +68,16 @@ fn time_of(seconds: i64, nanoseconds: i64) -> i64 {
     }
 }
 
-pub fn doubt_in<R: Runtime>(
-    rt: &R,
-    alloc: Global,
-    log: Option<&str>,
-    notes: &mut Notes,
-) -> Result<Verdict, ToolFault>
+pub fn doubt_in<R: Runtime>(desk: &mut Desk<'_, R>, log: Option<&str>) -> Result<Verdict, ToolFault>
     ensures faults { IfErr result IsLogFault }
 {
-    let bytes = log_bytes(rt, alloc, log, false, notes)?;
+    let bytes = log_bytes(desk, log, false)?;
+    let Desk { rt, alloc, .. } = *desk;
     let mut out = NotedWriter::new(io::writer(rt));
     let files = SystemFiles { rt };
-    let answer = tell_doubts(alloc, notes.secret, bytes.as_slice(), &files, &mut out);
-    notes.written = out.failure;
+    let secret = desk.notes.secret;
+    let answer = tell_doubts(alloc, secret, bytes.as_slice(), &files, &mut out);
+    desk.notes.written = out.failure;
     answer
 }
 

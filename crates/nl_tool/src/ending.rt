@@ -6,11 +6,12 @@ ghost use Rattle.clap.specs.Words.{kind_of};
 ghost use Rattle.nl_tool.specs.Ending.{status_after, IsStatusBy, IsStatusOfKind};
 ghost use Rattle.nl_tool_words.specs.CommandLine.{entered_of, fault_in};
 
+use crate::desk::Desk;
 use crate::meant::{log_here, meant};
 use crate::notes::Notes;
-use crate::program::{Verdict, run_with_notes};
+use crate::program::{Verdict, run_at};
 use crate::reason::{
-    Refusal, again_note, masked_note, note_of, reads_input, refusal_of, unsynced_note,
+    Refusal, Why, again_note, masked_note, note_of, reads_input, refusal_of, unsynced_note,
 };
 use crate::screen::Screen;
 use clap::Error;
@@ -67,9 +68,10 @@ where
             };
             say_reads(rt, &line.words, screen);
             let looks = line.verbose || screen.errors;
-            let mut notes = Notes::new(alloc, looks, screen, secret);
-            let answer = run_with_notes(rt, alloc, &line, &mut notes);
-            end(rt, alloc, &line, answer, &notes)
+            let notes = Notes::new(alloc, looks, screen, secret);
+            let mut desk = Desk::of(rt, alloc, &line, notes);
+            let answer = run_at(&mut desk, &line);
+            end(rt, alloc, &line, answer, &desk.notes)
         }
         Err(error) => explain(rt, line, &error),
     }
@@ -119,17 +121,15 @@ fn end(
 // Says of a command that was done that its log was missing, that its folder can't be synced, and that an access control list may be
 // gone, where that is asked for; and that the log was written anew by whose builds it went.
 fn say_notes(rt: &impl Eprint, alloc: Global, line: &CommandLine<'_>, notes: &Notes) {
-    if let Some(log) = again_note(line, notes) {
-        let _ = eprintln!(rt; "nlog: {log}");
-    }
-    if let Some(missing) = note_of(line, notes) {
-        let _ = eprintln!(rt; "nlog: {missing}");
-    }
-    if let Some(unsynced) = unsynced_note(alloc, line, notes) {
-        let _ = eprintln!(rt; "nlog: {unsynced}");
-    }
-    if let Some(masked) = masked_note(line, notes) {
-        let _ = eprintln!(rt; "nlog: {masked}");
+    say_note(rt, again_note(line, notes));
+    say_note(rt, note_of(line, notes));
+    say_note(rt, unsynced_note(alloc, line, notes));
+    say_note(rt, masked_note(line, notes));
+}
+
+fn say_note(rt: &impl Eprint, note: Option<Why<'_>>) {
+    if let Some(why) = note {
+        let _ = eprintln!(rt; "nlog: {why}");
     }
 }
 

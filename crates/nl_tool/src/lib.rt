@@ -4,6 +4,7 @@
 mod bad_lines;
 mod changing;
 mod comparing;
+mod desk;
 mod doubting;
 mod ending;
 mod files;
@@ -25,6 +26,7 @@ mod waiting;
 mod watch;
 mod wrong;
 
+pub use desk::{Desk, LogAt};
 pub use ending::{run_line, run_program};
 pub use looks::{Look, look_of, start_of};
 pub use nl_os::DiskFolder;
@@ -42,9 +44,9 @@ pub use nl_tool_texts::{ToolFault, status_of};
 pub use nl_tool_words::{AskedVersion, Changing, Choices, CommandLine, Reading, Words, read_words};
 pub use nl_versions::{FirstLine, LogVersion, command_hash_in, first_line_in, version_of};
 pub use notes::{Beginning, Heard, NotedReader, NotedWriter, Notes};
-pub use program::{Verdict, run, run_with_notes};
+pub use program::{Verdict, run, run_at};
 pub use progress::Telling;
-pub use reason::{Missing, Place, Reason, Refusal, Why, note_of, refusal_of};
+pub use reason::{Place, Reason, Refusal, Why, note_of, refusal_of};
 pub use screen::{NO_SCREEN, Screen};
 pub use version_choice::number_of;
 pub use waiting::Waiting;

@@ -7,15 +7,17 @@
 //!
 //! The lock on LOG is held from the first step on.
 ghost use Rattle.std.specs.Prelude.{◌≡◌, IfErr, None};
-ghost use Rattle.nl_tool_doubt.specs.Mending.{IsMendFault};
+ghost use Rattle.nl_folder.specs.FolderView.{FolderView, folder_view};
+ghost use Rattle.nl_tool_doubt.specs.Mending.{IsMendFault, MendsFolder};
 
-use crate::changing::note_folder;
+use crate::desk::{Desk, close};
 use crate::doubting::SystemFiles;
 use crate::files::look_there;
 use crate::notes::{NotedWriter, Notes};
 use crate::program::Verdict;
-use crate::waiting::Waiting;
+use nl_folder::Folder;
 use nl_os::{DiskFolder, Failure, FileRole, SystemFile};
+use nl_tool_change::AskedFolder;
 use nl_tool_doubt::{FileState, How, Mended, OutputFiles, mend_to};
 use nl_tool_texts::ToolFault;
 use std::alloc::{AllocError, Global};
@@ -58,41 +60,37 @@ fn path_in(alloc: Global, folder: &str, name: &[u8]) -> Result<Vec<u8>, AllocErr
 
 /// Without a path, LOG is the `.ninja_log` of the build's folder.
 pub fn mend_in<R: Runtime>(
-    rt: &R,
-    alloc: Global,
+    desk: &mut Desk<'_, R>,
     log: Option<&str>,
     folder: Option<&str>,
     how: How,
-    notes: &mut Notes,
 ) -> Result<Verdict, ToolFault>
 where
     R::File: SystemFile,
     ensures faults { IfErr result IsMendFault }
 {
-    look_in(rt, folder, notes)?;
-    if let Some(path) = log {
-        return mend_at(rt, alloc, path, folder, how, notes);
-    }
-    match folder {
-        Some(folder) => {
-            let path = format!(in alloc; "{folder}/.ninja_log")?;
-            mend_at(rt, alloc, path.as_str(), Some(folder), how, notes)
+    look_in(desk, folder)?;
+    match (log, folder) {
+        (Some(path), _) => mend_log(desk, path, folder, how),
+        (None, Some(folder)) => {
+            let path = format!(in desk.alloc; "{folder}/.ninja_log")?;
+            mend_log(desk, path.as_str(), Some(folder), how)
         }
-        None => mend_at(rt, alloc, ".ninja_log", None, how, notes),
+        (None, None) => mend_log(desk, ".ninja_log", None, how),
     }
 }
 
 // It refuses a missing folder, because the log that is missing with it would be taken for a whole one.
-fn look_in<R: Files>(rt: &R, folder: Option<&str>, notes: &mut Notes) -> Result<(), ToolFault>
+fn look_in<R: Files>(desk: &mut Desk<'_, R>, folder: Option<&str>) -> Result<(), ToolFault>
     ensures faults { IfErr result (λ e. e ≡ ToolFault.Read) }
 {
     let Some(path) = folder else {
         return Ok(());
     };
-    match fs::metadata(rt, path) {
+    match fs::metadata(desk.rt, path) {
         Ok(_) => Ok(()),
         Err(error) => {
-            notes.folder = Some(Failure {
+            desk.notes.folder = Some(Failure {
                 file: FileRole::Folder,
                 error,
             });
@@ -102,37 +100,30 @@ fn look_in<R: Files>(rt: &R, folder: Option<&str>, notes: &mut Notes) -> Result<
 }
 
 // A missing log needs no mending.
-fn mend_at<R: Runtime>(
-    rt: &R,
-    alloc: Global,
+fn mend_log<R: Runtime>(
+    desk: &mut Desk<'_, R>,
     log: &str,
     folder: Option<&str>,
     how: How,
-    notes: &mut Notes,
 ) -> Result<Verdict, ToolFault>
 where
     R::File: SystemFile,
     ensures faults { IfErr result IsMendFault }
 {
-    look_there(rt, log, true, notes)?;
-    if notes.is_missing {
+    look_there(desk, log, true)?;
+    if desk.notes.is_missing {
         return Ok(Verdict::Done);
     }
+    let Desk { rt, alloc, .. } = *desk;
     let files = BuildFiles {
         files: SystemFiles { rt },
         folder,
         alloc,
     };
+    let place = desk.log_at(log)?;
     let mut out = NotedWriter::new(io::writer(rt));
-    let answer = mend_over(
-        alloc,
-        DiskFolder::new(Waiting::new(rt, log, notes.looks), alloc, log)?,
-        &files,
-        how,
-        &mut out,
-        notes,
-    );
-    notes.written = out.failure;
+    let answer = mend_at(alloc, place, &files, how, &mut out, &mut desk.notes);
+    desk.notes.written = out.failure;
     let mended = answer?;
     tell_few(rt, log, mended);
     if mended.is_told {
@@ -149,27 +140,22 @@ fn tell_few(rt: &impl Eprint, log: &str, mended: Mended) {
     }
 }
 
-fn mend_over<D: Files + Clock + Drop, F: OutputFiles, W: Write>(
+fn mend_at<D: Files + Clock + Drop, O: OutputFiles, W: Write>(
     alloc: Global,
-    folder: DiskFolder<D>,
-    files: &F,
+    place: AskedFolder<DiskFolder<D>>,
+    files: &O,
     how: How,
     writer: &mut W,
     notes: &mut Notes,
 ) -> Result<Mended, ToolFault>
 where
     D::File: SystemFile,
+    ensures call { (left : FolderView) × MendsFolder (O.states files.now) how
+        (W.contents writer.old) (W.contents writer.new) result (folder_view ⟦<DiskFolder<D> as Folder>⟧ place.folder) left }
     ensures faults { IfErr result IsMendFault }
 {
-    let (left, answer) = mend_to(alloc, notes.secret, folder, files, how, writer);
-    match answer {
-        Ok(mended) => {
-            note_folder(left, Ok(()), notes)?;
-            Ok(mended)
-        }
-        Err(fault) => {
-            note_folder(left, Err(fault), notes)?;
-            Err(fault)
-        }
-    }
+    let AskedFolder { secret, folder, .. } = place;
+    let (left, answer) = mend_to(alloc, secret, folder, files, how, writer);
+    close(left, answer.err(), notes);
+    answer
 }

@@ -88,13 +88,13 @@ impl Notes {
         }
     }
 
-    /// What is read next is the second of two logs.
-    pub fn begin_second(&mut self)
-        ensures second { self.new.is_second ≡ true }
+    /// Of what is read next it is kept whether it is the second of two files.
+    pub fn begin(&mut self, is_second: bool)
+        ensures second { self.new.is_second ≡ is_second }
         ensures anew { self.new.is_missing ≡ false }
         ensures kept { self.new.folder ≡ self.old.folder }
     {
-        self.is_second = true;
+        self.is_second = is_second;
         self.is_missing = false;
         self.heard.beginning.bytes.clear();
         self.heard.beginning.goes_on = self.looks;

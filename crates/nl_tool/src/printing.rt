@@ -12,8 +12,9 @@ ghost use Rattle.nl_tool_texts.specs.declared.fault.ToolFault.{ToolFault};
 ghost use Rattle.nl_tool.specs.Answers.{IsAnswer, RefusesLog};
 ghost use Rattle.nl_tool.specs.Faults.{IsPrintingFault, IsReadingFault};
 
+use crate::desk::Desk;
 use crate::files::{open, open_log};
-use crate::notes::{NotedReader, NotedWriter, Notes};
+use crate::notes::{NotedReader, NotedWriter};
 use crate::program::Verdict;
 use crate::progress::Telling;
 use nl_table::Secret;
@@ -43,41 +44,37 @@ pub enum Streaming {
 }
 
 pub fn stream_log<R: Runtime>(
-    rt: &R,
-    alloc: Global,
+    desk: &mut Desk<'_, R>,
     streaming: Streaming,
     log: Option<&str>,
     missing_ok: bool,
-    notes: &mut Notes,
 ) -> Result<Verdict, ToolFault>
     ensures faults { IfErr result IsLogFault }
     ensures outcome { IfOk result
         (λ outcome. outcome ≡ Verdict.Found → streaming ≡ Streaming.Damage) }
 {
     let Some(path) = log else {
-        return stream_from(rt, alloc, streaming, rt.reader(), notes);
+        return stream_from(desk, streaming, desk.rt.reader());
     };
-    match open_log(rt, path, missing_ok, notes)? {
-        Some(file) => stream_from(rt, alloc, streaming, file, notes),
-        None => stream_from(rt, alloc, streaming, io::empty(), notes),
+    match open_log(desk, path, missing_ok)? {
+        Some(file) => stream_from(desk, streaming, file),
+        None => stream_from(desk, streaming, io::empty()),
     }
 }
 
 fn stream_from<P: Print, R: Read + Drop>(
-    rt: &P,
-    alloc: Global,
+    desk: &mut Desk<'_, P>,
     streaming: Streaming,
     reader: R,
-    notes: &mut Notes,
 ) -> Result<Verdict, ToolFault>
     ensures faults { IfErr result IsLogFault }
     ensures outcome { IfOk result
         (λ outcome. outcome ≡ Verdict.Found → streaming ≡ Streaming.Damage) }
 {
-    let mut out = NotedWriter::new(io::writer(rt));
-    let reader = NotedReader::new(reader, &mut notes.heard);
-    let answer = stream_of(alloc, streaming, reader, &mut out);
-    notes.written = out.failure;
+    let mut out = NotedWriter::new(io::writer(desk.rt));
+    let reader = NotedReader::new(reader, &mut desk.notes.heard);
+    let answer = stream_of(desk.alloc, streaming, reader, &mut out);
+    desk.notes.written = out.failure;
     answer
 }
 
@@ -127,57 +124,55 @@ fn tell_damage<R: Read + Drop, W: Write>(
 
 // A log that is missing is taken for an empty one.
 pub fn print_log<R: Runtime>(
-    rt: &R,
-    alloc: Global,
+    desk: &mut Desk<'_, R>,
     printing: Printing<'_>,
-    asked: Option<LogVersion>,
     log: Option<&str>,
-    notes: &mut Notes,
 ) -> Result<(), ToolFault>
     ensures faults { IfErr result (IsReadingFault printing.entry) }
 {
     let Some(path) = log else {
-        return print_from(rt, alloc, printing, asked, rt.reader(), notes);
+        return print_from(desk, printing, desk.rt.reader());
     };
-    match open_log(rt, path, true, notes)? {
-        Some(file) => print_from(rt, alloc, printing, asked, file, notes),
-        None => print_from(rt, alloc, printing, asked, io::empty(), notes),
+    match open_log(desk, path, true)? {
+        Some(file) => print_from(desk, printing, file),
+        None => print_from(desk, printing, io::empty()),
     }
 }
 
 pub fn print_file<R: Runtime>(
-    rt: &R,
-    alloc: Global,
+    desk: &mut Desk<'_, R>,
     printing: Printing<'_>,
-    asked: Option<LogVersion>,
     file: Option<&str>,
-    notes: &mut Notes,
 ) -> Result<(), ToolFault>
     ensures faults { IfErr result (IsReadingFault printing.entry) }
 {
     let Some(path) = file else {
-        return print_from(rt, alloc, printing, asked, rt.reader(), notes);
+        return print_from(desk, printing, desk.rt.reader());
     };
-    let file = open(rt, path, notes)?;
-    print_from(rt, alloc, printing, asked, file, notes)
+    let file = open(desk, path)?;
+    print_from(desk, printing, file)
 }
 
 pub fn print_from<P: Print + Eprint + Clock, R: Read + Drop>(
-    rt: &P,
-    alloc: Global,
+    desk: &mut Desk<'_, P>,
     printing: Printing<'_>,
-    asked: Option<LogVersion>,
     reader: R,
-    notes: &mut Notes,
 ) -> Result<(), ToolFault>
-    ensures bytes { RefusesLog (log_for asked) (R.remaining reader) result }
+    ensures bytes { RefusesLog (log_for desk.old.asked) (R.remaining reader) result }
     ensures faults { IfErr result (IsPrintingFault printing.entry) }
 {
+    let Desk {
+        rt,
+        alloc,
+        asked,
+        ..
+    } = *desk;
     let mut out = NotedWriter::new(io::writer(rt));
-    let reader = Telling::new(rt, notes.screen.errors, reader);
-    let reader = NotedReader::new(reader, &mut notes.heard);
-    let answer = print_to(alloc, notes.secret, printing, asked, reader, &mut out);
-    notes.written = out.failure;
+    let reader = Telling::new(rt, desk.notes.screen.errors, reader);
+    let secret = desk.notes.secret;
+    let reader = NotedReader::new(reader, &mut desk.notes.heard);
+    let answer = print_to(alloc, secret, printing, asked, reader, &mut out);
+    desk.notes.written = out.failure;
     answer
 }
 

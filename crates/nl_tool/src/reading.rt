@@ -6,14 +6,15 @@ ghost use Rattle.nl_tool_texts.specs.Files.{OfBytes};
 ghost use Rattle.nl_tool_texts.specs.declared.fault.ToolFault.{ToolFault};
 ghost use Rattle.nl_versions.specs.VersionOf.{as_five};
 
+use crate::desk::Desk;
 use crate::files::{open, open_log};
-use crate::notes::{NotedReader, Notes};
+use crate::notes::NotedReader;
 use crate::progress::Telling;
 use nl_builds::may_be_log;
 use nl_tool_texts::ToolFault;
 use std::alloc::Global;
 use std::io::Read;
-use std::rt::Runtime;
+use std::rt::{Clock, Runtime};
 
 // Bytes of one read.
 const PIECE: usize = 65_536;
@@ -43,43 +44,41 @@ fn read_bytes<R: Read + Drop>(alloc: Global, is_log: bool, reader: R) -> Result<
 }
 
 pub fn log_bytes<R: Runtime>(
-    rt: &R,
-    alloc: Global,
+    desk: &mut Desk<'_, R>,
     log: Option<&str>,
     missing_ok: bool,
-    notes: &mut Notes,
 ) -> Result<Vec<u8>, ToolFault>
     ensures faults { IfErr result IsLogFault }
 {
-    let tells = notes.screen.errors;
     let Some(path) = log else {
-        let reader = Telling::new(rt, tells, rt.reader());
-        return read_bytes(alloc, true, NotedReader::new(reader, &mut notes.heard));
+        return bytes_from(desk, true, desk.rt.reader());
     };
-    match open_log(rt, path, missing_ok, notes)? {
-        Some(file) => {
-            let reader = Telling::new(rt, tells, file);
-            read_bytes(alloc, true, NotedReader::new(reader, &mut notes.heard))
-        }
-        None => Ok(Vec::new(alloc)),
+    match open_log(desk, path, missing_ok)? {
+        Some(file) => bytes_from(desk, true, file),
+        None => Ok(Vec::new(desk.alloc)),
     }
 }
 
-pub fn graph_bytes<R: Runtime>(
-    rt: &R,
-    alloc: Global,
-    path: &str,
-    notes: &mut Notes,
+// It says how far a log is read, where that takes long.
+fn bytes_from<P: Eprint + Clock, R: Read + Drop>(
+    desk: &mut Desk<'_, P>,
+    is_log: bool,
+    reader: R,
 ) -> Result<Vec<u8>, ToolFault>
+    ensures value { IfOk result (λ all. OfBytes (R.remaining reader) (λ bytes. bytes ≡ all.items)) }
+    ensures faults { IfErr result IsLogFault }
+{
+    let reader = Telling::new(desk.rt, is_log && desk.notes.screen.errors, reader);
+    let reader = NotedReader::new(reader, &mut desk.notes.heard);
+    read_bytes(desk.alloc, is_log, reader)
+}
+
+pub fn graph_bytes<R: Runtime>(desk: &mut Desk<'_, R>, path: &str) -> Result<Vec<u8>, ToolFault>
     ensures faults { IfErr result IsLogFault }
 {
     if path == "-" {
-        return read_bytes(
-            alloc,
-            false,
-            NotedReader::new(rt.reader(), &mut notes.heard),
-        );
+        return bytes_from(desk, false, desk.rt.reader());
     }
-    let file = open(rt, path, notes)?;
-    read_bytes(alloc, false, NotedReader::new(file, &mut notes.heard))
+    let file = open(desk, path)?;
+    bytes_from(desk, false, file)
 }

@@ -4,9 +4,10 @@ ghost use Rattle.std.specs.Int.{w32, w64};
 ghost use Rattle.nl_os.specs.declared.failed_call.FileRole.{FileRole};
 ghost use Rattle.nl_tool_texts.specs.declared.fault.ToolFault.{ToolFault};
 ghost use Rattle.nl_tool.specs.declared.reason.Place.{Place};
+ghost use Rattle.nl_tool.specs.declared.reason.Reason.{Reason};
 ghost use Rattle.nl_tool.specs.Looks.{look_of};
 ghost use Rattle.nl_tool.specs.Reports.{AreCounts};
-ghost use Rattle.nl_tool.specs.Reasons.{change_place, with_graph, IsBadNumberOf, IsBadOption, IsBadRule, IsByteAt, IsEarly, IsFirstBad, IsLongNameOf, IsLookAt, IsMasked, IsNegative, IsNoteFor, IsNumber, IsNumberFault, IsReasonFor, IsSystem, IsUnsynced, IsVersion, again_text, file_place, graph_file, heard_of, is_input, log_place, mended_place, missing_text, place_text, read_place, reads_input, reason_text, refusal_text, why_text, words_for, words_heard};
+ghost use Rattle.nl_tool.specs.Reasons.{change_place, with_graph, IsBadNumberOf, IsBadOption, IsBadRule, IsByteAt, IsEarly, IsFirstBad, IsLongNameOf, IsLookAt, IsMasked, IsNegative, IsNoteFor, IsNumber, IsNumberFault, IsReasonFor, IsSystem, IsUnsynced, IsVersion, file_place, graph_file, heard_of, is_input, log_place, mended_place, place_text, read_place, reads_input, reason_text, refusal_text, why_text, words_for, words_heard};
 
 use crate::comparing::least_of;
 use crate::looks::{Look, escaped_of, look_of, start_of};
@@ -111,6 +112,10 @@ pub enum Reason {
     Unsynced(String),
     /// That a log which was written anew may have lost an access control list.
     Masked,
+    /// That the log is missing over which a command was done.
+    Missing,
+    /// That builds were found again of which a command told, since the log was written anew.
+    Again,
     /// The number of a bad line, from 1, and what is wrong with it, where that is known.
     Line(u64, Option<LineFault>),
     /// The number of the line with a negative time, from 1.
@@ -150,6 +155,11 @@ impl fmt::Display for Reason {
             Reason::Masked => write!(
                 f,
                 "it keeps no access control list; if it had one, its group has the rights of the mask"
+            ),
+            Reason::Missing => write!(f, "it is missing, and was read as empty"),
+            Reason::Again => write!(
+                f,
+                "it was written anew, so builds were found again by their time stamps"
             ),
             Reason::Line(number, None) => write!(f, "line {number}"),
             Reason::Line(number, Some(fault)) => write!(f, "line {number}: {fault}"),
@@ -207,23 +217,8 @@ impl fmt::Display for Refusal<'_> {
     }
 }
 
-/// That the log is missing over which a command was done.
-#[derive(Clone, Copy, Debug, PartialEq, Eq, Drop)]
-pub struct Missing<'a> {
-    pub place: Place<'a>,
-}
-
-impl fmt::Display for Missing<'_> {
-    ghost output = { λ missing. Some (missing_text missing.place) };
-
-    fn fmt<W: fmt::Write>(&self, f: &mut fmt::Formatter<W>) -> fmt::Result {
-        let Missing { place } = self;
-        write!(f, "{place}: it is missing, and was read as empty")
-    }
-}
-
 /// What is said of a command that was done: that the log was missing, where the command line asks for more.
-pub fn note_of<'a>(line: &CommandLine<'a>, notes: &Notes) -> Option<Missing<'a>>
+pub fn note_of<'a>(line: &CommandLine<'a>, notes: &Notes) -> Option<Why<'a>>
     ensures quiet { line.now.verbose ≡ false → result ≡ None }
     ensures note { IfSome result
         (IsNoteFor (words_heard line.now.words notes.now.is_second) notes.now.is_missing) }
@@ -234,45 +229,25 @@ pub fn note_of<'a>(line: &CommandLine<'a>, notes: &Notes) -> Option<Missing<'a>>
     if !line.verbose || !notes.is_missing {
         return None;
     }
-    match log_place(&words_heard(&line.words, notes.is_second), FileRole::Log) {
-        Some(place) => Some(Missing { place }),
-        None => None,
-    }
-}
-
-/// That builds were found again of which a command told, since the log was written anew.
-#[derive(Clone, Copy, Drop)]
-pub struct FoundAgain<'a> {
-    pub place: Place<'a>,
-}
-
-impl fmt::Display for FoundAgain<'_> {
-    ghost output = { λ log. Some (again_text log.place) };
-
-    fn fmt<W: fmt::Write>(&self, f: &mut fmt::Formatter<W>) -> fmt::Result {
-        let FoundAgain { place } = self;
-        write!(
-            f,
-            "{place}: it was written anew, so builds were found again by their time stamps"
-        )
-    }
+    let place = log_place(&words_heard(&line.words, notes.is_second), FileRole::Log)?;
+    let reason = Reason::Missing;
+    Some(Why { place, reason })
 }
 
 /// What is said of a command that was done: that builds were found again of which it told.
-pub fn again_note<'a>(line: &CommandLine<'a>, notes: &Notes) -> Option<FoundAgain<'a>>
+pub fn again_note<'a>(line: &CommandLine<'a>, notes: &Notes) -> Option<Why<'a>>
     ensures none { notes.now.is_again ≡ false → result ≡ None }
     ensures note { IfSome result
-        (λ log. log_place line.now.words FileRole.Log ≡ Some log.place) }
+        (λ why. (log_place line.now.words FileRole.Log ≡ Some why.place) × (why.reason ≡ Reason.Again)) }
     ensures whenever { notes.now.is_again ≡ true → IsSome (log_place line.now.words FileRole.Log)
         → IsSome result }
 {
     if !notes.is_again {
         return None;
     }
-    match log_place(&line.words, FileRole::Log) {
-        Some(place) => Some(FoundAgain { place }),
-        None => None,
-    }
+    let place = log_place(&line.words, FileRole::Log)?;
+    let reason = Reason::Again;
+    Some(Why { place, reason })
 }
 
 /// What is said of a command that was done in a folder which can't be synced, where the command line asks for more.
@@ -306,13 +281,9 @@ pub fn masked_note<'a>(line: &CommandLine<'a>, notes: &Notes) -> Option<Why<'a>>
     if !line.verbose || !notes.is_masked {
         return None;
     }
-    match log_place(&line.words, FileRole::Log) {
-        Some(place) => Some(Why {
-            place,
-            reason: Reason::Masked,
-        }),
-        None => None,
-    }
+    let place = log_place(&line.words, FileRole::Log)?;
+    let reason = Reason::Masked;
+    Some(Why { place, reason })
 }
 
 /// What is said of a fault of a command: its reason, where it is known, if the command line asks for it, or a person reads it.

@@ -14,7 +14,8 @@ ghost use Rattle.nl_tool.specs.Faults.{IsBuildFault, IsPathFault, IsPictureFault
 ghost use Rattle.nl_tool_print.specs.Faults.{IsLogFault};
 ghost use Rattle.nl_tool.specs.Reports.{AreBuilds, AreCounts, ArePositive, IsBuild, IsFound, IsLaidOut, IsMost, IsReport, IsReportOf, IsScope, IsSummary, PrintsReport, asked_told, laid_out, rule_of, waiting};
 
-use crate::notes::{NotedWriter, Notes};
+use crate::desk::Desk;
+use crate::notes::NotedWriter;
 use crate::reading::{graph_bytes, log_bytes};
 use jiff_tz::{SystemTimeZone, TimeZone, TimeZoneDatabase};
 use nl_builds::{Builds, LogBuilds, Stamps, read_builds};
@@ -26,6 +27,7 @@ use nl_reports::{
 };
 use nl_table::Secret;
 use nl_tool_texts::{ToolFault, write_out};
+use nl_tool_words::Choices;
 use std::alloc::{AllocError, Global};
 use std::io::{self, Write};
 use std::rt::Runtime;
@@ -51,83 +53,59 @@ pub enum Report<'g, 't> {
 }
 
 pub fn summary_in<R: Runtime>(
-    rt: &R,
-    alloc: Global,
-    columns: Option<usize>,
+    desk: &mut Desk<'_, R>,
     log: Option<&str>,
-    all: bool,
-    build: Option<&str>,
-    kind: Option<&str>,
-    lines: Option<&str>,
-    graph: Option<&str>,
-    jobs: Option<&str>,
-    missing_ok: bool,
-    notes: &mut Notes,
+    choices: Choices<'_>,
 ) -> Result<(), ToolFault>
-    ensures scope { OnOk result ((scope : Scope) × IsScope all build.entry scope) }
-    ensures accepts { OnOk result ((most : ℕ) × IsMost lines.entry most) }
-    ensures counts { OnOk result ((counts : List ℕ) × AreCounts jobs.entry counts) }
-    ensures faults { IfErr result (IsSummaryFault all build.entry lines.entry graph.entry jobs.entry) }
+    ensures scope { OnOk result ((scope : Scope) × IsScope choices.entry.all choices.entry.build scope) }
+    ensures accepts { OnOk result ((most : ℕ) × IsMost choices.entry.lines most) }
+    ensures counts { OnOk result ((counts : List ℕ) × AreCounts choices.entry.jobs counts) }
+    ensures faults { IfErr result (IsSummaryFault choices.entry.all choices.entry.build choices.entry.lines
+        choices.entry.graph choices.entry.jobs) }
 {
-    let Some(most) = most_of(lines) else {
+    let Some(most) = most_of(choices.lines) else {
         return Err(ToolFault::BadNumber);
     };
-    let Some(scope) = scope_of(all, build) else {
+    let Some(scope) = scope_of(choices.all, choices.build) else {
         return Err(ToolFault::BadNumber);
     };
-    let Some(counts) = counts_of(alloc, jobs)? else {
+    let Some(counts) = counts_of(desk.alloc, choices.jobs)? else {
         return Err(ToolFault::BadNumber);
     };
     let lists = Lists {
-        screen: columns.is_some(),
+        screen: desk.columns.is_some(),
         most,
-        rule: rule_of(kind),
-        secret: notes.secret,
+        rule: rule_of(choices.kind),
+        secret: desk.notes.secret,
     };
-    match graph {
-        Some(path) => summary_with(
-            rt,
-            alloc,
-            columns,
-            scope,
-            lists,
-            path,
-            counts.as_slice(),
-            log,
-            missing_ok,
-            notes,
-        ),
+    match choices.graph {
+        Some(path) => summary_with(desk, scope, lists, path, counts.as_slice(), log),
         None => {
             let report = Report::Summary {
                 scope,
                 lists,
                 graph: None,
             };
-            report_in(rt, alloc, columns, report, log, missing_ok, notes)
+            report_in(desk, report, log)
         }
     }
 }
 
 // Reads the graph, and then the log.
 fn summary_with<R: Runtime>(
-    rt: &R,
-    alloc: Global,
-    columns: Option<usize>,
+    desk: &mut Desk<'_, R>,
     scope: Scope,
     lists: Lists,
     path: &str,
     counts: &[usize],
     log: Option<&str>,
-    missing_ok: bool,
-    notes: &mut Notes,
 ) -> Result<(), ToolFault>
     ensures faults { IfErr result IsPathFault }
 {
-    notes.begin_second();
-    let text = graph_bytes(rt, alloc, path, notes)?;
-    let graph = read_graph(alloc, notes.secret, text.as_slice())?;
-    notes.begin_second();
-    notes.is_second = false;
+    desk.notes.begin(true);
+    let text = graph_bytes(desk, path)?;
+    let graph = read_graph(desk.alloc, desk.notes.secret, text.as_slice())?;
+    desk.notes.begin(false);
     let report = Report::Summary {
         scope,
         lists,
@@ -138,106 +116,80 @@ fn summary_with<R: Runtime>(
             most: lists.most,
         }),
     };
-    report_in(rt, alloc, columns, report, log, missing_ok, notes)
+    report_in(desk, report, log)
 }
 
 /// By the time zone of the system, or else by UTC.
-pub fn builds_in<R: Runtime>(
-    rt: &R,
-    alloc: Global,
-    columns: Option<usize>,
-    log: Option<&str>,
-    missing_ok: bool,
-    notes: &mut Notes,
-) -> Result<(), ToolFault>
+pub fn builds_in<R: Runtime>(desk: &mut Desk<'_, R>, log: Option<&str>) -> Result<(), ToolFault>
     ensures faults { IfErr result IsLogFault }
 {
+    let Desk {
+        rt,
+        alloc,
+        columns,
+        ..
+    } = *desk;
     let zones = TimeZoneDatabase::new(alloc);
     if columns.is_some() {
         if let Ok(system) = SystemTimeZone::read(&(rt, alloc)) {
             if let Ok(zone) = system.time_zone(&zones) {
-                let report = Report::Builds(Some(zone));
-                return report_in(rt, alloc, columns, report, log, missing_ok, notes);
+                return report_in(desk, Report::Builds(Some(zone)), log);
             }
         }
     }
-    let report = Report::Builds(columns.map(|_| TimeZone::UTC));
-    report_in(rt, alloc, columns, report, log, missing_ok, notes)
+    let zone = columns.map(|_| TimeZone::UTC);
+    report_in(desk, Report::Builds(zone), log)
 }
 
 pub fn trace_in<R: Runtime>(
-    rt: &R,
-    alloc: Global,
+    desk: &mut Desk<'_, R>,
     log: Option<&str>,
-    all: bool,
-    build: Option<&str>,
-    missing_ok: bool,
-    notes: &mut Notes,
+    choices: Choices<'_>,
 ) -> Result<(), ToolFault>
-    ensures scope { OnOk result ((scope : Scope) × IsScope all build.entry scope) }
-    ensures faults { IfErr result (IsBuildFault all build.entry) }
+    ensures scope { OnOk result ((scope : Scope) × IsScope choices.entry.all choices.entry.build scope) }
+    ensures faults { IfErr result (IsBuildFault choices.entry.all choices.entry.build) }
 {
-    let Some(scope) = scope_of(all, build) else {
+    let Some(scope) = scope_of(choices.all, choices.build) else {
         return Err(ToolFault::BadNumber);
     };
-    report_in(
-        rt,
-        alloc,
-        None,
-        Report::Trace(scope),
-        log,
-        missing_ok,
-        notes,
-    )
+    report_in(desk, Report::Trace(scope), log)
 }
 
 pub fn picture_in<R: Runtime>(
-    rt: &R,
-    alloc: Global,
+    desk: &mut Desk<'_, R>,
     log: Option<&str>,
-    all: bool,
-    build: Option<&str>,
-    graph: Option<&str>,
-    missing_ok: bool,
-    notes: &mut Notes,
+    choices: Choices<'_>,
 ) -> Result<(), ToolFault>
-    ensures scope { OnOk result ((scope : Scope) × IsScope all build.entry scope) }
-    ensures faults { IfErr result (IsPictureFault all build.entry graph.entry) }
+    ensures scope { OnOk result ((scope : Scope) × IsScope choices.entry.all choices.entry.build scope) }
+    ensures faults { IfErr result (IsPictureFault choices.entry.all choices.entry.build choices.entry.graph) }
 {
-    let Some(scope) = scope_of(all, build) else {
+    let Some(scope) = scope_of(choices.all, choices.build) else {
         return Err(ToolFault::BadNumber);
     };
-    match graph {
-        Some(path) => picture_with(rt, alloc, scope, path, log, missing_ok, notes),
-        None => {
-            let report = Report::Picture { scope, graph: None };
-            report_in(rt, alloc, None, report, log, missing_ok, notes)
-        }
+    match choices.graph {
+        Some(path) => picture_with(desk, scope, path, log),
+        None => report_in(desk, Report::Picture { scope, graph: None }, log),
     }
 }
 
 // Reads the graph, and then the log.
 fn picture_with<R: Runtime>(
-    rt: &R,
-    alloc: Global,
+    desk: &mut Desk<'_, R>,
     scope: Scope,
     path: &str,
     log: Option<&str>,
-    missing_ok: bool,
-    notes: &mut Notes,
 ) -> Result<(), ToolFault>
     ensures faults { IfErr result IsPathFault }
 {
-    notes.begin_second();
-    let text = graph_bytes(rt, alloc, path, notes)?;
-    let graph = read_graph(alloc, notes.secret, text.as_slice())?;
-    notes.begin_second();
-    notes.is_second = false;
+    desk.notes.begin(true);
+    let text = graph_bytes(desk, path)?;
+    let graph = read_graph(desk.alloc, desk.notes.secret, text.as_slice())?;
+    desk.notes.begin(false);
     let report = Report::Picture {
         scope,
         graph: Some(&graph),
     };
-    report_in(rt, alloc, None, report, log, missing_ok, notes)
+    report_in(desk, report, log)
 }
 
 pub fn scope_of(all: bool, build: Option<&str>) -> Option<Scope>
@@ -362,20 +314,23 @@ pub fn positive_of(text: &[u8]) -> Option<usize>
 }
 
 pub fn report_in<R: Runtime>(
-    rt: &R,
-    alloc: Global,
-    columns: Option<usize>,
+    desk: &mut Desk<'_, R>,
     report: Report<'_, '_>,
     log: Option<&str>,
-    missing_ok: bool,
-    notes: &mut Notes,
 ) -> Result<(), ToolFault>
     ensures faults { IfErr result (IsReportFault report.entry) }
 {
-    let text = log_bytes(rt, alloc, log, missing_ok, notes)?;
+    let missing_ok = desk.missing_ok;
+    let text = log_bytes(desk, log, missing_ok)?;
+    let Desk {
+        rt,
+        alloc,
+        columns,
+        ..
+    } = *desk;
     let mut out = NotedWriter::new(io::writer(rt));
-    let secret = notes.secret;
-    let again = &mut notes.is_again;
+    let secret = desk.notes.secret;
+    let again = &mut desk.notes.is_again;
     let answer = report_to(
         alloc,
         secret,
@@ -385,7 +340,7 @@ pub fn report_in<R: Runtime>(
         &mut out,
         again,
     );
-    notes.written = out.failure;
+    desk.notes.written = out.failure;
     answer
 }
 

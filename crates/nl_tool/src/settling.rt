@@ -1,28 +1,29 @@
 //! The words that change a log by what a build has: `prune` and `retime`.
 ghost use Rattle.std.specs.Prelude.{◌≡◌, ◌<◌, ◌⊎◌, ℕ, ℤ, [], List, Err, IfErr, IsErr, IsSomeAnd, OnOk, length, slice_get};
-ghost use Rattle.nl_tool_change.specs.Calls.{keeping, touching};
-ghost use Rattle.nl_tool_doubt.specs.There.{AddsFor, name_by, pair_by};
+ghost use Rattle.nl_folder.specs.FolderView.{FolderView, folder_view};
+ghost use Rattle.nl_tool_change.specs.Calls.{ChangesLogFor, keeping, touching};
+ghost use Rattle.nl_tool_doubt.specs.There.{AddsFor, KeepsMost, pair_by};
 ghost use Rattle.nl_tool_print.specs.Faults.{IsLogFault};
 ghost use Rattle.nl_tool_print.specs.Versions.{IsReportFor};
 ghost use Rattle.nl_versions.specs.LogAs.{log_for};
 ghost use Rattle.nl_tool.specs.Answers.{RefusesLog};
-ghost use Rattle.nl_tool.specs.Faults.{IsSettlingFault, IsTargetsFault};
+ghost use Rattle.nl_tool.specs.Faults.{IsPruneFault, IsSettlingFault, IsTargetsFault};
 ghost use Rattle.nl_tool_texts.specs.declared.fault.ToolFault.{ToolFault};
 
-use crate::changing::note_folder;
+use crate::desk::{Desk, close};
 use crate::doubting::SystemFiles;
 use crate::files::open;
 use crate::notes::{NotedReader, Notes};
 use crate::printing::{Streaming, stream_log};
 use crate::program::Verdict;
-use crate::waiting::Waiting;
 use crate::wrong::LineKind;
 use nl_fields::Name;
+use nl_folder::Folder;
 use nl_os::{DiskFolder, Failure, FileRole, SystemFile};
 use nl_session::first_negative;
 use nl_table::Secret;
-use nl_tool_change::{AskedFolder, LogPlace, keep_on, read_manifest, retime_on};
-use nl_tool_doubt::{OutputFiles, add_names_there, times_there};
+use nl_tool_change::{AskedFolder, LogPlace, read_manifest, retime_on};
+use nl_tool_doubt::{OutputFiles, names_there, times_there};
 use nl_tool_print::check_log;
 use nl_tool_texts::ToolFault;
 use nl_versions::LogVersion;
@@ -32,23 +33,20 @@ use std::rt::{Clock, Files, Runtime};
 
 // It reads all targets before it asks anything of LOG.
 pub fn prune_in<R: Runtime>(
-    rt: &R,
-    alloc: Global,
-    asked: Option<LogVersion>,
+    desk: &mut Desk<'_, R>,
     log: &str,
     path: Option<&str>,
-    notes: &mut Notes,
 ) -> Result<Verdict, ToolFault>
 where
     R::File: SystemFile,
-    ensures faults { IfErr result IsSettlingFault }
+    ensures faults { IfErr result IsPruneFault }
 {
-    let targets = targets_in(rt, alloc, path, notes)?;
-    let answer = prune_log(rt, alloc, asked, log, targets, notes);
+    let targets = targets_in(desk, path)?;
+    let answer = prune_log(desk, log, targets);
     // The targets were read, so it is LOG that couldn't be.
-    if let Some(error) = notes.heard.failure {
-        notes.heard.failure = None;
-        notes.folder = Some(Failure {
+    if let Some(error) = desk.notes.heard.failure {
+        desk.notes.heard.failure = None;
+        desk.notes.folder = Some(Failure {
             file: FileRole::Log,
             error,
         });
@@ -57,18 +55,17 @@ where
 }
 
 fn targets_in<R: Runtime>(
-    rt: &R,
-    alloc: Global,
+    desk: &mut Desk<'_, R>,
     path: Option<&str>,
-    notes: &mut Notes,
 ) -> Result<Vec<Name>, ToolFault>
     ensures faults { IfErr result IsTargetsFault }
 {
+    let Desk { rt, alloc, .. } = *desk;
     match path {
-        None => targets_from(alloc, rt.reader(), notes),
+        None => targets_from(alloc, rt.reader(), &mut desk.notes),
         Some(path) => {
-            let file = open(rt, path, notes)?;
-            targets_from(alloc, file, notes)
+            let file = open(desk, path)?;
+            targets_from(alloc, file, &mut desk.notes)
         }
     }
 }
@@ -91,79 +88,77 @@ fn targets_from<R: Read + Drop>(
 }
 
 fn prune_log<R: Runtime>(
-    rt: &R,
-    alloc: Global,
-    asked: Option<LogVersion>,
+    desk: &mut Desk<'_, R>,
     log: &str,
     targets: Vec<Name>,
-    notes: &mut Notes,
 ) -> Result<Verdict, ToolFault>
 where
     R::File: SystemFile,
-    ensures faults { IfErr result IsSettlingFault }
+    ensures faults { IfErr result IsPruneFault }
 {
-    refuse_other(rt, alloc, asked, log, notes)?;
-    if let Verdict::Found = stream_log(rt, alloc, Streaming::Damage, Some(log), false, notes)? {
+    if let Verdict::Found = damage_in(desk, log)? {
         return Ok(Verdict::Found);
     }
-    let file = open(rt, log, notes)?;
-    let files = SystemFiles { rt };
-    prune_over(
-        alloc,
-        asked,
-        DiskFolder::new(Waiting::new(rt, log, notes.looks), alloc, log)?,
-        targets,
-        file,
-        &files,
-        notes,
-    )?;
+    let file = open(desk, log)?;
+    prune_by(desk, log, targets, file)?;
     Ok(Verdict::Done)
 }
 
-fn prune_over<D: Files + Clock + Drop, R: Read + Drop, F: OutputFiles>(
+fn prune_by<R: Runtime, S: Read + Drop>(
+    desk: &mut Desk<'_, R>,
+    log: &str,
+    targets: Vec<Name>,
+    file: S,
+) -> Result<(), ToolFault>
+where
+    R::File: SystemFile,
+    ensures faults { IfErr result IsPruneFault }
+{
+    let place = desk.log_at(log)?;
+    let files = SystemFiles { rt: desk.rt };
+    prune_at(desk.alloc, place, targets, file, &files, &mut desk.notes)
+}
+
+// Tells of the damage of a log. One of another version than that which is asked for is refused before.
+fn damage_in<R: Runtime>(desk: &mut Desk<'_, R>, log: &str) -> Result<Verdict, ToolFault>
+    ensures faults { IfErr result IsSettlingFault }
+{
+    refuse_other(desk, log)?;
+    stream_log(desk, Streaming::Damage, Some(log), false)
+}
+
+fn prune_at<D: Files + Clock + Drop, R: Read + Drop, O: OutputFiles>(
     alloc: Global,
-    asked: Option<LogVersion>,
-    folder: DiskFolder<D>,
+    place: AskedFolder<DiskFolder<D>>,
     targets: Vec<Name>,
     log: R,
-    files: &F,
+    files: &O,
     notes: &mut Notes,
 ) -> Result<(), ToolFault>
 where
     D::File: SystemFile,
-    ensures faults { IfErr result IsSettlingFault }
+    ensures call { IsErr result ⊎ ((kept : List (List ℕ)) × (left : FolderView)
+        × KeepsMost (R.remaining log) (O.states files.now) targets.items kept
+        × ChangesLogFor place.asked (λ _. keeping kept) result (folder_view ⟦<DiskFolder<D> as Folder>⟧ place.folder) left) }
+    ensures faults { IfErr result IsPruneFault }
 {
-    let place = AskedFolder {
-        secret: notes.secret,
-        asked,
-        folder,
-    };
     let log = NotedReader::new(log, &mut notes.heard);
     let (left, answer) = keep_there(alloc, place, targets, log, files);
-    note_folder(left.folder, answer, notes)
+    close(left.folder, answer.err(), notes);
+    answer
 }
 
-// A log of another version than the one that is asked for is refused before its damage is told.
-fn refuse_other<R: Runtime>(
-    rt: &R,
-    alloc: Global,
-    asked: Option<LogVersion>,
-    log: &str,
-    notes: &mut Notes,
-) -> Result<(), ToolFault>
+fn refuse_other<R: Runtime>(desk: &mut Desk<'_, R>, log: &str) -> Result<(), ToolFault>
     ensures faults { IfErr result IsLogFault }
 {
+    let Desk { alloc, asked, .. } = *desk;
     if asked.is_none() {
         return Ok(());
     }
-    let file = open(rt, log, notes)?;
-    let secret = notes.secret;
-    check_version(
-        alloc,
-        secret,
-        asked,
-        NotedReader::new(file, &mut notes.heard),
-    )
+    let file = open(desk, log)?;
+    let secret = desk.notes.secret;
+    let file = NotedReader::new(file, &mut desk.notes.heard);
+    check_version(alloc, secret, asked, file)
 }
 
 fn check_version<R: Read + Drop>(
@@ -185,54 +180,39 @@ fn check_version<R: Read + Drop>(
     }
 }
 
-pub fn retime_in<R: Runtime>(
-    rt: &R,
-    alloc: Global,
-    asked: Option<LogVersion>,
-    log: &str,
-    notes: &mut Notes,
-) -> Result<Verdict, ToolFault>
+pub fn retime_in<R: Runtime>(desk: &mut Desk<'_, R>, log: &str) -> Result<Verdict, ToolFault>
 where
     R::File: SystemFile,
     ensures faults { IfErr result IsSettlingFault }
 {
-    refuse_other(rt, alloc, asked, log, notes)?;
-    if let Verdict::Found = stream_log(rt, alloc, Streaming::Damage, Some(log), false, notes)? {
+    if let Verdict::Found = damage_in(desk, log)? {
         return Ok(Verdict::Found);
     }
-    let file = open(rt, log, notes)?;
-    let files = SystemFiles { rt };
-    retime_over(
-        alloc,
-        asked,
-        DiskFolder::new(Waiting::new(rt, log, notes.looks), alloc, log)?,
-        file,
-        &files,
-        notes,
-    )?;
+    let file = open(desk, log)?;
+    let files = SystemFiles { rt: desk.rt };
+    let place = desk.log_at(log)?;
+    retime_at(desk.alloc, place, file, &files, &mut desk.notes)?;
     Ok(Verdict::Done)
 }
 
-fn retime_over<D: Files + Clock + Drop, R: Read + Drop, F: OutputFiles>(
+fn retime_at<D: Files + Clock + Drop, R: Read + Drop, O: OutputFiles>(
     alloc: Global,
-    asked: Option<LogVersion>,
-    folder: DiskFolder<D>,
+    place: AskedFolder<DiskFolder<D>>,
     log: R,
-    files: &F,
+    files: &O,
     notes: &mut Notes,
 ) -> Result<(), ToolFault>
 where
     D::File: SystemFile,
+    ensures call { IsErr result ⊎ ((times : List (List ℕ × ℤ)) × (left : FolderView)
+        × AddsFor pair_by (R.remaining log) (O.states files.now) [] times
+        × ChangesLogFor place.asked (λ _. touching times) result (folder_view ⟦<DiskFolder<D> as Folder>⟧ place.folder) left) }
     ensures faults { IfErr result IsSettlingFault }
 {
-    let place = AskedFolder {
-        secret: notes.secret,
-        asked,
-        folder,
-    };
     let log = NotedReader::new(log, &mut notes.heard);
     let (left, answer) = retime_there(alloc, place, log, files, &mut notes.early);
-    note_folder(left.folder, answer, notes)
+    close(left.folder, answer.err(), notes);
+    answer
 }
 
 fn keep_there<P: LogPlace, R: Read + Drop, F: OutputFiles>(
@@ -242,14 +222,13 @@ fn keep_there<P: LogPlace, R: Read + Drop, F: OutputFiles>(
     log: R,
     files: &F,
 ) -> (P, Result<(), ToolFault>)
-    ensures call { (IsErr result.1 × (result.0 ≡ place)) ⊎ ((names : List (List ℕ))
-        × AddsFor name_by (R.remaining log) (F.states files.now) targets.items names
-        × P.changes (keeping names) result.1 place result.0) }
-    ensures faults { IfErr result.1 IsSettlingFault }
+    ensures call { (IsErr result.1 × (result.0 ≡ place)) ⊎ ((kept : List (List ℕ))
+        × KeepsMost (R.remaining log) (F.states files.now) targets.items kept
+        × P.changes (keeping kept) result.1 place result.0) }
+    ensures faults { IfErr result.1 IsPruneFault }
 {
-    let mut names = targets;
-    match add_names_there(alloc, place.secret(), log, files, &mut names) {
-        Ok(()) => keep_on(alloc, place, names),
+    match names_there(alloc, place.secret(), log, files, targets) {
+        Ok(set) => place.change(alloc, &set),
         Err(fault) => (place, Err(fault)),
     }
 }

@@ -28,6 +28,4 @@ pub use mending::mend_on;
 pub use place::{AskedFolder, FoundFolder, LogPlace};
 pub use reading::read_log;
 pub use record_words::entry_of;
-pub use update::{
-    keep_on, recompact_on, record_command, record_on, repair_on, restat_on, retime_on,
-};
+pub use update::{recompact_on, record_command, record_on, repair_on, restat_on, retime_on};

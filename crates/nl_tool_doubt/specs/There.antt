@@ -1,9 +1,9 @@
 -- What is learned of the files of outputs (docs/CLI.md, "recompact", "restat").
-use Rattle.std.specs.Prelude.{if◌then◌else◌, ◌≡◌, ◌++◌, ◌∷◌, [], ℕ, ℤ, List, Option, None, Some, IfSome}
-use Rattle.std.specs.List.{flat_map}
+use Rattle.std.specs.Prelude.{if◌then◌else◌, ◌≡◌, ◌++◌, ◌∷◌, ◌<◌, ◌≤◌, ◌*◌, [], ℕ, ℤ, Bool, List, length, Option, None, Some, IfSome}
+use Rattle.std.specs.List.{count_by, flat_map}
 use Rattle.nl_fields.specs.declared.entry.Entry.{Entry}
 use Rattle.nl_session.specs.Intents.{is_intent}
-use Rattle.nl_table.specs.History.{logged, table}
+use Rattle.nl_table.specs.History.{holds, logged, table}
 use Rattle.nl_table.specs.Log.{LogReading, Log, NotALog, OtherVersion, log_of}
 use Rattle.nl_versions.specs.VersionOf.{as_five}
 use Rattle.nl_tool_doubt.specs.Doubts.{AreLooked}
@@ -40,3 +40,22 @@ pub record AddsFor {X : Type 0} (by : Entry → FileState → List X) (known : O
   pub looked : List Looked
   pub looks : AreLooked entries states looked
   pub items : new ≡ old ++ flat_map (learned by) looked
+
+-- ---- what is kept of a log: the targets of a build, and each output whose file isn't missing
+
+abbrev pub is_kept : List (List ℕ) → Looked → Bool
+is_kept set it = holds set it.entry.name
+
+pub record IsKept (known : Option (List ℕ)) (states : Option (List ℕ → FileState)) (targets set : List (List ℕ)) : Type 0 where
+  pub names : List (List ℕ)
+  pub adds : AddsFor name_by known states targets names
+  pub same : (name : List ℕ) → holds set name ≡ holds names name
+
+-- no more outputs go than stay
+pub record KeepsMost (known : Option (List ℕ)) (states : Option (List ℕ → FileState)) (targets set : List (List ℕ)) : Type 0 where
+  pub is : IsKept known states targets set
+  pub most : length is.adds.looked ≤ 2 * count_by (is_kept set) is.adds.looked
+
+pub record LosesMost (known : Option (List ℕ)) (states : Option (List ℕ → FileState)) (targets set : List (List ℕ)) : Type 0 where
+  pub is : IsKept known states targets set
+  pub most : 2 * count_by (is_kept set) is.adds.looked < length is.adds.looked

@@ -14,4 +14,4 @@ pub use doubts::{Doubted, Doubts, doubts_of, untrusted_of, write_doubts};
 pub use files::{FileState, FileTimes, Looked, OutputFiles};
 pub use judge::Doubt;
 pub use mending::{How, Mended, mend_to};
-pub use there::{add_names_there, times_there};
+pub use there::{names_there, times_there};

@@ -1,41 +1,56 @@
 //! What the files of a log's outputs are: which are there, and when each was written.
-ghost use Rattle.std.specs.Prelude.{◌≡◌, ◌++◌, [], IfErr, IfOk, IfSome, IsErrOf, OnOk};
-ghost use Rattle.std.specs.List.{flat_map};
+ghost use Rattle.std.specs.Prelude.{◌≡◌, ◌++◌, ◌≤◌, ◌⊎◌, [], ℕ, List, length, IfErr, IfOk, IfSome, IsErrOf, OnOk};
+ghost use Rattle.std.specs.List.{count_by, flat_map};
 ghost use Rattle.nl_table.specs.Log.{log_of, NotALog, OtherVersion};
 ghost use Rattle.nl_tool_texts.specs.declared.fault.ToolFault.{ToolFault};
 ghost use Rattle.nl_tool_print.specs.Faults.{IsLogFault};
 ghost use Rattle.nl_versions.specs.VersionOf.{as_five};
-ghost use Rattle.nl_tool_doubt.specs.There.{AddsFor, learned, name_by, pair_by};
+ghost use Rattle.nl_tool_doubt.specs.There.{AddsFor, KeepsMost, LosesMost, is_kept, learned, name_by, pair_by};
 
 use crate::files::{FileState, Looked, OutputFiles, look_all};
 use nl_fields::{Entry, EntryRef, Name};
 use nl_session::is_intent;
-use nl_table::Secret;
+use nl_table::{NameSet, Secret};
 use nl_tool_print::load_read;
 use nl_tool_texts::ToolFault;
 use std::alloc::{AllocError, Global};
 use std::io::Read;
 
-/// It asks for the file of each output, in the order of first appearance, and adds the names of those whose file isn't missing.
-pub fn add_names_there<R: Read + Drop, F: OutputFiles>(
+/// The targets, and each output whose file isn't missing: the file of each is asked for, in the order of first appearance. If the log
+/// has more outputs that are neither than others, the folder is that of another build, and nothing is to be dropped (`Elsewhere`).
+pub fn names_there<R: Read + Drop, F: OutputFiles>(
     alloc: Global,
     secret: Secret,
     reader: R,
     files: &F,
-    names: &mut Vec<Name>,
-) -> Result<(), ToolFault>
-    ensures added { OnOk result (AddsFor name_by (R.remaining reader) (F.states files.now)
-        names.old.items names.new.items) }
+    targets: Vec<Name>,
+) -> Result<NameSet, ToolFault>
+    ensures kept { IfOk result (KeepsMost (R.remaining reader) (F.states files.now) targets.items) }
+    ensures elsewhere { IsErrOf result ToolFault.Elsewhere → (set : List (List ℕ))
+        × LosesMost (R.remaining reader) (F.states files.now) targets.items set }
     ensures not_a_log { IsErrOf result ToolFault.NotALog
         → IfSome (R.remaining reader) (λ bs. log_of (as_five bs) ≡ NotALog) }
     ensures other_version { IsErrOf result ToolFault.OtherVersion
         → IfSome (R.remaining reader) (λ bs. log_of (as_five bs) ≡ OtherVersion) }
-    ensures faults { IfErr result IsLogFault }
+    ensures faults { IfErr result (λ e. IsLogFault e ⊎ (e ≡ ToolFault.Elsewhere)) }
 {
     let (_, loaded) = load_read(alloc, secret, None, reader)?;
     let looked = look_all(alloc, &loaded.table, files)?;
-    add_names(alloc, looked.as_slice(), names)?;
-    Ok(())
+    let mut names = targets;
+    add_names(alloc, looked.as_slice(), &mut names)?;
+    let set = NameSet::of(alloc, secret, names)?;
+    let kept = count_kept(&set, looked.as_slice());
+    if kept < looked.len() - kept {
+        return Err(ToolFault::Elsewhere);
+    }
+    Ok(set)
+}
+
+fn count_kept(set: &NameSet, looked: &[Looked]) -> usize
+    ensures value { result ≡ count_by (is_kept set.now) looked.now }
+    ensures bound { result ≤ length looked.now }
+{
+    looked.iter().filter(|it| set.has(it.entry.name())).count()
 }
 
 /// It asks for the file of each output, in the order of first appearance, and gives the time of each that has one. An output whose last entry

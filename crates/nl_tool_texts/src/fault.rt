@@ -31,7 +31,7 @@ pub enum ToolFault {
     BadLine(u64),
     /// A graph has no command of the builds that are told of.
     OtherGraph,
-    /// A log has entries, and none of its outputs has a file.
+    /// Most outputs of a log have no file: it is that of a build in another folder.
     Elsewhere,
 }
 
@@ -55,7 +55,7 @@ impl fmt::Display for ToolFault {
             ToolFault::OtherGraph => write!(f, "not the graph of this build"),
             ToolFault::Elsewhere => write!(
                 f,
-                "no output of LOG is here\nnlog: run it in the folder of the build, or name that by -C"
+                "most outputs of LOG aren't here\nnlog: run it in the folder of the build, or name that to mend by -C"
             ),
         }
     }

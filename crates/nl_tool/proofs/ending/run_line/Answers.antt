@@ -7,9 +7,9 @@ use Rattle.nl_tool.proofs.ending.run_line.Goals as goal
 pub returns-after-line-clause-status : goal.returns-after-line-clause-status
 returns-after-line-clause-status g c =
     let line = map string_bytes c.args.line.now in
-    command_ended (fault_in line) c.in-Ok.said.words (entered_of line) c.run_with_notes-answer.result c.end.result
+    command_ended (fault_in line) c.in-Ok.said.words (entered_of line) c.run_at-answer.result c.end.result
     c.in-Ok.ensures.accepts c.in-Ok.ensures.value
-    (IfOk-weaker c.run_with_notes-answer.result _ _ (λ outcome finds is. c.meant.ensures.can_find (finds is)) c.run_with_notes-answer.ensures.outcome)
+    (IfOk-weaker c.run_at-answer.result _ _ (λ outcome finds is. c.meant.ensures.can_find (finds is)) c.run_at-answer.ensures.outcome)
     c.end.ensures.status
 
 pub returns-in-Err : goal.returns-in-Err

@@ -1,0 +1,106 @@
+//! What a command is done with.
+ghost use Rattle.std.specs.Prelude.{◌≡◌, ◌&&◌, not, is_some, IfErr, IfOk};
+ghost use Rattle.nl_files.specs.FileFolder.{system_of};
+ghost use Rattle.nl_os.specs.OsSystem.{is_masked, paths_of, unsynced_of};
+ghost use Rattle.nl_os.specs.Paths.{ArePathsOf};
+ghost use Rattle.nl_tool.specs.VersionChoice.{asked_in};
+ghost use Rattle.nl_tool_texts.specs.declared.fault.ToolFault.{ToolFault};
+
+use crate::notes::Notes;
+use crate::screen::width_of;
+use crate::version_choice::asked_in;
+use crate::waiting::Waiting;
+use nl_os::{DiskFolder, SystemFile};
+use nl_tool_change::AskedFolder;
+use nl_tool_texts::ToolFault;
+use nl_tool_words::CommandLine;
+use nl_versions::LogVersion;
+use std::alloc::Global;
+use std::rt::{Clock, Files, Runtime};
+
+#[derive(Drop)]
+pub struct Desk<'r, R> {
+    pub rt: &'r R,
+    pub alloc: Global,
+    /// The version of the log that is asked for. None: that of its first line.
+    pub asked: Option<LogVersion>,
+    /// Whether a missing log is read as one without bytes, where a word doesn't say so by itself.
+    pub missing_ok: bool,
+    /// How many characters a line has at most, where a report is for a person.
+    pub columns: Option<usize>,
+    pub notes: Notes,
+}
+
+impl<'r, R: Runtime> Desk<'r, R> {
+    /// What a command line is done with. The words that change a log by what it holds go by its version, if none is asked for.
+    pub fn of(rt: &'r R, alloc: Global, line: &CommandLine<'_>, notes: Notes) -> Desk<'r, R>
+        ensures asked { result.asked ≡ asked_in line.now.words line.now.version }
+        ensures same { result.missing_ok ≡ line.now.missing_ok }
+        ensures columns { is_some result.columns ≡ (notes.screen.output && not line.now.tabs) }
+        ensures notes { result.notes ≡ notes }
+    {
+        Desk {
+            rt,
+            alloc,
+            asked: asked_in(line),
+            missing_ok: line.missing_ok,
+            columns: columns_for(rt, &notes, line),
+            notes,
+        }
+    }
+}
+
+fn columns_for<R: Runtime>(rt: &R, notes: &Notes, line: &CommandLine<'_>) -> Option<usize>
+    ensures { is_some result ≡ (notes.now.screen.output && not line.now.tabs) }
+{
+    if notes.screen.output && !line.tabs {
+        return Some(width_of(rt));
+    }
+    None
+}
+
+/// Where a log stands that is waited for.
+pub type LogAt<'r, R> = AskedFolder<DiskFolder<Waiting<'r, R>>>;
+
+impl<'r, R: Files + Clock + Eprint> Desk<'r, R>
+where
+    R::File: SystemFile,
+{
+    /// Where the log at this path stands. No file is touched.
+    pub fn log_at(&self, log: &'r str) -> Result<LogAt<'r, R>, ToolFault>
+        ensures folder { IfOk result (λ at. ArePathsOf log.entry.now (paths_of (system_of at.folder.folder))) }
+        ensures asked { IfOk result (λ at. at.asked ≡ self.entry.now.asked) }
+        ensures faults { IfErr result (λ e. e ≡ ToolFault.Memory) }
+    {
+        let waiting = Waiting::new(self.rt, log, self.notes.looks);
+        Ok(AskedFolder {
+            secret: self.notes.secret,
+            asked: self.asked,
+            folder: DiskFolder::new(waiting, self.alloc, log)?,
+        })
+    }
+}
+
+/// Keeps why calls of a folder failed. If the file isn't taken for a log, its beginning is kept too, because the reason names it.
+pub fn close<R: Files + Clock + Drop>(
+    folder: DiskFolder<R>,
+    fault: Option<ToolFault>,
+    notes: &mut Notes,
+)
+where
+    R::File: SystemFile,
+    ensures kept { notes.new.folder ≡ folder.last_failure }
+    ensures unsynced { notes.new.unsynced ≡ unsynced_of (system_of folder.folder) }
+    ensures masked { notes.new.is_masked ≡ is_masked (system_of folder.folder) }
+{
+    let mut folder = folder;
+    notes.folder = folder.last_failure();
+    notes.unsynced = folder.unsynced_folder();
+    notes.is_masked = folder.is_masked();
+    match fault {
+        Some(ToolFault::OtherVersion | ToolFault::NotALog) if notes.looks => {
+            notes.look_at(&mut folder);
+        }
+        _ => {}
+    }
+}
