@@ -39,6 +39,8 @@ LOOKS = [
      ["NOT_OPEN", "OK", "ALREADY_OPEN", "ALREADY_OPEN", "OK", "ALREADY_OPEN", "ALREADY_OPEN", "OK 0", "OK", "OK", "OK 1 2 3 aa", "OK", "NOT_OPEN"], HEADER + A),
     (HEADER + A + b"4\t5", 0, ["look", f"record 1 2 3 aa {hexed(b'a' + bytes([9]))}", f"edge 1 2 3 aa {hexed(b'x', b'')}", "edge 1 2 3 aa", "begin 7 0 0 cc", "close"],
      ["OK", "BAD_NAME", "BAD_NAME", "OK", "OK", "OK"], HEADER + A + b"4\t5"),
+    # What is refused of an open log: the lock of a shared one is let go of.
+    (HEADER, 0, ["look", RECORD, *[f"{it} {hexed(b'x', b'')}" for it in ("edge 1 2 3 aa", "begin 7 0 0 cc", "plan 7 0 0 cc")], f"record 1 2 3 aa {hexed(b'')}", "close"], ["OK", "OK", *["BAD_NAME"] * 4, "OK"], HEADER + A),
     # What the open owes is done by the first change.
     (None, 0, ["look", RECORD, FIND, "close"], ["OK", "OK", "OK 1 2 3 aa", "OK"], HEADER + A),
     (None, 7, ["look", "open", "version", "close"], ["OK", "OK", "OK 7", "OK"], V7),

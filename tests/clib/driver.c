@@ -636,6 +636,9 @@ static void refuse(const char *path) {
       WANT(status == NLOG_OUT_OF_MEMORY && error == 77 && blocks == before);
       without_a_log(&distrusted);
       refused++;
+    } else {
+      /* What the handles held is freed where they get another log. */
+      WANT(nlog_load_file_distrusted(&log, &distrusted, path, &error) == NLOG_OK && nlog_load_file(&log, path, &error) == NLOG_OK);
     }
     nlog_free(&log);
     nlog_free(&distrusted);
