@@ -115,13 +115,14 @@ def by_script(trials, room):
 def header_alone(trials, room):
     """The header by itself, in each language from C99 and C++11 on, without a warning."""
     write(f"{room}/alone.c", b'#include "nlog.h"\nint main(void) { return nlog_status_name(NLOG_OK) == 0; }\n')
-    for compiler, language, standards in (("cc", "c", ("c99", "c11", "c17", "gnu17")), ("c++", "c++", ("c++11", "c++14", "c++17", "c++20"))):
+    c, cxx = ("c", ("c99", "c11", "c17", "gnu17")), ("c++", ("c++11", "c++14", "c++17", "c++20"))
+    for compiler, (language, standards) in (("gcc", c), ("clang", c), ("g++", cxx), ("clang++", cxx)):
         if shutil.which(compiler) is None:
             trials.skip(f"the header by {compiler}", "it isn't there")
             continue
         for it in standards:
             ran = run([compiler, "-x", language, f"-std={it}", "-Wall", "-Wextra", "-pedantic", "-Werror", "-I", f"{TOP}/include", "-fsyntax-only", f"{room}/alone.c"])
-            trials.want(f"the header as {it}", (ran[0], ran[2]), (0, b""))
+            trials.want(f"the header as {it} by {compiler}", (ran[0], ran[2]), (0, b""))
 
 
 def by_meson(trials, prefix, room):
