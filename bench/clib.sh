@@ -1,41 +1,29 @@
 #!/bin/sh
-# Times the library for C on a log: clib.sh PROGRAM LOG [ROUNDS]
-# A load in a process of its own, in turn with `check` of PROGRAM; look-ups of each output; and records by the writer, in turn with Ninja's
-# fprintf and fflush of the same lines: of outputs that come again, of new ones, which grow the table, and of a shared log.
+# Times the library for C beside Ninja 1.11.1's own log: NLOG_NINJA_SOURCES=FOLDER clib.sh LOG [ROUNDS]
+# FOLDER has ninja-1.11.1. A load, a look (an open to read) and an open with their closes, of LOG and of its first 100 lines, each in a process of its own
+# and in turn with Ninja's load, and its load, open and close; the memory of each; records, alone and shared; and look-ups of each output.
 set -eu
 top=$(cd "$(dirname "$0")/.." && pwd)
-program=$1
-log=$2
-rounds=${3:-9}
-room=$(mktemp -d)
+ninja=${NLOG_NINJA_SOURCES:?names no folder with ninja-1.11.1}/ninja-1.11.1/src
+log=$1
+rounds=${2:-9}
+room=$(mktemp -d -p /dev/shm)
 trap 'rm -rf "$room"' EXIT
-"$top/lib/archive.sh" "$room/libnlog.a" > "$room/said"
-c++ -std=c++17 -O2 -I "$top/include" "$top/bench/clib.cc" "$room/libnlog.a" -o "$room/bench"
-cc -std=c11 -O2 -D_POSIX_C_SOURCE=200809L -I "$top/include" "$top/tests/clib/driver.c" "$room/libnlog.a" -o "$room/driver"
-python3 - "$room" "$program" "$log" "$rounds" << 'END'
-import os, statistics, subprocess, sys
+"$top/lib/archive.sh" "$room/libnlog.a"
+# Ninja's own flags; its sources but for the tests, main and Windows.
+for it in build_log debug_flags depfile_parser deps_log disk_interface dyndep dyndep_parser edit_distance eval_env graph lexer manifest_parser metrics parser state string_piece_util util version; do
+    c++ -O2 -DNDEBUG -fno-rtti -fno-exceptions -c "$ninja/$it.cc" -o "$room/$it.o"
+done
+c++ -std=c++17 -O2 -I "$top/include" -I "$ninja" "$top/bench/clib.cc" "$room"/*.o "$room/libnlog.a" -o "$room/bench"
+python3 - "$room" "$log" "$rounds" << 'END'
+import os, shutil, statistics, subprocess, sys
 
-room, program, log, rounds = sys.argv[1:]
+room, log, rounds = sys.argv[1:]
 rounds = int(rounds)
 
 
-def check():
-    """The milliseconds of processor time of one `check`."""
-    with open(log, "rb") as source:
-        process = subprocess.Popen([program, "check"], stdin=source, stdout=subprocess.DEVNULL)
-        _, status, usage = os.wait4(process.pid, 0)
-    process.returncode = status
-    if status != 0:
-        sys.exit(f"check: status {status}")
-    return (usage.ru_utime + usage.ru_stime) * 1e3
-
-
 def numbers(*words):
-    return [int(it) for it in subprocess.run(words, capture_output=True, text=True, check=True).stdout.split()]
-
-
-def load():
-    return numbers(f"{room}/bench", "load", log)[0] / 1e3
+    return [int(it) for it in subprocess.run([f"{room}/bench", *words], capture_output=True, text=True, check=True).stdout.split()]
 
 
 def shown(values):
@@ -43,20 +31,33 @@ def shown(values):
     return f"{middle:.2f} ({low:.2f} to {high:.2f})"
 
 
-check(), load()
-loads = [(load(), check()) for _ in range(rounds)]
-ours, theirs = (statistics.median(it) for it in zip(*loads))
-print(f"load {ours:.0f} ms, check {theirs:.0f} ms, ratio {shown([a / b for a, b in loads])}")
-print(subprocess.run([f"{room}/bench", "find", log, str(rounds)], capture_output=True, text=True, check=True).stdout, end="")
+def beside(what, measure):
+    """Prints our nanoseconds of processor time and Ninja's, in turn, and gives the other numbers of each."""
+    found = [(measure("ours"), measure("ninja")) for _ in range(rounds)]
+    ours, theirs = (statistics.median(it[0] for it in them) for them in zip(*found))
+    more = [f"{max(it[1] for it in them) / 1024:.1f} MiB" for them in zip(*found) if len(them[0]) > 1]
+    print(f"{what}: {ours:.0f} ns, Ninja {theirs:.0f} ns, ratio {shown([a[0] / b[0] for a, b in found])}{'; ' * bool(more)}{', Ninja '.join(more)}", flush=True)
 
-# Nanoseconds of processor time of a record, and of fprintf and fflush of the same line.
-for kind, outputs, *how in (("an output that comes again", "10000"), ("a new output", "200000"), ("a shared log", "10000", "shared"), ("a shared log that is held", "10000", "held")):
-    records = []
-    for _ in range(rounds):
-        for name in ("ours.log", "plain.log"):
-            if os.path.exists(f"{room}/{name}"):
-                os.remove(f"{room}/{name}")
-        records.append(numbers(f"{room}/driver", "time", f"{room}/ours.log", f"{room}/plain.log", "200000", outputs, *how))
-    ours, theirs = (statistics.median(it) for it in zip(*records))
-    print(f"record of {kind} {ours:.0f} ns, fprintf and fflush {theirs:.0f} ns, ratio {shown([a / b for a, b in records])}")
+
+whole, first = f"{room}/whole.log", f"{room}/first.log"
+shutil.copy(log, whole)
+with open(log, "rb") as source, open(first, "wb") as it:
+    it.writelines(source.readline() for _ in range(101))
+for what in ("load", "look", "open"):
+    beside(f"{what} of the log", lambda whose: numbers(what, whose, whole, "1"))
+for what in ("load", "look", "open"):
+    beside(f"{what} of 100 lines", lambda whose: numbers(what, whose, first, "2000"))
+new = f"{room}/records.log"
+
+
+def record(how, whose, outputs):
+    if os.path.exists(new):
+        os.remove(new)
+    return numbers(how, whose, new, "200000", outputs)
+
+
+for what, how, outputs in (("an output that comes again", "record", "10000"), ("a new output", "record", "200000"), ("a shared log", "shared", "10000"),
+                           ("a shared log, a hold for each 100", "hundred", "10000"), ("a shared log that is held", "held", "10000")):
+    beside(f"record of {what}", lambda whose: record(how, whose, outputs))
+print(subprocess.run([f"{room}/bench", "find", whole, str(rounds)], capture_output=True, text=True, check=True).stdout, end="")
 END
