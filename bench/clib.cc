@@ -1,5 +1,5 @@
 // What the library for C costs beside Ninja's own log; bench/clib.sh builds it over Ninja's sources, and runs it.
-//   load|look|open ours|ninja LOG TIMES            the nanoseconds of processor time that one takes, and the KiB that the process took at the most
+//   load|look|open ours|ninja LOG                  the nanoseconds of processor time that it takes, and the KiB that the process took at the most
 //   record|shared|held|hundred ours|ninja LOG COUNT OUTPUTS   the nanoseconds of a record
 //   find LOG ROUNDS                                the nanoseconds of a look-up, and those of one in a std::unordered_map over the same log
 #include "build_log.h"
@@ -63,17 +63,14 @@ bool open_by_us(const char *path, bool is_written) {
   return status == NLOG_OK;
 }
 
-int time_open(std::string_view what, bool is_ninja, const char *path, int times) {
+int time_open(std::string_view what, bool is_ninja, const char *path) {
   rusage usage;
   const double begun = seconds();
-  for (int i = 0; i < times; i++) {
-    const bool is_done = is_ninja ? open_by_ninja(path, what == "open") : what == "load" ? load_by_us(path) : open_by_us(path, what == "open");
-    if (!is_done) return 1;
-  }
+  const bool is_done = is_ninja ? open_by_ninja(path, what == "open") : what == "load" ? load_by_us(path) : open_by_us(path, what == "open");
   const double taken = seconds() - begun;
   getrusage(RUSAGE_SELF, &usage);
-  std::printf("%.0f %ld\n", taken / times * 1e9, usage.ru_maxrss);
-  return 0;
+  std::printf("%.0f %ld\n", taken * 1e9, usage.ru_maxrss);
+  return is_done ? 0 : 1;
 }
 
 // Each record evaluates and hashes its edge's command, as Ninja does.
@@ -166,7 +163,7 @@ int main(int count, char **words) {
   const std::string_view what = words[1];
   const bool is_ninja = std::string_view(words[2]) == "ninja";
   if (what == "find") return time_find(words[2], std::atoi(words[3]));
-  if (count == 5) return time_open(what, is_ninja, words[3], std::atoi(words[4]));
+  if (count == 4) return time_open(what, is_ninja, words[3]);
   if (count == 6) return time_records(what, is_ninja, words[3], std::atoi(words[4]), std::atoi(words[5]));
   return 2;
 }

@@ -32,9 +32,9 @@ def shown(values):
     return f"{middle:.2f} ({low:.2f} to {high:.2f})"
 
 
-def beside(what, measure):
-    """Prints our nanoseconds of processor time and Ninja's, in turn, and gives the other numbers of each."""
-    found = [(measure("ours"), measure("ninja")) for _ in range(rounds)]
+def beside(what, measure, turns=rounds):
+    """Prints our nanoseconds of processor time and Ninja's, in turn, and the most memory of each where that is told."""
+    found = [(measure("ours"), measure("ninja")) for _ in range(turns)]
     ours, theirs = (statistics.median(it[0] for it in them) for them in zip(*found))
     more = [f"{max(it[1] for it in them) / 1024:.1f} MiB" for them in zip(*found) if len(them[0]) > 1]
     print(f"{what}: {ours:.0f} ns, Ninja {theirs:.0f} ns, ratio {shown([a[0] / b[0] for a, b in found])}{'; ' * bool(more)}{', Ninja '.join(more)}", flush=True)
@@ -44,10 +44,9 @@ whole, first = f"{room}/whole.log", f"{room}/first.log"
 shutil.copy(log, whole)
 with open(log, "rb") as source, open(first, "wb") as it:
     it.writelines(source.readline() for _ in range(101))
-for what in ("load", "look", "open"):
-    beside(f"{what} of the log", lambda whose: numbers(what, whose, whole, "1"))
-for what in ("load", "look", "open"):
-    beside(f"{what} of 100 lines", lambda whose: numbers(what, whose, first, "2000"))
+for name, path, turns in (("the log", whole, rounds), ("100 lines", first, 10 * rounds)):
+    for what in ("load", "look", "open"):
+        beside(f"{what} of {name}", lambda whose: numbers(what, whose, path), turns)
 new = f"{room}/records.log"
 
 
