@@ -247,9 +247,12 @@ class Differ:
 
     @staticmethod
     def begun(sides):
-        """The outputs whose command began, by the patched log, and has no record yet."""
+        """The outputs whose command began, by the patched log, and has no record yet; or lost it, as another Ninja rewrote the log meanwhile. Then
+        those of them that had no entry have no intent either."""
         plain, patched = (it.entries for it in sides)
-        return {name for name, it in patched.items() if it[0] == it[1] and it[2] == b"0" and (name not in plain or plain[name][4] != it[4])}
+        found = {name for name, it in patched.items() if it[0] == it[1] and it[2] == b"0" and (name not in plain or plain[name][4] != it[4])}
+        records = {(*plain[name][:3], plain[name][4]) for name in found if name in plain}
+        return found | {name for name, it in plain.items() if name not in patched and (*it[:3], it[4]) in records}
 
     @staticmethod
     def file(side):
