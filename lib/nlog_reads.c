@@ -142,10 +142,12 @@ void note_block(seen *seen, const char *bytes, size_t len) {
 }
 
 /* Loads an open file in blocks, of which none is kept. The first one ends in its last newline, and
- * what comes after that is read again. *error: the errno where it answers NLOG_FAULT. */
+ * what comes after that is read again. What another adds meanwhile is left to who has the lock, so
+ * that what was read is the file that was asked of. *error: the errno where it answers NLOG_FAULT. */
 nlog_status load_blocks(nlog *log, uint32_t version, int fd, char *block, seen *seen, int *error) {
   nlog_status status = NLOG_OK;
   ssize_t got = BLOCK;
+  const uint64_t size = size_of(&seen->about), end = size > 0 ? size : UINT64_MAX;
   seen->len = seen->whole = 0;
   while (status == NLOG_OK && got == BLOCK) {
     const bool is_first = seen->len == 0;
@@ -153,6 +155,7 @@ nlog_status load_blocks(nlog *log, uint32_t version, int fd, char *block, seen *
     got = read_whole(fd, block, BLOCK, seen->len);
     if (got < 0) *error = errno;
     if (got < 0) return NLOG_FAULT;
+    got = (ssize_t)LEAST((uint64_t)got, end - seen->len);
     used = (size_t)got;
     if (is_first && got == BLOCK) while (used > 0 && block[used - 1] != '\n') used--;
     if (used == 0) used = (size_t)got;

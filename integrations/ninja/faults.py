@@ -661,6 +661,22 @@ def try_calls(trial, ninja, header):
     one, ten = (calls(rule + "".join(f"build g{count}.{it}: c\n" for it in range(count)), long) for count in (1, 10))
     trial.want("calls: reads of the log, where 1 and 10 edges of a generator run", (one[1], ten[0]), (ten[1], 10))
     trial.want("calls: locks", (one[2], ten[2]), (4, 22))
+    # The log grows before its second block is read.
+    reads = []
+    for is_growing in (False, True):
+        write("build.ninja", "rule c\n  command = touch $out\nbuild o: c\n")
+        write(LOG, header + b"".join(b"1\t2\t3\tx%d\taa\n" % it for it in range(200000)))
+        write("calls", "")
+        child = subprocess.Popen(["strace", "-o", "calls", "-P", LOG, "-e", "trace=pread64", "-e", "inject=pread64:delay_enter=500000:when=2", *ninja.command], stdout=subprocess.DEVNULL, stderr=subprocess.DEVNULL)
+        while b"pread64" not in read("calls"):
+            time.sleep(0.01)
+        if is_growing:
+            with open(LOG, "ab") as it:
+                it.write(b"1\t2\t3\tgrown\taa\n")
+        trial.want("calls: a log that grows: ends", child.wait(), 0)
+        reads.append(read("calls").count(b"pread64("))
+        os.remove("o")
+    trial.check("calls: a log that grows while it is read is read once", reads[1] <= reads[0] + 2 and {b"grown", b"o"} <= set(names_in(read(LOG))), repr(reads))
 
 
 def try_foreseen(trial, ninja, header):
