@@ -380,7 +380,9 @@ class Differ:
             # Rewritten logs are in other orders.
             names = {it[at:].split(b"\t")[-2] for it, at in zip(texts, places) if it[at:].count(b"\t") > 3}
             kept = {os.fsencode(it) for it in [*project.sources, "build.ninja"]}
-            if min(places) > 0 and len(names) == 1 and not names & (self.begun(sides) | kept):
+            # A name that is cut may be another one.
+            others = {it for it in sides[1].entries if any(it != name and name.startswith(it) for name in names)}
+            if min(places) > 0 and len(names) == 1 and not others and not names & (self.begun(sides) | kept):
                 cut = random_numbers.randint(1, 20)
                 for side, text, at in zip(sides, texts, places):
                     for name in names:
