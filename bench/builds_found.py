@@ -260,10 +260,10 @@ def groups_of(version, entries):
         at, line = at + it.commands, line + count
 
 
-def has_own_times(entries):
-    """Whether no command of a build kept a time of before it, to 8 ms. In version 6 and 7 such are few."""
+def old_times(entries):
+    """The places of the lines of a build that kept a time of before it, to 8 ms. In version 6 and 7 such are few."""
     began = max(it.mtime - it.end * model.MS for it in entries)
-    return all(it.mtime - it.start * model.MS + 8 * model.MS >= began for it in entries)
+    return [i for i, it in enumerate(entries) if it.mtime - it.start * model.MS + 8 * model.MS < began]
 
 
 def judge(kept, key, table):
@@ -275,7 +275,7 @@ def judge(kept, key, table):
         truth, told = [true[label] for label in sorted(true)], list(groups_of(version, entries))
         if len(truth) < 2 or len(entries) != len(it["labels"]):
             continue
-        own = has_own_times([entries[i] for i in last_of(truth, entries)])
+        own = not old_times([entries[i] for i in last_of(truth, entries)])
         row = table[(*key, "anew" if it["how"] in ("recompacted", "first order") else it["how"], "own" if own else "old")]
         row["logs"] += 1
         row["last"] += last_of(truth, entries) == last_of([places for places, _ in told], entries)
