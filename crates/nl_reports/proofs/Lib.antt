@@ -7,6 +7,7 @@ mod FallingLemmas
 mod RankingLemmas
 mod ListedLemmas
 mod FractionLemmas
+mod LastByteLemmas
 mod KindLemmas
 mod SlowestLemmas
 mod SummaryLemmas

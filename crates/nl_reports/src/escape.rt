@@ -105,23 +105,13 @@ fn append_escaped(text: &[u8], out: &mut Vec<u8>) -> Result<(), AllocError>
 fn append_piece(first: u8, second: u8, byte: u8, out: &mut Vec<u8>) -> Result<(), AllocError>
     ensures items { OnOk result (out.new.items ≡ out.old.items ++ piece first second byte) }
 {
-    if byte == b'<' {
-        return append(b"&lt;", out);
+    match byte {
+        b'<' => append(b"&lt;", out),
+        b'>' => append(b"&gt;", out),
+        b'"' => append(b"&#34;", out),
+        b'&' => append(b"&#38;", out),
+        0..=31 => append(b"\xEF\xBF\xBD", out),
+        0xBE..=0xFF if first == 0xEF && second == 0xBF => append(b"\xBD", out),
+        _ => append(&[byte], out),
     }
-    if byte == b'>' {
-        return append(b"&gt;", out);
-    }
-    if byte == b'"' {
-        return append(b"&#34;", out);
-    }
-    if byte == b'&' {
-        return append(b"&#38;", out);
-    }
-    if byte <= 31 {
-        return append(b"\xEF\xBF\xBD", out);
-    }
-    if first == 0xEF && second == 0xBF && byte >= 0xBE {
-        return append(b"\xBD", out);
-    }
-    append(&[byte], out)
 }

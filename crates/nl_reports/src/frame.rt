@@ -132,11 +132,7 @@ fn last_closed(spans: &[Span]) -> u64
 fn top_of(lanes: &[u64]) -> u64
     ensures value { result ≡ top_of lanes.now }
 {
-    let mut top = 0;
-    for lane in lanes {
-        top = top.max(*lane);
-    }
-    top
+    lanes.iter().fold(0, |top: u64, lane: &u64| top.max(*lane))
 }
 
 pub(crate) fn append_seconds(ms: u64, out: &mut Vec<u8>) -> Result<(), AllocError>

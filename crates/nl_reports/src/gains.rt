@@ -4,7 +4,6 @@ ghost use Rattle.nl_reports.specs.Gains.{AreGainsOf, IsGain, IsHalfPath, gain_li
 ghost use Rattle.nl_reports.specs.GraphText.{seen_graph};
 ghost use Rattle.nl_reports.specs.Jobs.{Job as SeenJob, seen};
 ghost use Rattle.nl_reports.specs.Reaches.{AreOf, ran_seen};
-ghost use Rattle.nl_reports.specs.Rows.{falling};
 ghost use Rattle.nl_reports.specs.Spans.{time_of};
 
 use crate::critical::{Ran, Reaches};
@@ -101,16 +100,4 @@ impl<'a> Ranking<Ran<'a>> for ByTime {
     fn rank(&self, ran: &Ran<'a>) -> u128 {
         u128::from(ran.span.time())
     }
-
-    fn falling(&self, alloc: Global, commands: &[Ran<'a>]) -> Result<Vec<Ran<'a>>, AllocError> {
-        falling_by_time(alloc, commands)
-    }
-}
-
-fn falling_by_time<'a>(alloc: Global, commands: &[Ran<'a>]) -> Result<Vec<Ran<'a>>, AllocError>
-    ensures items { IfOk result (λ sorted. sorted.items ≡ falling (λ r. time_of r.span) commands.now) }
-{
-    let mut sorted = Vec::from_slice(alloc, commands)?;
-    sorted.sort_by(|a, b| b.span.time().cmp(&a.span.time()))?;
-    Ok(sorted)
 }

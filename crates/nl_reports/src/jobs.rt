@@ -1,18 +1,17 @@
 //! What so many commands at a time would take: estimates by a graph and by measured times.
 ghost use Rattle.std.specs.Prelude.{◌≡◌, ◌≤◌, ◌<◌, ◌^◌, ◌++◌, ℕ, List, map, IfOk, IfSome, IsTrue, OnOk};
-ghost use Rattle.std.specs.List.Sorted.{IsPermutation};
 ghost use Rattle.nl_reports.specs.GraphText.{seen_graph};
 ghost use Rattle.nl_reports.specs.Jobs.{Job as SeenJob, seen};
 ghost use Rattle.nl_reports.specs.Numbers.{total_time};
 ghost use Rattle.nl_reports.specs.Plans.{AreEstimates, HavePlan, AreBehind, IsToldBy, estimate_line, floor_of, heading, kept};
-ghost use Rattle.nl_reports.specs.Rows.{spans};
-ghost use Rattle.nl_reports.specs.Spans.{began_of, closed_of};
 ghost use Rattle.nl_reports.specs.Sweep.{last_moment, running};
 
 use crate::critical::{Reaches, critical_lines};
 use crate::gains::gain_lines;
 use crate::graph::NinjaGraph;
 use crate::job::Job;
+use crate::moments::rising;
+use crate::numbers::spans_of;
 use crate::simulation::{Priority, Waiting};
 use crate::span::Span;
 use crate::text::{Part, append, append_line};
@@ -179,7 +178,7 @@ fn checked(
     ensures value { (ks : List SeenJob) → map kept (map seen plan.now) ≡ map kept ks
         → IfOk result (λ o. IfSome o (HavePlan (seen_graph graph.now) ks count)) }
 {
-    let spans = planned_spans(alloc, plan)?;
+    let spans = spans_of(alloc, plan)?;
     let few = are_few(alloc, spans.as_slice(), count)?;
     let wall = last_of(spans.as_slice());
     let reaches = Reaches::of(alloc, secret, graph, plan)?;
@@ -214,45 +213,13 @@ fn planned_jobs<'s, 'a>(
     Ok(plan)
 }
 
-fn planned_spans(alloc: Global, plan: &[Job<'_, '_>]) -> Result<Vec<Span>, AllocError>
-    ensures items { IfOk result (λ found. found.items ≡ spans (map seen plan.now)) }
-{
-    let mut found = Vec::with_capacity(alloc, plan.len())?;
-    for job in plan {
-        found.push(job.span)?;
-    }
-    Ok(found)
-}
-
 // Whether no more than so many run at a time: each but the first so many begins when another has ended, by the order of both.
 fn are_few(alloc: Global, plan: &[Span], count: usize) -> Result<bool, AllocError>
     ensures value { IfOk result (λ is. IsTrue is → (t : ℕ) → running plan.now t ≤ count) }
 {
-    let starts = starts_of(alloc, plan)?;
-    let ends = ends_of(alloc, plan)?;
+    let starts = rising(plan.iter().map(|span| span.began).collect(alloc)?);
+    let ends = rising(plan.iter().map(|span| span.closed()).collect(alloc)?);
     Ok(are_behind(starts.as_slice(), ends.as_slice(), count))
-}
-
-fn starts_of(alloc: Global, plan: &[Span]) -> Result<Vec<u64>, AllocError>
-    ensures items { IfOk result (λ starts. IsPermutation (map began_of plan.now) starts.items) }
-{
-    let starts = sorted(plan.iter().map(|span| span.began).collect(alloc)?);
-    Ok(starts)
-}
-
-fn ends_of(alloc: Global, plan: &[Span]) -> Result<Vec<u64>, AllocError>
-    ensures items { IfOk result (λ ends. IsPermutation (map closed_of plan.now) ends.items) }
-{
-    let ends = sorted(plan.iter().map(|span| span.closed()).collect(alloc)?);
-    Ok(ends)
-}
-
-fn sorted(moments: Vec<u64>) -> Vec<u64>
-    ensures items { IsPermutation moments.items result.items }
-{
-    let mut sorted = moments;
-    sorted.sort_unstable();
-    sorted
 }
 
 fn are_behind(starts: &[u64], ends: &[u64], count: usize) -> bool
@@ -270,9 +237,6 @@ fn are_behind(starts: &[u64], ends: &[u64], count: usize) -> bool
 fn last_of(plan: &[Span]) -> u64
     ensures value { result ≡ last_moment plan.now }
 {
-    let mut last = 0;
-    for span in plan {
-        last = last.max(span.ended);
-    }
-    last
+    plan.iter()
+        .fold(0, |last: u64, span: &Span| last.max(span.ended))
 }

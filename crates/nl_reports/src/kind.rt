@@ -1,6 +1,6 @@
 //! The kind of an output, by its name.
-ghost use Rattle.std.specs.Prelude.{◌≡◌, ◌<◌, drop, length};
-ghost use Rattle.nl_reports.specs.Kinds.{extension_behind, extension_of, folder_of, kind_of, top_of};
+ghost use Rattle.std.specs.Prelude.{◌≡◌};
+ghost use Rattle.nl_reports.specs.Kinds.{extension_of, folder_of, kind_of, top_of};
 
 use memchr::memchr;
 
@@ -28,38 +28,30 @@ pub fn kind_of(rule: KindRule, name: &[u8]) -> &[u8]
 fn extension_of(name: &[u8]) -> &[u8]
     ensures value { result.now ≡ extension_of name.now }
 {
-    let mut found: &[u8] = b"";
-    for i in 0..name.len() {
-        found = extension_step(found, &name[i..]);
+    let mut at = name.len();
+    'bytes: while at > 0 {
+        at -= 1;
+        if name[at] == b'/' {
+            return b"";
+        }
+        if name[at] == b'.' {
+            return &name[at..];
+        }
     }
-    found
-}
-
-// `rest` is the part of the name that was not looked at.
-fn extension_step<'a>(found: &'a [u8], rest: &'a [u8]) -> &'a [u8]
-    requires some { 0 < length rest.now }
-    ensures value { extension_behind result.now (drop 1 rest.now)
-        ≡ extension_behind found.now rest.now }
-{
-    if rest[0] == b'/' {
-        return b"";
-    }
-    if rest[0] == b'.' {
-        return rest;
-    }
-    found
+    b""
 }
 
 fn folder_of(name: &[u8]) -> &[u8]
     ensures value { result.now ≡ folder_of name.now }
 {
-    let mut found = 0;
-    for i in 0..name.len() {
-        if name[i] == b'/' {
-            found = i + 1;
+    let mut at = name.len();
+    'bytes: while at > 0 {
+        if name[at - 1] == b'/' {
+            return &name[..at];
         }
+        at -= 1;
     }
-    &name[..found]
+    b""
 }
 
 fn top_of(name: &[u8]) -> &[u8]

@@ -24,7 +24,7 @@ pub fn lanes_of(alloc: Global, commands: &[Span]) -> Result<Vec<u64>, AllocError
         ends: Vec::new(alloc),
         least: Vec::new(alloc),
     };
-    let mut found = Vec::new(alloc);
+    let mut found = Vec::with_capacity(alloc, commands.len())?;
     for command in commands {
         let lane = open.take(command)?;
         found.push(lane as u64)?;

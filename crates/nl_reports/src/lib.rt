@@ -65,7 +65,7 @@ pub use moments::Moments;
 pub use numbers::{Numbers, numbers_of};
 pub use outputs::Outputs;
 pub use picture::{Known, draw_builds};
-pub use rows::{Listed, Rank, Row, Sums, falling_by};
+pub use rows::{Listed, Rank, Row, Sums};
 pub use shares::Shares;
 pub use shown::append_number;
 pub use sides::{ComparedRow, Rules, Side, compared};

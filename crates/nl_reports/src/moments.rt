@@ -37,10 +37,9 @@ impl Moments {
     }
 }
 
-fn rising(moments: Vec<u64>) -> Vec<u64>
-    requires early { All (λ m. m ≤ 2 ^ 32) moments.items }
+pub(crate) fn rising(moments: Vec<u64>) -> Vec<u64>
     ensures items { IsPermutation moments.items result.items }
-    ensures order { Rises result.items }
+    ensures order { All (λ m. m ≤ 2 ^ 32) moments.items → Rises result.items }
 {
     let mut sorted = moments;
     sorted.sort_unstable();

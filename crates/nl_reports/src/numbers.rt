@@ -56,9 +56,8 @@ fn count_outputs(from: &Builds, number: usize) -> usize
 }
 
 pub fn spans_of(alloc: Global, jobs: &[Job<'_, '_>]) -> Result<Vec<Span>, AllocError>
-    requires early { All (λ j. IsEarly j.span) jobs.now }
     ensures value { IfOk result (λ spans. spans.items ≡ spans_of (map seen jobs.now)) }
-    ensures early { IfOk result (λ spans. All IsEarly spans.items) }
+    ensures early { All (λ j. IsEarly j.span) jobs.now → IfOk result (λ spans. All IsEarly spans.items) }
 {
     let mut spans = Vec::with_capacity(alloc, jobs.len())?;
     for job in jobs {

@@ -1,5 +1,5 @@
 //! The text of `picture`: builds as SVG.
-ghost use Rattle.std.specs.Prelude.{◌≡◌, ◌<◌, ◌^◌, ◌++◌, List, Some, length, map, option_map, IfErr, IfOk, OnOk};
+ghost use Rattle.std.specs.Prelude.{◌≡◌, ◌<◌, ◌^◌, ◌++◌, List, Some, length, map, option_map, IfErr, OnOk};
 ghost use Rattle.std.specs.List.{All, zip};
 ghost use Rattle.nl_reports.specs.Bars.{joined};
 ghost use Rattle.nl_reports.specs.Frame.{IsFrame};
@@ -8,7 +8,6 @@ ghost use Rattle.nl_reports.specs.Jobs.{seen, told};
 ghost use Rattle.nl_reports.specs.Moments.{AreMoments};
 ghost use Rattle.nl_reports.specs.Picture.{IsOutlined, IsPicture, bars, commands_word, end, head, known_by, known_in, known_line, legend, legend_kind, long_line, longest, name, edge_at, outline, outline_text, outlined, picture, start};
 ghost use Rattle.nl_reports.specs.Reaches.{ran_seen, rans_of};
-ghost use Rattle.nl_reports.specs.Rows.{falling};
 ghost use Rattle.nl_reports.specs.Spans.{IsEarly, time_of};
 ghost use Rattle.nl_reports.specs.Times.{AreTimesOf};
 ghost use Rattle.nl_reports.specs.Writing.{IsFoundFault, IsWriteFault, Moves, PrintsInPieces, Writes};
@@ -523,19 +522,4 @@ impl<'s, 'a> Ranking<Job<'s, 'a>> for ByTime {
     fn rank(&self, job: &Job<'s, 'a>) -> u128 {
         u128::from(job.span.time())
     }
-
-    fn falling(&self, alloc: Global, jobs: &[Job<'s, 'a>]) -> Result<Vec<Job<'s, 'a>>, AllocError> {
-        falling_by_length(alloc, jobs)
-    }
-}
-
-fn falling_by_length<'s, 'a>(
-    alloc: Global,
-    jobs: &[Job<'s, 'a>],
-) -> Result<Vec<Job<'s, 'a>>, AllocError>
-    ensures items { IfOk result (λ sorted. sorted.items ≡ falling (λ j. time_of j.span) jobs.now) }
-{
-    let mut sorted = Vec::from_slice(alloc, jobs)?;
-    sorted.sort_by(|a, b| b.span.time().cmp(&a.span.time()))?;
-    Ok(sorted)
 }

@@ -12,9 +12,14 @@ pub(crate) trait Ranking<T> {
 
     fn rank(&self, item: &T) -> u128
         ensures { result ≡ rank self.now item.now };
+}
 
-    fn falling(&self, alloc: Global, items: &[T]) -> Result<Vec<T>, AllocError>
-        ensures value { IfOk result (λ sorted. sorted.items ≡ falling (rank self.now) items.now) };
+fn falling<T: Copy, R: Ranking<T>>(by: &R, items: Vec<T>) -> Result<Vec<T>, AllocError>
+    ensures value { IfOk result (λ sorted. sorted.items ≡ falling (R.rank by.now) items.items) }
+{
+    let mut sorted = items;
+    sorted.sort_by(|a, b| by.rank(b).cmp(&by.rank(a)))?;
+    Ok(sorted)
 }
 
 pub(crate) fn highest<T: Copy, R: Ranking<T>>(
@@ -26,7 +31,7 @@ pub(crate) fn highest<T: Copy, R: Ranking<T>>(
     ensures value { IfOk result (λ kept. kept.items ≡ take most (falling (R.rank by.now) items.now)) }
 {
     if most > FEW {
-        let mut sorted = by.falling(alloc, items)?;
+        let mut sorted = falling(by, Vec::from_slice(alloc, items)?)?;
         sorted.truncate(most);
         return Ok(sorted);
     }

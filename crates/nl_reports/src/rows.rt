@@ -1,8 +1,7 @@
 //! Commands and kinds of commands, the largest first.
-ghost use Rattle.std.specs.Prelude.{◌≡◌, ◌<◌, ◌^◌, ◌++◌, map, take, IfOk, OnOk};
+ghost use Rattle.std.specs.Prelude.{◌≡◌, ◌<◌, ◌^◌, ◌++◌, map, take, OnOk};
 ghost use Rattle.std.specs.List.{flat_map};
 ghost use Rattle.nl_reports.specs.Rows.{falling, heading, list_key, list_line, list_lines, rank_key, rank_of, rank_told, screen_row, shown_name, told_row};
-ghost use Rattle.nl_reports.specs.declared.rows.Rank.TheVariants.{Time, Weight};
 
 use crate::fraction::{percent, ratio};
 use crate::lists::Lists;
@@ -40,36 +39,6 @@ pub enum Listed {
     Kinds,
 }
 
-/// The rows by rank, the highest first, and those of one rank in their order.
-pub fn falling_by<'a>(
-    alloc: Global,
-    rank: Rank,
-    rows: &[Row<'a>],
-) -> Result<Vec<Row<'a>>, AllocError>
-    ensures value { IfOk result (λ sorted. sorted.items ≡ falling (rank_of rank) rows.now) }
-{
-    match rank {
-        Rank::Time => falling_by_time(alloc, rows),
-        Rank::Weight => falling_by_weight(alloc, rows),
-    }
-}
-
-fn falling_by_time<'a>(alloc: Global, rows: &[Row<'a>]) -> Result<Vec<Row<'a>>, AllocError>
-    ensures items { IfOk result (λ sorted. sorted.items ≡ falling (rank_of Time) rows.now) }
-{
-    let mut sorted = Vec::from_slice(alloc, rows)?;
-    sorted.sort_by(|a, b| b.sums.time.cmp(&a.sums.time))?;
-    Ok(sorted)
-}
-
-fn falling_by_weight<'a>(alloc: Global, rows: &[Row<'a>]) -> Result<Vec<Row<'a>>, AllocError>
-    ensures items { IfOk result (λ sorted. sorted.items ≡ falling (rank_of Weight) rows.now) }
-{
-    let mut sorted = Vec::from_slice(alloc, rows)?;
-    sorted.sort_by(|a, b| b.sums.weight.cmp(&a.sums.weight))?;
-    Ok(sorted)
-}
-
 impl<'a> Ranking<Row<'a>> for Rank {
     ghost rank = { rank_of };
 
@@ -78,10 +47,6 @@ impl<'a> Ranking<Row<'a>> for Rank {
             Rank::Time => row.sums.time,
             Rank::Weight => row.sums.weight,
         }
-    }
-
-    fn falling(&self, alloc: Global, rows: &[Row<'a>]) -> Result<Vec<Row<'a>>, AllocError> {
-        falling_by(alloc, *self, rows)
     }
 }
 

@@ -3,7 +3,6 @@ ghost use Rattle.std.specs.Prelude.{◌≡◌, ℕ, List, false, get_or, map, op
 ghost use Rattle.nl_reports.specs.Compare.{compared, compared_of, cost_of, fresh, held_side, job_at, new_time, of_class, old_time, or_unfinished, pair_of, partner, side_of, time_in, told_pair, waits, with_taken};
 ghost use Rattle.nl_reports.specs.Jobs.{seen};
 ghost use Rattle.nl_reports.specs.Outputs.{HoldPlaces};
-ghost use Rattle.nl_reports.specs.Rows.{falling};
 
 use crate::class::{Class, class_by_time, class_number};
 use crate::job::{Job, jobs_from};
@@ -238,23 +237,4 @@ impl<'a> Ranking<ComparedRow<'a>> for ByCost {
     fn rank(&self, row: &ComparedRow<'a>) -> u128 {
         u128::from(row.old.abs_diff(row.new))
     }
-
-    fn falling(
-        &self,
-        alloc: Global,
-        rows: &[ComparedRow<'a>],
-    ) -> Result<Vec<ComparedRow<'a>>, AllocError> {
-        falling_by_cost(alloc, rows)
-    }
-}
-
-fn falling_by_cost<'a>(
-    alloc: Global,
-    rows: &[ComparedRow<'a>],
-) -> Result<Vec<ComparedRow<'a>>, AllocError>
-    ensures items { IfOk result (λ sorted. sorted.items ≡ falling cost_of rows.now) }
-{
-    let mut sorted = Vec::from_slice(alloc, rows)?;
-    sorted.sort_by(|a, b| b.old.abs_diff(b.new).cmp(&a.old.abs_diff(a.new)))?;
-    Ok(sorted)
 }

@@ -112,8 +112,8 @@ pub fn sweep(alloc: Global, starts: &[u64], ends: &[u64]) -> Result<Sweeping, Al
         },
         begun: 0,
         ended: 0,
-        at_starts: Vec::new(alloc),
-        at_ends: Vec::new(alloc),
+        at_starts: Vec::with_capacity(alloc, starts.len())?,
+        at_ends: Vec::with_capacity(alloc, ends.len())?,
     };
     'events: while so_far.begun < starts.len() || so_far.ended < ends.len() {
         step(starts, ends, &mut so_far)?;

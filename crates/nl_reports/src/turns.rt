@@ -5,7 +5,7 @@ ghost use Rattle.nl_reports.specs.Frame.{first_began};
 ghost use Rattle.nl_reports.specs.Jobs.{build_jobs, seen, told};
 ghost use Rattle.nl_reports.specs.Rows.{by_start, spans};
 ghost use Rattle.nl_reports.specs.Spans.{IsEarly};
-ghost use Rattle.nl_reports.specs.Turns.{clock_behind, jobs_in_turn, jobs_turned, turned, turned_job, turned_jobs, turned_span};
+ghost use Rattle.nl_reports.specs.Turns.{clock_behind, jobs_in_turn, jobs_turned, turned, turned_job, turned_jobs};
 
 use crate::choice::{Choice, Scope, chosen};
 use crate::job::{Job, between, jobs_by_start, jobs_of};
@@ -69,32 +69,7 @@ fn push_build<'s, 'a>(
     ensures bound { IfOk result (λ last. last < 2 ^ 32) }
     ensures early { IfOk result (λ last. All (λ j. IsEarly j.span) all.new.items) }
 {
-    push_turned(jobs, began_of(jobs), clock, all)
-}
-
-fn began_of(jobs: &[Job<'_, '_>]) -> u64
-    ensures { result ≡ first_began (spans (map seen jobs.now)) }
-{
-    match jobs.first() {
-        Some(job) => job.span.began,
-        None => 0,
-    }
-}
-
-fn push_turned<'s, 'a>(
-    jobs: &[Job<'s, 'a>],
-    began: u64,
-    clock: u64,
-    all: &mut Vec<Job<'s, 'a>>,
-) -> Result<u64, AllocError>
-    requires jobs { All (λ j. IsEarly j.span) jobs.now }
-    requires clock { clock < 2 ^ 32 }
-    requires early { All (λ j. IsEarly j.span) all.old.items }
-    ensures jobs { IfOk result (λ last. map seen all.new.items ≡ map seen all.old.items ++ map (turned_job began clock) (map seen jobs.now)) }
-    ensures clock { IfOk result (λ last. last ≡ clock_behind clock (map (turned_job began clock) (map seen jobs.now))) }
-    ensures bound { IfOk result (λ last. last < 2 ^ 32) }
-    ensures early { IfOk result (λ last. All (λ j. IsEarly j.span) all.new.items) }
-{
+    let began = began_of(jobs);
     let mut last = clock;
     for job in jobs {
         let moved = turned_job(job, began, clock);
@@ -104,6 +79,12 @@ fn push_turned<'s, 'a>(
     Ok(last)
 }
 
+fn began_of(jobs: &[Job<'_, '_>]) -> u64
+    ensures { result ≡ first_began (spans (map seen jobs.now)) }
+{
+    jobs.first().map_or(0, |job| job.span.began)
+}
+
 fn turned_job<'s, 'a>(job: &Job<'s, 'a>, began: u64, clock: u64) -> Job<'s, 'a>
     requires early { IsEarly job.now.span }
     requires clock { clock < 2 ^ 32 }
@@ -111,20 +92,11 @@ fn turned_job<'s, 'a>(job: &Job<'s, 'a>, began: u64, clock: u64) -> Job<'s, 'a>
     ensures early { IsEarly result.span }
 {
     Job {
-        span: turned_span(job.span, began, clock),
+        span: Span {
+            began: turned(job.span.began, began, clock),
+            ended: turned(job.span.ended, began, clock),
+        },
         ..*job
-    }
-}
-
-fn turned_span(span: Span, began: u64, clock: u64) -> Span
-    requires early { IsEarly span }
-    requires clock { clock < 2 ^ 32 }
-    ensures value { result ≡ turned_span began clock span }
-    ensures early { IsEarly result }
-{
-    Span {
-        began: turned(span.began, began, clock),
-        ended: turned(span.ended, began, clock),
     }
 }
 

@@ -1,4 +1,4 @@
-use Rattle.std.proofs.Common.{◌+◌, ◌≤◌, List, ℕ, arith, length, map, subst, sym}
+use Rattle.std.proofs.Common.{◌+◌, ◌≤◌, arith, length, map, rules}
 use Rattle.std.specs.List.Sorted.{IsPermutation}
 use Rattle.std.proofs.lemmas.List.{length-map}
 use Rattle.std.proofs.lemmas.List.Sorted.{length_permutation}
@@ -11,8 +11,8 @@ returns c =
     let cs = c.args.plan.now in
     let starts = c.as_slice.result.now in
     let ends = c.as_slice-2.result.now in
-    let p : IsPermutation (map began_of cs) starts = subst (λ (l : List ℕ). IsPermutation (map began_of cs) l) (sym c.as_slice.ensures.value) c.in_ok-starts.ensures.items in
-    let q : IsPermutation (map closed_of cs) ends = subst (λ (l : List ℕ). IsPermutation (map closed_of cs) l) (sym c.as_slice-2.ensures.value) c.in_ok-ends.ensures.items in
+    let p : IsPermutation (map began_of cs) starts = search rules in
+    let q : IsPermutation (map closed_of cs) ends = search rules in
     let fits : length starts ≤ c.args.count + length ends = omega (
       arith,
       length_permutation (map began_of cs) starts p,

@@ -13,8 +13,8 @@ returns-then-begun c = record {
       let js = map seen c.args.plan.now in
       let r = c.in_ok-reaches-2.reaches in
       let are = are_still g js c.in_ok-reaches.reaches r c.in_ok-reaches.ensures.value c.in_ok-reaches-2.ensures.graph c.in_ok-reaches-2.ensures.ran in
-      let ran : c.as_slice.result.now ≡ spans js = c.as_slice.ensures.value ∙ c.in_ok-spans.ensures.items in
-      let last : c.as_slice-2.result.now ≡ spans js = c.as_slice-2.ensures.value ∙ c.in_ok-spans.ensures.items in
+      let ran : c.as_slice.result.now ≡ spans js = c.as_slice.ensures.value ∙ c.in_ok-spans.ensures.value in
+      let last : c.as_slice-2.result.now ≡ spans js = c.as_slice-2.ensures.value ∙ c.in_ok-spans.ensures.value in
       have_plan g js ks c.args.count c.last_of-wall.result r are same
       (subst (λ (cs : List Span). (t : ℕ) → running cs t ≤ c.args.count) ran (c.in_ok-few.ensures.value c.if-few.true))
       (c.last_of-wall.ensures.value ∙ ap last_moment last) (c.if-tight.ensures.value refl) (c.if-begun.ensures.value refl);

@@ -1,7 +1,13 @@
-use Rattle.std.proofs.Common.{◌≡◌, ◌≤◌, drop}
-use Rattle.nl_reports.specs.Kinds.{folder_len}
+use Rattle.std.proofs.Common.{◌≤◌, drop, length}
+use Rattle.nl_reports.proofs.LastByteLemmas.{IsLeaf}
 use Rattle.nl_reports.proofs.kind.folder_of.Given as goal
 
--- the last `/` so far, and those that follow
-abbrev pub invariant-loop-i : goal.invariant-loop-i
-invariant-loop-i l = (folder_len l.found l.i (drop l.i l.name) ≡ folder_len 0 0 l.name) × (l.found ≤ l.i)
+abbrev pub decreases-bytes : goal.decreases-bytes
+decreases-bytes l = l.at
+
+-- no `/` from this place on
+abbrev pub invariant-bytes : goal.invariant-bytes
+invariant-bytes l = record {
+  within : l.at ≤ length l.name;
+  leaf : IsLeaf (drop l.at l.name);
+}

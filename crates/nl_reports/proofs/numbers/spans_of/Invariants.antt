@@ -9,5 +9,5 @@ use Rattle.nl_reports.proofs.numbers.spans_of.Given as goal
 abbrev pub invariant-loop-job : goal.invariant-loop-job
 invariant-loop-job l = record {
   told : l.spans.items ++ spans_of (map seen (drop l.job-index l.jobs)) ≡ spans_of (map seen l.fn.jobs);
-  early : All IsEarly l.spans.items;
+  early : All (λ j. IsEarly j.span) l.fn.jobs → All IsEarly l.spans.items;
 }

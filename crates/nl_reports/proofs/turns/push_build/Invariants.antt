@@ -3,7 +3,7 @@ use Rattle.std.specs.List.{All}
 use Rattle.nl_reports.specs.Jobs.{seen}
 use Rattle.nl_reports.specs.Spans.{IsEarly}
 use Rattle.nl_reports.specs.Turns.{clock_behind, turned_job}
-use Rattle.nl_reports.proofs.turns.push_turned.Given as goal
+use Rattle.nl_reports.proofs.turns.push_build.Given as goal
 
 -- the commands so far, and those that are left
 abbrev pub invariant-loop-job : goal.invariant-loop-job
