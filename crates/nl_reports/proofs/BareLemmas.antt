@@ -1,4 +1,4 @@
--- Texts of bytes alone that stand in JSON and in XML as they are.
+-- Texts of bytes alone that stand in JSON as they are.
 use Rattle.std.proofs.Common.{◌≡◌, ◌∙◌, ℕ, zero, suc, ◌/◌, ◌%◌, ◌<◌, ◌≤◌, ◌==◌, ◌&&◌, Bool, true, false, List, [], ◌∷◌, ◌++◌, ◌+◌, ap, arith, inl, inr, refl, sym}
 use Rattle.std.specs.Prelude.{nat_le}
 use Rattle.std.specs.List.{All}
@@ -11,12 +11,9 @@ use Rattle.std.proofs.lemmas.Str.Ascii.{IsAscii-from_all}
 use Rattle.json.specs.Print.{escape}
 use Rattle.json.proofs.Printed.Strings.{escape_byte_plain}
 use Rattle.nl_fields.specs.Digits.{digit_of, digits_of, last_digits}
-use Rattle.nl_reports.specs.Escape.{IsBare, escaped_behind, piece}
-use Rattle.nl_reports.specs.Escape as xml
+use Rattle.nl_tool_texts.specs.Escape.{IsBare}
+use Rattle.nl_tool_texts.proofs.BareLemmas.{bare_lossy}
 use Rattle.nl_reports.specs.Events.{event_text, shown}
-
-bare_lossy : (s : List ℕ) → All IsBare s → utf8_lossy s ≡ s
-bare_lossy s all = utf8_lossy-IsUtf8 s (IsUtf8-from_ascii s (IsAscii-from_all s (λ k d within. omega (arith, (all k d within).high))))
 
 -- ---- in JSON
 
@@ -29,28 +26,6 @@ bare_escape (c ∷ cs) all =
 pub bare_quoted : (s : List ℕ) → All IsBare s → 34 ∷ (s ++ 34 ∷ []) ≡ event_text (shown s)
 unfolding event_text
 bare_quoted s all = ap (λ (l : List ℕ). 34 ∷ (l ++ 34 ∷ [])) (sym (ap escape (bare_lossy s all) ∙ bare_escape s all))
-
--- ---- in XML
-
-piece_bare : (a b c : ℕ) → IsBare c → piece a b c ≡ c ∷ []
-piece_bare a b c bare =
-    cond-false (c == 60) _ _ (ne_eqb c 60 bare.less) ∙ cond-false (c == 62) _ _ (ne_eqb c 62 bare.more)
-    ∙ cond-false (c == 34) _ _ (ne_eqb c 34 bare.quote) ∙ cond-false (c == 38) _ _ (ne_eqb c 38 bare.and)
-    ∙ cond-false (nat_le c 31) _ _ (lt-leb c 31 (omega (arith, bare.low)))
-    ∙ cond-false (a == 239 && (b == 191 && nat_le 190 c)) _ _ (last (a == 239) (b == 191) (lt-leb 190 c (omega (arith, bare.high))))
-  where
-    last : (x y : Bool) → nat_le 190 c ≡ false → (x && (y && nat_le 190 c)) ≡ false
-    last true true is = is
-    last true false is = refl
-    last false y is = refl
-
-bare_escaped : (a b : ℕ) (s : List ℕ) → All IsBare s → escaped_behind a b s ≡ s
-bare_escaped a b [] all = refl
-bare_escaped a b (c ∷ cs) all =
-    λ i. piece_bare a b c (all 0 c (omega arith)) i ++ bare_escaped b c cs (All-tail IsBare c cs all) i
-
-pub bare_shown : (s : List ℕ) → All IsBare s → s ≡ xml.shown s
-bare_shown s all = sym (ap xml.escaped (bare_lossy s all) ∙ bare_escaped 0 0 s all)
 
 -- ---- hexadecimal numbers
 

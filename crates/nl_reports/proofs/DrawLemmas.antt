@@ -13,19 +13,20 @@ use Rattle.nl_reports.specs.Picture.{frame as frame_in}
 use Rattle.nl_reports.specs.Critical.{Ran}
 use Rattle.nl_reports.specs.Curve.{curve}
 use Rattle.nl_reports.specs.Reaches.{ran_seen}
-use Rattle.nl_reports.specs.Rows.{falling, spans}
+use Rattle.nl_reports.specs.Rows.{spans}
+use Rattle.nl_tool_texts.specs.Falling.{falling}
 use Rattle.nl_reports.specs.Spans.{time_of}
-use Rattle.nl_reports.specs.Writing.{HoldsAllBut, Writes}
+use Rattle.nl_tool_texts.specs.Writing.{HoldsAllBut, Writes}
 use Rattle.nl_reports.specs.declared.critical.Ran.{Ran as HeldRan}
 use Rattle.nl_reports.specs.declared.bars.Mark.{Mark}
 use Rattle.nl_reports.specs.declared.frame.Frame.{Frame}
 use Rattle.nl_reports.specs.declared.picture.Known.{Known}
 use Rattle.nl_reports.specs.declared.job.Job.{Job as HeldJob}
 use Rattle.nl_reports.specs.declared.span.Span.{Span}
-use Rattle.nl_reports.proofs.FallingLemmas.{map-falling}
-use Rattle.nl_reports.proofs.ListedLemmas.{map-take}
+use Rattle.nl_tool_texts.proofs.FallingLemmas.{map-falling}
+use Rattle.nl_tool_texts.proofs.ListedLemmas.{map-take}
 use Rattle.nl_reports.proofs.PairLemmas.{pair_next, pairs_over}
-use Rattle.nl_reports.proofs.WritingLemmas.{err_writes, more_held, none_written}
+use Rattle.nl_tool_texts.proofs.WritingLemmas.{err_writes, more_held, none_written}
 
 pub end_some : (f : Frame) (ls : List ℕ) (path : Option (List Ran)) (cs : List Span) (js : List Job) → 0 < length (end f ls path cs js)
 end_some f ls path cs js = omega (

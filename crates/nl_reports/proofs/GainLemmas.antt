@@ -10,13 +10,13 @@ use Rattle.nl_reports.specs.Jobs.{Job}
 use Rattle.nl_reports.specs.Outputs.{last_at, outputs_at, places_from, places_of}
 use Rattle.nl_reports.specs.Paths.{Graph, Node, length_of}
 use Rattle.nl_reports.specs.Reaches.{AreOf, ran_seen, rans_seen}
-use Rattle.nl_reports.specs.Rows.{falling}
+use Rattle.nl_tool_texts.specs.Falling.{falling}
 use Rattle.nl_reports.specs.Spans.{time_of}
 use Rattle.nl_reports.specs.declared.critical.Ran.{Ran as HeldRan}
 use Rattle.nl_reports.specs.declared.critical.Reaches.{Reaches}
 use Rattle.nl_reports.specs.declared.graph.NinjaGraph.{NinjaGraph}
-use Rattle.nl_reports.proofs.FallingLemmas.{map-falling}
-use Rattle.nl_reports.proofs.ListedLemmas.{map-take}
+use Rattle.nl_tool_texts.proofs.FallingLemmas.{map-falling}
+use Rattle.nl_tool_texts.proofs.ListedLemmas.{map-take}
 
 -- it keeps its outputs
 same_places : (at from place : ℕ) (js : List Job) → places_from at (halved_from from place js) ≡ places_from at js

@@ -5,7 +5,7 @@ use Rattle.std.specs.Borrow.{Bor}
 use Rattle.std.specs.List.{IsDistinct}
 use Rattle.std.specs.Map.{keys_of}
 use Rattle.nl_tool_texts.specs.declared.fault.ToolFault.TheVariants.{BadLine}
-use Rattle.nl_reports.specs.GraphLine.{GraphLine, line_in}
+use Rattle.nl_tool_texts.specs.GraphLine.{GraphLine, line_in}
 use Rattle.nl_reports.specs.GraphText.{BadAt, GraphReading, HeldNode, Holds, IsGraph, IsOfText, IsRefusedAt, edges_said, graph_from, has_ended, ids_of, nodes_of, nodes_said, onto, seen_edge, with_line}
 use Rattle.nl_reports.specs.Critical.{names_of}
 use Rattle.nl_reports.specs.Outputs.{last_at}

@@ -3,10 +3,6 @@ mod SweepLemmas
 mod SweepStepLemmas
 mod SharesLemmas
 mod LeftOverLemmas
-mod FallingLemmas
-mod RankingLemmas
-mod ListedLemmas
-mod FractionLemmas
 mod LastByteLemmas
 mod KindLemmas
 mod SlowestLemmas
@@ -18,25 +14,18 @@ mod LastingLemmas
 mod LastingLawLemmas
 mod LastingJobLemmas
 mod CompareLemmas
-mod TextLemmas
-mod EscapeLemmas
 mod BareLemmas
 mod CurveLemmas
 mod PictureLemmas
 mod LaneLemmas
 mod LaneLawLemmas
-mod CellLemmas
-mod ShownLemmas
-mod WidthLemmas
 mod OutputsLemmas
-mod GraphLineLemmas
 mod GraphLemmas
 mod GraphTextLemmas
 mod OrderLemmas
 mod PathsLemmas
 mod ReachesLemmas
 mod CriticalLemmas
-pub mod WritingLemmas
 mod PairLemmas
 mod MarkLemmas
 mod NameLemmas

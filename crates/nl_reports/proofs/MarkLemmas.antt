@@ -2,7 +2,7 @@
 use Rattle.std.proofs.Common.{◌≡◌, ◌∙◌, ℕ, ◌+◌, ◌-◌, ◌<◌, true, List, ◌∷◌, ◌++◌, Option, drop, get_or, length, take, sym, ap, subst, arith, append_assoc, refl}
 use Rattle.std.proofs.lemmas.List.{at_drop_more, length-drop, take_all}
 use Rattle.nl_reports.specs.Bars.{is_last, joined, joined_bar}
-use Rattle.nl_reports.specs.Writing.{HoldsAllBut}
+use Rattle.nl_tool_texts.specs.Writing.{HoldsAllBut}
 use Rattle.nl_reports.specs.declared.bars.Mark.{Mark}
 use Rattle.nl_reports.specs.declared.frame.Frame.{Frame}
 

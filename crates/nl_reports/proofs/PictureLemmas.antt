@@ -1,4 +1,4 @@
--- The times of kinds, the lines of the axis, and where names are cut.
+-- The times of kinds, the lines of the axis, and where bars stand.
 use Rattle.std.proofs.Common.{◌≡◌, ℕ, zero, suc, ◌+◌, ◌*◌, ◌-◌, ◌/◌, ◌<◌, ◌≤◌, ◌^◌, Bool, true, false, cond, List, [], ◌∷◌, length, max, min, inl, inr, refl, arith}
 use Rattle.std.specs.Prelude.{nat_le, nat_lt}
 use Rattle.std.specs.List.{All, filter, fold, sum_by}
@@ -7,7 +7,6 @@ use Rattle.std.proofs.lemmas.Bool.Decides.{leb_tells}
 use Rattle.std.proofs.lemmas.List.Elements.{All-cons, All-head, All-nil, All-tail}
 use Rattle.std.proofs.lemmas.List.Sums.{sum_by-cons}
 use Rattle.nl_reports.specs.Bars.{drawn_width, width_of}
-use Rattle.nl_reports.specs.Escape.{begins_character, cut_at, last_begin}
 use Rattle.nl_reports.specs.Frame.{x_at}
 use Rattle.nl_reports.specs.Jobs.{Job}
 use Rattle.nl_reports.specs.Numbers.{total_time}
@@ -209,33 +208,7 @@ all_steps =
     (All-cons IsStep 180000000 ([]) (record { some = omega arith; early = omega arith })
     (All-nil IsStep))))))))))))))))))))))))))
 
--- ---- where names are cut, and where bars stand
-
-last_within : (k : ℕ) (text : List ℕ) → last_begin k text ≤ k
-unfolding last_begin
-last_within zero text = omega arith
-last_within (suc k) text = here (begins_character (suc k) text) (last_within k text)
-  where
-    here : (t : Bool) → last_begin k text ≤ k → cond t (suc k) (last_begin k text) ≤ suc k
-    here true low = omega arith
-    here false low = omega (arith, low)
-
-pub cut_within : (most : ℕ) (text : List ℕ) → cut_at most text ≤ most
-cut_within most text = omega (arith, last_within (min most (length text)) text)
-
-last_whole : (k : ℕ) (text : List ℕ) → 0 < last_begin k text → begins_character (last_begin k text) text ≡ true
-unfolding last_begin
-last_whole zero text some = absurd (omega (arith, some))
-last_whole (suc k) text some = here (begins_character (suc k) text) refl (last_whole k text) some
-  where
-    here : (t : Bool) → begins_character (suc k) text ≡ t
-        → (0 < last_begin k text → begins_character (last_begin k text) text ≡ true) → 0 < cond t (suc k) (last_begin k text)
-        → begins_character (cond t (suc k) (last_begin k text)) text ≡ true
-    here true is later there = is
-    here false is later there = later there
-
-pub cut_whole : (most : ℕ) (text : List ℕ) → 0 < cut_at most text → begins_character (cut_at most text) text ≡ true
-cut_whole most text some = last_whole (min most (length text)) text some
+-- ---- where bars stand
 
 pub drawn_most : (width : ℕ) → drawn_width width ≤ width
 drawn_most width = most (nat_lt width 20)

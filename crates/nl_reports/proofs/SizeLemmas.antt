@@ -17,21 +17,23 @@ use Rattle.std.proofs.lemmas.List.Sums.{sum_by-append, sum_by-cons}
 use Rattle.std.proofs.lemmas.List.Sorted.{All-permutation, length_permutation}
 use Rattle.std.proofs.lemmas.Str.{utf8_valid_len_le}
 use Rattle.nl_reports.specs.Jobs.{Job, first_name}
-use Rattle.nl_reports.specs.Bars.{bar, drawn_width, is_last, is_short, joined, joined_bar, joined_bars, kind_of, mark_of, marks, more_outputs, name_text, named, rank_of, rect, room_of, times_text, title, width_of}
-use Rattle.nl_reports.specs.Escape.{base_of, cut_at, cut_name, cut_text, escaped, escaped_behind, label, piece, shown}
+use Rattle.nl_reports.specs.Bars.{bar, base_of, drawn_width, is_last, is_short, joined, joined_bar, joined_bars, kind_of, mark_of, marks, more_outputs, name_text, named, rank_of, rect, room_of, times_text, title, width_of}
+use Rattle.nl_tool_texts.specs.Escape.{cut_at, cut_name, cut_text, escaped, escaped_behind, label, piece, shown}
 use Rattle.nl_reports.specs.Frame.{frame_of, height, is_named, pitch, seconds, x_at, y_at}
 use Rattle.nl_reports.specs.declared.frame.Frame.{Frame}
 use Rattle.nl_reports.specs.Lanes.{lanes}
 use Rattle.nl_reports.specs.Picture.{bars_of}
-use Rattle.nl_reports.specs.Rows.{by_start, falling, lead, spans}
+use Rattle.nl_reports.specs.Rows.{by_start, lead, spans}
+use Rattle.nl_tool_texts.specs.Falling.{falling}
 use Rattle.nl_reports.specs.Spans.{IsEarly, closed_of, time_of}
 use Rattle.nl_reports.specs.Work.{place, work_of}
 use Rattle.nl_reports.specs.declared.bars.Mark.{Mark}
 use Rattle.nl_reports.specs.declared.work.Work.{Work}
 use Rattle.nl_reports.specs.declared.work.Work.TheVariants.{Compile, Link, Archive, Generate, Test, Other}
-use Rattle.nl_reports.proofs.FallingLemmas.{falling_moves}
+use Rattle.nl_tool_texts.proofs.FallingLemmas.{falling_moves}
 use Rattle.nl_reports.proofs.FitLemmas.{lanes_few}
-use Rattle.nl_reports.proofs.PictureLemmas.{cut_within, drawn_most}
+use Rattle.nl_tool_texts.proofs.EscapeLemmas.{cut_within}
+use Rattle.nl_reports.proofs.PictureLemmas.{drawn_most}
 
 -- ---- a name
 
@@ -228,7 +230,7 @@ named_size f lane x room name low near few =
     let down = digits 5 (y_at f lane + 135) (omega arith) (omega (arith, low)) (omega (arith, low)) in
     let all =
     join (join (join (said (codes "<text x=\"") 9 (omega arith)) (join from (join (said (codes "\" y=\"") 5 (omega arith)) (join down
-    (join (said (codes "\">") 2 (omega arith)) (said [] 0 (omega arith))))))) (said (cut_name room name) 110 (cut_size room (utf8_lossy (base_of name)) few)))
+    (join (said (codes "\">") 2 (omega arith)) (said [] 0 (omega arith))))))) (said (cut_name room (base_of name)) 110 (cut_size room (utf8_lossy (base_of name)) few)))
     (said (codes "</text>\n") 8 (omega arith))
     in record { size = omega (arith, all.size) }
 

@@ -3,7 +3,8 @@ use Rattle.std.proofs.Common.{◌≡◌, ◌∙◌, ◌≤◌, ℕ, true, false,
 use Rattle.std.specs.Prelude.{nat_le}
 use Rattle.std.proofs.lemmas.Bool.{cond-false, cond-true}
 use Rattle.std.proofs.lemmas.Bool.Decides.{leb_tells, nat_tests}
-use Rattle.nl_reports.specs.Rows.{Told, falling, put}
+use Rattle.nl_reports.specs.Rows.{Told}
+use Rattle.nl_tool_texts.specs.Falling.{falling, put}
 use Rattle.nl_reports.specs.Summary.{first_of}
 
 -- one, and the first of some behind it: the first of both that is not ranked below the other

@@ -14,12 +14,12 @@ use Rattle.nl_reports.specs.Jobs.{Job, seen}
 use Rattle.nl_reports.specs.Lanes.{lanes}
 use Rattle.nl_reports.specs.Rows.{spans}
 use Rattle.nl_reports.specs.Trace.{array_text, behind_commas, build_events, events_of}
-use Rattle.nl_reports.specs.Writing.{Writes}
+use Rattle.nl_tool_texts.specs.Writing.{Writes}
 use Rattle.nl_reports.specs.declared.events.BuildEvent.{BuildEvent}
 use Rattle.nl_reports.specs.declared.job.Job.{Job as HeldJob}
 use Rattle.nl_reports.specs.declared.span.Span.{Span}
 use Rattle.nl_reports.proofs.PairLemmas.{pair_next}
-use Rattle.nl_reports.proofs.WritingLemmas.{err_writes, none_written}
+use Rattle.nl_tool_texts.proofs.WritingLemmas.{err_writes, none_written}
 
 commas : (ds : List Data) → items_text true (items_of ds) ≡ behind_commas ds ++ 93 ∷ []
 unfolding event_text

@@ -1,13 +1,14 @@
 -- The bars of commands.
-use Rattle.std.specs.Prelude.{ℕ, ◌+◌, ◌-◌, ◌*◌, ◌/◌, ◌==◌, ◌&&◌, Bool, min, not, true, nat_lt, List, [], ◌∷◌, ◌++◌, length, codes, decimal, if◌then◌else◌}
+use Rattle.std.specs.Prelude.{ℕ, ◌+◌, ◌-◌, ◌*◌, ◌/◌, ◌==◌, ◌&&◌, Bool, min, not, true, nat_lt, List, [], ◌∷◌, ◌++◌, drop, length, codes, decimal, if◌then◌else◌}
 use Rattle.nl_reports.specs.Spans.{closed_of, time_of}
-use Rattle.nl_reports.specs.Rows.{falling}
+use Rattle.nl_tool_texts.specs.Falling.{falling}
 use Rattle.nl_reports.specs.Jobs.{Job, first_name}
-use Rattle.nl_reports.specs.Escape.{cut_name, label}
+use Rattle.nl_reports.specs.Kinds.{folder_of}
+use Rattle.nl_tool_texts.specs.Escape.{cut_name, label}
 use Rattle.nl_reports.specs.Frame.{height, is_named, seconds, x_at, y_at}
 use Rattle.nl_reports.specs.Work.{place, work_of}
-use Rattle.nl_reports.specs.Texts.{rest_text}
-use Rattle.nl_reports.specs.Texts.{joined as parts}
+use Rattle.nl_tool_texts.specs.Texts.{rest_text}
+use Rattle.nl_tool_texts.specs.Texts.{joined as parts}
 use Rattle.nl_reports.specs.declared.frame.Frame.{Frame}
 use Rattle.nl_reports.specs.declared.bars.Mark.{Mark}
 
@@ -38,13 +39,17 @@ width_of f j = x_at f (closed_of j.span) - x_at f j.span.began
 abbrev pub drawn_width : ℕ → ℕ
 drawn_width width = if nat_lt width 20 then width else width - 6
 
--- so many bytes of a name stand in a bar; and the name, if some do
+-- the part of a name after its last `/`
+abbrev pub base_of : List ℕ → List ℕ
+base_of name = drop (length (folder_of name)) name
+
+-- so many bytes of it stand in a bar; and the name, if some do
 abbrev pub room_of : ℕ → ℕ
 room_of width = min 22 ((width - 80) / 70)
 
 abbrev pub named : Frame → ℕ → ℕ → ℕ → List ℕ → List ℕ
 named f lane x room name = parts (codes "<text x=\"" ∷ decimal (x + 40) ∷ codes "\" y=\"" ∷ decimal (y_at f lane + 135) ∷ codes "\">" ∷ [])
-    ++ cut_name room name ++ codes "</text>\n"
+    ++ cut_name room (base_of name) ++ codes "</text>\n"
 
 abbrev pub name_text : Frame → ℕ → ℕ → ℕ → List ℕ → List ℕ
 name_text f lane x width name = if nat_lt (room_of width) 4 then [] else (if is_named f then named f lane x (room_of width) name else [])

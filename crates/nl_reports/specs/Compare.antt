@@ -8,9 +8,9 @@ use Rattle.nl_versions.specs.Version.{is_rapid}
 use Rattle.nl_reports.specs.Jobs.{Job, first_name, jobs_from, seen}
 use Rattle.nl_reports.specs.Lasting.{is_among, is_held, marked}
 use Rattle.nl_reports.specs.Outputs.{last_at, places_of}
-use Rattle.nl_reports.specs.Rows.{falling}
+use Rattle.nl_tool_texts.specs.Falling.{falling}
 use Rattle.nl_reports.specs.Spans.{time_of}
-use Rattle.nl_reports.specs.Texts.{change_text, joined, line, took_text}
+use Rattle.nl_tool_texts.specs.Texts.{change_text, joined, line, took_text}
 use Rattle.nl_reports.specs.declared.class.Class.{Class}
 use Rattle.nl_reports.specs.declared.class.Class.TheVariants.{New, Gone, Changed, Slower, Faster, Unfinished, Same}
 use Rattle.nl_reports.specs.declared.sides.ComparedRow.{ComparedRow}

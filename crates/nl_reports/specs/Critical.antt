@@ -8,7 +8,7 @@ use Rattle.nl_reports.specs.Lasting.{is_among}
 use Rattle.nl_reports.specs.Outputs.{last_at, places_of}
 use Rattle.nl_reports.specs.Paths.{Graph, IsLongest, Node, length_of}
 use Rattle.nl_reports.specs.Spans.{time_of}
-use Rattle.nl_reports.specs.Texts.{joined, line, time_text, told_moment, took_text}
+use Rattle.nl_tool_texts.specs.Texts.{joined, line, time_text, told_moment, took_text}
 use Rattle.nl_reports.specs.declared.span.Span.{Span}
 
 -- the names of nodes, by their numbers

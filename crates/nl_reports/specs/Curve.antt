@@ -3,7 +3,7 @@ use Rattle.std.specs.Prelude.{ℕ, zero, suc, ◌+◌, ◌-◌, ◌*◌, ◌/◌
 use Rattle.nl_reports.specs.Sweep.{running}
 use Rattle.nl_reports.specs.declared.span.Span.{Span}
 use Rattle.nl_reports.specs.Frame.{foot_of}
-use Rattle.nl_reports.specs.Texts.{joined}
+use Rattle.nl_tool_texts.specs.Texts.{joined}
 use Rattle.nl_reports.specs.declared.frame.Frame.{Frame}
 
 -- the curve is taken at 480 moments of the build, three pixels apart

@@ -3,9 +3,9 @@ use Rattle.std.specs.Prelude.{◌≡◌, ℕ, ◌+◌, ◌-◌, ◌/◌, ◌==�
 use Rattle.nl_reports.specs.Critical.{Ran, path_rans, weight}
 use Rattle.nl_reports.specs.Jobs.{Job}
 use Rattle.nl_reports.specs.Paths.{Graph, IsLongest, length_of}
-use Rattle.nl_reports.specs.Rows.{falling}
+use Rattle.nl_tool_texts.specs.Falling.{falling}
 use Rattle.nl_reports.specs.Spans.{time_of}
-use Rattle.nl_reports.specs.Texts.{line, took_text}
+use Rattle.nl_tool_texts.specs.Texts.{line, took_text}
 use Rattle.nl_reports.specs.declared.span.Span.{Span}
 
 -- a command in half its time, rounded down, and commands of which the one at a place is so

@@ -5,9 +5,9 @@ use Rattle.std.specs.List.{flat_map}
 use Rattle.std.specs.Map.{lookup}
 use Rattle.nl_tool_texts.specs.declared.fault.ToolFault.{ToolFault}
 use Rattle.nl_tool_texts.specs.declared.fault.ToolFault.TheVariants.{Memory, BadLine}
-use Rattle.nl_reports.specs.Columns.{lines_of}
+use Rattle.nl_tool_texts.specs.Columns.{lines_of}
 use Rattle.nl_reports.specs.Critical.{names_of}
-use Rattle.nl_reports.specs.GraphLine.{GraphLine, Passed, Labelled, Joined, line_in}
+use Rattle.nl_tool_texts.specs.GraphLine.{GraphLine, Passed, Labelled, Joined, line_in}
 use Rattle.nl_reports.specs.Outputs.{last_at}
 use Rattle.nl_reports.specs.Paths.{Node, Edge, Graph, ClosesCycle}
 use Rattle.nl_reports.specs.declared.graph.Edge.{Edge as HeldEdge}
@@ -113,6 +113,3 @@ IsGraphFault _ = ⊥
 abbrev pub IsOfText : GraphReading → Graph → Type 0
 IsOfText (IsGraph g) held = IsSeen g held
 IsOfText (BadAt number) held = ⊥
-
-abbrev pub both_now : Bor (List ℕ) × Bor (List ℕ) → List ℕ × List ℕ
-both_now both = (both.0.now, both.1.now)

@@ -3,8 +3,6 @@ pub mod Sweep
 pub mod SweepSteps
 pub mod Moments
 pub mod Shares
-pub mod Fraction
-pub mod Writing
 pub mod Jobs
 pub mod Choice
 pub mod Lasting
@@ -18,7 +16,6 @@ pub mod Compare
 pub mod Lanes
 pub mod Frame
 pub mod Turns
-pub mod Texts
 pub mod BuildsTable
 pub mod Ticks
 pub mod Work
@@ -26,15 +23,12 @@ pub mod Times
 pub mod Events
 pub mod Trace
 pub mod Reading
-pub mod Columns
-pub mod Escape
 pub mod Bars
 pub mod Curve
 pub mod Paths
 pub mod Critical
 pub mod Gains
 pub mod Picture
-pub mod GraphLine
 pub mod GraphText
 pub mod Reaches
 pub mod Plans

@@ -6,15 +6,16 @@ use Rattle.nl_reports.specs.Bars.{bar, joined_bars, marks}
 use Rattle.nl_reports.specs.Choice.{chosen}
 use Rattle.nl_reports.specs.Critical.{IsFoundPath, Ran}
 use Rattle.nl_reports.specs.Curve.{curve}
-use Rattle.nl_reports.specs.Escape.{label}
+use Rattle.nl_tool_texts.specs.Escape.{label}
 use Rattle.nl_reports.specs.Frame.{frame_of, height, line_at, x_at, y_at}
 use Rattle.nl_reports.specs.Jobs.{Job, first_name}
 use Rattle.nl_reports.specs.Lanes.{lanes}
 use Rattle.nl_reports.specs.Paths.{Graph}
-use Rattle.nl_reports.specs.Rows.{falling, spans}
+use Rattle.nl_reports.specs.Rows.{spans}
+use Rattle.nl_tool_texts.specs.Falling.{falling}
 use Rattle.nl_reports.specs.Spans.{closed_of, time_of}
 use Rattle.nl_reports.specs.Summary.{taken_in}
-use Rattle.nl_reports.specs.Texts.{joined, time_text}
+use Rattle.nl_tool_texts.specs.Texts.{joined, time_text}
 use Rattle.nl_reports.specs.Ticks.{ticks}
 use Rattle.nl_reports.specs.Times.{share_of, times_of, total}
 use Rattle.nl_reports.specs.Turns.{jobs_in_turn}

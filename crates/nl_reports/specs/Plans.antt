@@ -11,7 +11,7 @@ use Rattle.nl_reports.specs.Paths.{Edge, Graph, IsLongest, length_of}
 use Rattle.nl_reports.specs.Rows.{spans}
 use Rattle.nl_reports.specs.Spans.{time_of}
 use Rattle.nl_reports.specs.Sweep.{last_moment, running}
-use Rattle.nl_reports.specs.Texts.{line, took_text}
+use Rattle.nl_tool_texts.specs.Texts.{line, took_text}
 
 -- what a command keeps, whenever it runs: how long it takes, and its outputs
 abbrev pub kept : Job → ℕ × List Entry

@@ -1,11 +1,12 @@
 -- Commands and kinds of commands, the largest first (docs/CLI.md, "summary").
 use Rattle.std.specs.Prelude.{ℕ, ◌-◌, ◌^◌, ◌==◌, nat_le, Bool, true, false, List, [], ◌∷◌, ◌++◌, take, map, codes, decimal, if◌then◌else◌}
 use Rattle.std.specs.List.{filter, flat_map}
-use Rattle.nl_reports.specs.Fraction.{percent, ratio}
+use Rattle.nl_tool_texts.specs.Falling.{falling}
+use Rattle.nl_tool_texts.specs.Fraction.{percent, ratio}
 use Rattle.nl_reports.specs.Jobs.{Job, first_name}
 use Rattle.nl_reports.specs.Spans.{time_of}
 use Rattle.nl_reports.specs.Sweep.{parts, weight}
-use Rattle.nl_reports.specs.Texts.{line, time_text}
+use Rattle.nl_tool_texts.specs.Texts.{line, time_text}
 use Rattle.nl_reports.specs.declared.lists.Lists.{Lists}
 use Rattle.nl_reports.specs.declared.rows.Listed.{Listed}
 use Rattle.nl_reports.specs.declared.rows.Listed.TheVariants.{Commands, Kinds}
@@ -36,25 +37,12 @@ told_job cs j = record { name = first_name j.outputs; sums = sums_of cs j.span }
 abbrev pub told_jobs : List Job → List Told
 told_jobs js = map (told_job (spans js)) js
 
--- the element stands before the first that ranks no higher
-abbrev pub put : {A : Type 0} → (A → ℕ) → A → List A → List A
-put rank x [] = x ∷ []
-put rank x (y ∷ ys) = if nat_le (rank y) (rank x) then x ∷ y ∷ ys else y ∷ put rank x ys
-
--- the highest rank comes first, and elements of one rank keep their order
-abbrev pub falling : {A : Type 0} → (A → ℕ) → List A → List A
-falling rank [] = []
-falling rank (x ∷ xs) = put rank x (falling rank xs)
-
 -- commands of one START keep their order
 abbrev pub lead : Job → ℕ
 lead j = 2 ^ 32 - j.span.began
 
 abbrev pub by_start : List Job → List Job
 by_start js = falling lead js
-
-abbrev pub ranked : {A : Type 0} → (A → ℕ) → ℕ → List A → List A
-ranked rank v xs = filter (λ x. rank x == v) xs
 
 abbrev pub rank_told : Rank → Told → ℕ
 rank_told Time t = t.sums.time

@@ -6,14 +6,15 @@ use Rattle.nl_builds.specs.declared.build.Build.{Build}
 use Rattle.nl_builds.specs.declared.build.How.{How}
 use Rattle.nl_builds.specs.declared.build.How.TheVariants.{AsWritten, FoundAgain}
 use Rattle.nl_reports.specs.Choice.{chosen}
-use Rattle.nl_reports.specs.Fraction.{ratio}
+use Rattle.nl_tool_texts.specs.Fraction.{ratio}
 use Rattle.nl_reports.specs.Jobs.{between, build_jobs}
 use Rattle.nl_reports.specs.Kinds.{kinds}
 use Rattle.nl_reports.specs.Numbers.{numbers_of, spans_of}
-use Rattle.nl_reports.specs.Rows.{Told, falling, list_lines, rank_told, told_jobs, told_row}
+use Rattle.nl_reports.specs.Rows.{Told, list_lines, rank_told, told_jobs, told_row}
+use Rattle.nl_tool_texts.specs.Falling.{falling}
 use Rattle.nl_reports.specs.declared.rows.Listed.{Listed}
 use Rattle.nl_reports.specs.declared.rows.Row.{Row}
-use Rattle.nl_reports.specs.Texts.{joined, line, time_text}
+use Rattle.nl_tool_texts.specs.Texts.{joined, line, time_text}
 use Rattle.nl_reports.specs.Sweep.{alone_time, busy_time, most_at_once}
 use Rattle.nl_reports.specs.declared.choice.Choice.{Choice}
 use Rattle.nl_reports.specs.declared.choice.Scope.{Scope}

@@ -2,7 +2,7 @@
 use Rattle.std.specs.Prelude.{◌≡◌, ◌⊎◌, ◌<◌, ◌^◌, ℕ, zero, suc, ◌+◌, ◌*◌, ◌/◌, nat_le, List, [], ◌∷◌, ◌++◌, codes, decimal, if◌then◌else◌}
 use Rattle.nl_reports.specs.declared.frame.Frame.{Frame}
 use Rattle.nl_reports.specs.Frame.{foot_of, x_of}
-use Rattle.nl_reports.specs.Texts.{joined, time_text}
+use Rattle.nl_tool_texts.specs.Texts.{joined, time_text}
 
 -- milliseconds between lines: the first of these steps of which the build has at most twelve
 abbrev pub steps : List ℕ

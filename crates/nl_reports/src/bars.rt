@@ -1,15 +1,15 @@
 //! The bars of commands, and those of commands that are too short for one of their own.
 ghost use Rattle.std.specs.Prelude.{◌≡◌, ◌<◌, ◌≤◌, ◌+◌, ◌^◌, ◌++◌, ◌∷◌, IfOk, OnOk};
-ghost use Rattle.nl_reports.specs.Bars.{bar, drawn_width, is_last, joined, kind_of, long_bar, marks, more_outputs, name_text, rank_of, rect, title, width_of};
+ghost use Rattle.nl_reports.specs.Bars.{bar, base_of, drawn_width, is_last, joined, kind_of, long_bar, marks, more_outputs, name_text, rank_of, rect, title, width_of};
 ghost use Rattle.nl_reports.specs.Jobs.{seen};
-ghost use Rattle.nl_reports.specs.Rows.{falling};
+ghost use Rattle.nl_tool_texts.specs.Falling.{falling};
 ghost use Rattle.nl_reports.specs.Spans.{IsEarly};
 
-use crate::escape::{append_cut_name, append_label};
 use crate::frame::{Frame, append_seconds};
 use crate::job::Job;
-use crate::text::{Part, append, append_parts, append_with};
+use crate::kind::{KindRule, kind_of as kind_by};
 use crate::work::{place, work_of};
+use nl_tool_texts::{Part, append, append_cut_name, append_label, append_parts, append_with};
 use std::alloc::{AllocError, Global};
 
 // A command whose bar would be narrower shares one with others.
@@ -181,8 +181,15 @@ fn append_name(
         ],
         out,
     )?;
-    append_cut_name(alloc, room as usize, name, out)?;
+    append_cut_name(alloc, room as usize, base_of(name), out)?;
     append(b"</text>\n", out)
+}
+
+fn base_of(name: &[u8]) -> &[u8]
+    ensures { result.now ≡ base_of name.now }
+{
+    let folder = kind_by(KindRule::Folder, name);
+    &name[folder.len().min(name.len())..]
 }
 
 /// The marks by lane, pixel and kind, the highest first.

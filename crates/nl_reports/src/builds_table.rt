@@ -6,11 +6,11 @@ ghost use Rattle.nl_reports.specs.Jobs.{told};
 use crate::builds_text::border_word;
 use crate::job::jobs_of;
 use crate::numbers::{Numbers, numbers_of};
-use crate::text::{Part, append, append_line, append_parts};
 use jiff_core::Timestamp;
 use jiff_core::civil::DateTime;
 use jiff_tz::TimeZone;
 use nl_builds::{Build, Builds};
+use nl_tool_texts::{Part, append, append_line, append_parts};
 use std::alloc::{AllocError, Global};
 
 // The moments of builds count from so many nanoseconds before 1970.

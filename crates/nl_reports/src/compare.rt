@@ -2,13 +2,12 @@
 ghost use Rattle.std.specs.Prelude.{◌≡◌, ◌++◌, map, take, IfOk, OnOk};
 ghost use Rattle.std.specs.List.{flat_map};
 ghost use Rattle.nl_reports.specs.Compare.{are_comparable, class_heading, class_lines, compare_text, compared_of, cost, head, lines_of, row_line, side_of, told_of_all, total_line, total_of};
-ghost use Rattle.nl_reports.specs.Rows.{falling};
+ghost use Rattle.nl_tool_texts.specs.Falling.{falling};
 
 use crate::class::{Class, class_text};
-use crate::ranking::highest;
 use crate::sides::{ByCost, ComparedRow, Rules, Side, compared, new_time, of_class, old_time};
-use crate::text::{Part, append, append_line, append_parts};
 use nl_table::Secret;
+use nl_tool_texts::{Part, append, append_line, append_parts, highest};
 use nl_versions::LogVersion;
 use std::alloc::{AllocError, Global};
 

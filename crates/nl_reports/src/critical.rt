@@ -14,10 +14,10 @@ use crate::graph::NinjaGraph;
 use crate::job::Job;
 use crate::outputs::Outputs;
 use crate::span::Span;
-use crate::text::{BEGINNING, Part, append_line, append_parts};
 use indexmap::IndexMap;
 use nl_fields::EntryRef;
 use nl_table::Secret;
+use nl_tool_texts::{BEGINNING, Part, append_line, append_parts};
 use std::alloc::{AllocError, Global};
 
 /// When the command ran whose output is a node, the node's name, and the place of the command.

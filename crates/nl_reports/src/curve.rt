@@ -7,7 +7,7 @@ ghost use Rattle.nl_reports.specs.Frame.{IsFrame};
 
 use crate::frame::Frame;
 use crate::moments::Moments;
-use crate::text::{Part, append_parts};
+use nl_tool_texts::{Part, append_parts};
 use std::alloc::AllocError;
 
 pub(crate) fn append_curve(

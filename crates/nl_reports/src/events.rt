@@ -8,10 +8,10 @@ ghost use Rattle.nl_reports.specs.declared.span.Span.{Span};
 
 use crate::job::Job;
 use crate::moments::Moments;
-use crate::text::{append, append_with, is_bare};
 use json::Writer;
 use nl_builds::How;
 use nl_fields::append_hex64;
+use nl_tool_texts::{append, append_with, is_bare};
 use std::alloc::{AllocError, Global};
 
 /// The builds that a trace is of: their number, which is 0 of all, when they began, and how they are known.

@@ -5,7 +5,7 @@ ghost use Rattle.nl_reports.specs.Spans.{IsEarly};
 ghost use Rattle.nl_reports.specs.Frame.{IsFrame, across, first_began, foot_of, frame_of, height, is_named, last_closed, line_at, pitch, seconds, top_of, x_at, x_of, y_at};
 
 use crate::span::Span;
-use crate::text::append_with;
+use nl_tool_texts::append_with;
 use std::alloc::AllocError;
 
 /// `wall` is in milliseconds, and `top` is the highest lane.

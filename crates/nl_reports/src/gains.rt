@@ -9,9 +9,8 @@ ghost use Rattle.nl_reports.specs.Spans.{time_of};
 use crate::critical::{Ran, Reaches};
 use crate::graph::NinjaGraph;
 use crate::job::Job;
-use crate::ranking::{Ranking, highest};
-use crate::text::{Part, append, append_line};
 use nl_table::Secret;
+use nl_tool_texts::{Part, Ranking, append, append_line, highest};
 use std::alloc::{AllocError, Global};
 
 /// For so many commands of the critical path, those that took the longest, how much shorter it is if one of them took half.

@@ -1,16 +1,14 @@
 //! The graph that Ninja prints of a build, as `ninja -t graph` does.
 ghost use Rattle.std.specs.Prelude.{◌≡◌, ◌++◌, ℕ, List, IfErr, IfOk, IsErrOf, OnOk};
 ghost use Rattle.nl_tool_texts.specs.declared.fault.ToolFault.{ToolFault};
-ghost use Rattle.nl_reports.specs.GraphLine.{line_seen};
+ghost use Rattle.nl_tool_texts.specs.GraphLine.{line_seen};
 ghost use Rattle.nl_reports.specs.GraphText.{Holds, IsGraphFault, IsOfText, IsPlaced, IsRefusedAt, edges_said, graph_of, nodes_said, seen_graph};
 ghost use Rattle.nl_reports.specs.Paths.{Edge as SeenEdge, Node};
 
-use crate::columns::lines_of;
-use crate::graph_line::{Line, line_in};
 use crate::order::order_of;
 use indexmap::IndexMap;
 use nl_table::Secret;
-use nl_tool_texts::ToolFault;
+use nl_tool_texts::{Line, ToolFault, line_in, lines_of};
 use std::alloc::{AllocError, Global};
 
 /// An edge from one node to another, by their places, and the line on which it stands.

@@ -14,8 +14,8 @@ use crate::moments::rising;
 use crate::numbers::spans_of;
 use crate::simulation::{Priority, Waiting};
 use crate::span::Span;
-use crate::text::{Part, append, append_line};
 use nl_table::Secret;
+use nl_tool_texts::{Part, append, append_line};
 use std::alloc::{AllocError, Global};
 
 /// A graph, the numbers of commands at a time that estimates are asked for, and of how many commands at most it is told what is gained by them.

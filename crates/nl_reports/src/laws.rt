@@ -1,4 +1,4 @@
-//! Laws of weighted times, lists, kinds, comparisons, plans, lanes, events, names and columns, each the contract of a function that does nothing.
+//! Laws of weighted times, lists, kinds, comparisons, plans, lanes and events, each the contract of a function that does nothing.
 ghost use Rattle.std.specs.Prelude.{◌≡◌, ◌+◌, ◌*◌, ◌/◌, ◌<◌, ◌≤◌, ◌^◌, ◌++◌, ◌∷◌, [], ℕ, Bool, true, false, IfSome, List, Some, count_by, length, map, slice_index, slice_index_or, take};
 ghost use Rattle.std.specs.List.{All, filter, flat_map, sum_by};
 ghost use Rattle.std.specs.List.Sorted.{IsPermutation};
@@ -7,10 +7,7 @@ ghost use Rattle.serde_json.specs.Read.{read};
 ghost use Rattle.serde_json.specs.View.{items_of};
 ghost use Rattle.nl_builds.specs.Builds.{Told as BuildsTold};
 ghost use Rattle.nl_reports.specs.Bars.{bar, drawn_width, width_of};
-ghost use Rattle.nl_reports.specs.Columns.{IsQuiet, cell, cells_to, field_at, fields_of, room_behind, shown, widest, width, widths};
 ghost use Rattle.nl_reports.specs.Compare.{Compared, Log, classes, compared, is_of, new_of, of_class, old_of, pairs, told_pair};
-ghost use Rattle.nl_reports.specs.Escape.{IsMadeOfPieces, begins_character, cut_at, escaped};
-ghost use Rattle.nl_reports.specs.Escape.{IsQuiet as IsQuietByte};
 ghost use Rattle.nl_reports.specs.Frame.{x_at};
 ghost use Rattle.nl_reports.specs.Jobs.{Job, first_name, jobs_from};
 ghost use Rattle.nl_reports.specs.Kinds.{kinds, named, of_kind};
@@ -22,7 +19,8 @@ ghost use Rattle.nl_reports.specs.Paths.{Graph, IsPath, length_of};
 ghost use Rattle.nl_reports.specs.Picture.{bars_of};
 ghost use Rattle.nl_reports.specs.Plans.{IsPlan};
 ghost use Rattle.nl_reports.specs.Reading.{FewTaken, IsEvent};
-ghost use Rattle.nl_reports.specs.Rows.{Told, by_start, falling, ranked, spans, told_jobs};
+ghost use Rattle.nl_reports.specs.Rows.{Told, by_start, spans, told_jobs};
+ghost use Rattle.nl_tool_texts.specs.Falling.{falling, ranked};
 ghost use Rattle.nl_reports.specs.Spans.{IsEarly, time_of};
 ghost use Rattle.nl_reports.specs.Sweep.{busy_time, left_over, parts, runs_at, weight};
 ghost use Rattle.nl_reports.specs.Ticks.{IsRound, step_of};
@@ -152,12 +150,6 @@ pub fn a_trace_reads_as_its_events()
         → IfSome (how_in scope t) FewTaken → read (scoped_text scope t) ≡ Some (array (items_of (trace_events scope t))) }
 {}
 
-/// No escaped text has a `<`, a `>`, a `"` or a control character below 32, and each `&` in it begins an entity.
-pub fn escaped_text_is_quiet()
-    ensures bytes { (text : List ℕ) → All IsQuietByte (escaped text) }
-    ensures pieces { (text : List ℕ) → IsMadeOfPieces (escaped text) }
-{}
-
 /// The bar of a command takes at most 400 bytes, its title and its name included, whatever its outputs are called.
 pub fn a_bar_takes_at_most_400_bytes()
     ensures { (f : Frame) (j : Job) (lane : ℕ) → IsEarly j.span → length j.outputs < 2 ^ 63 → lane ≤ f.top
@@ -186,37 +178,10 @@ pub fn parts_add_up()
         + share_of t Test + share_of t Other ≤ 100 }
 {}
 
-/// A name that is cut is cut before a character, and has fewer bytes than fit, but for the ellipsis.
-pub fn names_are_cut_at_characters()
-    ensures fits { (most : ℕ) (text : List ℕ) → cut_at most text ≤ most }
-    ensures whole { (most : ℕ) (text : List ℕ) → 0 < cut_at most text → begins_character (cut_at most text) text ≡ true }
-{}
-
 /// All bars of a picture, those of short commands too, take at most 400 bytes for each command.
 pub fn bars_take_at_most_400_bytes_a_command()
     ensures { (js : List Job) → All (λ (j : Job). IsEarly j.span) js → All (λ (j : Job). length j.outputs < 2 ^ 63) js
         → length js < 2 ^ 63 → length (bars_of (by_start js)) ≤ 400 * length js }
-{}
-
-/// Columns line up: in each line of a text with as many fields, a cell that others follow is as wide as the widest field of its column,
-/// and two characters more.
-pub fn columns_line_up()
-    ensures { (before : List (List ℕ)) (line : List ℕ) (later : List (List ℕ)) (place : ℕ)
-        → width (cell (widest (length (fields_of line)) place (before ++ line ∷ later) 0) (field_at line place))
-        ≡ widest (length (fields_of line)) place (before ++ line ∷ later) 0 + 2 }
-{}
-
-/// No line has more characters than it may, if its fields but the last leave room for one.
-pub fn a_line_fits()
-    ensures { (most last : ℕ) (before : List (List ℕ)) (line : List ℕ) (later : List (List ℕ))
-        → last + 1 ≡ length (fields_of line) → 1 ≤ last
-        → 1 ≤ room_behind last most (widths (length (fields_of line)) (before ++ line ∷ later))
-        → width (cells_to last most (widths (length (fields_of line)) (before ++ line ∷ later)) line) ≤ most }
-{}
-
-/// No name makes a terminal do anything: what is laid out has no control character, of one byte or of two, but tabs and newlines.
-pub fn nothing_is_obeyed()
-    ensures { (text : List ℕ) → IsQuiet 0 (shown text) }
 {}
 
 /// No plan for so many processors ends before the critical path does, nor before so many have done all that there is to do.

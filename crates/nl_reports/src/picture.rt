@@ -10,31 +10,29 @@ ghost use Rattle.nl_reports.specs.Picture.{IsOutlined, IsPicture, bars, commands
 ghost use Rattle.nl_reports.specs.Reaches.{ran_seen, rans_of};
 ghost use Rattle.nl_reports.specs.Spans.{IsEarly, time_of};
 ghost use Rattle.nl_reports.specs.Times.{AreTimesOf};
-ghost use Rattle.nl_reports.specs.Writing.{IsFoundFault, IsWriteFault, Moves, PrintsInPieces, Writes};
+ghost use Rattle.nl_tool_texts.specs.Writing.{IsFoundFault, IsWriteFault, Moves, PrintsInPieces, Writes};
 ghost use Rattle.nl_reports.specs.declared.span.Span.{Span};
 
 use crate::bars::{Mark, append_bar, append_mark, falling_marks};
 use crate::choice::{Scope, chosen};
 use crate::critical::{FoundPath, Ran, path_in};
 use crate::curve::append_curve;
-use crate::escape::append_label;
 use crate::frame::Frame;
 use crate::graph::NinjaGraph;
 use crate::job::Job;
 use crate::lanes::{lane_at, lanes_of};
 use crate::moments::Moments;
 use crate::numbers::spans_of;
-use crate::ranking::{Ranking, highest};
 use crate::summary::taken_in;
-use crate::text::{Part, append, append_parts};
 use crate::ticks::append_ticks;
 use crate::times::Times;
 use crate::turns::jobs_in_turn;
 use crate::work::{Work, place, word};
-use crate::writing::{write_full, write_rest};
 use nl_builds::Builds;
 use nl_table::Secret;
-use nl_tool_texts::ToolFault;
+use nl_tool_texts::{
+    Part, Ranking, ToolFault, append, append_label, append_parts, highest, write_full, write_rest,
+};
 use std::alloc::{AllocError, Global};
 use std::io::Write;
 

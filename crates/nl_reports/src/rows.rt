@@ -1,13 +1,12 @@
 //! Commands and kinds of commands, the largest first.
 ghost use Rattle.std.specs.Prelude.{◌≡◌, ◌<◌, ◌^◌, ◌++◌, map, take, OnOk};
 ghost use Rattle.std.specs.List.{flat_map};
-ghost use Rattle.nl_reports.specs.Rows.{falling, heading, list_key, list_line, list_lines, rank_key, rank_of, rank_told, screen_row, shown_name, told_row};
+ghost use Rattle.nl_reports.specs.Rows.{heading, list_key, list_line, list_lines, rank_key, rank_of, rank_told, screen_row, shown_name, told_row};
+ghost use Rattle.nl_tool_texts.specs.Falling.{falling};
 
-use crate::fraction::{percent, ratio};
 use crate::lists::Lists;
-use crate::ranking::{Ranking, highest};
 use crate::sweep::PARTS;
-use crate::text::{Part, append, append_line};
+use nl_tool_texts::{Part, Ranking, append, append_line, highest, percent, ratio};
 use std::alloc::{AllocError, Global};
 
 /// How many commands there are, the sum of their milliseconds, and that of their weighted times, in parts of a millisecond.

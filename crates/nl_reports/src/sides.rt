@@ -8,10 +8,10 @@ use crate::class::{Class, class_by_time, class_number};
 use crate::job::{Job, jobs_from};
 use crate::last_entries::names_of;
 use crate::outputs::Outputs;
-use crate::ranking::Ranking;
 use indexmap::IndexSet;
 use nl_builds::Builds;
 use nl_table::Secret;
+use nl_tool_texts::Ranking;
 use nl_versions::LogVersion;
 use std::alloc::{AllocError, Global};
 

@@ -4,7 +4,8 @@ ghost use Rattle.std.specs.List.{All, Contains};
 ghost use Rattle.nl_reports.specs.Jobs.{build_jobs, seen, told};
 ghost use Rattle.nl_reports.specs.Kinds.{IsOfOne};
 ghost use Rattle.nl_reports.specs.Numbers.{IsSmall, spans_of};
-ghost use Rattle.nl_reports.specs.Rows.{Told, falling, rank_told, told_job, told_jobs, told_row};
+ghost use Rattle.nl_reports.specs.Rows.{Told, rank_told, told_job, told_jobs, told_row};
+ghost use Rattle.nl_tool_texts.specs.Falling.{falling};
 ghost use Rattle.nl_reports.specs.Shares.{AreSharesOf};
 ghost use Rattle.nl_reports.specs.Spans.{IsEarly};
 ghost use Rattle.nl_reports.specs.Summary.{AreTotalsOf, again_in, again_line, all_lists, both_lists, bound, chosen_text, count_line, facts, few_text, first_of, lists_text, more_taken, most_taken, no_totals, number_lines, rows_from, slowest_line, slowest_time, so_far, summary_text, taken_in, title, total_of, totals_from, unfinished_line, with_build, with_numbers};
@@ -13,15 +14,14 @@ ghost use Rattle.nl_reports.specs.declared.rows.Rank.TheVariants.{Time};
 ghost use Rattle.nl_reports.specs.declared.span.Span.{Span};
 
 use crate::choice::{Choice, Scope, chosen};
-use crate::fraction::ratio;
 use crate::job::{Job, between, jobs_of};
 use crate::kinds::kinds_of;
 use crate::lists::Lists;
 use crate::numbers::{Numbers, numbers_of, spans_of};
 use crate::rows::{Listed, Rank, Row, Sums, append_list};
 use crate::shares::Shares;
-use crate::text::{Part, append_line, append_parts};
 use nl_builds::{Build, Builds, How};
+use nl_tool_texts::{Part, append_line, append_parts, ratio};
 use std::alloc::{AllocError, Global};
 
 /// The sums of the numbers of builds, one after another. Times are in milliseconds.

@@ -5,7 +5,7 @@ ghost use Rattle.nl_reports.specs.Frame.{IsFrame};
 ghost use Rattle.nl_reports.specs.Ticks.{IsStep, step_in, step_of, tick, ticks};
 
 use crate::frame::Frame;
-use crate::text::{Part, append_parts};
+use nl_tool_texts::{Part, append_parts};
 use std::alloc::AllocError;
 
 // In milliseconds; a build has at most twelve steps.

@@ -5,7 +5,7 @@ ghost use Rattle.nl_reports.specs.Jobs.{seen, told};
 ghost use Rattle.nl_reports.specs.Moments.{AreMoments};
 ghost use Rattle.nl_reports.specs.Spans.{IsEarly};
 ghost use Rattle.nl_reports.specs.Trace.{array_text, behind_commas, build_events, events_of, how_among, how_in, number_in, scoped_text};
-ghost use Rattle.nl_reports.specs.Writing.{IsWriteFault, Writes};
+ghost use Rattle.nl_tool_texts.specs.Writing.{IsWriteFault, Writes};
 ghost use Rattle.nl_reports.specs.declared.span.Span.{Span};
 
 use crate::choice::{Choice, Scope, chosen, last_number};
@@ -16,11 +16,9 @@ use crate::lanes::{lane_at, lanes_of};
 use crate::moments::Moments;
 use crate::numbers::spans_of;
 use crate::summary::most_taken;
-use crate::text::append;
 use crate::turns::jobs_in_turn;
-use crate::writing::{write_full, write_rest};
 use nl_builds::{Build, Builds, How};
-use nl_tool_texts::{ToolFault, write_out};
+use nl_tool_texts::{ToolFault, append, write_full, write_out, write_rest};
 use std::alloc::{AllocError, Global};
 use std::io::Write;
 

@@ -1,7 +1,7 @@
 -- What is said of a file that is no log: docs/CLI.md, "Why something was refused".
 use Rattle.std.specs.Prelude.{ℕ, Bool, ◌&&◌, ◌||◌, ◌==◌, not, nat_lt, nat_eq, List, [], ◌∷◌, length, min, take, Option, None, Some, codes, if◌then◌else◌}
 use Rattle.std.specs.List.{ends_with, flat_map, starts_with}
-use Rattle.nl_reports.specs.Columns.{by_number}
+use Rattle.nl_tool_texts.specs.Columns.{by_number}
 use Rattle.nl_tool.specs.declared.looks.Look.{Look}
 use Rattle.nl_tool.specs.declared.looks.Look.TheVariants.{Gzip, Mark, Dependencies, Return}
 

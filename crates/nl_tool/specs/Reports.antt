@@ -17,7 +17,7 @@ use Rattle.jiff_tz.specs.declared.timezone.TimeZone.{TimeZone}
 use Rattle.nl_reports.specs.BuildsTable.{IsBuildsScreen}
 use Rattle.nl_reports.specs.BuildsText.{builds_text}
 use Rattle.nl_reports.specs.Choice.{chosen_jobs}
-use Rattle.nl_reports.specs.Columns.{in_columns}
+use Rattle.nl_tool_texts.specs.Columns.{in_columns}
 use Rattle.nl_reports.specs.Compare.{Log as Compared}
 use Rattle.nl_reports.specs.GraphText.{seen_graph}
 use Rattle.nl_reports.specs.Jobs.{jobs_from, told}
@@ -26,7 +26,7 @@ use Rattle.nl_reports.specs.Picture.{IsPicture}
 use Rattle.nl_reports.specs.Plans.{IsToldBy}
 use Rattle.nl_reports.specs.Summary.{summary_text}
 use Rattle.nl_reports.specs.Trace.{scoped_text}
-use Rattle.nl_reports.specs.Writing.{PrintsInPieces}
+use Rattle.nl_tool_texts.specs.Writing.{PrintsInPieces}
 use Rattle.nl_reports.specs.declared.choice.Scope.{Scope}
 use Rattle.nl_reports.specs.declared.choice.Scope.TheVariants.{Last, Numbered, All}
 use Rattle.nl_reports.specs.declared.jobs.ByGraph.{ByGraph}

@@ -2,7 +2,7 @@
 ghost use Rattle.std.specs.Prelude.{◌≡◌, ℕ, Some, IfErr, IfOk, IfSome, IsErrOf, OnOk, is_some};
 ghost use Rattle.nl_tool_print.specs.Faults.{IsLogFault};
 ghost use Rattle.nl_tool_texts.specs.Output.{Prints};
-ghost use Rattle.nl_reports.specs.Writing.{IsWriteFault};
+ghost use Rattle.nl_tool_texts.specs.Writing.{IsWriteFault};
 ghost use Rattle.nl_tool.specs.Faults.{IsCompareFault};
 ghost use Rattle.nl_table.specs.Log.{NotALog, OtherVersion, log_of};
 ghost use Rattle.nl_tool_texts.specs.declared.fault.ToolFault.{ToolFault};

@@ -3,7 +3,7 @@ ghost use Rattle.std.specs.Prelude.{◌≡◌, ◌<◌, ◌++◌, IfOk, IfSome, 
 ghost use Rattle.std.specs.List.{flat_map};
 ghost use Rattle.nl_tool.specs.Looks.{escaped, look_of, look_text, start_text};
 
-use nl_reports::append_number;
+use nl_tool_texts::append_number;
 use std::alloc::{AllocError, Global};
 use std::fmt;
 

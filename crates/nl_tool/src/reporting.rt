@@ -7,7 +7,7 @@ ghost use Rattle.nl_tool_texts.specs.Output.{Prints};
 ghost use Rattle.nl_versions.specs.VersionOf.{as_five};
 ghost use Rattle.nl_table.specs.Log.{log_of};
 ghost use Rattle.nl_reports.specs.Jobs.{told};
-ghost use Rattle.nl_reports.specs.Writing.{IsFoundFault, IsWriteFault};
+ghost use Rattle.nl_tool_texts.specs.Writing.{IsFoundFault, IsWriteFault};
 ghost use Rattle.nl_reports.specs.declared.choice.Scope.{Scope};
 ghost use Rattle.nl_tool.specs.Answers.{RefusesLog};
 ghost use Rattle.nl_tool.specs.Faults.{IsBuildFault, IsPathFault, IsPictureFault, IsReportFault, IsSummaryFault, IsToldFault};
@@ -22,11 +22,11 @@ use nl_builds::{Builds, LogBuilds, Stamps, read_builds};
 use nl_fields::read_i64;
 use nl_reports::{
     ByGraph, KindRule, Lists, NinjaGraph, Priority, Scope, builds_lines, builds_screen,
-    chosen_jobs, draw_builds, graph_lines, in_columns, lasting, read_graph, summary_lines,
-    taken_in, trace_builds,
+    chosen_jobs, draw_builds, graph_lines, lasting, read_graph, summary_lines, taken_in,
+    trace_builds,
 };
 use nl_table::Secret;
-use nl_tool_texts::{ToolFault, write_out};
+use nl_tool_texts::{ToolFault, in_columns, write_out};
 use nl_tool_words::Choices;
 use std::alloc::{AllocError, Global};
 use std::io::{self, Write};

@@ -1,3 +1,10 @@
 pub mod Files
 pub mod Faults
 pub mod Output
+pub mod Writing
+pub mod Falling
+pub mod Fraction
+pub mod Texts
+pub mod Escape
+pub mod Columns
+pub mod GraphLine

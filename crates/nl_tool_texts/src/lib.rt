@@ -1,8 +1,26 @@
-//! The texts that the tool reads and writes: why a command is refused, the lines of a file, and what a writer holds.
+//! The texts that the tool reads and writes: why a command is refused, the lines of a file, the parts of a text, names, columns, and what a
+//! writer holds.
 #![tactic(auto)]
 
+mod columns;
+mod escape;
 mod fault;
+mod fraction;
+mod graph_line;
+pub mod laws;
 mod output;
+mod ranking;
+mod shown;
+mod text;
+mod writing;
 
+pub use columns::{in_columns, lines_of};
+pub use escape::{append_cut_name, append_label};
 pub use fault::{ToolFault, status_of};
+pub use fraction::{percent, ratio};
+pub use graph_line::{Line, line_in};
 pub use output::write_out;
+pub use ranking::{Ranking, falling, highest};
+pub use shown::append_number;
+pub use text::{BEGINNING, Part, append, append_line, append_parts, append_with, is_bare};
+pub use writing::{write_full, write_rest};

@@ -3,7 +3,7 @@ use Rattle.std.proofs.lemmas.Result.{on_ok_weaker}
 use Rattle.nl_reports.specs.Bars.{drawn_width, kind_of, name_text, rect, title, width_of}
 use Rattle.nl_reports.specs.Frame.{x_at}
 use Rattle.nl_reports.specs.Jobs.{first_name, seen}
-use Rattle.nl_reports.proofs.TextLemmas.{three_parts}
+use Rattle.nl_tool_texts.proofs.TextLemmas.{three_parts}
 use Rattle.nl_reports.proofs.bars.append_long.Goals as goal
 
 pub returns : goal.returns

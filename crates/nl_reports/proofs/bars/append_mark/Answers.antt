@@ -2,7 +2,7 @@ use Rattle.std.proofs.Common.{◌∙◌, ◌+◌, ◌++◌, ◌*◌, codes, sym}
 use Rattle.std.specs.Prelude.{decimal}
 use Rattle.nl_reports.specs.Bars.{rect}
 use Rattle.nl_reports.proofs.MarkLemmas.{bar_told}
-use Rattle.nl_reports.proofs.TextLemmas.{three_parts}
+use Rattle.nl_tool_texts.proofs.TextLemmas.{three_parts}
 use Rattle.nl_reports.proofs.bars.append_mark.Goals as goal
 
 pub returns-clause-items : goal.returns-clause-items

@@ -1,9 +1,9 @@
 use Rattle.std.proofs.Common.{◌∙◌, ◌++◌, ℕ, List, ap, append_assoc}
 use Rattle.std.proofs.lemmas.Result.{on_ok_weaker}
 use Rattle.nl_reports.specs.Bars.{more_outputs, times_text}
-use Rattle.nl_reports.specs.Escape.{label}
+use Rattle.nl_tool_texts.specs.Escape.{label}
 use Rattle.nl_reports.specs.Frame.{seconds}
-use Rattle.nl_reports.proofs.TextLemmas.{two_parts}
+use Rattle.nl_tool_texts.proofs.TextLemmas.{two_parts}
 use Rattle.nl_reports.proofs.bars.append_title.Goals as goal
 
 pub returns : goal.returns

@@ -1,7 +1,7 @@
 use Rattle.std.proofs.Common.{rules}
 use Rattle.std.proofs.lemmas.List.Sorted.{answers_always}
 use Rattle.nl_reports.specs.Bars.{rank_of}
-use Rattle.nl_reports.proofs.FallingLemmas.{falling_from_sort, ranks_down}
+use Rattle.nl_tool_texts.proofs.FallingLemmas.{falling_from_sort, ranks_down}
 use Rattle.nl_reports.proofs.bars.falling_marks.Goals as goal
 
 pub returns : goal.returns

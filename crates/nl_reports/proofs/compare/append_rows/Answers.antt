@@ -1,6 +1,6 @@
 use Rattle.std.proofs.Common.{◌<◌, ◌≤◌, length, arith}
 use Rattle.nl_reports.specs.Compare.{compared_of, cost, row_line}
-use Rattle.nl_reports.proofs.ListedLemmas.{line_more, list_told}
+use Rattle.nl_tool_texts.proofs.ListedLemmas.{line_more, list_told}
 use Rattle.nl_reports.proofs.compare.append_rows.Goals as goal
 
 pub loop-i-preserved : goal.loop-i-preserved

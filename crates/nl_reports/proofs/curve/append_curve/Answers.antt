@@ -1,6 +1,6 @@
 use Rattle.std.proofs.lemmas.Result.{on_ok_weaker}
 use Rattle.nl_reports.specs.Curve.{curve_end, curve_start, points}
-use Rattle.nl_reports.proofs.TextLemmas.{three_parts}
+use Rattle.nl_tool_texts.proofs.TextLemmas.{three_parts}
 use Rattle.nl_reports.proofs.curve.append_curve.Goals as goal
 
 pub returns : goal.returns

@@ -4,7 +4,7 @@ use Rattle.std.proofs.lemmas.Result.{on_ok_weaker}
 use Rattle.nl_reports.specs.Events.{args_of, event_text, shown}
 use Rattle.nl_reports.specs.Jobs.{seen}
 use Rattle.nl_reports.proofs.EventLemmas.{command_is, end_text}
-use Rattle.nl_reports.proofs.TextLemmas.{three_parts}
+use Rattle.nl_tool_texts.proofs.TextLemmas.{three_parts}
 use Rattle.nl_reports.proofs.events.append_command.Goals as goal
 
 abbrev told : List ℕ → ℕ → List ℕ → List ℕ → List ℕ

@@ -2,7 +2,7 @@ use Rattle.std.proofs.Common.{◌∙◌, ◌++◌, ◌*◌, ℕ, List, ap, codes
 use Rattle.std.specs.Prelude.{decimal}
 use Rattle.std.proofs.lemmas.Result.{on_ok_weaker}
 use Rattle.nl_reports.proofs.EventLemmas.{running_is, running_text}
-use Rattle.nl_reports.proofs.TextLemmas.{three_pairs, two_parts}
+use Rattle.nl_tool_texts.proofs.TextLemmas.{three_pairs, two_parts}
 use Rattle.nl_reports.proofs.events.append_running.Goals as goal
 
 pub returns : goal.returns

@@ -5,7 +5,7 @@ use Rattle.json.specs.Token as token
 use Rattle.json.specs.Token.{Token}
 use Rattle.nl_reports.specs.Events.{event_text}
 use Rattle.nl_reports.proofs.BareLemmas.{bare_quoted}
-use Rattle.nl_reports.proofs.TextLemmas.{three_parts}
+use Rattle.nl_tool_texts.proofs.TextLemmas.{three_parts}
 use Rattle.nl_reports.proofs.events.append_shown.Goals as goal
 
 string_is : (s : List ℕ) → print (token.string s ∷ []) ≡ quoted s

@@ -2,7 +2,7 @@ use Rattle.std.proofs.Common.{◌≡◌, ◌∙◌, ◌+◌, ◌++◌, ◌||◌,
 use Rattle.std.proofs.lemmas.List.{length-map}
 use Rattle.std.specs.Borrow.{Bor}
 use Rattle.nl_tool_texts.specs.declared.fault.ToolFault.TheVariants.{BadLine}
-use Rattle.nl_reports.specs.GraphLine.{line_in, line_seen}
+use Rattle.nl_tool_texts.specs.GraphLine.{line_in, line_seen}
 use Rattle.nl_reports.specs.GraphText.{edges_said, graph_from, graph_of, has_ended, ids_of, nodes_said, seen_edge}
 use Rattle.nl_reports.specs.Paths.{ClosesCycle}
 use Rattle.nl_reports.specs.declared.graph.Edge.{Edge}

@@ -4,7 +4,7 @@ use Rattle.nl_reports.specs.Jobs.{seen}
 use Rattle.nl_reports.specs.Rows.{lead}
 use Rattle.nl_reports.specs.Spans.{IsEarly}
 use Rattle.nl_reports.specs.declared.job.Job.{Job}
-use Rattle.nl_reports.proofs.FallingLemmas.{falling_from_sort, map-falling, ranks_down}
+use Rattle.nl_tool_texts.proofs.FallingLemmas.{falling_from_sort, map-falling, ranks_down}
 use Rattle.nl_reports.proofs.job.jobs_by_start.Goals as goal
 
 pub returns-clause-value : goal.returns-clause-value

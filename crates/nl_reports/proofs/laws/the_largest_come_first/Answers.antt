@@ -1,4 +1,4 @@
-use Rattle.nl_reports.proofs.FallingLemmas.{falling_at, falling_moves, falling_ranked}
+use Rattle.nl_tool_texts.proofs.FallingLemmas.{falling_at, falling_moves, falling_ranked}
 use Rattle.nl_reports.proofs.laws.the_largest_come_first.Goals as goal
 
 pub returns-clause-each : goal.returns-clause-each

@@ -2,7 +2,7 @@ use Rattle.std.proofs.Common.{◌∙◌, ◌+◌, ◌++◌, ℕ, ap, codes}
 use Rattle.std.proofs.lemmas.Result.{on_ok_weaker}
 use Rattle.nl_reports.specs.Frame.{line_at}
 use Rattle.nl_reports.specs.Picture.{known_line, name, root_start, style}
-use Rattle.nl_reports.proofs.TextLemmas.{two_parts}
+use Rattle.nl_tool_texts.proofs.TextLemmas.{two_parts}
 use Rattle.nl_reports.proofs.picture.append_head.Goals as goal
 
 pub returns : goal.returns

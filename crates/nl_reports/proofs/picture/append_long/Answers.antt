@@ -1,11 +1,11 @@
 use Rattle.std.proofs.Common.{◌∙◌, ◌++◌, ℕ, List, ap, codes}
 use Rattle.std.proofs.lemmas.Result.{on_ok_weaker}
-use Rattle.nl_reports.specs.Escape.{label}
+use Rattle.nl_tool_texts.specs.Escape.{label}
 use Rattle.nl_reports.specs.Frame.{line_at}
 use Rattle.nl_reports.specs.Jobs.{first_name}
 use Rattle.nl_reports.specs.Picture.{long_start}
 use Rattle.nl_reports.specs.Spans.{time_of}
-use Rattle.nl_reports.proofs.TextLemmas.{three_parts}
+use Rattle.nl_tool_texts.proofs.TextLemmas.{three_parts}
 use Rattle.nl_reports.proofs.picture.append_long.Goals as goal
 
 pub returns : goal.returns

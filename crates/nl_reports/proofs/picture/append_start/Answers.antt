@@ -4,7 +4,7 @@ use Rattle.std.proofs.lemmas.Result.{on_ok_weaker}
 use Rattle.nl_reports.specs.Jobs.{seen}
 use Rattle.nl_reports.specs.Picture.{head, legend, start_with}
 use Rattle.nl_reports.specs.Ticks.{ticks}
-use Rattle.nl_reports.proofs.TextLemmas.{two_parts}
+use Rattle.nl_tool_texts.proofs.TextLemmas.{two_parts}
 use Rattle.nl_reports.proofs.picture.append_start.Goals as goal
 
 pub returns : goal.returns

@@ -4,9 +4,9 @@ use Rattle.nl_reports.specs.GraphText.{seen_graph}
 use Rattle.nl_reports.specs.Jobs.{seen, told}
 use Rattle.nl_reports.specs.Picture.{IsPicture, picture}
 use Rattle.nl_reports.specs.Turns.{jobs_in_turn}
-use Rattle.nl_reports.specs.Writing.{PrintsInPieces}
+use Rattle.nl_tool_texts.specs.Writing.{PrintsInPieces}
 use Rattle.nl_reports.specs.declared.graph.NinjaGraph.{NinjaGraph}
-use Rattle.nl_reports.proofs.WritingLemmas.{pieces_of}
+use Rattle.nl_tool_texts.proofs.WritingLemmas.{pieces_of}
 use Rattle.nl_reports.proofs.picture.draw_builds.Goals as goal
 
 pub returns-clause-prints : goal.returns-clause-prints

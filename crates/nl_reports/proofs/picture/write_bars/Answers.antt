@@ -1,7 +1,7 @@
 use Rattle.std.proofs.Common.{◌<◌, ◌≤◌, ◌∙◌, arith, get_or, length}
 use Rattle.std.proofs.lemmas.List.{get_or_default}
 use Rattle.nl_reports.proofs.DrawLemmas.{bars_held, bars_over}
-use Rattle.nl_reports.proofs.WritingLemmas.{all_held, end_missing, err_writes, held_more, moved_on, part_on, rest_written, some_moved, some_of, then_moved}
+use Rattle.nl_tool_texts.proofs.WritingLemmas.{all_held, end_missing, err_writes, held_more, moved_on, part_on, rest_written, some_moved, some_of, then_moved}
 use Rattle.nl_reports.proofs.picture.write_bars.Goals as goal
 
 pub loop-i-init : goal.loop-i-init

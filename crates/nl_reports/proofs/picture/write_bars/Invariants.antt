@@ -2,7 +2,7 @@ use Rattle.std.proofs.Common.{◌++◌, drop, map}
 use Rattle.std.specs.List.{zip}
 use Rattle.nl_reports.specs.Jobs.{seen}
 use Rattle.nl_reports.specs.Picture.{bars}
-use Rattle.nl_reports.specs.Writing.{HoldsAllBut}
+use Rattle.nl_tool_texts.specs.Writing.{HoldsAllBut}
 use Rattle.nl_reports.proofs.DrawLemmas.{left_bars}
 use Rattle.nl_reports.proofs.picture.write_bars.Given as goal
 

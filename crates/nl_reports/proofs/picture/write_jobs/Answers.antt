@@ -5,7 +5,7 @@ use Rattle.nl_reports.specs.Jobs.{seen}
 use Rattle.nl_reports.specs.Lanes.{lanes}
 use Rattle.nl_reports.specs.Picture.{end, start}
 use Rattle.nl_reports.specs.Reaches.{rans_of}
-use Rattle.nl_reports.specs.Writing.{Writes}
+use Rattle.nl_tool_texts.specs.Writing.{Writes}
 use Rattle.nl_reports.proofs.DrawLemmas.{end_some, none_drawn, picture_is}
 use Rattle.nl_reports.proofs.LaneLemmas.{lanes_length}
 use Rattle.nl_reports.proofs.picture.write_jobs.Goals as goal

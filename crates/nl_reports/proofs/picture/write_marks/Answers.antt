@@ -1,6 +1,6 @@
 use Rattle.std.proofs.Common.{◌<◌, arith, length}
 use Rattle.nl_reports.proofs.MarkLemmas.{marks_held}
-use Rattle.nl_reports.proofs.WritingLemmas.{err_moves, part_on, some_of, then_moved}
+use Rattle.nl_tool_texts.proofs.WritingLemmas.{err_moves, part_on, some_of, then_moved}
 use Rattle.nl_reports.proofs.picture.write_marks.Goals as goal
 
 pub loop-i-preserved : goal.loop-i-preserved

@@ -1,6 +1,6 @@
 use Rattle.std.proofs.Common.{◌≤◌, ◌++◌, drop}
 use Rattle.nl_reports.specs.Bars.{joined}
-use Rattle.nl_reports.specs.Writing.{HoldsAllBut}
+use Rattle.nl_tool_texts.specs.Writing.{HoldsAllBut}
 use Rattle.nl_reports.proofs.picture.write_marks.Given as goal
 
 -- all is written but what is held, and the bars of the marks that follow, before which so many alike stand

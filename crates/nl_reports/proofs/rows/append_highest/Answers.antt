@@ -1,6 +1,6 @@
 use Rattle.std.proofs.Common.{◌<◌, ◌≤◌, length, arith}
 use Rattle.nl_reports.specs.Rows.{list_line, rank_told, told_row}
-use Rattle.nl_reports.proofs.ListedLemmas.{line_more, list_told}
+use Rattle.nl_tool_texts.proofs.ListedLemmas.{line_more, list_told}
 use Rattle.nl_reports.proofs.rows.append_highest.Goals as goal
 
 pub loop-i-preserved : goal.loop-i-preserved

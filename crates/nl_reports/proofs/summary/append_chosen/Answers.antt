@@ -4,7 +4,8 @@ use Rattle.std.proofs.Common.{true≢false}
 use Rattle.std.proofs.lemmas.Bool.{eq-eqb}
 use Rattle.nl_builds.specs.declared.build.Build.{Build}
 use Rattle.nl_reports.specs.Jobs.{between, told}
-use Rattle.nl_reports.specs.Rows.{falling, rank_told, told_row}
+use Rattle.nl_reports.specs.Rows.{rank_told, told_row}
+use Rattle.nl_tool_texts.specs.Falling.{falling}
 use Rattle.nl_reports.specs.Summary.{again_line, builds_told, first_of, lists_text, number_lines, slowest_line, text_of, title, unfinished_line}
 use Rattle.nl_reports.specs.declared.rows.Rank.TheVariants.{Time}
 use Rattle.nl_reports.proofs.SummaryLemmas.{parts_in_order, some_told}

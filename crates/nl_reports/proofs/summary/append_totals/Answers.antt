@@ -3,7 +3,7 @@ use Rattle.std.proofs.lemmas.Bool.{cond-false, cond-true}
 use Rattle.std.proofs.lemmas.Result.{on_ok_weaker}
 use Rattle.std.specs.Prelude.{string_bytes}
 use Rattle.std.proofs.lemmas.List.{length-map}
-use Rattle.nl_reports.specs.Fraction.{ratio}
+use Rattle.nl_tool_texts.specs.Fraction.{ratio}
 use Rattle.nl_reports.specs.Rows.{told_row}
 use Rattle.nl_reports.specs.Summary.{bound, facts, facts_of, told_lines}
 use Rattle.nl_reports.proofs.summary.append_totals.Goals as goal

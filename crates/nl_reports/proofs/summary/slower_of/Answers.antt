@@ -1,5 +1,6 @@
 use Rattle.std.proofs.Common.{◌∙◌, ◌++◌, ◌∷◌, Option, ap, arith}
-use Rattle.nl_reports.specs.Rows.{falling, rank_told, told_row}
+use Rattle.nl_reports.specs.Rows.{rank_told, told_row}
+use Rattle.nl_tool_texts.specs.Falling.{falling}
 use Rattle.nl_reports.specs.Summary.{first_of, so_far}
 use Rattle.nl_reports.specs.declared.rows.Rank.TheVariants.{Time}
 use Rattle.nl_reports.specs.declared.rows.Row.{Row}

@@ -1,6 +1,7 @@
 use Rattle.std.proofs.Common.{◌∙◌, ◌+◌, ◌++◌, List, ap, drop, map, sym}
 use Rattle.std.proofs.lemmas.List.{at_drop_more}
-use Rattle.nl_reports.specs.Rows.{Told, falling, rank_told, told_row}
+use Rattle.nl_reports.specs.Rows.{Told, rank_told, told_row}
+use Rattle.nl_tool_texts.specs.Falling.{falling}
 use Rattle.nl_reports.specs.Summary.{first_of, so_far}
 use Rattle.nl_reports.specs.declared.rows.Rank.TheVariants.{Time}
 use Rattle.nl_reports.proofs.summary.slowest_of.Goals as goal

@@ -3,9 +3,9 @@ use Rattle.nl_builds.specs.declared.build.How.{How}
 use Rattle.nl_reports.specs.Jobs.{seen, told}
 use Rattle.nl_reports.specs.Trace.{array_text, how_in, number_in, numbered_events}
 use Rattle.nl_reports.specs.Turns.{jobs_in_turn}
-use Rattle.nl_reports.specs.Writing.{Writes}
+use Rattle.nl_tool_texts.specs.Writing.{Writes}
 use Rattle.nl_reports.proofs.TraceLemmas.{none_is}
-use Rattle.nl_reports.proofs.WritingLemmas.{out_writes}
+use Rattle.nl_tool_texts.proofs.WritingLemmas.{out_writes}
 use Rattle.nl_reports.proofs.trace.trace_builds.Goals as goal
 
 pub returns-in_default-clause-writes : goal.returns-in_default-clause-writes

@@ -7,13 +7,13 @@ use Rattle.nl_reports.specs.Lanes.{lanes}
 use Rattle.nl_reports.specs.Moments.{AreMoments}
 use Rattle.nl_reports.specs.Rows.{spans}
 use Rattle.nl_reports.specs.Trace.{array_text, behind_commas, build_events, events_of}
-use Rattle.nl_reports.specs.Writing.{HoldsAllBut}
+use Rattle.nl_tool_texts.specs.Writing.{HoldsAllBut}
 use Rattle.nl_reports.specs.declared.events.BuildEvent.{BuildEvent}
 use Rattle.nl_reports.specs.declared.span.Span.{Span}
 use Rattle.nl_reports.proofs.LaneLemmas.{lane_below, lanes_length}
 use Rattle.nl_reports.proofs.PairLemmas.{pairs_over}
 use Rattle.nl_reports.proofs.TraceLemmas.{all_told, end_some, told_next}
-use Rattle.nl_reports.proofs.WritingLemmas.{all_held, err_writes, is_part, more_held, part_on, rest_written, then_moved}
+use Rattle.nl_tool_texts.proofs.WritingLemmas.{all_held, err_writes, is_part, more_held, part_on, rest_written, then_moved}
 use Rattle.nl_reports.proofs.trace.write_events.Goals as goal
 
 pub loop-i-init : goal.loop-i-init

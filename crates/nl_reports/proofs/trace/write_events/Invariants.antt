@@ -3,7 +3,7 @@ use Rattle.std.specs.List.{flat_map, zip}
 use Rattle.nl_reports.specs.Jobs.{seen}
 use Rattle.nl_reports.specs.Rows.{spans}
 use Rattle.nl_reports.specs.Trace.{array_text, behind_commas, build_events, events_of}
-use Rattle.nl_reports.specs.Writing.{HoldsAllBut}
+use Rattle.nl_tool_texts.specs.Writing.{HoldsAllBut}
 use Rattle.nl_reports.proofs.trace.write_events.Given as goal
 
 -- all is written but what is held, the events of the commands from this one on, and the end

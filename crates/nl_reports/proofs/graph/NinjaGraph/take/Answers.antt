@@ -1,8 +1,8 @@
 use Rattle.std.proofs.Common.{◌∙◌, ◌++◌, ◌∷◌, [], List, subst, sym}
-use Rattle.nl_reports.specs.GraphLine.{line_seen}
+use Rattle.nl_tool_texts.specs.GraphLine.{line_seen}
 use Rattle.nl_reports.specs.GraphText.{Holds, edges_said, nodes_said}
 use Rattle.nl_reports.specs.declared.graph.Edge.{Edge as HeldEdge}
-use Rattle.nl_reports.specs.declared.graph_line.Line.{Line}
+use Rattle.nl_tool_texts.specs.declared.graph_line.Line.{Line}
 use Rattle.nl_reports.proofs.GraphLemmas.{holds_joined, holds_named}
 use Rattle.nl_reports.proofs.graph.NinjaGraph.take.Goals as goal
 

@@ -1,0 +1,18 @@
+use Rattle.std.proofs.Common.{◌≡◌, ◌∙◌, ◌<◌, ◌++◌, ℕ, List, ap, arith, codes, length, refl, take}
+use Rattle.std.proofs.lemmas.Result.{on_ok_weaker}
+use Rattle.nl_tool_texts.specs.Escape.{shown}
+use Rattle.nl_tool_texts.proofs.TextLemmas.{begins, label_cut, two_parts}
+use Rattle.nl_tool_texts.proofs.escape.append_cut.Goals as goal
+
+pub returns : goal.returns
+returns c =
+    let old = c.args.out.now.items in
+    let name = c.args.name.now in
+    let start : c.as_slice-2.result.now ≡ shown (take 20 name) =
+    c.as_slice-2.ensures.value ∙ c.in_ok-start.ensures.value ∙ ap shown (begins name c.min.result (omega (arith, c.min.ensures))) in
+    let long : 100 < length c.in_ok-whole.whole.items = omega (arith, c.if-len-le-WHOLE.false, c.len.ensures) in
+    record {
+      items = on_ok_weaker c.append-3.result (λ h. two_parts old c.append-2.new.out.items c.append-3.new.out.items (shown (take 20 name)) (codes "..")
+          (c.in_ok-append.ensures.items ∙ ap (λ (l : List ℕ). old ++ l) start) h
+          ∙ ap (λ (l : List ℕ). old ++ l) (label_cut name c.in_ok-whole.whole.items _ c.in_ok-whole.ensures.value long refl)) c.append-3.ensures.items;
+    }

@@ -1,0 +1,204 @@
+//! The columns of a text at a terminal.
+ghost use Rattle.std.specs.Prelude.{◌≡◌, ◌++◌, length, map, IfOk, OnOk};
+ghost use Rattle.nl_tool_texts.specs.Columns.{begins_one, cell, cells, end_of, field_at, fields_of, fitted, in_columns, last_cell, lines_of, newline_before, row_of, rows_up_to, spaces, widest, width, widths};
+
+use crate::shown::shown;
+use std::alloc::{AllocError, Global};
+
+/// The text with its fields in columns, and its control characters by their numbers. Tabs part the fields of a line. Lines with as many fields
+/// share their columns, wherever they stand. Two spaces part columns; the last one stands at its left, and any other at its right. Where a
+/// line would have more characters than `most`, its last field is cut at its beginning, if others stand before it.
+///
+/// It takes the memory of what it answers and of the text, and 16 bytes for each line.
+pub fn in_columns(alloc: Global, most: usize, text: &[u8]) -> Result<Vec<u8>, AllocError>
+    ensures value { IfOk result (λ out. out.items ≡ in_columns most text.now) }
+{
+    let text = shown(alloc, text)?;
+    let lines = lines_of(alloc, text.as_slice())?;
+    let mut found = Vec::new(alloc);
+    let mut out = Vec::new(alloc);
+    for i in 0..lines.len() {
+        append_newline(i, &mut out)?;
+        append_row(
+            alloc,
+            most,
+            lines.as_slice(),
+            lines[i],
+            &mut found,
+            &mut out,
+        )?;
+    }
+    Ok(out)
+}
+
+// What parts a line from those before it.
+fn append_newline(before: usize, out: &mut Vec<u8>) -> Result<(), AllocError>
+    ensures items { OnOk result (out.new.items ≡ out.old.items ++ newline_before before) }
+{
+    if before == 0 {
+        return Ok(());
+    }
+    out.push(b'\n')?;
+    Ok(())
+}
+
+pub fn lines_of(alloc: Global, text: &[u8]) -> Result<Vec<&[u8]>, AllocError>
+    ensures value { IfOk result (λ lines. map (λ line. line.now) lines.items ≡ lines_of text.now) }
+{
+    text.split(|b| *b == b'\n').collect(alloc)
+}
+
+// Keeps the columns of the line before, for a next line with as many fields.
+fn append_row(
+    alloc: Global,
+    most: usize,
+    lines: &[&[u8]],
+    line: &[u8],
+    found: &mut Vec<usize>,
+    out: &mut Vec<u8>,
+) -> Result<(), AllocError>
+    requires found { found.old.items
+        ≡ widths (length found.old.items) (map (λ line. line.now) lines.now) }
+    ensures found { OnOk result (found.new.items
+        ≡ widths (length found.new.items) (map (λ line. line.now) lines.now)) }
+    ensures items { OnOk result
+        (out.new.items ≡ out.old.items ++ row_of most (map (λ line. line.now) lines.now) line.now) }
+{
+    let count = count_fields(line);
+    if found.len() != count {
+        *found = widths_of(alloc, lines, count)?;
+    }
+    append_cells(most, found.as_slice(), line, out)
+}
+
+fn widths_of(alloc: Global, lines: &[&[u8]], count: usize) -> Result<Vec<usize>, AllocError>
+    ensures value { IfOk result
+        (λ found. found.items ≡ widths count (map (λ line. line.now) lines.now)) }
+    ensures len { IfOk result (λ found. length found.items ≡ count) }
+{
+    let mut found = Vec::new(alloc);
+    for place in 0..count {
+        found.push(widest(lines, count, place))?;
+    }
+    Ok(found)
+}
+
+fn widest(lines: &[&[u8]], count: usize, place: usize) -> usize
+    ensures value { result ≡ widest count place (map (λ line. line.now) lines.now) 0 }
+{
+    let mut found = 0;
+    for line in lines {
+        if count_fields(line) == count {
+            found = found.max(width(field_at(line, place)));
+        }
+    }
+    found
+}
+
+fn append_cells(
+    most: usize,
+    widths: &[usize],
+    line: &[u8],
+    out: &mut Vec<u8>,
+) -> Result<(), AllocError>
+    ensures items { OnOk result
+        (out.new.items ≡ out.old.items ++ cells most widths.now line.now) }
+{
+    let last = widths.len().saturating_sub(1);
+    let mut room = most;
+    for place in 0..last {
+        append_cell(widths[place], field_at(line, place), out)?;
+        room = room.saturating_sub(widths[place]).saturating_sub(2);
+    }
+    append_last(last, room, field_at(line, last), out)
+}
+
+// Adds a field that others follow.
+fn append_cell(wide: usize, field: &[u8], out: &mut Vec<u8>) -> Result<(), AllocError>
+    ensures items { OnOk result (out.new.items ≡ out.old.items ++ cell wide field.now) }
+{
+    append_spaces(wide.saturating_sub(width(field)), out)?;
+    out.extend_from_slice(field)?;
+    append_spaces(2, out)
+}
+
+// Adds the last field, before which so many stand.
+fn append_last(
+    before: usize,
+    room: usize,
+    field: &[u8],
+    out: &mut Vec<u8>,
+) -> Result<(), AllocError>
+    ensures items { OnOk result (out.new.items ≡ out.old.items ++ last_cell before room field.now) }
+{
+    if before == 0 {
+        out.extend_from_slice(field)?;
+        return Ok(());
+    }
+    append_fitted(room, field, out)
+}
+
+// Adds a field whole, or an ellipsis and its end.
+fn append_fitted(room: usize, field: &[u8], out: &mut Vec<u8>) -> Result<(), AllocError>
+    ensures items { OnOk result (out.new.items ≡ out.old.items ++ fitted room field.now) }
+{
+    if width(field) <= room {
+        out.extend_from_slice(field)?;
+        return Ok(());
+    }
+    out.extend_from_slice(b"\xe2\x80\xa6")?;
+    out.extend_from_slice(end_of(room.saturating_sub(1), field))?;
+    Ok(())
+}
+
+// The longest end of a field that has so many characters at most, and begins with one.
+fn end_of(room: usize, field: &[u8]) -> &[u8]
+    ensures value { result.now ≡ end_of room field.now }
+{
+    let mut at = 0;
+    let mut left = width(field);
+    while at < field.len() {
+        if begins_one(field[at]) {
+            if left <= room {
+                return &field[at..];
+            }
+            left = left.saturating_sub(1);
+        }
+        at += 1;
+    }
+    &field[at..]
+}
+
+fn append_spaces(count: usize, out: &mut Vec<u8>) -> Result<(), AllocError>
+    ensures items { OnOk result (out.new.items ≡ out.old.items ++ spaces count) }
+{
+    for _ in 0..count {
+        out.push(b' ')?;
+    }
+    Ok(())
+}
+
+fn count_fields(line: &[u8]) -> usize
+    ensures value { result ≡ length (fields_of line.now) }
+{
+    line.split(|b| *b == b'\t').count()
+}
+
+fn field_at(line: &[u8], place: usize) -> &[u8]
+    ensures value { result.now ≡ field_at line.now place }
+{
+    line.split(|b| *b == b'\t').nth(place).unwrap_or(b"")
+}
+
+// How many characters of UTF-8 a field has. A byte that is of none counts as one, unless it could go on with one.
+fn width(field: &[u8]) -> usize
+    ensures value { result ≡ width field.now }
+{
+    field.iter().filter(|b| begins_one(**b)).count()
+}
+
+fn begins_one(byte: u8) -> bool
+    ensures value { result ≡ begins_one byte }
+{
+    !(128..192).contains(&byte)
+}

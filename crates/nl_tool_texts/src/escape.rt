@@ -1,0 +1,109 @@
+//! Names as the text of an XML document.
+ghost use Rattle.std.specs.Prelude.{◌≡◌, ◌≤◌, ◌++◌, length, IfOk, OnOk};
+ghost use Rattle.nl_tool_texts.specs.Escape.{begins_character, cut_at, cut_name, escaped, label, piece, shown};
+
+use crate::text::{append, is_bare};
+use std::alloc::{AllocError, Global};
+
+// Bytes: the longest text of a name that stands whole, and the beginning of a longer name.
+const WHOLE: usize = 100;
+
+const START: usize = 20;
+
+const ELLIPSIS: &[u8] = b"\xE2\x80\xA6";
+
+pub fn append_label(alloc: Global, name: &[u8], out: &mut Vec<u8>) -> Result<(), AllocError>
+    ensures items { OnOk result (out.new.items ≡ out.old.items ++ label name.now) }
+{
+    if name.len() <= WHOLE && is_bare(name) {
+        return append(name, out);
+    }
+    append_cut(alloc, name, out)
+}
+
+fn append_cut(alloc: Global, name: &[u8], out: &mut Vec<u8>) -> Result<(), AllocError>
+    ensures items { OnOk result (out.new.items ≡ out.old.items ++ label name.now) }
+{
+    let whole = shown(alloc, name)?;
+    if whole.len() <= WHOLE {
+        return append(whole.as_slice(), out);
+    }
+    let start = shown(alloc, &name[..name.len().min(START)])?;
+    append(start.as_slice(), out)?;
+    append(b"..", out)
+}
+
+/// It appends the name; if that has more than `most` bytes, whole characters of it and an ellipsis.
+pub fn append_cut_name(
+    alloc: Global,
+    most: usize,
+    name: &[u8],
+    out: &mut Vec<u8>,
+) -> Result<(), AllocError>
+    ensures items { OnOk result (out.new.items ≡ out.old.items ++ cut_name most name.now) }
+{
+    let text = String::from_utf8_lossy(alloc, name)?;
+    let bytes = text.as_bytes();
+    if bytes.len() <= most {
+        return append_escaped(bytes, out);
+    }
+    append_escaped(&bytes[..cut_at(most.saturating_sub(1), bytes)], out)?;
+    append(ELLIPSIS, out)
+}
+
+// It tears no character.
+fn cut_at(most: usize, text: &[u8]) -> usize
+    ensures value { result ≡ cut_at most text.now }
+    ensures within { result ≤ length text.now }
+{
+    let mut at = most.min(text.len());
+    'bytes: while at > 0 && !begins_character(at, text) {
+        at -= 1;
+    }
+    at
+}
+
+fn begins_character(at: usize, text: &[u8]) -> bool
+    ensures { result ≡ begins_character at text.now }
+{
+    match text.get(at) {
+        Some(byte) => *byte < 128 || *byte >= 192,
+        None => true,
+    }
+}
+
+fn shown(alloc: Global, name: &[u8]) -> Result<Vec<u8>, AllocError>
+    ensures value { IfOk result (λ out. out.items ≡ shown name.now) }
+{
+    let text = String::from_utf8_lossy(alloc, name)?;
+    let mut out = Vec::new(alloc);
+    append_escaped(text.as_bytes(), &mut out)?;
+    Ok(out)
+}
+
+fn append_escaped(text: &[u8], out: &mut Vec<u8>) -> Result<(), AllocError>
+    ensures items { OnOk result (out.new.items ≡ out.old.items ++ escaped text.now) }
+{
+    let mut first: u8 = 0;
+    let mut second: u8 = 0;
+    for byte in text {
+        append_piece(first, second, *byte, out)?;
+        first = second;
+        second = *byte;
+    }
+    Ok(())
+}
+
+fn append_piece(first: u8, second: u8, byte: u8, out: &mut Vec<u8>) -> Result<(), AllocError>
+    ensures items { OnOk result (out.new.items ≡ out.old.items ++ piece first second byte) }
+{
+    match byte {
+        b'<' => append(b"&lt;", out),
+        b'>' => append(b"&gt;", out),
+        b'"' => append(b"&#34;", out),
+        b'&' => append(b"&#38;", out),
+        0..=31 => append(b"\xEF\xBF\xBD", out),
+        0xBE..=0xFF if first == 0xEF && second == 0xBF => append(b"\xBD", out),
+        _ => append(&[byte], out),
+    }
+}

@@ -1,0 +1,89 @@
+//! A line of the text that `ninja -t graph` prints.
+ghost use Rattle.std.specs.Prelude.{◌≡◌, codes, option_map};
+ghost use Rattle.nl_tool_texts.specs.GraphLine.{are_attributes, before, behind, both_now, graph_line, is_setting, labelled, line_in, line_seen, quoted, said_of, to_quote};
+
+use memchr::memchr;
+
+#[derive(Clone, Copy, Drop)]
+pub enum Line<'a> {
+    /// It says nothing of nodes and edges.
+    Passed,
+    Labelled { id: &'a [u8], name: &'a [u8] },
+    /// An edge leads from a number to another.
+    Joined { from: &'a [u8], to: &'a [u8] },
+}
+
+/// None if the line may not stand there: the first begins the graph, and only empty lines come after its end.
+pub fn line_in(ended: bool, number: u64, line: &[u8]) -> Option<Line<'_>>
+    ensures value { option_map line_seen result ≡ line_in ended number line.now }
+{
+    let is_passed = if number == 1 {
+        line == b"digraph ninja {".as_slice()
+    } else if ended {
+        line.is_empty()
+    } else if line == b"}".as_slice() {
+        true
+    } else {
+        return read_line(line);
+    };
+    is_passed.then_some(Line::Passed)
+}
+
+fn read_line(line: &[u8]) -> Option<Line<'_>>
+    ensures value { option_map line_seen result ≡ graph_line line.now }
+{
+    match quoted(line) {
+        Some((id, rest)) => read_behind(id, rest),
+        None => is_setting(line).then_some(Line::Passed),
+    }
+}
+
+fn read_behind<'a>(id: &'a [u8], rest: &'a [u8]) -> Option<Line<'a>>
+    ensures value { option_map line_seen result ≡ said_of id.now rest.now (behind (codes " [label=\"") rest.now) }
+{
+    if let Some(tail) = rest.strip_prefix(b" [label=\"") {
+        return read_label(id, tail);
+    }
+    let (to, more) = quoted(rest.strip_prefix(b" -> ")?)?;
+    are_attributes(more).then_some(Line::Joined { from: id, to })
+}
+
+fn read_label<'a>(id: &'a [u8], tail: &'a [u8]) -> Option<Line<'a>>
+    ensures value { option_map line_seen result ≡ labelled id.now tail.now (before (codes "\"]") tail.now) }
+{
+    if let Some(name) = tail.strip_suffix(b"\"]") {
+        return Some(Line::Labelled { id, name });
+    }
+    tail.strip_suffix(b"\", shape=ellipse]")?;
+    Some(Line::Passed)
+}
+
+fn are_attributes(bytes: &[u8]) -> bool
+    ensures value { result ≡ are_attributes bytes.now }
+{
+    bytes.is_empty() || bytes.strip_prefix(b" [").is_some() && bytes.strip_suffix(b"]").is_some()
+}
+
+fn is_setting(line: &[u8]) -> bool
+    ensures value { result ≡ is_setting line.now }
+{
+    line.strip_prefix(b"rankdir=").is_some()
+        || line.strip_prefix(b"node [").is_some()
+        || line.strip_prefix(b"edge [").is_some()
+}
+
+// The bytes in quotes with which a text begins, and what follows them.
+fn quoted(bytes: &[u8]) -> Option<(&[u8], &[u8])>
+    ensures value { option_map both_now result ≡ quoted bytes.now }
+{
+    to_quote(bytes.strip_prefix(b"\"")?)
+}
+
+fn to_quote(tail: &[u8]) -> Option<(&[u8], &[u8])>
+    ensures value { option_map both_now result ≡ to_quote tail.now }
+{
+    match memchr(b'"', tail) {
+        Some(at) => Some((&tail[..at], &tail[at + 1..])),
+        None => None,
+    }
+}

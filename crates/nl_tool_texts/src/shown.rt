@@ -1,0 +1,53 @@
+//! A text without control characters, for a reader at a terminal.
+ghost use Rattle.std.specs.Prelude.{◌≡◌, ◌<◌, ◌++◌, IfOk, OnOk};
+ghost use Rattle.nl_fields.specs.Digits.{digit_of};
+ghost use Rattle.nl_tool_texts.specs.Columns.{by_number, is_control, shown, shown_byte};
+
+use std::alloc::{AllocError, Global};
+
+pub fn shown(alloc: Global, text: &[u8]) -> Result<Vec<u8>, AllocError>
+    ensures value { IfOk result (λ out. out.items ≡ shown text.now) }
+{
+    let mut out = Vec::new(alloc);
+    let mut before = 0;
+    for byte in text {
+        append_shown(before, *byte, &mut out)?;
+        before = *byte;
+    }
+    Ok(out)
+}
+
+fn append_shown(before: u8, byte: u8, out: &mut Vec<u8>) -> Result<(), AllocError>
+    ensures items { OnOk result (out.new.items ≡ out.old.items ++ shown_byte before byte) }
+{
+    if !is_control(before, byte) {
+        out.push(byte)?;
+        return Ok(());
+    }
+    append_number(byte, out)
+}
+
+/// The number is hexadecimal, as in `\x1b`.
+pub fn append_number(byte: u8, out: &mut Vec<u8>) -> Result<(), AllocError>
+    ensures { OnOk result (out.new.items ≡ out.old.items ++ by_number byte) }
+{
+    out.push(b'\\')?;
+    out.push(b'x')?;
+    out.push(hex_digit(byte / 16))?;
+    out.push(hex_digit(byte % 16))?;
+    Ok(())
+}
+
+fn is_control(before: u8, byte: u8) -> bool
+    ensures value { result ≡ is_control before byte }
+{
+    (byte < 32 && (byte != b'\t' && byte != b'\n'))
+        || (byte == 127 || (before == 194 && (128 <= byte && byte < 160)))
+}
+
+fn hex_digit(value: u8) -> u8
+    requires { value < 16 }
+    ensures { result ≡ digit_of value }
+{
+    if value < 10 { 48 + value } else { 87 + value }
+}

@@ -1,0 +1,187 @@
+//! Texts that are appended part by part.
+ghost use Rattle.std.specs.Prelude.{◌≡◌, ◌++◌, IsTrue, OnOk, map};
+ghost use Rattle.std.specs.List.{All};
+ghost use Rattle.nl_tool_texts.specs.Escape.{IsBare};
+ghost use Rattle.nl_tool_texts.specs.Texts.{change_text, line, part_text, parts_text, rest_text, sign, time_text, told_moment, took_text, two_text};
+
+use itoa::{Buffer, Integer};
+use std::alloc::AllocError;
+
+/// The moment at which a build begins: a moment is a count from 2^31 milliseconds before it.
+pub const BEGINNING: u64 = 2_147_483_648;
+
+/// Appends a text.
+pub fn append(text: &[u8], out: &mut Vec<u8>) -> Result<(), AllocError>
+    ensures items { OnOk result (out.new.items ≡ out.old.items ++ text.now) }
+{
+    out.extend_from_slice(text)?;
+    Ok(())
+}
+
+/// Appends a text and a number after the text.
+pub fn append_with<I: Integer>(text: &[u8], number: I, out: &mut Vec<u8>) -> Result<(), AllocError>
+    ensures items { OnOk result (out.new.items ≡ out.old.items ++ (text.now ++ I.text number)) }
+{
+    out.extend_from_slice(text)?;
+    out.extend_from_slice(Buffer::new().format(number).as_bytes())?;
+    Ok(())
+}
+
+/// A part of a text: one that stands there, a number, so many in a hundred, a time in words, one in words or in milliseconds, and by how
+/// much a time is another, in words or in milliseconds.
+#[derive(Clone, Copy, Drop)]
+pub enum Part<'a> {
+    Text(&'a [u8]),
+    Number(u128),
+    Percent(u128),
+    Time(u64),
+    Took(bool, u128),
+    Change(bool, u128, u128),
+    /// When something ran, from the beginning of its build on.
+    Moment(bool, u64),
+}
+
+/// Appends these parts.
+pub fn append_parts(parts: &[Part<'_>], out: &mut Vec<u8>) -> Result<(), AllocError>
+    ensures items { OnOk result (out.new.items ≡ out.old.items ++ parts_text parts.now) }
+{
+    for part in parts {
+        append_part(part, out)?;
+    }
+    Ok(())
+}
+
+fn append_part(part: &Part<'_>, out: &mut Vec<u8>) -> Result<(), AllocError>
+    ensures items { OnOk result (out.new.items ≡ out.old.items ++ part_text part.now) }
+{
+    match part {
+        Part::Text(text) => append(text, out),
+        Part::Number(number) => append_with(b"", *number, out),
+        Part::Percent(number) => {
+            append_with(b"", *number, out)?;
+            append(b"%", out)
+        }
+        Part::Time(ms) => append_time(u128::from(*ms), out),
+        Part::Took(words, ms) => append_took(*words, *ms, out),
+        Part::Change(words, old, new) => {
+            append(sign(*words, *old, *new), out)?;
+            append_took(*words, old.abs_diff(*new), out)
+        }
+        Part::Moment(words, at) => append_moment(*words, *at, out),
+    }
+}
+
+fn append_moment(words: bool, at: u64, out: &mut Vec<u8>) -> Result<(), AllocError>
+    ensures items { OnOk result (out.new.items ≡ out.old.items ++ told_moment words at) }
+{
+    if at < BEGINNING {
+        append(b"-", out)?;
+        return append_took(words, u128::from(BEGINNING - at), out);
+    }
+    append_took(words, u128::from(at - BEGINNING), out)
+}
+
+/// Appends a line of these fields, which tabs part.
+pub fn append_line(fields: &[Part<'_>], out: &mut Vec<u8>) -> Result<(), AllocError>
+    ensures items { OnOk result (out.new.items ≡ out.old.items ++ line (map part_text fields.now)) }
+{
+    let mut before: &[u8] = b"";
+    for field in fields {
+        append(before, out)?;
+        append_part(field, out)?;
+        before = b"\t";
+    }
+    append(b"\n", out)
+}
+
+fn append_took(words: bool, ms: u128, out: &mut Vec<u8>) -> Result<(), AllocError>
+    ensures items { OnOk result (out.new.items ≡ out.old.items ++ took_text words ms) }
+{
+    if words {
+        return append_time(ms, out);
+    }
+    append_with(b"", ms, out)
+}
+
+fn sign(words: bool, old: u128, new: u128) -> &'static [u8]
+    ensures { result.now ≡ sign words old new }
+{
+    if new < old {
+        b"-"
+    } else if words && old < new {
+        b"+"
+    } else {
+        b""
+    }
+}
+
+// Appends so many milliseconds in words: in two units at most, and what is less is dropped.
+fn append_time(ms: u128, out: &mut Vec<u8>) -> Result<(), AllocError>
+    ensures items { OnOk result (out.new.items ≡ out.old.items ++ time_text ms) }
+{
+    if ms == 0 {
+        return append(b"0 s", out);
+    }
+    if ms < 1000 {
+        return append_rest(b"", ms, b" ms", out);
+    }
+    if ms < 60_000 {
+        append_with(b"", ms / 1000, out)?;
+        append_rest(b".", ms % 1000 / 100, b"", out)?;
+        return append(b" s", out);
+    }
+    if ms < 3_600_000 {
+        return append_two(ms / 60_000, b" min", ms % 60_000 / 1000, b" s", out);
+    }
+    append_two(ms / 3_600_000, b" h", ms % 3_600_000 / 60_000, b" min", out)
+}
+
+// Appends a number of a unit, and what is left in a smaller one.
+fn append_two(
+    first: u128,
+    unit: &[u8],
+    rest: u128,
+    small: &[u8],
+    out: &mut Vec<u8>,
+) -> Result<(), AllocError>
+    ensures items { OnOk result (out.new.items ≡ out.old.items ++ two_text first unit.now rest small.now) }
+{
+    append_with(b"", first, out)?;
+    append(unit, out)?;
+    append_rest(b" ", rest, small, out)
+}
+
+fn append_rest(
+    before: &[u8],
+    number: u128,
+    unit: &[u8],
+    out: &mut Vec<u8>,
+) -> Result<(), AllocError>
+    ensures items { OnOk result (out.new.items ≡ out.old.items ++ rest_text before.now number unit.now) }
+{
+    if number == 0 {
+        return Ok(());
+    }
+    append_with(before, number, out)?;
+    append(unit, out)
+}
+
+/// Whether a name is of bytes alone that stand in JSON and in XML as they are.
+pub fn is_bare(name: &[u8]) -> bool
+    ensures bare { IsTrue result → All IsBare name.now }
+{
+    for byte in name {
+        if !is_bare_byte(*byte) {
+            return false;
+        }
+    }
+    true
+}
+
+fn is_bare_byte(byte: u8) -> bool
+    ensures bare { IsTrue result → IsBare byte }
+{
+    (32 <= byte && byte <= 126)
+        && (byte != b'"' && byte != b'\\')
+        && (byte != b'<' && byte != b'>' && byte != b'&')
+}
