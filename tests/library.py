@@ -21,7 +21,7 @@ LIBRARY = f"{TOP}/tests/library"
 # `growths.py` runs those of `growths`.
 PARTS = ["fields", "lines", "table", "builds", "folder", "files", "system", "session", "words", "disk", "program", "reports", "doubt", "distrust"]
 CRATE = "nl_library_tests"
-USES = "nl_fields nl_lines nl_table nl_builds nl_folder nl_versions nl_files nl_session nl_tool_words nl_tool_texts nl_os nl_tool_script nl_tool_print nl_reports nl_tool_doubt nl_distrust nl_tool_change nl_tool clap"
+USES = "nl_fields nl_lines nl_table nl_builds nl_folder nl_versions nl_files nl_session nl_tool_words nl_tool_texts nl_os nl_tool_print nl_reports nl_tool_doubt nl_distrust nl_tool_change nl_tool clap"
 TEST = r"(?m)^#\[test\]\nfn (\w+)"
 
 

@@ -8,6 +8,7 @@ mod log_file;
 mod mem_inode;
 mod mem_inodes;
 mod mem_system;
+mod runs;
 mod scratch_calls;
 mod scratch_file;
 mod sync_fault;
@@ -15,5 +16,6 @@ mod system;
 
 pub use file_folder::FileFolder;
 pub use mem_system::{MemHandle, MemSystem, Plan};
+pub use runs::{run_in_memory, run_over_system};
 pub use sync_fault::SyncFault;
 pub use system::{CrashableSystem, System};

@@ -4,7 +4,7 @@ use Rattle.nl_versions.specs.declared.version.LogVersion.{LogVersion}
 use Rattle.nl_versions.specs.declared.version.LogVersion.TheVariants.{Five}
 use Rattle.nl_tool_print.specs.Output.{IsTextAsRead}
 use Rattle.nl_tool_print.specs.Versions.{IsFileHashAs, IsReportFor, hash_text_as, show_text_for}
-use Rattle.nl_tool_script.specs.Replay.{IsReplayText}
+use Rattle.nl_tool_change.specs.Replay.{IsReplayText}
 use Rattle.nl_table.specs.Log.{LogReading}
 use Rattle.nl_table.specs.Log as log_reading
 use Rattle.nl_tool_texts.specs.declared.fault.ToolFault.{ToolFault}

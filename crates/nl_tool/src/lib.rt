@@ -32,14 +32,13 @@ pub use looks::{Look, look_of, start_of};
 pub use nl_os::DiskFolder;
 pub use nl_tool_change::{
     AskedFolder, FoundFolder, LogPlace, apply_on, entry_of, recompact_on, record_command,
-    record_on, repair_on, restat_on,
+    record_on, repair_on, replay_to, restat_on,
 };
 pub use nl_tool_doubt::{doubts_of, write_doubts};
 pub use nl_tool_print::{
     check_log, check_to, damage_to, entries_to, hash_for, hash_read, hash_to, load_read, show_log,
     show_to,
 };
-pub use nl_tool_script::replay_to;
 pub use nl_tool_texts::{ToolFault, status_of};
 pub use nl_tool_words::{AskedVersion, Changing, Choices, CommandLine, Reading, Words, read_words};
 pub use nl_versions::{FirstLine, LogVersion, command_hash_in, first_line_in, version_of};

@@ -24,10 +24,10 @@ use Rattle.nl_session.specs.Runs.{act_of}
 use Rattle.nl_session.specs.LogView.{EdgeStepsBy, LogView}
 use Rattle.nl_session.specs.Headline.{Exchange}
 use Rattle.nl_session.proofs.AppendLemmas.{run_join}
-use Rattle.nl_tool_script.specs.Replay.{behind_tab, name_field, reply_line}
-use Rattle.nl_tool_script.specs.declared.script.LineRefusal.{LineRefusal}
-use Rattle.nl_tool_script.specs.declared.script.LineRefusal.TheVariants.{BadLine, OutOfMemory}
-use Rattle.nl_tool_script.proofs.ReadingLemmas.{behind-tail, names-tail, same_sides}
+use Rattle.nl_tool_change.specs.Replay.{behind_tab, name_field, reply_line}
+use Rattle.nl_tool_change.specs.declared.script.LineRefusal.{LineRefusal}
+use Rattle.nl_tool_change.specs.declared.script.LineRefusal.TheVariants.{BadLine, OutOfMemory}
+use Rattle.nl_tool_change.proofs.ReadingLemmas.{behind-tail, names-tail, same_sides}
 use Rattle.nl_tool_change.specs.declared.asked.Begin.{Begin}
 use Rattle.nl_tool_change.specs.Applying.{AreRecords, BeginsBy, HasBegun, Steps, recorded}
 

@@ -9,8 +9,8 @@ use Rattle.nl_table.specs.declared.log_user.KeepList.{KeepList}
 use Rattle.nl_table.specs.declared.log_user.KeepList.TheVariants.{All, Only}
 use Rattle.nl_session.specs.declared.events.Event.{Event}
 use Rattle.nl_session.specs.declared.events.Event.TheVariants.{Open as OpenLog, Record, Sync, Recompact, Restat, Stop, Crash}
-use Rattle.nl_tool_script.specs.Reading.{HoldsNames}
-use Rattle.nl_tool_script.specs.Replay.{KeepsSome, event_line, name_field}
+use Rattle.nl_tool_change.specs.Reading.{HoldsNames}
+use Rattle.nl_tool_change.specs.Replay.{KeepsSome, event_line, name_field}
 use Rattle.nl_tool_change.specs.Deeds.{KeepsNames}
 
 -- a set of names is found to hold what they are

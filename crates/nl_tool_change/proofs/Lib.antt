@@ -1,3 +1,7 @@
+mod WordLemmas
+mod ScriptLemmas
+mod ReadingLemmas
+mod ReplayLemmas
 pub mod FileLemmas
 pub mod ChangeLemmas
 mod KeepLemmas

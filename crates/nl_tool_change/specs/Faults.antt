@@ -1,5 +1,5 @@
--- Which faults each command that changes a log may answer (docs/CLI.md, "Messages").
-use Rattle.std.specs.Prelude.{◌⊎◌, List, ℕ, ⊤, Result, Ok, Err}
+-- Which faults `replay` and each command that changes a log may answer (docs/CLI.md, "Messages").
+use Rattle.std.specs.Prelude.{◌≡◌, ◌⊎◌, ◌<◌, List, ℕ, ⊤, Result, Ok, Err}
 use Rattle.nl_session.specs.declared.fault.LogFault.{LogFault}
 use Rattle.nl_session.specs.declared.fault.LogFault.TheVariants as refusal
 use Rattle.nl_tool_change.specs.RecordWords.{GiveEntry, IsWordFault}
@@ -78,3 +78,19 @@ IsNoLogFault _ = ⊥
 -- the words are at fault, or they give an entry and adding it is
 abbrev pub IsEntryFault : List ℕ → List ℕ → List ℕ → List ℕ → ToolFault → Type 0
 IsEntryFault start end mtime name fault = IsWordFault start end mtime name fault ⊎ (GiveEntry start end mtime name × IsRecordFault fault)
+
+-- lines are numbered from 1
+abbrev pub IsScriptFault : ToolFault → Type 0
+IsScriptFault Read = ⊤
+IsScriptFault Memory = ⊤
+IsScriptFault (BadLine number) = 0 < number
+IsScriptFault _ = ⊥
+
+abbrev pub IsFaultOfLine : ℕ → ToolFault → Type 0
+IsFaultOfLine number Memory = ⊤
+IsFaultOfLine number (BadLine n) = n ≡ number
+IsFaultOfLine number _ = ⊥
+
+abbrev pub IsReplayFault : ToolFault → Type 0
+IsReplayFault Write = ⊤
+IsReplayFault fault = IsScriptFault fault

@@ -1,6 +1,8 @@
 pub mod Files
 pub mod RecordWords
 pub mod Faults
+pub mod Replay
+pub mod Reading
 pub mod Updates
 pub mod Calls
 pub mod Mending

@@ -1,16 +1,16 @@
 //! What a line of `apply` asks for.
 ghost use Rattle.std.specs.Prelude.{◌++◌, ◌∷◌, ◌≢◌, codes, IfOk, IsErrOf, IsTrue};
 ghost use Rattle.nl_session.specs.declared.events.Event.TheVariants.{Crash};
-ghost use Rattle.nl_tool_script.specs.Replay.{KeepsSome, event_line};
-ghost use Rattle.nl_tool_script.specs.declared.script.LineRefusal.{LineRefusal};
+ghost use Rattle.nl_tool_change.specs.Replay.{KeepsSome, event_line};
+ghost use Rattle.nl_tool_change.specs.declared.script.LineRefusal.{LineRefusal};
 ghost use Rattle.nl_tool_change.specs.declared.asked.Asked.{Asked};
 ghost use Rattle.nl_tool_change.specs.Applying.{Asks, BeginsBy, BeginsNone};
 
 use crate::deed::Deed;
+use crate::script::{LineRefusal, read_event_line, read_names, split_tab};
 use nl_fields::{Name, name_fault, read_hex64, read_i32};
 use nl_session::Event;
 use nl_table::{NO_SECRET, Secret};
-use nl_tool_script::{LineRefusal, read_event_line, read_names, split_tab};
 use std::alloc::Global;
 
 /// The moment in the build, the command's hash, and its outputs.

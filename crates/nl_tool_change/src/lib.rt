@@ -1,4 +1,4 @@
-//! What the commands of `nlog` change, over any folder.
+//! What the commands of `nlog` change, over any folder, and the scripts of `replay`.
 #![tactic(auto)]
 
 mod answers;
@@ -17,6 +17,9 @@ mod parts;
 mod place;
 mod reading;
 mod record_words;
+mod replay;
+mod reply_line;
+mod script;
 mod seen;
 mod times_file;
 mod update;
@@ -28,4 +31,5 @@ pub use mending::mend_on;
 pub use place::{AskedFolder, FoundFolder, LogPlace};
 pub use reading::read_log;
 pub use record_words::entry_of;
+pub use replay::replay_to;
 pub use update::{recompact_on, record_command, record_on, repair_on, restat_on, retime_on};

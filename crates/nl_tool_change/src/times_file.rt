@@ -7,8 +7,8 @@ ghost use Rattle.nl_tool_change.specs.Files.{Says, BadAt, pair_on, times_of};
 ghost use Rattle.nl_tool_texts.specs.declared.fault.ToolFault.{ToolFault};
 
 use crate::parts::{Part, read_parts};
+use crate::script::split_tab;
 use nl_fields::{Name, read_i64};
-use nl_tool_script::split_tab;
 use nl_tool_texts::ToolFault;
 use std::alloc::{AllocError, Global};
 use std::io::Read;

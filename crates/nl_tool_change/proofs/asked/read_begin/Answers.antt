@@ -2,8 +2,8 @@ use Rattle.std.proofs.Common.{◌<◌, ◌^◌, ◌∙◌, ◌++◌, List, ℕ, 
 use Rattle.std.specs.Prelude.{Option}
 use Rattle.std.proofs.lemmas.Int.{to_z-of_z}
 use Rattle.std.proofs.lemmas.Option.{none-some}
-use Rattle.nl_tool_script.specs.Replay.{behind_tab}
-use Rattle.nl_tool_script.proofs.ReadingLemmas.{tab_is_there}
+use Rattle.nl_tool_change.specs.Replay.{behind_tab}
+use Rattle.nl_tool_change.proofs.ReadingLemmas.{tab_is_there}
 use Rattle.nl_tool_change.specs.Applying.{BeginsBy}
 use Rattle.nl_tool_change.proofs.BeginLemmas.{begins_by, behind_is, hash_next, moment_first, names_there, no_bad_line}
 use Rattle.nl_tool_change.proofs.asked.read_begin.Goals as goal

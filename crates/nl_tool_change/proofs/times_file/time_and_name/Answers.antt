@@ -1,6 +1,6 @@
 use Rattle.std.proofs.Common.{◌∙◌, ◌++◌, List, ℕ, ap, Option}
 use Rattle.std.specs.Borrow.{Bor}
-use Rattle.nl_tool_script.specs.Replay.{behind_tab}
+use Rattle.nl_tool_change.specs.Replay.{behind_tab}
 use Rattle.nl_tool_change.proofs.TimesLemmas.{no_tab, at_tab}
 use Rattle.nl_tool_change.proofs.times_file.time_and_name.Goals as goal
 

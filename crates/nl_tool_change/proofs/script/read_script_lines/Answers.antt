@@ -1,0 +1,42 @@
+use Rattle.std.proofs.Common.{◌∷◌, [], arith, inl, inr, refl, subst, length-append}
+use Rattle.std.proofs.lemmas.Result.{IfOk-weaker}
+use Rattle.nl_tool_change.specs.Replay.{TakesScriptLine}
+use Rattle.nl_tool_change.proofs.ScriptLemmas.{Scripted_none, Scripted_more, Scripted_rest, Scripted_end, Scripted_reading, lent_whole}
+use Rattle.nl_tool_change.proofs.script.read_script_lines.Goals as goal
+
+pub lines-init : goal.lines-init
+lines-init g c = record {
+  scripted = rw c.in_ok-lines.ensures.value
+      (Scripted_none (g.S.Source.ahead c.args.source.now) c.new-script.result.events.items c.new-script.ensures);
+  reading = rw c.in_ok-lines.ensures.value refl;
+  from_one = omega arith;
+  counted = omega arith;
+  fits = rw c.in_ok-lines.ensures.value (omega arith);
+}
+
+pub returns-in-Some-Torn-clause-value : goal.returns-in-Some-Torn-clause-value
+returns-in-Some-Torn-clause-value g c =
+    let h = rw (c.in_ok-line.was, c.in-Some-Torn.is, c.in-Some-Torn.field-0-is) at c.next.follows.holds-at-none in
+    IfOk-weaker c.with_last.result _ _ (λ script says. Scripted_rest _ _ _ _ c.lines.invariant.scripted _ _ h.0 script.events.items h.1
+    (subst (TakesScriptLine c.lines.script.events.items script.events.items) (lent_whole h.0 c.in-Some-Torn.bytes.now h.5 says.0) says.1))
+    c.with_last.ensures.value
+
+pub returns-in-None-clause-value : goal.returns-in-None-clause-value
+returns-in-None-clause-value g c =
+    let h = rw (c.in_ok-line.was, c.in-None.is) at c.next.follows.holds-at-none in
+    elim h [
+      | inl takes ↦ Scripted_end _ _ _ _ c.lines.invariant.scripted _ _ takes
+      | inr ended ↦ absurd (Scripted_reading _ _ _ _ c.lines.invariant.scripted ended.0)
+    ]
+
+pub lines-preserved : goal.lines-preserved
+lines-preserved g c =
+    let h = rw (c.in_ok-line.was, c.in-Some-Whole.is, c.in-Some-Whole.field-0-is) at c.next.follows.holds-at-none in
+    record {
+      scripted = Scripted_more _ _ _ _ c.lines.invariant.scripted _ _ c.in-Some-Whole.line.now c.take_line.new.script.events.items h.0
+          c.in_ok-take_line-in-Some-Whole.ensures.ok;
+      reading = h.0.is;
+      from_one = omega arith;
+      counted = omega (arith, c.lines.invariant.counted, h.0.position, length-append c.in-Some-Whole.line.now (10 ∷ []));
+      fits = h.0.fits;
+    }

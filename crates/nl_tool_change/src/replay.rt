@@ -1,0 +1,71 @@
+//! The command `replay`.
+ghost use Rattle.std.specs.Prelude.{◌≡◌, [], true, false, Some, IfErr, IfOk};
+ghost use Rattle.nl_folder.specs.MemFolder.{durable_view, mem_view_of, failure_count, choices_of};
+ghost use Rattle.nl_tool_change.specs.Faults.{IsReplayFault};
+ghost use Rattle.nl_tool_texts.specs.Output.{Prints};
+ghost use Rattle.nl_tool_change.specs.Replay.{IsReplayOf, IsReplayText, printed, told_by};
+
+use crate::reply_line::append_reply;
+use crate::script::{Script, read_script};
+use nl_folder::MemFolder;
+use nl_session::{Event, Outcome, Reply, run_events};
+use nl_tool_texts::{ToolFault, write_out};
+use std::alloc::{AllocError, Global};
+use std::io::{Read, Write};
+
+/// Runs the script's events over a folder in memory whose log is empty, and writes the replies and the log that they leave.
+pub fn replay_to<R: Read + Drop, W: Write>(
+    alloc: Global,
+    reader: R,
+    writer: &mut W,
+) -> Result<(), ToolFault>
+    ensures prints { Prints (IsReplayText (R.remaining reader)) (W.contents writer.old)
+        (W.contents writer.new) result }
+    ensures faults { IfErr result IsReplayFault }
+{
+    let script = read_script(alloc, reader)?;
+    let text = run_script(alloc, script)?;
+    write_out(text.as_slice(), writer)
+}
+
+fn set_up(alloc: Global, script: Script) -> (MemFolder, Vec<Event>)
+    ensures state { mem_view_of result.0 ≡ durable_view [] }
+    ensures failures { failure_count result.0 ≡ 0 }
+    ensures choices { choices_of result.0 ≡ told_by script }
+    ensures events { result.1.items ≡ script.events.items }
+{
+    let Script {
+        writes,
+        fates,
+        tails,
+        fuse,
+        events,
+    } = script;
+    let mut folder = MemFolder::new(alloc, Vec::new(alloc), writes, fates, fuse);
+    folder.set_tails(tails);
+    (folder, events)
+}
+
+fn run_script(alloc: Global, script: Script) -> Result<Vec<u8>, AllocError>
+    ensures value { IfOk result (λ text. IsReplayOf script.events.items text.items) }
+{
+    let (folder, events) = set_up(alloc, script);
+    let (folder, replies, outcome) = run_events(alloc, folder, &events);
+    match outcome {
+        Outcome::Whole => text_of(alloc, &replies, folder.log_bytes()),
+        Outcome::OutOfMemory { .. } => Err(AllocError),
+    }
+}
+
+fn text_of(alloc: Global, replies: &[Reply], log: &[u8]) -> Result<Vec<u8>, AllocError>
+    ensures value { IfOk result (λ text. text.items ≡ printed replies.now log.now) }
+{
+    let mut text = Vec::new(alloc);
+    for reply in replies {
+        append_reply(*reply, &mut text)?;
+    }
+    let line = format!(in alloc; "log {}\n", log.len())?;
+    text.extend_from_slice(line.as_bytes())?;
+    text.extend_from_slice(log)?;
+    Ok(text)
+}

@@ -1,0 +1,376 @@
+//! Reading a script: what a folder in memory is told, and then the events.
+ghost use Rattle.std.specs.Prelude.{◌≡◌, ◌↔◌, ◌<◌, ◌++◌, ◌∷◌, ◌^◌, ℕ, [], pos, Some, length, IfErr, IfOk, IfSome, IsErr, IsErrOf, IsSome, OnOk};
+ghost use Rattle.std.specs.List.{All as Each, flat_map};
+ghost use Rattle.nl_fields.specs.Digits.{IsDecimal};
+ghost use Rattle.nl_fields.specs.EntryLine.{IsEntryLine};
+ghost use Rattle.nl_fields.specs.Fields.{HasNoTab};
+ghost use Rattle.nl_fields.specs.EntryLine.{line_of};
+ghost use Rattle.nl_fields.specs.Name.{IsName};
+ghost use Rattle.nl_folder.specs.declared.fuse.Call.{Call};
+ghost use Rattle.nl_tool_change.specs.Faults.{IsFaultOfLine, IsScriptFault};
+ghost use Rattle.nl_fields.specs.declared.name.NameFault.{NameFault};
+ghost use Rattle.nl_tool_change.specs.declared.script.LineRefusal.TheVariants.{OutOfMemory};
+ghost use Rattle.nl_tool_change.specs.declared.script.Word.{Word};
+ghost use Rattle.nl_tool_texts.specs.Files.{OfBytes, file_lines};
+ghost use Rattle.nl_fields.specs.declared.entry.Entry.{Entry};
+ghost use Rattle.nl_session.specs.declared.events.Event.{Event};
+ghost use Rattle.nl_tool_change.specs.Reading.{HoldsNames, IsLineOf, IsReadable, SaysNames, SaysTimes, fields_of_event, word_of_event};
+ghost use Rattle.nl_tool_change.specs.Replay.{IsScript, KeepsSome, NamesSome, SaysMore, TakesScriptLine, behind_tab, event_line, keep_fields, name_field, text_of_word, time_fields, word_of};
+
+use nl_fields::{Entry, Name, NameFault, read_entry, read_i64};
+use nl_folder::{Call, Fuse};
+use nl_lines::{Line, Lines, ReadSource, Source};
+use nl_session::Event;
+use nl_table::KeepList;
+use nl_tool_texts::ToolFault;
+use std::alloc::{AllocError, AllocFailed, Global};
+use std::io::Read;
+use std::str;
+
+/// The settings of a folder in memory, and the events for a log over it.
+#[derive(Drop)]
+pub struct Script {
+    /// Empty unless the script sets it, as `fates` and `tails` are, because a line that sets it gives one number at least.
+    pub writes: Vec<u64>,
+    pub fates: Vec<u64>,
+    pub tails: Vec<u64>,
+    pub fuse: Option<Fuse>,
+    pub events: Vec<Event>,
+}
+
+#[derive(Clone, Copy, Drop)]
+pub enum Word {
+    Writes,
+    Fates,
+    Tails,
+    Fuse,
+    Open,
+    Recompact,
+    Record,
+    Restat,
+    Sync,
+    Stop,
+    Crash,
+}
+
+#[derive(Clone, Copy, Drop)]
+pub enum LineRefusal {
+    BadLine,
+    OutOfMemory,
+}
+
+impl From<AllocError> for LineRefusal {
+    ghost from_gives = { λ _ refusal. refusal ≡ OutOfMemory };
+
+    fn from(_error: AllocError) -> LineRefusal {
+        LineRefusal::OutOfMemory
+    }
+}
+
+impl<T: Drop> From<AllocFailed<T>> for LineRefusal {
+    ghost from_gives = { λ _ refusal. refusal ≡ OutOfMemory };
+
+    fn from(_error: AllocFailed<T>) -> LineRefusal {
+        LineRefusal::OutOfMemory
+    }
+}
+
+impl From<NameFault> for LineRefusal {
+    ghost from_gives = { λ fault refusal. (refusal ≡ OutOfMemory) ↔ (fault ≡ NameFault.OutOfMemory) };
+
+    fn from(fault: NameFault) -> LineRefusal {
+        match fault {
+            NameFault::OutOfMemory => LineRefusal::OutOfMemory,
+            NameFault::Empty | NameFault::BadByte(_) | NameFault::TooLong => LineRefusal::BadLine,
+        }
+    }
+}
+
+/// It stops at the first bad line.
+pub fn read_script<R: Read + Drop>(alloc: Global, reader: R) -> Result<Script, ToolFault>
+    ensures value { IfOk result (λ script.
+        OfBytes (R.remaining reader) (λ bytes. IsScript (file_lines bytes) script.events.items)) }
+    ensures faults { IfErr result IsScriptFault }
+{
+    read_script_lines(alloc, &mut ReadSource::new(reader))
+}
+
+fn read_script_lines<S: Source>(alloc: Global, source: &mut S) -> Result<Script, ToolFault>
+    ensures value { IfOk result (λ script.
+        OfBytes (S.ahead source.old) (λ bytes. IsScript (file_lines bytes) script.events.items)) }
+    ensures faults { IfErr result IsScriptFault }
+{
+    let mut lines = Lines::new(alloc)?;
+    let mut script = Script::new(alloc);
+    let mut number = 1;
+    'lines: loop {
+        match lines.next(source)? {
+            Some(Line::Whole(line)) => take_line(alloc, line, number, &mut script)?,
+            Some(Line::TooLong) => return Err(ToolFault::BadLine(number)),
+            Some(Line::Torn { bytes, .. }) => return with_last(alloc, script, bytes, number),
+            None => return Ok(script),
+        }
+        number += 1;
+    }
+}
+
+// The last line has no newline, and is empty only if it was too long to be lent.
+fn with_last(
+    alloc: Global,
+    mut script: Script,
+    line: &[u8],
+    number: u64,
+) -> Result<Script, ToolFault>
+    ensures value { IfOk result (λ new.
+        (0 < length line.now) × TakesScriptLine script.events.items new.events.items line.now) }
+    ensures faults { IfErr result (IsFaultOfLine number) }
+{
+    if line.is_empty() {
+        return Err(ToolFault::BadLine(number));
+    }
+    take_line(alloc, line, number, &mut script)?;
+    Ok(script)
+}
+
+fn take_line(alloc: Global, line: &[u8], number: u64, script: &mut Script) -> Result<(), ToolFault>
+    ensures ok { OnOk result
+        (TakesScriptLine script.old.events.items script.new.events.items line.now) }
+    ensures faults { IfErr result (IsFaultOfLine number) }
+{
+    if line.is_empty() {
+        return Ok(());
+    }
+    match script.add(alloc, line) {
+        Ok(()) => Ok(()),
+        Err(LineRefusal::BadLine) => Err(ToolFault::BadLine(number)),
+        Err(LineRefusal::OutOfMemory) => Err(ToolFault::Memory),
+    }
+}
+
+impl Script {
+    fn new(alloc: Global) -> Script
+        ensures { result.events.items ≡ [] }
+    {
+        Script {
+            writes: Vec::new(alloc),
+            fates: Vec::new(alloc),
+            tails: Vec::new(alloc),
+            fuse: None,
+            events: Vec::new(alloc),
+        }
+    }
+
+    // A setting must be the first of its kind, and stand before any event.
+    fn add(&mut self, alloc: Global, line: &[u8]) -> Result<(), LineRefusal>
+        ensures ok { OnOk result (SaysMore self.old.events.items self.new.events.items line.now) }
+    {
+        let (word, rest) = split_tab(line);
+        let Some(word) = read_word(word) else {
+            return Err(LineRefusal::BadLine);
+        };
+        let may_set = self.events.is_empty();
+        match (word, rest) {
+            (Word::Writes, Some(text)) if may_set && self.writes.is_empty() => {
+                self.writes = read_numbers(alloc, text)?;
+            }
+            (Word::Fates, Some(text)) if may_set && self.fates.is_empty() => {
+                self.fates = read_numbers(alloc, text)?;
+            }
+            (Word::Tails, Some(text)) if may_set && self.tails.is_empty() => {
+                self.tails = read_numbers(alloc, text)?;
+            }
+            (Word::Fuse, Some(text)) if may_set && self.fuse.is_none() => {
+                self.fuse = Some(read_fuse(text)?);
+            }
+            _ => self.events.push(read_event(alloc, word, rest)?)?,
+        }
+        Ok(())
+    }
+}
+
+pub fn read_event_line(alloc: Global, line: &[u8]) -> Result<Event, LineRefusal>
+    ensures line { IfOk result (λ event. event_line event ≡ line.now) }
+    ensures some { IfOk result KeepsSome }
+    ensures accepts { (event : Event) → IsLineOf event line.now
+        → IfErr result (λ refusal. refusal ≡ OutOfMemory) }
+    ensures memory { IsErrOf result OutOfMemory → HoldsNames line.now }
+{
+    let (word, rest) = split_tab(line);
+    match read_word(word) {
+        Some(word) => read_event(alloc, word, rest),
+        None => Err(LineRefusal::BadLine),
+    }
+}
+
+/// The second part is none if there is no tab.
+pub fn split_tab(text: &[u8]) -> (&[u8], Option<&[u8]>)
+    ensures line { text.now ≡ result.0.now ++ behind_tab result.1 }
+    ensures no_tab { HasNoTab result.0.now }
+{
+    match text.iter().position(|b| *b == b'\t') {
+        Some(at) => (&text[..at], Some(&text[at + 1..])),
+        None => (text, None),
+    }
+}
+
+fn read_word(text: &[u8]) -> Option<Word>
+    ensures value { IfSome result (λ word. text.now ≡ text_of_word word) }
+    ensures accepts { (word : Word) → text.now ≡ text_of_word word → result ≡ Some word }
+{
+    match str::from_utf8(text) {
+        Ok(name) => word_named(name),
+        Err(_) => None,
+    }
+}
+
+fn word_named(name: &str) -> Option<Word>
+    ensures value { IfSome result (λ word. name.now ≡ text_of_word word) }
+    ensures accepts { (word : Word) → name.now ≡ text_of_word word → result ≡ Some word }
+{
+    match name {
+        "writes" => Some(Word::Writes),
+        "fates" => Some(Word::Fates),
+        "tails" => Some(Word::Tails),
+        "fuse" => Some(Word::Fuse),
+        "open" => Some(Word::Open),
+        "recompact" => Some(Word::Recompact),
+        "record" => Some(Word::Record),
+        "restat" => Some(Word::Restat),
+        "sync" => Some(Word::Sync),
+        "stop" => Some(Word::Stop),
+        "crash" => Some(Word::Crash),
+        _ => None,
+    }
+}
+
+fn read_event(alloc: Global, word: Word, rest: Option<&[u8]>) -> Result<Event, LineRefusal>
+    ensures line { IfOk result
+        (λ event. event_line event ≡ text_of_word word ++ behind_tab rest.entry) }
+    ensures some { IfOk result KeepsSome }
+    ensures accepts { (event : Event) → word ≡ word_of_event event
+        → behind_tab rest.entry ≡ fields_of_event event → IsReadable event → KeepsSome event
+        → IfErr result (λ refusal. refusal ≡ OutOfMemory) }
+    ensures memory { IsErrOf result OutOfMemory
+        → HoldsNames (text_of_word word ++ behind_tab rest.entry) }
+{
+    match (word, rest) {
+        (Word::Open, names) => Ok(Event::Open(read_kept(alloc, names)?)),
+        (Word::Recompact, names) => Ok(Event::Recompact(read_kept(alloc, names)?)),
+        (Word::Record, Some(line)) => Ok(Event::Record(read_record(alloc, line)?)),
+        (Word::Restat, pairs) => Ok(Event::Restat(read_times(alloc, pairs)?)),
+        (Word::Sync, None) => Ok(Event::Sync),
+        (Word::Stop, None) => Ok(Event::Stop),
+        (Word::Crash, None) => Ok(Event::Crash),
+        _ => Err(LineRefusal::BadLine),
+    }
+}
+
+fn read_kept(alloc: Global, text: Option<&[u8]>) -> Result<KeepList, LineRefusal>
+    ensures line { IfOk result (λ keep. keep_fields keep ≡ behind_tab text.entry) }
+    ensures some { IfOk result NamesSome }
+    ensures accepts { SaysNames (behind_tab text.entry)
+        → IfErr result (λ refusal. refusal ≡ OutOfMemory) }
+    ensures memory { IsErr result → IsSome text.entry }
+{
+    match text {
+        Some(text) => Ok(KeepList::Only(read_names(alloc, text)?)),
+        None => Ok(KeepList::All),
+    }
+}
+
+pub fn read_names(alloc: Global, text: &[u8]) -> Result<Vec<Name>, LineRefusal>
+    ensures line { IfOk result (λ names. flat_map name_field names.items ≡ name_field text.now) }
+    ensures names { IfOk result (λ names. Each IsName names.items) }
+    ensures accepts { SaysNames (name_field text.now)
+        → IfErr result (λ refusal. refusal ≡ OutOfMemory) }
+{
+    let mut names = Vec::new(alloc);
+    let mut left = Some(text);
+    'names: while let Some(text) = left {
+        let (name, rest) = split_tab(text);
+        names.push(Name::read(alloc, name)?)?;
+        left = rest;
+    }
+    Ok(names)
+}
+
+fn read_times(alloc: Global, text: Option<&[u8]>) -> Result<Vec<(Name, i64)>, LineRefusal>
+    ensures line { IfOk result (λ times. flat_map time_fields times.items ≡ behind_tab text.entry) }
+    ensures accepts { SaysTimes (behind_tab text.entry)
+        → IfErr result (λ refusal. refusal ≡ OutOfMemory) }
+    ensures memory { IsErr result → IsSome text.entry }
+{
+    let mut pairs = Vec::new(alloc);
+    let mut left = text;
+    'pairs: while let Some(text) = left {
+        let (time, rest) = split_tab(text);
+        let (Some(mtime), Some(rest)) = (read_i64(time), rest) else {
+            return Err(LineRefusal::BadLine);
+        };
+        let (name, rest) = split_tab(rest);
+        pairs.push((Name::read(alloc, name)?, mtime))?;
+        left = rest;
+    }
+    Ok(pairs)
+}
+
+fn read_record(alloc: Global, line: &[u8]) -> Result<Entry, LineRefusal>
+    ensures line { IfOk result (λ e. line_of e ≡ line.now) }
+    ensures accepts { (e : Entry) → IsEntryLine e line.now
+        → IfErr result (λ refusal. refusal ≡ OutOfMemory) }
+{
+    let Some(entry) = read_entry(line) else {
+        return Err(LineRefusal::BadLine);
+    };
+    Ok(Entry::of(alloc, &entry)?)
+}
+
+fn read_numbers(alloc: Global, text: &[u8]) -> Result<Vec<u64>, LineRefusal> {
+    let mut numbers = Vec::new(alloc);
+    for number in text.split(|b| *b == b'\t') {
+        numbers.push(read_number(number).ok_or(LineRefusal::BadLine)?)?;
+    }
+    Ok(numbers)
+}
+
+fn read_fuse(text: &[u8]) -> Result<Fuse, LineRefusal> {
+    let (word, rest) = split_tab(text);
+    let call = read_call(word).ok_or(LineRefusal::BadLine)?;
+    let nth = rest.and_then(read_number).ok_or(LineRefusal::BadLine)?;
+    Ok(Fuse { call, nth })
+}
+
+fn read_call(word: &[u8]) -> Option<Call>
+    ensures value { IfSome result (λ call. word.now ≡ word_of call) }
+    ensures accepts { (call : Call) → word.now ≡ word_of call → result ≡ Some call }
+{
+    match str::from_utf8(word) {
+        Ok(name) => call_named(name),
+        Err(_) => None,
+    }
+}
+
+fn call_named(name: &str) -> Option<Call>
+    ensures value { IfSome result (λ call. name.now ≡ word_of call) }
+    ensures accepts { (call : Call) → name.now ≡ word_of call → result ≡ Some call }
+{
+    match name {
+        "read_log" => Some(Call::ReadLog),
+        "append_log" => Some(Call::AppendLog),
+        "cut_log" => Some(Call::CutLog),
+        "sync_log" => Some(Call::SyncLog),
+        "start_scratch" => Some(Call::StartScratch),
+        "append_scratch" => Some(Call::AppendScratch),
+        "sync_scratch" => Some(Call::SyncScratch),
+        "replace" => Some(Call::Replace),
+        "any" => Some(Call::Any),
+        _ => None,
+    }
+}
+
+fn read_number(text: &[u8]) -> Option<u64>
+    ensures value { IfSome result (λ n. IsDecimal (pos n) text.now) }
+    ensures accepts { (n : ℕ) → n < 2 ^ 63 → IsDecimal (pos n) text.now → result ≡ Some n }
+{
+    u64::try_from(read_i64(text)?).ok()
+}

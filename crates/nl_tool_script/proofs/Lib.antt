@@ -1,4 +1,0 @@
-mod WordLemmas
-mod ScriptLemmas
-pub mod ReadingLemmas
-mod ReplayLemmas
