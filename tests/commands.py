@@ -1067,7 +1067,7 @@ MANIFESTS = [
     (b"other: cc\n", []),
     (b"a: \n", [b"a"]),
     (b"", b"1: there is no target"),
-    (b"\n\n", b"1"),
+    (b"\n\n", b"1: there is no target"),
     (b"a: cc\nb\n", b"2: no target, colon, space and rule"),
     (b"a: cc\n\na:cc\n", b"3: no target, colon, space and rule"),
     (b"a : cc d\n", b"1: no target, colon, space and rule"),

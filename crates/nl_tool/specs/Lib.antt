@@ -5,5 +5,4 @@ pub mod Faults
 pub mod Meant
 pub mod Ending
 pub mod Looks
-pub mod Wrong
 pub mod Reasons

@@ -24,7 +24,7 @@ use Rattle.nl_tool.specs.declared.notes.Notes.{Notes}
 use Rattle.nl_tool.specs.Looks.{escaped, look_of, look_text, start_text}
 use Rattle.nl_tool.specs.Reports.{AreCounts, IsLeast, IsMost, IsScope}
 use Rattle.nl_reports.specs.declared.choice.Scope.{Scope}
-use Rattle.nl_tool.specs.Wrong.{line_fault_text, number_fault_text}
+use Rattle.nl_tool_change.specs.LineFaults.{line_fault_text, number_fault_text}
 use Rattle.nl_tool.specs.declared.reason.Why.{Why}
 use Rattle.nl_tool.specs.declared.reason.Refusal.{Refusal}
 

@@ -9,16 +9,16 @@ ghost use Rattle.nl_tool_change.specs.RecordWords.{GiveEntry};
 ghost use Rattle.nl_tool_change.specs.Updates.{AsSaid};
 ghost use Rattle.nl_tool.specs.Faults.{IsRepairFault};
 
-use crate::bad_lines::Explaining;
 use crate::desk::{Desk, close};
 use crate::files::{look_there, note_missing, open};
 use crate::notes::{NotedReader, NotedWriter, Notes};
-use crate::wrong::LineKind;
+use crate::reason::{Place, Reason, Why};
 use nl_fields::EntryRef;
 use nl_folder::Folder;
 use nl_os::{DiskFolder, SystemFile};
 use nl_tool_change::{
-    AskedFolder, apply_on, entry_of, recompact_on, record_command, repair_on, restat_on,
+    AskedFolder, Hears, LineFault, apply_told, entry_of, recompact_told, record_command, repair_on,
+    restat_told,
 };
 use nl_tool_texts::ToolFault;
 use std::alloc::Global;
@@ -80,7 +80,6 @@ where
     ensures faults { IfErr result IsRecompactFault }
 {
     let names = open(desk, keep)?;
-    desk.notes.watch(LineKind::Keep);
     note_missing(desk, log);
     let place = desk.log_at(log)?;
     recompact_at(desk.alloc, place, names, &mut desk.notes)
@@ -99,7 +98,7 @@ where
     ensures faults { IfErr result IsRecompactFault }
 {
     let names = NotedReader::new(names, &mut notes.heard);
-    let (left, answer) = recompact_on(alloc, place, names);
+    let (left, answer) = recompact_told(alloc, place, names, &mut notes.told);
     close(left.folder, answer.err(), notes);
     answer
 }
@@ -114,7 +113,6 @@ where
     ensures faults { IfErr result IsRestatFault }
 {
     let pairs = open(desk, times)?;
-    desk.notes.watch(LineKind::Times);
     note_missing(desk, log);
     let place = desk.log_at(log)?;
     restat_at(desk.alloc, place, pairs, &mut desk.notes)
@@ -133,7 +131,7 @@ where
     ensures faults { IfErr result IsRestatFault }
 {
     let pairs = NotedReader::new(pairs, &mut notes.heard);
-    let (left, answer) = restat_on(alloc, place, pairs);
+    let (left, answer) = restat_told(alloc, place, pairs, &mut notes.told);
     close(left.folder, answer.err(), notes);
     answer
 }
@@ -148,27 +146,51 @@ where
     ensures faults { IfErr result IsApplyFault }
 {
     let Desk { rt, alloc, .. } = *desk;
-    let looks = desk.notes.looks;
     match script {
         None => {
             let place = desk.log_at(log)?;
-            let lines = Explaining::new(rt, alloc, None, looks, rt.reader());
-            apply_at(rt, alloc, place, lines, &mut desk.notes)
+            apply_at(rt, alloc, place, rt.reader(), Place::Input, &mut desk.notes)
         }
         Some(path) => {
             let lines = open(desk, path)?;
             let place = desk.log_at(log)?;
-            let lines = Explaining::new(rt, alloc, Some(path), looks, lines);
-            apply_at(rt, alloc, place, lines, &mut desk.notes)
+            apply_at(
+                rt,
+                alloc,
+                place,
+                lines,
+                Place::Script(path),
+                &mut desk.notes,
+            )
         }
     }
 }
 
-fn apply_at<P: Print, D: Files + Clock + Drop, R: Read + Drop>(
+// The lines of `apply`: of a bad one it is said why, where that is asked for.
+#[derive(Drop)]
+struct Explaining<'r, P> {
+    rt: &'r P,
+    place: Place<'r>,
+    looks: bool,
+}
+
+impl<P: Eprint> Hears for Explaining<'_, P> {
+    fn bad_line(&mut self, number: u64, why: LineFault) {
+        if self.looks {
+            let reason = Reason::Line(number, Some(why));
+            let place = self.place;
+            let why = Why { place, reason };
+            let _ = eprintln!(self.rt; "nlog: {why}");
+        }
+    }
+}
+
+fn apply_at<P: Print + Eprint, D: Files + Clock + Drop, R: Read + Drop>(
     rt: &P,
     alloc: Global,
     place: AskedFolder<DiskFolder<D>>,
     reader: R,
+    lines: Place<'_>,
     notes: &mut Notes,
 ) -> Result<(), ToolFault>
 where
@@ -183,8 +205,13 @@ where
         asked,
         folder,
     } = place;
+    let mut hears = Explaining {
+        rt,
+        place: lines,
+        looks: notes.looks,
+    };
     let reader = NotedReader::new(reader, &mut notes.heard);
-    let (folder, answer) = apply_on(alloc, secret, asked, folder, reader, &mut out);
+    let (folder, answer) = apply_told(alloc, secret, asked, folder, reader, &mut out, &mut hears);
     notes.written = out.failure;
     close(folder, answer.err(), notes);
     answer

@@ -1,7 +1,6 @@
 //! The program `nlog`: what it does for the words that it was given, over real files, and the status with which it ends.
 #![tactic(auto)]
 
-mod bad_lines;
 mod changing;
 mod comparing;
 mod desk;
@@ -23,16 +22,14 @@ mod screen;
 mod settling;
 mod version_choice;
 mod waiting;
-mod watch;
-mod wrong;
 
 pub use desk::{Desk, LogAt};
 pub use ending::{run_line, run_program};
 pub use looks::{Look, look_of, start_of};
 pub use nl_os::DiskFolder;
 pub use nl_tool_change::{
-    AskedFolder, FoundFolder, LogPlace, apply_on, entry_of, recompact_on, record_command,
-    record_on, repair_on, replay_to, restat_on,
+    AskedFolder, FoundFolder, LineFault, LogPlace, NumberFault, Told, apply_on, entry_of,
+    recompact_on, record_command, record_on, repair_on, replay_to, restat_on,
 };
 pub use nl_tool_doubt::{doubts_of, write_doubts};
 pub use nl_tool_print::{
@@ -49,5 +46,3 @@ pub use reason::{Place, Reason, Refusal, Why, note_of, refusal_of};
 pub use screen::{NO_SCREEN, Screen};
 pub use version_choice::number_of;
 pub use waiting::Waiting;
-pub use watch::Watch;
-pub use wrong::{LineFault, LineKind, NumberFault};

@@ -5,12 +5,11 @@ ghost use Rattle.std.specs.Io.{ReadsAtMost, WritesAtMost};
 ghost use Rattle.std.specs.Io.KnownBytes.{Keeps, ReadConsumes, WriteAppends};
 
 use crate::screen::Screen;
-use crate::watch::Watch;
-use crate::wrong::LineKind;
 use nl_folder::Folder;
 use nl_lines::MAX_LINE;
 use nl_os::Failure;
 use nl_table::Secret;
+use nl_tool_change::{Told, UNTOLD};
 use std::alloc::Global;
 use std::io::{self, Read, Write};
 
@@ -22,6 +21,8 @@ const PIECE: usize = 512;
 pub struct Notes {
     /// What is kept of the file that the command reads, or of standard input.
     pub heard: Heard,
+    /// What the reader of that file says beside its fault.
+    pub told: Told,
     /// The error of the last write to standard output that failed.
     pub written: Option<io::Error>,
     /// The last call of the log's folder that failed.
@@ -63,8 +64,8 @@ impl Notes {
                     bytes: Vec::new(alloc),
                     goes_on: looks,
                 },
-                lines: Watch::new(alloc),
             },
+            told: UNTOLD,
             written: None,
             folder: None,
             unsynced: None,
@@ -76,15 +77,6 @@ impl Notes {
             looks,
             screen,
             secret,
-        }
-    }
-
-    /// Watches the lines of the file that is read next, where more is to be said.
-    pub fn watch(&mut self, kind: LineKind)
-        ensures kept { self.new.folder ≡ self.old.folder }
-    {
-        if self.looks {
-            self.heard.lines.begin(kind);
         }
     }
 
@@ -116,7 +108,6 @@ pub struct Heard {
     /// The error by which it was last not opened, or not read.
     pub failure: Option<io::Error>,
     pub beginning: Beginning,
-    pub lines: Watch,
 }
 
 impl Heard {
@@ -191,7 +182,6 @@ impl<R: Read> Read for NotedReader<'_, R> {
         match self.reader.read(buf) {
             Ok(count) => {
                 self.heard.beginning.note(&buf[..count]);
-                self.heard.lines.note(&buf[..count]);
                 Ok(count)
             }
             Err(error) => {

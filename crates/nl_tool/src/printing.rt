@@ -18,7 +18,7 @@ use crate::notes::{NotedReader, NotedWriter};
 use crate::program::Verdict;
 use crate::progress::Telling;
 use nl_table::Secret;
-use nl_tool_change::replay_to;
+use nl_tool_change::{Told, replay_told};
 use nl_tool_print::{check_log, damage_to, entries_to, hash_for, hash_read, show_log};
 use nl_tool_texts::ToolFault;
 use nl_versions::LogVersion;
@@ -171,7 +171,8 @@ pub fn print_from<P: Print + Eprint + Clock, R: Read + Drop>(
     let reader = Telling::new(rt, desk.notes.screen.errors, reader);
     let secret = desk.notes.secret;
     let reader = NotedReader::new(reader, &mut desk.notes.heard);
-    let answer = print_to(alloc, secret, printing, asked, reader, &mut out);
+    let told = &mut desk.notes.told;
+    let answer = print_to(alloc, secret, printing, asked, reader, &mut out, told);
     desk.notes.written = out.failure;
     answer
 }
@@ -184,6 +185,7 @@ fn print_to<R: Read + Drop, W: Write>(
     asked: Option<LogVersion>,
     reader: R,
     writer: &mut W,
+    told: &mut Told,
 ) -> Result<(), ToolFault>
     ensures prints { Prints (IsAnswer asked printing.entry (R.remaining reader))
         (W.contents writer.old) (W.contents writer.new) result }
@@ -196,6 +198,6 @@ fn print_to<R: Read + Drop, W: Write>(
         Printing::Check => check_log(alloc, secret, asked, reader, writer),
         Printing::Hash(command) => hash_for(alloc, version, command.as_bytes(), writer),
         Printing::HashFile => hash_read(alloc, version, reader, writer),
-        Printing::Replay => replay_to(alloc, reader, writer),
+        Printing::Replay => replay_told(alloc, reader, writer, told),
     }
 }

@@ -12,7 +12,6 @@ use crate::printing::{Printing, Streaming, print_file, print_from, print_log, st
 use crate::reporting::{builds_in, picture_in, summary_in, trace_in};
 use crate::screen::NO_SCREEN;
 use crate::settling::{prune_in, retime_in};
-use crate::wrong::LineKind;
 use nl_os::SystemFile;
 use nl_table::NO_SECRET;
 use nl_tool_doubt::How;
@@ -62,10 +61,7 @@ where
         Words::Check(log) => print_log(desk, Printing::Check, log),
         Words::Hash(command) => print_from(desk, Printing::Hash(command), io::empty()),
         Words::HashFile(file) => print_file(desk, Printing::HashFile, file),
-        Words::Replay(script) => {
-            desk.notes.watch(LineKind::Script);
-            print_file(desk, Printing::Replay, script)
-        }
+        Words::Replay(script) => print_file(desk, Printing::Replay, script),
         Words::Read { what, log, choices } => return read_in(desk, what, log, choices),
         Words::Compare {
             old,

@@ -13,9 +13,9 @@ use crate::comparing::least_of;
 use crate::looks::{Look, escaped_of, look_of, start_of};
 use crate::notes::Notes;
 use crate::reporting::{counts_of, most_of, positive_of, scope_of};
-use crate::wrong::{LineFault, NumberFault, build_fault, count_fault, number_fault};
 use nl_fields::{read_i32, read_i64};
 use nl_os::{Failure, FileRole, folder_part};
+use nl_tool_change::{LineFault, NumberFault, build_fault, count_fault, number_fault};
 use nl_tool_texts::ToolFault;
 use nl_tool_words::{Changing, Choices, CommandLine, Words};
 use nl_versions::is_version_read;
@@ -382,9 +382,9 @@ fn why_of<'a>(alloc: Global, words: &Words<'a>, fault: ToolFault, notes: &Notes)
         }
         ToolFault::BadLine(number) => Some(Why {
             place: read_place(words)?,
-            reason: Reason::Line(number, notes.heard.lines.fault_at(number)),
+            reason: Reason::Line(number, notes.told.why),
         }),
-        ToolFault::NegativeTime(place) => negative_why(alloc, words, place, notes),
+        ToolFault::NegativeTime(_) => negative_why(alloc, words, notes),
         ToolFault::OtherVersion => version_why(alloc, words, notes),
         ToolFault::NotALog => looks_of(alloc, words, notes),
         ToolFault::BadNumber => bad_number(alloc, words),
@@ -410,12 +410,7 @@ fn unread_of<'a>(alloc: Global, words: &Words<'a>, notes: &Notes) -> Option<Why<
     said_of(alloc, log_place(words, failure.file)?, failure.error)
 }
 
-fn negative_why<'a>(
-    alloc: Global,
-    words: &Words<'a>,
-    place: usize,
-    notes: &Notes,
-) -> Option<Why<'a>>
+fn negative_why<'a>(alloc: Global, words: &Words<'a>, notes: &Notes) -> Option<Why<'a>>
     ensures { IfSome result (λ why. (read_place words.now ≡ Some why.place)
         × IsNegative why.reason) }
 {
@@ -424,7 +419,7 @@ fn negative_why<'a>(
             what: Changing::Retime,
             ..
         } => early_reason(alloc, notes.early.as_slice())?,
-        _ => Reason::Negative(notes.heard.lines.line_of_pair(place)?),
+        _ => Reason::Negative(notes.told.negative?),
     };
     Some(Why {
         place: read_place(words)?,

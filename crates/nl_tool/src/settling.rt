@@ -16,7 +16,6 @@ use crate::files::open;
 use crate::notes::{NotedReader, Notes};
 use crate::printing::{Streaming, stream_log};
 use crate::program::Verdict;
-use crate::wrong::LineKind;
 use nl_fields::Name;
 use nl_folder::Folder;
 use nl_os::{DiskFolder, Failure, FileRole, SystemFile};
@@ -79,8 +78,8 @@ fn targets_from<R: Read + Drop>(
     ensures faults { IfErr result IsTargetsFault }
 {
     let mut own = Notes::new(alloc, notes.looks, notes.screen, notes.secret);
-    own.watch(LineKind::Targets);
-    let answer = read_manifest(alloc, NotedReader::new(reader, &mut own.heard));
+    let targets = NotedReader::new(reader, &mut own.heard);
+    let answer = read_manifest(alloc, targets, &mut notes.told);
     if answer.is_err() {
         notes.heard = own.heard;
     }

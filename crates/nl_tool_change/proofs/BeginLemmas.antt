@@ -1,7 +1,6 @@
 -- A line that begins a command: its fields between tabs, and the records that it makes.
-use Rattle.std.proofs.Common.{◌≡◌, ◌<◌, ◌^◌, ◌∙◌, ℕ, ℤ, List, [], ◌∷◌, ◌++◌, length, refl, sym, ap, subst, arith, map, FitsSigned, w32, w64, Bor}
+use Rattle.std.proofs.Common.{◌≡◌, ◌≢◌, ◌<◌, ◌^◌, ◌∙◌, ℕ, ℤ, List, [], ◌∷◌, ◌++◌, length, refl, sym, ap, subst, arith, map, FitsSigned, w32, w64, Bor}
 use Rattle.std.proofs.Common.{Option, None, Some, Result, Ok, Err}
-use Rattle.std.specs.Prelude.{IsErrOf}
 use Rattle.std.specs.Result.{IsErrAnd}
 use Rattle.std.specs.List.{All as Each, flat_map}
 use Rattle.nl_session.proofs.Names.{map-append}
@@ -26,7 +25,7 @@ use Rattle.nl_session.specs.Headline.{Exchange}
 use Rattle.nl_session.proofs.AppendLemmas.{run_join}
 use Rattle.nl_tool_change.specs.Replay.{behind_tab, name_field, reply_line}
 use Rattle.nl_tool_change.specs.declared.script.LineRefusal.{LineRefusal}
-use Rattle.nl_tool_change.specs.declared.script.LineRefusal.TheVariants.{BadLine, OutOfMemory}
+use Rattle.nl_tool_change.specs.declared.script.LineRefusal.TheVariants.{OutOfMemory}
 use Rattle.nl_tool_change.proofs.ReadingLemmas.{behind-tail, names-tail, same_sides}
 use Rattle.nl_tool_change.specs.declared.asked.Begin.{Begin}
 use Rattle.nl_tool_change.specs.Applying.{AreRecords, BeginsBy, HasBegun, Steps, recorded}
@@ -71,9 +70,9 @@ names_there rest (name ∷ names) some there none = omega (arith, ap length (sym
 
 -- where names are said, they aren't refused as a bad line
 pub no_bad_line : {T : Type 0} (r : Result T LineRefusal) (why : LineRefusal) → IsErrAnd r (λ refusal. refusal ≡ why) → why ≡ OutOfMemory
-    → IsErrOf r BadLine → ⊥
+    → IsErrAnd r (λ refusal. refusal ≢ OutOfMemory) → ⊥
 no_bad_line (Ok value) why is memory bad = absurd is
-no_bad_line (Err refusal) why is memory bad = absurd (cc (bad, is, memory))
+no_bad_line (Err refusal) why is memory bad = absurd (bad (is ∙ memory))
 
 -- what was read is so spelled
 pub begins_by : (fields first hash_text rest text : List ℕ) (moment : ℤ) (hash : ℕ) (names : List (List ℕ)) → FitsSigned w32 moment

@@ -79,6 +79,10 @@ IsNoLogFault _ = ⊥
 abbrev pub IsEntryFault : List ℕ → List ℕ → List ℕ → List ℕ → ToolFault → Type 0
 IsEntryFault start end mtime name fault = IsWordFault start end mtime name fault ⊎ (GiveEntry start end mtime name × IsRecordFault fault)
 
+abbrev pub IsBadLine : ToolFault → Type 0
+IsBadLine (BadLine number) = ⊤
+IsBadLine _ = ⊥
+
 -- lines are numbered from 1
 abbrev pub IsScriptFault : ToolFault → Type 0
 IsScriptFault Read = ⊤

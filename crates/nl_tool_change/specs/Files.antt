@@ -7,6 +7,7 @@ use Rattle.nl_fields.specs.EntryLine.{before_tab, after_tab, is_within}
 use Rattle.nl_fields.specs.Name.{is_name}
 use Rattle.nl_lines.specs.Lines.{max_line}
 use Rattle.nl_tool_texts.specs.Files.{file_lines}
+use Rattle.nl_tool_change.specs.declared.line_fault.LineFault.{LineFault}
 
 -- the lines say these parts, in order, or the line of this number is the first bad one
 pub data FileReading (T : Type 0) : Type 0 where
@@ -40,6 +41,11 @@ said_after part_of number (b ∷ line) (Says parts) =
 abbrev pub said_of : {T : Type 0} → List T → Option ℕ → FileReading T
 said_of parts None = Says parts
 said_of parts (Some number) = BadAt number
+
+-- the number of the bad line
+abbrev pub line_of : Option (ℕ × LineFault) → Option ℕ
+line_of None = None
+line_of (Some bad) = Some bad.0
 
 abbrev pub said_by : {T : Type 0} → (List ℕ → Option T) → List ℕ → FileReading T
 said_by part_of bytes = said_from part_of 1 (file_lines bytes)

@@ -1,4 +1,5 @@
 pub mod Files
+pub mod LineFaults
 pub mod RecordWords
 pub mod Faults
 pub mod Replay

@@ -1,5 +1,5 @@
 //! What a line of `apply` asks for.
-ghost use Rattle.std.specs.Prelude.{◌++◌, ◌∷◌, ◌≢◌, codes, IfOk, IsErrOf, IsTrue};
+ghost use Rattle.std.specs.Prelude.{◌++◌, ◌∷◌, ◌≢◌, codes, IfOk, IsErrAnd};
 ghost use Rattle.nl_session.specs.declared.events.Event.TheVariants.{Crash};
 ghost use Rattle.nl_tool_change.specs.Replay.{KeepsSome, event_line};
 ghost use Rattle.nl_tool_change.specs.declared.script.LineRefusal.{LineRefusal};
@@ -7,10 +7,12 @@ ghost use Rattle.nl_tool_change.specs.declared.asked.Asked.{Asked};
 ghost use Rattle.nl_tool_change.specs.Applying.{Asks, BeginsBy, BeginsNone};
 
 use crate::deed::Deed;
+use crate::keep_file::why_no_name;
+use crate::line_fault::LineFault;
 use crate::script::{LineRefusal, read_event_line, read_names, split_tab};
 use nl_fields::{Name, name_fault, read_hex64, read_i32};
 use nl_session::Event;
-use nl_table::{NO_SECRET, Secret};
+use nl_table::Secret;
 use std::alloc::Global;
 
 /// The moment in the build, the command's hash, and its outputs.
@@ -31,7 +33,7 @@ pub enum Asked<'a> {
     /// The outputs of a closed log that can't be trusted.
     Doubts,
     Begins(Begin),
-    Bad,
+    Bad(LineFault),
     /// Memory was refused, so what is asked isn't known.
     Unread,
 }
@@ -47,13 +49,6 @@ pub fn read_asked(alloc: Global, secret: Secret, line: &[u8]) -> Asked<'_>
     }
 }
 
-/// Whether a line is answered `bad line`. Where memory is wanting, nobody knows.
-pub fn is_bad_line(alloc: Global, line: &[u8]) -> bool
-    ensures bad { IsTrue result → Asks line.now Asked.Bad }
-{
-    matches!(read_asked(alloc, NO_SECRET, line), Asked::Bad)
-}
-
 fn read_other(alloc: Global, secret: Secret, line: &[u8]) -> Asked<'_>
     requires other { line.now ≢ codes "distrusted" }
     ensures asks { Asks line.now result }
@@ -64,11 +59,29 @@ fn read_other(alloc: Global, secret: Secret, line: &[u8]) -> Asked<'_>
         [b'h', b'a', b's', b'h', b'\t', command @ ..] => Asked::Hashes(command),
         [b'b', b'e', b'g', b'i', b'n', b'\t', fields @ ..] => begins(alloc, fields),
         _ => match read_event_line(alloc, line) {
-            Ok(Event::Crash) => Asked::Bad,
+            Ok(Event::Crash) => Asked::Bad(LineFault::NoEvent),
             Ok(event) => does(alloc, secret, event),
-            Err(LineRefusal::BadLine) => Asked::Bad,
+            Err(LineRefusal::NoEvent | LineRefusal::BadLine) => Asked::Bad(why_none(line)),
             Err(LineRefusal::OutOfMemory) => Asked::Unread,
         },
+    }
+}
+
+// Behind a word of `apply` the fields are wrong.
+fn why_none(line: &[u8]) -> LineFault {
+    match split_tab(line).0 {
+        b"open"
+        | b"record"
+        | b"sync"
+        | b"recompact"
+        | b"restat"
+        | b"stop"
+        | b"begin"
+        | b"get"
+        | b"hash"
+        | b"table"
+        | b"distrusted" => LineFault::Fields,
+        _ => LineFault::NoEvent,
     }
 }
 
@@ -89,7 +102,7 @@ fn gets(name: &[u8]) -> Asked<'_>
 {
     match name_fault(name) {
         None => Asked::Gets(name),
-        Some(_) => Asked::Bad,
+        Some(fault) => Asked::Bad(why_no_name(name, fault)),
     }
 }
 
@@ -99,15 +112,15 @@ fn begins(alloc: Global, fields: &[u8]) -> Asked<'_>
 {
     match read_begin(alloc, fields) {
         Ok(begin) => Asked::Begins(begin),
-        Err(LineRefusal::BadLine) => Asked::Bad,
         Err(LineRefusal::OutOfMemory) => Asked::Unread,
+        Err(LineRefusal::NoEvent | LineRefusal::BadLine) => Asked::Bad(LineFault::Fields),
     }
 }
 
 fn read_begin(alloc: Global, fields: &[u8]) -> Result<Begin, LineRefusal>
     ensures value { IfOk result
         (λ begin. BeginsBy begin.moment_ms begin.hash begin.names.items fields.now) }
-    ensures bad_line { IsErrOf result LineRefusal.BadLine → BeginsNone fields.now }
+    ensures bad_line { IsErrAnd result (λ why. why ≢ LineRefusal.OutOfMemory) → BeginsNone fields.now }
 {
     let (moment, rest) = split_tab(fields);
     let (Some(moment_ms), Some(rest)) = (read_i32(moment), rest) else {

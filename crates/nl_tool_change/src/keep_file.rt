@@ -1,11 +1,12 @@
 //! KEEP: the names of the outputs to keep, one a line.
-ghost use Rattle.std.specs.Prelude.{◌≡◌, ℕ, List, IfOk, IfErr, IsErrOf};
+ghost use Rattle.std.specs.Prelude.{◌≡◌, ℕ, List, IfOk, IfErr, IsErrAnd, IsErrOf, IsSome};
 ghost use Rattle.nl_table.specs.History.{holds};
-ghost use Rattle.nl_tool_change.specs.Faults.{IsFileFault};
+ghost use Rattle.nl_tool_change.specs.Faults.{IsBadLine, IsFileFault};
 ghost use Rattle.nl_tool_texts.specs.Files.{OfBytes};
 ghost use Rattle.nl_tool_change.specs.Files.{Says, BadAt, name_on, keep_of};
 ghost use Rattle.nl_tool_texts.specs.declared.fault.ToolFault.{ToolFault};
 
+use crate::line_fault::{LineFault, Told};
 use crate::parts::{Part, read_parts};
 use nl_fields::{Name, NameFault};
 use nl_table::{NameSet, Secret};
@@ -16,12 +17,25 @@ use std::io::Read;
 impl Part for Name {
     ghost part_of = { name_on };
 
-    fn read(alloc: Global, line: &[u8]) -> Result<Option<Name>, AllocError> {
+    fn read(alloc: Global, line: &[u8]) -> Result<Result<Name, LineFault>, AllocError> {
         match Name::read(alloc, line) {
-            Ok(name) => Ok(Some(name)),
+            Ok(name) => Ok(Ok(name)),
             Err(NameFault::OutOfMemory) => Err(AllocError),
-            Err(NameFault::Empty | NameFault::BadByte(_) | NameFault::TooLong) => Ok(None),
+            Err(fault) => Ok(Err(why_no_name(line, fault))),
         }
+    }
+
+    fn is_negative(&self) -> bool {
+        false
+    }
+}
+
+pub fn why_no_name(bytes: &[u8], fault: NameFault) -> LineFault {
+    match fault {
+        NameFault::Empty => LineFault::NoName,
+        NameFault::TooLong => LineFault::LongName,
+        NameFault::BadByte(_) if bytes.contains(&0) => LineFault::Zero,
+        NameFault::BadByte(_) | NameFault::OutOfMemory => LineFault::Tab,
     }
 }
 
@@ -30,14 +44,16 @@ pub fn read_keep<R: Read + Drop>(
     alloc: Global,
     secret: Secret,
     reader: R,
+    told: &mut Told,
 ) -> Result<NameSet, ToolFault>
     ensures value { IfOk result (λ set. OfBytes (R.remaining reader) (λ bytes.
         (names : List (List ℕ)) × (keep_of bytes ≡ Says names)
         × ((name : List ℕ) → holds set name ≡ holds names name))) }
     ensures bad_line { (number : ℕ) → IsErrOf result (ToolFault.BadLine number)
         → OfBytes (R.remaining reader) (λ bytes. keep_of bytes ≡ BadAt number) }
+    ensures why { IsErrAnd result IsBadLine → IsSome told.new.why }
     ensures faults { IfErr result IsFileFault }
 {
-    let names: Vec<Name> = read_parts(alloc, reader)?;
+    let names: Vec<Name> = read_parts(alloc, reader, told)?;
     Ok(NameSet::of(alloc, secret, names)?)
 }

@@ -1,10 +1,11 @@
 //! The targets of a build, as `ninja -t targets all` prints them: a name, `: ` and a rule a line.
-ghost use Rattle.std.specs.Prelude.{◌≡◌, ◌++◌, ◌∷◌, [], ℕ, List, IfOk, IfErr, IsErrOf, IsNone, IfSome, option_map};
-ghost use Rattle.nl_tool_change.specs.Faults.{IsFileFault};
+ghost use Rattle.std.specs.Prelude.{◌≡◌, ◌++◌, ◌∷◌, [], ℕ, List, IfOk, IfErr, IsErrAnd, IsErrOf, IsNone, IsSome, IfSome, option_map};
+ghost use Rattle.nl_tool_change.specs.Faults.{IsBadLine, IsFileFault};
 ghost use Rattle.nl_tool_texts.specs.Files.{OfBytes};
 ghost use Rattle.nl_tool_change.specs.Files.{Says, BadAt, before_rule, manifest_of, target_on};
 ghost use Rattle.nl_tool_texts.specs.declared.fault.ToolFault.{ToolFault};
 
+use crate::line_fault::{LineFault, Told};
 use crate::parts::{Part, read_parts};
 use nl_fields::Name;
 use nl_tool_texts::ToolFault;
@@ -26,14 +27,18 @@ impl Model for Target {
 impl Part for Target {
     ghost part_of = { target_on };
 
-    fn read(alloc: Global, line: &[u8]) -> Result<Option<Target>, AllocError> {
+    fn read(alloc: Global, line: &[u8]) -> Result<Result<Target, LineFault>, AllocError> {
         let Some(target) = before_rule(line) else {
-            return Ok(None);
+            return Ok(Err(LineFault::NoRule));
         };
         match <Name as Part>::read(alloc, target)? {
-            Some(name) => Ok(Some(Target { name })),
-            None => Ok(None),
+            Ok(name) => Ok(Ok(Target { name })),
+            Err(why) => Ok(Err(why)),
         }
+    }
+
+    fn is_negative(&self) -> bool {
+        false
     }
 }
 
@@ -62,16 +67,21 @@ fn before_colon(bytes: &[u8]) -> Option<&[u8]>
 }
 
 /// There must be one, because a Ninja that fails prints none. It takes the memory of the names.
-pub fn read_manifest<R: Read + Drop>(alloc: Global, reader: R) -> Result<Vec<Name>, ToolFault>
+pub fn read_manifest<R: Read + Drop>(
+    alloc: Global,
+    reader: R,
+    told: &mut Told,
+) -> Result<Vec<Name>, ToolFault>
     ensures value { IfOk result (λ names.
         OfBytes (R.remaining reader) (λ bytes. manifest_of bytes ≡ Says names.items)) }
     ensures bad_line { (number : ℕ) → IsErrOf result (ToolFault.BadLine number)
         → OfBytes (R.remaining reader) (λ bytes. manifest_of bytes ≡ BadAt number) }
+    ensures why { IsErrAnd result IsBadLine → IsSome told.new.why }
     ensures faults { IfErr result IsFileFault }
 {
-    let targets: Vec<Target> = read_parts(alloc, reader)?;
+    let targets: Vec<Target> = read_parts(alloc, reader, told)?;
     if targets.is_empty() {
-        return Err(ToolFault::BadLine(1));
+        return Err(told.refuse(1, LineFault::NoTarget));
     }
     Ok(names_of(alloc, targets)?)
 }

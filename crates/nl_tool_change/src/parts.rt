@@ -1,11 +1,13 @@
 //! Files that say something line by line.
-ghost use Rattle.std.specs.Prelude.{◌≡◌, ◌⊎◌, ℕ, ◌+◌, ◌<◌, ◌≤◌, ◌^◌, List, Option, Some, None, IfOk, IfErr, IsErrOf, IsSomeAnd, MatchResult, OnOk, length};
+ghost use Rattle.std.specs.Prelude.{◌≡◌, ◌⊎◌, ℕ, ◌+◌, ◌<◌, ◌≤◌, ◌^◌, List, Option, Some, None, IfOk, IfErr, IsErrAnd, IsErrOf, IsSome, IsSomeAnd, MatchResult, OnOk, length};
+ghost use Rattle.std.specs.Result.{result_ok};
 ghost use Rattle.nl_lines.specs.Lines.{lent_rest, max_line};
-ghost use Rattle.nl_tool_change.specs.Faults.{IsFileFault};
+ghost use Rattle.nl_tool_change.specs.Faults.{IsBadLine, IsFileFault};
 ghost use Rattle.nl_tool_texts.specs.Files.{OfBytes};
-ghost use Rattle.nl_tool_change.specs.Files.{Says, BadAt, said_by, said_after, said_of};
+ghost use Rattle.nl_tool_change.specs.Files.{Says, BadAt, line_of, said_by, said_after, said_of};
 ghost use Rattle.nl_tool_texts.specs.declared.fault.ToolFault.{ToolFault};
 
+use crate::line_fault::{LineFault, Told};
 use nl_lines::{Line, Lines, MAX_LINE, ReadSource, Source};
 use nl_tool_texts::ToolFault;
 use std::alloc::{AllocError, Global};
@@ -14,8 +16,11 @@ use std::io::Read;
 pub trait Part: Drop {
     ghost part_of: { List ℕ → Option Self };
 
-    fn read(alloc: Global, line: &[u8]) -> Result<Option<Self>, AllocError>
-        ensures value { IfOk result (λ part. part ≡ part_of line.now) };
+    /// A line that says none is refused with what is wrong with it.
+    fn read(alloc: Global, line: &[u8]) -> Result<Result<Self, LineFault>, AllocError>
+        ensures value { IfOk result (λ read. result_ok read ≡ part_of line.now) };
+
+    fn is_negative(&self) -> bool;
 }
 
 #[derive(Drop)]
@@ -23,24 +28,30 @@ struct SoFar<P: Part> {
     parts: Vec<P>,
     // Lines that say nothing are counted, too.
     count: u64,
-    bad: Option<u64>,
+    bad: Option<(u64, LineFault)>,
+    negative: Option<u64>,
 }
 
 /// It reads the file to its end.
-pub fn read_parts<P: Part, R: Read + Drop>(alloc: Global, reader: R) -> Result<Vec<P>, ToolFault>
+pub fn read_parts<P: Part, R: Read + Drop>(
+    alloc: Global,
+    reader: R,
+    told: &mut Told,
+) -> Result<Vec<P>, ToolFault>
     ensures value { IfOk result (λ parts.
         OfBytes (R.remaining reader) (λ bytes. said_by P.part_of bytes ≡ Says parts.items)) }
     ensures bad_line { (number : ℕ) → IsErrOf result (ToolFault.BadLine number)
         → OfBytes (R.remaining reader) (λ bytes. said_by P.part_of bytes ≡ BadAt number) }
+    ensures why { IsErrAnd result IsBadLine → IsSome told.new.why }
     ensures faults { IfErr result IsFileFault }
 {
     let so_far = read_lines(alloc, &mut ReadSource::new(reader))?;
-    parts_of(so_far)
+    parts_of(so_far, told)
 }
 
 fn read_lines<P: Part, S: Source>(alloc: Global, source: &mut S) -> Result<SoFar<P>, ToolFault>
     ensures value { IfOk result (λ so_far. OfBytes (S.ahead source.old)
-        (λ bytes. said_by P.part_of bytes ≡ said_of so_far.parts.items so_far.bad)) }
+        (λ bytes. said_by P.part_of bytes ≡ said_of so_far.parts.items (line_of so_far.bad))) }
     ensures faults { IfErr result (λ e. (e ≡ ToolFault.Read) ⊎ (e ≡ ToolFault.Memory)) }
 {
     let mut lines = Lines::new(alloc)?;
@@ -48,6 +59,7 @@ fn read_lines<P: Part, S: Source>(alloc: Global, source: &mut S) -> Result<SoFar
         parts: Vec::new(alloc),
         count: 0,
         bad: None,
+        negative: None,
     };
     'lines: loop {
         match lines.next(source)? {
@@ -65,8 +77,8 @@ fn read_lines<P: Part, S: Source>(alloc: Global, source: &mut S) -> Result<SoFar
 fn take<P: Part>(alloc: Global, line: &[u8], so_far: &mut SoFar<P>) -> Result<(), AllocError>
     requires short { length line.now ≤ max_line }
     requires room { so_far.old.count < 2 ^ 63 }
-    ensures ok { OnOk result (said_of so_far.new.parts.items so_far.new.bad ≡ said_after P.part_of
-        so_far.new.count line.now (said_of so_far.old.parts.items so_far.old.bad)) }
+    ensures ok { OnOk result (said_of so_far.new.parts.items (line_of so_far.new.bad) ≡ said_after P.part_of
+        so_far.new.count line.now (said_of so_far.old.parts.items (line_of so_far.old.bad))) }
     ensures count { so_far.new.count ≡ so_far.old.count + 1 }
 {
     so_far.count += 1;
@@ -74,8 +86,13 @@ fn take<P: Part>(alloc: Global, line: &[u8], so_far: &mut SoFar<P>) -> Result<()
         return Ok(());
     }
     match P::read(alloc, line)? {
-        Some(part) => so_far.parts.push(part)?,
-        None => so_far.bad = Some(so_far.count),
+        Ok(part) => {
+            if so_far.negative.is_none() && part.is_negative() {
+                so_far.negative = Some(so_far.count);
+            }
+            so_far.parts.push(part)?;
+        }
+        Err(why) => so_far.bad = Some((so_far.count, why)),
     }
     Ok(())
 }
@@ -83,13 +100,13 @@ fn take<P: Part>(alloc: Global, line: &[u8], so_far: &mut SoFar<P>) -> Result<()
 fn refuse<P: Part>(so_far: &mut SoFar<P>)
     requires room { so_far.old.count < 2 ^ 63 }
     ensures value { (line : List ℕ) → max_line < length line
-        → said_of so_far.new.parts.items so_far.new.bad ≡ said_after P.part_of so_far.new.count line
-        (said_of so_far.old.parts.items so_far.old.bad) }
+        → said_of so_far.new.parts.items (line_of so_far.new.bad) ≡ said_after P.part_of so_far.new.count line
+        (said_of so_far.old.parts.items (line_of so_far.old.bad)) }
     ensures count { so_far.new.count ≡ so_far.old.count + 1 }
 {
     so_far.count += 1;
     if so_far.bad.is_none() {
-        so_far.bad = Some(so_far.count);
+        so_far.bad = Some((so_far.count, LineFault::LongLine));
     }
 }
 
@@ -102,8 +119,8 @@ fn take_rest<P: Part>(
     requires short { length lent.now ≤ max_line }
     requires room { so_far.old.count < 2 ^ 63 }
     ensures ok { (rest : List ℕ) → len ≡ length rest → lent.now ≡ lent_rest rest
-        → OnOk result (said_of so_far.new.parts.items so_far.new.bad ≡ said_after P.part_of
-        so_far.new.count rest (said_of so_far.old.parts.items so_far.old.bad)) }
+        → OnOk result (said_of so_far.new.parts.items (line_of so_far.new.bad) ≡ said_after P.part_of
+        so_far.new.count rest (said_of so_far.old.parts.items (line_of so_far.old.bad))) }
     ensures count { so_far.new.count ≡ so_far.old.count + 1 }
 {
     if len > MAX_LINE as u64 {
@@ -113,17 +130,20 @@ fn take_rest<P: Part>(
     take(alloc, lent, so_far)
 }
 
-fn parts_of<P: Part>(so_far: SoFar<P>) -> Result<Vec<P>, ToolFault>
+fn parts_of<P: Part>(so_far: SoFar<P>, told: &mut Told) -> Result<Vec<P>, ToolFault>
     ensures value { MatchResult result (λ parts. (so_far.bad ≡ None) × (parts ≡ so_far.parts))
-        (λ e. IsSomeAnd so_far.bad (λ number. e ≡ ToolFault.BadLine number)) }
+        (λ e. IsSomeAnd so_far.bad (λ bad. e ≡ ToolFault.BadLine bad.0)) }
+    ensures why { IsErrAnd result IsBadLine → IsSome told.new.why }
 {
     let SoFar {
         parts,
         count: _,
         bad,
+        negative,
     } = so_far;
+    told.negative = negative;
     match bad {
-        Some(number) => Err(ToolFault::BadLine(number)),
+        Some((number, why)) => Err(told.refuse(number, why)),
         None => Ok(parts),
     }
 }

@@ -1,10 +1,11 @@
 //! The command `replay`.
-ghost use Rattle.std.specs.Prelude.{◌≡◌, [], true, false, Some, IfErr, IfOk};
+ghost use Rattle.std.specs.Prelude.{◌≡◌, [], true, false, Some, IfErr, IfOk, IsErrAnd, IsSome};
 ghost use Rattle.nl_folder.specs.MemFolder.{durable_view, mem_view_of, failure_count, choices_of};
-ghost use Rattle.nl_tool_change.specs.Faults.{IsReplayFault};
+ghost use Rattle.nl_tool_change.specs.Faults.{IsBadLine, IsReplayFault};
 ghost use Rattle.nl_tool_texts.specs.Output.{Prints};
 ghost use Rattle.nl_tool_change.specs.Replay.{IsReplayOf, IsReplayText, printed, told_by};
 
+use crate::line_fault::{Told, UNTOLD};
 use crate::reply_line::append_reply;
 use crate::script::{Script, read_script};
 use nl_folder::MemFolder;
@@ -23,7 +24,22 @@ pub fn replay_to<R: Read + Drop, W: Write>(
         (W.contents writer.new) result }
     ensures faults { IfErr result IsReplayFault }
 {
-    let script = read_script(alloc, reader)?;
+    replay_told(alloc, reader, writer, &mut { UNTOLD })
+}
+
+/// As `replay_to`, and tells what is wrong with a line.
+pub fn replay_told<R: Read + Drop, W: Write>(
+    alloc: Global,
+    reader: R,
+    writer: &mut W,
+    told: &mut Told,
+) -> Result<(), ToolFault>
+    ensures prints { Prints (IsReplayText (R.remaining reader)) (W.contents writer.old)
+        (W.contents writer.new) result }
+    ensures why { IsErrAnd result IsBadLine → IsSome told.new.why }
+    ensures faults { IfErr result IsReplayFault }
+{
+    let script = read_script(alloc, reader, told)?;
     let text = run_script(alloc, script)?;
     write_out(text.as_slice(), writer)
 }

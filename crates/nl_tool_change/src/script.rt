@@ -1,5 +1,5 @@
 //! Reading a script: what a folder in memory is told, and then the events.
-ghost use Rattle.std.specs.Prelude.{◌≡◌, ◌↔◌, ◌<◌, ◌++◌, ◌∷◌, ◌^◌, ℕ, [], pos, Some, length, IfErr, IfOk, IfSome, IsErr, IsErrOf, IsSome, OnOk};
+ghost use Rattle.std.specs.Prelude.{◌≡◌, ◌↔◌, ◌<◌, ◌++◌, ◌∷◌, ◌^◌, ℕ, [], pos, Some, length, IfErr, IfOk, IfSome, IsErr, IsErrAnd, IsErrOf, IsSome, OnOk};
 ghost use Rattle.std.specs.List.{All as Each, flat_map};
 ghost use Rattle.nl_fields.specs.Digits.{IsDecimal};
 ghost use Rattle.nl_fields.specs.EntryLine.{IsEntryLine};
@@ -7,7 +7,7 @@ ghost use Rattle.nl_fields.specs.Fields.{HasNoTab};
 ghost use Rattle.nl_fields.specs.EntryLine.{line_of};
 ghost use Rattle.nl_fields.specs.Name.{IsName};
 ghost use Rattle.nl_folder.specs.declared.fuse.Call.{Call};
-ghost use Rattle.nl_tool_change.specs.Faults.{IsFaultOfLine, IsScriptFault};
+ghost use Rattle.nl_tool_change.specs.Faults.{IsBadLine, IsFaultOfLine, IsScriptFault};
 ghost use Rattle.nl_fields.specs.declared.name.NameFault.{NameFault};
 ghost use Rattle.nl_tool_change.specs.declared.script.LineRefusal.TheVariants.{OutOfMemory};
 ghost use Rattle.nl_tool_change.specs.declared.script.Word.{Word};
@@ -17,6 +17,7 @@ ghost use Rattle.nl_session.specs.declared.events.Event.{Event};
 ghost use Rattle.nl_tool_change.specs.Reading.{HoldsNames, IsLineOf, IsReadable, SaysNames, SaysTimes, fields_of_event, word_of_event};
 ghost use Rattle.nl_tool_change.specs.Replay.{IsScript, KeepsSome, NamesSome, SaysMore, TakesScriptLine, behind_tab, event_line, keep_fields, name_field, text_of_word, time_fields, word_of};
 
+use crate::line_fault::{LineFault, Told};
 use nl_fields::{Entry, Name, NameFault, read_entry, read_i64};
 use nl_folder::{Call, Fuse};
 use nl_lines::{Line, Lines, ReadSource, Source};
@@ -55,6 +56,8 @@ pub enum Word {
 
 #[derive(Clone, Copy, Drop)]
 pub enum LineRefusal {
+    /// No event begins so.
+    NoEvent,
     BadLine,
     OutOfMemory,
 }
@@ -87,17 +90,27 @@ impl From<NameFault> for LineRefusal {
 }
 
 /// It stops at the first bad line.
-pub fn read_script<R: Read + Drop>(alloc: Global, reader: R) -> Result<Script, ToolFault>
+pub fn read_script<R: Read + Drop>(
+    alloc: Global,
+    reader: R,
+    told: &mut Told,
+) -> Result<Script, ToolFault>
     ensures value { IfOk result (λ script.
         OfBytes (R.remaining reader) (λ bytes. IsScript (file_lines bytes) script.events.items)) }
+    ensures why { IsErrAnd result IsBadLine → IsSome told.new.why }
     ensures faults { IfErr result IsScriptFault }
 {
-    read_script_lines(alloc, &mut ReadSource::new(reader))
+    read_script_lines(alloc, &mut ReadSource::new(reader), told)
 }
 
-fn read_script_lines<S: Source>(alloc: Global, source: &mut S) -> Result<Script, ToolFault>
+fn read_script_lines<S: Source>(
+    alloc: Global,
+    source: &mut S,
+    told: &mut Told,
+) -> Result<Script, ToolFault>
     ensures value { IfOk result (λ script.
         OfBytes (S.ahead source.old) (λ bytes. IsScript (file_lines bytes) script.events.items)) }
+    ensures why { IsErrAnd result IsBadLine → IsSome told.new.why }
     ensures faults { IfErr result IsScriptFault }
 {
     let mut lines = Lines::new(alloc)?;
@@ -105,9 +118,9 @@ fn read_script_lines<S: Source>(alloc: Global, source: &mut S) -> Result<Script,
     let mut number = 1;
     'lines: loop {
         match lines.next(source)? {
-            Some(Line::Whole(line)) => take_line(alloc, line, number, &mut script)?,
-            Some(Line::TooLong) => return Err(ToolFault::BadLine(number)),
-            Some(Line::Torn { bytes, .. }) => return with_last(alloc, script, bytes, number),
+            Some(Line::Whole(line)) => take_line(alloc, line, number, &mut script, told)?,
+            Some(Line::TooLong) => return Err(told.refuse(number, LineFault::LongLine)),
+            Some(Line::Torn { bytes, .. }) => return with_last(alloc, script, bytes, number, told),
             None => return Ok(script),
         }
         number += 1;
@@ -120,21 +133,30 @@ fn with_last(
     mut script: Script,
     line: &[u8],
     number: u64,
+    told: &mut Told,
 ) -> Result<Script, ToolFault>
     ensures value { IfOk result (λ new.
         (0 < length line.now) × TakesScriptLine script.events.items new.events.items line.now) }
+    ensures why { IsErrAnd result IsBadLine → IsSome told.new.why }
     ensures faults { IfErr result (IsFaultOfLine number) }
 {
     if line.is_empty() {
-        return Err(ToolFault::BadLine(number));
+        return Err(told.refuse(number, LineFault::LongLine));
     }
-    take_line(alloc, line, number, &mut script)?;
+    take_line(alloc, line, number, &mut script, told)?;
     Ok(script)
 }
 
-fn take_line(alloc: Global, line: &[u8], number: u64, script: &mut Script) -> Result<(), ToolFault>
+fn take_line(
+    alloc: Global,
+    line: &[u8],
+    number: u64,
+    script: &mut Script,
+    told: &mut Told,
+) -> Result<(), ToolFault>
     ensures ok { OnOk result
         (TakesScriptLine script.old.events.items script.new.events.items line.now) }
+    ensures why { IsErrAnd result IsBadLine → IsSome told.new.why }
     ensures faults { IfErr result (IsFaultOfLine number) }
 {
     if line.is_empty() {
@@ -142,7 +164,8 @@ fn take_line(alloc: Global, line: &[u8], number: u64, script: &mut Script) -> Re
     }
     match script.add(alloc, line) {
         Ok(()) => Ok(()),
-        Err(LineRefusal::BadLine) => Err(ToolFault::BadLine(number)),
+        Err(LineRefusal::NoEvent) => Err(told.refuse(number, LineFault::NoEvent)),
+        Err(LineRefusal::BadLine) => Err(told.refuse(number, LineFault::Values)),
         Err(LineRefusal::OutOfMemory) => Err(ToolFault::Memory),
     }
 }
@@ -166,7 +189,7 @@ impl Script {
     {
         let (word, rest) = split_tab(line);
         let Some(word) = read_word(word) else {
-            return Err(LineRefusal::BadLine);
+            return Err(LineRefusal::NoEvent);
         };
         let may_set = self.events.is_empty();
         match (word, rest) {
@@ -198,7 +221,7 @@ pub fn read_event_line(alloc: Global, line: &[u8]) -> Result<Event, LineRefusal>
     let (word, rest) = split_tab(line);
     match read_word(word) {
         Some(word) => read_event(alloc, word, rest),
-        None => Err(LineRefusal::BadLine),
+        None => Err(LineRefusal::NoEvent),
     }
 }
 

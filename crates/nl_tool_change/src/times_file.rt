@@ -1,11 +1,12 @@
 //! TIMES: an mtime and the name of an output a line, with a tab between them.
-ghost use Rattle.std.specs.Prelude.{◌≡◌, ℕ, [], IfOk, IfErr, IfSome, IsErrOf, IsNone};
+ghost use Rattle.std.specs.Prelude.{◌≡◌, ℕ, [], IfOk, IfErr, IfSome, IsErrAnd, IsErrOf, IsNone, IsSome};
 ghost use Rattle.nl_fields.specs.EntryLine.{before_tab, after_tab};
-ghost use Rattle.nl_tool_change.specs.Faults.{IsFileFault};
+ghost use Rattle.nl_tool_change.specs.Faults.{IsBadLine, IsFileFault};
 ghost use Rattle.nl_tool_texts.specs.Files.{OfBytes};
 ghost use Rattle.nl_tool_change.specs.Files.{Says, BadAt, pair_on, times_of};
 ghost use Rattle.nl_tool_texts.specs.declared.fault.ToolFault.{ToolFault};
 
+use crate::line_fault::{LineFault, NumberFault, Told, number_fault};
 use crate::parts::{Part, read_parts};
 use crate::script::split_tab;
 use nl_fields::{Name, read_i64};
@@ -16,17 +17,22 @@ use std::io::Read;
 impl Part for (Name, i64) {
     ghost part_of = { pair_on };
 
-    fn read(alloc: Global, line: &[u8]) -> Result<Option<(Name, i64)>, AllocError> {
+    fn read(alloc: Global, line: &[u8]) -> Result<Result<(Name, i64), LineFault>, AllocError> {
         let Some((time, name)) = time_and_name(line) else {
-            return Ok(None);
+            return Ok(Err(LineFault::NoTab));
         };
         let Some(mtime) = read_i64(time) else {
-            return Ok(None);
+            let fault = number_fault(time, NumberFault::Past64);
+            return Ok(Err(LineFault::Number(fault)));
         };
         match <Name as Part>::read(alloc, name)? {
-            Some(name) => Ok(Some((name, mtime))),
-            None => Ok(None),
+            Ok(name) => Ok(Ok((name, mtime))),
+            Err(why) => Ok(Err(why)),
         }
+    }
+
+    fn is_negative(&self) -> bool {
+        self.1 < 0
     }
 }
 
@@ -43,12 +49,17 @@ fn time_and_name(line: &[u8]) -> Option<(&[u8], &[u8])>
 }
 
 /// It takes the memory of the pairs.
-pub fn read_times<R: Read + Drop>(alloc: Global, reader: R) -> Result<Vec<(Name, i64)>, ToolFault>
+pub fn read_times<R: Read + Drop>(
+    alloc: Global,
+    reader: R,
+    told: &mut Told,
+) -> Result<Vec<(Name, i64)>, ToolFault>
     ensures value { IfOk result
         (λ times. OfBytes (R.remaining reader) (λ bytes. times_of bytes ≡ Says times.items)) }
     ensures bad_line { (number : ℕ) → IsErrOf result (ToolFault.BadLine number)
         → OfBytes (R.remaining reader) (λ bytes. times_of bytes ≡ BadAt number) }
+    ensures why { IsErrAnd result IsBadLine → IsSome told.new.why }
     ensures faults { IfErr result IsFileFault }
 {
-    read_parts(alloc, reader)
+    read_parts(alloc, reader, told)
 }

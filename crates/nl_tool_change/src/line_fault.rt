@@ -1,8 +1,9 @@
-//! What is wrong with a number, and with a line of KEEP, TIMES, SCRIPT or a list of targets.
-ghost use Rattle.std.specs.Prelude.{Some};
-ghost use Rattle.nl_tool.specs.Wrong.{line_fault_text, number_fault_text};
+//! What is wrong with a line of KEEP, TIMES, SCRIPT or a list of targets, or with a number, as the reader says that refuses it.
+ghost use Rattle.std.specs.Prelude.{◌≡◌, IsSome, None, Some};
+ghost use Rattle.nl_tool_change.specs.LineFaults.{line_fault_text, number_fault_text};
+ghost use Rattle.nl_tool_texts.specs.declared.fault.ToolFault.{ToolFault};
 
-use nl_fields::{NameFault, name_fault, read_i64};
+use nl_tool_texts::ToolFault;
 use std::fmt;
 
 #[derive(Clone, Copy, Debug, PartialEq, Eq, Drop)]
@@ -108,98 +109,27 @@ impl fmt::Display for LineFault {
     }
 }
 
-#[derive(Clone, Copy, Debug, PartialEq, Eq, Drop)]
-pub enum LineKind {
-    Keep,
-    Times,
-    Targets,
-    Script,
+/// What the reader of a file says beside its fault.
+#[derive(Clone, Copy, Drop)]
+pub struct Told {
+    /// What is wrong with the first bad line.
+    pub why: Option<LineFault>,
+    /// The number, from 1, of the first line with a negative time.
+    pub negative: Option<u64>,
 }
 
-// A line of a script is judged by its first word alone.
-pub fn line_fault(kind: LineKind, line: &[u8]) -> Option<LineFault> {
-    match kind {
-        LineKind::Keep => keep_fault(line),
-        LineKind::Times => times_fault(line),
-        LineKind::Targets => target_fault(line),
-        LineKind::Script => script_fault(line),
-    }
-}
+/// What is told before a file is read.
+pub const UNTOLD: Told = Told {
+    why: None,
+    negative: None,
+};
 
-fn keep_fault(name: &[u8]) -> Option<LineFault> {
-    match name_fault(name)? {
-        NameFault::Empty => Some(LineFault::NoName),
-        NameFault::TooLong => Some(LineFault::LongName),
-        NameFault::BadByte(_) if name.contains(&0) => Some(LineFault::Zero),
-        NameFault::BadByte(_) => Some(LineFault::Tab),
-        NameFault::OutOfMemory => None,
-    }
-}
-
-fn times_fault(line: &[u8]) -> Option<LineFault> {
-    let Some(tab) = line.iter().position(|byte| *byte == b'\t') else {
-        return Some(LineFault::NoTab);
-    };
-    let time = &line[..tab];
-    if read_i64(time).is_none() {
-        return Some(LineFault::Number(number_fault(time, NumberFault::Past64)));
-    }
-    keep_fault(&line[tab + 1..])
-}
-
-fn target_fault(line: &[u8]) -> Option<LineFault> {
-    if line.is_empty() {
-        return Some(LineFault::NoTarget);
-    }
-    let space = line.iter().rposition(|byte| *byte == b' ');
-    match space.and_then(|at| line[..at].strip_suffix(b":")) {
-        Some(name) => keep_fault(name),
-        None => Some(LineFault::NoRule),
-    }
-}
-
-// What is wrong with a line that asks nothing of `apply`.
-pub fn apply_fault(line: &[u8]) -> LineFault {
-    match line {
-        [b'g', b'e', b't', b'\t', name @ ..] => keep_fault(name).unwrap_or(LineFault::Fields),
-        _ => match word_of(line) {
-            b"open"
-            | b"record"
-            | b"sync"
-            | b"recompact"
-            | b"restat"
-            | b"stop"
-            | b"begin"
-            | b"get"
-            | b"hash"
-            | b"table"
-            | b"distrusted" => LineFault::Fields,
-            _ => LineFault::NoEvent,
-        },
-    }
-}
-
-// What stands before the first tab.
-fn word_of(line: &[u8]) -> &[u8] {
-    match line.iter().position(|byte| *byte == b'\t') {
-        Some(tab) => &line[..tab],
-        None => line,
-    }
-}
-
-fn script_fault(line: &[u8]) -> Option<LineFault> {
-    match word_of(line) {
-        b"writes"
-        | b"fates"
-        | b"tails"
-        | b"fuse"
-        | b"open"
-        | b"record"
-        | b"sync"
-        | b"recompact"
-        | b"restat"
-        | b"stop"
-        | b"crash" => None,
-        _ => Some(LineFault::NoEvent),
+impl Told {
+    pub fn refuse(&mut self, number: u64, why: LineFault) -> ToolFault
+        ensures value { result ≡ ToolFault.BadLine number }
+        ensures why { self.new.why ≡ Some why }
+    {
+        self.why = Some(why);
+        ToolFault::BadLine(number)
     }
 }

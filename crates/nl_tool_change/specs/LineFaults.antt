@@ -1,9 +1,9 @@
 -- What is said of a number and of a line: docs/CLI.md, "Why something was refused".
 use Rattle.std.specs.Prelude.{ℕ, List, ◌++◌, codes}
-use Rattle.nl_tool.specs.declared.wrong.NumberFault.{NumberFault}
-use Rattle.nl_tool.specs.declared.wrong.NumberFault.TheVariants.{NoNumber, Spelling, Below, BelowOne, Past32, Past64}
-use Rattle.nl_tool.specs.declared.wrong.LineFault.{LineFault}
-use Rattle.nl_tool.specs.declared.wrong.LineFault.TheVariants.{NoTab, Tab, Number, NoName, NoRule, NoTarget, Zero, LongName, LongLine, NoEvent, Values, Fields, Torn}
+use Rattle.nl_tool_change.specs.declared.line_fault.NumberFault.{NumberFault}
+use Rattle.nl_tool_change.specs.declared.line_fault.NumberFault.TheVariants.{NoNumber, Spelling, Below, BelowOne, Past32, Past64}
+use Rattle.nl_tool_change.specs.declared.line_fault.LineFault.{LineFault}
+use Rattle.nl_tool_change.specs.declared.line_fault.LineFault.TheVariants.{NoTab, Tab, Number, NoName, NoRule, NoTarget, Zero, LongName, LongLine, NoEvent, Values, Fields, Torn}
 
 abbrev pub number_fault_text : NumberFault → List ℕ
 number_fault_text NoNumber = codes "it isn't a number"
