@@ -7,7 +7,7 @@ _nlog_takes() {
         show:--log-version | check:--log-version | hash:--log-version | hash-file:--log-version | record:--log-version | recompact:--log-version | restat:--log-version | prune:--log-version | retime:--log-version | repair:--log-version | apply:--log-version) printf %s '5 6 7 auto' ;;
         entries:--log-version | damage:--log-version | doubt:--log-version | builds:--log-version | summary:--log-version | compare:--log-version | trace:--log-version | picture:--log-version) printf %s 'auto' ;;
         summary:--build | summary:-n | summary:--lines | summary:--jobs | compare:-n | compare:--lines | compare:--at-least | trace:--build | picture:--build) printf %s '' ;;
-        summary:--kind) printf %s 'extension folder top' ;;
+        summary:--kind) printf %s 'extension folder top work' ;;
         summary:--graph | picture:--graph) printf %s '-f' ;;
         mend:-C) printf %s '-d' ;;
         *) return 1 ;;

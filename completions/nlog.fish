@@ -87,7 +87,7 @@ complete -c nlog -n '__nlog_is summary' -l log-version -x -a 'auto' -d 'auto alo
 complete -c nlog -n '__nlog_is summary' -l missing-ok -d 'Takes a LOG that is missing for an empty one'
 complete -c nlog -n '__nlog_is summary' -l build -x -d 'The number of a build in `builds`; left out, the last that made more than `build.ninja`'
 complete -c nlog -n '__nlog_is summary' -l all -d 'Tells of all builds, one after another, with the last entry of each output alone'
-complete -c nlog -n '__nlog_is summary' -l kind -x -a 'extension folder top' -d 'What a kind goes by: extension, folder, or top, the first folder; extension where it is left out'
+complete -c nlog -n '__nlog_is summary' -l kind -x -a 'extension folder top work' -d 'What a kind goes by: extension, folder, top (the first folder), or work (what its command does); left out, extension, or work at a terminal'
 complete -c nlog -n '__nlog_is summary' -s n -l lines -x -d 'How many lines a list has at most: 10 where it is left out, 0 for none'
 complete -c nlog -n '__nlog_is summary' -l graph -r -F -d 'What `ninja -t graph` prints: the critical path is told too; `-` is standard input'
 complete -c nlog -n '__nlog_is summary' -l jobs -x -d 'Numbers with commas: estimates by the graph how long the build takes with so many commands at a time'

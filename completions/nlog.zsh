@@ -113,7 +113,7 @@ _nlog() {
             '(--missing-ok)--missing-ok[Takes a LOG that is missing for an empty one]' \
             '(--build)--build=[The number of a build in `builds`; left out, the last that made more than `build.ninja`]:BUILD: ' \
             '(--all)--all[Tells of all builds, one after another, with the last entry of each output alone]' \
-            '(--kind)--kind=[What a kind goes by\: extension, folder, or top, the first folder; extension where it is left out]:RULE:(extension folder top)' \
+            '(--kind)--kind=[What a kind goes by\: extension, folder, top (the first folder), or work (what its command does); left out, extension, or work at a terminal]:RULE:(extension folder top work)' \
             '(-n --lines)-n+[How many lines a list has at most\: 10 where it is left out, 0 for none]:N: ' \
             '(-n --lines)--lines=[How many lines a list has at most\: 10 where it is left out, 0 for none]:N: ' \
             '(--graph)--graph=[What `ninja -t graph` prints\: the critical path is told too; `-` is standard input]:FILE:_files' \

@@ -227,6 +227,7 @@ KINDS_RANKED = {
     "extension": b"".join(b"kinds-by-%b\t1\t4\t4.00\t(none)\nkinds-by-%b\t2\t3\t3.00\t.o\n" % (it, it) for it in (b"time", b"weight")),
     "folder": b"".join(b"kinds-by-%b\t1\t4\t4.00\tlib/x/\nkinds-by-%b\t1\t2\t2.00\tlib/\nkinds-by-%b\t1\t1\t1.00\t(none)\n" % (it, it, it) for it in (b"time", b"weight")),
     "top": b"".join(b"kinds-by-%b\t2\t6\t6.00\tlib/\nkinds-by-%b\t1\t1\t1.00\t(none)\n" % (it, it) for it in (b"time", b"weight")),
+    "work": b"".join(b"kinds-by-%b\t1\t4\t4.00\tlink\nkinds-by-%b\t2\t3\t3.00\tcompile\n" % (it, it) for it in (b"time", b"weight")),
 }
 # It begins 0 ms behind the first START, and nothing runs once it has ended.
 ONE_TRACED = (
@@ -317,7 +318,7 @@ TWO_VERBOSE = TWO_VERSIONS.replace(b"--log-version <VERSION>", b"--verbose")
 NO_MISSING = NO_OPTION.replace(b"--log-version", b"--missing-ok")
 TWO_BUILDS = TWO_VERSIONS.replace(b"--log-version <VERSION>", b"--build <BUILD>").replace(b"nlog show", b"nlog summary")
 TWO_KINDS = TWO_VERSIONS.replace(b"--log-version <VERSION>", b"--kind <RULE>").replace(b"nlog show", b"nlog summary")
-NO_KIND = b"error: invalid value '%b' for '--kind <RULE>': it is extension, folder or top\n\nUsage: nlog [COMMAND]\n" + MORE
+NO_KIND = b"error: invalid value '%b' for '--kind <RULE>': it is extension, folder, top or work\n\nUsage: nlog [COMMAND]\n" + MORE
 TWO_GRAPHS = TWO_BUILDS.replace(b"--build <BUILD>", b"--graph <FILE>")
 NO_GRAPH = NO_VERSION.replace(b"--log-version <VERSION>", b"--graph <FILE>")
 TWO_SCOPES = b"error: the argument '--build <BUILD>' cannot be used with '--all'\n\nUsage: nlog [COMMAND]\n" + MORE

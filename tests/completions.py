@@ -132,7 +132,7 @@ def cases(program, shell):
             # Behind `--` it is the first value.
             yield [name, "--", "--log-version", ""], files if values[1:2] and values[1] in FILES else []
         if "--kind" in own:
-            yield [name, "--kind", ""], ["extension", "folder", "top"]
+            yield [name, "--kind", ""], ["extension", "folder", "top", "work"]
             yield [name, "--kind", "f"], ["folder"]
             yield [name, "--kind", "top", "b"], ["b.log"]
             yield [name, "--", "--kind", ""], []

@@ -188,7 +188,9 @@ def ranked_of(key, rank, told, most):
 
 
 def kind_of(rule, name):
-    """The kind of an output: its extension with its dot, its folder, or the first of its folders."""
+    """The kind of an output: its extension with its dot, its folder, the first of its folders, or the word of what its command does."""
+    if rule == "work":
+        return [*WORKS][work_of(name)].encode()
     if rule == "folder":
         return name[: name.rfind(b"/") + 1]
     if rule == "top":

@@ -318,7 +318,7 @@ def try_builds(trials, program, room):
         for word, told in (("trace", trace_of), ("picture", picture_of)):
             got = run([program, word, "--all", f"{room}/LOG"])
             trials.want(f"{about}: {word} of all builds", got, (0, told(text, version, of_all=True), said[0]))
-        for rule in ("extension", "folder", "top"):
+        for rule in ("extension", "folder", "top", "work"):
             got = run([program, "summary", f"--kind={rule}", f"{room}/LOG"])
             trials.want(f"{about}: its kinds by {rule}", got, (0, summary_of(text, rule=rule, version=version), said[1]))
         status, out, err = run([program, "trace", f"{room}/LOG"])

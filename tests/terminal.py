@@ -47,7 +47,7 @@ Slowest commands
 
 Kinds of commands
  Time  Share  Commands  Kind
-60 ms   100%         1  .o
+60 ms   100%         1  compile
 """.encode()
 FIRST = """\
 Build 1 of 2
@@ -67,7 +67,7 @@ Slowest commands
 
 Kinds of commands
  Time  Share  Commands  Kind
-80 ms    80%         2  .o
+80 ms    80%         2  compile
 """.encode()
 ALL = """\
 All 2 builds, each output once
@@ -152,9 +152,8 @@ Slowest commands
 
 Kinds of commands
       Time  Share  Commands  Kind
-1 h 18 min    94%         1  .exe
-2 min 46 s     3%         1  .o
-     2 min     2%         3  (none)
+1 h 20 min    96%         4  link
+2 min 46 s     3%         1  compile
 """
 LOST = "nlog: LOG {}: No such file or directory (os error 2)\n"
 

@@ -1,7 +1,8 @@
 -- The last dot and the last `/` of a name.
 use Rattle.std.proofs.Common.{◌≡◌, ◌∙◌, ℕ, ◌+◌, ◌<◌, ◌==◌, cond, List, [], ◌∷◌, drop, get_or, length, zero, suc, ap, arith}
 use Rattle.std.proofs.lemmas.Bool.{eq-eqb, ne_eqb}
-use Rattle.nl_reports.specs.Kinds.{extension_behind, folder_len}
+use Rattle.nl_reports.specs.Kinds.{folder_len}
+use Rattle.nl_reports.specs.Work.{extension_behind}
 
 -- no dot and no `/` in it
 abbrev pub IsPlain : List ℕ → Type 0

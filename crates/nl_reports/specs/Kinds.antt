@@ -6,18 +6,10 @@ use Rattle.std.specs.Map.{lookup}
 use Rattle.std.specs.Option.{option_map_or, unwrap_or}
 use Rattle.nl_reports.specs.Rows.{Told}
 use Rattle.nl_reports.specs.declared.kind.KindRule.{KindRule}
-use Rattle.nl_reports.specs.declared.kind.KindRule.TheVariants.{Extension, Folder, Top}
+use Rattle.nl_reports.specs.Work.{extension_of, word, work_of}
+use Rattle.nl_reports.specs.declared.kind.KindRule.TheVariants.{Extension, Folder, Top, Work}
 use Rattle.nl_reports.specs.declared.rows.Row.{Row}
 use Rattle.nl_reports.specs.declared.rows.Sums.{Sums}
-
--- from the last dot on, if no `/` follows; `found` is from what stands before the rest
-abbrev pub extension_behind : List ℕ → List ℕ → List ℕ
-extension_behind found [] = found
-extension_behind found (c ∷ cs) = extension_behind (if c == 47 then [] else (if c == 46 then c ∷ cs else found)) cs
-
--- the extension has its dot
-abbrev pub extension_of : List ℕ → List ℕ
-extension_of name = extension_behind [] name
 
 -- the bytes up to the last `/`, with it; `found` are those before the rest, which stands at a place
 abbrev pub folder_len : ℕ → ℕ → List ℕ → ℕ
@@ -37,6 +29,7 @@ abbrev pub kind_of : KindRule → List ℕ → List ℕ
 kind_of Extension name = extension_of name
 kind_of Folder name = folder_of name
 kind_of Top name = top_of name
+kind_of Work name = word (work_of name)
 
 abbrev pub no_sums : Sums
 no_sums = record { commands = 0; time = 0; weight = 0 }

@@ -1,8 +1,16 @@
 -- What a command does, by the extension of its first output (docs/CLI.md, "`picture`").
 use Rattle.std.specs.Prelude.{bytes_eq, Bool, true, false, ℕ, List, [], ◌∷◌, codes, ◌==◌, if◌then◌else◌}
-use Rattle.nl_reports.specs.Kinds.{extension_of}
 use Rattle.nl_reports.specs.declared.work.Work.{Work}
 use Rattle.nl_reports.specs.declared.work.Work.TheVariants.{Compile, Link, Archive, Generate, Test, Other}
+
+-- from the last dot on, if no `/` follows; `found` is from what stands before the rest
+abbrev pub extension_behind : List ℕ → List ℕ → List ℕ
+extension_behind found [] = found
+extension_behind found (c ∷ cs) = extension_behind (if c == 47 then [] else (if c == 46 then c ∷ cs else found)) cs
+
+-- the extension has its dot
+abbrev pub extension_of : List ℕ → List ℕ
+extension_of name = extension_behind [] name
 
 abbrev pub compiled : List (List ℕ)
 compiled = codes ".o" ∷ codes ".obj" ∷ codes ".lo" ∷ codes ".pch" ∷ codes ".gch" ∷ codes ".pcm" ∷ codes ".bc" ∷ codes ".class" ∷ []

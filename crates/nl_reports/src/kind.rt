@@ -1,7 +1,9 @@
 //! The kind of an output, by its name.
 ghost use Rattle.std.specs.Prelude.{◌≡◌};
-ghost use Rattle.nl_reports.specs.Kinds.{extension_of, folder_of, kind_of, top_of};
+ghost use Rattle.nl_reports.specs.Kinds.{folder_of, kind_of, top_of};
+ghost use Rattle.nl_reports.specs.Work.{extension_of};
 
+use crate::work::{word, work_of};
 use memchr::memchr;
 
 #[derive(Clone, Copy, Drop)]
@@ -12,6 +14,8 @@ pub enum KindRule {
     Folder,
     /// The name up to its first `/`.
     Top,
+    /// The word for what the command does.
+    Work,
 }
 
 /// Empty if the name has no kind.
@@ -22,10 +26,11 @@ pub fn kind_of(rule: KindRule, name: &[u8]) -> &[u8]
         KindRule::Extension => extension_of(name),
         KindRule::Folder => folder_of(name),
         KindRule::Top => top_of(name),
+        KindRule::Work => word(work_of(name)),
     }
 }
 
-fn extension_of(name: &[u8]) -> &[u8]
+pub(crate) fn extension_of(name: &[u8]) -> &[u8]
     ensures value { result.now ≡ extension_of name.now }
 {
     let mut at = name.len();

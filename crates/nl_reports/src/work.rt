@@ -2,7 +2,7 @@
 ghost use Rattle.std.specs.Prelude.{◌≡◌, map};
 ghost use Rattle.nl_reports.specs.Work.{is_in, later_work, place, word, work_of};
 
-use crate::kind::{KindRule, kind_of};
+use crate::kind::extension_of;
 
 #[derive(Clone, Copy, Drop)]
 pub enum Work {
@@ -31,7 +31,7 @@ const TESTED: [&str; 3] = [".test", ".passed", ".tap"];
 pub fn work_of(name: &[u8]) -> Work
     ensures value { result ≡ work_of name.now }
 {
-    let extension = kind_of(KindRule::Extension, name);
+    let extension = extension_of(name);
     if is_in(extension, COMPILED.as_slice()) {
         Work::Compile
     } else if is_in(extension, LINKED.as_slice()) {
@@ -66,7 +66,7 @@ fn is_in(extension: &[u8], words: &[&str]) -> bool
     false
 }
 
-/// A picture shows this word.
+/// A picture shows this word, and `summary` at a terminal.
 pub(crate) fn word(work: Work) -> &'static [u8]
     ensures { result.now ≡ word work }
 {

@@ -31,7 +31,7 @@ use Rattle.nl_reports.specs.declared.choice.Scope.{Scope}
 use Rattle.nl_reports.specs.declared.choice.Scope.TheVariants.{Last, Numbered, All}
 use Rattle.nl_reports.specs.declared.jobs.ByGraph.{ByGraph}
 use Rattle.nl_reports.specs.declared.kind.KindRule.{KindRule}
-use Rattle.nl_reports.specs.declared.kind.KindRule.TheVariants.{Extension, Folder, Top}
+use Rattle.nl_reports.specs.declared.kind.KindRule.TheVariants.{Extension, Folder, Top, Work}
 use Rattle.nl_reports.specs.declared.lists.Lists.{Lists}
 use Rattle.nl_tool.specs.declared.comparing.Last.{Last as LastHeld}
 use Rattle.nl_tool.specs.declared.reporting.Report.{Report}
@@ -71,10 +71,14 @@ abbrev pub AreCounts : Option (Bor (List ℕ)) → List ℕ → Type 0
 AreCounts None ns = ns ≡ []
 AreCounts (Some text) ns = ArePositive (slice_split (λ b. b == 44) text.now) ns
 
--- the rule by which kinds are told apart, by its word: that of extensions where it is left out
-abbrev pub rule_of : Option (Bor (List ℕ)) → KindRule
-rule_of None = Extension
-rule_of (Some text) = if bytes_eq text.now (codes "folder") then Folder else (if bytes_eq text.now (codes "top") then Top else Extension)
+-- the rule by which kinds are told apart, by its word
+abbrev pub rule_by : List ℕ → KindRule
+rule_by text = if bytes_eq text (codes "folder") then Folder else (if bytes_eq text (codes "top") then Top else (if bytes_eq text (codes "work") then Work else Extension))
+
+-- where it is left out, what commands do at a terminal, and extensions elsewhere
+abbrev pub rule_of : Option (Bor (List ℕ)) → Bool → KindRule
+rule_of None screen = if screen then Work else Extension
+rule_of (Some text) screen = rule_by text.now
 
 -- ---- what is told
 

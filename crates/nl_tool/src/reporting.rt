@@ -12,7 +12,7 @@ ghost use Rattle.nl_reports.specs.declared.choice.Scope.{Scope};
 ghost use Rattle.nl_tool.specs.Answers.{RefusesLog};
 ghost use Rattle.nl_tool.specs.Faults.{IsBuildFault, IsPathFault, IsPictureFault, IsReportFault, IsSummaryFault, IsToldFault};
 ghost use Rattle.nl_tool_print.specs.Faults.{IsLogFault};
-ghost use Rattle.nl_tool.specs.Reports.{AreBuilds, AreCounts, ArePositive, IsBuild, IsFound, IsLaidOut, IsMost, IsReport, IsReportOf, IsScope, IsSummary, PrintsReport, asked_told, laid_out, rule_of, waiting};
+ghost use Rattle.nl_tool.specs.Reports.{AreBuilds, AreCounts, ArePositive, IsBuild, IsFound, IsLaidOut, IsMost, IsReport, IsReportOf, IsScope, IsSummary, PrintsReport, asked_told, laid_out, rule_by, rule_of, waiting};
 
 use crate::desk::Desk;
 use crate::notes::NotedWriter;
@@ -75,7 +75,7 @@ pub fn summary_in<R: Runtime>(
     let lists = Lists {
         screen: desk.columns.is_some(),
         most,
-        rule: rule_of(choices.kind),
+        rule: rule_of(choices.kind, desk.columns.is_some()),
         secret: desk.notes.secret,
     };
     match choices.graph {
@@ -224,21 +224,23 @@ fn numbered_by(text: &str) -> Option<Scope>
     Some(Scope::Numbered(count as u64))
 }
 
-pub fn rule_of(kind: Option<&str>) -> KindRule
-    ensures value { result ≡ rule_of kind.entry }
+pub fn rule_of(kind: Option<&str>, screen: bool) -> KindRule
+    ensures value { result ≡ rule_of kind.entry screen }
 {
     match kind {
+        None if screen => KindRule::Work,
         None => KindRule::Extension,
         Some(text) => rule_by(text),
     }
 }
 
 fn rule_by(text: &str) -> KindRule
-    ensures value { result ≡ rule_of (Some text.entry) }
+    ensures value { result ≡ rule_by text.entry.now }
 {
     match text {
         "folder" => KindRule::Folder,
         "top" => KindRule::Top,
+        "work" => KindRule::Work,
         _ => KindRule::Extension,
     }
 }

@@ -198,7 +198,7 @@ scope_fault entered = if asks_both entered then ArgumentConflict ∷ [] else []
 
 -- the rules for kinds
 abbrev pub is_kind_text : Text → Bool
-is_kind_text text = bytes_eq text (codes "extension") || (bytes_eq text (codes "folder") || bytes_eq text (codes "top"))
+is_kind_text text = bytes_eq text (codes "extension") || (bytes_eq text (codes "folder") || (bytes_eq text (codes "top") || bytes_eq text (codes "work")))
 
 abbrev pub kind_fault : Option (Text × List Row) → Kinds
 kind_fault entered = if option_map_or is_kind_text (given_in (codes "kind") entered) true then [] else InvalidValue ∷ []

@@ -164,11 +164,13 @@ fn known_kind(alloc: Global, matches: &ArgMatches<'_>) -> Result<(), Error>
 fn is_kind(text: &str) -> bool
     ensures { result ≡ is_kind_text text.now }
 {
-    matches!(text, "extension" | "folder" | "top")
+    matches!(text, "extension" | "folder" | "top" | "work")
 }
 
 fn kind_text(alloc: Global, text: &str) -> Result<String, AllocError> {
-    format!(in alloc; "invalid value '{text}' for '--kind <RULE>': it is extension, folder or top")
+    format!(in alloc;
+        "invalid value '{text}' for '--kind <RULE>': it is extension, folder, top or work"
+    )
 }
 
 fn known_inputs(alloc: Global, matches: &ArgMatches<'_>) -> Result<(), Error>

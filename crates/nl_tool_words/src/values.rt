@@ -160,7 +160,7 @@ pub const ALL: Value = Value {
 pub const KIND: Value = Value {
     id: "kind",
     given: Given::Long("RULE"),
-    help: "What a kind goes by: extension, folder, or top, the first folder; extension where it is left out",
+    help: "What a kind goes by: extension, folder, top (the first folder), or work (what its command does); left out, extension, or work at a terminal",
 };
 
 pub const LINES: Value = Value {
