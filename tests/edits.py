@@ -7,10 +7,10 @@ An edit is a file NAME.edit: a line `why:`, what would break for a user, and the
 lines `old:` and `new:` by twos, each old text standing once in the file. It changes code, and no contract, definition or proof.
 
 Many edits are put into a copy of the crate at once, and one check tells of each. No two of them are in one function, or in a function and
-one that it calls: the check doesn't try what waits for a callee. Only the edited functions are checked. Every other function has a hole in
-the place of its proof, so it is taken by its contract: the gate has proved it. An edit of a constant stands alone, and what it names is
-checked. It takes the libraries that the gate or `rt check` left in crates/*/out, where these are not older than their sources, and else has
-`rt check` make them.
+one that it calls: the check doesn't try what waits for a callee. Only the edited functions are checked. Every other function is taken by its
+contract, which the gate has proved: its body is `unreachable!()`, which costs least, and its proof is a hole. An edit of a constant stands
+alone, and what it names is checked. It takes the libraries that the gate or `rt check` left in crates/*/out, where these are not older than
+their sources, and else has `rt check` make them.
 
 An edit is refused where its own function is, at a goal of the clause that it names. Every other end is a failure: it is let through, it is
 refused elsewhere, it doesn't compile, or it can't be applied. With --singly each edit is in a check of its own, with --times each line has
@@ -117,6 +117,9 @@ class Function:
 
     def __init__(self, path, file, first, body, last, lines):
         self.path, self.file, self.first, self.body, self.last = path, file, first, body, last
+        # (the rows between the braces)
+        opened = [row for row in range(first, last) if lines[row].endswith("{") and (row in (first, body) or lines[row].startswith(lines[last][:-1] + ")"))]
+        self.inner = range(opened[-1] + 1, last) if opened else range(last, last)
         self.head, self.text = lines[first:body], "\n".join(lines[body : last + 1])
         self.clauses = CLAUSE.findall("\n".join(self.head))
 
@@ -349,8 +352,13 @@ class Room:
         """Checks the functions of a batch with its edits: what was said, and when the check had ended with each function."""
         asked = {it.function.path for it in batch}
         self.hold(asked)
-        texts = {file: text_of(f"{self.crate.folder}/{file}") for it in batch for file in it.texts}
-        made = {file: text.split("\n") for file, text in texts.items()}
+        files = {it.file for it in self.crate.functions.values()} | {file for it in batch for file in it.texts}
+        made = {file: text_of(f"{self.crate.folder}/{file}").split("\n") for file in files}
+        edited = {(file, row) for it in batch for file, rows in it.lines.items() for row in rows}
+        for it in self.crate.functions.values():
+            # (lines stay where they are, because what is said of a goal names its line)
+            if it.path not in asked and it.inner and edited.isdisjoint((it.file, row) for row in it.inner):
+                made[it.file][it.inner.start : it.inner.stop] = ["unreachable!()"] + [""] * (len(it.inner) - 1)
         for it in batch:
             for file, rows in it.lines.items():
                 for row in rows if not self.is_unedited else ():
@@ -367,8 +375,6 @@ class Room:
                 if found:
                     times[found[1]] = time.time() - last
                 last = time.time()
-        for file, text in texts.items():
-            write(f"{self.folder}/{file}", text)
         if ran.returncode not in (0, 1):
             last = said[-1].strip() if said else "it said nothing"
             raise SystemExit(f"edits.py: a check of {self.crate.name} ended with status {ran.returncode}: {last}")
