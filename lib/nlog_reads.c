@@ -141,13 +141,13 @@ void note_block(seen *seen, const char *bytes, size_t len) {
   seen->len += len;
 }
 
-/* Loads an open file in blocks, of which none is kept. The first one ends in its last newline, and
- * what comes after that is read again. What another adds meanwhile is left to who has the lock, so
- * that what was read is the file that was asked of. *error: the errno where it answers NLOG_FAULT. */
-nlog_status load_blocks(nlog *log, uint32_t version, int fd, char *block, seen *seen, int *error) {
+/* Loads an open file up to an end in blocks, of which none is kept. The first one ends in its last
+ * newline, and what comes after that is read again. *error: the errno where it answers NLOG_FAULT.
+ */
+nlog_status load_blocks(nlog *log, uint32_t version, int fd, uint64_t end, char *block, seen *seen,
+                        int *error) {
   nlog_status status = NLOG_OK;
   ssize_t got = BLOCK;
-  const uint64_t size = size_of(&seen->about), end = size > 0 ? size : UINT64_MAX;
   seen->len = seen->whole = 0;
   while (status == NLOG_OK && got == BLOCK) {
     const bool is_first = seen->len == 0;
@@ -174,7 +174,8 @@ nlog_status nlog_load_file(nlog *log, const char *path, int *error) {
   nlog_status status = fd < 0 ? NLOG_FAULT : NLOG_OUT_OF_MEMORY;
   if (fd >= 0 && block != NULL) {
     failed = ask_regular(fd, &seen.about);
-    status = failed != 0 ? NLOG_FAULT : load_blocks(&found, 0, fd, block, &seen, &failed);
+    status = NLOG_FAULT;
+    if (failed == 0) status = load_blocks(&found, 0, fd, UINT64_MAX, block, &seen, &failed);
   }
   close_at(&fd);
   free(block);

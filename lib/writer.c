@@ -84,7 +84,10 @@ static nlog_status load_log(nlog_writer *w, int fd, nlog *found) {
   if (fd < 0) return load_as(found, w->version, NULL, 0);
   int error = ask_regular(fd, &w->seen.about);
   if (error != 0) return fail(w, "fstat", w->path, error);
-  nlog_status status = load_blocks(found, w->version, fd, w->buffer, &w->seen, &error);
+  /* Without the lock, what another adds meanwhile is left to the change, so the file is known. */
+  const size_t size = fd == w->seen.fd ? size_of(&w->seen.about) : 0;
+  const uint64_t end = size > 0 ? size : UINT64_MAX;
+  nlog_status status = load_blocks(found, w->version, fd, end, w->buffer, &w->seen, &error);
   return status == NLOG_FAULT ? fail(w, "pread", w->path, error) : status;
 }
 

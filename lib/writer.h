@@ -124,7 +124,8 @@ nlog_status load_as(nlog *log, uint32_t version, const void *bytes, size_t len);
 /* lib/nlog_reads.c */
 void note_block(seen *seen, const char *bytes, size_t len);
 char *read_all(int fd, struct stat *about, size_t *len, int *error);
-nlog_status load_blocks(nlog *log, uint32_t version, int fd, char *block, seen *seen, int *error);
+nlog_status load_blocks(nlog *log, uint32_t version, int fd, uint64_t end, char *block, seen *seen,
+                        int *error);
 
 /* lib/nlog_rights.c */
 int keep_rights(int log, int scratch, char *room, struct stat *about, const char **call);
