@@ -1,6 +1,6 @@
 //! Which entries are of commands: not those that stand for outputs while their command runs, nor those that stand again when it doesn't.
 ghost use Rattle.std.specs.Prelude.{◌≡◌, ◌++◌, ◌∷◌, [], filter, map, if◌then◌else◌, IfOk, OnOk};
-ghost use Rattle.nl_table.specs.Table.{entry_named};
+ghost use Rattle.nl_table.specs.Table.{entered_table, entry_named};
 ghost use Rattle.nl_builds.specs.Recorded.{any_intent, is_intent, is_of_none, is_some_equal, is_some_intent, is_withdrawn, name_of_new, recorded, stood_with, unfinished};
 
 use nl_fields::EntryRef;
@@ -46,17 +46,34 @@ fn recorded_among<'a>(
     let mut stood = Table::with_secret(alloc, secret);
     let mut names = Vec::new(alloc);
     for entry in entries {
-        push_new(&entry, &last, &mut names)?;
-        let is_of_none = is_of_none(&last, &stood, &entry);
-        last.enter(&entry)?;
-        enter_stood(&entry, &mut stood)?;
-        push_unless(is_of_none, entry, &mut kept)?;
+        take(entry, &mut last, &mut stood, &mut names, &mut kept)?;
     }
     keep_waiting(&last, &mut names);
     Ok(Recorded {
         entries: kept,
         unfinished: names,
     })
+}
+
+fn take<'a>(
+    entry: EntryRef<'a>,
+    last: &mut Table,
+    stood: &mut Table,
+    names: &mut Vec<&'a [u8]>,
+    kept: &mut Vec<EntryRef<'a>>,
+) -> Result<(), AllocError>
+    ensures last { OnOk result (last.new ≡ entered_table entry.entry last.old) }
+    ensures stood { OnOk result (stood.new ≡ stood_with entry.entry stood.old) }
+    ensures names { OnOk result (map (λ n. n.now) names.new.items
+        ≡ map (λ n. n.now) names.old.items ++ name_of_new (entry_named last.old entry.entry.name) entry.entry) }
+    ensures kept { OnOk result (kept.new.items
+        ≡ kept.old.items ++ (if is_of_none last.old stood.old entry.entry then [] else entry.entry ∷ [])) }
+{
+    push_new(&entry, last, names)?;
+    let is_of_none = is_of_none(last, stood, &entry);
+    last.enter(&entry)?;
+    enter_stood(&entry, stood)?;
+    push_unless(is_of_none, entry, kept)
 }
 
 fn push_new<'a>(

@@ -1,4 +1,4 @@
-use Rattle.std.proofs.Common.{◌∙◌, ◌++◌, ◌∷◌, [], List, ap, cond, sym}
+use Rattle.std.proofs.Common.{◌∙◌, [], List, ap, sym}
 use Rattle.std.proofs.lemmas.Iterator.Adapters.{YieldsList-from_vec}
 use Rattle.std.proofs.lemmas.Iterator.Consumers.{YieldsList-end}
 use Rattle.std.proofs.lemmas.List.{map-id}
@@ -9,13 +9,12 @@ use Rattle.nl_builds.proofs.recorded.recorded_among.Goals as goal
 
 pub loop-entry-preserved : goal.loop-entry-preserved
 loop-entry-preserved c =
-    let kept = c.loop-entry.kept.items in
+    let took = c.in_ok-take.ensures in
     record {
-      kept = kept_more kept _ c.loop-entry.yielded c.loop-entry.last _ c.loop-entry.stood _ c.in-Some.entry c.loop-entry.invariant.kept
-          (c.in_ok-push_unless.ensures.items ∙ ap (λ b. kept ++ cond b [] (c.in-Some.entry ∷ [])) c.is_of_none-is_of_none.ensures) c.in_ok-enter.ensures.ok
-          c.in_ok-enter_stood.ensures.ok;
-      last = entered_more c.loop-entry.yielded c.in-Some.entry c.loop-entry.last _ c.loop-entry.invariant.last c.in_ok-enter.ensures.ok;
-      names = names_more _ _ _ _ _ c.loop-entry.invariant.names c.in_ok-push_new.ensures.items c.in_ok-enter.ensures.ok;
+      kept = kept_more c.loop-entry.kept.items _ c.loop-entry.yielded c.loop-entry.last _ c.loop-entry.stood _ c.in-Some.entry
+          c.loop-entry.invariant.kept took.kept took.last took.stood;
+      last = entered_more c.loop-entry.yielded c.in-Some.entry c.loop-entry.last _ c.loop-entry.invariant.last took.last;
+      names = names_more _ _ _ _ _ c.loop-entry.invariant.names took.names took.last;
     }
 
 pub returns-clause-entries : goal.returns-clause-entries
