@@ -14,6 +14,21 @@ use crate::status;
 use nl_table::Secret;
 use std::alloc::Global;
 
+// Gives the log that a handle carries to a call, and puts it back. Where there is none, nothing is changed.
+macro_rules! carried {
+    ($handle:ident, $alloc:ident, |$log:ident| $call:expr) => {{
+        let Some(mut held) = $handle.take($alloc) else {
+            return status::NO_HANDLE;
+        };
+        let answer = match &mut *held {
+            Held::Loaded(_) => status::NO_HANDLE,
+            Held::Carried($log) => $call,
+        };
+        *$handle = Handle::of(held);
+        answer
+    }};
+}
+
 /// Call it after a load whose bytes ended in a newline, or after another call of this. If it fails, it frees the log.
 #[unsafe(no_mangle)]
 pub extern "C" fn carried_more(handle: &mut Handle, alloc: Global, bytes: &[u8]) -> u32
@@ -70,12 +85,11 @@ pub extern "C" fn carried_open(
     let Some(log) = take_all(found, alloc) else {
         return status::NO_HANDLE;
     };
-    let Some(mut held) = handle.take(alloc) else {
-        return status::NO_HANDLE;
-    };
-    let answer = held.open(alloc, log, wants_whole, change);
-    *handle = Handle::of(held);
-    answer
+    carried!(
+        handle,
+        alloc,
+        |carried| carried.open(alloc, log, wants_whole, change)
+    )
 }
 
 fn take_all(found: &mut Handle, alloc: Global) -> Option<LoadedLog>
@@ -96,12 +110,7 @@ pub extern "C" fn carried_record(
 ) -> u32
     ensures call { InCarried (Ends name.now (Recorded name.now stamp.now)) result handle.old.kept.log handle.new.kept.log }
 {
-    let Some(mut held) = handle.take(alloc) else {
-        return status::NO_HANDLE;
-    };
-    let answer = held.record(name, stamp);
-    *handle = Handle::of(held);
-    answer
+    carried!(handle, alloc, |log| log.record(name, stamp))
 }
 
 /// Adds nothing if the name's entry is such an intent already.
@@ -115,12 +124,7 @@ pub extern "C" fn carried_begin(
 ) -> u32
     ensures call { InCarried (Ends name.now (Begun name.now moment_ms hash)) result handle.old.kept.log handle.new.kept.log }
 {
-    let Some(mut held) = handle.take(alloc) else {
-        return status::NO_HANDLE;
-    };
-    let answer = held.begin(alloc, name, moment_ms, hash);
-    *handle = Handle::of(held);
-    answer
+    carried!(handle, alloc, |log| log.begin(alloc, name, moment_ms, hash))
 }
 
 /// Fills the stamp with the entry that the intent covers. A name without an entry gets an intent only where the caller wants one.
@@ -136,12 +140,11 @@ pub extern "C" fn carried_plan(
 ) -> u32
     ensures call { InCarried (Planned name.now (intent_stamp moment_ms hash) anew (before.old, before.new)) result handle.old.kept.log handle.new.kept.log }
 {
-    let Some(mut held) = handle.take(alloc) else {
-        return status::NO_HANDLE;
-    };
-    let answer = held.plan(name, moment_ms, hash, anew, before);
-    *handle = Handle::of(held);
-    answer
+    carried!(
+        handle,
+        alloc,
+        |log| log.plan(name, moment_ms, hash, anew, before)
+    )
 }
 
 /// Adds nothing where the plan of the name has ended.
@@ -154,12 +157,7 @@ pub extern "C" fn carried_withdraw(
 ) -> u32
     ensures call { InCarried (Withdrawn name.now before.now) result handle.old.kept.log handle.new.kept.log }
 {
-    let Some(mut held) = handle.take(alloc) else {
-        return status::NO_HANDLE;
-    };
-    let answer = held.withdraw(name, before);
-    *handle = Handle::of(held);
-    answer
+    carried!(handle, alloc, |log| log.withdraw(name, before))
 }
 
 /// Spells the line without adding it to the text: whoever writes it to the file gives it back later.
@@ -174,12 +172,7 @@ pub extern "C" fn carried_loose_line(
 ) -> u32
     ensures call { InCarried (LooseLine name.now stamp.now (bytes.old, bytes.new) (len.old, len.new)) result handle.old.kept.log handle.new.kept.log }
 {
-    let Some(mut held) = handle.take(alloc) else {
-        return status::NO_HANDLE;
-    };
-    let answer = held.loose_line(name, stamp, bytes, len);
-    *handle = Handle::of(held);
-    answer
+    carried!(handle, alloc, |log| log.loose_line(name, stamp, bytes, len))
 }
 
 /// Call it after the file was written: no line waits then.
@@ -187,12 +180,7 @@ pub extern "C" fn carried_loose_line(
 pub extern "C" fn carried_written(handle: &mut Handle, alloc: Global, len: u64) -> u32
     ensures call { InCarried (CarriedWritten len) result handle.old.kept.log handle.new.kept.log }
 {
-    let Some(mut held) = handle.take(alloc) else {
-        return status::NO_HANDLE;
-    };
-    let answer = held.note_written(len);
-    *handle = Handle::of(held);
-    answer
+    carried!(handle, alloc, |log| log.note_written(len))
 }
 
 /// Call it after the file was synced.
@@ -200,24 +188,14 @@ pub extern "C" fn carried_written(handle: &mut Handle, alloc: Global, len: u64) 
 pub extern "C" fn carried_sync(handle: &mut Handle, alloc: Global) -> u32
     ensures call { InCarried (Keeps Synced) result handle.old.kept.log handle.new.kept.log }
 {
-    let Some(mut held) = handle.take(alloc) else {
-        return status::NO_HANDLE;
-    };
-    let answer = held.sync();
-    *handle = Handle::of(held);
-    answer
+    carried!(handle, alloc, |log| log.written.sync())
 }
 
 #[unsafe(no_mangle)]
 pub extern "C" fn carried_recompact(handle: &mut Handle, alloc: Global) -> u32
     ensures call { InCarried (Anew Recompacted) result handle.old.kept.log handle.new.kept.log }
 {
-    let Some(mut held) = handle.take(alloc) else {
-        return status::NO_HANDLE;
-    };
-    let answer = held.recompact(alloc);
-    *handle = Handle::of(held);
-    answer
+    carried!(handle, alloc, |log| log.recompact(alloc))
 }
 
 /// If a marked mtime is negative, `place` tells which.
@@ -225,12 +203,7 @@ pub extern "C" fn carried_recompact(handle: &mut Handle, alloc: Global) -> u32
 pub extern "C" fn carried_restat(handle: &mut Handle, alloc: Global, place: &mut usize) -> u32
     ensures call { InCarried (Anew (Restatted (place.old, place.new))) result handle.old.kept.log handle.new.kept.log }
 {
-    let Some(mut held) = handle.take(alloc) else {
-        return status::NO_HANDLE;
-    };
-    let answer = held.restat(alloc, place);
-    *handle = Handle::of(held);
-    answer
+    carried!(handle, alloc, |log| log.restat(alloc, place))
 }
 
 /// Frees the table and the lines that wait.
@@ -238,24 +211,14 @@ pub extern "C" fn carried_restat(handle: &mut Handle, alloc: Global, place: &mut
 pub extern "C" fn carried_close(handle: &mut Handle, alloc: Global) -> u32
     ensures call { InCarried (Anew Stopped) result handle.old.kept.log handle.new.kept.log }
 {
-    let Some(mut held) = handle.take(alloc) else {
-        return status::NO_HANDLE;
-    };
-    let answer = held.stop(alloc);
-    *handle = Handle::of(held);
-    answer
+    carried!(handle, alloc, |log| log.stop(alloc))
 }
 
 #[unsafe(no_mangle)]
 pub extern "C" fn carried_mark_dead(handle: &mut Handle, alloc: Global, name: &[u8]) -> u32
     ensures call { InCarried (Keeps (DeadMarked name.now)) result handle.old.kept.log handle.new.kept.log }
 {
-    let Some(mut held) = handle.take(alloc) else {
-        return status::NO_HANDLE;
-    };
-    let answer = held.mark_dead(name);
-    *handle = Handle::of(held);
-    answer
+    carried!(handle, alloc, |log| log.written.mark_dead(name))
 }
 
 #[unsafe(no_mangle)]
@@ -267,24 +230,18 @@ pub extern "C" fn carried_mark_time(
 ) -> u32
     ensures call { InCarried (Keeps (TimeMarked name.now mtime)) result handle.old.kept.log handle.new.kept.log }
 {
-    let Some(mut held) = handle.take(alloc) else {
-        return status::NO_HANDLE;
-    };
-    let answer = held.mark_time(alloc, name, mtime);
-    *handle = Handle::of(held);
-    answer
+    carried!(
+        handle,
+        alloc,
+        |log| log.written.mark_time(alloc, name, mtime)
+    )
 }
 
 #[unsafe(no_mangle)]
 pub extern "C" fn carried_clear_marks(handle: &mut Handle, alloc: Global) -> u32
     ensures call { InCarried (Keeps Cleared) result handle.old.kept.log handle.new.kept.log }
 {
-    let Some(mut held) = handle.take(alloc) else {
-        return status::NO_HANDLE;
-    };
-    let answer = held.clear_marks(alloc);
-    *handle = Handle::of(held);
-    answer
+    carried!(handle, alloc, |log| log.written.clear_marks(alloc))
 }
 
 /// Gives only bytes that weren't carried yet, and the length of the whole text.
@@ -298,24 +255,14 @@ pub extern "C" fn carried_text(
 ) -> u32
     ensures call { InCarried (CarriedText from (bytes.old, bytes.new) (len.old, len.new)) result handle.old.kept.log handle.new.kept.log }
 {
-    let Some(mut held) = handle.take(alloc) else {
-        return status::NO_HANDLE;
-    };
-    let answer = held.text(from, bytes, len);
-    *handle = Handle::of(held);
-    answer
+    carried!(handle, alloc, |log| log.text(from, bytes, len))
 }
 
 #[unsafe(no_mangle)]
 pub extern "C" fn carried_header(handle: &mut Handle, alloc: Global, bytes: &mut [u8]) -> u32
     ensures call { InCarried (CarriedHeader (bytes.old, bytes.new)) result handle.old.kept.log handle.new.kept.log }
 {
-    let Some(mut held) = handle.take(alloc) else {
-        return status::NO_HANDLE;
-    };
-    let answer = held.header(bytes);
-    *handle = Handle::of(held);
-    answer
+    carried!(handle, alloc, |log| log.header(bytes))
 }
 
 #[unsafe(no_mangle)]
@@ -328,10 +275,5 @@ pub extern "C" fn carried_line(
 ) -> u32
     ensures call { InCarried (CarriedLine place (bytes.old, bytes.new) (len.old, len.new)) result handle.old.kept.log handle.new.kept.log }
 {
-    let Some(mut held) = handle.take(alloc) else {
-        return status::NO_HANDLE;
-    };
-    let answer = held.entry_line(place, bytes, len);
-    *handle = Handle::of(held);
-    answer
+    carried!(handle, alloc, |log| log.entry_line(place, bytes, len))
 }

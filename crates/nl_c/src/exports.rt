@@ -20,6 +20,21 @@ use nl_fields::{command_hash, command_hash_v7, name_fault};
 use nl_table::Secret;
 use std::alloc::Global;
 
+// Gives what a handle has to a call, and puts it back.
+macro_rules! lent {
+    ($handle:ident, $alloc:ident, $what:ident, |$it:ident| $call:expr) => {{
+        let Some(held) = $handle.take($alloc) else {
+            return status::NO_HANDLE;
+        };
+        let answer = match held.$what() {
+            Some($it) => $call,
+            None => status::NO_HANDLE,
+        };
+        *$handle = Handle::of(held);
+        answer
+    }};
+}
+
 /// The version of the library: 1000000 times the first number, 1000 times the second, and the third.
 #[unsafe(no_mangle)]
 pub extern "C" fn nlog_version() -> u32
@@ -123,18 +138,10 @@ pub extern "C" fn nlog_get_facts(handle: &mut Handle, alloc: Global, facts: &mut
     ensures same { handle.new.kept.log ≡ handle.old.kept.log }
     ensures value { (result, facts.new) ≡ answered_facts (loaded_in handle.old.kept.log) facts.old }
 {
-    let Some(held) = handle.take(alloc) else {
-        return status::NO_HANDLE;
-    };
-    let answer = match held.loaded() {
-        Some(log) => {
-            *facts = log.facts();
-            status::OK
-        }
-        None => status::NO_HANDLE,
-    };
-    *handle = Handle::of(held);
-    answer
+    lent!(handle, alloc, loaded, |log| {
+        *facts = log.facts();
+        status::OK
+    })
 }
 
 #[unsafe(no_mangle)]
@@ -142,18 +149,10 @@ pub extern "C" fn nlog_count(handle: &mut Handle, alloc: Global, count: &mut usi
     ensures same { handle.new.kept.log ≡ handle.old.kept.log }
     ensures value { (result, count.new) ≡ answered_count (table_in handle.old.kept.log) count.old }
 {
-    let Some(held) = handle.take(alloc) else {
-        return status::NO_HANDLE;
-    };
-    let answer = match held.table() {
-        Some(table) => {
-            *count = table.len();
-            status::OK
-        }
-        None => status::NO_HANDLE,
-    };
-    *handle = Handle::of(held);
-    answer
+    lent!(handle, alloc, table, |table| {
+        *count = table.len();
+        status::OK
+    })
 }
 
 /// A buffer that is too short for the name is left alone.
@@ -171,15 +170,12 @@ pub extern "C" fn nlog_at(
         ≡ answered_at (table_in handle.old.kept.log) place
         (record { stamp = stamp.old; name = name.old; len = name_len.old }) }
 {
-    let Some(held) = handle.take(alloc) else {
-        return status::NO_HANDLE;
-    };
-    let answer = match held.table() {
-        Some(table) => look_up::at(table, place, stamp, name, name_len),
-        None => status::NO_HANDLE,
-    };
-    *handle = Handle::of(held);
-    answer
+    lent!(
+        handle,
+        alloc,
+        table,
+        |table| look_up::at(table, place, stamp, name, name_len)
+    )
 }
 
 #[unsafe(no_mangle)]
@@ -193,15 +189,12 @@ pub extern "C" fn nlog_find(
     ensures value { (result, stamp.new)
         ≡ answered_find (table_in handle.old.kept.log) name.now stamp.old }
 {
-    let Some(held) = handle.take(alloc) else {
-        return status::NO_HANDLE;
-    };
-    let answer = match held.table() {
-        Some(table) => look_up::find(table, name, stamp),
-        None => status::NO_HANDLE,
-    };
-    *handle = Handle::of(held);
-    answer
+    lent!(
+        handle,
+        alloc,
+        table,
+        |table| look_up::find(table, name, stamp)
+    )
 }
 
 /// The line is passed without its newline. A buffer that is too short for the name is left alone.

@@ -7,6 +7,7 @@ use Rattle.nl_c.specs.LoadedLogs.{IsLoadedAs}
 use Rattle.nl_c.specs.declared.held.Held.{Held}
 use Rattle.nl_c.specs.declared.held.Held.TheVariants.{Loaded, Carried}
 use Rattle.nl_c.specs.declared.loaded_log.LoadedLog.{LoadedLog}
+use Rattle.nl_c.proofs.carried_exports.carried_open.Goals.{in-Loaded, in-Carried}
 use Rattle.nl_c.proofs.carried_exports.carried_open.Goals as goal
 
 taken : (kept : Option Held) (log : LoadedLog) → option_and_then all_of kept ≡ Some log → loaded_in kept ≡ Some log
@@ -22,4 +23,7 @@ returns-clause-call c asked bytes is =
     let kept = c.args.found.now.kept.log in
     let there : loaded_in kept ≡ Some c.in-Some.log = taken kept c.in-Some.log (search rules) in
     let loaded : IsLoadedAs asked bytes c.in-Some.log = subst (λ (o : Option LoadedLog). IsSomeAnd o (IsLoadedAs asked bytes)) there is in
-    search (rules, c.open-answer.ensures asked bytes loaded)
+    elim c.match-deref_mut.branch [
+      | in-Loaded w ↦ search rules
+      | in-Carried w ↦ search (rules, w.open-answer.ensures asked bytes loaded)
+    ]
