@@ -5,7 +5,6 @@ mod SharesLemmas
 mod LeftOverLemmas
 mod LastByteLemmas
 mod KindLemmas
-mod SlowestLemmas
 mod SummaryLemmas
 mod BuildsTableLemmas
 mod KindSumLemmas

@@ -10,10 +10,9 @@ use Rattle.nl_tool_texts.specs.Fraction.{ratio}
 use Rattle.nl_reports.specs.Jobs.{between, build_jobs}
 use Rattle.nl_reports.specs.Kinds.{kinds}
 use Rattle.nl_reports.specs.Numbers.{numbers_of, spans_of}
-use Rattle.nl_reports.specs.Rows.{Told, list_lines, rank_told, told_jobs, told_row}
+use Rattle.nl_reports.specs.Rows.{Told, list_lines, rank_told, told_jobs}
 use Rattle.nl_tool_texts.specs.Falling.{falling}
 use Rattle.nl_reports.specs.declared.rows.Listed.{Listed}
-use Rattle.nl_reports.specs.declared.rows.Row.{Row}
 use Rattle.nl_tool_texts.specs.Texts.{joined, line, time_text}
 use Rattle.nl_reports.specs.Sweep.{alone_time, busy_time, most_at_once}
 use Rattle.nl_reports.specs.declared.choice.Choice.{Choice}
@@ -114,11 +113,6 @@ number_lines screen t told = if screen then facts_of t told else
 abbrev pub slowest_line : Bool → Option Told → List ℕ
 slowest_line screen None = []
 slowest_line screen (Some t) = if screen then [] else line (codes "slowest" ∷ decimal t.sums.time ∷ t.name ∷ [])
-
--- the slowest command so far
-abbrev pub so_far : Option Row → List Told
-so_far None = []
-so_far (Some r) = told_row r ∷ []
 
 -- a number after its key, or at a terminal before words
 abbrev pub count_line : Bool → List ℕ → List ℕ → ℕ → List ℕ

@@ -2,14 +2,15 @@
 ghost use Rattle.std.specs.Prelude.{◌≡◌, ◌<◌, ◌≤◌, ◌+◌, ◌^◌, ◌++◌, ◌∷◌, IfOk, OnOk};
 ghost use Rattle.nl_reports.specs.Bars.{bar, base_of, drawn_width, is_last, joined, kind_of, long_bar, marks, more_outputs, name_text, rank_of, rect, title, width_of};
 ghost use Rattle.nl_reports.specs.Jobs.{seen};
-ghost use Rattle.nl_tool_texts.specs.Falling.{falling};
 ghost use Rattle.nl_reports.specs.Spans.{IsEarly};
 
 use crate::frame::{Frame, append_seconds};
 use crate::job::Job;
 use crate::kind::{KindRule, kind_of as kind_by};
 use crate::work::{place, work_of};
-use nl_tool_texts::{Part, append, append_cut_name, append_label, append_parts, append_with};
+use nl_tool_texts::{
+    Part, Ranking, append, append_cut_name, append_label, append_parts, append_with,
+};
 use std::alloc::{AllocError, Global};
 
 // A command whose bar would be narrower shares one with others.
@@ -192,17 +193,15 @@ fn base_of(name: &[u8]) -> &[u8]
     &name[folder.len().min(name.len())..]
 }
 
-/// The marks by lane, pixel and kind, the highest first.
-pub(crate) fn falling_marks(marks: Vec<Mark>) -> Result<Vec<Mark>, AllocError>
-    ensures value { IfOk result (λ sorted. sorted.items ≡ falling rank_of marks.items) }
-{
-    let mut sorted = marks;
-    sorted.sort_by(|a, b| {
-        ((u128::from(b.lane) * 2048 + u128::from(b.pixel)) * 16 + u128::from(b.kind)).cmp(
-            &((u128::from(a.lane) * 2048 + u128::from(a.pixel)) * 16 + u128::from(a.kind)),
-        )
-    })?;
-    Ok(sorted)
+/// By lane, pixel and kind.
+pub(crate) struct ByPlace;
+
+impl Ranking<Mark> for ByPlace {
+    ghost rank = { λ by mark. rank_of mark };
+
+    fn rank(&self, mark: &Mark) -> u128 {
+        (u128::from(mark.lane) * 2048 + u128::from(mark.pixel)) * 16 + u128::from(mark.kind)
+    }
 }
 
 /// How many that are alike stand before what follows a mark. If it is the last of these, this appends their bar.

@@ -4,11 +4,11 @@ ghost use Rattle.std.specs.List.{All, Contains};
 ghost use Rattle.nl_reports.specs.Jobs.{build_jobs, seen, told};
 ghost use Rattle.nl_reports.specs.Kinds.{IsOfOne};
 ghost use Rattle.nl_reports.specs.Numbers.{IsSmall, spans_of};
-ghost use Rattle.nl_reports.specs.Rows.{Told, rank_told, told_job, told_jobs, told_row};
+ghost use Rattle.nl_reports.specs.Rows.{rank_told, told_job, told_jobs, told_row};
 ghost use Rattle.nl_tool_texts.specs.Falling.{falling};
 ghost use Rattle.nl_reports.specs.Shares.{AreSharesOf};
 ghost use Rattle.nl_reports.specs.Spans.{IsEarly};
-ghost use Rattle.nl_reports.specs.Summary.{AreTotalsOf, again_in, again_line, all_lists, both_lists, bound, chosen_text, count_line, facts, few_text, first_of, lists_text, more_taken, most_taken, no_totals, number_lines, rows_from, slowest_line, slowest_time, so_far, summary_text, taken_in, title, total_of, totals_from, unfinished_line, with_build, with_numbers};
+ghost use Rattle.nl_reports.specs.Summary.{AreTotalsOf, again_in, again_line, all_lists, both_lists, bound, chosen_text, count_line, facts, few_text, first_of, lists_text, more_taken, most_taken, no_totals, number_lines, rows_from, slowest_line, slowest_time, summary_text, taken_in, title, total_of, totals_from, unfinished_line, with_build, with_numbers};
 ghost use Rattle.nl_reports.specs.Sweep.{most_at_once};
 ghost use Rattle.nl_reports.specs.declared.rows.Rank.TheVariants.{Time};
 ghost use Rattle.nl_reports.specs.declared.span.Span.{Span};
@@ -21,7 +21,7 @@ use crate::numbers::{Numbers, numbers_of, spans_of};
 use crate::rows::{Listed, Rank, Row, Sums, append_list};
 use crate::shares::Shares;
 use nl_builds::{Build, Builds, How};
-use nl_tool_texts::{Part, append_line, append_parts, ratio};
+use nl_tool_texts::{Part, append_line, append_parts, highest, ratio};
 use std::alloc::{AllocError, Global};
 
 /// The sums of the numbers of builds, one after another. Times are in milliseconds.
@@ -93,7 +93,7 @@ fn append_chosen(
     let rows = all.rows.as_slice();
     append_title(lists.screen, scope, choice.first, from.builds.len(), lines)?;
     append_totals(alloc, lists.screen, &all.totals, rows, lines)?;
-    append_slowest(lists.screen, rows, lines)?;
+    append_slowest(alloc, lists.screen, rows, lines)?;
     append_again(lists.screen, again_in(scope, told), lines)?;
     append_unfinished(lists.screen, unfinished, lines)?;
     append_lists(alloc, lists, rows, lines)
@@ -257,7 +257,8 @@ fn append_totals(
     let total = total_of(rows);
     let parallel = ratio(alloc, total, totals.wall)?;
     if screen {
-        let best = bound(totals.most, total, slowest_time(rows));
+        let slowest = slowest_time(alloc, rows)?;
+        let best = bound(totals.most, total, slowest);
         let none = totals.wall.saturating_sub(totals.busy);
         return append_facts(
             totals,
@@ -343,16 +344,21 @@ fn total_of(rows: &[Row<'_>]) -> u128
 }
 
 // At a terminal it heads the list.
-fn append_slowest(screen: bool, rows: &[Row<'_>], lines: &mut Vec<u8>) -> Result<(), AllocError>
+fn append_slowest(
+    alloc: Global,
+    screen: bool,
+    rows: &[Row<'_>],
+    lines: &mut Vec<u8>,
+) -> Result<(), AllocError>
     ensures items { OnOk result
         (lines.new.items ≡ lines.old.items ++ slowest_line screen (first_of (falling (rank_told Time) (map told_row rows.now)))) }
 {
-    let Some(first) = slowest_of(rows) else {
-        return Ok(());
-    };
     if screen {
         return Ok(());
     }
+    let Some(first) = slowest_of(alloc, rows)? else {
+        return Ok(());
+    };
     let time = Part::Number(first.sums.time);
     append_line(
         &[Part::Text(b"slowest"), time, Part::Text(first.name)],
@@ -360,36 +366,20 @@ fn append_slowest(screen: bool, rows: &[Row<'_>], lines: &mut Vec<u8>) -> Result
     )
 }
 
-fn slowest_time(rows: &[Row<'_>]) -> u128
-    ensures value { result ≡ slowest_time (first_of (falling (rank_told Time) (map told_row rows.now))) }
+fn slowest_time(alloc: Global, rows: &[Row<'_>]) -> Result<u128, AllocError>
+    ensures value { IfOk result (λ time. time ≡ slowest_time (first_of (falling (rank_told Time) (map told_row rows.now)))) }
 {
-    match slowest_of(rows) {
-        Some(row) => row.sums.time,
-        None => 0,
+    match slowest_of(alloc, rows)? {
+        Some(row) => Ok(row.sums.time),
+        None => Ok(0),
     }
 }
 
-fn slowest_of<'a>(rows: &[Row<'a>]) -> Option<Row<'a>>
-    ensures value { option_map told_row result ≡ first_of (falling (rank_told Time) (map told_row rows.now)) }
+fn slowest_of<'a>(alloc: Global, rows: &[Row<'a>]) -> Result<Option<Row<'a>>, AllocError>
+    ensures value { IfOk result (λ row. option_map told_row row ≡ first_of (falling (rank_told Time) (map told_row rows.now))) }
 {
-    let mut slowest = None;
-    for row in rows {
-        slowest = Some(slower_of(slowest, row));
-    }
-    slowest
-}
-
-fn slower_of<'a>(before: Option<Row<'a>>, row: &Row<'a>) -> Row<'a>
-    ensures value { (ts : List Told) → first_of (falling (rank_told Time) (so_far before.entry ++ told_row row.now ∷ ts))
-        ≡ first_of (falling (rank_told Time) (told_row result ∷ ts)) }
-{
-    let Some(first) = before else {
-        return *row;
-    };
-    if row.sums.time <= first.sums.time {
-        return first;
-    }
-    *row
+    let kept = highest(alloc, &Rank::Time, 1, rows)?;
+    Ok(kept.first().copied())
 }
 
 // None for all builds, because what later ones took is told of there.
