@@ -56,7 +56,7 @@ times (c ∷ cs) n all =
 pub total_is : (cs : List Span) → sum_by (λ c. c.ended - c.began) cs ≡ before (λ t. running cs t * 1) (last_moment cs)
 total_is cs =
     let n = last_moment cs in
-    sym (times cs n (below_last cs 0)) ∙ before-swap (λ c t. if runs_at t c then 1 else 0) cs n
+    sym (times cs n (below_last cs)) ∙ before-swap (λ c t. if runs_at t c then 1 else 0) cs n
     ∙ before-same (λ t. sum_by (λ c. if runs_at t c then 1 else 0) cs) (λ t. running cs t * 1) n (λ t. counted (runs_at t) 1 cs)
 
 -- no more parts than the commands' times have milliseconds

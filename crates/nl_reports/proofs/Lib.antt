@@ -1,4 +1,5 @@
 mod MomentLemmas
+mod StartLemmas
 mod SweepLemmas
 mod SweepStepLemmas
 mod SharesLemmas

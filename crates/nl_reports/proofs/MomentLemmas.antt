@@ -1,11 +1,12 @@
 -- How many commands run at a moment, by when they began and ended, each in order.
-use Rattle.std.proofs.Common.{◌≡◌, ℕ, zero, suc, ◌+◌, ◌-◌, ◌<◌, ◌≤◌, max, cond, Bool, true, false, List, [], ◌∷◌, length, map, get_or, refl, ap, arith}
+use Rattle.std.proofs.Common.{◌≡◌, ℕ, zero, suc, ◌+◌, ◌-◌, ◌<◌, ◌≤◌, max, cond, List, [], ◌∷◌, length, map, get_or, refl, arith}
 use Rattle.std.specs.Prelude.{count_by, nat_le}
 use Rattle.std.proofs.lemmas.Bool.Decides.{nat_tests}
 use Rattle.std.proofs.lemmas.List.Sums.{sum_by-cons}
 use Rattle.std.proofs.lemmas.List.Sorted.{sum_by-IsPermutation}
 use Rattle.nl_reports.specs.declared.span.Span.{Span}
 use Rattle.nl_reports.specs.Sweep.{running, runs_at}
+use Rattle.nl_reports.specs.SweepSteps.{Rises}
 use Rattle.nl_reports.specs.Spans.{began_of, closed_of}
 use Rattle.nl_reports.specs.declared.moments.Moments.{Moments}
 use Rattle.nl_reports.specs.Moments.{AreMoments}
@@ -35,29 +36,37 @@ running_is cs m t are = omega (
   sum_by-IsPermutation (λ (e : ℕ). cond (nat_le e t) 1 0) (map closed_of cs) m.ends.items are.ends,
 )
 
--- as many pass as stand before the first that doesn't
-pub counted_up_to : (p : ℕ → Bool) (xs : List ℕ) (at : ℕ) → at ≤ length xs
-    → ((k : ℕ) (d : ℕ) → k < at → p (get_or xs k d) ≡ true) → ((k : ℕ) (d : ℕ) → at ≤ k → k < length xs → p (get_or xs k d) ≡ false)
-    → count_by p xs ≡ at
-counted_up_to p [] at within passes fails = omega (arith, within)
-counted_up_to p (x ∷ xs) zero within passes fails =
+-- so many are at a moment or before, if those before a place are and the others aren't
+pub counted_up_to : (xs : List ℕ) (place at : ℕ) → place ≤ length xs → ((k : ℕ) → k < place → get_or xs k 0 ≤ at)
+    → ((k : ℕ) → place ≤ k → k < length xs → at < get_or xs k 0) → count_by (λ m. nat_le m at) xs ≡ place
+counted_up_to [] place at within before after = omega (arith, within)
+counted_up_to (x ∷ xs) zero at within before after =
+    let later : at < x = after 0 (omega arith) (omega arith) in
+    let none : ◌≡◌ {A = ℕ} (cond (nat_le x at) 1 0) 0 = grind (arith, nat_tests) in
     omega (
       arith,
-      sum_by-cons (λ (y : ℕ). cond (p y) 1 0) x xs,
-      one_of (p x) false (fails 0 x (omega arith) (omega arith)),
-      counted_up_to p xs zero (omega arith) (λ k d before. absurd (omega (arith, before))) (λ k d after there. fails (suc k) d (omega arith) (omega (arith, there))),
+      none,
+      sum_by-cons (λ (m : ℕ). cond (nat_le m at) 1 0) x xs,
+      counted_up_to xs zero at (omega arith) (λ k below. absurd (omega (arith, below))) (λ k above there. after (suc k) (omega arith) (omega (arith, there))),
     )
-  where
-    one_of : (b c : Bool) → b ≡ c → ◌≡◌ {A = ℕ} (cond b 1 0) (cond c 1 0)
-    one_of b c is = ap (λ (t : Bool). cond t 1 0) is
-counted_up_to p (x ∷ xs) (suc at) within passes fails =
+counted_up_to (x ∷ xs) (suc place) at within before after =
+    let earlier : x ≤ at = before 0 (omega arith) in
+    let one : ◌≡◌ {A = ℕ} (cond (nat_le x at) 1 0) 1 = grind (arith, nat_tests) in
     omega (
       arith,
-      sum_by-cons (λ (y : ℕ). cond (p y) 1 0) x xs,
-      one_of (p x) true (passes 0 x (omega arith)),
-      counted_up_to p xs at (omega (arith, within)) (λ k d before. passes (suc k) d (omega (arith, before)))
-          (λ k d after there. fails (suc k) d (omega (arith, after)) (omega (arith, there))),
+      one,
+      sum_by-cons (λ (m : ℕ). cond (nat_le m at) 1 0) x xs,
+      counted_up_to xs place at (omega (arith, within)) (λ k below. before (suc k) (omega (arith, below)))
+          (λ k above there. after (suc k) (omega (arith, above)) (omega (arith, there))),
     )
-  where
-    one_of : (b c : Bool) → b ≡ c → ◌≡◌ {A = ℕ} (cond b 1 0) (cond c 1 0)
-    one_of b c is = ap (λ (t : Bool). cond t 1 0) is
+
+-- they end at a place if the moment before it is, and the one at it isn't
+pub ends_before : (xs : List ℕ) (place at : ℕ) → Rises xs → place ≤ length xs → (0 < place → get_or xs (place - 1) 0 ≤ at)
+    → (k : ℕ) → k < place → get_or xs k 0 ≤ at
+ends_before xs place at rise within last k below =
+    omega (arith, last (omega (arith, below)), rise.order k (place - 1) (omega (arith, below)) (omega (arith, within, below)))
+
+pub begins_after : (xs : List ℕ) (place at : ℕ) → Rises xs → (place < length xs → at < get_or xs place 0)
+    → (k : ℕ) → place ≤ k → k < length xs → at < get_or xs k 0
+begins_after xs place at rise first k above there =
+    omega (arith, first (omega (arith, above, there)), rise.order place k above there)

@@ -1,41 +1,57 @@
 -- The shares of commands, by their starts and ends in order.
 use Rattle.std.proofs.Common.{◌≡◌, ◌∙◌, ℕ, zero, suc, ◌-◌, ◌<◌, ◌≤◌, ◌^◌, max, false, cond, List, [], ◌∷◌, length, map, get_or}
-use Rattle.std.proofs.Common.{refl, sym, ap, subst, arith, inl, inr, Ok, Err}
+use Rattle.std.proofs.Common.{refl, sym, ap, subst, arith, inl, inr}
 use Rattle.std.specs.Prelude.{nat_le, if◌then◌else◌}
 use Rattle.std.specs.List.{All, Contains, fold}
-use Rattle.std.specs.List.Sorted.{IsBinarySearchResult}
-use Rattle.std.specs.Ordering.{nat_cmp}
+use Rattle.std.specs.List.Sorted.{IsPermutation}
 use Rattle.std.proofs.lemmas.Bool.{cases_lt}
 use Rattle.std.proofs.lemmas.Bool.Decides.{nat_tests}
 use Rattle.std.proofs.lemmas.List.{get_or-map, length-map, take_all}
 use Rattle.std.proofs.lemmas.List.Elements.{All-cons, All-contains, All-from_get_or, All-head, All-tail, All-weaker}
-use Rattle.std.proofs.lemmas.List.Sorted.{All-permutation, Contains-permutation, IsPermutation-sym, searched, sum_by-IsPermutation}
+use Rattle.std.proofs.lemmas.List.Sorted.{All-permutation, Contains-permutation, IsPermutation-sym, sum_by-IsPermutation}
 use Rattle.std.proofs.lemmas.List.Sums.{sum_by-cons}
 use Rattle.nl_reports.specs.declared.span.Span.{Span}
 use Rattle.nl_reports.specs.declared.shares.Shares.{Shares}
-use Rattle.nl_reports.specs.Sweep.{before, runs_at, running, share_of, any_of, alone_of, last_moment, busy_time, alone_time, weight}
+use Rattle.nl_reports.specs.Sweep.{before, runs_at, running, share_of, any_of, alone_of, last_moment, busy_time, alone_time, most_at_once, weight}
 use Rattle.nl_reports.specs.SweepSteps.{Rises, running_by, shares_before}
 use Rattle.nl_reports.specs.Shares.{AreSharesOf}
 use Rattle.nl_reports.specs.Spans.{began_of, closed_of}
 use Rattle.nl_reports.proofs.MomentLemmas.{count_begun}
 use Rattle.nl_reports.proofs.SweepLemmas.{before-same, before-within}
 
--- each ends before the last moment
-upper : (cs : List Span) (at : ℕ) → at ≤ fold (λ n s. max n s.ended) at cs
-upper [] at = omega arith
-upper (c ∷ cs) at = omega (arith, upper cs (max at c.ended))
+-- the greatest of some numbers of elements
+module _ {A : Type 0} (f : A → ℕ) where
+  upper : (xs : List A) (at : ℕ) → at ≤ fold (λ n x. max n (f x)) at xs
+  upper [] at = omega arith
+  upper (x ∷ xs) at = omega (arith, upper xs (max at (f x)))
 
-pub below_last : (cs : List Span) (at : ℕ) → All (λ c. c.ended ≤ fold (λ n s. max n s.ended) at cs) cs
-below_last [] at = λ k d within. absurd (omega (arith, within))
-below_last (c ∷ cs) at =
-    All-cons (λ (d : Span). d.ended ≤ fold (λ n s. max n s.ended) (max at c.ended) cs) c cs (omega (arith, upper cs (max at c.ended)))
-    (below_last cs (max at c.ended))
+  -- none is greater, and it is no greater than what is no less than each
+  up_to_greatest : (xs : List A) (at : ℕ) → All (λ x. f x ≤ fold (λ n x. max n (f x)) at xs) xs
+  up_to_greatest [] at = λ k d within. absurd (omega (arith, within))
+  up_to_greatest (x ∷ xs) at =
+      All-cons (λ (y : A). f y ≤ fold (λ n x. max n (f x)) (max at (f x)) xs) x xs (omega (arith, upper xs (max at (f x))))
+      (up_to_greatest xs (max at (f x)))
 
--- the last moment is no later than what is no earlier than each end
-last_below : (cs : List Span) (at n : ℕ) → at ≤ n → All (λ c. c.ended ≤ n) cs → fold (λ m s. max m s.ended) at cs ≤ n
-last_below [] at n under all = under
-last_below (c ∷ cs) at n under all =
-    last_below cs (max at c.ended) n (omega (arith, All-head (λ (d : Span). d.ended ≤ n) c cs all)) (All-tail (λ (d : Span). d.ended ≤ n) c cs all)
+  greatest_below : (xs : List A) (at n : ℕ) → at ≤ n → All (λ x. f x ≤ n) xs → fold (λ m x. max m (f x)) at xs ≤ n
+  greatest_below [] at n under all = under
+  greatest_below (x ∷ xs) at n under all =
+      greatest_below xs (max at (f x)) n (omega (arith, under, All-head (λ (y : A). f y ≤ n) x xs all)) (All-tail (λ (y : A). f y ≤ n) x xs all)
+
+  greatest-permutation : (xs ys : List A) → IsPermutation xs ys → fold (λ n x. max n (f x)) 0 ys ≡ fold (λ n x. max n (f x)) 0 xs
+  greatest-permutation xs ys moved =
+      let m = fold (λ n x. max n (f x)) 0 xs in
+      let n = fold (λ n x. max n (f x)) 0 ys in
+      omega (
+        arith,
+        greatest_below ys 0 m (omega arith) (All-permutation (λ (y : A). f y ≤ m) xs ys moved (up_to_greatest xs 0)),
+        greatest_below xs 0 n (omega arith) (All-permutation (λ (y : A). f y ≤ n) ys xs (IsPermutation-sym xs ys moved) (up_to_greatest ys 0)),
+      )
+
+pub below_last : (cs : List Span) → All (λ c. c.ended ≤ last_moment cs) cs
+below_last cs = up_to_greatest (λ (c : Span). c.ended) cs 0
+
+last_below : (cs : List Span) (n : ℕ) → All (λ c. c.ended ≤ n) cs → last_moment cs ≤ n
+last_below cs n all = greatest_below (λ (c : Span). c.ended) cs 0 n (omega arith) all
 
 -- after it none runs
 none_after : (cs : List Span) (t : ℕ) → All (λ c. c.ended ≤ t) cs → running cs t ≡ 0
@@ -90,9 +106,9 @@ module _ (cs : List Span) (s : Shares) (are : AreSharesOf cs s) where
       → before (λ t. f (running_by s.moments.starts.items s.moments.ends.items t)) s.swept.sums.at ≡ before (λ t. f (running cs t)) (last_moment cs)
   gone_over f none =
       before-same (λ t. f (running_by s.moments.starts.items s.moments.ends.items t)) (λ t. f (running cs t)) s.swept.sums.at (λ t. ap f (runs_as t))
-      ∙ before-beyond (λ t. f (running cs t)) (last_moment cs) s.swept.sums.at (last_below cs 0 s.swept.sums.at (omega arith) ends_by)
+      ∙ before-beyond (λ t. f (running cs t)) (last_moment cs) s.swept.sums.at (last_below cs s.swept.sums.at ends_by)
       (λ t after. ap f (none_after cs t
-      (All-weaker (λ (c : Span). c.ended ≤ last_moment cs) (λ (c : Span). c.ended ≤ t) (λ c le. omega (arith, le, after)) cs (below_last cs 0))) ∙ none)
+      (All-weaker (λ (c : Span). c.ended ≤ last_moment cs) (λ (c : Span). c.ended ≤ t) (λ c le. omega (arith, le, after)) cs (below_last cs))) ∙ none)
 
   pub busy_is : s.swept.sums.busy ≡ busy_time cs
   busy_is = are.swept.sums.busy ∙ gone_over any_of refl
@@ -121,7 +137,7 @@ module _ (cs : List Span) (s : Shares) (are : AreSharesOf cs s) where
     pub weight_is : span.began < span.ended
         → shares_before s.moments.starts.items s.moments.ends.items span.ended - shares_before s.moments.starts.items s.moments.ends.items span.began ≡ weight cs span
     weight_is runs =
-        let last : span.ended ≤ last_moment cs = All-contains (λ (c : Span). c.ended ≤ last_moment cs) cs span (below_last cs 0) among in
+        let last : span.ended ≤ last_moment cs = All-contains (λ (c : Span). c.ended ≤ last_moment cs) cs span (below_last cs) among in
         let within = before-within (λ t. share_of (running cs t)) span.began span.ended (last_moment cs) (omega arith) last in
         let same = λ (n : ℕ). before-same (λ t. share_of (running_by s.moments.starts.items s.moments.ends.items t)) (λ t. share_of (running cs t)) n
         (λ t. ap share_of (runs_as t)) in
@@ -141,19 +157,30 @@ module _ (cs : List Span) (s : Shares) (are : AreSharesOf cs s) where
 pub rises : (sorted : List ℕ) → ((i j : ℕ) → i ≤ j → j < length sorted → get_or sorted i 0 ≤ get_or sorted j 0) → All (λ m. m ≤ 2 ^ 32) sorted → Rises sorted
 rises sorted order early = record { order = order; early = λ i within. early i 0 within }
 
--- what a search found, and what it didn't
-pub found_share : (moments shares : List ℕ) (moment at : ℕ) (f : ℕ → ℕ) → Rises moments → shares ≡ map f moments
-    → IsBinarySearchResult (λ y. nat_cmp y moment) moments (Ok at) → get_or shares at 0 ≡ f moment
-found_share moments shares moment at f rising is found =
-    let there = searched moments moment (Ok at) found rising.order in
-    ap (λ (l : List ℕ). get_or l at 0) is ∙ get_or-map f moments at 0 0 there.0 ∙ ap f there.1
-
-pub none_found : (moments : List ℕ) (moment at : ℕ) → Rises moments → IsBinarySearchResult (λ y. nat_cmp y moment) moments (Err at)
-    → Contains moments moment → ⊥
-none_found moments moment at rising found among =
-    let nowhere = searched moments moment (Err at) found rising.order in
+-- what stands before the place at which the moments up to this one end
+pub found_share : (moments shares : List ℕ) (moment place : ℕ) (f : ℕ → ℕ) → Rises moments → shares ≡ map f moments → place ≤ length moments
+    → ((k : ℕ) → k < place → get_or moments k 0 ≤ moment) → ((k : ℕ) → place ≤ k → k < length moments → moment < get_or moments k 0)
+    → Contains moments moment → get_or shares (place - 1) 0 ≡ f moment
+found_share moments shares moment place f rising is within before after among =
     let there : get_or moments among.0 0 ≡ moment = get_or_past_default moments among.0 moment among.1 ∙ among.2 in
-    elim (cases_lt among.0 at) [
-      | inl h ↦ absurd (omega (arith, nowhere.1 among.0 h, there))
-      | inr h ↦ absurd (omega (arith, nowhere.2 among.0 h among.1, there))
-    ]
+    let below : among.0 < place = elim (cases_lt among.0 place) [
+      | inl h ↦ h
+      | inr h ↦ absurd (omega (arith, after among.0 h among.1, there))
+    ] in
+    let last : place - 1 < length moments = omega (arith, within, below) in
+    let same : get_or moments (place - 1) 0 ≡ moment = omega (
+      arith,
+      there,
+      before (place - 1) (omega (arith, below)),
+      rising.order among.0 (place - 1) (omega (arith, below)) last,
+    ) in
+    ap (λ (l : List ℕ). get_or l (place - 1) 0) is ∙ get_or-map f moments (place - 1) 0 0 last ∙ ap f same
+
+-- as many run at a time as when one of them begins
+pub most_of_starts : (cs : List Span) (starts : List ℕ) → IsPermutation (map began_of cs) starts
+    → fold (λ most t. max most (running cs t)) 0 starts ≡ most_at_once cs
+most_of_starts cs starts moved = greatest-permutation (running cs) (map began_of cs) starts moved ∙ begun cs 0
+  where
+    begun : (ds : List Span) (at : ℕ) → fold (λ most t. max most (running cs t)) at (map began_of ds) ≡ fold (λ most s. max most (running cs s.began)) at ds
+    begun [] at = refl
+    begun (d ∷ ds) at = begun ds (max at (running cs d.began))

@@ -7,7 +7,7 @@ ghost use Rattle.nl_reports.specs.Spans.{IsEarly};
 ghost use Rattle.nl_reports.specs.declared.span.Span.{Span};
 
 use crate::job::Job;
-use crate::moments::Moments;
+use crate::moments::{Moments, Near};
 use json::Writer;
 use nl_builds::How;
 use nl_fields::append_hex64;
@@ -119,6 +119,7 @@ fn append_shown(alloc: Global, name: &[u8], out: &mut Vec<u8>) -> Result<(), All
 pub(crate) fn append_running(
     build: BuildEvent,
     moments: &Moments,
+    near: &mut Near,
     at: u64,
     out: &mut Vec<u8>,
 ) -> Result<(), AllocError>
@@ -127,7 +128,7 @@ pub(crate) fn append_running(
         (out.new.items ≡ out.old.items ++ 44 ∷ event_text (running_event build cs at)) }
 {
     let number = build.number;
-    let count = moments.running(at);
+    let count = moments.running_near(near, at);
     let ts = at.saturating_sub(build.began) * 1000;
     append_with(b",{\"args\":{\"commands\":", count, out)?;
     append_with(b"},\"name\":\"running\",\"ph\":\"C\",\"pid\":", number, out)?;

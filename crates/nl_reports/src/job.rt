@@ -1,10 +1,11 @@
 //! The commands of a build, with the entries of their outputs.
-ghost use Rattle.std.specs.Prelude.{◌≡◌, drop, map, take, IfOk};
+ghost use Rattle.std.specs.Prelude.{◌≡◌, map, IfOk};
 ghost use Rattle.std.specs.List.{All};
 ghost use Rattle.nl_reports.specs.Jobs.{between, build_jobs, commands_to, entries_to, first_name, jobs_between, jobs_from, seen, told};
 ghost use Rattle.nl_reports.specs.Rows.{by_start};
 ghost use Rattle.nl_reports.specs.Spans.{IsEarly};
 
+use crate::moments::MOVES;
 use crate::span::Span;
 use nl_builds::{Build, Builds, Command};
 use nl_fields::EntryRef;
@@ -121,10 +122,29 @@ pub fn jobs_by_start<'s, 'a>(jobs: Vec<Job<'s, 'a>>) -> Result<Vec<Job<'s, 'a>>,
     ensures early { IfOk result (λ sorted. All (λ j. IsEarly j.span) sorted.items) }
 {
     let mut sorted = jobs;
+    settle(&mut sorted);
     sorted.sort_by(|a, b| {
         NO_MOMENT
             .saturating_sub(b.span.began)
             .cmp(&NO_MOMENT.saturating_sub(a.span.began))
     })?;
     Ok(sorted)
+}
+
+// Moves each command to before those next to it that began later. Commands that are nearly in order are then in order, and to sort them
+// takes little.
+fn settle(jobs: &mut Vec<Job<'_, '_>>)
+    requires early { All (λ j. IsEarly j.span) jobs.old.items }
+    ensures early { All (λ j. IsEarly j.span) jobs.new.items }
+    ensures order { by_start (map seen jobs.new.items) ≡ by_start (map seen jobs.old.items) }
+{
+    let mut moves = jobs.len().saturating_mul(MOVES);
+    for i in 1..jobs.len() {
+        let mut at = i;
+        'moves: while at > 0 && moves > 0 && jobs[at].span.began < jobs[at - 1].span.began {
+            jobs.swap(at - 1, at);
+            at -= 1;
+            moves -= 1;
+        }
+    }
 }

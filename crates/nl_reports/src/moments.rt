@@ -1,5 +1,5 @@
 //! When commands begin and end.
-ghost use Rattle.std.specs.Prelude.{◌≡◌, ◌≤◌, ◌^◌, List, count_by, nat_le, IfOk};
+ghost use Rattle.std.specs.Prelude.{◌≡◌, ◌-◌, ◌<◌, ◌≤◌, ◌^◌, ℕ, List, length, slice_index, IfOk, IsTrue};
 ghost use Rattle.std.specs.List.{All};
 ghost use Rattle.std.specs.List.Sorted.{IsPermutation};
 ghost use Rattle.nl_reports.specs.Moments.{AreMoments};
@@ -11,11 +11,24 @@ ghost use Rattle.nl_reports.specs.declared.span.Span.{Span};
 use crate::span::Span;
 use std::alloc::{AllocError, Global};
 
+// So many moves of each moment are tried, on average.
+pub(crate) const MOVES: usize = 16;
+
+// A place that is so near is found without a search.
+const STEPS: usize = 64;
+
 /// Each list is in order.
 #[derive(Drop)]
 pub struct Moments {
     pub starts: Vec<u64>,
     pub ends: Vec<u64>,
+}
+
+/// How many commands had begun and ended at the moment that was asked for last.
+#[derive(Clone, Copy, Drop)]
+pub(crate) struct Near {
+    pub begun: usize,
+    pub ended: usize,
 }
 
 impl Moments {
@@ -31,9 +44,16 @@ impl Moments {
     pub fn running(&self, at: u64) -> u64
         ensures value { (cs : List Span) → AreMoments cs self.now → result ≡ running cs at }
     {
-        let begun = up_to(self.starts.as_slice(), at);
-        let ended = up_to(self.ends.as_slice(), at);
-        begun.saturating_sub(ended)
+        self.running_near(&mut Near { begun: 0, ended: 0 }, at)
+    }
+
+    /// It is the quicker the nearer the moment is to the one before.
+    pub(crate) fn running_near(&self, near: &mut Near, at: u64) -> u64
+        ensures value { (cs : List Span) → AreMoments cs self.now → result ≡ running cs at }
+    {
+        near.begun = up_to(self.starts.as_slice(), near.begun, at);
+        near.ended = up_to(self.ends.as_slice(), near.ended, at);
+        (near.begun as u64).saturating_sub(near.ended as u64)
     }
 }
 
@@ -42,12 +62,61 @@ pub(crate) fn rising(moments: Vec<u64>) -> Vec<u64>
     ensures order { All (λ m. m ≤ 2 ^ 32) moments.items → Rises result.items }
 {
     let mut sorted = moments;
+    settle(&mut sorted);
     sorted.sort_unstable();
     sorted
 }
 
-fn up_to(moments: &[u64], at: u64) -> u64
-    ensures value { Rises moments.now → result ≡ count_by (λ m. nat_le m at) moments.now }
+// Moves each moment to before those next to it that are later. What is nearly in order is then in order, and to sort it takes little.
+fn settle(moments: &mut Vec<u64>)
+    ensures items { IsPermutation moments.old.items moments.new.items }
 {
-    moments.partition_point(|m| *m <= at) as u64
+    let mut moves = moments.len().saturating_mul(MOVES);
+    for i in 1..moments.len() {
+        let mut at = i;
+        'moves: while at > 0 && moves > 0 && moments[at - 1] > moments[at] {
+            moments.swap(at - 1, at);
+            at -= 1;
+            moves -= 1;
+        }
+    }
+}
+
+/// How many moments are at this one or before. `near` is where to look first.
+pub(crate) fn up_to(moments: &[u64], near: usize, at: u64) -> usize
+    ensures within { result ≤ length moments.now }
+    ensures before { Rises moments.now → (k : ℕ) → k < result → slice_index moments.now k ≤ at }
+    ensures after { Rises moments.now → (k : ℕ) → result ≤ k → k < length moments.now → at < slice_index moments.now k }
+{
+    let place = walk(moments, near, at);
+    if is_end(moments, place, at) {
+        return place;
+    }
+    moments.partition_point(|m| *m <= at)
+}
+
+// Whether the moments up to this one end at the place.
+fn is_end(moments: &[u64], place: usize, at: u64) -> bool
+    requires within { place ≤ length moments.now }
+    ensures last { IsTrue result → 0 < place → slice_index moments.now (place - 1) ≤ at }
+    ensures first { IsTrue result → place < length moments.now → at < slice_index moments.now place }
+{
+    (place == 0 || moments[place - 1] <= at) && (place == moments.len() || at < moments[place])
+}
+
+// It takes some steps from a place to where the moments up to this one end.
+fn walk(moments: &[u64], from: usize, at: u64) -> usize
+    ensures within { result ≤ length moments.now }
+{
+    let near = from.min(moments.len());
+    let first = near.saturating_sub(STEPS);
+    let last = moments.len().min(near.saturating_add(STEPS));
+    let mut place = near;
+    'later: while place < last && moments[place] <= at {
+        place += 1;
+    }
+    'earlier: while place > first && at < moments[place - 1] {
+        place -= 1;
+    }
+    place
 }

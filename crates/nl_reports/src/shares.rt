@@ -1,13 +1,12 @@
 //! How much of the time of a build each command counts for.
-ghost use Rattle.std.specs.Prelude.{◌≡◌, ℕ, List, map, max, IfOk};
+ghost use Rattle.std.specs.Prelude.{◌≡◌, ◌-◌, List, get_or, max, IfOk};
 ghost use Rattle.std.specs.List.{All, Contains};
 ghost use Rattle.nl_reports.specs.declared.span.Span.{Span};
 ghost use Rattle.nl_reports.specs.Sweep.{alone_time, busy_time, most_at_once, weight};
-ghost use Rattle.nl_reports.specs.SweepSteps.{Rises};
 ghost use Rattle.nl_reports.specs.Spans.{IsEarly};
 ghost use Rattle.nl_reports.specs.Shares.{AreSharesOf};
 
-use crate::moments::Moments;
+use crate::moments::{Moments, Near, up_to};
 use crate::span::Span;
 use crate::sweep::{Sweeping, sweep};
 use std::alloc::{AllocError, Global};
@@ -44,13 +43,13 @@ impl Shares {
     }
 
     /// How many commands run at a time at most.
-    pub fn most(&self, spans: &[Span]) -> u64
-        requires shares { AreSharesOf spans.now self.now }
-        ensures value { result ≡ most_at_once spans.now }
+    pub fn most(&self) -> u64
+        ensures value { (cs : List Span) → AreSharesOf cs self.now → result ≡ most_at_once cs }
     {
         let mut most = 0;
-        for span in spans {
-            most = larger(most, self.moments.running(span.began));
+        let mut near = Near { begun: 0, ended: 0 };
+        for at in &self.moments.starts {
+            most = larger(most, self.moments.running_near(&mut near, *at));
         }
         most
     }
@@ -60,19 +59,21 @@ impl Shares {
         ensures value { (cs : List Span) → AreSharesOf cs self.now → Contains cs span.now
             → result ≡ weight cs span.now }
     {
+        self.weight_near(&mut Near { begun: 0, ended: 0 }, span)
+    }
+
+    /// It is the quicker the nearer the command is to the one before.
+    pub(crate) fn weight_near(&self, near: &mut Near, span: &Span) -> u64
+        ensures value { (cs : List Span) → AreSharesOf cs self.now → Contains cs span.now
+            → result ≡ weight cs span.now }
+    {
         if span.ended <= span.began {
             return 0;
         }
-        let before = share_at(
-            self.moments.starts.as_slice(),
-            self.swept.at_starts.as_slice(),
-            span.began,
-        );
-        let after = share_at(
-            self.moments.ends.as_slice(),
-            self.swept.at_ends.as_slice(),
-            span.ended,
-        );
+        near.begun = up_to(self.moments.starts.as_slice(), near.begun, span.began);
+        near.ended = up_to(self.moments.ends.as_slice(), near.ended, span.ended);
+        let before = share_at(self.swept.at_starts.as_slice(), near.begun);
+        let after = share_at(self.swept.at_ends.as_slice(), near.ended);
         after.saturating_sub(before)
     }
 }
@@ -83,13 +84,9 @@ fn larger(a: u64, b: u64) -> u64
     a.max(b)
 }
 
-// What stands in the second list where the first has the moment.
-fn share_at(moments: &[u64], shares: &[u64], moment: u64) -> u64
-    ensures value { (f : ℕ → ℕ) → Rises moments.now → shares.now ≡ map f moments.now
-        → Contains moments.now moment → result ≡ f moment }
+// What stands before a place.
+fn share_at(shares: &[u64], place: usize) -> u64
+    ensures { result ≡ get_or shares.now (place - 1) 0 }
 {
-    let Ok(at) = moments.binary_search(&moment) else {
-        return 0;
-    };
-    if at < shares.len() { shares[at] } else { 0 }
+    shares.get(place.saturating_sub(1)).copied().unwrap_or(0)
 }

@@ -1,5 +1,5 @@
 //! The text of `summary`.
-ghost use Rattle.std.specs.Prelude.{◌≡◌, ◌+◌, ◌++◌, ◌∷◌, ◌<◌, ◌≤◌, ◌^◌, ℕ, List, None, Some, map, option_map, IfOk, OnOk};
+ghost use Rattle.std.specs.Prelude.{◌≡◌, ◌+◌, ◌++◌, ◌<◌, ◌^◌, ℕ, List, None, Some, map, option_map, IfOk, OnOk};
 ghost use Rattle.std.specs.List.{All, Contains};
 ghost use Rattle.nl_reports.specs.Jobs.{build_jobs, seen, told};
 ghost use Rattle.nl_reports.specs.Kinds.{IsOfOne};
@@ -8,8 +8,7 @@ ghost use Rattle.nl_reports.specs.Rows.{rank_told, told_job, told_jobs, told_row
 ghost use Rattle.nl_tool_texts.specs.Falling.{falling};
 ghost use Rattle.nl_reports.specs.Shares.{AreSharesOf};
 ghost use Rattle.nl_reports.specs.Spans.{IsEarly};
-ghost use Rattle.nl_reports.specs.Summary.{AreTotalsOf, again_in, again_line, all_lists, both_lists, bound, chosen_text, count_line, facts, few_text, first_of, lists_text, more_taken, most_taken, no_totals, number_lines, rows_from, slowest_line, slowest_time, summary_text, taken_in, title, total_of, totals_from, unfinished_line, with_build, with_numbers};
-ghost use Rattle.nl_reports.specs.Sweep.{most_at_once};
+ghost use Rattle.nl_reports.specs.Summary.{AreTotalsOf, again_in, again_line, both_lists, bound, chosen_text, count_line, facts, few_text, first_of, lists_text, more_taken, most_taken, no_totals, number_lines, rows_from, slowest_line, slowest_time, summary_text, taken_in, title, total_of, totals_from, unfinished_line, with_build, with_numbers};
 ghost use Rattle.nl_reports.specs.declared.rows.Rank.TheVariants.{Time};
 ghost use Rattle.nl_reports.specs.declared.span.Span.{Span};
 
@@ -17,6 +16,7 @@ use crate::choice::{Choice, Scope, chosen};
 use crate::job::{Job, between, jobs_of};
 use crate::kinds::kinds_of;
 use crate::lists::Lists;
+use crate::moments::Near;
 use crate::numbers::{Numbers, numbers_of, spans_of};
 use crate::rows::{Listed, Rank, Row, Sums, append_list};
 use crate::shares::Shares;
@@ -188,15 +188,14 @@ fn add_build<'a>(
     let spans = spans_of(alloc, jobs.as_slice())?;
     let shares = Shares::of(alloc, spans.as_slice())?;
     let numbers = numbers_of(from, number, jobs.as_slice());
-    let most = shares.most(spans.as_slice());
-    all.totals = with_numbers(&all.totals, &numbers, &shares, most);
+    all.totals = with_numbers(&all.totals, &numbers, &shares);
     push_rows(jobs.as_slice(), &shares, &mut all.rows)
 }
 
-fn with_numbers(totals: &Totals, numbers: &Numbers, shares: &Shares, most: u64) -> Totals
+fn with_numbers(totals: &Totals, numbers: &Numbers, shares: &Shares) -> Totals
     requires few { (n : ℕ) × ((n < 2 ^ 63) × AreTotalsOf n totals.now) }
     requires small { IsSmall numbers.now }
-    ensures value { (cs : List Span) → AreSharesOf cs shares.now → most ≡ most_at_once cs → result ≡ with_numbers totals.now numbers.now cs }
+    ensures value { (cs : List Span) → AreSharesOf cs shares.now → result ≡ with_numbers totals.now numbers.now cs }
     ensures few { (n : ℕ) → AreTotalsOf n totals.now → AreTotalsOf (n + 1) result }
 {
     Totals {
@@ -204,7 +203,7 @@ fn with_numbers(totals: &Totals, numbers: &Numbers, shares: &Shares, most: u64) 
         wall: totals.wall + u128::from(numbers.wall),
         busy: totals.busy + u128::from(shares.busy()),
         alone: totals.alone + u128::from(shares.alone()),
-        most: totals.most.max(most),
+        most: totals.most.max(shares.most()),
     }
 }
 
@@ -220,13 +219,15 @@ fn push_rows<'a>(
         (map told_row rows.new.items ≡ map told_row rows.old.items ++ told_jobs (map seen jobs.now)) }
     ensures one { OnOk result (All IsOfOne rows.new.items) }
 {
+    rows.reserve(jobs.len())?;
+    let mut near = Near { begun: 0, ended: 0 };
     for job in jobs {
-        rows.push(row_of(job, shares))?;
+        rows.push(row_of(job, shares, &mut near))?;
     }
     Ok(())
 }
 
-fn row_of<'a>(job: &Job<'_, 'a>, shares: &Shares) -> Row<'a>
+fn row_of<'a>(job: &Job<'_, 'a>, shares: &Shares, near: &mut Near) -> Row<'a>
     ensures value { (cs : List Span) → AreSharesOf cs shares.now → Contains cs job.now.span
         → told_row result ≡ told_job cs (seen job.now) }
     ensures one { IsEarly job.now.span → IsOfOne result }
@@ -236,7 +237,7 @@ fn row_of<'a>(job: &Job<'_, 'a>, shares: &Shares) -> Row<'a>
         sums: Sums {
             commands: 1,
             time: u128::from(job.span.time()),
-            weight: u128::from(shares.weight(&job.span)),
+            weight: u128::from(shares.weight_near(near, &job.span)),
         },
     }
 }

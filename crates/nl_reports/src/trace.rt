@@ -13,7 +13,7 @@ use crate::events::{BuildEvent, append_build, append_command, append_running};
 use crate::frame::first_began;
 use crate::job::{Job, between};
 use crate::lanes::{lane_at, lanes_of};
-use crate::moments::Moments;
+use crate::moments::{Moments, Near};
 use crate::numbers::spans_of;
 use crate::summary::most_taken;
 use crate::turns::jobs_in_turn;
@@ -95,19 +95,31 @@ fn write_events<W: Write>(
     };
     let mut held = Vec::from_slice(alloc, b"[")?;
     append_build(alloc, build, &mut held)?;
+    let mut near = NearBoth {
+        began: Near { begun: 0, ended: 0 },
+        closed: Near { begun: 0, ended: 0 },
+    };
     for i in 0..jobs.len() {
         let lane = lane_at(lanes.as_slice(), i);
-        append_events(alloc, build, &moments, lane, &jobs[i], &mut held)?;
+        append_events(alloc, build, &moments, &mut near, lane, &jobs[i], &mut held)?;
         write_full(&mut held, writer)?;
     }
     append(b"]", &mut held)?;
     write_rest(held, writer)
 }
 
+// Near where the last command began, and near where it had ended.
+#[derive(Clone, Copy, Drop)]
+struct NearBoth {
+    began: Near,
+    closed: Near,
+}
+
 fn append_events(
     alloc: Global,
     build: BuildEvent,
     moments: &Moments,
+    near: &mut NearBoth,
     lane: u64,
     job: &Job<'_, '_>,
     out: &mut Vec<u8>,
@@ -118,6 +130,6 @@ fn append_events(
         (out.new.items ≡ out.old.items ++ behind_commas (events_of build cs (seen job.now, lane))) }
 {
     append_command(alloc, build, lane, job, out)?;
-    append_running(build, moments, job.span.began, out)?;
-    append_running(build, moments, job.span.closed(), out)
+    append_running(build, moments, &mut near.began, job.span.began, out)?;
+    append_running(build, moments, &mut near.closed, job.span.closed(), out)
 }

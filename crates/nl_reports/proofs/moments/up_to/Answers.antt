@@ -1,19 +1,31 @@
-use Rattle.std.proofs.Common.{◌≤◌, ◌<◌, ℕ, length, get_or, rules, sym, arith}
+use Rattle.std.proofs.Common.{◌<◌, ◌≤◌, ℕ, length, get_or, rules, arith}
 use Rattle.std.specs.Prelude.{nat_le}
+use Rattle.std.proofs.lemmas.Bool.{leb-false, leb-true}
 use Rattle.std.proofs.lemmas.List.{get_or_default}
 use Rattle.std.proofs.lemmas.List.Sorted.{IsPartitionedBy-leb, IsPartitionPoint-from_clause}
-use Rattle.nl_reports.proofs.MomentLemmas.{counted_up_to}
+use Rattle.nl_reports.specs.SweepSteps.{Rises}
+use Rattle.nl_reports.proofs.MomentLemmas.{begins_after, ends_before}
 use Rattle.nl_reports.proofs.moments.up_to.Goals as goal
+
+pub returns-then-is_end : goal.returns-then-is_end
+returns-then-is_end c =
+    let moments = c.args.moments.now in
+    let place = c.walk-place.result in
+    record {
+      within = c.walk-place.ensures.within;
+      before = λ rise. ends_before moments place c.args.at rise c.walk-place.ensures.within (c.is_end.ensures.last c.if-is_end.true);
+      after = λ rise. begins_after moments place c.args.at rise (c.is_end.ensures.first c.if-is_end.true);
+    }
 
 pub returns : goal.returns
 returns c =
     let moments = c.args.moments.now in
+    let order : Rises moments → (i j d : ℕ) → i ≤ j → j < length moments → get_or moments i d ≤ get_or moments j d =
+    λ rise i j d before within. omega (arith, rise.order i j before within, get_or_default moments i d 0 (omega (arith, before, within)), get_or_default moments j d 0 within) in
+    let point = λ (rise : Rises moments). IsPartitionPoint-from_clause (λ (m : ℕ). nat_le m c.args.at) moments c.partition_point.result
+    c.partition_point.ensures.partitioned (IsPartitionedBy-leb (λ (m : ℕ). m) moments c.args.at (order rise)) (λ a r next called. search rules) in
     record {
-      value = λ rise.
-          let order : (i j d : ℕ) → i ≤ j → j < length moments → get_or moments i d ≤ get_or moments j d =
-          λ i j d before within. omega (arith, rise.order i j before within, get_or_default moments i d 0 (omega (arith, before, within)), get_or_default moments j d 0 within) in
-          let point = IsPartitionPoint-from_clause (λ (m : ℕ). nat_le m c.args.at) moments c.partition_point.result c.partition_point.ensures.partitioned
-          (IsPartitionedBy-leb (λ (m : ℕ). m) moments c.args.at order) (λ a r next called. search rules) in
-          sym (counted_up_to (λ (m : ℕ). nat_le m c.args.at) moments c.partition_point.result c.partition_point.ensures.bound
-          (λ k d before. point.0 k d (omega arith) before) (λ k d after there. point.1 k d after there));
+      within = c.partition_point.ensures.bound;
+      before = λ rise k below. leb-true (get_or moments k 0) c.args.at ((point rise).0 k 0 (omega arith) below);
+      after = λ rise k above there. leb-false (get_or moments k 0) c.args.at ((point rise).1 k 0 above there);
     }

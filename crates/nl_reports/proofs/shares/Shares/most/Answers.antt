@@ -1,18 +1,28 @@
-use Rattle.std.proofs.Common.{◌∙◌, ◌+◌, ℕ, List, ap, drop, max, sym}
+use Rattle.std.proofs.Common.{◌∙◌, ◌+◌, ◌<◌, ◌≤◌, ℕ, List, ap, arith, drop, get_or, length, max, sym}
 use Rattle.std.specs.List.{fold}
-use Rattle.std.proofs.lemmas.List.{at_drop_more}
+use Rattle.std.proofs.lemmas.List.{at_drop_more, drop_all}
 use Rattle.nl_reports.specs.Sweep.{running}
-use Rattle.nl_reports.specs.declared.span.Span.{Span}
+use Rattle.nl_reports.proofs.SharesLemmas.{most_of_starts}
 use Rattle.nl_reports.proofs.shares.Shares.most.Goals as goal
 
-pub loop-span-preserved : goal.loop-span-preserved
-loop-span-preserved c =
-    let cs = c.args.spans.now in
-    let i = c.loop-span.span-index in
-    let most = c.loop-span.most in
-    let no : Span = record { began = 0; ended = 0 } in
-    let more = λ (n : ℕ) (s : Span). max n (running cs s.began) in
-    ap (λ (n : ℕ). fold more n (drop (i + 1) cs)) c.larger-most.ensures
-    ∙ ap (λ (n : ℕ). fold more (max most n) (drop (i + 1) cs)) (c.running.ensures.value cs c.requires.shares.moments)
-    ∙ sym (at_drop_more (λ (l : List Span). fold more most l) cs i no c.loop-span-test.true)
-    ∙ c.loop-span.invariant
+pub loop-at-preserved : goal.loop-at-preserved
+loop-at-preserved c = λ cs are.
+    let starts = c.args.self.now.moments.starts.items in
+    let i = c.loop-at.at-index in
+    let most = c.loop-at.most in
+    let items = c.deref-at-items.ensures.value in
+    let within : i < length starts = omega (arith, c.loop-at-test.true, ap (λ (l : List ℕ). length l) items) in
+    ap (λ (n : ℕ). fold (λ m t. max m (running cs t)) n (drop (i + 1) starts)) (c.larger-most.ensures ∙ ap (max most) (c.running_near.ensures.value cs are.moments
+    ∙ ap (λ (l : List ℕ). running cs (get_or l i 0)) items))
+    ∙ sym (at_drop_more (λ (l : List ℕ). fold (λ m t. max m (running cs t)) most l) starts i 0 within)
+    ∙ c.loop-at.invariant cs are
+
+pub returns : goal.returns
+returns c = record {
+  value = λ cs are.
+      let starts = c.args.self.now.moments.starts.items in
+      let i = c.loop-at.at-index in
+      let all : length starts ≤ i = omega (arith, c.loop-at-test.false, ap (λ (l : List ℕ). length l) c.deref-at-items.ensures.value) in
+      ap (λ (l : List ℕ). fold (λ m t. max m (running cs t)) c.loop-at.most l) (sym (drop_all i starts all)) ∙ c.loop-at.invariant cs are
+      ∙ most_of_starts cs starts are.moments.starts;
+}
