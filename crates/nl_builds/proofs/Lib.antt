@@ -1,3 +1,4 @@
+mod CutLemmas
 mod RowLemmas
 mod FallingLemmas
 mod RecordedLemmas

@@ -85,7 +85,7 @@ written_builds stamps new from beside [] = []
 written_builds stamps new from beside (s ∷ ss) =
     written_build stamps new from beside s ss ∷ written_builds stamps new s.to (doubts stamps (nat_lt from new) s) ss
 
--- later builds took at most the outputs that stand behind it, of so many entries
+-- later builds may have taken as many of its outputs as stand behind it, of so many entries
 abbrev pub found_build : ℕ → Seen → Build
 found_build count s = record { to = s.to; began = s.began; how = FoundAgain (count - s.last.to); is_sure = false }
 

@@ -5,7 +5,7 @@
 pub enum How {
     /// By its lines, which stand as Ninja wrote them.
     AsWritten,
-    /// By the moments that its lines tell, because the log was written anew. Later builds took at most so many of its outputs.
+    /// By the moments that its lines tell, because the log was written anew. Later builds may have taken so many of its outputs.
     FoundAgain { taken: usize },
 }
 

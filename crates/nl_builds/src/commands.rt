@@ -11,7 +11,7 @@ use std::alloc::{AllocError, Global};
 pub fn commands_of(alloc: Global, entries: &[EntryRef]) -> Result<Vec<Command>, AllocError>
     ensures value { IfOk result (λ found. found.items ≡ commands entries.now) }
 {
-    let mut found = Vec::new(alloc);
+    let mut found = Vec::with_capacity(alloc, entries.len())?;
     let Some((start, later)) = entries.split_first() else {
         return Ok(found);
     };

@@ -1,10 +1,13 @@
 //! How far a log may have been written anew: no name comes twice there.
-ghost use Rattle.std.specs.Prelude.{◌≡◌, [], IfOk};
+ghost use Rattle.std.specs.Prelude.{◌≡◌, [], map, not, IfOk, OnOk};
+ghost use Rattle.nl_table.specs.History.{holds};
+ghost use Rattle.nl_table.specs.Table.{with_name};
 ghost use Rattle.nl_builds.specs.Builds.{new_names, whole_commands};
 
 use crate::command::Command;
-use nl_fields::{Entry, EntryRef};
-use nl_table::{NameSet, Secret};
+use indexmap::IndexSet;
+use nl_fields::EntryRef;
+use nl_table::Secret;
 use std::alloc::{AllocError, Global};
 
 /// How many entries stand before the first whose name came before.
@@ -15,16 +18,24 @@ pub(crate) fn new_names(
 ) -> Result<usize, AllocError>
     ensures value { IfOk result (λ count. count ≡ new_names [] entries.now) }
 {
-    let mut names = NameSet::new(alloc, secret);
+    let mut names = IndexSet::with_hasher(alloc, secret);
     let mut count = 0;
     for entry in entries {
-        let owned = Entry::of(alloc, entry)?;
-        if !names.add(&owned.name)? {
+        if !add(entry.name(), &mut names)? {
             return Ok(count);
         }
         count += 1;
     }
     Ok(count)
+}
+
+// Whether it is new.
+fn add<'a>(name: &'a [u8], names: &mut IndexSet<&'a [u8], Secret>) -> Result<bool, AllocError>
+    ensures names { OnOk result
+        (map (λ n. n.now) names.new.keys ≡ with_name (map (λ n. n.now) names.old.keys) name.now) }
+    ensures is_new { IfOk result (λ is_new. is_new ≡ not (holds (map (λ n. n.now) names.old.keys) name.now)) }
+{
+    Ok(names.insert(name)?)
 }
 
 /// How many commands are whole within so many entries.
