@@ -1,22 +1,21 @@
 -- The kinds of commands.
-use Rattle.std.proofs.Common.{◌≡◌, ◌∙◌, ℕ, ◌+◌, ◌<◌, Bool, true, false, cond, Bor, Option, None, Some, List, [], ◌∷◌, ◌++◌, get_or, length, map, zero, suc, refl, sym, ap, arith}
+use Rattle.std.proofs.Common.{◌≡◌, ◌∙◌, ℕ, ◌+◌, ◌<◌, Bool, true, false, cond, Bor, Option, None, Some, List, [], ◌∷◌, ◌++◌, get_or, length, map, zero, suc, refl, sym, ap, arith, inl, inr}
 use Rattle.std.specs.Prelude.{bytes_eq, slice_get, take}
+use Rattle.std.specs.Cmp.Lexicographic.{bytes_decides}
 use Rattle.std.specs.Map.{lookup}
 use Rattle.std.specs.Option.{unwrap_or}
+use Rattle.std.proofs.lemmas.Bool.{cases_Bool}
 use Rattle.std.proofs.lemmas.List.{map-append, take_more}
 use Rattle.std.proofs.lemmas.List.Sums.{fold_push}
 use Rattle.std.proofs.lemmas.Option.{get_or_from_slice_get, slice_get_within}
 use Rattle.indexmap.specs.IndexMap.{insert_entry}
-use Rattle.nl_reports.specs.Kinds.{AreSumsOf, IsSumOf, added, counted, kind_of, kind_pair, kinds, no_sums, sums_in, with_sums}
+use Rattle.nl_reports.specs.Kinds.{AreSumsOf, IsOfOne, IsSumOf, added, counted, kind_of, kind_pair, kinds, no_sums, same_bytes, sums_in, with_sums}
 use Rattle.nl_reports.specs.Rows.{Told, told_row}
 use Rattle.nl_reports.specs.declared.kind.KindRule.{KindRule}
 use Rattle.nl_reports.specs.declared.rows.Row.{Row}
 use Rattle.nl_reports.specs.declared.rows.Sums.{Sums}
 
 -- ---- a command more
-
-abbrev pub same_bytes : Bor (List ℕ) → Bor (List ℕ) → Bool
-same_bytes a b = bytes_eq a.now b.now
 
 abbrev pub found_sums : Option Sums → Sums
 found_sums found = unwrap_or found no_sums
@@ -41,11 +40,11 @@ no_larger n s is = record {
   weight = omega (arith, is.weight);
 }
 
-none_larger : (n : ℕ) (ps : List (Bor (List ℕ) × Sums)) → AreSumsOf n ps → AreSumsOf (n + 1) ps
+none_larger : (n : ℕ) (ks : List Told) → AreSumsOf n ks → AreSumsOf (n + 1) ks
 none_larger n [] are = tt
-none_larger n (p ∷ ps) are = (no_larger n p.1 are.0, none_larger n ps are.1)
+none_larger n (k ∷ ks) are = (no_larger n k.sums are.0, none_larger n ks are.1)
 
-pub found_within : (n : ℕ) (ps : List (Bor (List ℕ) × Sums)) (kind : List ℕ) → AreSumsOf n ps → IsSumOf n (sums_in ps kind)
+pub found_within : (n : ℕ) (ps : List (Bor (List ℕ) × Sums)) (kind : List ℕ) → AreSumsOf n (map kind_pair ps) → IsSumOf n (sums_in ps kind)
 found_within n [] kind are = record { commands = omega arith; time = omega arith; weight = omega arith }
 found_within n (p ∷ ps) kind are =
     let rest = found_within n ps kind are.1 in
@@ -54,14 +53,58 @@ found_within n (p ∷ ps) kind are =
       | false ↦ rest
     ]
 
-pub inserted_within : (n : ℕ) (ps : List (Bor (List ℕ) × Sums)) (kind : Bor (List ℕ)) (s : Sums) → AreSumsOf n ps
-    → IsSumOf (n + 1) s → AreSumsOf (n + 1) (insert_entry same_bytes ps kind s)
-inserted_within n [] kind s are is = (is, tt)
-inserted_within n (p ∷ ps) kind s are is =
-    let rest = inserted_within n ps kind s are.1 is in
-    elim (bytes_eq kind.now p.0.now) as (λ b. AreSumsOf (n + 1) (cond b ((p.0, s) ∷ ps) (p ∷ insert_entry same_bytes ps kind s))) [
-      | true ↦ (is, none_larger n ps are.1)
-      | false ↦ (no_larger n p.1 are.0, rest)
+one_larger : (n : ℕ) (s : Sums) (r : Row) → IsOfOne r → IsSumOf n s → IsSumOf (n + 1) (added s r.sums)
+one_larger n s r one is = record {
+  commands = omega (arith, is.commands, one.commands);
+  time = omega (arith, is.time, one.time);
+  weight = omega (arith, is.weight, one.weight);
+}
+
+pub counted_within : (n : ℕ) (ks : List Told) (kind : List ℕ) (r : Row) → IsOfOne r → AreSumsOf n ks → AreSumsOf (n + 1) (counted kind ks (told_row r))
+counted_within n [] kind r one are =
+    (one_larger n no_sums r one (record { commands = omega arith; time = omega arith; weight = omega arith }), tt)
+counted_within n (k ∷ ks) kind r one are =
+    let rest = counted_within n ks kind r one are.1 in
+    elim (bytes_eq kind k.name) as (λ b. AreSumsOf (n + 1) (cond b (with_sums k r.sums ∷ ks) (k ∷ counted kind ks (told_row r)))) [
+      | true ↦ (one_larger n k.sums r one are.0, none_larger n ks are.1)
+      | false ↦ (no_larger n k.sums are.0, rest)
+    ]
+
+-- ---- the kind that was met last
+
+bytes_same : (bs : List ℕ) → bytes_eq bs bs ≡ true
+bytes_same bs = (bytes_decides bs bs).1 refl
+
+-- it has the sums that were put there
+pub put_found : (ps : List (Bor (List ℕ) × Sums)) (k : Bor (List ℕ)) (s : Sums) → sums_in (insert_entry same_bytes ps k s) k.now ≡ s
+put_found [] k s = ap (λ b. found_sums (cond b (Some s) None)) (bytes_same k.now)
+put_found (p ∷ ps) k s =
+    let later = lookup (λ (key : Bor (List ℕ)). bytes_eq k.now key.now) in
+    let rest = insert_entry same_bytes ps k s in
+    elim (cases_Bool (bytes_eq k.now p.0.now)) [
+      | inl is ↦ ap (λ b. found_sums (later (cond b ((p.0, s) ∷ ps) (p ∷ rest)))) is ∙ ap (λ b. found_sums (cond b (Some s) (later ps))) is
+      | inr is ↦ ap (λ b. found_sums (later (cond b ((p.0, s) ∷ ps) (p ∷ rest)))) is ∙ ap (λ b. found_sums (cond b (Some p.1) (later rest))) is
+          ∙ put_found ps k s
+    ]
+
+-- and what is put there again stands as if it weren't there before
+pub put_again : (ps : List (Bor (List ℕ) × Sums)) (k kind : Bor (List ℕ)) (s t : Sums) → k.now ≡ kind.now
+    → map kind_pair (insert_entry same_bytes ps kind t) ≡ map kind_pair (insert_entry same_bytes (insert_entry same_bytes ps k s) kind t)
+put_again [] k kind s t same =
+    (λ i. record { name = sym same i; sums = t } ∷ [])
+    ∙ ap (λ b. map kind_pair (cond b ((k, t) ∷ []) ((k, s) ∷ (kind, t) ∷ []))) (sym (ap (λ n. bytes_eq n k.now) (sym same) ∙ bytes_same k.now))
+put_again (p ∷ ps) k kind s t same =
+    let rest = insert_entry same_bytes ps k s in
+    let put = λ (b : Bool). map kind_pair (cond b ((p.0, t) ∷ ps) (p ∷ insert_entry same_bytes ps kind t)) in
+    let both = λ (b : Bool). map kind_pair (insert_entry same_bytes (cond b ((p.0, s) ∷ ps) (p ∷ rest)) kind t) in
+    elim (cases_Bool (bytes_eq k.now p.0.now)) [
+      | inl is ↦
+          let there = ap (λ n. bytes_eq n p.0.now) (sym same) ∙ is in
+          ap put there ∙ sym (ap both is ∙ ap (λ b. map kind_pair (cond b ((p.0, t) ∷ ps) ((p.0, s) ∷ insert_entry same_bytes ps kind t))) there)
+      | inr is ↦
+          let there = ap (λ n. bytes_eq n p.0.now) (sym same) ∙ is in
+          ap put there ∙ ap (λ (l : List Told). kind_pair p ∷ l) (put_again ps k kind s t same)
+          ∙ sym (ap both is ∙ ap (λ b. map kind_pair (cond b ((p.0, t) ∷ rest) (p ∷ insert_entry same_bytes rest kind t))) there)
     ]
 
 -- the kinds of one command more

@@ -1,9 +1,10 @@
 -- The commands of builds by kind (docs/CLI.md, "summary").
-use Rattle.std.specs.Prelude.{◌≡◌, ◌≤◌, ◌<◌, ◌*◌, ◌^◌, ⊤, ℕ, ◌+◌, ◌==◌, bytes_eq, position, List, [], ◌∷◌, take, if◌then◌else◌}
+use Rattle.std.specs.Prelude.{◌≡◌, ◌≤◌, ◌<◌, ◌*◌, ◌^◌, ⊤, ℕ, ◌+◌, ◌==◌, bytes_eq, position, Bool, List, [], ◌∷◌, Option, None, Some, take, if◌then◌else◌}
 use Rattle.std.specs.Borrow.{Bor}
 use Rattle.std.specs.List.{filter, fold}
 use Rattle.std.specs.Map.{lookup}
 use Rattle.std.specs.Option.{option_map_or, unwrap_or}
+use Rattle.indexmap.specs.IndexMap.{insert_entry}
 use Rattle.nl_reports.specs.Rows.{Told}
 use Rattle.nl_reports.specs.declared.kind.KindRule.{KindRule}
 use Rattle.nl_reports.specs.Work.{extension_of, word, work_of}
@@ -63,6 +64,14 @@ kind_pair p = record { name = p.0.now; sums = p.1 }
 abbrev pub sums_in : List (Bor (List ℕ) × Sums) → List ℕ → Sums
 sums_in ps kind = unwrap_or (lookup (λ k. bytes_eq kind k.now) ps) no_sums
 
+abbrev pub same_bytes : Bor (List ℕ) → Bor (List ℕ) → Bool
+same_bytes a b = bytes_eq a.now b.now
+
+-- the kind that was met last is kept apart, with all its sums
+abbrev pub with_last : Option Row → List (Bor (List ℕ) × Sums) → List (Bor (List ℕ) × Sums)
+with_last None ps = ps
+with_last (Some last) ps = insert_entry same_bytes ps last.name last.sums
+
 pub record IsOfOne (r : Row) : Type 0 where
   pub commands : r.sums.commands ≡ 1
   pub time : r.sums.time < 2 ^ 32
@@ -74,6 +83,6 @@ pub record IsSumOf (n : ℕ) (s : Sums) : Type 0 where
   pub time : s.time ≤ n * 2 ^ 64
   pub weight : s.weight ≤ n * 2 ^ 64
 
-abbrev pub AreSumsOf : ℕ → List (Bor (List ℕ) × Sums) → Type 0
+abbrev pub AreSumsOf : ℕ → List Told → Type 0
 AreSumsOf n [] = ⊤
-AreSumsOf n (p ∷ ps) = IsSumOf n p.1 × AreSumsOf n ps
+AreSumsOf n (k ∷ ks) = IsSumOf n k.sums × AreSumsOf n ks

@@ -1,15 +1,17 @@
 //! The bars of commands, and those of commands that are too short for one of their own.
-ghost use Rattle.std.specs.Prelude.{◌≡◌, ◌<◌, ◌≤◌, ◌+◌, ◌^◌, ◌++◌, ◌∷◌, IfOk, OnOk};
-ghost use Rattle.nl_reports.specs.Bars.{bar, base_of, drawn_width, is_last, joined, kind_of, long_bar, marks, more_outputs, name_text, rank_of, rect, title, width_of};
+ghost use Rattle.std.specs.Prelude.{◌≡◌, ◌<◌, ◌≤◌, ◌+◌, ◌^◌, ◌++◌, ◌∷◌, map, IfOk, IsTrue, OnOk};
+ghost use Rattle.std.specs.List.{All};
+ghost use Rattle.nl_reports.specs.Bars.{bar, base_of, drawn_width, is_alike, is_last, joined, kind_of, long_bar, mark_by, marks, more_outputs, name_text, rank_of, rect, title, width_of};
 ghost use Rattle.nl_reports.specs.Jobs.{seen};
 ghost use Rattle.nl_reports.specs.Spans.{IsEarly};
+ghost use Rattle.nl_tool_texts.specs.Falling.{falling};
 
 use crate::frame::{Frame, append_seconds};
 use crate::job::Job;
 use crate::kind::{KindRule, kind_of as kind_by};
 use crate::work::{place, work_of};
 use nl_tool_texts::{
-    Part, Ranking, append, append_cut_name, append_label, append_parts, append_with,
+    Part, Ranking, append, append_cut_name, append_label, append_parts, append_with, falling,
 };
 use std::alloc::{AllocError, Global};
 
@@ -193,14 +195,72 @@ fn base_of(name: &[u8]) -> &[u8]
     &name[folder.len().min(name.len())..]
 }
 
-/// By lane, pixel and kind.
-pub(crate) struct ByPlace;
+/// By lane, pixel and kind, the highest first. What is sorted are the ranks, which are quicker to compare.
+pub(crate) fn by_place(alloc: Global, marks: Vec<Mark>) -> Result<Vec<Mark>, AllocError>
+    ensures value { IfOk result (λ sorted. sorted.items ≡ falling rank_of marks.items) }
+{
+    if !are_told(marks.as_slice()) {
+        return falling(&ByPlace, marks);
+    }
+    let ranks = marks.iter().map(|mark| rank_of(mark)).collect(alloc)?;
+    marks_by(alloc, falling(&ByRank, ranks)?.as_slice())
+}
+
+fn marks_by(alloc: Global, ranks: &[u128]) -> Result<Vec<Mark>, AllocError>
+    ensures value { IfOk result (λ marks. marks.items ≡ map mark_by ranks.now) }
+{
+    let mut marks = Vec::with_capacity(alloc, ranks.len())?;
+    for rank in ranks {
+        marks.push(mark_by(*rank))?;
+    }
+    Ok(marks)
+}
+
+// Whether each is told by its rank, as all are in a picture.
+fn are_told(marks: &[Mark]) -> bool
+    ensures { IsTrue result → All (λ m. mark_by (rank_of m) ≡ m) marks.now }
+{
+    for mark in marks {
+        if !is_alike(&mark_by(rank_of(mark)), mark) {
+            return false;
+        }
+    }
+    true
+}
+
+fn mark_by(rank: u128) -> Mark
+    ensures { result ≡ mark_by rank }
+{
+    Mark {
+        lane: (rank / 32768 % 0x1_0000_0000_0000_0000) as u64,
+        pixel: (rank / 16 % 2048) as u64,
+        kind: (rank % 16) as u64,
+    }
+}
+
+fn rank_of(mark: &Mark) -> u128
+    ensures value { result ≡ rank_of mark.now }
+{
+    (u128::from(mark.lane) * 2048 + u128::from(mark.pixel)) * 16 + u128::from(mark.kind)
+}
+
+struct ByPlace;
 
 impl Ranking<Mark> for ByPlace {
     ghost rank = { λ by mark. rank_of mark };
 
     fn rank(&self, mark: &Mark) -> u128 {
-        (u128::from(mark.lane) * 2048 + u128::from(mark.pixel)) * 16 + u128::from(mark.kind)
+        rank_of(mark)
+    }
+}
+
+struct ByRank;
+
+impl Ranking<u128> for ByRank {
+    ghost rank = { λ by rank. rank };
+
+    fn rank(&self, rank: &u128) -> u128 {
+        *rank
     }
 }
 
@@ -232,9 +292,14 @@ fn is_last(mark: &Mark, rest: &[Mark]) -> bool
     ensures { result ≡ is_last mark.now rest.now }
 {
     match rest.first() {
-        Some(next) => {
-            mark.lane != next.lane || mark.pixel != next.pixel || mark.kind != next.kind
-        }
+        Some(next) => !is_alike(mark, next),
         None => true,
     }
+}
+
+fn is_alike(a: &Mark, b: &Mark) -> bool
+    ensures value { result ≡ is_alike a.now b.now }
+    ensures same { IsTrue result → a.now ≡ b.now }
+{
+    a.lane == b.lane && a.pixel == b.pixel && a.kind == b.kind
 }

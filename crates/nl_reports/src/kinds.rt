@@ -1,8 +1,10 @@
 //! The commands of builds by kind.
-ghost use Rattle.std.specs.Prelude.{◌≡◌, ◌<◌, ◌+◌, ◌^◌, ℕ, map, IfOk, OnOk};
+ghost use Rattle.std.specs.Prelude.{◌≡◌, ◌<◌, ◌^◌, ℕ, Some, map, IfOk, OnOk};
 ghost use Rattle.std.specs.List.{All};
-ghost use Rattle.nl_reports.specs.Kinds.{AreSumsOf, IsOfOne, counted, kind_of, kind_pair, kinds, sums_in};
+ghost use Rattle.indexmap.specs.IndexMap.{insert_entry};
+ghost use Rattle.nl_reports.specs.Kinds.{AreSumsOf, IsOfOne, counted, kind_pair, kinds, same_bytes, sums_in, with_last};
 ghost use Rattle.nl_reports.specs.Rows.{told_row};
+ghost use Rattle.nl_reports.specs.declared.rows.Sums.{Sums};
 
 use crate::kind::{KindRule, kind_of};
 use crate::rows::{Row, Sums};
@@ -21,30 +23,64 @@ pub fn kinds_of<'a>(
     ensures value { IfOk result (λ found. map told_row found.items ≡ kinds rule (map told_row rows.now)) }
 {
     let mut sums = IndexMap::with_hasher(alloc, secret);
+    let mut last = None;
     for row in rows {
-        count_row(kind_of(rule, row.name), row, &mut sums)?;
+        last = Some(count_row(kind_of(rule, row.name), row, last, &mut sums)?);
     }
+    put_last(last, &mut sums)?;
     rows_in(alloc, &sums)
 }
 
+// The sums of the kind of the command before this one aren't put to the others until another kind comes. It answers those of this kind.
 fn count_row<'a>(
     kind: &'a [u8],
     row: &Row<'_>,
+    last: Option<Row<'a>>,
+    sums: &mut IndexMap<&'a [u8], Sums, Secret>,
+) -> Result<Row<'a>, AllocError>
+    requires one { IsOfOne row.now }
+    requires few { (n : ℕ) × ((n < 2 ^ 63) × AreSumsOf n (map kind_pair (with_last last sums.old.entries))) }
+    ensures value { IfOk result (λ now. map kind_pair (with_last (Some now) sums.new.entries)
+        ≡ counted kind.entry.now (map kind_pair (with_last last.entry sums.old.entries)) (told_row row.now)) }
+{
+    let before = sums_before(kind, last, sums)?;
+    Ok(Row {
+        name: kind,
+        sums: Sums {
+            commands: before.commands + row.sums.commands,
+            time: before.time + row.sums.time,
+            weight: before.weight + row.sums.weight,
+        },
+    })
+}
+
+fn sums_before<'a>(
+    kind: &[u8],
+    last: Option<Row<'a>>,
+    sums: &mut IndexMap<&'a [u8], Sums, Secret>,
+) -> Result<Sums, AllocError>
+    ensures value { IfOk result (λ before. before ≡ sums_in (with_last last.entry sums.old.entries) kind.entry.now) }
+    ensures others { (s : Sums) → OnOk result (map kind_pair (insert_entry same_bytes sums.new.entries kind.entry s)
+        ≡ map kind_pair (insert_entry same_bytes (with_last last.entry sums.old.entries) kind.entry s)) }
+{
+    if let Some(run) = last {
+        if run.name == kind {
+            return Ok(run.sums);
+        }
+    }
+    put_last(last, sums)?;
+    Ok(sums_at(kind, sums))
+}
+
+fn put_last<'a>(
+    last: Option<Row<'a>>,
     sums: &mut IndexMap<&'a [u8], Sums, Secret>,
 ) -> Result<(), AllocError>
-    requires one { IsOfOne row.now }
-    requires few { (n : ℕ) × ((n < 2 ^ 63) × AreSumsOf n sums.old.entries) }
-    ensures value { OnOk result
-        (map kind_pair sums.new.entries ≡ counted kind.now (map kind_pair sums.old.entries) (told_row row.now)) }
-    ensures few { (n : ℕ) → AreSumsOf n sums.old.entries → OnOk result (AreSumsOf (n + 1) sums.new.entries) }
+    ensures entries { OnOk result (sums.new.entries ≡ with_last last.entry sums.old.entries) }
 {
-    let before = sums_at(kind, sums);
-    let after = Sums {
-        commands: before.commands + row.sums.commands,
-        time: before.time + row.sums.time,
-        weight: before.weight + row.sums.weight,
-    };
-    sums.insert(kind, after)?;
+    if let Some(run) = last {
+        sums.insert(run.name, run.sums)?;
+    }
     Ok(())
 }
 

@@ -13,7 +13,7 @@ ghost use Rattle.nl_reports.specs.Times.{AreTimesOf};
 ghost use Rattle.nl_tool_texts.specs.Writing.{IsFoundFault, IsWriteFault, Moves, PrintsInPieces, Writes};
 ghost use Rattle.nl_reports.specs.declared.span.Span.{Span};
 
-use crate::bars::{ByPlace, Mark, append_bar, append_mark};
+use crate::bars::{Mark, append_bar, append_mark, by_place};
 use crate::choice::{Scope, chosen};
 use crate::critical::{FoundPath, Ran, path_in};
 use crate::curve::append_curve;
@@ -31,8 +31,7 @@ use crate::work::{Work, place, word};
 use nl_builds::Builds;
 use nl_table::Secret;
 use nl_tool_texts::{
-    Part, Ranking, ToolFault, append, append_label, append_parts, falling, highest, write_full,
-    write_rest,
+    Part, Ranking, ToolFault, append, append_label, append_parts, highest, write_full, write_rest,
 };
 use std::alloc::{AllocError, Global};
 use std::io::Write;
@@ -299,12 +298,7 @@ fn write_bars<W: Write>(
         append_bar(alloc, frame, &jobs[i], lanes[i], &mut short, &mut held)?;
         write_full(&mut held, writer)?;
     }
-    write_marks(
-        frame,
-        falling(&ByPlace, short)?.as_slice(),
-        &mut held,
-        writer,
-    )?;
+    write_marks(frame, by_place(alloc, short)?.as_slice(), &mut held, writer)?;
     append(end, &mut held)?;
     write_rest(held, writer)
 }
