@@ -1,8 +1,9 @@
 //! The commands of two logs, side by side.
-ghost use Rattle.std.specs.Prelude.{◌≡◌, ℕ, List, false, get_or, map, option_map, IfOk};
-ghost use Rattle.nl_reports.specs.Compare.{compared, compared_of, cost_of, fresh, held_side, job_at, new_time, of_class, old_time, or_unfinished, pair_of, partner, side_of, time_in, told_pair, waits, with_taken};
+ghost use Rattle.std.specs.Prelude.{◌≡◌, ◌++◌, [], ℕ, List, false, get_or, map, option_map, IfOk, OnOk};
+ghost use Rattle.nl_reports.specs.Compare.{compared, compared_of, cost_of, fresh, held_side, job_at, new_time, of_class, old_time, or_unfinished, pair_of, pairs_from, partner, side_of, time_in, told_pair, waits, with_taken};
 ghost use Rattle.nl_reports.specs.Jobs.{seen};
-ghost use Rattle.nl_reports.specs.Outputs.{HoldPlaces};
+ghost use Rattle.nl_reports.specs.Lasting.{marked};
+ghost use Rattle.nl_reports.specs.Outputs.{HoldPlaces, places_of};
 
 use crate::class::{Class, class_by_time, class_number};
 use crate::job::{Job, jobs_from};
@@ -99,14 +100,47 @@ fn told_pairs<'a>(
     let outputs = Outputs::of(alloc, secret, new.jobs.as_slice())?;
     let mut left = vec![in alloc; true; new.jobs.len()]?;
     let mut rows = Vec::new(alloc);
+    push_pairs(rules, old, new, &outputs, &mut left, &mut rows)?;
+    push_fresh(old, new, left.as_slice(), &mut rows)?;
+    Ok(rows)
+}
+
+// The commands of the old log, each with the one that it meets, which is then left no more.
+fn push_pairs<'a>(
+    rules: Rules,
+    old: &Held<'_, 'a>,
+    new: &Held<'_, 'a>,
+    outputs: &Outputs<'a>,
+    left: &mut Vec<bool>,
+    rows: &mut Vec<ComparedRow<'a>>,
+) -> Result<(), AllocError>
+    requires held { HoldPlaces (places_of (map seen new.now.jobs.items)) outputs.now.places.entries }
+    ensures rows { OnOk result (map compared_of rows.new.items
+        ++ map (told_pair rules (held_side old.now) (held_side new.now)) (pairs_from (map seen new.now.jobs.items) left.new.items [])
+        ≡ map compared_of rows.old.items ++ map (told_pair rules (held_side old.now) (held_side new.now))
+        (pairs_from (map seen new.now.jobs.items) left.old.items (map seen old.now.jobs.items))) }
+{
     for job in &old.jobs {
-        let place = partner(&outputs, left.as_slice(), job);
+        let place = partner(outputs, left.as_slice(), job);
         let other = take_out(place, new.jobs.as_slice(), left.as_mut_slice());
         rows.push(met(rules, old, new, job, other))?;
     }
+    Ok(())
+}
+
+// The commands that only the new log has.
+fn push_fresh<'a>(
+    old: &Held<'_, 'a>,
+    new: &Held<'_, 'a>,
+    left: &[bool],
+    rows: &mut Vec<ComparedRow<'a>>,
+) -> Result<(), AllocError>
+    ensures rows { OnOk result (map compared_of rows.new.items ≡ map compared_of rows.old.items
+        ++ map (fresh (held_side old.now) (held_side new.now)) (marked left.now (map seen new.now.jobs.items))) }
+{
     let mut place = 0;
     for other in &new.jobs {
-        if is_left(left.as_slice(), place) {
+        if is_left(left, place) {
             rows.push(row(
                 Class::New,
                 old.waits(other),
@@ -117,7 +151,7 @@ fn told_pairs<'a>(
         }
         place += 1;
     }
-    Ok(rows)
+    Ok(())
 }
 
 fn partner(outputs: &Outputs<'_>, left: &[bool], job: &Job<'_, '_>) -> Option<usize>
