@@ -1,11 +1,9 @@
 -- What is left of builds, step by step.
-use Rattle.std.proofs.Common.{◌≡◌, ◌∙◌, ℕ, zero, suc, ◌+◌, ◌<◌, Bool, true, false, cond, ◌||◌, Bor, List, [], ◌∷◌, ◌++◌, drop, get_or, length, map, take, arith, ap, refl, sym}
-use Rattle.std.specs.Prelude.{bytes_eq, nat_lt, not, reverse, if◌then◌else◌}
-use Rattle.std.proofs.lemmas.Bool.{cond-true, cond-false}
+use Rattle.std.proofs.Common.{◌≡◌, ◌∙◌, ℕ, zero, suc, ◌+◌, ◌<◌, Bool, true, false, cond, ◌||◌, Bor, List, [], ◌∷◌, ◌++◌, drop, get_or, length, map, take, append-nil, arith, ap, refl, sym}
+use Rattle.std.specs.Prelude.{bytes_eq, nat_lt, reverse, if◌then◌else◌}
 use Rattle.std.proofs.lemmas.List.{length-reverse, map-append, reverse-append, take_more}
 use Rattle.std.proofs.lemmas.List.Folds.{list_any-append}
 use Rattle.nl_fields.specs.declared.entry.Entry.{Entry}
-use Rattle.nl_table.specs.Table.{entry_names}
 use Rattle.nl_builds.specs.declared.command.Command.{Command}
 use Rattle.nl_reports.specs.Lasting.{commands_left, is_among, last_entries}
 
@@ -48,26 +46,10 @@ behind_place others (e ∷ es) zero = refl
 behind_place others (e ∷ es) (suc place) = behind_place others es place
 
 -- an entry more, before those that are done, which is left or isn't
-pub entry_left : (others : List (List ℕ)) (e : Entry) (done left new : List Entry) (is_new : Bool)
-    → is_new ≡ not (is_among e.name (entry_names done ++ others)) → is_new ≡ true → new ≡ left ++ e ∷ []
-    → reverse left ≡ last_entries others done → reverse new ≡ last_entries others (e ∷ done)
-entry_left others e done left new is_new is there pushed before =
-    ap reverse pushed ∙ reverse-append left (e ∷ []) ∙ ap (λ (l : List Entry). e ∷ l) before
-    ∙ sym (cond-false (is_among e.name (entry_names done ++ others)) _ _ (other (is_among e.name (entry_names done ++ others)) (sym is ∙ there)))
-  where
-    other : (b : Bool) → not b ≡ true → b ≡ false
-    other true is = sym is
-    other false is = refl
-
-pub entry_gone : (others : List (List ℕ)) (e : Entry) (done left : List Entry) (is_new : Bool)
-    → is_new ≡ not (is_among e.name (entry_names done ++ others)) → is_new ≡ false
-    → reverse left ≡ last_entries others done → reverse left ≡ last_entries others (e ∷ done)
-entry_gone others e done left is_new is gone before =
-    before ∙ sym (cond-true (is_among e.name (entry_names done ++ others)) _ _ (other (is_among e.name (entry_names done ++ others)) (sym is ∙ gone)))
-  where
-    other : (b : Bool) → not b ≡ false → b ≡ true
-    other true is = refl
-    other false is = sym is
+pub entry_taken : (held : Bool) (e : Entry) (left new last : List Entry) → new ≡ left ++ cond held [] (e ∷ []) → reverse left ≡ last
+    → reverse new ≡ cond held last (e ∷ last)
+entry_taken true e left new last is before = ap reverse (is ∙ append-nil left) ∙ before
+entry_taken false e left new last is before = ap reverse is ∙ reverse-append left (e ∷ []) ∙ ap (λ (l : List Entry). e ∷ l) before
 
 pub count_more : (others : List (List ℕ)) (e : Entry) (done left : List Entry) (count : ℕ) (old new : List ℕ)
     → reverse left ≡ last_entries others (e ∷ done) → count ≡ length left → new ≡ old ++ count ∷ []

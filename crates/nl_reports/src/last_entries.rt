@@ -1,5 +1,5 @@
 //! Builds without what later ones made again.
-ghost use Rattle.std.specs.Prelude.{◌≡◌, ◌-◌, ℕ, List, drop, get_or, length, map, take, IfOk};
+ghost use Rattle.std.specs.Prelude.{◌≡◌, ◌-◌, ◌++◌, ◌∷◌, ◌||◌, [], ℕ, List, bytes_eq, drop, get_or, if◌then◌else◌, length, map, take, IfOk, OnOk};
 ghost use Rattle.nl_reports.specs.Jobs.{told};
 ghost use Rattle.nl_reports.specs.Lasting.{builds_left, commands_left, is_among, is_held, last_entries, lasting, whole};
 
@@ -51,18 +51,34 @@ fn last_entries<'a>(
         ≡ length (last_entries (map (λ n. n.now) waiting.now) (drop place entries.entry.items))) }
 {
     let mut later = names_of(alloc, secret, waiting)?;
-    let mut left = Vec::new(alloc);
+    let mut left = Vec::with_capacity(alloc, entries.len())?;
     let mut behind = Vec::with_capacity(alloc, entries.len())?;
     let mut rest = entries;
     'entries: while let Some(entry) = rest.pop() {
-        if later.insert(entry.name())? {
-            left.push(entry)?;
-        }
-        behind.push(left.len())?;
+        take(entry, &mut later, &mut left, &mut behind)?;
     }
     left.reverse();
     behind.reverse();
     Ok((left, behind))
+}
+
+// An entry of which later ones are known: it is left if none has its name.
+fn take<'a>(
+    entry: EntryRef<'a>,
+    later: &mut IndexSet<&'a [u8], Secret>,
+    left: &mut Vec<EntryRef<'a>>,
+    behind: &mut Vec<usize>,
+) -> Result<(), AllocError>
+    ensures later { (name : List ℕ) → OnOk result (is_held later.new.keys name ≡ (bytes_eq entry.entry.name name || is_held later.old.keys name)) }
+    ensures left { OnOk result (left.new.items
+        ≡ left.old.items ++ (if is_held later.old.keys entry.entry.name then [] else entry.entry ∷ [])) }
+    ensures behind { OnOk result (behind.new.items ≡ behind.old.items ++ length left.new.items ∷ []) }
+{
+    if later.insert(entry.name())? {
+        left.push(entry)?;
+    }
+    behind.push(left.len())?;
+    Ok(())
 }
 
 /// Names are hashed under a secret.

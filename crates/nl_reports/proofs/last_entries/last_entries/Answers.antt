@@ -1,10 +1,9 @@
-use Rattle.std.proofs.Common.{◌≡◌, ◌∙◌, ◌∷◌, ◌++◌, [], List, ap, append_assoc, arith, drop, get_or, length, map, not, reverse, sym}
+use Rattle.std.proofs.Common.{◌≡◌, ◌∙◌, ◌∷◌, ◌++◌, [], Bool, List, ap, append_assoc, arith, cond, drop, get_or, length, map, refl, sym}
 use Rattle.std.specs.Prelude.{◌||◌, bytes_eq}
 use Rattle.nl_fields.specs.declared.entry.Entry.{Entry}
 use Rattle.nl_table.specs.Table.{entry_names}
-use Rattle.nl_reports.specs.Lasting.{is_among, is_held, last_entries}
-use Rattle.nl_reports.proofs.LastingLemmas.{behind_place, count_more, entry_gone, entry_left, none_left, or_is}
-use Rattle.nl_reports.proofs.last_entries.last_entries.Goals.{then-branch+in_ok-push, else-branch}
+use Rattle.nl_reports.specs.Lasting.{is_among, last_entries}
+use Rattle.nl_reports.proofs.LastingLemmas.{behind_place, count_more, entry_taken, none_left}
 use Rattle.nl_reports.proofs.last_entries.last_entries.Goals as goal
 
 pub entries-preserved : goal.entries-preserved
@@ -12,26 +11,17 @@ entries-preserved c =
     let others = map (λ n. n.now) c.args.waiting.now in
     let e = c.in-Some.entry in
     let done = c.entries.invariant.done in
-    let keys = c.entries.later.keys in
-    let name = c.name.result in
-    let is_new : c.in_ok-insert.field-0 ≡ not (is_among e.name (entry_names done ++ others)) =
-    c.in_ok-insert.ensures.added ∙ ap not (c.entries.invariant.later name.now)
-    ∙ ap (λ n. not (is_among n (entry_names done ++ others))) c.name.ensures.value in
-    let left : reverse c.if-branch.left.items ≡ last_entries others (e ∷ done) = elim c.if-branch.branch [
-      | then-branch+in_ok-push w ↦ entry_left others e done c.entries.left.items _ _ is_new w.if-branch.true
-          (ap (λ v. v.items) w.left-is ∙ w.in_ok-push.ensures.items) c.entries.invariant.left
-      | else-branch w ↦ ap (λ v. reverse v.items) w.left-is
-          ∙ entry_gone others e done c.entries.left.items _ is_new w.if-branch.false c.entries.invariant.left
-    ] in
-    let counted : c.len-in-Some.result ≡ length c.if-branch.left.items = omega (arith, c.len-in-Some.ensures) in
+    let old = c.entries.left.items in
+    let later = c.entries.invariant.later in
+    let left = entry_taken (is_among e.name (entry_names done ++ others)) e old _ (last_entries others done)
+    (c.in_ok-take.ensures.left ∙ (λ i. old ++ cond (later e.name i) [] (e ∷ []))) c.entries.invariant.left in
     record {
       done = e ∷ done;
       whole = c.entries.invariant.whole ∙ ap (λ (l : List Entry). l ++ done) c.in-Some.ensures.items
           ∙ append_assoc c.pop.new.self.items (e ∷ []) done;
-      later = λ n. c.in_ok-insert.ensures.updates.0 (record { ref_ptr = (0, 0); now = n }) ∙ or_is (bytes_eq name.now n) (is_held keys n)
-          ∙ (λ i. bytes_eq (c.name.ensures.value i) n || c.entries.invariant.later n i);
+      later = λ n. c.in_ok-take.ensures.later n ∙ ap (λ (b : Bool). bytes_eq e.name n || b) (later n);
       left = left;
-      behind = count_more others e done c.if-branch.left.items _ c.entries.behind.items _ left counted c.in_ok-push-2.ensures.items
+      behind = count_more others e done c.take.new.left.items _ c.entries.behind.items _ left refl c.in_ok-take.ensures.behind
           c.entries.invariant.behind;
     }
 
