@@ -1,10 +1,10 @@
 -- What the commands of a row tell of each other: from the last one on, and of ENDs that rise.
-use Rattle.std.proofs.Common.{◌≡◌, ◌∙◌, ℕ, ◌+◌, ◌-◌, ◌<◌, ◌≤◌, ◌&&◌, Bool, true, false, List, [], ◌∷◌, ◌++◌, length, get_or, None, Some, refl, sym, ap, arith, reverse, inl, inr}
+use Rattle.std.proofs.Common.{◌≡◌, ◌∙◌, ℕ, ◌+◌, ◌-◌, ◌<◌, ◌≤◌, ◌&&◌, Bool, true, false, List, [], ◌∷◌, ◌++◌, length, get_or, None, Some, refl, sym, ap, arith, inl, inr}
 use Rattle.std.specs.Prelude.{nat_le, nat_lt}
 use Rattle.std.specs.List.{list_any}
 use Rattle.std.specs.List.Sorted.{IsNonDecreasing, IsPartitionPoint, IsPartitionedBy}
 use Rattle.std.proofs.lemmas.Bool.{cases_lt, cond-false, cond-true, le-leb, le-ltb, lt-leb, lt-ltb, ltb-false, ltb-true}
-use Rattle.std.proofs.lemmas.List.{get_or_default, reverse-append}
+use Rattle.std.proofs.lemmas.List.{get_or_default}
 use Rattle.std.proofs.lemmas.List.Folds.{list_any_at, list_any_none}
 use Rattle.nl_builds.specs.Commands.{first_of, is_at_once, row_to, waited, with_next, with_rows}
 use Rattle.nl_builds.specs.declared.command.Command.{Command}
@@ -20,20 +20,10 @@ pub rows_onto_nothing : (cs : List Command) → rows_onto cs [] ≡ with_rows cs
 rows_onto_nothing [] = refl
 rows_onto_nothing (c ∷ cs) = ap (λ (r : List Command). with_next c (first_of r) ∷ r) (rows_onto_nothing cs)
 
-rows_onto_last : (cs : List Command) (d : Command) (told : List Command)
+pub rows_onto_last : (cs : List Command) (d : Command) (told : List Command)
     → rows_onto (cs ++ d ∷ []) told ≡ rows_onto cs (with_next d (first_of told) ∷ told)
 rows_onto_last [] d told = refl
 rows_onto_last (c ∷ cs) d told = ap (λ (r : List Command). with_next c (first_of r) ∷ r) (rows_onto_last cs d told)
-
--- a command that was the last of those without it is the first of those with it, which are held the other way round
-pub rows_pushed : (cs : List Command) (d told : Command) (found new all : List Command) → new ≡ found ++ told ∷ []
-    → told ≡ with_next d (first_of (reverse found)) → rows_onto (cs ++ d ∷ []) (reverse found) ≡ all → rows_onto cs (reverse new) ≡ all
-rows_pushed cs d told found new all is told_is held =
-    ap (λ (l : List Command). rows_onto cs (reverse l)) is ∙ ap (rows_onto cs) (reverse-append found (told ∷ []))
-    ∙ ap (λ (t : Command). rows_onto cs (t ∷ reverse found)) told_is ∙ sym (rows_onto_last cs d (reverse found)) ∙ held
-
-pub first_pushed : (told : Command) (found new : List Command) → new ≡ found ++ told ∷ [] → Some told ≡ first_of (reverse new)
-first_pushed told found new is = sym (ap (λ (l : List Command). first_of (reverse l)) is ∙ ap first_of (reverse-append found (told ∷ [])))
 
 -- ---- of ENDs that rise
 

@@ -91,11 +91,14 @@ abbrev pub row_to : List ℕ → ℕ → List ℕ
 row_to row ended = if list_any (nat_lt ended) row then [] else row
 
 -- each with its START, if it waited for one before it in its row
+abbrev pub with_wait : Command → Option ℕ → Command
+with_wait c wait = record c { has_waited = is_some wait; wait = wait }
+
 abbrev pub with_waits : List ℕ → List Command → List Command
 with_waits row [] = []
 with_waits row (c ∷ cs) =
     let before = row_to row c.ended in
-    record c { has_waited = is_some (waited before c); wait = waited before c } ∷ with_waits (before ++ c.ended ∷ []) cs
+    with_wait c (waited before c) ∷ with_waits (before ++ c.ended ∷ []) cs
 
 -- of it and of those behind it in its row the least `hi`, and the least START of one that waited
 abbrev pub with_next : Command → Option Command → Command

@@ -1,6 +1,5 @@
 //! The builds of a log's entries.
-ghost use Rattle.std.specs.Prelude.{◌≡◌, ◌++◌, ◌+◌, ◌<◌, ◌≤◌, ◌^◌, List, [], length, drop, take, false, map, IfOk};
-ghost use Rattle.nl_builds.specs.Commands.{commands, with_waits};
+ghost use Rattle.std.specs.Prelude.{◌≡◌, ◌++◌, ◌+◌, ◌<◌, ◌≤◌, ◌^◌, List, length, drop, take, false, map, IfOk};
 ghost use Rattle.nl_builds.specs.Builds.{again, beside_doubts, builds_of, entries_of, falls_at, found_build, is_before, IsTold, new_commands, told_by, told_with, written_build, written_builds};
 
 use crate::build::{Build, How};
@@ -34,7 +33,7 @@ pub fn builds_of<'a>(
 ) -> Result<Builds<'a>, AllocError>
     ensures value { IfOk result (λ told. IsTold (builds_of stamps entries.entry.items) told.entries.items told.commands.items told.builds.items) }
 {
-    let commands = with_rows(alloc, waiting_commands(alloc, entries.as_slice())?)?;
+    let commands = with_rows(with_waits(alloc, commands_of(alloc, entries.as_slice())?)?);
     let seen = walk(alloc, Order::Written, stamps, 0, true, commands.as_slice())?;
     let back = first_back(stamps, seen.as_slice());
     let counts = back.is_some() || stamps.is_end();
@@ -54,13 +53,6 @@ pub fn builds_of<'a>(
         commands,
         builds,
     })
-}
-
-fn waiting_commands(alloc: Global, entries: &[EntryRef]) -> Result<Vec<Command>, AllocError>
-    ensures value { IfOk result (λ found. found.items ≡ with_waits [] (commands entries.now)) }
-{
-    let found = commands_of(alloc, entries)?;
-    with_waits(alloc, found.as_slice())
 }
 
 fn new_commands(

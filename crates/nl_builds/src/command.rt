@@ -1,6 +1,6 @@
 //! A command of a log, as the entries of its outputs tell it.
 ghost use Rattle.std.specs.Prelude.{◌≡◌};
-ghost use Rattle.nl_builds.specs.Commands.{agreed, falls, is_manifest_name, is_more, is_same, latest, longer, moment, one, tells, with_next};
+ghost use Rattle.nl_builds.specs.Commands.{agreed, falls, is_manifest_name, is_more, is_same, latest, longer, moment, one, tells, with_next, with_wait};
 
 use crate::moment::{least, moment_at};
 use nl_fields::EntryRef;
@@ -70,6 +70,17 @@ impl Command {
             to,
             up: latest(mtime, self.began),
             is_manifest: self.is_manifest || is_manifest_name(entry.name()),
+            ..self
+        }
+    }
+
+    // With its START, if it waited.
+    pub(crate) fn with_wait(self, wait: Option<u64>) -> Command
+        ensures value { result ≡ with_wait self wait }
+    {
+        Command {
+            has_waited: wait.is_some(),
+            wait,
             ..self
         }
     }

@@ -35,20 +35,16 @@ pub fn commands_of(alloc: Global, entries: &[EntryRef]) -> Result<Vec<Command>, 
 }
 
 /// Each with its START, if it waited for one before it in its row.
-pub(crate) fn with_waits(alloc: Global, commands: &[Command]) -> Result<Vec<Command>, AllocError>
-    ensures value { IfOk result (λ found. found.items ≡ with_waits [] commands.now) }
+pub(crate) fn with_waits(alloc: Global, commands: Vec<Command>) -> Result<Vec<Command>, AllocError>
+    ensures value { IfOk result (λ found. found.items ≡ with_waits [] commands.items) }
 {
-    let mut found = Vec::with_capacity(alloc, commands.len())?;
+    let mut found = commands;
     let mut row = Vec::new(alloc);
-    for command in commands {
+    for i in 0..found.len() {
+        let command = found[i];
         cut_row(&mut row, command.ended);
-        let wait = waited(row.as_slice(), command);
-        let has_waited = wait.is_some();
-        found.push(Command {
-            has_waited,
-            wait,
-            ..*command
-        })?;
+        let wait = waited(row.as_slice(), &command);
+        found[i] = command.with_wait(wait);
         row.push(command.ended)?;
     }
     Ok(found)
@@ -83,17 +79,17 @@ fn waited(row: &[u32], command: &Command) -> Option<u64>
 }
 
 /// Each with what it and those behind it in its row tell.
-pub(crate) fn with_rows(alloc: Global, commands: Vec<Command>) -> Result<Vec<Command>, AllocError>
-    ensures value { IfOk result (λ found. found.items ≡ with_rows commands.items) }
+pub(crate) fn with_rows(commands: Vec<Command>) -> Vec<Command>
+    ensures value { result.items ≡ with_rows commands.items }
 {
-    let mut found = Vec::with_capacity(alloc, commands.len())?;
-    let mut rest = commands;
+    let mut found = commands;
     let mut next = None;
-    'commands: while let Some(command) = rest.pop() {
-        let told = command.with_next(next);
-        found.push(told)?;
+    let mut at = found.len();
+    'commands: while at > 0 {
+        at -= 1;
+        let told = found[at].with_next(next);
+        found[at] = told;
         next = Some(told);
     }
-    found.reverse();
-    Ok(found)
+    found
 }
