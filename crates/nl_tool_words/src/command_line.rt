@@ -1,8 +1,7 @@
 //! What a command line says, read by `clap`.
 ghost use Rattle.std.specs.Prelude.{◌≡◌, codes, map, option_map, string_bytes, IfErr, IfOk};
-ghost use Rattle.clap.specs.Kinds.{or_else};
 ghost use Rattle.clap.specs.Words.{kind_of, subcommand_rows_of, FailsBy};
-ghost use Rattle.nl_tool_words.specs.CommandLine.{IsAsked, IsSaid, asks_both, asks_twice, choice_fault, entered_of, fault_in, given_in, input_fault, is_flagged, is_kind_text, is_path, jobs_fault, kind_fault, lacks_graph, path_in_place, scope_fault, version_fault, version_id};
+ghost use Rattle.nl_tool_words.specs.CommandLine.{IsAsked, IsSaid, asks_twice, choice_fault, entered_of, fault_in, given_in, input_fault, is_flagged, is_kind_text, is_path, jobs_fault, kind_fault, path_in_place, scope_fault, version_fault, version_id};
 
 use crate::shape::nlog_command;
 use crate::version::{AskedVersion, tells_version, version_for};
@@ -12,7 +11,7 @@ use clap::{ArgMatches, Error};
 use std::alloc::{AllocError, Global};
 
 /// What a command line says: a command with its values, and its options.
-#[derive(Clone, Copy, Debug, PartialEq, Eq)]
+#[derive(Clone, Copy, PartialEq, Eq)]
 pub struct CommandLine<'a> {
     pub words: Words<'a>,
     /// The version of the log, where the command line asks for one.
@@ -119,32 +118,21 @@ fn version_in<'a>(alloc: Global, matches: &ArgMatches<'a>) -> Result<Option<Aske
 fn known_choices(alloc: Global, matches: &ArgMatches<'_>) -> Result<(), Error>
     ensures accepts { FailsBy (choice_fault (subcommand_rows_of matches.now)) result }
 {
-    known_scope_and_kind(alloc, matches)?;
-    known_inputs(alloc, matches)
-}
-
-fn known_scope_and_kind(alloc: Global, matches: &ArgMatches<'_>) -> Result<(), Error>
-    ensures accepts { FailsBy (or_else (scope_fault (subcommand_rows_of matches.now)) (kind_fault (subcommand_rows_of matches.now))) result }
-{
     one_scope(alloc, matches)?;
-    known_kind(alloc, matches)
+    known_kind(alloc, matches)?;
+    one_input(alloc, matches)?;
+    has_graph(alloc, matches)
 }
 
 // Refuses both a build and all of them.
 fn one_scope(alloc: Global, matches: &ArgMatches<'_>) -> Result<(), Error>
     ensures accepts { FailsBy (scope_fault (subcommand_rows_of matches.now)) result }
 {
-    if asks_both(matches) {
+    if is_flagged(matches, "all") && given(matches, "build").is_some() {
         let message = "the argument '--build <BUILD>' cannot be used with '--all'";
         return Err(refusal(alloc, ErrorKind::ArgumentConflict, message)?);
     }
     Ok(())
-}
-
-fn asks_both(matches: &ArgMatches<'_>) -> bool
-    ensures { result ≡ asks_both (subcommand_rows_of matches.now) }
-{
-    is_flagged(matches, "all") && given(matches, "build").is_some()
 }
 
 // Refuses a rule for kinds that there isn't.
@@ -173,13 +161,6 @@ fn kind_text(alloc: Global, text: &str) -> Result<String, AllocError> {
     )
 }
 
-fn known_inputs(alloc: Global, matches: &ArgMatches<'_>) -> Result<(), Error>
-    ensures accepts { FailsBy (or_else (input_fault (subcommand_rows_of matches.now)) (jobs_fault (subcommand_rows_of matches.now))) result }
-{
-    one_input(alloc, matches)?;
-    has_graph(alloc, matches)
-}
-
 // Refuses a graph and a log that are both to be read from standard input.
 fn one_input(alloc: Global, matches: &ArgMatches<'_>) -> Result<(), Error>
     ensures accepts { FailsBy (input_fault (subcommand_rows_of matches.now)) result }
@@ -204,17 +185,11 @@ fn asks_twice(matches: &ArgMatches<'_>) -> bool
 fn has_graph(alloc: Global, matches: &ArgMatches<'_>) -> Result<(), Error>
     ensures accepts { FailsBy (jobs_fault (subcommand_rows_of matches.now)) result }
 {
-    if lacks_graph(matches) {
+    if given(matches, "jobs").is_some() && given(matches, "graph").is_none() {
         let message = "the argument '--jobs <LIST>' needs '--graph <FILE>'";
         return Err(refusal(alloc, ErrorKind::MissingRequiredArgument, message)?);
     }
     Ok(())
-}
-
-fn lacks_graph(matches: &ArgMatches<'_>) -> bool
-    ensures { result ≡ lacks_graph (subcommand_rows_of matches.now) }
-{
-    given(matches, "jobs").is_some() && given(matches, "graph").is_none()
 }
 
 // What is said of a version that the command of this name doesn't take.

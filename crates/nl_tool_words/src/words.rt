@@ -18,7 +18,7 @@ pub enum Reading {
 }
 
 /// What a word that reads a log may choose: nothing that it has no option for.
-#[derive(Clone, Copy, Debug, PartialEq, Eq)]
+#[derive(Clone, Copy, PartialEq, Eq)]
 pub struct Choices<'a> {
     /// The number of the build that it tells of.
     pub build: Option<&'a str>,
@@ -47,7 +47,7 @@ pub enum Changing {
 }
 
 /// A word of the program with its values, as they were written.
-#[derive(Clone, Copy, Debug, PartialEq, Eq)]
+#[derive(Clone, Copy, PartialEq, Eq)]
 pub enum Words<'a> {
     /// Also what a command line without a command means.
     Show(Option<&'a str>),
@@ -124,17 +124,44 @@ fn words_of<'a>(name: &str, inner: &ArgMatches<'a>) -> Words<'a>
         };
     }
     if let Some(what) = changing_of(name) {
-        return change_words(what, inner);
+        return Words::Change {
+            what,
+            log: value(inner, "LOG"),
+            file: file_beside(what, inner),
+        };
     }
     match name {
         "check" => Words::Check(optional(inner, "LOG")),
         "hash" => Words::Hash(value(inner, "COMMAND")),
         "hash-file" => Words::HashFile(optional(inner, "FILE")),
-        "compare" => compare_words(inner),
-        "record" => record_words(inner),
-        "recompact" => recompact_words(inner),
-        "restat" => restat_words(inner),
-        "mend" => mend_words(inner),
+        "compare" => Words::Compare {
+            old: value(inner, "OLD"),
+            new: value(inner, "NEW"),
+            lines: optional(inner, "lines"),
+            least: optional(inner, "at-least"),
+        },
+        "record" => Words::Record {
+            log: value(inner, "LOG"),
+            start: value(inner, "START"),
+            end: value(inner, "END"),
+            mtime: value(inner, "MTIME"),
+            name: value(inner, "NAME"),
+            command: value(inner, "COMMAND"),
+        },
+        "recompact" => Words::Recompact {
+            log: value(inner, "LOG"),
+            keep: value(inner, "KEEP"),
+        },
+        "restat" => Words::Restat {
+            log: value(inner, "LOG"),
+            times: value(inner, "TIMES"),
+        },
+        "mend" => Words::Mend {
+            log: optional(inner, "LOG"),
+            folder: optional(inner, "folder"),
+            dry_run: is_set(inner, "dry-run"),
+            all: is_set(inner, "all"),
+        },
         "replay" => Words::Replay(optional(inner, "SCRIPT")),
         _ => Words::Show(optional(inner, "LOG")),
     }
@@ -182,18 +209,6 @@ fn choices_in<'a>(inner: &ArgMatches<'a>) -> Choices<'a>
     }
 }
 
-fn change_words<'a>(what: Changing, inner: &ArgMatches<'a>) -> Words<'a>
-    requires { is_some (first_of (codes "LOG") (rows_of (found_of inner.now))) ≡ true }
-    ensures name { name_of result ≡ changing_name what }
-    ensures values { HasValues result (rows_of (found_of inner.now)) }
-{
-    Words::Change {
-        what,
-        log: value(inner, "LOG"),
-        file: file_beside(what, inner),
-    }
-}
-
 fn file_beside<'a>(what: Changing, inner: &ArgMatches<'a>) -> Option<&'a str>
     ensures { IsBeside what (rows_of (found_of inner.now)) result }
 {
@@ -201,68 +216,6 @@ fn file_beside<'a>(what: Changing, inner: &ArgMatches<'a>) -> Option<&'a str>
         Changing::Prune => optional(inner, "TARGETS"),
         Changing::Apply => optional(inner, "SCRIPT"),
         Changing::Retime | Changing::Repair => None,
-    }
-}
-
-fn compare_words<'a>(inner: &ArgMatches<'a>) -> Words<'a>
-    requires { HasEach (required_of (codes "compare")) (rows_of (found_of inner.now)) }
-    ensures name { name_of result ≡ codes "compare" }
-    ensures values { HasValues result (rows_of (found_of inner.now)) }
-{
-    Words::Compare {
-        old: value(inner, "OLD"),
-        new: value(inner, "NEW"),
-        lines: optional(inner, "lines"),
-        least: optional(inner, "at-least"),
-    }
-}
-
-fn record_words<'a>(inner: &ArgMatches<'a>) -> Words<'a>
-    requires { HasEach (required_of (codes "record")) (rows_of (found_of inner.now)) }
-    ensures name { name_of result ≡ codes "record" }
-    ensures values { HasValues result (rows_of (found_of inner.now)) }
-{
-    Words::Record {
-        log: value(inner, "LOG"),
-        start: value(inner, "START"),
-        end: value(inner, "END"),
-        mtime: value(inner, "MTIME"),
-        name: value(inner, "NAME"),
-        command: value(inner, "COMMAND"),
-    }
-}
-
-fn recompact_words<'a>(inner: &ArgMatches<'a>) -> Words<'a>
-    requires { HasEach (required_of (codes "recompact")) (rows_of (found_of inner.now)) }
-    ensures name { name_of result ≡ codes "recompact" }
-    ensures values { HasValues result (rows_of (found_of inner.now)) }
-{
-    Words::Recompact {
-        log: value(inner, "LOG"),
-        keep: value(inner, "KEEP"),
-    }
-}
-
-fn restat_words<'a>(inner: &ArgMatches<'a>) -> Words<'a>
-    requires { HasEach (required_of (codes "restat")) (rows_of (found_of inner.now)) }
-    ensures name { name_of result ≡ codes "restat" }
-    ensures values { HasValues result (rows_of (found_of inner.now)) }
-{
-    Words::Restat {
-        log: value(inner, "LOG"),
-        times: value(inner, "TIMES"),
-    }
-}
-
-fn mend_words<'a>(inner: &ArgMatches<'a>) -> Words<'a>
-    ensures name { name_of result ≡ codes "mend" }
-    ensures values { HasValues result (rows_of (found_of inner.now)) }
-{
-    Words::Mend {
-        log: optional(inner, "LOG"),
-        folder: optional(inner, "folder"),
-        dry_run: is_set(inner, "dry-run"),
-        all: is_set(inner, "all"),
     }
 }
 
