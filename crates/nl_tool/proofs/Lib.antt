@@ -1,3 +1,4 @@
 mod CountLemmas
+mod NumberLemmas
 mod EndingLemmas
 mod ReportLemmas

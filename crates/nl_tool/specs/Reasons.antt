@@ -1,11 +1,8 @@
 -- What is said after a refusal where `--verbose` asks for it: docs/CLI.md, "Why something was refused".
 use Rattle.std.specs.List.{flat_map}
-use Rattle.std.specs.Prelude.{⊤, ◌≡◌, ◌≢◌, ◌⊎◌, ◌++◌, IsSomeAnd, [], List, ℕ, Option, None, Some, IfSome, codes, decimal, string_bytes, ◌||◌, Bool, true, false, bytes_eq, length, if◌then◌else◌, FitsSigned, ℤ}
-use Rattle.std.specs.Int.{Width, w32, w64}
-use Rattle.nl_fields.specs.Digits.{IsDecimal}
+use Rattle.std.specs.Prelude.{⊤, ◌≡◌, ◌≢◌, ◌⊎◌, ◌++◌, IsSome, IsSomeAnd, [], List, ℕ, Option, None, Some, IfSome, codes, decimal, string_bytes, ◌||◌, Bool, true, false, bytes_eq, length, if◌then◌else◌}
 use Rattle.std.specs.Borrow.{Bor}
 use Rattle.nl_os.specs.Paths.{folder_path_of}
-use Rattle.nl_os.specs.declared.failure.Failure.{Failure}
 use Rattle.nl_os.specs.declared.failed_call.FileRole.{FileRole}
 use Rattle.nl_os.specs.declared.failed_call.FileRole.TheVariants as file
 use Rattle.nl_tool_texts.specs.Faults.{fault_text}
@@ -19,12 +16,13 @@ use Rattle.nl_versions.specs.Version.{is_version_read}
 use Rattle.nl_tool.specs.declared.reason.Place.{Place}
 use Rattle.nl_tool.specs.declared.reason.Place.TheVariants as at
 use Rattle.nl_tool.specs.declared.reason.Reason.{Reason}
-use Rattle.nl_tool.specs.declared.reason.Reason.TheVariants.{System, Full, Locked, Unsynced, Masked, Missing, Again, Line, Negative, Early, Version, Looks, Begins, Number, Nth, OtherBuild, NoBytes, Tab, Newline, Long}
+use Rattle.nl_tool.specs.declared.reason.Reason.TheVariants.{System, Full, Locked, Unsynced, Masked, Missing, Again, Line, Negative, Early, Version, Looks, Begins, Number, OtherBuild, NoBytes, Tab, Newline, Long}
 use Rattle.nl_tool.specs.declared.notes.Notes.{Notes}
 use Rattle.nl_tool.specs.Looks.{escaped, look_of, look_text, start_text}
-use Rattle.nl_tool.specs.Reports.{AreCounts, IsLeast, IsMost, IsScope}
-use Rattle.nl_reports.specs.declared.choice.Scope.{Scope}
-use Rattle.nl_tool_change.specs.LineFaults.{line_fault_text, number_fault_text}
+use Rattle.nl_tool_change.specs.LineFaults.{line_fault_text, number_fault_text, number_name}
+use Rattle.nl_tool_change.specs.declared.line_fault.NumberOf.{NumberOf}
+use Rattle.nl_tool_change.specs.declared.line_fault.NumberOf.TheVariants as numbered
+use Rattle.nl_tool_change.specs.declared.line_fault.WrongNumber.{WrongNumber}
 use Rattle.nl_tool.specs.declared.reason.Why.{Why}
 use Rattle.nl_tool.specs.declared.reason.Refusal.{Refusal}
 
@@ -48,14 +46,8 @@ place_text (at.Script path) = codes "SCRIPT " ++ path.now
 place_text (at.Command path) = codes "FILE " ++ path.now
 place_text at.Input = codes "standard input"
 place_text at.Output = codes "standard output"
-place_text (at.Start text) = codes "START " ++ text.now
-place_text (at.End text) = codes "END " ++ text.now
-place_text (at.Mtime text) = codes "MTIME " ++ text.now
 place_text at.Name = codes "NAME"
-place_text (at.Count text) = codes "N " ++ text.now
-place_text (at.Build text) = codes "BUILD " ++ text.now
-place_text (at.Least text) = codes "MS " ++ text.now
-place_text (at.Jobs text) = codes "N " ++ text.now
+place_text (at.Number which text) = number_name which ++ (codes " " ++ text.now)
 
 abbrev pub reason_text : Reason → List ℕ
 reason_text (System text) = string_bytes text
@@ -73,8 +65,8 @@ reason_text (Version version) =
     codes "version " ++ (string_bytes version ++ (if is_version_read (string_bytes version) then codes "; add --log-version auto" else []))
 reason_text (Looks look) = look_text look
 reason_text (Begins text) = codes "it begins with \"" ++ (string_bytes text ++ codes "\"")
-reason_text (Number fault) = number_fault_text fault
-reason_text (Nth number fault) = codes "number " ++ (decimal number ++ (codes ": " ++ number_fault_text fault))
+reason_text (Number None fault) = number_fault_text fault
+reason_text (Number (Some number) fault) = codes "number " ++ (decimal number ++ (codes ": " ++ number_fault_text fault))
 reason_text OtherBuild = codes "no output of the build is in it, or one needs itself"
 reason_text NoBytes = codes "it has no byte"
 reason_text (Tab at) = codes "byte " ++ (decimal at ++ codes " is a tab")
@@ -207,41 +199,26 @@ IsLookAt bytes (Looks look) = look_of bytes ≡ Some look
 IsLookAt bytes (Begins text) = (look_of bytes ≡ None) × (string_bytes text ≡ start_text bytes)
 IsLookAt bytes _ = ⊥
 
-abbrev pub IsNumberFault : Reason → Type 0
-IsNumberFault (Number fault) = ⊤
-IsNumberFault (Nth number fault) = ⊤
-IsNumberFault _ = ⊥
+-- the text of a number of these words, where they have one
+abbrev pub number_text : Words → NumberOf → Option (Bor (List ℕ))
+number_text (Record log start end mtime name command) numbered.Start = Some start
+number_text (Record log start end mtime name command) numbered.End = Some end
+number_text (Record log start end mtime name command) numbered.Mtime = Some mtime
+number_text (Read what log choices) numbered.Lines = choices.lines
+number_text (Read what log choices) numbered.Build = choices.build
+number_text (Read what log choices) numbered.Jobs = choices.jobs
+number_text (Compare old new lines least) numbered.Lines = lines
+number_text (Compare old new lines least) numbered.Least = least
+number_text _ _ = None
 
--- a text that spells a number of the width
-pub record IsNumber (w : Width) (text : List ℕ) : Type 0 where
-  pub number : ℤ
-  pub fits : FitsSigned w number
-  pub is : IsDecimal number text
+-- of the number that was refused the words have the text
+abbrev pub HasText : Words → Option WrongNumber → Type 0
+HasText words told = IsSomeAnd told (λ bad. IsSome (number_text words bad.which))
 
--- the first of these texts that is no number
-abbrev pub IsFirstBad : Bor (List ℕ) → Bor (List ℕ) → Bor (List ℕ) → Place → Type 0
-IsFirstBad start end mtime (at.Start text) = (text ≡ start) × ¬ IsNumber w32 start.now
-IsFirstBad start end mtime (at.End text) = (text ≡ end) × ¬ IsNumber w32 end.now × IsNumber w32 start.now
-IsFirstBad start end mtime (at.Mtime text) = (text ≡ mtime) × ¬ IsNumber w64 mtime.now × IsNumber w32 start.now × IsNumber w32 end.now
-IsFirstBad start end mtime _ = ⊥
-
--- a number of `summary` that is none, and one of `compare`
-abbrev pub IsBadOption : Bool → Option (Bor (List ℕ)) → Option (Bor (List ℕ)) → Option (Bor (List ℕ)) → Place → Type 0
-IsBadOption all build lines jobs (at.Count text) = (lines ≡ Some text) × ((most : ℕ) → IsMost lines most → ⊥)
-IsBadOption all build lines jobs (at.Build text) = (build ≡ Some text) × ((scope : Scope) → IsScope all build scope → ⊥)
-IsBadOption all build lines jobs (at.Jobs text) = (jobs ≡ Some text) × ((counts : List ℕ) → AreCounts jobs counts → ⊥)
-IsBadOption all build lines jobs _ = ⊥
-
-abbrev pub IsBadRule : Option (Bor (List ℕ)) → Option (Bor (List ℕ)) → Place → Type 0
-IsBadRule lines least (at.Count text) = (lines ≡ Some text) × ((most : ℕ) → IsMost lines most → ⊥)
-IsBadRule lines least (at.Least text) = (least ≡ Some text) × ((ms : ℕ) → IsLeast least ms → ⊥)
-IsBadRule lines least _ = ⊥
-
-abbrev pub IsBadNumberOf : Words → Why → Type 0
-IsBadNumberOf (Record log start end mtime name command) why = IsFirstBad start end mtime why.place × IsNumberFault why.reason
-IsBadNumberOf (Read what log choices) why = IsBadOption choices.all choices.build choices.lines choices.jobs why.place × IsNumberFault why.reason
-IsBadNumberOf (Compare old new lines least) why = IsBadRule lines least why.place × IsNumberFault why.reason
-IsBadNumberOf _ why = ⊥
+-- the number is told that was refused, by its text in the words, and what is wrong with it
+abbrev pub TellsNumber : Words → WrongNumber → Why → Type 0
+TellsNumber words bad why =
+    IsSomeAnd (number_text words bad.which) (λ text. why.place ≡ at.Number bad.which text) × (why.reason ≡ Number bad.nth bad.why)
 
 -- the reason is this byte
 abbrev pub IsByteAt : ℕ → Reason → Type 0
@@ -268,25 +245,25 @@ IsNegative (Negative number) = ⊤
 IsNegative (Early text) = ⊤
 IsNegative _ = ⊥
 
--- what may be said of a fault of these words, where the folder's last failure is this, and the file that was read last begins so; what
--- couldn't be read is the file that the words read, or the log beside it, where that failure is noted
-abbrev pub IsReasonFor : Words → ToolFault → Option Failure → List ℕ → Why → Type 0
-IsReasonFor words fault.Read failed bytes why =
-    ((read_place words ≡ Some why.place) ⊎ IsSomeAnd failed (λ failure. log_place words failure.file ≡ Some why.place)) × IsSystem why.reason
-IsReasonFor words fault.Write failed bytes why = (why.place ≡ at.Output) × IsSystem why.reason
-IsReasonFor words fault.Folder failed bytes why =
-    IfSome failed (λ failure. log_place words failure.file ≡ Some why.place) × IsSystem why.reason
-IsReasonFor words (fault.BadLine number) failed bytes why = (read_place words ≡ Some why.place) × IsLine number why.reason
-IsReasonFor words (fault.NegativeTime place) failed bytes why = (read_place words ≡ Some why.place) × IsNegative why.reason
-IsReasonFor words fault.OtherVersion failed bytes why = (log_place words file.Log ≡ Some why.place) × IsVersion why.reason
-IsReasonFor words fault.NotALog failed bytes why = (log_place words file.Log ≡ Some why.place) × IsLookAt bytes why.reason
-IsReasonFor words fault.BadNumber failed bytes why = IsBadNumberOf words why
-IsReasonFor words fault.EmptyName failed bytes why = (why.place ≡ at.Name) × (why.reason ≡ NoBytes)
-IsReasonFor words (fault.BadByte place) failed bytes why = (why.place ≡ at.Name) × IsByteAt place why.reason
-IsReasonFor words fault.LongName failed bytes why = IsLongNameOf words why
-IsReasonFor words fault.Memory failed bytes why = ⊥
-IsReasonFor words fault.OtherGraph failed bytes why = (read_place words ≡ Some why.place) × (why.reason ≡ OtherBuild)
-IsReasonFor words fault.Elsewhere failed bytes why = ⊥
+-- what may be said of a fault of these words, by what is noted: the folder's last failure, how the file begins that was read last, and the
+-- number that was refused; what couldn't be read is the file that the words read, or the log beside it, where that failure is noted
+abbrev pub IsReasonFor : Words → ToolFault → Notes → Why → Type 0
+IsReasonFor words fault.Read notes why =
+    ((read_place words ≡ Some why.place) ⊎ IsSomeAnd notes.folder (λ failure. log_place words failure.file ≡ Some why.place)) × IsSystem why.reason
+IsReasonFor words fault.Write notes why = (why.place ≡ at.Output) × IsSystem why.reason
+IsReasonFor words fault.Folder notes why =
+    IfSome notes.folder (λ failure. log_place words failure.file ≡ Some why.place) × IsSystem why.reason
+IsReasonFor words (fault.BadLine number) notes why = (read_place words ≡ Some why.place) × IsLine number why.reason
+IsReasonFor words (fault.NegativeTime place) notes why = (read_place words ≡ Some why.place) × IsNegative why.reason
+IsReasonFor words fault.OtherVersion notes why = (log_place words file.Log ≡ Some why.place) × IsVersion why.reason
+IsReasonFor words fault.NotALog notes why = (log_place words file.Log ≡ Some why.place) × IsLookAt (heard_of notes) why.reason
+IsReasonFor words fault.BadNumber notes why = IsSomeAnd notes.told.number (λ bad. TellsNumber words bad why)
+IsReasonFor words fault.EmptyName notes why = (why.place ≡ at.Name) × (why.reason ≡ NoBytes)
+IsReasonFor words (fault.BadByte place) notes why = (why.place ≡ at.Name) × IsByteAt place why.reason
+IsReasonFor words fault.LongName notes why = IsLongNameOf words why
+IsReasonFor words fault.Memory notes why = ⊥
+IsReasonFor words fault.OtherGraph notes why = (read_place words ≡ Some why.place) × (why.reason ≡ OtherBuild)
+IsReasonFor words fault.Elsewhere notes why = ⊥
 
 -- the note is said only of a log that was missing
 abbrev pub IsNoteFor : Words → Bool → Why → Type 0

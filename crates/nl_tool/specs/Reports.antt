@@ -1,5 +1,5 @@
 -- What each command prints that tells of builds.
-use Rattle.std.specs.Prelude.{⊤, ◌≡◌, ◌==◌, ◌++◌, [], ◌∷◌, ℕ, Bool, true, false, ◌<◌, ◌^◌, pos, List, Option, None, Some, IsSome, Result, length, map, option_map, bytes_eq, codes, if◌then◌else◌}
+use Rattle.std.specs.Prelude.{⊤, ◌≡◌, ◌⊎◌, ◌==◌, ◌++◌, [], ◌∷◌, ℕ, Bool, true, false, ◌<◌, ◌^◌, pos, List, Option, None, Some, IsSome, Result, length, map, option_map, bytes_eq, codes, if◌then◌else◌}
 use Rattle.std.specs.Borrow.{Bor}
 use Rattle.std.specs.Global.{Vec}
 use Rattle.std.specs.List.{slice_split}
@@ -12,7 +12,11 @@ use Rattle.nl_builds.specs.Recorded.{recorded, unfinished}
 use Rattle.nl_builds.specs.Stamps.{stamps_of}
 use Rattle.nl_builds.specs.declared.log.LogBuilds.{LogBuilds}
 use Rattle.nl_tool_texts.specs.Output.{Prints}
+use Rattle.nl_tool_change.specs.RecordWords.{IsToldOf}
+use Rattle.nl_tool_change.specs.declared.line_fault.NumberOf.TheVariants.{Lines, Build, Jobs, Least}
+use Rattle.nl_tool_change.specs.declared.line_fault.WrongNumber.{WrongNumber}
 use Rattle.nl_tool_texts.specs.declared.fault.ToolFault.{ToolFault}
+use Rattle.nl_tool_texts.specs.declared.fault.ToolFault.TheVariants.{Memory}
 use Rattle.jiff_tz.specs.declared.timezone.TimeZone.{TimeZone}
 use Rattle.nl_reports.specs.BuildsTable.{IsBuildsScreen}
 use Rattle.nl_reports.specs.BuildsText.{builds_text}
@@ -70,6 +74,26 @@ ArePositive (text ∷ texts) (n ∷ ns) = ((0 < n) × (n < 2 ^ 63) × IsDecimal 
 abbrev pub AreCounts : Option (Bor (List ℕ)) → List ℕ → Type 0
 AreCounts None ns = ns ≡ []
 AreCounts (Some text) ns = ArePositive (slice_split (λ b. b == 44) text.now) ns
+
+-- ---- what is refused, and told
+
+-- a value is no number of lines, or of milliseconds
+abbrev pub IsNoMost : Option (Bor (List ℕ)) → Option WrongNumber → ToolFault → Type 0
+IsNoMost lines told fault = IsToldOf Lines told fault × ((most : ℕ) → IsMost lines most → ⊥)
+
+abbrev pub IsNoLeast : Option (Bor (List ℕ)) → Option WrongNumber → ToolFault → Type 0
+IsNoLeast least told fault = IsToldOf Least told fault × ((ms : ℕ) → IsLeast least ms → ⊥)
+
+-- one is no number of a build
+abbrev pub IsNoScope : Bool → Option (Bor (List ℕ)) → Option WrongNumber → ToolFault → Type 0
+IsNoScope all build told fault = IsToldOf Build told fault × ((scope : Scope) → IsScope all build scope → ⊥)
+
+-- memory is wanting, or one of these is no number of commands
+abbrev pub IsNotPositive : List (List ℕ) → Option WrongNumber → ToolFault → Type 0
+IsNotPositive texts told fault = (fault ≡ Memory) ⊎ (IsToldOf Jobs told fault × ((counts : List ℕ) → ArePositive texts counts → ⊥))
+
+abbrev pub IsNoCounts : Option (Bor (List ℕ)) → Option WrongNumber → ToolFault → Type 0
+IsNoCounts jobs told fault = (fault ≡ Memory) ⊎ (IsToldOf Jobs told fault × ((counts : List ℕ) → AreCounts jobs counts → ⊥))
 
 -- the rule by which kinds are told apart, by its word
 abbrev pub rule_by : List ℕ → KindRule

@@ -17,8 +17,8 @@ use nl_fields::EntryRef;
 use nl_folder::Folder;
 use nl_os::{DiskFolder, SystemFile};
 use nl_tool_change::{
-    AskedFolder, Hears, LineFault, apply_told, entry_of, recompact_told, record_command, repair_on,
-    restat_told,
+    AskedFolder, Hears, LineFault, apply_on, entry_of, recompact_on, record_command, repair_on,
+    restat_on,
 };
 use nl_tool_texts::ToolFault;
 use std::alloc::Global;
@@ -38,9 +38,10 @@ pub fn record_in<R: Runtime>(
 where
     R::File: SystemFile,
     ensures accepts { OnOk result (GiveEntry start.now end.now mtime.now name.now) }
-    ensures faults { IfErr result (IsEntryFault start.now end.now mtime.now name.now) }
+    ensures faults { IfErr result
+        (IsEntryFault start.now end.now mtime.now name.now desk.new.notes.told.number) }
 {
-    let entry = entry_of(start, end, mtime, name)?;
+    let entry = entry_of(start, end, mtime, name, &mut desk.notes.told)?;
     note_missing(desk, log);
     let place = desk.log_at(log)?;
     record_at(desk.alloc, place, entry, command, &mut desk.notes)
@@ -98,7 +99,7 @@ where
     ensures faults { IfErr result IsRecompactFault }
 {
     let names = NotedReader::new(names, &mut notes.heard);
-    let (left, answer) = recompact_told(alloc, place, names, &mut notes.told);
+    let (left, answer) = recompact_on(alloc, place, names, &mut notes.told);
     close(left.folder, answer.err(), notes);
     answer
 }
@@ -131,7 +132,7 @@ where
     ensures faults { IfErr result IsRestatFault }
 {
     let pairs = NotedReader::new(pairs, &mut notes.heard);
-    let (left, answer) = restat_told(alloc, place, pairs, &mut notes.told);
+    let (left, answer) = restat_on(alloc, place, pairs, &mut notes.told);
     close(left.folder, answer.err(), notes);
     answer
 }
@@ -211,7 +212,7 @@ where
         looks: notes.looks,
     };
     let reader = NotedReader::new(reader, &mut notes.heard);
-    let (folder, answer) = apply_told(alloc, secret, asked, folder, reader, &mut out, &mut hears);
+    let (folder, answer) = apply_on(alloc, secret, asked, folder, reader, &mut out, &mut hears);
     notes.written = out.failure;
     close(folder, answer.err(), notes);
     answer

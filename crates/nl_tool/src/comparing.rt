@@ -1,5 +1,5 @@
 //! `compare`, over two logs, with standard output for its text.
-ghost use Rattle.std.specs.Prelude.{◌≡◌, ℕ, Some, IfErr, IfOk, IfSome, IsErrOf, OnOk, is_some};
+ghost use Rattle.std.specs.Prelude.{◌≡◌, ℕ, IfErr, IfOk, IsErrOf, OnOk, is_some};
 ghost use Rattle.nl_tool_print.specs.Faults.{IsLogFault};
 ghost use Rattle.nl_tool_texts.specs.Output.{Prints};
 ghost use Rattle.nl_tool_texts.specs.Writing.{IsWriteFault};
@@ -12,8 +12,9 @@ ghost use Rattle.nl_tool.specs.Reports.{IsLastOf, IsLeast, IsMost, laid_out, sid
 
 use crate::desk::Desk;
 use crate::notes::NotedWriter;
+use crate::numbers::{least_of, most_of};
 use crate::reading::log_bytes;
-use crate::reporting::{count_of, most_of, write_lines};
+use crate::reporting::write_lines;
 use nl_builds::{Builds, LogBuilds, read_builds};
 use nl_reports::{Side, compare_lines, lasting};
 use nl_table::Secret;
@@ -32,25 +33,11 @@ pub fn compare_in<R: Runtime>(
 ) -> Result<(), ToolFault>
     ensures accepts { OnOk result ((most : ℕ) × IsMost lines.entry most) }
     ensures least { OnOk result ((ms : ℕ) × IsLeast least.entry ms) }
-    ensures faults { IfErr result (IsCompareFault lines.entry least.entry) }
+    ensures faults { IfErr result (IsCompareFault lines.entry least.entry desk.new.notes.told.number) }
 {
-    let Some(most) = most_of(lines) else {
-        return Err(ToolFault::BadNumber);
-    };
-    let Some(ms) = least_of(least) else {
-        return Err(ToolFault::BadNumber);
-    };
+    let most = most_of(lines, &mut desk.notes.told)?;
+    let ms = least_of(least, &mut desk.notes.told)?;
     compare_logs(desk, most, ms, old, new)
-}
-
-pub fn least_of(least: Option<&str>) -> Option<usize>
-    ensures value { IfSome result (IsLeast least.entry) }
-    ensures accepts { (ms : ℕ) → IsLeast least.entry ms → result ≡ Some ms }
-{
-    match least {
-        None => Some(0),
-        Some(text) => count_of(text),
-    }
 }
 
 // Each log is closed before anything else is done.

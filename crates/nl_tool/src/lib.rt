@@ -12,6 +12,7 @@ mod looks;
 mod meant;
 mod mending;
 mod notes;
+mod numbers;
 mod printing;
 mod program;
 mod progress;
@@ -28,8 +29,9 @@ pub use ending::{run_line, run_program};
 pub use looks::{Look, look_of, start_of};
 pub use nl_os::DiskFolder;
 pub use nl_tool_change::{
-    AskedFolder, FoundFolder, LineFault, LogPlace, NumberFault, Told, apply_on, entry_of,
-    recompact_on, record_command, record_on, repair_on, replay_to, restat_on,
+    AskedFolder, FoundFolder, LineFault, LogPlace, Nobody, NumberFault, NumberOf, Told, UNTOLD,
+    WrongNumber, apply_on, entry_of, recompact_on, record_command, record_on, repair_on, replay_to,
+    restat_on,
 };
 pub use nl_tool_doubt::{doubts_of, write_doubts};
 pub use nl_tool_print::{

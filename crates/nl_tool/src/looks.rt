@@ -1,5 +1,5 @@
 //! What the bytes look like of a file that is no log.
-ghost use Rattle.std.specs.Prelude.{◌≡◌, ◌<◌, ◌++◌, IfOk, IfSome, OnOk, Some, string_bytes};
+ghost use Rattle.std.specs.Prelude.{◌≡◌, ◌++◌, IfSome, OnOk, Some, string_bytes};
 ghost use Rattle.std.specs.List.{flat_map};
 ghost use Rattle.nl_tool.specs.Looks.{escaped, look_of, look_text, start_text};
 
@@ -61,10 +61,7 @@ pub fn look_of(bytes: &[u8]) -> Option<Look>
 pub fn start_of(alloc: Global, bytes: &[u8]) -> Option<String>
     ensures value { IfSome result (λ text. string_bytes text ≡ start_text bytes.now) }
 {
-    match escaped_start(alloc, bytes) {
-        Ok(text) => string_of(text),
-        Err(_) => None,
-    }
+    escaped_of(alloc, &bytes[..bytes.len().min(START)])
 }
 
 /// Bytes as they are said, each of them.
@@ -76,14 +73,6 @@ pub fn escaped_of(alloc: Global, bytes: &[u8]) -> Option<String>
         Ok(()) => string_of(text),
         Err(_) => None,
     }
-}
-
-fn escaped_start(alloc: Global, bytes: &[u8]) -> Result<Vec<u8>, AllocError>
-    ensures ok { IfOk result (λ text. text.items ≡ start_text bytes.now) }
-{
-    let mut text = Vec::new(alloc);
-    push_all(&bytes[..bytes.len().min(START)], &mut text)?;
-    Ok(text)
 }
 
 fn string_of(bytes: Vec<u8>) -> Option<String>

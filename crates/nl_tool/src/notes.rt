@@ -98,7 +98,7 @@ impl Notes {
         ensures unsynced { self.new.unsynced ≡ self.old.unsynced }
         ensures masked { self.new.is_masked ≡ self.old.is_masked }
     {
-        self.heard.look_at(folder);
+        self.heard.beginning.look_at(folder);
     }
 }
 
@@ -110,24 +110,6 @@ pub struct Heard {
     pub beginning: Beginning,
 }
 
-impl Heard {
-    // Keeps the first line of the log of a folder, in the place of what was read before.
-    fn look_at<F: Folder>(&mut self, folder: &mut F) {
-        self.beginning.bytes.clear();
-        self.beginning.goes_on = true;
-        let mut piece = [0; PIECE];
-        for _ in 0..=MAX_LINE {
-            if !self.beginning.goes_on {
-                return;
-            }
-            match folder.read_log(self.beginning.bytes.len() as u64, &mut piece) {
-                Ok(0) | Err(_) => return,
-                Ok(count) => self.beginning.note(&piece[..count]),
-            }
-        }
-    }
-}
-
 /// The first line of a file, as far as it was read, and there was memory for it.
 #[derive(Drop)]
 pub struct Beginning {
@@ -137,6 +119,21 @@ pub struct Beginning {
 }
 
 impl Beginning {
+    fn look_at<F: Folder>(&mut self, folder: &mut F) {
+        self.bytes.clear();
+        self.goes_on = true;
+        let mut piece = [0; PIECE];
+        for _ in 0..=MAX_LINE {
+            if !self.goes_on {
+                return;
+            }
+            match folder.read_log(self.bytes.len() as u64, &mut piece) {
+                Ok(0) | Err(_) => return,
+                Ok(count) => self.note(&piece[..count]),
+            }
+        }
+    }
+
     pub fn bytes(&self) -> &[u8]
         ensures value { result.now ≡ self.now.bytes.items }
     {

@@ -13,12 +13,12 @@ ghost use Rattle.nl_tool.specs.Answers.{IsAnswer, RefusesLog};
 ghost use Rattle.nl_tool.specs.Faults.{IsPrintingFault, IsReadingFault};
 
 use crate::desk::Desk;
-use crate::files::{open, open_log};
+use crate::files::open_log;
 use crate::notes::{NotedReader, NotedWriter};
 use crate::program::Verdict;
 use crate::progress::Telling;
 use nl_table::Secret;
-use nl_tool_change::{Told, replay_told};
+use nl_tool_change::{Told, replay_to};
 use nl_tool_print::{check_log, damage_to, entries_to, hash_for, hash_read, show_log};
 use nl_tool_texts::ToolFault;
 use nl_versions::LogVersion;
@@ -122,35 +122,21 @@ fn tell_damage<R: Read + Drop, W: Write>(
     }
 }
 
-// A log that is missing is taken for an empty one.
-pub fn print_log<R: Runtime>(
+pub fn print_in<R: Runtime>(
     desk: &mut Desk<'_, R>,
     printing: Printing<'_>,
-    log: Option<&str>,
+    path: Option<&str>,
+    missing_ok: bool,
 ) -> Result<(), ToolFault>
     ensures faults { IfErr result (IsReadingFault printing.entry) }
 {
-    let Some(path) = log else {
+    let Some(path) = path else {
         return print_from(desk, printing, desk.rt.reader());
     };
-    match open_log(desk, path, true)? {
+    match open_log(desk, path, missing_ok)? {
         Some(file) => print_from(desk, printing, file),
         None => print_from(desk, printing, io::empty()),
     }
-}
-
-pub fn print_file<R: Runtime>(
-    desk: &mut Desk<'_, R>,
-    printing: Printing<'_>,
-    file: Option<&str>,
-) -> Result<(), ToolFault>
-    ensures faults { IfErr result (IsReadingFault printing.entry) }
-{
-    let Some(path) = file else {
-        return print_from(desk, printing, desk.rt.reader());
-    };
-    let file = open(desk, path)?;
-    print_from(desk, printing, file)
 }
 
 pub fn print_from<P: Print + Eprint + Clock, R: Read + Drop>(
@@ -198,6 +184,6 @@ fn print_to<R: Read + Drop, W: Write>(
         Printing::Check => check_log(alloc, secret, asked, reader, writer),
         Printing::Hash(command) => hash_for(alloc, version, command.as_bytes(), writer),
         Printing::HashFile => hash_read(alloc, version, reader, writer),
-        Printing::Replay => replay_told(alloc, reader, writer, told),
+        Printing::Replay => replay_to(alloc, reader, writer, told),
     }
 }

@@ -1,5 +1,6 @@
 //! What the program does once its words are read.
-ghost use Rattle.std.specs.Prelude.{◌≡◌, IfErr, IfOk, OnOk};
+ghost use Rattle.std.specs.Prelude.{◌≡◌, Option, IfErr, IfOk, OnOk};
+ghost use Rattle.nl_tool_change.specs.declared.line_fault.WrongNumber.{WrongNumber};
 ghost use Rattle.nl_tool.specs.Faults.{CanBeDone, CanBeRead, CanFind, FindsBy, IsChangeFault, IsFaultOf, IsReadFault, StopsAtDamage};
 
 use crate::changing::{apply_in, recompact_in, record_in, repair_in, restat_in};
@@ -8,7 +9,7 @@ use crate::desk::Desk;
 use crate::doubting::doubt_in;
 use crate::mending::mend_in;
 use crate::notes::Notes;
-use crate::printing::{Printing, Streaming, print_file, print_from, print_log, stream_log};
+use crate::printing::{Printing, Streaming, print_from, print_in, stream_log};
 use crate::reporting::{builds_in, picture_in, summary_in, trace_in};
 use crate::screen::NO_SCREEN;
 use crate::settling::{prune_in, retime_in};
@@ -38,7 +39,7 @@ where
     ensures accepts { OnOk result (CanBeDone line.now.words) }
     ensures outcome { IfOk result
         (λ outcome. outcome ≡ Verdict.Found → CanFind line.now.words) }
-    ensures faults { IfErr result (IsFaultOf line.now.words) }
+    ensures faults { IfErr result (λ fault. (told : Option WrongNumber) × IsFaultOf line.now.words told fault) }
 {
     let notes = Notes::new(alloc, false, NO_SCREEN, NO_SECRET);
     run_at(&mut Desk::of(rt, alloc, line, notes), line)
@@ -54,21 +55,25 @@ where
     ensures accepts { OnOk result (CanBeDone line.now.words) }
     ensures outcome { IfOk result
         (λ outcome. outcome ≡ Verdict.Found → CanFind line.now.words) }
-    ensures faults { IfErr result (IsFaultOf line.now.words) }
+    ensures faults { IfErr result (IsFaultOf line.now.words desk.new.notes.told.number) }
 {
     let done = match line.words {
-        Words::Show(log) => print_log(desk, Printing::Show, log),
-        Words::Check(log) => print_log(desk, Printing::Check, log),
+        // These take a log that is missing for an empty one.
+        Words::Show(log) => print_in(desk, Printing::Show, log, true),
+        Words::Check(log) => print_in(desk, Printing::Check, log, true),
         Words::Hash(command) => print_from(desk, Printing::Hash(command), io::empty()),
-        Words::HashFile(file) => print_file(desk, Printing::HashFile, file),
-        Words::Replay(script) => print_file(desk, Printing::Replay, script),
+        Words::HashFile(file) => print_in(desk, Printing::HashFile, file, false),
+        Words::Replay(script) => print_in(desk, Printing::Replay, script, false),
         Words::Read { what, log, choices } => return read_in(desk, what, log, choices),
         Words::Compare {
             old,
             new,
             lines,
             least,
-        } => compare_in(desk, old, new, lines, least),
+        } => {
+            compare_in(desk, old, new, lines, least)?;
+            return Ok(Verdict::Done);
+        }
         Words::Record {
             log,
             start,
@@ -76,7 +81,10 @@ where
             mtime,
             name,
             command,
-        } => record_in(desk, log, start, end, mtime, name, command),
+        } => {
+            record_in(desk, log, start, end, mtime, name, command)?;
+            return Ok(Verdict::Done);
+        }
         Words::Recompact { log, keep } => recompact_in(desk, log, keep),
         Words::Restat { log, times } => restat_in(desk, log, times),
         Words::Change { what, log, file } => return change_in(desk, what, log, file),
@@ -108,7 +116,7 @@ where
     R::File: SystemFile,
     ensures accepts { OnOk result (CanBeRead what choices.entry) }
     ensures outcome { IfOk result (λ outcome. outcome ≡ Verdict.Found → FindsBy what) }
-    ensures faults { IfErr result (IsReadFault what choices.entry) }
+    ensures faults { IfErr result (IsReadFault what choices.entry desk.new.notes.told.number) }
 {
     let missing_ok = desk.missing_ok;
     let done = match what {

@@ -1,23 +1,17 @@
 //! Why something was refused, as it is said where `--verbose` asks for it: which file it is of, and the reason.
-ghost use Rattle.std.specs.Prelude.{◌≡◌, ℕ, List, None, Some, IfSome, IsSome, false, true};
-ghost use Rattle.std.specs.Int.{w32, w64};
+ghost use Rattle.std.specs.Prelude.{◌≡◌, None, Some, IfSome, IsSome, false, true};
 ghost use Rattle.nl_os.specs.declared.failed_call.FileRole.{FileRole};
 ghost use Rattle.nl_tool_texts.specs.declared.fault.ToolFault.{ToolFault};
 ghost use Rattle.nl_tool.specs.declared.reason.Place.{Place};
 ghost use Rattle.nl_tool.specs.declared.reason.Reason.{Reason};
-ghost use Rattle.nl_tool.specs.Looks.{look_of};
-ghost use Rattle.nl_tool.specs.Reports.{AreCounts};
-ghost use Rattle.nl_tool.specs.Reasons.{change_place, with_graph, IsBadNumberOf, IsBadOption, IsBadRule, IsByteAt, IsEarly, IsFirstBad, IsLongNameOf, IsLookAt, IsMasked, IsNegative, IsNoteFor, IsNumber, IsNumberFault, IsReasonFor, IsSystem, IsUnsynced, IsVersion, file_place, graph_file, heard_of, is_input, log_place, mended_place, place_text, read_place, reads_input, reason_text, refusal_text, why_text, words_for, words_heard};
+ghost use Rattle.nl_tool.specs.Reasons.{change_place, with_graph, HasText, IsByteAt, IsEarly, IsLongNameOf, IsLookAt, IsMasked, IsNegative, IsNoteFor, IsReasonFor, IsSystem, IsUnsynced, IsVersion, file_place, graph_file, heard_of, is_input, log_place, mended_place, number_text, place_text, read_place, reads_input, reason_text, refusal_text, why_text, words_for, words_heard};
 
-use crate::comparing::least_of;
 use crate::looks::{Look, escaped_of, look_of, start_of};
 use crate::notes::Notes;
-use crate::reporting::{counts_of, most_of, positive_of, scope_of};
-use nl_fields::{read_i32, read_i64};
 use nl_os::{Failure, FileRole, folder_part};
-use nl_tool_change::{LineFault, NumberFault, build_fault, count_fault, number_fault};
+use nl_tool_change::{LineFault, NumberFault, NumberOf, WrongNumber};
 use nl_tool_texts::ToolFault;
-use nl_tool_words::{Changing, Choices, CommandLine, Words};
+use nl_tool_words::{Changing, CommandLine, Words};
 use nl_versions::is_version_read;
 use std::alloc::Global;
 use std::{fmt, io, str};
@@ -40,19 +34,9 @@ pub enum Place<'a> {
     Command(&'a str),
     Input,
     Output,
-    /// A value of `record`.
-    Start(&'a str),
-    End(&'a str),
-    Mtime(&'a str),
+    /// The name that `record` is given.
     Name,
-    /// How many lines a list of `summary` or `compare` has at most.
-    Count(&'a str),
-    /// The build that a word tells of.
-    Build(&'a str),
-    /// How many milliseconds a difference of `compare` has at the least.
-    Least(&'a str),
-    /// How many commands at a time `summary` estimates.
-    Jobs(&'a str),
+    Number(NumberOf, &'a str),
 }
 
 impl fmt::Display for Place<'_> {
@@ -81,14 +65,8 @@ impl fmt::Display for Place<'_> {
             Place::Command(path) => write!(f, "FILE {path}"),
             Place::Input => write!(f, "standard input"),
             Place::Output => write!(f, "standard output"),
-            Place::Start(text) => write!(f, "START {text}"),
-            Place::End(text) => write!(f, "END {text}"),
-            Place::Mtime(text) => write!(f, "MTIME {text}"),
             Place::Name => write!(f, "NAME"),
-            Place::Count(text) => write!(f, "N {text}"),
-            Place::Build(text) => write!(f, "BUILD {text}"),
-            Place::Least(text) => write!(f, "MS {text}"),
-            Place::Jobs(text) => write!(f, "N {text}"),
+            Place::Number(which, text) => write!(f, "{which} {text}"),
         }
     }
 }
@@ -128,9 +106,8 @@ pub enum Reason {
     Looks(Look),
     /// How it begins.
     Begins(String),
-    Number(NumberFault),
-    /// Which of several numbers is wrong, from 1.
-    Nth(usize, NumberFault),
+    /// Which of several numbers is wrong, from 1, where there are several.
+    Number(Option<usize>, NumberFault),
     /// A graph lacks each command of a build, or one of them needs its own output.
     OtherBuild,
     /// A name has no byte, a byte that it may not have, or too many.
@@ -171,8 +148,8 @@ impl fmt::Display for Reason {
             }
             Reason::Looks(look) => write!(f, "{look}"),
             Reason::Begins(text) => write!(f, "it begins with \"{text}\""),
-            Reason::Number(fault) => write!(f, "{fault}"),
-            Reason::Nth(number, fault) => write!(f, "number {number}: {fault}"),
+            Reason::Number(None, fault) => write!(f, "{fault}"),
+            Reason::Number(Some(number), fault) => write!(f, "number {number}: {fault}"),
             Reason::OtherBuild => write!(f, "no output of the build is in it, or one needs itself"),
             Reason::NoBytes => write!(f, "it has no byte"),
             Reason::Tab(at) => write!(f, "byte {at} is a tab"),
@@ -296,19 +273,19 @@ pub fn refusal_of<'a>(
     ensures fault { result.fault ≡ fault }
     ensures quiet { line.now.verbose ≡ false → notes.now.screen.errors ≡ false → result.why ≡ None }
     ensures why { IfSome result.why
-        (IsReasonFor (words_for fault line.now.words notes.now.is_second) fault notes.now.folder
-        (heard_of notes.now)) }
+        (IsReasonFor (words_for fault line.now.words notes.now.is_second) fault notes.now) }
+    ensures whenever { line.now.verbose ≡ true → fault ≡ ToolFault.BadNumber
+        → HasText line.now.words notes.now.told.number → IsSome result.why }
 {
-    let why = if line.verbose || notes.screen.errors {
-        why_of(
-            alloc,
-            &words_for(fault, &line.words, notes.is_second),
-            fault,
-            notes,
-        )
-    } else {
-        None
-    };
+    if !line.verbose && !notes.screen.errors {
+        return Refusal { fault, why: None };
+    }
+    if let ToolFault::BadNumber = fault {
+        let why = bad_number(&line.words, notes);
+        return Refusal { fault, why };
+    }
+    let words = words_for(fault, &line.words, notes.is_second);
+    let why = why_of(alloc, &words, fault, notes);
     Refusal { fault, why }
 }
 
@@ -370,8 +347,7 @@ fn graph_file(path: &str) -> Option<&str>
 }
 
 fn why_of<'a>(alloc: Global, words: &Words<'a>, fault: ToolFault, notes: &Notes) -> Option<Why<'a>>
-    ensures { IfSome result
-        (IsReasonFor words.now fault notes.now.folder (heard_of notes.now)) }
+    ensures { IfSome result (IsReasonFor words.now fault notes.now) }
 {
     match fault {
         ToolFault::Read => unread_of(alloc, words, notes),
@@ -387,7 +363,6 @@ fn why_of<'a>(alloc: Global, words: &Words<'a>, fault: ToolFault, notes: &Notes)
         ToolFault::NegativeTime(_) => negative_why(alloc, words, notes),
         ToolFault::OtherVersion => version_why(alloc, words, notes),
         ToolFault::NotALog => looks_of(alloc, words, notes),
-        ToolFault::BadNumber => bad_number(alloc, words),
         ToolFault::EmptyName => Some(of_name(Reason::NoBytes)),
         ToolFault::BadByte(at) => bad_byte(words, at),
         ToolFault::LongName => long_name(words),
@@ -395,13 +370,13 @@ fn why_of<'a>(alloc: Global, words: &Words<'a>, fault: ToolFault, notes: &Notes)
             place: read_place(words)?,
             reason: Reason::OtherBuild,
         }),
-        ToolFault::Memory | ToolFault::Elsewhere => None,
+        ToolFault::BadNumber | ToolFault::Memory | ToolFault::Elsewhere => None,
     }
 }
 
 fn unread_of<'a>(alloc: Global, words: &Words<'a>, notes: &Notes) -> Option<Why<'a>>
     ensures { IfSome result
-        (IsReasonFor words.now ToolFault.Read notes.now.folder (heard_of notes.now)) }
+        (IsReasonFor words.now ToolFault.Read notes.now) }
 {
     if let Some(error) = notes.heard.failure {
         return said_of(alloc, read_place(words)?, error);
@@ -466,36 +441,24 @@ fn look_reason(alloc: Global, bytes: &[u8]) -> Option<Reason>
 {
     match look_of(bytes) {
         Some(look) => Some(Reason::Looks(look)),
-        None => begins_reason(alloc, bytes),
+        None => Some(Reason::Begins(start_of(alloc, bytes)?)),
     }
 }
 
-fn begins_reason(alloc: Global, bytes: &[u8]) -> Option<Reason>
-    requires { look_of bytes.now ≡ None }
-    ensures { IfSome result (IsLookAt bytes.now) }
+fn bad_number<'a>(words: &Words<'a>, notes: &Notes) -> Option<Why<'a>>
+    ensures why { IfSome result (IsReasonFor words.now ToolFault.BadNumber notes.now) }
+    ensures whenever { HasText words.now notes.now.told.number → IsSome result }
 {
-    match start_of(alloc, bytes) {
-        Some(text) => Some(Reason::Begins(text)),
-        None => None,
-    }
+    let WrongNumber { which, nth, why } = notes.told.number?;
+    let text = number_text(words, which)?;
+    Some(Why {
+        place: Place::Number(which, text),
+        reason: Reason::Number(nth, why),
+    })
 }
 
-fn is_i32(text: &str) -> bool
-    ensures yes { result ≡ true → IsNumber w32 text.now }
-    ensures no { result ≡ false → ¬ IsNumber w32 text.now }
-{
-    read_i32(text.as_bytes()).is_some()
-}
-
-fn is_i64(text: &str) -> bool
-    ensures yes { result ≡ true → IsNumber w64 text.now }
-    ensures no { result ≡ false → ¬ IsNumber w64 text.now }
-{
-    read_i64(text.as_bytes()).is_some()
-}
-
-fn bad_number<'a>(alloc: Global, words: &Words<'a>) -> Option<Why<'a>>
-    ensures { IfSome result (IsBadNumberOf words.now) }
+fn number_text<'a>(words: &Words<'a>, which: NumberOf) -> Option<&'a str>
+    ensures { result ≡ number_text words.now which }
 {
     match *words {
         Words::Record {
@@ -503,112 +466,25 @@ fn bad_number<'a>(alloc: Global, words: &Words<'a>) -> Option<Why<'a>>
             end,
             mtime,
             ..
-        } => bad_value(start, end, mtime),
-        Words::Read { choices, .. } => {
-            let Choices {
-                all,
-                build,
-                lines,
-                jobs,
-                ..
-            } = choices;
-            bad_option(alloc, all, build, lines, jobs)
-        }
-        Words::Compare { lines, least, .. } => bad_rule(lines, least),
+        } => match which {
+            NumberOf::Start => Some(start),
+            NumberOf::End => Some(end),
+            NumberOf::Mtime => Some(mtime),
+            _ => None,
+        },
+        Words::Read { choices, .. } => match which {
+            NumberOf::Lines => choices.lines,
+            NumberOf::Build => choices.build,
+            NumberOf::Jobs => choices.jobs,
+            _ => None,
+        },
+        Words::Compare { lines, least, .. } => match which {
+            NumberOf::Lines => lines,
+            NumberOf::Least => least,
+            _ => None,
+        },
         _ => None,
     }
-}
-
-fn bad_option<'a>(
-    alloc: Global,
-    all: bool,
-    build: Option<&'a str>,
-    lines: Option<&'a str>,
-    jobs: Option<&'a str>,
-) -> Option<Why<'a>>
-    ensures { IfSome result (λ why. IsBadOption all build.entry lines.entry jobs.entry why.place
-        × IsNumberFault why.reason) }
-{
-    match (lines, build, jobs) {
-        (Some(text), _, _) if most_of(lines).is_none() => Some(Why {
-            place: Place::Count(text),
-            reason: Reason::Number(count_fault(text.as_bytes())),
-        }),
-        (_, Some(text), _) if scope_of(all, build).is_none() => Some(Why {
-            place: Place::Build(text),
-            reason: Reason::Number(build_fault(text.as_bytes())),
-        }),
-        (_, _, Some(text)) if are_no_counts(alloc, jobs) => Some(Why {
-            place: Place::Jobs(text),
-            reason: jobs_fault(text.as_bytes()),
-        }),
-        _ => None,
-    }
-}
-
-fn are_no_counts(alloc: Global, jobs: Option<&str>) -> bool
-    ensures { result ≡ true → (counts : List ℕ) → AreCounts jobs.entry counts → ⊥ }
-{
-    match counts_of(alloc, jobs) {
-        Ok(None) => true,
-        _ => false,
-    }
-}
-
-// The first of these numbers that isn't one from 1 up to 2^63 - 1.
-fn jobs_fault(text: &[u8]) -> Reason
-    ensures { IsNumberFault result }
-{
-    let mut number: usize = 0;
-    for part in text.split(|b| *b == b',') {
-        number = number.saturating_add(1);
-        if positive_of(part).is_none() {
-            return Reason::Nth(number, build_fault(part));
-        }
-    }
-    Reason::Number(NumberFault::NoNumber)
-}
-
-fn bad_rule<'a>(lines: Option<&'a str>, least: Option<&'a str>) -> Option<Why<'a>>
-    ensures { IfSome result (λ why. IsBadRule lines.entry least.entry why.place
-        × IsNumberFault why.reason) }
-{
-    match (lines, least) {
-        (Some(text), _) if most_of(lines).is_none() => Some(Why {
-            place: Place::Count(text),
-            reason: Reason::Number(count_fault(text.as_bytes())),
-        }),
-        (_, Some(text)) if least_of(least).is_none() => Some(Why {
-            place: Place::Least(text),
-            reason: Reason::Number(count_fault(text.as_bytes())),
-        }),
-        _ => None,
-    }
-}
-
-fn bad_value<'a>(start: &'a str, end: &'a str, mtime: &'a str) -> Option<Why<'a>>
-    ensures { IfSome result (λ why. IsFirstBad start.entry end.entry mtime.entry why.place
-        × IsNumberFault why.reason) }
-{
-    if !is_i32(start) {
-        return Some(Why {
-            place: Place::Start(start),
-            reason: Reason::Number(number_fault(start.as_bytes(), NumberFault::Past32)),
-        });
-    }
-    if !is_i32(end) {
-        return Some(Why {
-            place: Place::End(end),
-            reason: Reason::Number(number_fault(end.as_bytes(), NumberFault::Past32)),
-        });
-    }
-    if !is_i64(mtime) {
-        return Some(Why {
-            place: Place::Mtime(mtime),
-            reason: Reason::Number(number_fault(mtime.as_bytes(), NumberFault::Past64)),
-        });
-    }
-    None
 }
 
 fn of_name<'a>(reason: Reason) -> Why<'a>

@@ -1,8 +1,6 @@
 //! The words that tell what the builds of a log did, over LOG or standard input, with standard output for their text.
-ghost use Rattle.std.specs.Prelude.{◌≡◌, ◌==◌, ◌++◌, ◌<◌, ◌^◌, ℕ, List, map, pos, Some, IfErr, IfOk, IfSome, IsSome, OnOk};
-ghost use Rattle.std.specs.List.{slice_split};
+ghost use Rattle.std.specs.Prelude.{◌≡◌, ℕ, List, map, Some, IfErr, IfOk, OnOk};
 ghost use Rattle.nl_builds.specs.declared.log.LogBuilds.{LogBuilds};
-ghost use Rattle.nl_fields.specs.Digits.{IsDecimal};
 ghost use Rattle.nl_tool_texts.specs.Output.{Prints};
 ghost use Rattle.nl_versions.specs.VersionOf.{as_five};
 ghost use Rattle.nl_table.specs.Log.{log_of};
@@ -12,14 +10,14 @@ ghost use Rattle.nl_reports.specs.declared.choice.Scope.{Scope};
 ghost use Rattle.nl_tool.specs.Answers.{RefusesLog};
 ghost use Rattle.nl_tool.specs.Faults.{IsBuildFault, IsPathFault, IsPictureFault, IsReportFault, IsSummaryFault, IsToldFault};
 ghost use Rattle.nl_tool_print.specs.Faults.{IsLogFault};
-ghost use Rattle.nl_tool.specs.Reports.{AreBuilds, AreCounts, ArePositive, IsBuild, IsFound, IsLaidOut, IsMost, IsReport, IsReportOf, IsScope, IsSummary, PrintsReport, asked_told, laid_out, rule_by, rule_of, waiting};
+ghost use Rattle.nl_tool.specs.Reports.{AreBuilds, AreCounts, IsFound, IsLaidOut, IsMost, IsReport, IsReportOf, IsScope, IsSummary, PrintsReport, asked_told, laid_out, rule_by, rule_of, waiting};
 
 use crate::desk::Desk;
 use crate::notes::NotedWriter;
+use crate::numbers::{counts_of, most_of, scope_of};
 use crate::reading::{graph_bytes, log_bytes};
 use jiff_tz::{SystemTimeZone, TimeZone, TimeZoneDatabase};
 use nl_builds::{Builds, LogBuilds, Stamps, read_builds};
-use nl_fields::read_i64;
 use nl_reports::{
     ByGraph, KindRule, Lists, NinjaGraph, Priority, Scope, builds_lines, builds_screen,
     chosen_jobs, draw_builds, graph_lines, lasting, read_graph, summary_lines, taken_in,
@@ -60,18 +58,11 @@ pub fn summary_in<R: Runtime>(
     ensures scope { OnOk result ((scope : Scope) × IsScope choices.entry.all choices.entry.build scope) }
     ensures accepts { OnOk result ((most : ℕ) × IsMost choices.entry.lines most) }
     ensures counts { OnOk result ((counts : List ℕ) × AreCounts choices.entry.jobs counts) }
-    ensures faults { IfErr result (IsSummaryFault choices.entry.all choices.entry.build choices.entry.lines
-        choices.entry.graph choices.entry.jobs) }
+    ensures faults { IfErr result (IsSummaryFault choices.entry desk.new.notes.told.number) }
 {
-    let Some(most) = most_of(choices.lines) else {
-        return Err(ToolFault::BadNumber);
-    };
-    let Some(scope) = scope_of(choices.all, choices.build) else {
-        return Err(ToolFault::BadNumber);
-    };
-    let Some(counts) = counts_of(desk.alloc, choices.jobs)? else {
-        return Err(ToolFault::BadNumber);
-    };
+    let most = most_of(choices.lines, &mut desk.notes.told)?;
+    let scope = scope_of(choices.all, choices.build, &mut desk.notes.told)?;
+    let counts = counts_of(desk.alloc, choices.jobs, &mut desk.notes.told)?;
     let lists = Lists {
         screen: desk.columns.is_some(),
         most,
@@ -147,11 +138,9 @@ pub fn trace_in<R: Runtime>(
     choices: Choices<'_>,
 ) -> Result<(), ToolFault>
     ensures scope { OnOk result ((scope : Scope) × IsScope choices.entry.all choices.entry.build scope) }
-    ensures faults { IfErr result (IsBuildFault choices.entry.all choices.entry.build) }
+    ensures faults { IfErr result (IsBuildFault choices.entry desk.new.notes.told.number) }
 {
-    let Some(scope) = scope_of(choices.all, choices.build) else {
-        return Err(ToolFault::BadNumber);
-    };
+    let scope = scope_of(choices.all, choices.build, &mut desk.notes.told)?;
     report_in(desk, Report::Trace(scope), log)
 }
 
@@ -161,11 +150,9 @@ pub fn picture_in<R: Runtime>(
     choices: Choices<'_>,
 ) -> Result<(), ToolFault>
     ensures scope { OnOk result ((scope : Scope) × IsScope choices.entry.all choices.entry.build scope) }
-    ensures faults { IfErr result (IsPictureFault choices.entry.all choices.entry.build choices.entry.graph) }
+    ensures faults { IfErr result (IsPictureFault choices.entry desk.new.notes.told.number) }
 {
-    let Some(scope) = scope_of(choices.all, choices.build) else {
-        return Err(ToolFault::BadNumber);
-    };
+    let scope = scope_of(choices.all, choices.build, &mut desk.notes.told)?;
     match choices.graph {
         Some(path) => picture_with(desk, scope, path, log),
         None => report_in(desk, Report::Picture { scope, graph: None }, log),
@@ -192,38 +179,6 @@ fn picture_with<R: Runtime>(
     report_in(desk, report, log)
 }
 
-pub fn scope_of(all: bool, build: Option<&str>) -> Option<Scope>
-    ensures value { IfSome result (IsScope all build.entry) }
-    ensures accepts { (scope : Scope) → IsScope all build.entry scope → result ≡ Some scope }
-{
-    if all {
-        return Some(Scope::All);
-    }
-    build_of(build)
-}
-
-fn build_of(build: Option<&str>) -> Option<Scope>
-    ensures value { IfSome result (IsBuild build.entry) }
-    ensures accepts { (scope : Scope) → IsBuild build.entry scope → result ≡ Some scope }
-{
-    match build {
-        None => Some(Scope::Last),
-        Some(text) => numbered_by(text),
-    }
-}
-
-// The build of a number of 1 up to 2^63 - 1, in its one spelling.
-fn numbered_by(text: &str) -> Option<Scope>
-    ensures value { IfSome result (IsBuild (Some text.entry)) }
-    ensures accepts { (scope : Scope) → IsBuild (Some text.entry) scope → result ≡ Some scope }
-{
-    let count = count_of(text)?;
-    if count == 0 {
-        return None;
-    }
-    Some(Scope::Numbered(count as u64))
-}
-
 pub fn rule_of(kind: Option<&str>, screen: bool) -> KindRule
     ensures value { result ≡ rule_of kind.entry screen }
 {
@@ -243,76 +198,6 @@ fn rule_by(text: &str) -> KindRule
         "work" => KindRule::Work,
         _ => KindRule::Extension,
     }
-}
-
-pub fn most_of(lines: Option<&str>) -> Option<usize>
-    ensures value { IfSome result (IsMost lines.entry) }
-    ensures accepts { (most : ℕ) → IsMost lines.entry most → result ≡ Some most }
-{
-    match lines {
-        None => Some(10),
-        Some(text) => count_of(text),
-    }
-}
-
-// A number of 0 up to 2^63 - 1, in its one spelling.
-pub fn count_of(text: &str) -> Option<usize>
-    ensures value { IfSome result (λ n. (n < 2 ^ 63) × IsDecimal (pos n) text.now) }
-    ensures accepts { (n : ℕ) → n < 2 ^ 63 → IsDecimal (pos n) text.now → result ≡ Some n }
-{
-    count_in(text.as_bytes())
-}
-
-fn count_in(text: &[u8]) -> Option<usize>
-    ensures value { IfSome result (λ n. (n < 2 ^ 63) × IsDecimal (pos n) text.now) }
-    ensures accepts { (n : ℕ) → n < 2 ^ 63 → IsDecimal (pos n) text.now → result ≡ Some n }
-{
-    usize::try_from(read_i64(text)?).ok()
-}
-
-pub fn counts_of(alloc: Global, jobs: Option<&str>) -> Result<Option<Vec<usize>>, AllocError>
-    ensures value { IfOk result (λ o. IfSome o (λ counts. AreCounts jobs.entry counts.items)) }
-    ensures accepts { (counts : List ℕ) → AreCounts jobs.entry counts → IfOk result IsSome }
-{
-    match jobs {
-        None => Ok(Some(Vec::new(alloc))),
-        Some(text) => {
-            let texts = texts_in(alloc, text.as_bytes())?;
-            positive_in(alloc, texts.as_slice())
-        }
-    }
-}
-
-fn texts_in(alloc: Global, text: &[u8]) -> Result<Vec<&[u8]>, AllocError>
-    ensures value { IfOk result (λ texts. map (λ text. text.now) texts.items ≡ slice_split (λ b. b == 44) text.now) }
-{
-    text.split(|b| *b == b',').collect(alloc)
-}
-
-// Numbers of 1 up to 2^63 - 1, each in its one spelling.
-fn positive_in(alloc: Global, texts: &[&[u8]]) -> Result<Option<Vec<usize>>, AllocError>
-    ensures value { IfOk result (λ o. IfSome o (λ counts. ArePositive (map (λ text. text.now) texts.now) counts.items)) }
-    ensures accepts { (counts : List ℕ) → ArePositive (map (λ text. text.now) texts.now) counts → IfOk result IsSome }
-{
-    let mut counts = Vec::new(alloc);
-    for text in texts {
-        match positive_of(text) {
-            Some(count) => counts.push(count)?,
-            None => return Ok(None),
-        }
-    }
-    Ok(Some(counts))
-}
-
-pub fn positive_of(text: &[u8]) -> Option<usize>
-    ensures value { IfSome result (λ n. (0 < n) × (n < 2 ^ 63) × IsDecimal (pos n) text.now) }
-    ensures accepts { (n : ℕ) → 0 < n → n < 2 ^ 63 → IsDecimal (pos n) text.now → result ≡ Some n }
-{
-    let count = count_in(text)?;
-    if count == 0 {
-        return None;
-    }
-    Some(count)
 }
 
 pub fn report_in<R: Runtime>(

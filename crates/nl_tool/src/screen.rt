@@ -1,5 +1,5 @@
 //! Which of the standard streams a person looks at, and how wide the screen is.
-use crate::reporting::count_of;
+use crate::numbers::count_of;
 use std::env;
 use std::rt::Runtime;
 

@@ -1,8 +1,9 @@
 -- Which faults `replay` and each command that changes a log may answer (docs/CLI.md, "Messages").
-use Rattle.std.specs.Prelude.{◌≡◌, ◌⊎◌, ◌<◌, List, ℕ, ⊤, Result, Ok, Err}
+use Rattle.std.specs.Prelude.{◌≡◌, ◌⊎◌, ◌<◌, List, ℕ, Option, ⊤, Result, Ok, Err}
 use Rattle.nl_session.specs.declared.fault.LogFault.{LogFault}
 use Rattle.nl_session.specs.declared.fault.LogFault.TheVariants as refusal
 use Rattle.nl_tool_change.specs.RecordWords.{GiveEntry, IsWordFault}
+use Rattle.nl_tool_change.specs.declared.line_fault.WrongNumber.{WrongNumber}
 use Rattle.nl_tool_texts.specs.declared.fault.ToolFault.{ToolFault}
 use Rattle.nl_tool_texts.specs.declared.fault.ToolFault.TheVariants.{NotALog, OtherVersion, Read, Memory, Write, Folder, NegativeTime, BadLine}
 
@@ -76,8 +77,8 @@ IsNoLogFault OtherVersion = ⊤
 IsNoLogFault _ = ⊥
 
 -- the words are at fault, or they give an entry and adding it is
-abbrev pub IsEntryFault : List ℕ → List ℕ → List ℕ → List ℕ → ToolFault → Type 0
-IsEntryFault start end mtime name fault = IsWordFault start end mtime name fault ⊎ (GiveEntry start end mtime name × IsRecordFault fault)
+abbrev pub IsEntryFault : List ℕ → List ℕ → List ℕ → List ℕ → Option WrongNumber → ToolFault → Type 0
+IsEntryFault start end mtime name told fault = IsWordFault start end mtime name told fault ⊎ (GiveEntry start end mtime name × IsRecordFault fault)
 
 abbrev pub IsBadLine : ToolFault → Type 0
 IsBadLine (BadLine number) = ⊤

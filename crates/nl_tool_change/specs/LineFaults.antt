@@ -2,8 +2,20 @@
 use Rattle.std.specs.Prelude.{ℕ, List, ◌++◌, codes}
 use Rattle.nl_tool_change.specs.declared.line_fault.NumberFault.{NumberFault}
 use Rattle.nl_tool_change.specs.declared.line_fault.NumberFault.TheVariants.{NoNumber, Spelling, Below, BelowOne, Past32, Past64}
+use Rattle.nl_tool_change.specs.declared.line_fault.NumberOf.{NumberOf}
+use Rattle.nl_tool_change.specs.declared.line_fault.NumberOf.TheVariants.{Start, End, Mtime, Lines, Build, Jobs, Least}
 use Rattle.nl_tool_change.specs.declared.line_fault.LineFault.{LineFault}
 use Rattle.nl_tool_change.specs.declared.line_fault.LineFault.TheVariants.{NoTab, Tab, Number, NoName, NoRule, NoTarget, Zero, LongName, LongLine, NoEvent, Values, Fields, Torn}
+
+-- a number of a command line, by its name on the page
+abbrev pub number_name : NumberOf → List ℕ
+number_name Start = codes "START"
+number_name End = codes "END"
+number_name Mtime = codes "MTIME"
+number_name Lines = codes "N"
+number_name Build = codes "BUILD"
+number_name Jobs = codes "N"
+number_name Least = codes "MS"
 
 abbrev pub number_fault_text : NumberFault → List ℕ
 number_fault_text NoNumber = codes "it isn't a number"

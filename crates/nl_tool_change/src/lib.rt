@@ -25,17 +25,14 @@ mod seen;
 mod times_file;
 mod update;
 
-pub use apply::{Hears, apply_on, apply_told};
+pub use apply::{Hears, Nobody, apply_on};
 pub use line_fault::{
-    LineFault, NumberFault, Told, UNTOLD, build_fault, count_fault, number_fault,
+    LineFault, NumberFault, NumberOf, Told, UNTOLD, WrongNumber, build_fault, count_fault,
 };
 pub use manifest_file::read_manifest;
 pub use mending::mend_on;
 pub use place::{AskedFolder, FoundFolder, LogPlace};
 pub use reading::read_log;
 pub use record_words::entry_of;
-pub use replay::{replay_to, replay_told};
-pub use update::{
-    recompact_on, recompact_told, record_command, record_on, repair_on, restat_on, restat_told,
-    retime_on,
-};
+pub use replay::replay_to;
+pub use update::{recompact_on, record_command, record_on, repair_on, restat_on, retime_on};

@@ -1,6 +1,6 @@
 //! What is wrong with a line of KEEP, TIMES, SCRIPT or a list of targets, or with a number, as the reader says that refuses it.
 ghost use Rattle.std.specs.Prelude.{◌≡◌, IsSome, None, Some};
-ghost use Rattle.nl_tool_change.specs.LineFaults.{line_fault_text, number_fault_text};
+ghost use Rattle.nl_tool_change.specs.LineFaults.{line_fault_text, number_fault_text, number_name};
 ghost use Rattle.nl_tool_texts.specs.declared.fault.ToolFault.{ToolFault};
 
 use nl_tool_texts::ToolFault;
@@ -31,6 +31,46 @@ impl fmt::Display for NumberFault {
             NumberFault::Past64 => write!(f, "it isn't a number of 64 bits"),
         }
     }
+}
+
+/// A number of a command line.
+#[derive(Clone, Copy, Debug, PartialEq, Eq, Drop)]
+pub enum NumberOf {
+    Start,
+    End,
+    Mtime,
+    /// How many lines a list of `summary` or `compare` has at most.
+    Lines,
+    /// The build that a word tells of.
+    Build,
+    /// How many commands at a time `summary` estimates.
+    Jobs,
+    /// How many milliseconds a difference of `compare` has at the least.
+    Least,
+}
+
+impl fmt::Display for NumberOf {
+    ghost output = { λ which. Some (number_name which) };
+
+    fn fmt<W: fmt::Write>(&self, f: &mut fmt::Formatter<W>) -> fmt::Result {
+        match self {
+            NumberOf::Start => write!(f, "START"),
+            NumberOf::End => write!(f, "END"),
+            NumberOf::Mtime => write!(f, "MTIME"),
+            NumberOf::Lines | NumberOf::Jobs => write!(f, "N"),
+            NumberOf::Build => write!(f, "BUILD"),
+            NumberOf::Least => write!(f, "MS"),
+        }
+    }
+}
+
+/// Which number of a command line is none that is taken there.
+#[derive(Clone, Copy, Debug, PartialEq, Eq, Drop)]
+pub struct WrongNumber {
+    pub which: NumberOf,
+    /// Which one of several it is, from 1.
+    pub nth: Option<usize>,
+    pub why: NumberFault,
 }
 
 // The text isn't a number in its one spelling, or is out of the range that `past` names.
@@ -109,9 +149,10 @@ impl fmt::Display for LineFault {
     }
 }
 
-/// What the reader of a file says beside its fault.
+/// What the reader of a file, or of a number of a command line, says beside its fault.
 #[derive(Clone, Copy, Drop)]
 pub struct Told {
+    pub number: Option<WrongNumber>,
     /// What is wrong with the first bad line.
     pub why: Option<LineFault>,
     /// The number, from 1, of the first line with a negative time.
@@ -120,6 +161,7 @@ pub struct Told {
 
 /// What is told before a file is read.
 pub const UNTOLD: Told = Told {
+    number: None,
     why: None,
     negative: None,
 };
@@ -131,5 +173,13 @@ impl Told {
     {
         self.why = Some(why);
         ToolFault::BadLine(number)
+    }
+
+    pub fn refuse_number(&mut self, number: WrongNumber) -> ToolFault
+        ensures value { result ≡ ToolFault.BadNumber }
+        ensures why { self.new.number ≡ Some number }
+    {
+        self.number = Some(number);
+        ToolFault::BadNumber
     }
 }

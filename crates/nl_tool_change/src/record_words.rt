@@ -1,7 +1,10 @@
 //! The entry that the words of `record` give.
 ghost use Rattle.std.specs.Prelude.{◌≡◌, IfErr, IfOk, OnOk};
-ghost use Rattle.nl_tool_change.specs.RecordWords.{GiveEntry, IsEntryOf, IsWordFault, of_name_fault};
+ghost use Rattle.std.specs.Int.{w32, w64};
+ghost use Rattle.nl_fields.specs.Digits.{IsDecimal};
+ghost use Rattle.nl_tool_change.specs.RecordWords.{GiveEntry, IsEntryOf, IsNoNumber, IsWordFault, of_name_fault};
 
+use crate::line_fault::{NumberFault, NumberOf, Told, WrongNumber, number_fault};
 use nl_fields::{EntryRef, NameFault, read_i32, read_i64};
 use nl_tool_texts::ToolFault;
 
@@ -11,23 +14,49 @@ pub fn entry_of<'a>(
     end: &str,
     mtime: &str,
     name: &'a str,
+    told: &mut Told,
 ) -> Result<EntryRef<'a>, ToolFault>
     ensures value { IfOk result (IsEntryOf start.now end.now mtime.now name.entry.now) }
     ensures accepts { OnOk result (GiveEntry start.now end.now mtime.now name.entry.now) }
-    ensures faults { IfErr result (IsWordFault start.now end.now mtime.now name.entry.now) }
+    ensures faults { IfErr result
+        (IsWordFault start.now end.now mtime.now name.entry.now told.new.number) }
 {
-    let Some(start_ms) = read_i32(start.as_bytes()) else {
-        return Err(ToolFault::BadNumber);
-    };
-    let Some(end_ms) = read_i32(end.as_bytes()) else {
-        return Err(ToolFault::BadNumber);
-    };
-    let Some(mtime) = read_i64(mtime.as_bytes()) else {
-        return Err(ToolFault::BadNumber);
-    };
+    let start_ms = time_of(start, NumberOf::Start, told)?;
+    let end_ms = time_of(end, NumberOf::End, told)?;
+    let mtime = mtime_of(mtime, told)?;
     match EntryRef::new(start_ms, end_ms, mtime, name.as_bytes(), 0) {
         Ok(entry) => Ok(entry),
         Err(fault) => Err(of_name_fault(fault)),
+    }
+}
+
+fn time_of(text: &str, which: NumberOf, told: &mut Told) -> Result<i32, ToolFault>
+    ensures value { IfOk result (λ n. IsDecimal n text.now) }
+    ensures faults { IfErr result (IsNoNumber w32 text.now which told.new.number) }
+{
+    let text = text.as_bytes();
+    match read_i32(text) {
+        Some(number) => Ok(number),
+        None => Err(told.refuse_number(WrongNumber {
+            which,
+            nth: None,
+            why: number_fault(text, NumberFault::Past32),
+        })),
+    }
+}
+
+fn mtime_of(text: &str, told: &mut Told) -> Result<i64, ToolFault>
+    ensures value { IfOk result (λ n. IsDecimal n text.now) }
+    ensures faults { IfErr result (IsNoNumber w64 text.now NumberOf.Mtime told.new.number) }
+{
+    let text = text.as_bytes();
+    match read_i64(text) {
+        Some(number) => Ok(number),
+        None => Err(told.refuse_number(WrongNumber {
+            which: NumberOf::Mtime,
+            nth: None,
+            why: number_fault(text, NumberFault::Past64),
+        })),
     }
 }
 

@@ -5,7 +5,7 @@ ghost use Rattle.nl_tool_change.specs.Faults.{IsBadLine, IsReplayFault};
 ghost use Rattle.nl_tool_texts.specs.Output.{Prints};
 ghost use Rattle.nl_tool_change.specs.Replay.{IsReplayOf, IsReplayText, printed, told_by};
 
-use crate::line_fault::{Told, UNTOLD};
+use crate::line_fault::Told;
 use crate::reply_line::append_reply;
 use crate::script::{Script, read_script};
 use nl_folder::MemFolder;
@@ -16,19 +16,6 @@ use std::io::{Read, Write};
 
 /// Runs the script's events over a folder in memory whose log is empty, and writes the replies and the log that they leave.
 pub fn replay_to<R: Read + Drop, W: Write>(
-    alloc: Global,
-    reader: R,
-    writer: &mut W,
-) -> Result<(), ToolFault>
-    ensures prints { Prints (IsReplayText (R.remaining reader)) (W.contents writer.old)
-        (W.contents writer.new) result }
-    ensures faults { IfErr result IsReplayFault }
-{
-    replay_told(alloc, reader, writer, &mut { UNTOLD })
-}
-
-/// As `replay_to`, and tells what is wrong with a line.
-pub fn replay_told<R: Read + Drop, W: Write>(
     alloc: Global,
     reader: R,
     writer: &mut W,

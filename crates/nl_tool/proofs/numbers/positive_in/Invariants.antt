@@ -1,6 +1,6 @@
 use Rattle.std.proofs.Common.{◌++◌, ℕ, List, drop, map}
 use Rattle.nl_tool.specs.Reports.{ArePositive}
-use Rattle.nl_tool.proofs.reporting.positive_in.Given as goal
+use Rattle.nl_tool.proofs.numbers.positive_in.Given as goal
 
 -- what follows these numbers makes up all of them
 abbrev pub invariant-loop-text : goal.invariant-loop-text

@@ -3,7 +3,7 @@ use Rattle.std.specs.Result.{OkIff, result_ok}
 use Rattle.std.proofs.lemmas.Int.{to_z-of_z}
 use Rattle.std.proofs.lemmas.Option.{none-some}
 use Rattle.std.proofs.lemmas.Result.{Ok-from_Ok_iff}
-use Rattle.nl_tool.proofs.reporting.count_in.Goals as goal
+use Rattle.nl_tool.proofs.numbers.count_in.Goals as goal
 
 pub returns-in_err-read_i64-clause-accepts : goal.returns-in_err-read_i64-clause-accepts
 returns-in_err-read_i64-clause-accepts c n small is =

@@ -1,0 +1,16 @@
+use Rattle.std.proofs.Common.{◌≡◌, ◌∙◌, ◌==◌, List, ℕ, Bor, Option, ap, map, subst, sym}
+use Rattle.std.specs.Prelude.{IfErr, IfOk}
+use Rattle.std.specs.List.{slice_split}
+use Rattle.nl_tool.specs.Reports.{AreCounts, ArePositive, IsNoCounts, IsNotPositive}
+use Rattle.nl_tool.proofs.numbers.counts_of.Goals as goal
+
+pub returns-in_ok-texts-in-Some : goal.returns-in_ok-texts-in-Some
+returns-in_ok-texts-in-Some c =
+    let texts : map (λ t. t.now) c.as_slice.result.now ≡ slice_split (λ b. b == 44) c.in-Some.text.now =
+    ap (map (λ t. t.now)) c.as_slice.ensures.value ∙ c.in_ok-texts-in-Some.ensures.value ∙ ap (slice_split (λ b. b == 44)) c.as_bytes.ensures.value in
+    record {
+      value = subst (λ (o : Option (Bor (List ℕ))). IfOk c.positive_in.result (λ counts. AreCounts o counts.items)) (sym c.in-Some.is)
+          (subst (λ (l : List (List ℕ)). IfOk c.positive_in.result (λ counts. ArePositive l counts.items)) texts c.positive_in.ensures.value);
+      faults = subst (λ (o : Option (Bor (List ℕ))). IfErr c.positive_in.result (IsNoCounts o c.positive_in.new.told.number)) (sym c.in-Some.is)
+          (subst (λ (l : List (List ℕ)). IfErr c.positive_in.result (IsNotPositive l c.positive_in.new.told.number)) texts c.positive_in.ensures.faults);
+    }
