@@ -1,6 +1,5 @@
 -- The text of a critical path, the names of a graph's nodes as a map holds them, and the commands that it lacks.
-use Rattle.std.proofs.Common.{◌≡◌, ◌<◌, ◌∙◌, ◌++◌, ◌==◌, ℕ, true, false, List, [], ◌∷◌, Option, Some, append-nil, ap, arith, codes, cond, decimal, refl, sym, ◌+◌, ◌||◌, Bool, None, bytes_eq, drop, get_or, is_some, length, map, not, take}
-use Rattle.std.proofs.lemmas.Bool.Decides.{nat_tests}
+use Rattle.std.proofs.Common.{◌≡◌, ◌<◌, ◌∙◌, ◌++◌, ℕ, true, false, List, [], ◌∷◌, Option, Some, append-nil, ap, cond, refl, sym, ◌+◌, ◌||◌, Bool, None, bytes_eq, drop, get_or, is_some, length, map, not, take}
 use Rattle.std.proofs.lemmas.List.{at_drop_more, map-append, take_more}
 use Rattle.std.proofs.lemmas.List.Concat.{flat_map-append}
 use Rattle.std.specs.Global.{Vec}

@@ -1,5 +1,5 @@
 -- What is guessed of a graph's places, seen by its numbers.
-use Rattle.std.proofs.Common.{◌≡◌, ◌<◌, ◌≤◌, ◌∙◌, ◌+◌, ◌-◌, ◌⊎◌, append-nil, append_assoc, ℕ, zero, suc, true, false, List, [], ◌∷◌, ◌++◌, Option, None, Some, inl, inr, ap, arith, bytes_eq, codes, cond, decimal, get_or, length, map, option_and_then, option_map, refl, subst, sym, take}
+use Rattle.std.proofs.Common.{◌≡◌, ◌<◌, ◌≤◌, ◌∙◌, ◌+◌, ◌-◌, ◌⊎◌, append-nil, append_assoc, ℕ, zero, suc, true, false, List, [], ◌∷◌, ◌++◌, Option, None, Some, inl, inr, ap, arith, bytes_eq, cond, get_or, length, map, option_and_then, option_map, refl, subst, sym, take}
 use Rattle.std.proofs.lemmas.Bool.{cases_Bool}
 use Rattle.std.proofs.lemmas.Cmp.{nat_list_eq_equiv}
 use Rattle.std.proofs.lemmas.List.{get_or-map, length-map, map-append, take_more}
@@ -19,7 +19,6 @@ use Rattle.nl_reports.specs.Paths.{Edge, IsLongest, IsPath, Leads}
 use Rattle.nl_reports.specs.Plans.{HavePlan, IsPlan, kept}
 use Rattle.nl_reports.specs.Rows.{spans}
 use Rattle.nl_reports.specs.Reaches.{AreOf, IsBegun, IsFarthest, IsFollowed, IsTight, behind_at, far_at, ran_in, ran_named_in, ran_seen, rans_seen}
-use Rattle.nl_reports.specs.Spans.{time_of}
 use Rattle.nl_reports.specs.Sweep.{last_moment, running}
 use Rattle.nl_reports.specs.declared.critical.Ran.{Ran as HeldRan}
 use Rattle.nl_reports.specs.declared.critical.Reaches.{Reaches}

@@ -1,6 +1,6 @@
 -- Commands and kinds of commands, the largest first (docs/CLI.md, "summary").
-use Rattle.std.specs.Prelude.{ℕ, ◌-◌, ◌^◌, ◌==◌, nat_le, Bool, true, false, List, [], ◌∷◌, ◌++◌, take, map, codes, decimal, if◌then◌else◌}
-use Rattle.std.specs.List.{filter, flat_map}
+use Rattle.std.specs.Prelude.{ℕ, ◌-◌, ◌^◌, Bool, true, false, List, [], ◌∷◌, ◌++◌, take, map, codes, decimal, if◌then◌else◌}
+use Rattle.std.specs.List.{flat_map}
 use Rattle.nl_tool_texts.specs.Falling.{falling}
 use Rattle.nl_tool_texts.specs.Fraction.{percent, ratio}
 use Rattle.nl_reports.specs.Jobs.{Job, first_name}

@@ -1,4 +1,4 @@
-use Rattle.std.proofs.Common.{ℕ, List, [], drop, map}
+use Rattle.std.proofs.Common.{ℕ, List, drop, map}
 use Rattle.nl_reports.specs.GraphText.{seen_graph}
 use Rattle.nl_reports.specs.Jobs.{seen}
 use Rattle.nl_reports.specs.Plans.{AreMore, heading}
