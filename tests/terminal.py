@@ -275,6 +275,9 @@ def try_refusals(trials, program, room, log):
         (["record", lost, "1", "2", "x", "out", "c"], b"", "bad number", "MTIME x: it isn't a number"),
         (["summary", "--graph", graph, log], b"", "not the graph of this build", f"FILE {graph}: no output of the build is in it, or one needs itself"),
         (["summary", "--graph", graph, "--jobs", "4,0", log], b"", "bad number", "N 4,0: number 2: it is less than 1"),
+        (["summary", "--graph", graph, "--jobs", "x,4", log], b"", "bad number", "N x,4: number 1: it isn't a number"),
+        (["summary", "--graph", graph, "--jobs", "1,2,9223372036854775808,0", log], b"", "bad number", "N 1,2,9223372036854775808,0: number 3: it isn't a number of 64 bits"),
+        (["summary", "--graph", graph, "--jobs", f"{'9,' * 20_000}0", log], b"", "bad number", f"N {'9,' * 20_000}0: number 20001: it is less than 1"),
     )
     for words, text, fault, why in cases:
         words = [program, *words]
