@@ -3,14 +3,15 @@ ghost use Rattle.std.specs.Prelude.{◌≡◌, ◌++◌, length, map, IfOk, OnOk
 ghost use Rattle.nl_tool_texts.specs.Columns.{begins_one, cell, cells, end_of, field_at, fields_of, fitted, in_columns, last_cell, lines_of, newline_before, row_of, rows_up_to, spaces, widest, width, widths};
 
 use crate::shown::shown;
-use std::alloc::{AllocError, Global};
+use crate::text::AllocResult;
+use std::alloc::Global;
 
 /// The text with its fields in columns, and its control characters by their numbers. Tabs part the fields of a line. Lines with as many fields
 /// share their columns, wherever they stand. Two spaces part columns; the last one stands at its left, and any other at its right. Where a
 /// line would have more characters than `most`, its last field is cut at its beginning, if others stand before it.
 ///
 /// It takes the memory of what it answers and of the text, and 16 bytes for each line.
-pub fn in_columns(alloc: Global, most: usize, text: &[u8]) -> Result<Vec<u8>, AllocError>
+pub fn in_columns(alloc: Global, most: usize, text: &[u8]) -> AllocResult<Vec<u8>>
     ensures value { IfOk result (λ out. out.items ≡ in_columns most text.now) }
 {
     let text = shown(alloc, text)?;
@@ -32,7 +33,7 @@ pub fn in_columns(alloc: Global, most: usize, text: &[u8]) -> Result<Vec<u8>, Al
 }
 
 // What parts a line from those before it.
-fn append_newline(before: usize, out: &mut Vec<u8>) -> Result<(), AllocError>
+fn append_newline(before: usize, out: &mut Vec<u8>) -> AllocResult
     ensures items { OnOk result (out.new.items ≡ out.old.items ++ newline_before before) }
 {
     if before == 0 {
@@ -42,7 +43,7 @@ fn append_newline(before: usize, out: &mut Vec<u8>) -> Result<(), AllocError>
     Ok(())
 }
 
-pub fn lines_of(alloc: Global, text: &[u8]) -> Result<Vec<&[u8]>, AllocError>
+pub fn lines_of(alloc: Global, text: &[u8]) -> AllocResult<Vec<&[u8]>>
     ensures value { IfOk result (λ lines. map (λ line. line.now) lines.items ≡ lines_of text.now) }
 {
     text.split(|b| *b == b'\n').collect(alloc)
@@ -56,7 +57,7 @@ fn append_row(
     line: &[u8],
     found: &mut Vec<usize>,
     out: &mut Vec<u8>,
-) -> Result<(), AllocError>
+) -> AllocResult
     requires found { found.old.items
         ≡ widths (length found.old.items) (map (λ line. line.now) lines.now) }
     ensures found { OnOk result (found.new.items
@@ -71,7 +72,7 @@ fn append_row(
     append_cells(most, found.as_slice(), line, out)
 }
 
-fn widths_of(alloc: Global, lines: &[&[u8]], count: usize) -> Result<Vec<usize>, AllocError>
+fn widths_of(alloc: Global, lines: &[&[u8]], count: usize) -> AllocResult<Vec<usize>>
     ensures value { IfOk result
         (λ found. found.items ≡ widths count (map (λ line. line.now) lines.now)) }
     ensures len { IfOk result (λ found. length found.items ≡ count) }
@@ -95,12 +96,7 @@ fn widest(lines: &[&[u8]], count: usize, place: usize) -> usize
     found
 }
 
-fn append_cells(
-    most: usize,
-    widths: &[usize],
-    line: &[u8],
-    out: &mut Vec<u8>,
-) -> Result<(), AllocError>
+fn append_cells(most: usize, widths: &[usize], line: &[u8], out: &mut Vec<u8>) -> AllocResult
     ensures items { OnOk result
         (out.new.items ≡ out.old.items ++ cells most widths.now line.now) }
 {
@@ -114,7 +110,7 @@ fn append_cells(
 }
 
 // Adds a field that others follow.
-fn append_cell(wide: usize, field: &[u8], out: &mut Vec<u8>) -> Result<(), AllocError>
+fn append_cell(wide: usize, field: &[u8], out: &mut Vec<u8>) -> AllocResult
     ensures items { OnOk result (out.new.items ≡ out.old.items ++ cell wide field.now) }
 {
     append_spaces(wide.saturating_sub(width(field)), out)?;
@@ -123,12 +119,7 @@ fn append_cell(wide: usize, field: &[u8], out: &mut Vec<u8>) -> Result<(), Alloc
 }
 
 // Adds the last field, before which so many stand.
-fn append_last(
-    before: usize,
-    room: usize,
-    field: &[u8],
-    out: &mut Vec<u8>,
-) -> Result<(), AllocError>
+fn append_last(before: usize, room: usize, field: &[u8], out: &mut Vec<u8>) -> AllocResult
     ensures items { OnOk result (out.new.items ≡ out.old.items ++ last_cell before room field.now) }
 {
     if before == 0 {
@@ -139,7 +130,7 @@ fn append_last(
 }
 
 // Adds a field whole, or an ellipsis and its end.
-fn append_fitted(room: usize, field: &[u8], out: &mut Vec<u8>) -> Result<(), AllocError>
+fn append_fitted(room: usize, field: &[u8], out: &mut Vec<u8>) -> AllocResult
     ensures items { OnOk result (out.new.items ≡ out.old.items ++ fitted room field.now) }
 {
     if width(field) <= room {
@@ -169,7 +160,7 @@ fn end_of(room: usize, field: &[u8]) -> &[u8]
     &field[at..]
 }
 
-fn append_spaces(count: usize, out: &mut Vec<u8>) -> Result<(), AllocError>
+fn append_spaces(count: usize, out: &mut Vec<u8>) -> AllocResult
     ensures items { OnOk result (out.new.items ≡ out.old.items ++ spaces count) }
 {
     for _ in 0..count {

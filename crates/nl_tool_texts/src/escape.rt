@@ -2,8 +2,8 @@
 ghost use Rattle.std.specs.Prelude.{◌≡◌, ◌≤◌, ◌++◌, length, IfOk, OnOk};
 ghost use Rattle.nl_tool_texts.specs.Escape.{begins_character, cut_at, cut_name, escaped, label, piece, shown};
 
-use crate::text::{append, is_bare};
-use std::alloc::{AllocError, Global};
+use crate::text::{AllocResult, append, is_bare};
+use std::alloc::Global;
 
 // Bytes: the longest text of a name that stands whole, and the beginning of a longer name.
 const WHOLE: usize = 100;
@@ -12,7 +12,7 @@ const START: usize = 20;
 
 const ELLIPSIS: &[u8] = b"\xE2\x80\xA6";
 
-pub fn append_label(alloc: Global, name: &[u8], out: &mut Vec<u8>) -> Result<(), AllocError>
+pub fn append_label(alloc: Global, name: &[u8], out: &mut Vec<u8>) -> AllocResult
     ensures items { OnOk result (out.new.items ≡ out.old.items ++ label name.now) }
 {
     if name.len() <= WHOLE && is_bare(name) {
@@ -21,7 +21,7 @@ pub fn append_label(alloc: Global, name: &[u8], out: &mut Vec<u8>) -> Result<(),
     append_cut(alloc, name, out)
 }
 
-fn append_cut(alloc: Global, name: &[u8], out: &mut Vec<u8>) -> Result<(), AllocError>
+fn append_cut(alloc: Global, name: &[u8], out: &mut Vec<u8>) -> AllocResult
     ensures items { OnOk result (out.new.items ≡ out.old.items ++ label name.now) }
 {
     let whole = shown(alloc, name)?;
@@ -34,12 +34,7 @@ fn append_cut(alloc: Global, name: &[u8], out: &mut Vec<u8>) -> Result<(), Alloc
 }
 
 /// It appends the name; if that has more than `most` bytes, whole characters of it and an ellipsis.
-pub fn append_cut_name(
-    alloc: Global,
-    most: usize,
-    name: &[u8],
-    out: &mut Vec<u8>,
-) -> Result<(), AllocError>
+pub fn append_cut_name(alloc: Global, most: usize, name: &[u8], out: &mut Vec<u8>) -> AllocResult
     ensures items { OnOk result (out.new.items ≡ out.old.items ++ cut_name most name.now) }
 {
     let text = String::from_utf8_lossy(alloc, name)?;
@@ -72,7 +67,7 @@ fn begins_character(at: usize, text: &[u8]) -> bool
     }
 }
 
-fn shown(alloc: Global, name: &[u8]) -> Result<Vec<u8>, AllocError>
+fn shown(alloc: Global, name: &[u8]) -> AllocResult<Vec<u8>>
     ensures value { IfOk result (λ out. out.items ≡ shown name.now) }
 {
     let text = String::from_utf8_lossy(alloc, name)?;
@@ -81,7 +76,7 @@ fn shown(alloc: Global, name: &[u8]) -> Result<Vec<u8>, AllocError>
     Ok(out)
 }
 
-fn append_escaped(text: &[u8], out: &mut Vec<u8>) -> Result<(), AllocError>
+fn append_escaped(text: &[u8], out: &mut Vec<u8>) -> AllocResult
     ensures items { OnOk result (out.new.items ≡ out.old.items ++ escaped text.now) }
 {
     let mut first: u8 = 0;
@@ -94,7 +89,7 @@ fn append_escaped(text: &[u8], out: &mut Vec<u8>) -> Result<(), AllocError>
     Ok(())
 }
 
-fn append_piece(first: u8, second: u8, byte: u8, out: &mut Vec<u8>) -> Result<(), AllocError>
+fn append_piece(first: u8, second: u8, byte: u8, out: &mut Vec<u8>) -> AllocResult
     ensures items { OnOk result (out.new.items ≡ out.old.items ++ piece first second byte) }
 {
     match byte {

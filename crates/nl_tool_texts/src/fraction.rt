@@ -2,7 +2,8 @@
 ghost use Rattle.std.specs.Prelude.{◌≡◌, ◌<◌, ◌^◌, IfOk, string_bytes};
 ghost use Rattle.nl_tool_texts.specs.Fraction.{percent, ratio};
 
-use std::alloc::{AllocError, Global};
+use crate::text::AllocResult;
+use std::alloc::Global;
 
 // The part in a hundred of a whole, rounded down, and a hundred at most.
 pub fn percent(part: u128, whole: u128) -> u128
@@ -19,7 +20,7 @@ pub fn percent(part: u128, whole: u128) -> u128
 }
 
 // A fraction with two digits after the point, rounded down.
-pub fn ratio(alloc: Global, part: u128, whole: u128) -> Result<String, AllocError>
+pub fn ratio(alloc: Global, part: u128, whole: u128) -> AllocResult<String>
     requires room { whole < 2 ^ 120 }
     ensures value { IfOk result (λ text. string_bytes text ≡ ratio part whole) }
 {

@@ -2,7 +2,8 @@
 ghost use Rattle.std.specs.Prelude.{◌≡◌, ◌++◌, ◌∷◌, ◌+◌, ◌<◌, ◌≤◌, [], ℕ, List, get_or, length, take, IfOk, OnOk};
 ghost use Rattle.nl_tool_texts.specs.Falling.{falling};
 
-use std::alloc::{AllocError, Global};
+use crate::text::AllocResult;
+use std::alloc::Global;
 
 // Up to this many items are put in their places as they are met; if more are wanted, all are sorted.
 const FEW: usize = 64;
@@ -14,7 +15,7 @@ pub trait Ranking<T> {
         ensures { result ≡ rank self.now item.now };
 }
 
-pub fn falling<T: Copy, R: Ranking<T>>(by: &R, items: Vec<T>) -> Result<Vec<T>, AllocError>
+pub fn falling<T: Copy, R: Ranking<T>>(by: &R, items: Vec<T>) -> AllocResult<Vec<T>>
     ensures value { IfOk result (λ sorted. sorted.items ≡ falling (R.rank by.now) items.items) }
 {
     let mut sorted = items;
@@ -27,7 +28,7 @@ pub fn highest<T: Copy, R: Ranking<T>>(
     by: &R,
     most: usize,
     items: &[T],
-) -> Result<Vec<T>, AllocError>
+) -> AllocResult<Vec<T>>
     ensures value { IfOk result (λ kept. kept.items ≡ take most (falling (R.rank by.now) items.now)) }
 {
     if most > FEW {
@@ -43,12 +44,7 @@ pub fn highest<T: Copy, R: Ranking<T>>(
 }
 
 // An item comes after those that rank as high, and only the first `most` are kept.
-fn keep<T: Copy, R: Ranking<T>>(
-    by: &R,
-    most: usize,
-    item: &T,
-    kept: &mut Vec<T>,
-) -> Result<(), AllocError>
+fn keep<T: Copy, R: Ranking<T>>(by: &R, most: usize, item: &T, kept: &mut Vec<T>) -> AllocResult
     requires kept { (xs : List T) × (kept.old.items ≡ take most (falling (R.rank by.now) xs)) }
     ensures kept { (xs : List T) → kept.old.items ≡ take most (falling (R.rank by.now) xs) → OnOk result
         (kept.new.items ≡ take most (falling (R.rank by.now) (xs ++ item.now ∷ []))) }

@@ -3,9 +3,10 @@ ghost use Rattle.std.specs.Prelude.{◌≡◌, ◌<◌, ◌++◌, IfOk, OnOk};
 ghost use Rattle.nl_fields.specs.Digits.{digit_of};
 ghost use Rattle.nl_tool_texts.specs.Columns.{by_number, is_control, shown, shown_byte};
 
-use std::alloc::{AllocError, Global};
+use crate::text::AllocResult;
+use std::alloc::Global;
 
-pub fn shown(alloc: Global, text: &[u8]) -> Result<Vec<u8>, AllocError>
+pub fn shown(alloc: Global, text: &[u8]) -> AllocResult<Vec<u8>>
     ensures value { IfOk result (λ out. out.items ≡ shown text.now) }
 {
     let mut out = Vec::new(alloc);
@@ -17,7 +18,7 @@ pub fn shown(alloc: Global, text: &[u8]) -> Result<Vec<u8>, AllocError>
     Ok(out)
 }
 
-fn append_shown(before: u8, byte: u8, out: &mut Vec<u8>) -> Result<(), AllocError>
+fn append_shown(before: u8, byte: u8, out: &mut Vec<u8>) -> AllocResult
     ensures items { OnOk result (out.new.items ≡ out.old.items ++ shown_byte before byte) }
 {
     if !is_control(before, byte) {
@@ -28,7 +29,7 @@ fn append_shown(before: u8, byte: u8, out: &mut Vec<u8>) -> Result<(), AllocErro
 }
 
 /// The number is hexadecimal, as in `\x1b`.
-pub fn append_number(byte: u8, out: &mut Vec<u8>) -> Result<(), AllocError>
+pub fn append_number(byte: u8, out: &mut Vec<u8>) -> AllocResult
     ensures { OnOk result (out.new.items ≡ out.old.items ++ by_number byte) }
 {
     out.push(b'\\')?;

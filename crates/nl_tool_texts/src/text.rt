@@ -7,11 +7,14 @@ ghost use Rattle.nl_tool_texts.specs.Texts.{change_text, line, part_text, parts_
 use itoa::{Buffer, Integer};
 use std::alloc::AllocError;
 
+/// What a function answers that is refused nothing but memory.
+pub type AllocResult<T = ()> = Result<T, AllocError>;
+
 /// The moment at which a build begins: a moment is a count from 2^31 milliseconds before it.
 pub const BEGINNING: u64 = 2_147_483_648;
 
 /// Appends a text.
-pub fn append(text: &[u8], out: &mut Vec<u8>) -> Result<(), AllocError>
+pub fn append(text: &[u8], out: &mut Vec<u8>) -> AllocResult
     ensures items { OnOk result (out.new.items ≡ out.old.items ++ text.now) }
 {
     out.extend_from_slice(text)?;
@@ -19,7 +22,7 @@ pub fn append(text: &[u8], out: &mut Vec<u8>) -> Result<(), AllocError>
 }
 
 /// Appends a text and a number after the text.
-pub fn append_with<I: Integer>(text: &[u8], number: I, out: &mut Vec<u8>) -> Result<(), AllocError>
+pub fn append_with<I: Integer>(text: &[u8], number: I, out: &mut Vec<u8>) -> AllocResult
     ensures items { OnOk result (out.new.items ≡ out.old.items ++ (text.now ++ I.text number)) }
 {
     out.extend_from_slice(text)?;
@@ -41,8 +44,17 @@ pub enum Part<'a> {
     Moment(bool, u64),
 }
 
+/// Appends what stands in it, one after another: texts as they are, numbers in braces, and other parts in brackets.
+#[macro_export]
+macro_rules! put {
+    (@ {$number:expr}) => { $crate::Part::Number($number as u128) };
+    (@ [$part:expr]) => { $part };
+    (@ $text:literal) => { $crate::Part::Text($text) };
+    ($out:expr; $($part:tt)+) => { $crate::append_parts(&[$($crate::put!(@ $part)),+], $out) };
+}
+
 /// Appends these parts.
-pub fn append_parts(parts: &[Part<'_>], out: &mut Vec<u8>) -> Result<(), AllocError>
+pub fn append_parts(parts: &[Part<'_>], out: &mut Vec<u8>) -> AllocResult
     ensures items { OnOk result (out.new.items ≡ out.old.items ++ parts_text parts.now) }
 {
     for part in parts {
@@ -51,7 +63,7 @@ pub fn append_parts(parts: &[Part<'_>], out: &mut Vec<u8>) -> Result<(), AllocEr
     Ok(())
 }
 
-fn append_part(part: &Part<'_>, out: &mut Vec<u8>) -> Result<(), AllocError>
+fn append_part(part: &Part<'_>, out: &mut Vec<u8>) -> AllocResult
     ensures items { OnOk result (out.new.items ≡ out.old.items ++ part_text part.now) }
 {
     match part {
@@ -71,7 +83,7 @@ fn append_part(part: &Part<'_>, out: &mut Vec<u8>) -> Result<(), AllocError>
     }
 }
 
-fn append_moment(words: bool, at: u64, out: &mut Vec<u8>) -> Result<(), AllocError>
+fn append_moment(words: bool, at: u64, out: &mut Vec<u8>) -> AllocResult
     ensures items { OnOk result (out.new.items ≡ out.old.items ++ told_moment words at) }
 {
     if at < BEGINNING {
@@ -82,7 +94,7 @@ fn append_moment(words: bool, at: u64, out: &mut Vec<u8>) -> Result<(), AllocErr
 }
 
 /// Appends a line of these fields, which tabs part.
-pub fn append_line(fields: &[Part<'_>], out: &mut Vec<u8>) -> Result<(), AllocError>
+pub fn append_line(fields: &[Part<'_>], out: &mut Vec<u8>) -> AllocResult
     ensures items { OnOk result (out.new.items ≡ out.old.items ++ line (map part_text fields.now)) }
 {
     let mut before: &[u8] = b"";
@@ -94,7 +106,7 @@ pub fn append_line(fields: &[Part<'_>], out: &mut Vec<u8>) -> Result<(), AllocEr
     append(b"\n", out)
 }
 
-fn append_took(words: bool, ms: u128, out: &mut Vec<u8>) -> Result<(), AllocError>
+fn append_took(words: bool, ms: u128, out: &mut Vec<u8>) -> AllocResult
     ensures items { OnOk result (out.new.items ≡ out.old.items ++ took_text words ms) }
 {
     if words {
@@ -116,7 +128,7 @@ fn sign(words: bool, old: u128, new: u128) -> &'static [u8]
 }
 
 // Appends so many milliseconds in words: in two units at most, and what is less is dropped.
-fn append_time(ms: u128, out: &mut Vec<u8>) -> Result<(), AllocError>
+fn append_time(ms: u128, out: &mut Vec<u8>) -> AllocResult
     ensures items { OnOk result (out.new.items ≡ out.old.items ++ time_text ms) }
 {
     if ms == 0 {
@@ -137,13 +149,7 @@ fn append_time(ms: u128, out: &mut Vec<u8>) -> Result<(), AllocError>
 }
 
 // Appends a number of a unit, and what is left in a smaller one.
-fn append_two(
-    first: u128,
-    unit: &[u8],
-    rest: u128,
-    small: &[u8],
-    out: &mut Vec<u8>,
-) -> Result<(), AllocError>
+fn append_two(first: u128, unit: &[u8], rest: u128, small: &[u8], out: &mut Vec<u8>) -> AllocResult
     ensures items { OnOk result (out.new.items ≡ out.old.items ++ two_text first unit.now rest small.now) }
 {
     append_with(b"", first, out)?;
@@ -151,12 +157,7 @@ fn append_two(
     append_rest(b" ", rest, small, out)
 }
 
-fn append_rest(
-    before: &[u8],
-    number: u128,
-    unit: &[u8],
-    out: &mut Vec<u8>,
-) -> Result<(), AllocError>
+fn append_rest(before: &[u8], number: u128, unit: &[u8], out: &mut Vec<u8>) -> AllocResult
     ensures items { OnOk result (out.new.items ≡ out.old.items ++ rest_text before.now number unit.now) }
 {
     if number == 0 {
