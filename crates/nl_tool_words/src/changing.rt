@@ -1,15 +1,10 @@
 //! The words that change a log, a row each, in the order of the help; and `replay`.
-use crate::shape::WordRow;
-use crate::values::{
-    ANY_LOG, DRY_RUN, END, FOLDER, KEEP, LINES_SCRIPT, LOG, MENDED_LOG, MISSING_OK, MTIME, NAME,
-    OPTIONAL_SCRIPT, OWN_VERSION, RECORDED_COMMAND, START, TARGETS, TIMES, UNSURE_TOO, VERSION,
-};
+use crate::shape::{Value, WordRow, rows};
 
-pub const CHANGING: [WordRow; 9] = [
-    WordRow {
-        name: "mend",
-        about: "Has Ninja make each output anew that a log can't vouch for; run it after a crash",
-        after: "\
+pub const CHANGING: [WordRow; 9] = rows! {
+    "mend" [MENDED_LOG FOLDER DRY_RUN UNSURE_TOO] =>
+        "Has Ninja make each output anew that a log can't vouch for; run it after a crash",
+        "\
 It looks at LOG and at the files of its outputs, repairs LOG, and changes the entries of the outputs
 that can't be trusted, so that no command passes for them. It removes no file, and changes none but
 LOG, in one step. One line for each of these outputs, WHY and NAME with a tab between them:
@@ -25,47 +20,35 @@ Status: 0 where LOG was well or is missing, 3 where a line is printed. Before a 
 If LOG has entries, and none of its outputs is there, it is refused: run it in the folder of the
 build, or name that by `-C`.
 
-No build by Ninja may change LOG meanwhile; another nlog waits.",
-        takes: &[MENDED_LOG, FOLDER, DRY_RUN, UNSURE_TOO],
-    },
-    WordRow {
-        name: "record",
-        about: "Adds one entry to a log; prints nothing",
-        after: "\
+No build by Ninja may change LOG meanwhile; another nlog waits.";
+    "record" [LOG START END MTIME NAME RECORDED_COMMAND VERSION] =>
+        "Adds one entry to a log; prints nothing",
+        "\
 The log is made where it is missing: one of version 5, or of 6 for Ninja 1.12 or 7 for 1.13 where
 `--log-version` has that number. START and END are from -2147483648 to 2147483647, MTIME is a 64-bit
 number. A value that begins with `-` stands after `--`, as in
 
   nlog record -- .ninja_log -1 2 3 out 'cc out.c'
 
-No build by Ninja may change LOG meanwhile; another nlog waits.",
-        takes: &[LOG, START, END, MTIME, NAME, RECORDED_COMMAND, VERSION],
-    },
-    WordRow {
-        name: "recompact",
-        about: "Rewrites a log with the last entry of each output that KEEP names; prints nothing",
-        after: "\
+No build by Ninja may change LOG meanwhile; another nlog waits.";
+    "recompact" [LOG KEEP VERSION] =>
+        "Rewrites a log with the last entry of each output that KEEP names; prints nothing",
+        "\
 An empty line of KEEP says nothing, and an empty KEEP drops every entry; `nlog prune` keeps what a
 build by Ninja has. The new log is written to LOG.recompact, and renamed over LOG.
 
-No build by Ninja may change LOG meanwhile; another nlog waits.",
-        takes: &[LOG, KEEP, VERSION],
-    },
-    WordRow {
-        name: "restat",
-        about: "Rewrites a log with the time stamps that TIMES gives; prints nothing",
-        after: "\
+No build by Ninja may change LOG meanwhile; another nlog waits.";
+    "restat" [LOG TIMES VERSION] =>
+        "Rewrites a log with the time stamps that TIMES gives; prints nothing",
+        "\
 An empty line of TIMES says nothing. The last line of a name counts, and names that the log lacks are
 passed over; `nlog retime` takes the time stamps of the outputs' files. The new log is written to
 LOG.recompact, and renamed over LOG.
 
-No build by Ninja may change LOG meanwhile; another nlog waits.",
-        takes: &[LOG, TIMES, VERSION],
-    },
-    WordRow {
-        name: "prune",
-        about: "Rewrites a log with the last entry of each output that a build has; prints nothing",
-        after: "\
+No build by Ninja may change LOG meanwhile; another nlog waits.";
+    "prune" [ANY_LOG TARGETS OWN_VERSION] =>
+        "Rewrites a log with the last entry of each output that a build has; prints nothing",
+        "\
 It keeps the targets that TARGETS names, and each output whose file is there, as Ninja does. TARGETS is
 read first; the names are those of the folder in which you run it. If LOG is damaged, it prints what
 `damage` prints, ends with status 3 and changes nothing. TARGETS without a target is refused, since
@@ -73,44 +56,32 @@ Ninja failed then.
 
   ninja -t targets all > targets && nlog prune .ninja_log targets
 
-No build by Ninja may change LOG meanwhile; another nlog waits.",
-        takes: &[ANY_LOG, TARGETS, OWN_VERSION],
-    },
-    WordRow {
-        name: "retime",
-        about: "Rewrites a log with the time stamps that the outputs' files have; prints nothing",
-        after: "\
+No build by Ninja may change LOG meanwhile; another nlog waits.";
+    "retime" [ANY_LOG OWN_VERSION] =>
+        "Rewrites a log with the time stamps that the outputs' files have; prints nothing",
+        "\
 An output without a file keeps its time stamp, and so does a directory. So does an output whose command
 didn't end: with another time stamp, Ninja would take it for done. The names are those of the folder in
 which you run it. If LOG is damaged, it prints what `damage` prints, ends with status 3 and
 changes nothing.
 
-No build by Ninja may change LOG meanwhile; another nlog waits.",
-        takes: &[ANY_LOG, OWN_VERSION],
-    },
-    WordRow {
-        name: "repair",
-        about: "Rewrites a log with the last entry of each output; prints nothing",
-        after: "\
+No build by Ninja may change LOG meanwhile; another nlog waits.";
+    "repair" [ANY_LOG OWN_VERSION MISSING_OK] =>
+        "Rewrites a log with the last entry of each output; prints nothing",
+        "\
 What is torn, skipped or stale is gone after it, version 4 is 5, and what a device forgot is written
 anew. The new log is written to LOG.recompact, and renamed over LOG. With `--missing-ok` a LOG that is
 missing is made: one of version 5, or of 6 for Ninja 1.12 or 7 for 1.13 where `--log-version` has that
 number. An output whose entry was damaged has an older entry then, or none, and Ninja may take a stale file
 for good: `nlog mend` repairs LOG, too, and has Ninja make such outputs again.
 
-No build by Ninja may change LOG meanwhile; another nlog waits.",
-        takes: &[ANY_LOG, OWN_VERSION, MISSING_OK],
-    },
-    WordRow {
-        name: "replay",
-        about: "Runs the events of a script on a log in memory, and prints the replies and that log",
-        after: "",
-        takes: &[OPTIONAL_SCRIPT],
-    },
-    WordRow {
-        name: "apply",
-        about: "Answers lines that ask for changes and entries, one after another, on one open log",
-        after: "\
+No build by Ninja may change LOG meanwhile; another nlog waits.";
+    "replay" [OPTIONAL_SCRIPT] =>
+        "Runs the events of a script on a log in memory, and prints the replies and that log",
+        "";
+    "apply" [ANY_LOG LINES_SCRIPT OWN_VERSION] =>
+        "Answers lines that ask for changes and entries, one after another, on one open log",
+        "\
 Each line is answered before the next is read. There is a tab before each value:
 
 open [NAME ..]                    opens LOG, which is made where it is missing; where it is due it
@@ -134,7 +105,5 @@ A LOG that is missing is made one of version 5, or of 6 for Ninja 1.12 or 7 for 
 
   printf 'open\\nget\\tapp.o\\n' | nlog apply .ninja_log
 
-No build by Ninja may change LOG meanwhile; another nlog waits.",
-        takes: &[ANY_LOG, LINES_SCRIPT, OWN_VERSION],
-    },
-];
+No build by Ninja may change LOG meanwhile; another nlog waits.";
+};

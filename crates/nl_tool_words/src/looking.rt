@@ -1,15 +1,10 @@
 //! The words that look and change nothing, a row each, in the order of the help.
-use crate::shape::WordRow;
-use crate::values::{
-    ALL, AT_LEAST, AUTO_VERSION, BUILD, COMMAND, DRAWN_GRAPH, GRAPH, HASH_VERSION, JOBS, KIND,
-    LINES, MISSING_OK, NEW, OLD, OPTIONAL_ANY_LOG, OPTIONAL_FILE, OPTIONAL_LOG, TABS, VERSION,
-};
+use crate::shape::{Value, WordRow, rows};
 
-pub const LOOKING: [WordRow; 12] = [
-    WordRow {
-        name: "show",
-        about: "Prints the last entry of each output, in the order in which the outputs first appear",
-        after: "\
+pub const LOOKING: [WordRow; 12] = rows! {
+    "show" [OPTIONAL_LOG VERSION] =>
+        "Prints the last entry of each output, in the order in which the outputs first appear",
+        "\
 One line for each output: START, END, MTIME, NAME and HASH with a tab between neighbours.
 
 START  when its command began, in milliseconds since the build began
@@ -17,42 +12,30 @@ END    when its command ended, in milliseconds since the build began
 MTIME  the time stamp that the build recorded, in the unit of its file system: Ninja on Linux
        writes nanoseconds since 1970
 NAME   the output
-HASH   the hash of the command, in hexadecimal",
-        takes: &[OPTIONAL_LOG, VERSION],
-    },
-    WordRow {
-        name: "check",
-        about: "Prints what a log holds: version, total, unique, skipped, torn, due",
-        after: "\
+HASH   the hash of the command, in hexadecimal";
+    "check" [OPTIONAL_LOG VERSION] =>
+        "Prints what a log holds: version, total, unique, skipped, torn, due",
+        "\
 version  the log's version: 4 or 5; 6 or 7 with `--log-version`
 total    how many of its lines are entries
 unique   how many outputs these entries have
 skipped  how many whole lines after the first are no entries
 torn     how many bytes stand after the last newline
-due      `yes` where a build would recompact the log, else `no`",
-        takes: &[OPTIONAL_LOG, VERSION],
-    },
-    WordRow {
-        name: "hash",
-        about: "Prints the hash of a command as a log holds it, in hexadecimal",
-        after: "",
-        takes: &[COMMAND, HASH_VERSION],
-    },
-    WordRow {
-        name: "entries",
-        about: "Prints each entry, older ones included, in the order of the file",
-        after: "\
+due      `yes` where a build would recompact the log, else `no`";
+    "hash" [COMMAND HASH_VERSION] =>
+        "Prints the hash of a command as a log holds it, in hexadecimal",
+        "";
+    "entries" [OPTIONAL_ANY_LOG AUTO_VERSION MISSING_OK] =>
+        "Prints each entry, older ones included, in the order of the file",
+        "\
 The lines are those of `show`, which has the last entry of each output alone. They are printed while
 LOG is read, so where a read fails, or LOG is larger than a log may be, the first ones were printed.
 The entry that was written last is printed by
 
-  nlog entries .ninja_log | tail -n 1",
-        takes: &[OPTIONAL_ANY_LOG, AUTO_VERSION, MISSING_OK],
-    },
-    WordRow {
-        name: "damage",
-        about: "Prints a line for each line that is no entry; status 3 where there is one",
-        after: "\
+  nlog entries .ninja_log | tail -n 1";
+    "damage" [OPTIONAL_ANY_LOG AUTO_VERSION MISSING_OK] =>
+        "Prints a line for each line that is no entry; status 3 where there is one",
+        "\
 One line for each: LINE, WHAT, LENGTH, OUTPUT and FIRST with a tab between neighbours.
 
 LINE    its number; 1 is the first line of LOG, which is told only where it is torn
@@ -65,13 +48,10 @@ FIRST   the output that Ninja takes the line for an entry of, between the third 
         fourth, as that of the torn line; else `-`
 
 Status: 0 where nothing is printed, 3 where there is damage. `nlog mend` repairs LOG, and has Ninja make
-again each output that a damaged line may be about.",
-        takes: &[OPTIONAL_ANY_LOG, AUTO_VERSION, MISSING_OK],
-    },
-    WordRow {
-        name: "doubt",
-        about: "Prints the outputs whose files aren't as a log says; status 3 where there is one",
-        after: "\
+again each output that a damaged line may be about.";
+    "doubt" [OPTIONAL_ANY_LOG AUTO_VERSION] =>
+        "Prints the outputs whose files aren't as a log says; status 3 where there is one",
+        "\
 Run it in the folder of the build: it looks at the file of each output. A crash can take the line of a
 command and leave its file, and then an older entry passes for it. One line for each output, by its
 last entry: WHAT and NAME with a tab between them.
@@ -84,13 +64,10 @@ NAME  the output
 
 `nlog mend` has Ninja make again those that are newer, and `nlog mend --all` those that are unsure, too.
 
-Status: 0 where nothing is printed, 3 where something is. A LOG that is missing is refused.",
-        takes: &[OPTIONAL_ANY_LOG, AUTO_VERSION],
-    },
-    WordRow {
-        name: "builds",
-        about: "Prints a line for each build that a log tells of: what it ran, and how long",
-        after: "\
+Status: 0 where nothing is printed, 3 where something is. A LOG that is missing is refused.";
+    "builds" [OPTIONAL_ANY_LOG AUTO_VERSION MISSING_OK TABS] =>
+        "Prints a line for each build that a log tells of: what it ran, and how long",
+        "\
 One line for each, the oldest first: NUMBER, COMMANDS, OUTPUTS, WALL, TOTAL, BORDERS, and after
 `again` TAKEN, with a tab between neighbours.
 
@@ -106,13 +83,10 @@ TAKEN     how many of its outputs aren't counted at most, because later builds m
 
 The last build is printed by
 
-  nlog builds .ninja_log | tail -n 1",
-        takes: &[OPTIONAL_ANY_LOG, AUTO_VERSION, MISSING_OK, TABS],
-    },
-    WordRow {
-        name: "summary",
-        about: "Prints how long a build took, how much ran at a time, and its slowest commands",
-        after: "\
+  nlog builds .ninja_log | tail -n 1";
+    "summary" [OPTIONAL_ANY_LOG AUTO_VERSION MISSING_OK BUILD ALL KIND LINES GRAPH JOBS TABS] =>
+        "Prints how long a build took, how much ran at a time, and its slowest commands",
+        "\
 A line for each of these, with a tab after its name:
 
 commands    how many commands ended in it
@@ -144,24 +118,10 @@ gain           of the commands on the path that took the longest: how much short
 estimate       of each N of `--jobs`: N, how long the build would take with N commands at a time, and
                what no order of them comes below
 
-If LOG has fewer builds than BUILD, a line `builds` tells how many it has.",
-        takes: &[
-            OPTIONAL_ANY_LOG,
-            AUTO_VERSION,
-            MISSING_OK,
-            BUILD,
-            ALL,
-            KIND,
-            LINES,
-            GRAPH,
-            JOBS,
-            TABS,
-        ],
-    },
-    WordRow {
-        name: "compare",
-        about: "Prints which commands are new, gone, changed, slower and faster in another log",
-        after: "\
+If LOG has fewer builds than BUILD, a line `builds` tells how many it has.";
+    "compare" [OLD NEW AUTO_VERSION MISSING_OK LINES AT_LEAST TABS] =>
+        "Prints which commands are new, gone, changed, slower and faster in another log",
+        "\
 It compares the last entry of each output, by command. `hashes` tells whether hashes were compared, and
 seven lines `total` have CLASS, COUNT, DIFFERENCE, BEFORE and AFTER. The commands of each class but `same`
 follow, the largest differences first: CLASS, DIFFERENCE, BEFORE, AFTER and OUTPUT.
@@ -174,13 +134,10 @@ BEFORE      milliseconds that the command took in OLD, 0 if it isn't there; of a
 AFTER       the same in NEW
 OUTPUT      the first output of the command
 
-Logs of version 7 have other hashes than older ones: between these nothing is `changed`.",
-        takes: &[OLD, NEW, AUTO_VERSION, MISSING_OK, LINES, AT_LEAST, TABS],
-    },
-    WordRow {
-        name: "trace",
-        about: "Prints a build as JSON for a trace viewer: a lane for what ran beside others",
-        after: "\
+Logs of version 7 have other hashes than older ones: between these nothing is `changed`.";
+    "trace" [OPTIONAL_ANY_LOG AUTO_VERSION MISSING_OK BUILD ALL] =>
+        "Prints a build as JSON for a trace viewer: a lane for what ran beside others",
+        "\
 A JSON array of events in Chrome's format, which https://ui.perfetto.dev and chrome://tracing open:
 
   nlog trace .ninja_log > trace.json
@@ -192,13 +149,10 @@ A JSON array of events in Chrome's format, which https://ui.perfetto.dev and chr
 \"ph\":\"C\"  how many commands run at \"ts\": for each command as it begins, and as it has ended
 
 No lane has two commands at one time. With `--all` each build begins as the one before it has ended. A
-byte that isn't UTF-8 is shown as U+FFFD. If LOG has no entry, the array is empty.",
-        takes: &[OPTIONAL_ANY_LOG, AUTO_VERSION, MISSING_OK, BUILD, ALL],
-    },
-    WordRow {
-        name: "picture",
-        about: "Draws a build as SVG: a bar for each command, and how many ran at a time",
-        after: "\
+byte that isn't UTF-8 is shown as U+FFFD. If LOG has no entry, the array is empty.";
+    "picture" [OPTIONAL_ANY_LOG AUTO_VERSION MISSING_OK BUILD ALL DRAWN_GRAPH] =>
+        "Draws a build as SVG: a bar for each command, and how many ran at a time",
+        "\
 One SVG file, which each browser shows:
 
   nlog picture .ninja_log > build.svg
@@ -211,23 +165,11 @@ took the longest. With `--graph` the commands of the critical path have an outli
 build begins as the one before it has ended.
 
 Neighbours in a lane that are narrower than half a pixel share a bar. A byte that isn't UTF-8, or that XML
-can't have, is shown as U+FFFD.",
-        takes: &[
-            OPTIONAL_ANY_LOG,
-            AUTO_VERSION,
-            MISSING_OK,
-            BUILD,
-            ALL,
-            DRAWN_GRAPH,
-        ],
-    },
-    WordRow {
-        name: "hash-file",
-        about: "Prints the hash of a command that stands in a file: of each of its bytes",
-        after: "\
+can't have, is shown as U+FFFD.";
+    "hash-file" [OPTIONAL_FILE HASH_VERSION] =>
+        "Prints the hash of a command that stands in a file: of each of its bytes",
+        "\
 A newline at the end of FILE is a byte of it, so a command that has none is hashed by
 
-  printf %s \"$command\" | nlog hash-file",
-        takes: &[OPTIONAL_FILE, HASH_VERSION],
-    },
-];
+  printf %s \"$command\" | nlog hash-file";
+};

@@ -6,7 +6,6 @@ ghost use Rattle.nl_tool_words.specs.Rows.{app_by, named, nlog, rule_by, with_ru
 
 use crate::changing::CHANGING;
 use crate::looking::LOOKING;
-use crate::values::VERBOSE;
 use clap::{Arg, ArgAction, Command};
 use std::alloc::{AllocError, Global};
 
@@ -20,6 +19,15 @@ pub struct WordRow {
     /// All but the flag for the reason of a refusal, which each word takes.
     pub takes: &'static [Value],
 }
+
+// Rows of words: the name, what it takes, and the texts of its help.
+macro_rules! rows {
+    ($($name:literal [$($takes:ident)*] => $about:literal, $after:literal;)+) => {
+        [$(WordRow { name: $name, about: $about, after: $after, takes: &[$(Value::$takes),*] }),+]
+    };
+}
+
+pub(crate) use rows;
 
 /// A value, an option or a flag, with its text of the help.
 #[derive(Clone, Copy, Drop)]
@@ -102,7 +110,7 @@ fn command_of<'a>(alloc: Global, row: &WordRow) -> Result<Command<'a>, AllocErro
     ensures local { IfOk result (λ c. (out-Command c).has_globals ≡ false) }
 {
     let command = with_values(alloc, begun_command(alloc, row), row.takes)?;
-    with_value(alloc, command, &VERBOSE)
+    with_value(alloc, command, &Value::VERBOSE)
 }
 
 fn begun_command<'a>(alloc: Global, row: &WordRow) -> Command<'a>
