@@ -1,5 +1,5 @@
 -- A number that is refused has its text in the words.
-use Rattle.std.proofs.Common.{◌≡◌, Bool, true, false, List, [], ℕ, Option, None, Some, Bor, inl, inr, refl, sym, subst}
+use Rattle.std.proofs.Common.{◌≡◌, Bool, true, false, List, ℕ, Option, None, Some, Bor, inl, inr, refl, sym, subst}
 use Rattle.std.specs.Prelude.{IsSome, IsSomeAnd}
 use Rattle.nl_fields.specs.declared.name.NameFault.{NameFault}
 use Rattle.nl_fields.specs.declared.name.NameFault.TheVariants as name
@@ -16,7 +16,7 @@ use Rattle.nl_tool_words.specs.declared.words.Words.{Words}
 use Rattle.nl_tool_words.specs.declared.words.Words.TheVariants.{Show, Check, Hash, HashFile, Read, Compare, Record, Recompact, Restat, Change, Mend, Replay}
 use Rattle.nl_tool.specs.Faults.{IsFaultOf, IsGivenGraphFault}
 use Rattle.nl_tool.specs.Reasons.{HasText, number_text}
-use Rattle.nl_tool.specs.Reports.{AreCounts, IsLeast, IsMost, IsScope}
+use Rattle.nl_tool.specs.Reports.{IsLeast, IsMost, IsNoCounts, IsScope}
 
 of_told : (words : Words) (told : Option WrongNumber) (which : NumberOf) → IsSomeAnd told (λ bad. bad.which ≡ which) → IsSome (number_text words which)
     → HasText words told
@@ -36,9 +36,15 @@ some_build true build h = absurd (h All refl)
 some_build false None h = absurd (h Last refl)
 some_build false (Some text) h = refl
 
-some_jobs : (jobs : Option (Bor (List ℕ))) → ((counts : List ℕ) → AreCounts jobs counts → ⊥) → IsSome jobs
-some_jobs None h = absurd (h [] refl)
-some_jobs (Some text) h = refl
+some_jobs : (jobs : Option (Bor (List ℕ))) (told : Option WrongNumber) → IsNoCounts jobs told BadNumber → IsSome jobs
+some_jobs None told h = absurd (cc)
+some_jobs (Some text) told h = refl
+
+told_jobs : (jobs : Option (Bor (List ℕ))) (told : Option WrongNumber) → IsNoCounts jobs told BadNumber
+    → IsSomeAnd told (λ bad. bad.which ≡ number.Jobs)
+told_jobs None told h = absurd (cc)
+told_jobs (Some text) told (inl h) = absurd (cc)
+told_jobs (Some text) told (inr h) = h.0.1
 
 no_graph : (graph : Option (Bor (List ℕ))) → IsGivenGraphFault graph BadNumber → ⊥
 no_graph None h = h
@@ -64,9 +70,8 @@ has_text (Read Summary log choices) told (inl (inr h)) = absurd (no_graph choice
 has_text (Read Summary log choices) told (inr (inl h)) = of_told (Read Summary log choices) told number.Lines h.0.1 (some_most choices.lines h.1)
 has_text (Read Summary log choices) told (inr (inr (inl h))) =
     of_told (Read Summary log choices) told number.Build h.0.1 (some_build choices.all choices.build h.1)
-has_text (Read Summary log choices) told (inr (inr (inr (inl h)))) = absurd (cc)
-has_text (Read Summary log choices) told (inr (inr (inr (inr h)))) =
-    of_told (Read Summary log choices) told number.Jobs h.0.1 (some_jobs choices.jobs h.1)
+has_text (Read Summary log choices) told (inr (inr (inr h))) =
+    of_told (Read Summary log choices) told number.Jobs (told_jobs choices.jobs told h) (some_jobs choices.jobs told h)
 has_text (Read Trace log choices) told (inl h) = absurd h
 has_text (Read Trace log choices) told (inr h) = of_told (Read Trace log choices) told number.Build h.0.1 (some_build choices.all choices.build h.1)
 has_text (Read Picture log choices) told (inl (inl h)) = absurd h

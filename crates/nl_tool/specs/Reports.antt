@@ -1,5 +1,5 @@
 -- What each command prints that tells of builds.
-use Rattle.std.specs.Prelude.{⊤, ◌≡◌, ◌⊎◌, ◌==◌, ◌++◌, [], ◌∷◌, ℕ, Bool, true, false, ◌<◌, ◌^◌, pos, List, Option, None, Some, IsSome, Result, length, map, option_map, bytes_eq, codes, if◌then◌else◌}
+use Rattle.std.specs.Prelude.{⊤, ◌≡◌, ◌⊎◌, ◌==◌, ◌++◌, [], ◌∷◌, ℕ, zero, suc, Bool, true, false, ◌<◌, ◌^◌, pos, List, Option, None, Some, IsSome, IsSomeAnd, Result, length, map, option_map, bytes_eq, codes, if◌then◌else◌}
 use Rattle.std.specs.Borrow.{Bor}
 use Rattle.std.specs.Global.{Vec}
 use Rattle.std.specs.List.{slice_split}
@@ -64,13 +64,24 @@ abbrev pub IsScope : Bool → Option (Bor (List ℕ)) → Scope → Type 0
 IsScope true build scope = scope ≡ All
 IsScope false build scope = IsBuild build scope
 
--- the numbers of commands at a time, from 1, with commas between them; none where nothing is given
+-- a number of commands at a time, from 1
+abbrev pub IsPositive : List ℕ → ℕ → Type 0
+IsPositive text n = (0 < n) × (n < 2 ^ 63) × IsDecimal (pos n) text
+
 abbrev pub ArePositive : List (List ℕ) → List ℕ → Type 0
 ArePositive [] [] = ⊤
 ArePositive [] (n ∷ ns) = ⊥
 ArePositive (text ∷ texts) [] = ⊥
-ArePositive (text ∷ texts) (n ∷ ns) = ((0 < n) × (n < 2 ^ 63) × IsDecimal (pos n) text) × ArePositive texts ns
+ArePositive (text ∷ texts) (n ∷ ns) = IsPositive text n × ArePositive texts ns
 
+-- of these texts the one of this number, from 1, is the first that is no such number
+abbrev pub IsFirstWrong : List (List ℕ) → ℕ → Type 0
+IsFirstWrong [] number = ⊥
+IsFirstWrong (text ∷ texts) zero = ⊥
+IsFirstWrong (text ∷ texts) (suc zero) = (n : ℕ) → IsPositive text n → ⊥
+IsFirstWrong (text ∷ texts) (suc (suc m)) = ((n : ℕ) × IsPositive text n) × IsFirstWrong texts (suc m)
+
+-- with commas between them; none where nothing is given
 abbrev pub AreCounts : Option (Bor (List ℕ)) → List ℕ → Type 0
 AreCounts None ns = ns ≡ []
 AreCounts (Some text) ns = ArePositive (slice_split (λ b. b == 44) text.now) ns
@@ -88,12 +99,14 @@ IsNoLeast least told fault = IsToldOf Least told fault × ((ms : ℕ) → IsLeas
 abbrev pub IsNoScope : Bool → Option (Bor (List ℕ)) → Option WrongNumber → ToolFault → Type 0
 IsNoScope all build told fault = IsToldOf Build told fault × ((scope : Scope) → IsScope all build scope → ⊥)
 
--- memory is wanting, or one of these is no number of commands
+-- memory is wanting, or one of these is no number of commands, and the first such one is told
 abbrev pub IsNotPositive : List (List ℕ) → Option WrongNumber → ToolFault → Type 0
-IsNotPositive texts told fault = (fault ≡ Memory) ⊎ (IsToldOf Jobs told fault × ((counts : List ℕ) → ArePositive texts counts → ⊥))
+IsNotPositive texts told fault = (fault ≡ Memory)
+    ⊎ (IsToldOf Jobs told fault × IsSomeAnd told (λ bad. IsSomeAnd bad.nth (IsFirstWrong texts)) × ((counts : List ℕ) → ArePositive texts counts → ⊥))
 
 abbrev pub IsNoCounts : Option (Bor (List ℕ)) → Option WrongNumber → ToolFault → Type 0
-IsNoCounts jobs told fault = (fault ≡ Memory) ⊎ (IsToldOf Jobs told fault × ((counts : List ℕ) → AreCounts jobs counts → ⊥))
+IsNoCounts None told fault = fault ≡ Memory
+IsNoCounts (Some text) told fault = IsNotPositive (slice_split (λ b. b == 44) text.now) told fault
 
 -- the rule by which kinds are told apart, by its word
 abbrev pub rule_by : List ℕ → KindRule
