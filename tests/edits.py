@@ -141,6 +141,8 @@ def functions(file, text):
     lines, found, block = text.split("\n"), [], ""
     others = set(re.findall(r"(?m)^(?:pub(?:\([^)]*\))? )?type (\w+)<", text))
     module = [it for it in file[len("src/") : -len(".rt")].split("/") if it not in ("lib", "main", "mod")]
+    # (a method of a type's own block is named by the module that the type is of)
+    homes = {it: path.split("::") for path, names in re.findall(r"(?m)^use crate::([\w:]+)::(\{[^}]*\}|\w+);", text) for it in re.findall(r"\w+", names)}
     for first, line in enumerate(lines):
         if line.startswith("impl"):
             block = of_impl(line[len("impl") :], others)
@@ -158,7 +160,8 @@ def functions(file, text):
                     break
                 if lines[last] == head[1] + "{" or last == first and line.endswith("{"):
                     body = last
-        path = "::".join([*module, *([block] if head[1] and block else []), head[2]])
+        home = homes.get(block, module) if head[1] else module
+        path = "::".join([*home, *([block] if head[1] and block else []), head[2]])
         found.append(Function(path, file, first, body, last, lines))
     return found
 
