@@ -28,16 +28,14 @@ pub struct CommandLine<'a> {
 ///
 /// Help and the version of the program are an `Err` too: its text is what was asked for.
 pub fn read_words<'a>(alloc: Global, words: &'a [String]) -> Result<CommandLine<'a>, Error>
-    ensures value { IfOk result
-        (λ line. IsSaid line.words (entered_of (map string_bytes words.entry.now))) }
+    ensures value { IfOk result (λ line. IsSaid line.words (entered_of (map string_bytes words.entry.now))) }
     ensures version { IfOk result (λ line.
         IsAsked line.version (given_in version_id (entered_of (map string_bytes words.entry.now)))) }
     ensures verbose { IfOk result (λ line. line.verbose
         ≡ is_flagged (codes "verbose") (entered_of (map string_bytes words.entry.now))) }
     ensures missing_ok { IfOk result (λ line. line.missing_ok
         ≡ is_flagged (codes "missing-ok") (entered_of (map string_bytes words.entry.now))) }
-    ensures tabs { IfOk result (λ line. line.tabs
-        ≡ is_flagged (codes "tabs") (entered_of (map string_bytes words.entry.now))) }
+    ensures tabs { IfOk result (λ line. line.tabs ≡ is_flagged (codes "tabs") (entered_of (map string_bytes words.entry.now))) }
     ensures accepts { FailsBy (fault_in (map string_bytes words.entry.now)) result }
 {
     let matches = nlog_command(alloc)?.try_get_matches_from(words)?;
@@ -54,8 +52,7 @@ pub fn read_words<'a>(alloc: Global, words: &'a [String]) -> Result<CommandLine<
 
 /// The path that stands in the place of a command, where one does: no command has a dot or a slash.
 pub fn path_in_place(words: &[String]) -> Option<&str>
-    ensures value { option_map (λ text. text.now) result
-        ≡ path_in_place (map string_bytes words.now) }
+    ensures value { option_map (λ text. text.now) result ≡ path_in_place (map string_bytes words.now) }
 {
     let Some((_, given)) = words.split_first() else {
         return None;
@@ -88,8 +85,7 @@ fn is_flagged(matches: &ArgMatches<'_>, id: &str) -> bool
 
 // The value of this name that the command which was entered was given.
 fn given<'a>(matches: &ArgMatches<'a>, id: &str) -> Option<&'a str>
-    ensures { option_map (λ text. text.now) result
-        ≡ given_in id.now (subcommand_rows_of matches.now) }
+    ensures { option_map (λ text. text.now) result ≡ given_in id.now (subcommand_rows_of matches.now) }
 {
     let Some((_, inner)) = matches.subcommand() else {
         return None;
@@ -98,8 +94,7 @@ fn given<'a>(matches: &ArgMatches<'a>, id: &str) -> Option<&'a str>
 }
 
 fn version_in<'a>(alloc: Global, matches: &ArgMatches<'a>) -> Result<Option<AskedVersion>, Error>
-    ensures value { IfOk result
-        (λ version. IsAsked version (given_in version_id (subcommand_rows_of matches.now))) }
+    ensures value { IfOk result (λ version. IsAsked version (given_in version_id (subcommand_rows_of matches.now))) }
     ensures accepts { FailsBy (version_fault (subcommand_rows_of matches.now)) result }
 {
     let Some((name, inner)) = matches.subcommand() else {

@@ -93,8 +93,7 @@ fn with_words<'a>(
     nlog: Command<'a>,
     rows: &[WordRow],
 ) -> Result<Command<'a>, AllocError>
-    ensures { IfOk result
-        (λ c. app_of c ≡ with_words (app_of nlog.entry) (map word_by rows.now)) }
+    ensures { IfOk result (λ c. app_of c ≡ with_words (app_of nlog.entry) (map word_by rows.now)) }
 {
     let mut nlog = nlog;
     let mut rest = rows;
@@ -129,10 +128,8 @@ fn with_values<'a>(
     command: Command<'a>,
     values: &[Value],
 ) -> Result<Command<'a>, AllocError>
-    ensures shape { IfOk result
-        (λ c. app_of c ≡ with_rules (app_of command.entry) (map rule_by values.now)) }
-    ensures local { IfOk result
-        (λ c. (out-Command c).has_globals ≡ (out-Command command.entry).has_globals) }
+    ensures shape { IfOk result (λ c. app_of c ≡ with_rules (app_of command.entry) (map rule_by values.now)) }
+    ensures local { IfOk result (λ c. (out-Command c).has_globals ≡ (out-Command command.entry).has_globals) }
 {
     let mut command = command;
     let mut rest = values;
@@ -148,10 +145,8 @@ fn with_value<'a>(
     command: Command<'a>,
     value: &Value,
 ) -> Result<Command<'a>, AllocError>
-    ensures shape { IfOk result
-        (λ c. app_of c ≡ with_rule (app_of command.entry) (rule_by value.now)) }
-    ensures local { IfOk result
-        (λ c. (out-Command c).has_globals ≡ (out-Command command.entry).has_globals) }
+    ensures shape { IfOk result (λ c. app_of c ≡ with_rule (app_of command.entry) (rule_by value.now)) }
+    ensures local { IfOk result (λ c. (out-Command c).has_globals ≡ (out-Command command.entry).has_globals) }
 {
     command.arg(arg_of(alloc, value))
 }
