@@ -10,7 +10,6 @@ ghost use Rattle.nl_tool_change.specs.Updates.{AsSaid};
 ghost use Rattle.nl_tool.specs.Faults.{IsRepairFault};
 
 use crate::desk::{Desk, close};
-use crate::files::{look_there, note_missing, open};
 use crate::notes::{NotedReader, NotedWriter, Notes};
 use crate::reason::{Place, Reason, Why};
 use nl_fields::EntryRef;
@@ -25,26 +24,72 @@ use std::alloc::Global;
 use std::io::{self, Read};
 use std::rt::{Clock, Files, Runtime};
 
-// It refuses bad words before it asks anything of the log.
-pub fn record_in<R: Runtime>(
-    desk: &mut Desk<'_, R>,
-    log: &str,
-    start: &str,
-    end: &str,
-    mtime: &str,
-    name: &str,
-    command: &str,
-) -> Result<(), ToolFault>
+impl<R: Runtime> Desk<'_, R>
 where
     R::File: SystemFile,
-    ensures accepts { OnOk result (GiveEntry start.now end.now mtime.now name.now) }
-    ensures faults { IfErr result
-        (IsEntryFault start.now end.now mtime.now name.now desk.new.notes.told.number) }
 {
-    let entry = entry_of(start, end, mtime, name, &mut desk.notes.told)?;
-    note_missing(desk, log);
-    let place = desk.log_at(log)?;
-    record_at(desk.alloc, place, entry, command, &mut desk.notes)
+    // It refuses bad words before it asks anything of the log.
+    pub fn record_in(
+        &mut self,
+        log: &str,
+        start: &str,
+        end: &str,
+        mtime: &str,
+        name: &str,
+        command: &str,
+    ) -> Result<(), ToolFault>
+        ensures accepts { OnOk result (GiveEntry start.now end.now mtime.now name.now) }
+        ensures faults { IfErr result (IsEntryFault start.now end.now mtime.now name.now self.new.notes.told.number) }
+    {
+        let entry = entry_of(start, end, mtime, name, &mut self.notes.told)?;
+        self.note_missing(log);
+        let place = self.log_at(log)?;
+        record_at(self.alloc, place, entry, command, &mut self.notes)
+    }
+
+    pub fn recompact_in(&mut self, log: &str, keep: &str) -> Result<(), ToolFault>
+        ensures faults { IfErr result IsRecompactFault }
+    {
+        let names = self.open(keep)?;
+        self.note_missing(log);
+        let place = self.log_at(log)?;
+        recompact_at(self.alloc, place, names, &mut self.notes)
+    }
+
+    pub fn restat_in(&mut self, log: &str, times: &str) -> Result<(), ToolFault>
+        ensures faults { IfErr result IsRestatFault }
+    {
+        let pairs = self.open(times)?;
+        self.note_missing(log);
+        let place = self.log_at(log)?;
+        restat_at(self.alloc, place, pairs, &mut self.notes)
+    }
+
+    pub fn apply_in(&mut self, log: &str, script: Option<&str>) -> Result<(), ToolFault>
+        ensures faults { IfErr result IsApplyFault }
+    {
+        let Desk { rt, alloc, .. } = *self;
+        match script {
+            None => {
+                let place = self.log_at(log)?;
+                apply_at(rt, alloc, place, rt.reader(), Place::Input, &mut self.notes)
+            }
+            Some(path) => {
+                let lines = self.open(path)?;
+                let (place, script) = (self.log_at(log)?, Place::Script(path));
+                apply_at(rt, alloc, place, lines, script, &mut self.notes)
+            }
+        }
+    }
+
+    pub fn repair_in(&mut self, log: &str) -> Result<(), ToolFault>
+        ensures faults { IfErr result IsRepairFault }
+    {
+        let missing_ok = self.missing_ok;
+        self.look_there(log, missing_ok)?;
+        let place = self.log_at(log)?;
+        repair_at(self.alloc, place, &mut self.notes)
+    }
 }
 
 fn record_at<D: Files + Clock + Drop>(
@@ -61,29 +106,10 @@ where
         (folder_view ⟦<DiskFolder<D> as Folder>⟧ place.folder) left }
     ensures faults { IfErr result IsRecordFault }
 {
-    let AskedFolder {
-        secret,
-        asked,
-        folder,
-    } = place;
+    let (secret, asked, folder) = (place.secret, place.asked, place.folder);
     let (folder, answer) = record_command(alloc, secret, asked, folder, entry, command.as_bytes());
     close(folder, answer.err(), notes);
     answer
-}
-
-pub fn recompact_in<R: Runtime>(
-    desk: &mut Desk<'_, R>,
-    log: &str,
-    keep: &str,
-) -> Result<(), ToolFault>
-where
-    R::File: SystemFile,
-    ensures faults { IfErr result IsRecompactFault }
-{
-    let names = open(desk, keep)?;
-    note_missing(desk, log);
-    let place = desk.log_at(log)?;
-    recompact_at(desk.alloc, place, names, &mut desk.notes)
 }
 
 fn recompact_at<D: Files + Clock + Drop, R: Read + Drop>(
@@ -104,21 +130,6 @@ where
     answer
 }
 
-pub fn restat_in<R: Runtime>(
-    desk: &mut Desk<'_, R>,
-    log: &str,
-    times: &str,
-) -> Result<(), ToolFault>
-where
-    R::File: SystemFile,
-    ensures faults { IfErr result IsRestatFault }
-{
-    let pairs = open(desk, times)?;
-    note_missing(desk, log);
-    let place = desk.log_at(log)?;
-    restat_at(desk.alloc, place, pairs, &mut desk.notes)
-}
-
 fn restat_at<D: Files + Clock + Drop, R: Read + Drop>(
     alloc: Global,
     place: AskedFolder<DiskFolder<D>>,
@@ -137,41 +148,11 @@ where
     answer
 }
 
-pub fn apply_in<R: Runtime>(
-    desk: &mut Desk<'_, R>,
-    log: &str,
-    script: Option<&str>,
-) -> Result<(), ToolFault>
-where
-    R::File: SystemFile,
-    ensures faults { IfErr result IsApplyFault }
-{
-    let Desk { rt, alloc, .. } = *desk;
-    match script {
-        None => {
-            let place = desk.log_at(log)?;
-            apply_at(rt, alloc, place, rt.reader(), Place::Input, &mut desk.notes)
-        }
-        Some(path) => {
-            let lines = open(desk, path)?;
-            let place = desk.log_at(log)?;
-            apply_at(
-                rt,
-                alloc,
-                place,
-                lines,
-                Place::Script(path),
-                &mut desk.notes,
-            )
-        }
-    }
-}
-
 // The lines of `apply`: of a bad one it is said why, where that is asked for.
 #[derive(Drop)]
 struct Explaining<'r, P> {
     rt: &'r P,
-    place: Place<'r>,
+    lines: Place<'r>,
     looks: bool,
 }
 
@@ -179,7 +160,7 @@ impl<P: Eprint> Hears for Explaining<'_, P> {
     fn bad_line(&mut self, number: u64, why: LineFault) {
         if self.looks {
             let reason = Reason::Line(number, Some(why));
-            let place = self.place;
+            let place = self.lines;
             let why = Why { place, reason };
             let _ = eprintln!(self.rt; "nlog: {why}");
         }
@@ -201,32 +182,14 @@ where
     ensures faults { IfErr result IsApplyFault }
 {
     let mut out = NotedWriter::new(io::writer(rt));
-    let AskedFolder {
-        secret,
-        asked,
-        folder,
-    } = place;
-    let mut hears = Explaining {
-        rt,
-        place: lines,
-        looks: notes.looks,
-    };
+    let (secret, asked, folder) = (place.secret, place.asked, place.folder);
+    let looks = notes.looks;
+    let mut hears = Explaining { rt, lines, looks };
     let reader = NotedReader::new(reader, &mut notes.heard);
     let (folder, answer) = apply_on(alloc, secret, asked, folder, reader, &mut out, &mut hears);
     notes.written = out.failure;
     close(folder, answer.err(), notes);
     answer
-}
-
-pub fn repair_in<R: Runtime>(desk: &mut Desk<'_, R>, log: &str) -> Result<(), ToolFault>
-where
-    R::File: SystemFile,
-    ensures faults { IfErr result IsRepairFault }
-{
-    let missing_ok = desk.missing_ok;
-    look_there(desk, log, missing_ok)?;
-    let place = desk.log_at(log)?;
-    repair_at(desk.alloc, place, &mut desk.notes)
 }
 
 fn repair_at<D: Files + Clock + Drop>(

@@ -10,77 +10,60 @@ ghost use Rattle.nl_versions.specs.VersionOf.{as_five};
 ghost use Rattle.nl_reports.specs.Compare.{are_comparable, compare_text, side_of};
 ghost use Rattle.nl_tool.specs.Reports.{IsLastOf, IsLeast, IsMost, laid_out, side_in};
 
-use crate::desk::Desk;
+use crate::desk::{Desk, Means};
 use crate::notes::NotedWriter;
 use crate::numbers::{least_of, most_of};
-use crate::reading::log_bytes;
 use crate::reporting::write_lines;
-use nl_builds::{Builds, LogBuilds, read_builds};
+use nl_builds::{Builds, read_builds};
 use nl_reports::{Side, compare_lines, lasting};
-use nl_table::Secret;
 use nl_tool_texts::ToolFault;
 use nl_versions::{LogVersion, version_of};
-use std::alloc::Global;
 use std::io::{self, Write};
 use std::rt::Runtime;
 
-pub fn compare_in<R: Runtime>(
-    desk: &mut Desk<'_, R>,
-    old: &str,
-    new: &str,
-    lines: Option<&str>,
-    least: Option<&str>,
-) -> Result<(), ToolFault>
-    ensures accepts { OnOk result ((most : ℕ) × IsMost lines.entry most) }
-    ensures least { OnOk result ((ms : ℕ) × IsLeast least.entry ms) }
-    ensures faults { IfErr result (IsCompareFault lines.entry least.entry desk.new.notes.told.number) }
-{
-    let most = most_of(lines, &mut desk.notes.told)?;
-    let ms = least_of(least, &mut desk.notes.told)?;
-    compare_logs(desk, most, ms, old, new)
-}
-
-// Each log is closed before anything else is done.
-fn compare_logs<R: Runtime>(
-    desk: &mut Desk<'_, R>,
-    most: usize,
-    least: usize,
-    old: &str,
-    new: &str,
-) -> Result<(), ToolFault>
-    ensures faults { IfErr result IsLogFault }
-{
-    let Desk {
-        rt,
-        alloc,
-        missing_ok,
-        columns,
-        ..
-    } = *desk;
-    let secret = desk.notes.secret;
-    let old_text = log_bytes(desk, Some(old), missing_ok)?;
-    let old = last_of(alloc, secret, old_text.as_slice())?;
-    let is_missing = desk.notes.is_missing;
-    desk.notes.begin(true);
-    let new_text = log_bytes(desk, Some(new), missing_ok)?;
-    let new = last_of(alloc, secret, new_text.as_slice())?;
-    if is_missing && !desk.notes.is_missing {
-        desk.notes.is_missing = true;
-        desk.notes.is_second = false;
+impl<R: Runtime> Desk<'_, R> {
+    pub fn compare_in(
+        &mut self,
+        old: &str,
+        new: &str,
+        lines: Option<&str>,
+        least: Option<&str>,
+    ) -> Result<(), ToolFault>
+        ensures accepts { OnOk result ((most : ℕ) × IsMost lines.entry most) }
+        ensures least { OnOk result ((ms : ℕ) × IsLeast least.entry ms) }
+        ensures faults { IfErr result (IsCompareFault lines.entry least.entry self.new.notes.told.number) }
+    {
+        let most = most_of(lines, &mut self.notes.told)?;
+        let ms = least_of(least, &mut self.notes.told)?;
+        self.compare_logs(most, ms, old, new)
     }
-    let mut out = NotedWriter::new(io::writer(rt));
-    let answer = compare_to(
-        alloc,
-        secret,
-        columns,
-        most,
-        least as u64,
-        &old,
-        &new,
-        &mut out,
-    );
-    desk.notes.written = out.failure;
-    answer
+
+    // Each log is closed before anything else is done.
+    fn compare_logs(
+        &mut self,
+        most: usize,
+        least: usize,
+        old: &str,
+        new: &str,
+    ) -> Result<(), ToolFault>
+        ensures faults { IfErr result IsLogFault }
+    {
+        let means = self.means();
+        let old_text = self.log_bytes(Some(old), self.missing_ok)?;
+        let old = last_of(means, old_text.as_slice())?;
+        let is_missing = self.notes.is_missing;
+        self.notes.begin(true);
+        let new_text = self.log_bytes(Some(new), self.missing_ok)?;
+        let new = last_of(means, new_text.as_slice())?;
+        if is_missing && !self.notes.is_missing {
+            self.notes.is_missing = true;
+            self.notes.is_second = false;
+        }
+        let mut out = NotedWriter::new(io::writer(self.rt));
+        let answer = compare_to(means, most, least as u64, &old, &new, &mut out);
+        self.notes.written = out.failure;
+        answer
+    }
 }
 
 // `told` has only the last entry of each output.
@@ -91,50 +74,39 @@ pub struct Last<'a> {
     pub waiting: Vec<&'a [u8]>,
 }
 
-fn last_of(alloc: Global, secret: Secret, text: &[u8]) -> Result<Last<'_>, ToolFault>
+fn last_of(means: Means, text: &[u8]) -> Result<Last<'_>, ToolFault>
     ensures value { IfOk result (IsLastOf text.now) }
     ensures not_a_log { IsErrOf result ToolFault.NotALog → log_of (as_five text.now) ≡ NotALog }
     ensures other_version { IsErrOf result ToolFault.OtherVersion → log_of (as_five text.now) ≡ OtherVersion }
     ensures faults { IfErr result IsLogFault }
 {
-    let LogBuilds {
-        told,
-        unfinished,
-        ..
-    } = read_builds(alloc, secret, text)?;
+    let log = read_builds(means.alloc, means.secret, text)?;
+    let waiting = log.unfinished;
     Ok(Last {
         version: version_of(text),
-        told: lasting(alloc, secret, unfinished.as_slice(), told)?,
-        waiting: unfinished,
+        told: lasting(means.alloc, means.secret, waiting.as_slice(), log.told)?,
+        waiting,
     })
 }
 
 fn compare_to<W: Write>(
-    alloc: Global,
-    secret: Secret,
-    columns: Option<usize>,
+    means: Means,
     most: usize,
     least: u64,
     old: &Last<'_>,
     new: &Last<'_>,
     writer: &mut W,
 ) -> Result<(), ToolFault>
-    ensures prints { Prints (λ text. text ≡ laid_out columns
-        (compare_text (is_some columns) most least (are_comparable old.now.version new.now.version) (side_in old.now) (side_in new.now)))
+    ensures prints { Prints (λ text. text ≡ laid_out means.columns
+        (compare_text (is_some means.columns) most least (are_comparable old.now.version new.now.version) (side_in old.now) (side_in new.now)))
         (W.contents writer.old) (W.contents writer.new) result }
     ensures faults { IfErr result IsWriteFault }
 {
-    let screen = columns.is_some();
-    let lines = compare_lines(
-        alloc,
-        secret,
-        screen,
-        most,
-        least,
-        &side_of(old),
-        &side_of(new),
-    )?;
-    write_lines(alloc, columns, lines, writer)
+    let Means { alloc, secret, .. } = means;
+    let (old, new) = (side_of(old), side_of(new));
+    let screen = means.columns.is_some();
+    let lines = compare_lines(alloc, secret, screen, most, least, &old, &new)?;
+    write_lines(means, lines, writer)
 }
 
 fn side_of<'s, 'a>(last: &'s Last<'a>) -> Side<'s, 'a>

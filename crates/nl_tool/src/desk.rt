@@ -11,6 +11,7 @@ use crate::screen::width_of;
 use crate::version_choice::asked_in;
 use crate::waiting::Waiting;
 use nl_os::{DiskFolder, SystemFile};
+use nl_table::Secret;
 use nl_tool_change::AskedFolder;
 use nl_tool_texts::ToolFault;
 use nl_tool_words::CommandLine;
@@ -31,7 +32,23 @@ pub struct Desk<'r, R> {
     pub notes: Notes,
 }
 
+/// What a report is made with: names are hashed under the secret, and a line has so many characters at most.
+#[derive(Clone, Copy, Drop)]
+pub struct Means {
+    pub alloc: Global,
+    pub secret: Secret,
+    pub columns: Option<usize>,
+}
+
 impl<'r, R: Runtime> Desk<'r, R> {
+    pub fn means(&self) -> Means {
+        Means {
+            alloc: self.alloc,
+            secret: self.notes.secret,
+            columns: self.columns,
+        }
+    }
+
     /// What a command line is done with. The words that change a log by what it holds go by its version, if none is asked for.
     pub fn of(rt: &'r R, alloc: Global, line: &CommandLine<'_>, notes: Notes) -> Desk<'r, R>
         ensures asked { result.asked ≡ asked_in line.now.words line.now.version }

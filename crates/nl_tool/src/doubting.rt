@@ -13,7 +13,6 @@ ghost use Rattle.nl_tool.specs.declared.program.Verdict.{Verdict};
 use crate::desk::Desk;
 use crate::notes::NotedWriter;
 use crate::program::Verdict;
-use crate::reading::log_bytes;
 use nl_table::Secret;
 use nl_tool_doubt::{FileState, FileTimes, OutputFiles, doubts_of, write_doubts};
 use nl_tool_texts::ToolFault;
@@ -68,17 +67,19 @@ fn time_of(seconds: i64, nanoseconds: i64) -> i64 {
     }
 }
 
-pub fn doubt_in<R: Runtime>(desk: &mut Desk<'_, R>, log: Option<&str>) -> Result<Verdict, ToolFault>
-    ensures faults { IfErr result IsLogFault }
-{
-    let bytes = log_bytes(desk, log, false)?;
-    let Desk { rt, alloc, .. } = *desk;
-    let mut out = NotedWriter::new(io::writer(rt));
-    let files = SystemFiles { rt };
-    let secret = desk.notes.secret;
-    let answer = tell_doubts(alloc, secret, bytes.as_slice(), &files, &mut out);
-    desk.notes.written = out.failure;
-    answer
+impl<R: Runtime> Desk<'_, R> {
+    pub fn doubt_in(&mut self, log: Option<&str>) -> Result<Verdict, ToolFault>
+        ensures faults { IfErr result IsLogFault }
+    {
+        let bytes = self.log_bytes(log, false)?;
+        let Desk { rt, alloc, .. } = *self;
+        let mut out = NotedWriter::new(io::writer(rt));
+        let files = SystemFiles { rt };
+        let secret = self.notes.secret;
+        let answer = tell_doubts(alloc, secret, bytes.as_slice(), &files, &mut out);
+        self.notes.written = out.failure;
+        answer
+    }
 }
 
 fn tell_doubts<F: OutputFiles, W: Write>(

@@ -56,8 +56,7 @@ pub fn run_line<R: Runtime>(
 ) -> u8
 where
     R::File: SystemFile,
-    ensures status { IsStatusBy (fault_in (map string_bytes line.now))
-        (entered_of (map string_bytes line.now)) result }
+    ensures status { IsStatusBy (fault_in (map string_bytes line.now)) (entered_of (map string_bytes line.now)) result }
     ensures bound { result ≤ 3 }
 {
     match read_words(alloc, line) {

@@ -12,7 +12,6 @@ ghost use Rattle.nl_tool_doubt.specs.Mending.{IsMendFault, MendsFolder};
 
 use crate::desk::{Desk, close};
 use crate::doubting::SystemFiles;
-use crate::files::look_there;
 use crate::notes::{NotedWriter, Notes};
 use crate::program::Verdict;
 use nl_folder::Folder;
@@ -58,78 +57,74 @@ fn path_in(alloc: Global, folder: &str, name: &[u8]) -> Result<Vec<u8>, AllocErr
     Ok(path)
 }
 
-/// Without a path, LOG is the `.ninja_log` of the build's folder.
-pub fn mend_in<R: Runtime>(
-    desk: &mut Desk<'_, R>,
-    log: Option<&str>,
-    folder: Option<&str>,
-    how: How,
-) -> Result<Verdict, ToolFault>
+impl<R: Runtime> Desk<'_, R>
 where
     R::File: SystemFile,
-    ensures faults { IfErr result IsMendFault }
 {
-    look_in(desk, folder)?;
-    match (log, folder) {
-        (Some(path), _) => mend_log(desk, path, folder, how),
-        (None, Some(folder)) => {
-            let path = format!(in desk.alloc; "{folder}/.ninja_log")?;
-            mend_log(desk, path.as_str(), Some(folder), how)
-        }
-        (None, None) => mend_log(desk, ".ninja_log", None, how),
-    }
-}
-
-// It refuses a missing folder, because the log that is missing with it would be taken for a whole one.
-fn look_in<R: Files>(desk: &mut Desk<'_, R>, folder: Option<&str>) -> Result<(), ToolFault>
-    ensures faults { IfErr result (λ e. e ≡ ToolFault.Read) }
-{
-    let Some(path) = folder else {
-        return Ok(());
-    };
-    match fs::metadata(desk.rt, path) {
-        Ok(_) => Ok(()),
-        Err(error) => {
-            desk.notes.folder = Some(Failure {
-                file: FileRole::Folder,
-                error,
-            });
-            Err(ToolFault::Read)
+    /// Without a path, LOG is the `.ninja_log` of the build's folder.
+    pub fn mend_in(
+        &mut self,
+        log: Option<&str>,
+        folder: Option<&str>,
+        how: How,
+    ) -> Result<Verdict, ToolFault>
+        ensures faults { IfErr result IsMendFault }
+    {
+        self.look_in(folder)?;
+        match (log, folder) {
+            (Some(path), _) => self.mend_log(path, folder, how),
+            (None, Some(folder)) => {
+                let path = format!(in self.alloc; "{folder}/.ninja_log")?;
+                self.mend_log(path.as_str(), Some(folder), how)
+            }
+            (None, None) => self.mend_log(".ninja_log", None, how),
         }
     }
-}
 
-// A missing log needs no mending.
-fn mend_log<R: Runtime>(
-    desk: &mut Desk<'_, R>,
-    log: &str,
-    folder: Option<&str>,
-    how: How,
-) -> Result<Verdict, ToolFault>
-where
-    R::File: SystemFile,
-    ensures faults { IfErr result IsMendFault }
-{
-    look_there(desk, log, true)?;
-    if desk.notes.is_missing {
-        return Ok(Verdict::Done);
+    // It refuses a missing folder, because the log that is missing with it would be taken for a whole one.
+    fn look_in(&mut self, folder: Option<&str>) -> Result<(), ToolFault>
+        ensures faults { IfErr result (λ e. e ≡ ToolFault.Read) }
+    {
+        let Some(path) = folder else {
+            return Ok(());
+        };
+        match fs::metadata(self.rt, path) {
+            Ok(_) => Ok(()),
+            Err(error) => {
+                self.notes.folder = Some(Failure {
+                    file: FileRole::Folder,
+                    error,
+                });
+                Err(ToolFault::Read)
+            }
+        }
     }
-    let Desk { rt, alloc, .. } = *desk;
-    let files = BuildFiles {
-        files: SystemFiles { rt },
-        folder,
-        alloc,
-    };
-    let place = desk.log_at(log)?;
-    let mut out = NotedWriter::new(io::writer(rt));
-    let answer = mend_at(alloc, place, &files, how, &mut out, &mut desk.notes);
-    desk.notes.written = out.failure;
-    let mended = answer?;
-    tell_few(rt, log, mended);
-    if mended.is_told {
-        return Ok(Verdict::Found);
+
+    // A missing log needs no mending.
+    fn mend_log(&mut self, log: &str, folder: Option<&str>, how: How) -> Result<Verdict, ToolFault>
+        ensures faults { IfErr result IsMendFault }
+    {
+        self.look_there(log, true)?;
+        if self.notes.is_missing {
+            return Ok(Verdict::Done);
+        }
+        let Desk { rt, alloc, .. } = *self;
+        let files = BuildFiles {
+            files: SystemFiles { rt },
+            folder,
+            alloc,
+        };
+        let place = self.log_at(log)?;
+        let mut out = NotedWriter::new(io::writer(rt));
+        let answer = mend_at(alloc, place, &files, how, &mut out, &mut self.notes);
+        self.notes.written = out.failure;
+        let mended = answer?;
+        tell_few(rt, log, mended);
+        if mended.is_told {
+            return Ok(Verdict::Found);
+        }
+        Ok(Verdict::Done)
     }
-    Ok(Verdict::Done)
 }
 
 // If few outputs have a file, the folder may be that of another build.

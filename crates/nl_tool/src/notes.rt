@@ -172,8 +172,7 @@ impl<R: Read> Read for NotedReader<'_, R> {
 
     fn read(&mut self, buf: &mut [u8]) -> io::Result<usize>
         ensures bound { ReadsAtMost result buf.new }
-        ensures bytes { ReadConsumes (R.remaining self.old.reader)
-            (R.remaining self.new.reader) result buf.new }
+        ensures bytes { ReadConsumes (R.remaining self.old.reader) (R.remaining self.new.reader) result buf.new }
         ensures noted { IfErr result (λ error. self.new.heard.now.failure ≡ Some error) }
     {
         match self.reader.read(buf) {
@@ -213,8 +212,7 @@ impl<W: Write> Write for NotedWriter<W> {
 
     fn write(&mut self, buf: &[u8]) -> io::Result<usize>
         ensures bound { WritesAtMost result buf.now }
-        ensures bytes { WriteAppends (W.contents self.old.writer)
-            (W.contents self.new.writer) result buf.now }
+        ensures bytes { WriteAppends (W.contents self.old.writer) (W.contents self.new.writer) result buf.now }
         ensures noted { IfErr result (λ error. self.new.failure ≡ Some error) }
     {
         match self.writer.write(buf) {

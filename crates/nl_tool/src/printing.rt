@@ -13,7 +13,6 @@ ghost use Rattle.nl_tool.specs.Answers.{IsAnswer, RefusesLog};
 ghost use Rattle.nl_tool.specs.Faults.{IsPrintingFault, IsReadingFault};
 
 use crate::desk::Desk;
-use crate::files::open_log;
 use crate::notes::{NotedReader, NotedWriter};
 use crate::program::Verdict;
 use crate::progress::Telling;
@@ -43,39 +42,75 @@ pub enum Streaming {
     Damage,
 }
 
-pub fn stream_log<R: Runtime>(
-    desk: &mut Desk<'_, R>,
-    streaming: Streaming,
-    log: Option<&str>,
-    missing_ok: bool,
-) -> Result<Verdict, ToolFault>
-    ensures faults { IfErr result IsLogFault }
-    ensures outcome { IfOk result
-        (λ outcome. outcome ≡ Verdict.Found → streaming ≡ Streaming.Damage) }
-{
-    let Some(path) = log else {
-        return stream_from(desk, streaming, desk.rt.reader());
-    };
-    match open_log(desk, path, missing_ok)? {
-        Some(file) => stream_from(desk, streaming, file),
-        None => stream_from(desk, streaming, io::empty()),
+impl<R: Runtime> Desk<'_, R> {
+    pub fn stream_log(
+        &mut self,
+        streaming: Streaming,
+        log: Option<&str>,
+        missing_ok: bool,
+    ) -> Result<Verdict, ToolFault>
+        ensures faults { IfErr result IsLogFault }
+        ensures outcome { IfOk result (λ outcome. outcome ≡ Verdict.Found → streaming ≡ Streaming.Damage) }
+    {
+        let Some(path) = log else {
+            return self.stream_from(streaming, self.rt.reader());
+        };
+        match self.open_log(path, missing_ok)? {
+            Some(file) => self.stream_from(streaming, file),
+            None => self.stream_from(streaming, io::empty()),
+        }
     }
-}
 
-fn stream_from<P: Print, R: Read + Drop>(
-    desk: &mut Desk<'_, P>,
-    streaming: Streaming,
-    reader: R,
-) -> Result<Verdict, ToolFault>
-    ensures faults { IfErr result IsLogFault }
-    ensures outcome { IfOk result
-        (λ outcome. outcome ≡ Verdict.Found → streaming ≡ Streaming.Damage) }
-{
-    let mut out = NotedWriter::new(io::writer(desk.rt));
-    let reader = NotedReader::new(reader, &mut desk.notes.heard);
-    let answer = stream_of(desk.alloc, streaming, reader, &mut out);
-    desk.notes.written = out.failure;
-    answer
+    fn stream_from<S: Read + Drop>(
+        &mut self,
+        streaming: Streaming,
+        reader: S,
+    ) -> Result<Verdict, ToolFault>
+        ensures faults { IfErr result IsLogFault }
+        ensures outcome { IfOk result (λ outcome. outcome ≡ Verdict.Found → streaming ≡ Streaming.Damage) }
+    {
+        let mut out = NotedWriter::new(io::writer(self.rt));
+        let reader = NotedReader::new(reader, &mut self.notes.heard);
+        let answer = stream_of(self.alloc, streaming, reader, &mut out);
+        self.notes.written = out.failure;
+        answer
+    }
+
+    pub fn print_in(
+        &mut self,
+        printing: Printing<'_>,
+        path: Option<&str>,
+        missing_ok: bool,
+    ) -> Result<(), ToolFault>
+        ensures faults { IfErr result (IsReadingFault printing.entry) }
+    {
+        let Some(path) = path else {
+            return self.print_from(printing, self.rt.reader());
+        };
+        match self.open_log(path, missing_ok)? {
+            Some(file) => self.print_from(printing, file),
+            None => self.print_from(printing, io::empty()),
+        }
+    }
+
+    pub fn print_from<S: Read + Drop>(
+        &mut self,
+        printing: Printing<'_>,
+        reader: S,
+    ) -> Result<(), ToolFault>
+        ensures bytes { RefusesLog (log_for self.old.asked) (S.remaining reader) result }
+        ensures faults { IfErr result (IsPrintingFault printing.entry) }
+    {
+        let (rt, alloc, asked) = (self.rt, self.alloc, self.asked);
+        let mut out = NotedWriter::new(io::writer(rt));
+        let reader = Telling::new(rt, self.notes.screen.errors, reader);
+        let secret = self.notes.secret;
+        let reader = NotedReader::new(reader, &mut self.notes.heard);
+        let told = &mut self.notes.told;
+        let answer = print_to(alloc, secret, printing, asked, reader, &mut out, told);
+        self.notes.written = out.failure;
+        answer
+    }
 }
 
 fn stream_of<R: Read + Drop, W: Write>(
@@ -85,8 +120,7 @@ fn stream_of<R: Read + Drop, W: Write>(
     writer: &mut W,
 ) -> Result<Verdict, ToolFault>
     ensures faults { IfErr result IsLogFault }
-    ensures outcome { IfOk result
-        (λ outcome. outcome ≡ Verdict.Found → streaming ≡ Streaming.Damage) }
+    ensures outcome { IfOk result (λ outcome. outcome ≡ Verdict.Found → streaming ≡ Streaming.Damage) }
 {
     match streaming {
         Streaming::Entries => {
@@ -109,8 +143,7 @@ fn tell_damage<R: Read + Drop, W: Write>(
         × ((outcome ≡ Verdict.Found) ↔ (0 < length text)))
         (λ _. IsSoFar (λ bs. damage_text_of (as_five bs)) (R.remaining reader)
         (W.contents writer.old) (W.contents writer.new)) }
-    ensures not_a_log { IsErrOf result ToolFault.NotALog
-        → IfSome (R.remaining reader) (λ bs. log_of (as_five bs) ≡ NotALog) }
+    ensures not_a_log { IsErrOf result ToolFault.NotALog → IfSome (R.remaining reader) (λ bs. log_of (as_five bs) ≡ NotALog) }
     ensures other_version { IsErrOf result ToolFault.OtherVersion
         → IfSome (R.remaining reader) (λ bs. log_of (as_five bs) ≡ OtherVersion) }
     ensures faults { IfErr result IsLogFault }
@@ -120,47 +153,6 @@ fn tell_damage<R: Read + Drop, W: Write>(
         Ok(false) => Ok(Verdict::Done),
         Err(fault) => Err(fault),
     }
-}
-
-pub fn print_in<R: Runtime>(
-    desk: &mut Desk<'_, R>,
-    printing: Printing<'_>,
-    path: Option<&str>,
-    missing_ok: bool,
-) -> Result<(), ToolFault>
-    ensures faults { IfErr result (IsReadingFault printing.entry) }
-{
-    let Some(path) = path else {
-        return print_from(desk, printing, desk.rt.reader());
-    };
-    match open_log(desk, path, missing_ok)? {
-        Some(file) => print_from(desk, printing, file),
-        None => print_from(desk, printing, io::empty()),
-    }
-}
-
-pub fn print_from<P: Print + Eprint + Clock, R: Read + Drop>(
-    desk: &mut Desk<'_, P>,
-    printing: Printing<'_>,
-    reader: R,
-) -> Result<(), ToolFault>
-    ensures bytes { RefusesLog (log_for desk.old.asked) (R.remaining reader) result }
-    ensures faults { IfErr result (IsPrintingFault printing.entry) }
-{
-    let Desk {
-        rt,
-        alloc,
-        asked,
-        ..
-    } = *desk;
-    let mut out = NotedWriter::new(io::writer(rt));
-    let reader = Telling::new(rt, desk.notes.screen.errors, reader);
-    let secret = desk.notes.secret;
-    let reader = NotedReader::new(reader, &mut desk.notes.heard);
-    let told = &mut desk.notes.told;
-    let answer = print_to(alloc, secret, printing, asked, reader, &mut out, told);
-    desk.notes.written = out.failure;
-    answer
 }
 
 // A command has no first line that names a version, so its hash is that of version 5 if none is asked for.

@@ -82,8 +82,7 @@ impl<P: Clock + Eprint, R: Read> Read for Telling<'_, P, R> {
 
     fn read(&mut self, buf: &mut [u8]) -> io::Result<usize>
         ensures bound { ReadsAtMost result buf.new }
-        ensures bytes { ReadConsumes (R.remaining self.old.reader)
-            (R.remaining self.new.reader) result buf.new }
+        ensures bytes { ReadConsumes (R.remaining self.old.reader) (R.remaining self.new.reader) result buf.new }
     {
         let answer = self.reader.read(buf);
         if self.tells {

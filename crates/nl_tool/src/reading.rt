@@ -7,7 +7,6 @@ ghost use Rattle.nl_tool_texts.specs.declared.fault.ToolFault.{ToolFault};
 ghost use Rattle.nl_versions.specs.VersionOf.{as_five};
 
 use crate::desk::Desk;
-use crate::files::{open, open_log};
 use crate::notes::NotedReader;
 use crate::progress::Telling;
 use nl_builds::may_be_log;
@@ -22,8 +21,7 @@ const PIECE: usize = 65_536;
 // It refuses a log as soon as the first bytes begin none. A read that was interrupted has failed.
 fn read_bytes<R: Read + Drop>(alloc: Global, is_log: bool, reader: R) -> Result<Vec<u8>, ToolFault>
     ensures value { IfOk result (λ all. OfBytes (R.remaining reader) (λ bytes. bytes ≡ all.items)) }
-    ensures not_a_log { IsErrOf result ToolFault.NotALog
-        → IfSome (R.remaining reader) (λ bs. log_of (as_five bs) ≡ NotALog) }
+    ensures not_a_log { IsErrOf result ToolFault.NotALog → IfSome (R.remaining reader) (λ bs. log_of (as_five bs) ≡ NotALog) }
     ensures faults { IfErr result IsLogFault }
 {
     let mut reader = reader;
@@ -43,42 +41,38 @@ fn read_bytes<R: Read + Drop>(alloc: Global, is_log: bool, reader: R) -> Result<
     Err(ToolFault::Read)
 }
 
-pub fn log_bytes<R: Runtime>(
-    desk: &mut Desk<'_, R>,
-    log: Option<&str>,
-    missing_ok: bool,
-) -> Result<Vec<u8>, ToolFault>
-    ensures faults { IfErr result IsLogFault }
-{
-    let Some(path) = log else {
-        return bytes_from(desk, true, desk.rt.reader());
-    };
-    match open_log(desk, path, missing_ok)? {
-        Some(file) => bytes_from(desk, true, file),
-        None => Ok(Vec::new(desk.alloc)),
+impl<R: Runtime> Desk<'_, R> {
+    pub fn log_bytes(&mut self, log: Option<&str>, missing_ok: bool) -> Result<Vec<u8>, ToolFault>
+        ensures faults { IfErr result IsLogFault }
+    {
+        let Some(path) = log else {
+            return self.bytes_from(true, self.rt.reader());
+        };
+        match self.open_log(path, missing_ok)? {
+            Some(file) => self.bytes_from(true, file),
+            None => Ok(Vec::new(self.alloc)),
+        }
     }
-}
 
-// It says how far a log is read, where that takes long.
-fn bytes_from<P: Eprint + Clock, R: Read + Drop>(
-    desk: &mut Desk<'_, P>,
-    is_log: bool,
-    reader: R,
-) -> Result<Vec<u8>, ToolFault>
-    ensures value { IfOk result (λ all. OfBytes (R.remaining reader) (λ bytes. bytes ≡ all.items)) }
-    ensures faults { IfErr result IsLogFault }
-{
-    let reader = Telling::new(desk.rt, is_log && desk.notes.screen.errors, reader);
-    let reader = NotedReader::new(reader, &mut desk.notes.heard);
-    read_bytes(desk.alloc, is_log, reader)
-}
-
-pub fn graph_bytes<R: Runtime>(desk: &mut Desk<'_, R>, path: &str) -> Result<Vec<u8>, ToolFault>
-    ensures faults { IfErr result IsLogFault }
-{
-    if path == "-" {
-        return bytes_from(desk, false, desk.rt.reader());
+    // It says how far a log is read, where that takes long.
+    fn bytes_from<S: Read + Drop>(&mut self, is_log: bool, reader: S) -> Result<Vec<u8>, ToolFault>
+        ensures value { IfOk result (λ all. OfBytes (S.remaining reader) (λ bytes. bytes ≡ all.items)) }
+        ensures faults { IfErr result IsLogFault }
+    {
+        let reader = Telling::new(self.rt, is_log && self.notes.screen.errors, reader);
+        let reader = NotedReader::new(reader, &mut self.notes.heard);
+        read_bytes(self.alloc, is_log, reader)
     }
-    let file = open(desk, path)?;
-    bytes_from(desk, false, file)
+
+    // It is the second file, and read before the log.
+    pub fn graph_bytes(&mut self, path: &str) -> Result<Vec<u8>, ToolFault>
+        ensures faults { IfErr result IsLogFault }
+    {
+        self.notes.begin(true);
+        if path == "-" {
+            return self.bytes_from(false, self.rt.reader());
+        }
+        let file = self.open(path)?;
+        self.bytes_from(false, file)
+    }
 }

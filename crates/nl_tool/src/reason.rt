@@ -166,6 +166,14 @@ pub struct Why<'a> {
     pub reason: Reason,
 }
 
+impl<'a> Why<'a> {
+    fn of(place: Place<'a>, reason: Reason) -> Why<'a>
+        ensures { result ≡ record { place = place.entry; reason = reason } }
+    {
+        Why { place, reason }
+    }
+}
+
 impl fmt::Display for Why<'_> {
     ghost output = { λ why. Some (why_text why) };
 
@@ -197,8 +205,7 @@ impl fmt::Display for Refusal<'_> {
 /// What is said of a command that was done: that the log was missing, where the command line asks for more.
 pub fn note_of<'a>(line: &CommandLine<'a>, notes: &Notes) -> Option<Why<'a>>
     ensures quiet { line.now.verbose ≡ false → result ≡ None }
-    ensures note { IfSome result
-        (IsNoteFor (words_heard line.now.words notes.now.is_second) notes.now.is_missing) }
+    ensures note { IfSome result (IsNoteFor (words_heard line.now.words notes.now.is_second) notes.now.is_missing) }
     ensures whenever { line.now.verbose ≡ true → notes.now.is_missing ≡ true
         → IsSome (log_place (words_heard line.now.words notes.now.is_second) FileRole.Log)
         → IsSome result }
@@ -214,10 +221,8 @@ pub fn note_of<'a>(line: &CommandLine<'a>, notes: &Notes) -> Option<Why<'a>>
 /// What is said of a command that was done: that builds were found again of which it told.
 pub fn again_note<'a>(line: &CommandLine<'a>, notes: &Notes) -> Option<Why<'a>>
     ensures none { notes.now.is_again ≡ false → result ≡ None }
-    ensures note { IfSome result
-        (λ why. (log_place line.now.words FileRole.Log ≡ Some why.place) × (why.reason ≡ Reason.Again)) }
-    ensures whenever { notes.now.is_again ≡ true → IsSome (log_place line.now.words FileRole.Log)
-        → IsSome result }
+    ensures note { IfSome result (λ why. (log_place line.now.words FileRole.Log ≡ Some why.place) × (why.reason ≡ Reason.Again)) }
+    ensures whenever { notes.now.is_again ≡ true → IsSome (log_place line.now.words FileRole.Log) → IsSome result }
 {
     if !notes.is_again {
         return None;
@@ -231,8 +236,7 @@ pub fn again_note<'a>(line: &CommandLine<'a>, notes: &Notes) -> Option<Why<'a>>
 pub fn unsynced_note<'a>(alloc: Global, line: &CommandLine<'a>, notes: &Notes) -> Option<Why<'a>>
     ensures quiet { line.now.verbose ≡ false → result ≡ None }
     ensures none { notes.now.unsynced ≡ None → result ≡ None }
-    ensures note { IfSome result (λ why. (log_place line.now.words FileRole.Folder ≡ Some why.place)
-        × IsUnsynced why.reason) }
+    ensures note { IfSome result (λ why. (log_place line.now.words FileRole.Folder ≡ Some why.place) × IsUnsynced why.reason) }
 {
     if !line.verbose {
         return None;
@@ -250,8 +254,7 @@ pub fn unsynced_note<'a>(alloc: Global, line: &CommandLine<'a>, notes: &Notes) -
 pub fn masked_note<'a>(line: &CommandLine<'a>, notes: &Notes) -> Option<Why<'a>>
     ensures quiet { line.now.verbose ≡ false → result ≡ None }
     ensures none { notes.now.is_masked ≡ false → result ≡ None }
-    ensures note { IfSome result (λ why. (log_place line.now.words FileRole.Log ≡ Some why.place)
-        × IsMasked why.reason) }
+    ensures note { IfSome result (λ why. (log_place line.now.words FileRole.Log ≡ Some why.place) × IsMasked why.reason) }
     ensures whenever { line.now.verbose ≡ true → notes.now.is_masked ≡ true
         → IsSome (log_place line.now.words FileRole.Log) → IsSome result }
 {
@@ -272,8 +275,7 @@ pub fn refusal_of<'a>(
 ) -> Refusal<'a>
     ensures fault { result.fault ≡ fault }
     ensures quiet { line.now.verbose ≡ false → notes.now.screen.errors ≡ false → result.why ≡ None }
-    ensures why { IfSome result.why
-        (IsReasonFor (words_for fault line.now.words notes.now.is_second) fault notes.now) }
+    ensures why { IfSome result.why (IsReasonFor (words_for fault line.now.words notes.now.is_second) fault notes.now) }
     ensures whenever { line.now.verbose ≡ true → fault ≡ ToolFault.BadNumber
         → HasText line.now.words notes.now.told.number → IsSome result.why }
 {
@@ -356,27 +358,23 @@ fn why_of<'a>(alloc: Global, words: &Words<'a>, fault: ToolFault, notes: &Notes)
             let failure = notes.folder?;
             failed_of(alloc, log_place(words, failure.file)?, &failure)
         }
-        ToolFault::BadLine(number) => Some(Why {
-            place: read_place(words)?,
-            reason: Reason::Line(number, notes.told.why),
-        }),
+        ToolFault::BadLine(number) => Some(Why::of(
+            read_place(words)?,
+            Reason::Line(number, notes.told.why),
+        )),
         ToolFault::NegativeTime(_) => negative_why(alloc, words, notes),
         ToolFault::OtherVersion => version_why(alloc, words, notes),
         ToolFault::NotALog => looks_of(alloc, words, notes),
-        ToolFault::EmptyName => Some(of_name(Reason::NoBytes)),
+        ToolFault::EmptyName => Some(Why::of(Place::Name, Reason::NoBytes)),
         ToolFault::BadByte(at) => bad_byte(words, at),
         ToolFault::LongName => long_name(words),
-        ToolFault::OtherGraph => Some(Why {
-            place: read_place(words)?,
-            reason: Reason::OtherBuild,
-        }),
+        ToolFault::OtherGraph => Some(Why::of(read_place(words)?, Reason::OtherBuild)),
         ToolFault::BadNumber | ToolFault::Memory | ToolFault::Elsewhere => None,
     }
 }
 
 fn unread_of<'a>(alloc: Global, words: &Words<'a>, notes: &Notes) -> Option<Why<'a>>
-    ensures { IfSome result
-        (IsReasonFor words.now ToolFault.Read notes.now) }
+    ensures { IfSome result (IsReasonFor words.now ToolFault.Read notes.now) }
 {
     if let Some(error) = notes.heard.failure {
         return said_of(alloc, read_place(words)?, error);
@@ -386,8 +384,7 @@ fn unread_of<'a>(alloc: Global, words: &Words<'a>, notes: &Notes) -> Option<Why<
 }
 
 fn negative_why<'a>(alloc: Global, words: &Words<'a>, notes: &Notes) -> Option<Why<'a>>
-    ensures { IfSome result (λ why. (read_place words.now ≡ Some why.place)
-        × IsNegative why.reason) }
+    ensures { IfSome result (λ why. (read_place words.now ≡ Some why.place) × IsNegative why.reason) }
 {
     let reason = match *words {
         Words::Change {
@@ -396,10 +393,7 @@ fn negative_why<'a>(alloc: Global, words: &Words<'a>, notes: &Notes) -> Option<W
         } => early_reason(alloc, notes.early.as_slice())?,
         _ => Reason::Negative(notes.told.negative?),
     };
-    Some(Why {
-        place: read_place(words)?,
-        reason,
-    })
+    Some(Why::of(read_place(words)?, reason))
 }
 
 fn early_reason(alloc: Global, name: &[u8]) -> Option<Reason>
@@ -451,10 +445,7 @@ fn bad_number<'a>(words: &Words<'a>, notes: &Notes) -> Option<Why<'a>>
 {
     let WrongNumber { which, nth, why } = notes.told.number?;
     let text = number_text(words, which)?;
-    Some(Why {
-        place: Place::Number(which, text),
-        reason: Reason::Number(nth, why),
-    })
+    Some(Why::of(Place::Number(which, text), Reason::Number(nth, why)))
 }
 
 fn number_text<'a>(words: &Words<'a>, which: NumberOf) -> Option<&'a str>
@@ -487,15 +478,6 @@ fn number_text<'a>(words: &Words<'a>, which: NumberOf) -> Option<&'a str>
     }
 }
 
-fn of_name<'a>(reason: Reason) -> Why<'a>
-    ensures { result ≡ record { place = Place.Name; reason = reason } }
-{
-    Why {
-        place: Place::Name,
-        reason,
-    }
-}
-
 fn bad_byte<'a>(words: &Words<'a>, at: usize) -> Option<Why<'a>>
     ensures { IfSome result (λ why. (why.place ≡ Place.Name) × IsByteAt at why.reason) }
 {
@@ -503,8 +485,8 @@ fn bad_byte<'a>(words: &Words<'a>, at: usize) -> Option<Why<'a>>
         return None;
     };
     match name.as_bytes().get(at)? {
-        b'\n' => Some(of_name(Reason::Newline(at))),
-        _ => Some(of_name(Reason::Tab(at))),
+        b'\n' => Some(Why::of(Place::Name, Reason::Newline(at))),
+        _ => Some(Why::of(Place::Name, Reason::Tab(at))),
     }
 }
 
@@ -514,7 +496,7 @@ fn long_name<'a>(words: &Words<'a>) -> Option<Why<'a>>
     let Words::Record { name, .. } = *words else {
         return None;
     };
-    Some(of_name(Reason::Long(name.len())))
+    Some(Why::of(Place::Name, Reason::Long(name.len())))
 }
 
 fn said_of<'a>(alloc: Global, place: Place<'a>, error: io::Error) -> Option<Why<'a>>
@@ -534,10 +516,10 @@ fn version_why<'a>(alloc: Global, words: &Words<'a>, notes: &Notes) -> Option<Wh
 {
     let digits = named_version(notes.heard.beginning.bytes())?;
     let version = str::from_utf8(digits).ok()?;
-    Some(Why {
-        place: log_place(words, FileRole::Log)?,
-        reason: Reason::Version(String::from_str(alloc, version).ok()?),
-    })
+    Some(Why::of(
+        log_place(words, FileRole::Log)?,
+        Reason::Version(String::from_str(alloc, version).ok()?),
+    ))
 }
 
 fn named_version(beginning: &[u8]) -> Option<&[u8]> {

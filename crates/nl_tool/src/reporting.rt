@@ -12,10 +12,9 @@ ghost use Rattle.nl_tool.specs.Faults.{IsBuildFault, IsPathFault, IsPictureFault
 ghost use Rattle.nl_tool_print.specs.Faults.{IsLogFault};
 ghost use Rattle.nl_tool.specs.Reports.{AreBuilds, AreCounts, IsFound, IsLaidOut, IsMost, IsReport, IsReportOf, IsScope, IsSummary, PrintsReport, asked_told, laid_out, rule_by, rule_of, waiting};
 
-use crate::desk::Desk;
+use crate::desk::{Desk, Means};
 use crate::notes::NotedWriter;
 use crate::numbers::{counts_of, most_of, scope_of};
-use crate::reading::{graph_bytes, log_bytes};
 use jiff_tz::{SystemTimeZone, TimeZone, TimeZoneDatabase};
 use nl_builds::{Builds, LogBuilds, Stamps, read_builds};
 use nl_reports::{
@@ -23,7 +22,6 @@ use nl_reports::{
     chosen_jobs, draw_builds, graph_lines, lasting, read_graph, summary_lines, taken_in,
     trace_builds,
 };
-use nl_table::Secret;
 use nl_tool_texts::{ToolFault, in_columns, write_out};
 use nl_tool_words::Choices;
 use std::alloc::{AllocError, Global};
@@ -36,147 +34,94 @@ pub enum Report<'g, 't> {
     /// At a terminal by the clock of a time zone.
     Builds(Option<TimeZone<'g>>),
     /// With what a graph tells, where there is one.
-    Summary {
-        scope: Scope,
-        lists: Lists,
-        graph: Option<ByGraph<'g, 't>>,
-    },
+    Summary(Scope, Lists, Option<ByGraph<'g, 't>>),
     /// As the events of a trace.
     Trace(Scope),
     /// With the critical path outlined, where there is a graph.
-    Picture {
-        scope: Scope,
-        graph: Option<&'g NinjaGraph<'t>>,
-    },
+    Picture(Scope, Option<&'g NinjaGraph<'t>>),
 }
 
-pub fn summary_in<R: Runtime>(
-    desk: &mut Desk<'_, R>,
-    log: Option<&str>,
-    choices: Choices<'_>,
-) -> Result<(), ToolFault>
-    ensures scope { OnOk result ((scope : Scope) × IsScope choices.entry.all choices.entry.build scope) }
-    ensures accepts { OnOk result ((most : ℕ) × IsMost choices.entry.lines most) }
-    ensures counts { OnOk result ((counts : List ℕ) × AreCounts choices.entry.jobs counts) }
-    ensures faults { IfErr result (IsSummaryFault choices.entry desk.new.notes.told.number) }
-{
-    let most = most_of(choices.lines, &mut desk.notes.told)?;
-    let scope = scope_of(choices.all, choices.build, &mut desk.notes.told)?;
-    let counts = counts_of(desk.alloc, choices.jobs, &mut desk.notes.told)?;
-    let lists = Lists {
-        screen: desk.columns.is_some(),
-        most,
-        rule: rule_of(choices.kind, desk.columns.is_some()),
-        secret: desk.notes.secret,
-    };
-    match choices.graph {
-        Some(path) => summary_with(desk, scope, lists, path, counts.as_slice(), log),
-        None => {
-            let report = Report::Summary {
-                scope,
-                lists,
-                graph: None,
-            };
-            report_in(desk, report, log)
-        }
-    }
-}
-
-// Reads the graph, and then the log.
-fn summary_with<R: Runtime>(
-    desk: &mut Desk<'_, R>,
-    scope: Scope,
-    lists: Lists,
-    path: &str,
-    counts: &[usize],
-    log: Option<&str>,
-) -> Result<(), ToolFault>
-    ensures faults { IfErr result IsPathFault }
-{
-    desk.notes.begin(true);
-    let text = graph_bytes(desk, path)?;
-    let graph = read_graph(desk.alloc, desk.notes.secret, text.as_slice())?;
-    desk.notes.begin(false);
-    let report = Report::Summary {
-        scope,
-        lists,
-        graph: Some(ByGraph {
+impl<R: Runtime> Desk<'_, R> {
+    pub fn summary_in(&mut self, log: Option<&str>, choices: Choices<'_>) -> Result<(), ToolFault>
+        ensures scope { OnOk result ((scope : Scope) × IsScope choices.entry.all choices.entry.build scope) }
+        ensures accepts { OnOk result ((most : ℕ) × IsMost choices.entry.lines most) }
+        ensures counts { OnOk result ((counts : List ℕ) × AreCounts choices.entry.jobs counts) }
+        ensures faults { IfErr result (IsSummaryFault choices.entry self.new.notes.told.number) }
+    {
+        let most = most_of(choices.lines, &mut self.notes.told)?;
+        let scope = scope_of(choices.all, choices.build, &mut self.notes.told)?;
+        let counts = counts_of(self.alloc, choices.jobs, &mut self.notes.told)?;
+        let lists = Lists {
+            screen: self.columns.is_some(),
+            most,
+            rule: rule_of(choices.kind, self.columns.is_some()),
+            secret: self.notes.secret,
+        };
+        let Some(path) = choices.graph else {
+            return self.report_in(Report::Summary(scope, lists, None), log);
+        };
+        let text = self.graph_bytes(path)?;
+        let graph = read_graph(self.alloc, lists.secret, text.as_slice())?;
+        self.notes.begin(false);
+        let by = ByGraph {
             screen: lists.screen,
             graph: &graph,
-            counts,
-            most: lists.most,
-        }),
-    };
-    report_in(desk, report, log)
-}
+            counts: counts.as_slice(),
+            most,
+        };
+        self.report_in(Report::Summary(scope, lists, Some(by)), log)
+    }
 
-/// By the time zone of the system, or else by UTC.
-pub fn builds_in<R: Runtime>(desk: &mut Desk<'_, R>, log: Option<&str>) -> Result<(), ToolFault>
-    ensures faults { IfErr result IsLogFault }
-{
-    let Desk {
-        rt,
-        alloc,
-        columns,
-        ..
-    } = *desk;
-    let zones = TimeZoneDatabase::new(alloc);
-    if columns.is_some() {
-        if let Ok(system) = SystemTimeZone::read(&(rt, alloc)) {
-            if let Ok(zone) = system.time_zone(&zones) {
-                return report_in(desk, Report::Builds(Some(zone)), log);
+    /// By the time zone of the system, or else by UTC.
+    pub fn builds_in(&mut self, log: Option<&str>) -> Result<(), ToolFault>
+        ensures faults { IfErr result IsLogFault }
+    {
+        let (rt, alloc, columns) = (self.rt, self.alloc, self.columns);
+        let zones = TimeZoneDatabase::new(alloc);
+        if columns.is_some() {
+            if let Ok(system) = SystemTimeZone::read(&(rt, alloc)) {
+                if let Ok(zone) = system.time_zone(&zones) {
+                    return self.report_in(Report::Builds(Some(zone)), log);
+                }
             }
         }
+        let zone = columns.map(|_| TimeZone::UTC);
+        self.report_in(Report::Builds(zone), log)
     }
-    let zone = columns.map(|_| TimeZone::UTC);
-    report_in(desk, Report::Builds(zone), log)
-}
 
-pub fn trace_in<R: Runtime>(
-    desk: &mut Desk<'_, R>,
-    log: Option<&str>,
-    choices: Choices<'_>,
-) -> Result<(), ToolFault>
-    ensures scope { OnOk result ((scope : Scope) × IsScope choices.entry.all choices.entry.build scope) }
-    ensures faults { IfErr result (IsBuildFault choices.entry desk.new.notes.told.number) }
-{
-    let scope = scope_of(choices.all, choices.build, &mut desk.notes.told)?;
-    report_in(desk, Report::Trace(scope), log)
-}
-
-pub fn picture_in<R: Runtime>(
-    desk: &mut Desk<'_, R>,
-    log: Option<&str>,
-    choices: Choices<'_>,
-) -> Result<(), ToolFault>
-    ensures scope { OnOk result ((scope : Scope) × IsScope choices.entry.all choices.entry.build scope) }
-    ensures faults { IfErr result (IsPictureFault choices.entry desk.new.notes.told.number) }
-{
-    let scope = scope_of(choices.all, choices.build, &mut desk.notes.told)?;
-    match choices.graph {
-        Some(path) => picture_with(desk, scope, path, log),
-        None => report_in(desk, Report::Picture { scope, graph: None }, log),
+    pub fn trace_in(&mut self, log: Option<&str>, choices: Choices<'_>) -> Result<(), ToolFault>
+        ensures scope { OnOk result ((scope : Scope) × IsScope choices.entry.all choices.entry.build scope) }
+        ensures faults { IfErr result (IsBuildFault choices.entry self.new.notes.told.number) }
+    {
+        let scope = scope_of(choices.all, choices.build, &mut self.notes.told)?;
+        self.report_in(Report::Trace(scope), log)
     }
-}
 
-// Reads the graph, and then the log.
-fn picture_with<R: Runtime>(
-    desk: &mut Desk<'_, R>,
-    scope: Scope,
-    path: &str,
-    log: Option<&str>,
-) -> Result<(), ToolFault>
-    ensures faults { IfErr result IsPathFault }
-{
-    desk.notes.begin(true);
-    let text = graph_bytes(desk, path)?;
-    let graph = read_graph(desk.alloc, desk.notes.secret, text.as_slice())?;
-    desk.notes.begin(false);
-    let report = Report::Picture {
-        scope,
-        graph: Some(&graph),
-    };
-    report_in(desk, report, log)
+    pub fn picture_in(&mut self, log: Option<&str>, choices: Choices<'_>) -> Result<(), ToolFault>
+        ensures scope { OnOk result ((scope : Scope) × IsScope choices.entry.all choices.entry.build scope) }
+        ensures faults { IfErr result (IsPictureFault choices.entry self.new.notes.told.number) }
+    {
+        let scope = scope_of(choices.all, choices.build, &mut self.notes.told)?;
+        let Some(path) = choices.graph else {
+            return self.report_in(Report::Picture(scope, None), log);
+        };
+        let text = self.graph_bytes(path)?;
+        let graph = read_graph(self.alloc, self.notes.secret, text.as_slice())?;
+        self.notes.begin(false);
+        self.report_in(Report::Picture(scope, Some(&graph)), log)
+    }
+
+    pub fn report_in(&mut self, report: Report<'_, '_>, log: Option<&str>) -> Result<(), ToolFault>
+        ensures faults { IfErr result (IsReportFault report.entry) }
+    {
+        let text = self.log_bytes(log, self.missing_ok)?;
+        let mut out = NotedWriter::new(io::writer(self.rt));
+        let means = self.means();
+        let again = &mut self.notes.is_again;
+        let answer = report_to(means, report, text.as_slice(), &mut out, again);
+        self.notes.written = out.failure;
+        answer
+    }
 }
 
 pub fn rule_of(kind: Option<&str>, screen: bool) -> KindRule
@@ -200,117 +145,68 @@ fn rule_by(text: &str) -> KindRule
     }
 }
 
-pub fn report_in<R: Runtime>(
-    desk: &mut Desk<'_, R>,
-    report: Report<'_, '_>,
-    log: Option<&str>,
-) -> Result<(), ToolFault>
-    ensures faults { IfErr result (IsReportFault report.entry) }
-{
-    let missing_ok = desk.missing_ok;
-    let text = log_bytes(desk, log, missing_ok)?;
-    let Desk {
-        rt,
-        alloc,
-        columns,
-        ..
-    } = *desk;
-    let mut out = NotedWriter::new(io::writer(rt));
-    let secret = desk.notes.secret;
-    let again = &mut desk.notes.is_again;
-    let answer = report_to(
-        alloc,
-        secret,
-        columns,
-        report,
-        text.as_slice(),
-        &mut out,
-        again,
-    );
-    desk.notes.written = out.failure;
-    answer
-}
-
 fn report_to<W: Write>(
-    alloc: Global,
-    secret: Secret,
-    columns: Option<usize>,
+    means: Means,
     report: Report<'_, '_>,
     text: &[u8],
     writer: &mut W,
     again: &mut bool,
 ) -> Result<(), ToolFault>
-    ensures prints { PrintsReport columns report.entry (IsReportOf report.entry text.now)
+    ensures prints { PrintsReport means.columns report.entry (IsReportOf report.entry text.now)
         (W.contents writer.old) (W.contents writer.new) result }
     ensures bytes { RefusesLog (λ bs. log_of (as_five bs)) (Some text.now) result }
     ensures faults { IfErr result (IsReportFault report.entry) }
 {
-    let log = read_builds(alloc, secret, text)?;
-    tell(alloc, secret, columns, report, log, writer, again)
+    let log = read_builds(means.alloc, means.secret, text)?;
+    tell(means, report, log, writer, again)
 }
 
 fn tell<W: Write>(
-    alloc: Global,
-    secret: Secret,
-    columns: Option<usize>,
+    means: Means,
     report: Report<'_, '_>,
     log: LogBuilds<'_>,
     writer: &mut W,
     again: &mut bool,
 ) -> Result<(), ToolFault>
-    ensures prints { PrintsReport columns report.entry
+    ensures prints { PrintsReport means.columns report.entry
         (IsReport report.entry (waiting log.entry) (told log.entry.told))
         (W.contents writer.old) (W.contents writer.new) result }
     ensures faults { IfErr result (IsToldFault report.entry) }
 {
-    let LogBuilds {
-        stamps,
-        told,
-        unfinished,
-    } = log;
+    let (stamps, told, unfinished) = (log.stamps, log.told, log.unfinished);
+    let names = unfinished.as_slice();
     match report {
-        Report::Builds(zone) => tell_builds(alloc, columns, zone, &told, writer, again),
-        Report::Summary {
-            scope,
-            lists,
-            graph,
-        } => {
-            let names = unfinished.as_slice();
-            let asked = asked_builds(alloc, secret, scope, names, told)?;
-            let count = names.len();
+        Report::Builds(zone) => {
+            *again = taken_in(Scope::All, &told).is_some();
+            let lines = lines_of_builds(means.alloc, zone, &told)?;
+            write_lines(means, lines, writer)
+        }
+        Report::Summary(scope, lists, graph) => {
+            let asked = asked_builds(means, scope, names, told)?;
+            *again = taken_in(scope, &asked).is_some();
             let priority = priority_in(stamps);
             tell_summary(
-                alloc, columns, scope, lists, graph, priority, count, &asked, writer, again,
+                means,
+                scope,
+                lists,
+                graph,
+                priority,
+                names.len(),
+                &asked,
+                writer,
             )
         }
         Report::Trace(scope) => {
-            let asked = asked_builds(alloc, secret, scope, unfinished.as_slice(), told)?;
+            let asked = asked_builds(means, scope, names, told)?;
             *again = taken_in(scope, &asked).is_some();
-            trace_builds(alloc, scope, &asked, writer)
+            trace_builds(means.alloc, scope, &asked, writer)
         }
-        Report::Picture { scope, graph } => {
-            let asked = asked_builds(alloc, secret, scope, unfinished.as_slice(), told)?;
+        Report::Picture(scope, graph) => {
+            let asked = asked_builds(means, scope, names, told)?;
             *again = taken_in(scope, &asked).is_some();
-            draw_builds(alloc, secret, scope, graph, &asked, writer)
+            draw_builds(means.alloc, means.secret, scope, graph, &asked, writer)
         }
     }
-}
-
-fn tell_builds<W: Write>(
-    alloc: Global,
-    columns: Option<usize>,
-    zone: Option<TimeZone<'_>>,
-    from: &Builds,
-    writer: &mut W,
-    again: &mut bool,
-) -> Result<(), ToolFault>
-    ensures prints { Prints (IsLaidOut columns (AreBuilds zone.entry (told from.now)))
-        (W.contents writer.old) (W.contents writer.new) result }
-    ensures faults { IfErr result IsWriteFault }
-{
-    *again = taken_in(Scope::All, from).is_some();
-    let lines = lines_of_builds(alloc, zone, from)?;
-    write_lines(alloc, columns, lines, writer)
 }
 
 fn lines_of_builds(
@@ -327,8 +223,7 @@ fn lines_of_builds(
 }
 
 fn tell_summary<W: Write>(
-    alloc: Global,
-    columns: Option<usize>,
+    means: Means,
     scope: Scope,
     lists: Lists,
     graph: Option<ByGraph<'_, '_>>,
@@ -336,22 +231,20 @@ fn tell_summary<W: Write>(
     unfinished: usize,
     from: &Builds,
     writer: &mut W,
-    again: &mut bool,
 ) -> Result<(), ToolFault>
-    ensures prints { Prints (IsLaidOut columns (IsSummary scope lists graph.entry unfinished (told from.now)))
+    ensures prints { Prints (IsLaidOut means.columns (IsSummary scope lists graph.entry unfinished (told from.now)))
         (W.contents writer.old) (W.contents writer.new) result }
     ensures faults { IfErr result (IsFoundFault graph.entry) }
 {
-    *again = taken_in(scope, from).is_some();
-    let Some(lines) = summary_of(alloc, scope, lists, graph, priority, unfinished, from)? else {
-        return Err(ToolFault::OtherGraph);
-    };
-    write_lines(alloc, columns, lines, writer)
+    let lines = summary_of(means.alloc, scope, lists, graph, priority, unfinished, from)?;
+    match lines {
+        Some(lines) => write_lines(means, lines, writer),
+        None => Err(ToolFault::OtherGraph),
+    }
 }
 
 fn asked_builds<'a>(
-    alloc: Global,
-    secret: Secret,
+    means: Means,
     scope: Scope,
     names: &[&'a [u8]],
     from: Builds<'a>,
@@ -359,7 +252,7 @@ fn asked_builds<'a>(
     ensures value { IfOk result (λ asked. told asked ≡ asked_told scope (map (λ n. n.now) names.now) (told from.entry)) }
 {
     match scope {
-        Scope::All => lasting(alloc, secret, names, from),
+        Scope::All => lasting(means.alloc, means.secret, names, from),
         Scope::Last | Scope::Numbered(_) => Ok(from),
     }
 }
@@ -396,19 +289,14 @@ fn summary_of(
     Ok(Some(lines))
 }
 
-pub fn write_lines<W: Write>(
-    alloc: Global,
-    columns: Option<usize>,
-    lines: Vec<u8>,
-    writer: &mut W,
-) -> Result<(), ToolFault>
-    ensures prints { Prints (λ text. text ≡ laid_out columns lines.items) (W.contents writer.old)
+pub fn write_lines<W: Write>(means: Means, lines: Vec<u8>, writer: &mut W) -> Result<(), ToolFault>
+    ensures prints { Prints (λ text. text ≡ laid_out means.columns lines.items) (W.contents writer.old)
         (W.contents writer.new) result }
     ensures faults { IfErr result IsWriteFault }
 {
-    let Some(most) = columns else {
+    let Some(most) = means.columns else {
         return write_out(lines.as_slice(), writer);
     };
-    let laid = in_columns(alloc, most, lines.as_slice())?;
+    let laid = in_columns(means.alloc, most, lines.as_slice())?;
     write_out(laid.as_slice(), writer)
 }

@@ -12,9 +12,8 @@ ghost use Rattle.nl_tool_texts.specs.declared.fault.ToolFault.{ToolFault};
 
 use crate::desk::{Desk, close};
 use crate::doubting::SystemFiles;
-use crate::files::open;
 use crate::notes::{NotedReader, Notes};
-use crate::printing::{Streaming, stream_log};
+use crate::printing::Streaming;
 use crate::program::Verdict;
 use nl_fields::Name;
 use nl_folder::Folder;
@@ -30,100 +29,97 @@ use std::alloc::Global;
 use std::io::Read;
 use std::rt::{Clock, Files, Runtime};
 
-// It reads all targets before it asks anything of LOG.
-pub fn prune_in<R: Runtime>(
-    desk: &mut Desk<'_, R>,
-    log: &str,
-    path: Option<&str>,
-) -> Result<Verdict, ToolFault>
+impl<R: Runtime> Desk<'_, R>
 where
     R::File: SystemFile,
-    ensures faults { IfErr result IsPruneFault }
 {
-    let targets = targets_in(desk, path)?;
-    let answer = prune_log(desk, log, targets);
-    // The targets were read, so it is LOG that couldn't be.
-    if let Some(error) = desk.notes.heard.failure {
-        desk.notes.heard.failure = None;
-        desk.notes.folder = Some(Failure {
-            file: FileRole::Log,
-            error,
-        });
-    }
-    answer
-}
-
-fn targets_in<R: Runtime>(
-    desk: &mut Desk<'_, R>,
-    path: Option<&str>,
-) -> Result<Vec<Name>, ToolFault>
-    ensures faults { IfErr result IsTargetsFault }
-{
-    let Desk { rt, alloc, .. } = *desk;
-    match path {
-        None => targets_from(alloc, rt.reader(), &mut desk.notes),
-        Some(path) => {
-            let file = open(desk, path)?;
-            targets_from(alloc, file, &mut desk.notes)
+    // It reads all targets before it asks anything of LOG.
+    pub fn prune_in(&mut self, log: &str, path: Option<&str>) -> Result<Verdict, ToolFault>
+        ensures faults { IfErr result IsPruneFault }
+    {
+        let targets = self.targets_in(path)?;
+        let answer = self.prune_log(log, targets);
+        // The targets were read, so it is LOG that couldn't be.
+        if let Some(error) = self.notes.heard.failure {
+            self.notes.heard.failure = None;
+            self.notes.folder = Some(Failure {
+                file: FileRole::Log,
+                error,
+            });
         }
+        answer
     }
-}
 
-// Notes of the targets are kept only if these are refused, because LOG is read next.
-fn targets_from<R: Read + Drop>(
-    alloc: Global,
-    reader: R,
-    notes: &mut Notes,
-) -> Result<Vec<Name>, ToolFault>
-    ensures faults { IfErr result IsTargetsFault }
-{
-    let mut own = Notes::new(alloc, notes.looks, notes.screen, notes.secret);
-    let targets = NotedReader::new(reader, &mut own.heard);
-    let answer = read_manifest(alloc, targets, &mut notes.told);
-    if answer.is_err() {
-        notes.heard = own.heard;
+    fn targets_in(&mut self, path: Option<&str>) -> Result<Vec<Name>, ToolFault>
+        ensures faults { IfErr result IsTargetsFault }
+    {
+        let Some(path) = path else {
+            return self.targets_from(self.rt.reader());
+        };
+        let file = self.open(path)?;
+        self.targets_from(file)
     }
-    answer
-}
 
-fn prune_log<R: Runtime>(
-    desk: &mut Desk<'_, R>,
-    log: &str,
-    targets: Vec<Name>,
-) -> Result<Verdict, ToolFault>
-where
-    R::File: SystemFile,
-    ensures faults { IfErr result IsPruneFault }
-{
-    if let Verdict::Found = damage_in(desk, log)? {
-        return Ok(Verdict::Found);
+    // Notes of the targets are kept only if these are refused, because LOG is read next.
+    fn targets_from<S: Read + Drop>(&mut self, reader: S) -> Result<Vec<Name>, ToolFault>
+        ensures faults { IfErr result IsTargetsFault }
+    {
+        let notes = &mut self.notes;
+        let mut own = Notes::new(self.alloc, notes.looks, notes.screen, notes.secret);
+        let targets = NotedReader::new(reader, &mut own.heard);
+        let answer = read_manifest(self.alloc, targets, &mut notes.told);
+        if answer.is_err() {
+            notes.heard = own.heard;
+        }
+        answer
     }
-    let file = open(desk, log)?;
-    prune_by(desk, log, targets, file)?;
-    Ok(Verdict::Done)
-}
 
-fn prune_by<R: Runtime, S: Read + Drop>(
-    desk: &mut Desk<'_, R>,
-    log: &str,
-    targets: Vec<Name>,
-    file: S,
-) -> Result<(), ToolFault>
-where
-    R::File: SystemFile,
-    ensures faults { IfErr result IsPruneFault }
-{
-    let place = desk.log_at(log)?;
-    let files = SystemFiles { rt: desk.rt };
-    prune_at(desk.alloc, place, targets, file, &files, &mut desk.notes)
-}
+    fn prune_log(&mut self, log: &str, targets: Vec<Name>) -> Result<Verdict, ToolFault>
+        ensures faults { IfErr result IsPruneFault }
+    {
+        if let Verdict::Found = self.damage_in(log)? {
+            return Ok(Verdict::Found);
+        }
+        let file = self.open(log)?;
+        let files = SystemFiles { rt: self.rt };
+        let place = self.log_at(log)?;
+        prune_at(self.alloc, place, targets, file, &files, &mut self.notes)?;
+        Ok(Verdict::Done)
+    }
 
-// Tells of the damage of a log. One of another version than that which is asked for is refused before.
-fn damage_in<R: Runtime>(desk: &mut Desk<'_, R>, log: &str) -> Result<Verdict, ToolFault>
-    ensures faults { IfErr result IsSettlingFault }
-{
-    refuse_other(desk, log)?;
-    stream_log(desk, Streaming::Damage, Some(log), false)
+    // Tells of the damage of a log. One of another version than that which is asked for is refused before.
+    fn damage_in(&mut self, log: &str) -> Result<Verdict, ToolFault>
+        ensures faults { IfErr result IsSettlingFault }
+    {
+        self.refuse_other(log)?;
+        self.stream_log(Streaming::Damage, Some(log), false)
+    }
+
+    fn refuse_other(&mut self, log: &str) -> Result<(), ToolFault>
+        ensures faults { IfErr result IsLogFault }
+    {
+        let Desk { alloc, asked, .. } = *self;
+        if asked.is_none() {
+            return Ok(());
+        }
+        let file = self.open(log)?;
+        let secret = self.notes.secret;
+        let file = NotedReader::new(file, &mut self.notes.heard);
+        check_version(alloc, secret, asked, file)
+    }
+
+    pub fn retime_in(&mut self, log: &str) -> Result<Verdict, ToolFault>
+        ensures faults { IfErr result IsSettlingFault }
+    {
+        if let Verdict::Found = self.damage_in(log)? {
+            return Ok(Verdict::Found);
+        }
+        let file = self.open(log)?;
+        let files = SystemFiles { rt: self.rt };
+        let place = self.log_at(log)?;
+        retime_at(self.alloc, place, file, &files, &mut self.notes)?;
+        Ok(Verdict::Done)
+    }
 }
 
 fn prune_at<D: Files + Clock + Drop, R: Read + Drop, O: OutputFiles>(
@@ -147,19 +143,6 @@ where
     answer
 }
 
-fn refuse_other<R: Runtime>(desk: &mut Desk<'_, R>, log: &str) -> Result<(), ToolFault>
-    ensures faults { IfErr result IsLogFault }
-{
-    let Desk { alloc, asked, .. } = *desk;
-    if asked.is_none() {
-        return Ok(());
-    }
-    let file = open(desk, log)?;
-    let secret = desk.notes.secret;
-    let file = NotedReader::new(file, &mut desk.notes.heard);
-    check_version(alloc, secret, asked, file)
-}
-
 fn check_version<R: Read + Drop>(
     alloc: Global,
     secret: Secret,
@@ -177,21 +160,6 @@ fn check_version<R: Read + Drop>(
         Err(ToolFault::Write) => Err(ToolFault::Memory),
         Err(fault) => Err(fault),
     }
-}
-
-pub fn retime_in<R: Runtime>(desk: &mut Desk<'_, R>, log: &str) -> Result<Verdict, ToolFault>
-where
-    R::File: SystemFile,
-    ensures faults { IfErr result IsSettlingFault }
-{
-    if let Verdict::Found = damage_in(desk, log)? {
-        return Ok(Verdict::Found);
-    }
-    let file = open(desk, log)?;
-    let files = SystemFiles { rt: desk.rt };
-    let place = desk.log_at(log)?;
-    retime_at(desk.alloc, place, file, &files, &mut desk.notes)?;
-    Ok(Verdict::Done)
 }
 
 fn retime_at<D: Files + Clock + Drop, R: Read + Drop, O: OutputFiles>(
@@ -259,8 +227,7 @@ fn retime_there<P: LogPlace, R: Read + Drop, F: OutputFiles>(
 
 fn note_early(times: &[(Name, i64)], at: usize, early: &mut Vec<u8>)
     requires there { at < length times.now }
-    ensures named { (early.new.items ≡ [])
-        ⊎ IsSomeAnd (slice_get times.now at) (λ pair. early.new.items ≡ pair.0) }
+    ensures named { (early.new.items ≡ []) ⊎ IsSomeAnd (slice_get times.now at) (λ pair. early.new.items ≡ pair.0) }
 {
     early.clear();
     let (name, _) = &times[at];

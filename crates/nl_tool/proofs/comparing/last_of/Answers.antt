@@ -5,8 +5,8 @@ use Rattle.nl_tool.proofs.comparing.last_of.Goals as goal
 
 pub returns-clause-value : goal.returns-clause-value
 returns-clause-value c =
-    let held = c.in_ok-told.ensures.value in
-    let same = told_is c.in_ok-told.field-0.told _ held.3 in
+    let held = c.in_ok-log.ensures.value in
+    let same = told_is c.in_ok-log.log.told _ held.3 in
     record {
       version = held.0;
       entries = held.1;

@@ -11,7 +11,7 @@ pub returns-clause-prints : goal.returns-clause-prints
 returns-clause-prints g c =
     let held = c.in_ok-log.ensures.value in
     let log = c.in_ok-log.log in
-    report_as c.args.columns c.args.report (IsReport c.args.report (waiting log) (told log.told)) (IsReportOf c.args.report c.args.text.now)
+    report_as c.args.means.columns c.args.report (IsReport c.args.report (waiting log) (told log.told)) (IsReportOf c.args.report c.args.text.now)
     (λ text is. record {
       version = held.0;
       entries = held.1;

@@ -4,7 +4,7 @@ use Rattle.nl_tool_change.specs.declared.line_fault.WrongNumber.{WrongNumber}
 use Rattle.nl_tool_print.specs.Faults.{IsLogFault}
 use Rattle.nl_tool_texts.specs.declared.fault.ToolFault.{ToolFault}
 use Rattle.nl_tool.specs.Faults.{IsCompareFault}
-use Rattle.nl_tool.proofs.comparing.compare_in.Goals as goal
+use Rattle.nl_tool.proofs.desk.Desk.compare_in.Goals as goal
 
 whatever : (r : Result (Unit {0}) ToolFault) (P : Type 0) → P → OnOk r P
 whatever (Ok x) P p = p
