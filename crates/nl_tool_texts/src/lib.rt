@@ -22,5 +22,7 @@ pub use graph_line::{Line, line_in};
 pub use output::write_out;
 pub use ranking::{Ranking, falling, highest};
 pub use shown::append_number;
-pub use text::{BEGINNING, Part, append, append_line, append_parts, append_with, is_bare};
+pub use text::{
+    AllocResult, BEGINNING, Part, append, append_line, append_parts, append_with, is_bare,
+};
 pub use writing::{write_full, write_rest};
