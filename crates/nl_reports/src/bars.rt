@@ -11,9 +11,10 @@ use crate::job::Job;
 use crate::kind::{KindRule, kind_of as kind_by};
 use crate::work::{place, work_of};
 use nl_tool_texts::{
-    Part, Ranking, append, append_cut_name, append_label, append_parts, append_with, falling,
+    AllocResult, Part, Ranking, append, append_cut_name, append_label, append_parts, append_with,
+    falling,
 };
-use std::alloc::{AllocError, Global};
+use std::alloc::Global;
 
 // A command whose bar would be narrower shares one with others.
 const NARROW: u64 = 5;
@@ -39,7 +40,7 @@ pub(crate) fn append_bar(
     lane: u64,
     short: &mut Vec<Mark>,
     out: &mut Vec<u8>,
-) -> Result<(), AllocError>
+) -> AllocResult
     requires early { IsEarly job.now.span }
     ensures items { OnOk result (out.new.items ≡ out.old.items ++ bar frame.now (seen job.now, lane)) }
     ensures short { OnOk result (short.new.items ≡ short.old.items ++ marks frame.now (seen job.now, lane)) }
@@ -64,7 +65,7 @@ fn append_long(
     job: &Job<'_, '_>,
     lane: u64,
     out: &mut Vec<u8>,
-) -> Result<(), AllocError>
+) -> AllocResult
     requires early { IsEarly job.now.span }
     ensures items { OnOk result (out.new.items ≡ out.old.items ++ long_bar frame.now (seen job.now) lane) }
 {
@@ -110,7 +111,7 @@ fn append_rect(
     width: u64,
     kind: u64,
     out: &mut Vec<u8>,
-) -> Result<(), AllocError>
+) -> AllocResult
     ensures items { OnOk result (out.new.items ≡ out.old.items ++ rect frame.now lane x width kind) }
 {
     append_parts(
@@ -131,12 +132,7 @@ fn append_rect(
     )
 }
 
-fn append_title(
-    alloc: Global,
-    frame: &Frame,
-    job: &Job<'_, '_>,
-    out: &mut Vec<u8>,
-) -> Result<(), AllocError>
+fn append_title(alloc: Global, frame: &Frame, job: &Job<'_, '_>, out: &mut Vec<u8>) -> AllocResult
     ensures items { OnOk result (out.new.items ≡ out.old.items ++ title frame.now (seen job.now)) }
 {
     append_label(alloc, job.name(), out)?;
@@ -148,7 +144,7 @@ fn append_title(
     append(b" s</title></rect>\n", out)
 }
 
-fn append_more(count: usize, out: &mut Vec<u8>) -> Result<(), AllocError>
+fn append_more(count: usize, out: &mut Vec<u8>) -> AllocResult
     ensures items { OnOk result (out.new.items ≡ out.old.items ++ more_outputs count) }
 {
     if count == 0 {
@@ -166,7 +162,7 @@ fn append_name(
     width: u64,
     name: &[u8],
     out: &mut Vec<u8>,
-) -> Result<(), AllocError>
+) -> AllocResult
     requires near { x ≤ 15400 }
     ensures items { OnOk result (out.new.items ≡ out.old.items ++ name_text frame.now lane x width name.now) }
 {
@@ -196,7 +192,7 @@ fn base_of(name: &[u8]) -> &[u8]
 }
 
 /// By lane, pixel and kind, the highest first. What is sorted are the ranks, which are quicker to compare.
-pub(crate) fn by_place(alloc: Global, marks: Vec<Mark>) -> Result<Vec<Mark>, AllocError>
+pub(crate) fn by_place(alloc: Global, marks: Vec<Mark>) -> AllocResult<Vec<Mark>>
     ensures value { IfOk result (λ sorted. sorted.items ≡ falling rank_of marks.items) }
 {
     if !are_told(marks.as_slice()) {
@@ -206,7 +202,7 @@ pub(crate) fn by_place(alloc: Global, marks: Vec<Mark>) -> Result<Vec<Mark>, All
     marks_by(alloc, falling(&ByRank, ranks)?.as_slice())
 }
 
-fn marks_by(alloc: Global, ranks: &[u128]) -> Result<Vec<Mark>, AllocError>
+fn marks_by(alloc: Global, ranks: &[u128]) -> AllocResult<Vec<Mark>>
     ensures value { IfOk result (λ marks. marks.items ≡ map mark_by ranks.now) }
 {
     let mut marks = Vec::with_capacity(alloc, ranks.len())?;
@@ -271,7 +267,7 @@ pub(crate) fn append_mark(
     mark: &Mark,
     rest: &[Mark],
     out: &mut Vec<u8>,
-) -> Result<u64, AllocError>
+) -> AllocResult<u64>
     requires few { count < 2 ^ 63 }
     ensures items { IfOk result (λ now. out.new.items ++ joined frame.now now rest.now
         ≡ out.old.items ++ joined frame.now count (mark.now ∷ rest.now)) }

@@ -10,19 +10,15 @@ use jiff_core::Timestamp;
 use jiff_core::civil::DateTime;
 use jiff_tz::TimeZone;
 use nl_builds::{Build, Builds};
-use nl_tool_texts::{Part, append, append_line, append_parts};
-use std::alloc::{AllocError, Global};
+use nl_tool_texts::{AllocResult, Part, append, append_line, append_parts};
+use std::alloc::Global;
 
 // The moments of builds count from so many nanoseconds before 1970.
 const ZERO: i128 = 2_147_483_648_000_000;
 
 /// A line for each build: its number, when it began by a clock of this time zone, how long it took, how many commands and outputs it has,
 /// and how it is known. A heading stands before them. Tabs part fields.
-pub fn builds_screen(
-    alloc: Global,
-    zone: &TimeZone<'_>,
-    from: &Builds,
-) -> Result<Vec<u8>, AllocError>
+pub fn builds_screen(alloc: Global, zone: &TimeZone<'_>, from: &Builds) -> AllocResult<Vec<u8>>
     ensures value { IfOk result (λ lines. IsBuildsScreen zone.now (told from.now) lines.items) }
 {
     let rows = rows_of(alloc, zone, from)?;
@@ -45,7 +41,7 @@ fn heading_for(zone: &TimeZone<'_>) -> &'static [u8]
     }
 }
 
-fn rows_of(alloc: Global, zone: &TimeZone<'_>, from: &Builds) -> Result<Vec<u8>, AllocError>
+fn rows_of(alloc: Global, zone: &TimeZone<'_>, from: &Builds) -> AllocResult<Vec<u8>>
     ensures value { IfOk result
         (λ rows. AreRows zone.now (told from.now) (length from.now.builds.items) rows.items) }
 {
@@ -62,7 +58,7 @@ fn append_row(
     from: &Builds,
     place: usize,
     rows: &mut Vec<u8>,
-) -> Result<(), AllocError>
+) -> AllocResult
     requires there { place < length from.now.builds.items }
     ensures row { OnOk result
         ((row : List ℕ) × (IsRow zone.now (told from.now) place row × (rows.new.items ≡ rows.old.items ++ row))) }
@@ -81,7 +77,7 @@ fn append_fields(
     numbers: &Numbers,
     build: &Build,
     rows: &mut Vec<u8>,
-) -> Result<(), AllocError>
+) -> AllocResult
     ensures items { OnOk result
         (rows.new.items ≡ rows.old.items ++ row_text number began.now numbers.now build.now) }
 {
@@ -98,7 +94,7 @@ fn append_fields(
     )
 }
 
-fn began_text(alloc: Global, zone: &TimeZone<'_>, began: Option<u64>) -> Result<Vec<u8>, AllocError>
+fn began_text(alloc: Global, zone: &TimeZone<'_>, began: Option<u64>) -> AllocResult<Vec<u8>>
     ensures value { IfOk result (λ text. IsBegun zone.now began text.items) }
 {
     let mut text = Vec::new(alloc);
@@ -119,7 +115,7 @@ fn shown_at(zone: &TimeZone<'_>, began: u64) -> DateTime
     })
 }
 
-fn append_date(shown: &DateTime, out: &mut Vec<u8>) -> Result<(), AllocError>
+fn append_date(shown: &DateTime, out: &mut Vec<u8>) -> AllocResult
     ensures items { OnOk result (out.new.items ≡ out.old.items ++ date_text shown.now) }
 {
     let DateTime { date, time } = *shown;

@@ -6,12 +6,13 @@ ghost use Rattle.nl_reports.specs.Jobs.{told};
 use crate::job::jobs_of;
 use crate::numbers::{Numbers, numbers_of};
 use nl_builds::{Build, Builds, How};
-use std::alloc::{AllocError, Global};
+use nl_tool_texts::AllocResult;
+use std::alloc::Global;
 
 /// A line for each build: its number, how many commands and outputs it has, the milliseconds from its first START to its last END, the
 /// sum of the commands' times, and `sure` or `unsure` if it is as written, whether both its borders are sure. If it was found again, that
 /// is `again`, and the line ends with how many of its outputs later builds may have taken.
-pub fn builds_lines(alloc: Global, from: &Builds) -> Result<Vec<u8>, AllocError>
+pub fn builds_lines(alloc: Global, from: &Builds) -> AllocResult<Vec<u8>>
     ensures value { IfOk result (λ lines. lines.items ≡ builds_text (told from.now)) }
 {
     let mut lines = Vec::new(alloc);
@@ -29,7 +30,7 @@ fn append_build(
     number: usize,
     build: &Build,
     out: &mut Vec<u8>,
-) -> Result<(), AllocError>
+) -> AllocResult
     ensures items { OnOk result
         (out.new.items ≡ out.old.items ++ build_line (told from.now) number build.now) }
 {
@@ -44,7 +45,7 @@ fn append_line(
     numbers: &Numbers,
     build: &Build,
     out: &mut Vec<u8>,
-) -> Result<(), AllocError>
+) -> AllocResult
     ensures items { OnOk result (out.new.items ≡ out.old.items ++ numbers_line number numbers.now build.now) }
 {
     let Numbers {
@@ -71,7 +72,7 @@ pub(crate) fn border_word(build: &Build) -> &'static str
     }
 }
 
-fn taken_text(alloc: Global, how: How) -> Result<String, AllocError>
+fn taken_text(alloc: Global, how: How) -> AllocResult<String>
     ensures value { IfOk result (λ text. string_bytes text ≡ taken_text how) }
 {
     match how {

@@ -7,7 +7,8 @@ ghost use Rattle.nl_reports.specs.Spans.{IsEarly};
 
 use crate::job::{Job, between, commands_to, jobs_by_start, jobs_in};
 use nl_builds::{Builds, Command};
-use std::alloc::{AllocError, Global};
+use nl_tool_texts::AllocResult;
+use std::alloc::Global;
 
 /// Which builds a report tells of.
 #[derive(Clone, Copy, Drop)]
@@ -61,7 +62,7 @@ pub fn chosen_jobs<'s, 'a>(
     alloc: Global,
     scope: Scope,
     from: &'s Builds<'a>,
-) -> Result<Vec<Job<'s, 'a>>, AllocError>
+) -> AllocResult<Vec<Job<'s, 'a>>>
     ensures value { IfOk result (λ jobs. map seen jobs.items ≡ chosen_jobs scope (told from.now)) }
     ensures early { IfOk result (λ jobs. All (λ j. IsEarly j.span) jobs.items) }
 {

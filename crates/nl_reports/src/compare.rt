@@ -7,9 +7,9 @@ ghost use Rattle.nl_tool_texts.specs.Falling.{falling};
 use crate::class::{Class, class_text};
 use crate::sides::{ByCost, ComparedRow, Rules, Side, compared, new_time, of_class, old_time};
 use nl_table::Secret;
-use nl_tool_texts::{Part, append, append_line, append_parts, highest};
+use nl_tool_texts::{AllocResult, Part, append, append_line, append_parts, highest};
 use nl_versions::LogVersion;
-use std::alloc::{AllocError, Global};
+use std::alloc::Global;
 
 // Each class; all but the last are listed.
 const CLASSES: [Class; 7] = [
@@ -34,7 +34,7 @@ pub fn compare_lines(
     least: u64,
     old: &Side<'_, '_>,
     new: &Side<'_, '_>,
-) -> Result<Vec<u8>, AllocError>
+) -> AllocResult<Vec<u8>>
     ensures value { IfOk result (λ lines. lines.items
         ≡ compare_text screen most least (are_comparable old.now.version new.now.version) (side_of old.now) (side_of new.now)) }
 {
@@ -56,7 +56,7 @@ fn told_of_all(
     most: usize,
     hashes: bool,
     rows: &[ComparedRow<'_>],
-) -> Result<Vec<u8>, AllocError>
+) -> AllocResult<Vec<u8>>
     ensures value { IfOk result
         (λ lines. lines.items ≡ told_of_all screen most hashes (map compared_of rows.now)) }
 {
@@ -93,7 +93,7 @@ fn append_classes(
     listed: &[Class],
     rows: &[ComparedRow<'_>],
     lines: &mut Vec<u8>,
-) -> Result<(), AllocError>
+) -> AllocResult
     ensures items { OnOk result (lines.new.items ≡ (lines.old.items ++ flat_map (total_line screen (map compared_of rows.now)) all.now)
         ++ flat_map (class_lines screen most (map compared_of rows.now)) listed.now) }
 {
@@ -112,7 +112,7 @@ fn append_total(
     class: Class,
     rows: &[ComparedRow<'_>],
     lines: &mut Vec<u8>,
-) -> Result<(), AllocError>
+) -> AllocResult
     ensures items { OnOk result
         (lines.new.items ≡ lines.old.items ++ total_line screen (map compared_of rows.now) class) }
 {
@@ -129,7 +129,7 @@ fn append_total_of(
     old: u128,
     new: u128,
     lines: &mut Vec<u8>,
-) -> Result<(), AllocError>
+) -> AllocResult
     ensures items { OnOk result (lines.new.items ≡ lines.old.items ++ total_of screen class count old new) }
 {
     let class = Part::Text(class_text(class).as_bytes());
@@ -151,7 +151,7 @@ fn append_class(
     class: Class,
     rows: &[ComparedRow<'_>],
     lines: &mut Vec<u8>,
-) -> Result<(), AllocError>
+) -> AllocResult
     ensures items { OnOk result
         (lines.new.items ≡ lines.old.items ++ class_lines screen most (map compared_of rows.now) class) }
 {
@@ -166,7 +166,7 @@ fn append_kept(
     class: Class,
     kept: &[ComparedRow<'_>],
     lines: &mut Vec<u8>,
-) -> Result<(), AllocError>
+) -> AllocResult
     ensures items { OnOk result
         (lines.new.items ≡ lines.old.items ++ lines_of screen most class (map compared_of kept.now)) }
 {
@@ -177,7 +177,7 @@ fn append_kept(
     append_rows(alloc, screen, most, kept, lines)
 }
 
-fn append_heading(screen: bool, class: Class, lines: &mut Vec<u8>) -> Result<(), AllocError>
+fn append_heading(screen: bool, class: Class, lines: &mut Vec<u8>) -> AllocResult
     ensures items { OnOk result (lines.new.items ≡ lines.old.items ++ class_heading screen class) }
 {
     if !screen {
@@ -199,7 +199,7 @@ fn append_rows(
     most: usize,
     kept: &[ComparedRow<'_>],
     lines: &mut Vec<u8>,
-) -> Result<(), AllocError>
+) -> AllocResult
     ensures items { OnOk result (lines.new.items ≡ lines.old.items
         ++ flat_map (row_line screen) (take most (falling cost (map compared_of kept.now)))) }
 {
@@ -210,7 +210,7 @@ fn append_rows(
     Ok(())
 }
 
-fn append_row(screen: bool, row: &ComparedRow<'_>, lines: &mut Vec<u8>) -> Result<(), AllocError>
+fn append_row(screen: bool, row: &ComparedRow<'_>, lines: &mut Vec<u8>) -> AllocResult
     ensures items { OnOk result
         (lines.new.items ≡ lines.old.items ++ row_line screen (compared_of row.now)) }
 {

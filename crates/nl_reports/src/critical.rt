@@ -17,7 +17,7 @@ use crate::span::Span;
 use indexmap::IndexMap;
 use nl_fields::EntryRef;
 use nl_table::Secret;
-use nl_tool_texts::{BEGINNING, Part, append_line, append_parts};
+use nl_tool_texts::{AllocResult, BEGINNING, Part, append_line, append_parts};
 use std::alloc::{AllocError, Global};
 
 /// When the command ran whose output is a node, the node's name, and the place of the command.
@@ -37,7 +37,7 @@ pub fn critical_lines(
     secret: Secret,
     graph: &NinjaGraph<'_>,
     jobs: &[Job<'_, '_>],
-) -> Result<Option<Vec<u8>>, AllocError>
+) -> AllocResult<Option<Vec<u8>>>
     ensures value { IfOk result (IsCritical screen (seen_graph graph.now) (map seen jobs.now)) }
 {
     if jobs.is_empty() {
@@ -60,7 +60,7 @@ pub(crate) fn path_in<'a>(
     secret: Secret,
     graph: &NinjaGraph<'a>,
     jobs: &[Job<'_, '_>],
-) -> Result<Option<FoundPath<'a>>, AllocError>
+) -> AllocResult<Option<FoundPath<'a>>>
     ensures value { IfOk result (λ o. IfSome o
         (λ found. IsFoundPath (seen_graph graph.now) (map seen jobs.now) found.length (map ran_seen found.commands.items))) }
 {
@@ -83,7 +83,7 @@ fn lacking_of(
     secret: Secret,
     graph: &NinjaGraph<'_>,
     jobs: &[Job<'_, '_>],
-) -> Result<Lacking, AllocError>
+) -> AllocResult<Lacking>
     ensures count { IfOk result (λ l. l.count ≡ length (lacking (seen_graph graph.now) (map seen jobs.now))) }
     ensures time { IfOk result (λ l. l.time ≡ sum_by (λ (j : SeenJob). time_of j.span) (lacking (seen_graph graph.now) (map seen jobs.now))) }
 {
@@ -102,7 +102,7 @@ fn names_in<'a>(
     alloc: Global,
     secret: Secret,
     graph: &NinjaGraph<'a>,
-) -> Result<IndexMap<&'a [u8], (), Secret>, AllocError>
+) -> AllocResult<IndexMap<&'a [u8], (), Secret>>
     ensures value { IfOk result (λ names. HoldNames (seen_graph graph.now).nodes names.entries) }
 {
     let mut names = IndexMap::with_hasher(alloc, secret);
@@ -159,7 +159,7 @@ pub(crate) struct FoundPath<'a> {
     pub(crate) commands: Vec<Ran<'a>>,
 }
 
-fn path_lines(alloc: Global, screen: bool, found: &FoundPath<'_>) -> Result<Vec<u8>, AllocError>
+fn path_lines(alloc: Global, screen: bool, found: &FoundPath<'_>) -> AllocResult<Vec<u8>>
     ensures value { IfOk result (λ lines. lines.items ≡ told_path screen found.now.length (map ran_seen found.now.commands.items)) }
 {
     let mut lines = Vec::new(alloc);
@@ -172,7 +172,7 @@ fn path_lines(alloc: Global, screen: bool, found: &FoundPath<'_>) -> Result<Vec<
     Ok(lines)
 }
 
-fn append_head(screen: bool, length: u128, lines: &mut Vec<u8>) -> Result<(), AllocError>
+fn append_head(screen: bool, length: u128, lines: &mut Vec<u8>) -> AllocResult
     ensures items { OnOk result (lines.new.items ≡ lines.old.items ++ path_head screen length) }
 {
     if !screen {
@@ -189,12 +189,7 @@ fn append_head(screen: bool, length: u128, lines: &mut Vec<u8>) -> Result<(), Al
 }
 
 // The command before it on the path ended at that moment.
-fn append_ran(
-    screen: bool,
-    before: u64,
-    ran: &Ran<'_>,
-    lines: &mut Vec<u8>,
-) -> Result<(), AllocError>
+fn append_ran(screen: bool, before: u64, ran: &Ran<'_>, lines: &mut Vec<u8>) -> AllocResult
     ensures items { OnOk result (lines.new.items ≡ lines.old.items ++ ran_line screen before (ran_seen ran.now)) }
 {
     let time = Part::Took(screen, u128::from(ran.span.time()));
@@ -208,12 +203,7 @@ fn append_ran(
     append_line(&[Part::Text(b"on-path"), time, began, ended, name], lines)
 }
 
-fn append_lacking(
-    screen: bool,
-    count: usize,
-    time: u128,
-    lines: &mut Vec<u8>,
-) -> Result<(), AllocError>
+fn append_lacking(screen: bool, count: usize, time: u128, lines: &mut Vec<u8>) -> AllocResult
     ensures items { OnOk result (lines.new.items ≡ lines.old.items ++ lacking_line screen count time) }
 {
     if count == 0 {
@@ -250,7 +240,7 @@ impl<'g, 'a> Reaches<'g, 'a> {
         secret: Secret,
         graph: &'g NinjaGraph<'a>,
         jobs: &[Job<'_, '_>],
-    ) -> Result<Reaches<'g, 'a>, AllocError>
+    ) -> AllocResult<Reaches<'g, 'a>>
         ensures value { IfOk result (AreOf graph.now (map seen jobs.now)) }
     {
         let outputs = Outputs::of(alloc, secret, jobs)?;
@@ -338,7 +328,7 @@ impl<'g, 'a> Reaches<'g, 'a> {
     }
 
     /// A longest path. That one is found isn't shown: if none is, memory is told to be wanting. No such case is known.
-    pub(crate) fn path(&self, alloc: Global) -> Result<FoundPath<'a>, AllocError>
+    pub(crate) fn path(&self, alloc: Global) -> AllocResult<FoundPath<'a>>
         ensures value { (js : List SeenJob) → AreOf self.now.graph.now js self.now → IfOk result
             (λ found. IsFoundPath (seen_graph self.now.graph.now) js found.length (map ran_seen found.commands.items)) }
     {
@@ -355,11 +345,7 @@ impl<'g, 'a> Reaches<'g, 'a> {
     }
 
     /// The same, if the command at a place took half as long.
-    pub(crate) fn with_half(
-        &self,
-        alloc: Global,
-        place: usize,
-    ) -> Result<Reaches<'g, 'a>, AllocError>
+    pub(crate) fn with_half(&self, alloc: Global, place: usize) -> AllocResult<Reaches<'g, 'a>>
         ensures value { (js : List SeenJob) → AreOf self.now.graph.now js self.now → IfOk result (AreOf self.now.graph.now (halved place js)) }
     {
         let mut ran = Vec::with_capacity(alloc, self.ran.len())?;
@@ -383,7 +369,7 @@ impl<'g, 'a> Reaches<'g, 'a> {
         alloc: Global,
         wall: u64,
         there: &[u64],
-    ) -> Result<Reaches<'g, 'a>, AllocError>
+    ) -> AllocResult<Reaches<'g, 'a>>
         ensures graph { IfOk result (λ r. r.graph ≡ self.entry.graph) }
         ensures ran { IfOk result (λ r. r.ran ≡ self.entry.ran) }
     {
@@ -421,7 +407,7 @@ impl<'g, 'a> Reaches<'g, 'a> {
         }
     }
 
-    fn append_path(&self, start: usize, commands: &mut Vec<Ran<'a>>) -> Result<(), AllocError>
+    fn append_path(&self, start: usize, commands: &mut Vec<Ran<'a>>) -> AllocResult
         ensures ok { (js : List SeenJob) → AreOf self.now.graph.now js self.now → IsFarthest self.now start → OnOk result
             (IsFollowed (seen_graph self.now.graph.now) js (far_at self.now start) (map ran_seen commands.old.items) (map ran_seen commands.new.items)) }
     {
@@ -443,7 +429,7 @@ impl<'g, 'a> Reaches<'g, 'a> {
         self.push_ran(node, commands)
     }
 
-    fn push_ran(&self, node: usize, commands: &mut Vec<Ran<'a>>) -> Result<(), AllocError>
+    fn push_ran(&self, node: usize, commands: &mut Vec<Ran<'a>>) -> AllocResult
         ensures items { OnOk result (map ran_seen commands.new.items ≡ map ran_seen commands.old.items ++ took_time (ran_in self.now node)) }
     {
         match self.ran_at(node) {
@@ -453,7 +439,7 @@ impl<'g, 'a> Reaches<'g, 'a> {
     }
 }
 
-fn push_long<'a>(ran: Ran<'a>, commands: &mut Vec<Ran<'a>>) -> Result<(), AllocError>
+fn push_long<'a>(ran: Ran<'a>, commands: &mut Vec<Ran<'a>>) -> AllocResult
     ensures items { OnOk result (map ran_seen commands.new.items ≡ map ran_seen commands.old.items ++ took_time (Some (ran_seen ran.entry))) }
 {
     if ran.span.time() == 0 {

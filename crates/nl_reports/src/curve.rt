@@ -7,14 +7,9 @@ ghost use Rattle.nl_reports.specs.Frame.{IsFrame};
 
 use crate::frame::Frame;
 use crate::moments::Moments;
-use nl_tool_texts::{Part, append_parts};
-use std::alloc::AllocError;
+use nl_tool_texts::{AllocResult, Part, append_parts};
 
-pub(crate) fn append_curve(
-    frame: &Frame,
-    moments: &Moments,
-    out: &mut Vec<u8>,
-) -> Result<(), AllocError>
+pub(crate) fn append_curve(frame: &Frame, moments: &Moments, out: &mut Vec<u8>) -> AllocResult
     requires early { IsFrame frame.now }
     ensures items { (cs : List Span) → AreMoments cs moments.now
         → OnOk result (out.new.items ≡ out.old.items ++ curve frame.now cs) }
@@ -24,7 +19,7 @@ pub(crate) fn append_curve(
     append_end(frame, out)
 }
 
-fn append_start(frame: &Frame, out: &mut Vec<u8>) -> Result<(), AllocError>
+fn append_start(frame: &Frame, out: &mut Vec<u8>) -> AllocResult
     ensures items { OnOk result (out.new.items ≡ out.old.items ++ curve_start frame.now) }
 {
     append_parts(
@@ -36,7 +31,7 @@ fn append_start(frame: &Frame, out: &mut Vec<u8>) -> Result<(), AllocError>
     )
 }
 
-fn append_end(frame: &Frame, out: &mut Vec<u8>) -> Result<(), AllocError>
+fn append_end(frame: &Frame, out: &mut Vec<u8>) -> AllocResult
     ensures items { OnOk result (out.new.items ≡ out.old.items ++ curve_end frame.now) }
 {
     let foot = frame.foot();
@@ -56,7 +51,7 @@ fn append_end(frame: &Frame, out: &mut Vec<u8>) -> Result<(), AllocError>
     )
 }
 
-fn append_points(frame: &Frame, moments: &Moments, out: &mut Vec<u8>) -> Result<(), AllocError>
+fn append_points(frame: &Frame, moments: &Moments, out: &mut Vec<u8>) -> AllocResult
     requires early { IsFrame frame.now }
     ensures items { (cs : List Span) → AreMoments cs moments.now
         → OnOk result (out.new.items ≡ out.old.items ++ points frame.now cs 480) }
@@ -67,12 +62,7 @@ fn append_points(frame: &Frame, moments: &Moments, out: &mut Vec<u8>) -> Result<
     Ok(())
 }
 
-fn append_point(
-    frame: &Frame,
-    moments: &Moments,
-    i: u64,
-    out: &mut Vec<u8>,
-) -> Result<(), AllocError>
+fn append_point(frame: &Frame, moments: &Moments, i: u64, out: &mut Vec<u8>) -> AllocResult
     requires early { IsFrame frame.now }
     requires within { i < 480 }
     ensures items { (cs : List Span) → AreMoments cs moments.now

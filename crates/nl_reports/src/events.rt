@@ -11,8 +11,8 @@ use crate::moments::{Moments, Near};
 use json::Writer;
 use nl_builds::How;
 use nl_fields::append_hex64;
-use nl_tool_texts::{append, append_with, is_bare};
-use std::alloc::{AllocError, Global};
+use nl_tool_texts::{AllocResult, append, append_with, is_bare};
+use std::alloc::Global;
 
 /// The builds that a trace is of: their number, which is 0 of all, when they began, and how they are known.
 #[derive(Clone, Copy, Drop)]
@@ -23,11 +23,7 @@ pub(crate) struct BuildEvent {
 }
 
 /// Appends the name of a build, which says whether it was found again, and how many of its outputs later builds may have taken.
-pub(crate) fn append_build(
-    alloc: Global,
-    build: BuildEvent,
-    out: &mut Vec<u8>,
-) -> Result<(), AllocError>
+pub(crate) fn append_build(alloc: Global, build: BuildEvent, out: &mut Vec<u8>) -> AllocResult
     ensures items { OnOk result (out.new.items ≡ out.old.items ++ event_text (build_event build)) }
 {
     let number = build.number;
@@ -48,7 +44,7 @@ pub(crate) fn append_build(
     }
 }
 
-fn build_name(alloc: Global, number: u64) -> Result<String, AllocError>
+fn build_name(alloc: Global, number: u64) -> AllocResult<String>
     ensures value { IfOk result (λ name. string_bytes name ≡ build_name number) }
 {
     if number == 0 {
@@ -64,7 +60,7 @@ pub(crate) fn append_command(
     lane: u64,
     job: &Job<'_, '_>,
     out: &mut Vec<u8>,
-) -> Result<(), AllocError>
+) -> AllocResult
     requires early { IsEarly job.now.span }
     requires lane { lane < 2 ^ 63 }
     ensures items { OnOk result
@@ -85,7 +81,7 @@ pub(crate) fn append_command(
     append(b"}", out)
 }
 
-fn append_args(alloc: Global, job: &Job<'_, '_>, out: &mut Vec<u8>) -> Result<(), AllocError>
+fn append_args(alloc: Global, job: &Job<'_, '_>, out: &mut Vec<u8>) -> AllocResult
     ensures items { OnOk result (out.new.items ≡ out.old.items ++ event_text (args_of (seen job.now))) }
 {
     append(b"{\"hash\":\"", out)?;
@@ -101,7 +97,7 @@ fn append_args(alloc: Global, job: &Job<'_, '_>, out: &mut Vec<u8>) -> Result<()
 }
 
 // A name as JSON, with U+FFFD for what isn't UTF-8.
-fn append_shown(alloc: Global, name: &[u8], out: &mut Vec<u8>) -> Result<(), AllocError>
+fn append_shown(alloc: Global, name: &[u8], out: &mut Vec<u8>) -> AllocResult
     ensures items { OnOk result (out.new.items ≡ out.old.items ++ event_text (shown name.now)) }
 {
     if is_bare(name) {
@@ -122,7 +118,7 @@ pub(crate) fn append_running(
     near: &mut Near,
     at: u64,
     out: &mut Vec<u8>,
-) -> Result<(), AllocError>
+) -> AllocResult
     requires early { at < 2 ^ 32 }
     ensures items { (cs : List Span) → AreMoments cs moments.now → OnOk result
         (out.new.items ≡ out.old.items ++ 44 ∷ event_text (running_event build cs at)) }

@@ -5,8 +5,7 @@ ghost use Rattle.nl_reports.specs.Spans.{IsEarly};
 ghost use Rattle.nl_reports.specs.Frame.{IsFrame, across, first_began, foot_of, frame_of, height, is_named, last_closed, line_at, pitch, seconds, top_of, x_at, x_of, y_at};
 
 use crate::span::Span;
-use nl_tool_texts::append_with;
-use std::alloc::AllocError;
+use nl_tool_texts::{AllocResult, append_with};
 
 /// `wall` is in milliseconds, and `top` is the highest lane.
 #[derive(Clone, Copy, Drop)]
@@ -135,7 +134,7 @@ fn top_of(lanes: &[u64]) -> u64
     lanes.iter().fold(0, |top: u64, lane: &u64| top.max(*lane))
 }
 
-pub(crate) fn append_seconds(ms: u64, out: &mut Vec<u8>) -> Result<(), AllocError>
+pub(crate) fn append_seconds(ms: u64, out: &mut Vec<u8>) -> AllocResult
     ensures items { OnOk result (out.new.items ≡ out.old.items ++ seconds ms) }
 {
     append_with(b"", ms / 1000, out)?;

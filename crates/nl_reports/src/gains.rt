@@ -10,8 +10,8 @@ use crate::critical::{Ran, Reaches};
 use crate::graph::NinjaGraph;
 use crate::job::Job;
 use nl_table::Secret;
-use nl_tool_texts::{Part, Ranking, append, append_line, highest};
-use std::alloc::{AllocError, Global};
+use nl_tool_texts::{AllocResult, Part, Ranking, append, append_line, highest};
+use std::alloc::Global;
 
 /// For so many commands of the critical path, those that took the longest, how much shorter it is if one of them took half.
 pub(crate) fn gain_lines(
@@ -21,7 +21,7 @@ pub(crate) fn gain_lines(
     graph: &NinjaGraph<'_>,
     most: usize,
     jobs: &[Job<'_, '_>],
-) -> Result<Vec<u8>, AllocError>
+) -> AllocResult<Vec<u8>>
     ensures value { IfOk result (λ lines. AreGainsOf screen (seen_graph graph.now) (map seen jobs.now) most lines.items) }
 {
     let reaches = Reaches::of(alloc, secret, graph, jobs)?;
@@ -58,7 +58,7 @@ fn append_gain(
     length: u128,
     ran: &Ran<'_>,
     lines: &mut Vec<u8>,
-) -> Result<(), AllocError>
+) -> AllocResult
     ensures ok { (js : List SeenJob) → AreOf reaches.now.graph.now js reaches.now → OnOk result
         (IsGain screen (seen_graph reaches.now.graph.now) js length (ran_seen ran.now) lines.old.items lines.new.items) }
 {
@@ -66,7 +66,7 @@ fn append_gain(
     append_saved(screen, length.saturating_sub(half), ran, lines)
 }
 
-fn half_length(alloc: Global, reaches: &Reaches<'_, '_>, ran: &Ran<'_>) -> Result<u128, AllocError>
+fn half_length(alloc: Global, reaches: &Reaches<'_, '_>, ran: &Ran<'_>) -> AllocResult<u128>
     ensures value { (js : List SeenJob) → AreOf reaches.now.graph.now js reaches.now
         → IfOk result (IsHalfPath (seen_graph reaches.now.graph.now) js (ran_seen ran.now)) }
 {
@@ -75,12 +75,7 @@ fn half_length(alloc: Global, reaches: &Reaches<'_, '_>, ran: &Ran<'_>) -> Resul
     Ok(found.length)
 }
 
-fn append_saved(
-    screen: bool,
-    gain: u128,
-    ran: &Ran<'_>,
-    lines: &mut Vec<u8>,
-) -> Result<(), AllocError>
+fn append_saved(screen: bool, gain: u128, ran: &Ran<'_>, lines: &mut Vec<u8>) -> AllocResult
     ensures items { OnOk result (lines.new.items ≡ lines.old.items ++ gain_line screen gain (ran_seen ran.now)) }
 {
     let gain = Part::Took(screen, gain);

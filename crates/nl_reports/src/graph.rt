@@ -8,8 +8,8 @@ ghost use Rattle.nl_reports.specs.Paths.{Edge as SeenEdge, Node};
 use crate::order::order_of;
 use indexmap::IndexMap;
 use nl_table::Secret;
-use nl_tool_texts::{Line, ToolFault, line_in, lines_of};
-use std::alloc::{AllocError, Global};
+use nl_tool_texts::{AllocResult, Line, ToolFault, line_in, lines_of};
+use std::alloc::Global;
 
 /// An edge from one node to another, by their places, and the line on which it stands.
 #[derive(Clone, Copy, Drop)]
@@ -64,7 +64,7 @@ pub fn read_graph<'a>(
 }
 
 impl<'a> NinjaGraph<'a> {
-    fn take(&mut self, number: u64, said: Line<'a>) -> Result<(), AllocError>
+    fn take(&mut self, number: u64, said: Line<'a>) -> AllocResult
         ensures ok { (ns : List Node) (es : List SeenEdge) → Holds ns es self.old.nodes.entries self.old.edges.items → OnOk result
             (Holds (ns ++ nodes_said (line_seen said.entry)) (es ++ edges_said number (line_seen said.entry)) self.new.nodes.entries self.new.edges.items) }
     {
@@ -88,7 +88,7 @@ impl<'a> NinjaGraph<'a> {
     }
 
     // A number without a place gets one.
-    fn place_of(&mut self, id: &'a [u8]) -> Result<usize, AllocError>
+    fn place_of(&mut self, id: &'a [u8]) -> AllocResult<usize>
         ensures place { IfOk result (IsPlaced id.now self.old.nodes.entries self.new.nodes.entries) }
         ensures holds { (ns : List Node) (es : List SeenEdge) → Holds ns es self.old.nodes.entries self.old.edges.items
             → OnOk result (Holds ns es self.new.nodes.entries self.new.edges.items) }

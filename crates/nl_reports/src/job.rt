@@ -9,7 +9,8 @@ use crate::moments::MOVES;
 use crate::span::Span;
 use nl_builds::{Build, Builds, Command};
 use nl_fields::EntryRef;
-use std::alloc::{AllocError, Global};
+use nl_tool_texts::AllocResult;
+use std::alloc::Global;
 
 #[derive(Clone, Copy, Drop)]
 pub struct Job<'s, 'a> {
@@ -35,7 +36,7 @@ pub fn jobs_of<'s, 'a>(
     alloc: Global,
     from: &'s Builds<'a>,
     number: usize,
-) -> Result<Vec<Job<'s, 'a>>, AllocError>
+) -> AllocResult<Vec<Job<'s, 'a>>>
     ensures value { IfOk result (λ jobs. map seen jobs.items ≡ build_jobs (told from.now) number) }
     ensures early { IfOk result (λ jobs. All (λ j. IsEarly j.span) jobs.items) }
 {
@@ -47,7 +48,7 @@ pub(crate) fn jobs_in<'s, 'a>(
     from: &'s Builds<'a>,
     first: usize,
     last: usize,
-) -> Result<Vec<Job<'s, 'a>>, AllocError>
+) -> AllocResult<Vec<Job<'s, 'a>>>
     ensures value { IfOk result (λ jobs. map seen jobs.items ≡ jobs_between (told from.now) first last) }
     ensures early { IfOk result (λ jobs. All (λ j. IsEarly j.span) jobs.items) }
 {
@@ -64,7 +65,7 @@ pub(crate) fn jobs_from<'s, 'a>(
     place: usize,
     commands: &[Command],
     entries: &'s [EntryRef<'a>],
-) -> Result<Vec<Job<'s, 'a>>, AllocError>
+) -> AllocResult<Vec<Job<'s, 'a>>>
     ensures value { IfOk result (λ jobs. map seen jobs.items ≡ jobs_from entries.now place commands.now) }
     ensures early { IfOk result (λ jobs. All (λ j. IsEarly j.span) jobs.items) }
 {
@@ -116,7 +117,7 @@ pub(crate) fn between<T>(from: usize, to: usize, items: &[T]) -> &[T]
 const NO_MOMENT: u64 = 1 << 32;
 
 /// Commands of one START keep their order.
-pub fn jobs_by_start<'s, 'a>(jobs: Vec<Job<'s, 'a>>) -> Result<Vec<Job<'s, 'a>>, AllocError>
+pub fn jobs_by_start<'s, 'a>(jobs: Vec<Job<'s, 'a>>) -> AllocResult<Vec<Job<'s, 'a>>>
     requires early { All (λ j. IsEarly j.span) jobs.items }
     ensures value { IfOk result (λ sorted. map seen sorted.items ≡ by_start (map seen jobs.entry.items)) }
     ensures early { IfOk result (λ sorted. All (λ j. IsEarly j.span) sorted.items) }

@@ -15,7 +15,7 @@ use crate::numbers::spans_of;
 use crate::simulation::{Priority, Waiting};
 use crate::span::Span;
 use nl_table::Secret;
-use nl_tool_texts::{Part, append, append_line};
+use nl_tool_texts::{AllocResult, Part, append, append_line};
 use std::alloc::{AllocError, Global};
 
 /// A graph, the numbers of commands at a time that estimates are asked for, and of how many commands at most it is told what is gained by them.
@@ -37,7 +37,7 @@ pub fn graph_lines(
     by: &ByGraph<'_, '_>,
     priority: Priority,
     jobs: &[Job<'_, '_>],
-) -> Result<Option<Vec<u8>>, AllocError>
+) -> AllocResult<Option<Vec<u8>>>
     ensures value { IfOk result (IsToldBy by.now.screen (seen_graph by.now.graph.now) by.now.most by.now.counts.now (map seen jobs.now)) }
 {
     let Some(path) = critical_lines(alloc, by.screen, secret, by.graph, jobs)? else {
@@ -67,7 +67,7 @@ fn estimate_lines(
     jobs: &[Job<'_, '_>],
     priority: Priority,
     counts: &[usize],
-) -> Result<Option<Vec<u8>>, AllocError>
+) -> AllocResult<Option<Vec<u8>>>
     ensures value { IfOk result (λ o. IfSome o (λ lines. AreEstimates screen (seen_graph graph.now) (map seen jobs.now) counts.now lines.items)) }
 {
     let waiting = Waiting::of(alloc, secret, graph, jobs, priority)?;
@@ -138,7 +138,7 @@ fn append_estimate(
     wall: u64,
     floor: u128,
     lines: &mut Vec<u8>,
-) -> Result<(), AllocError>
+) -> AllocResult
     ensures items { OnOk result (lines.new.items ≡ lines.old.items ++ estimate_line screen count wall floor) }
 {
     let count = Part::Number(count as u128);
@@ -158,7 +158,7 @@ fn wall_of(
     jobs: &[Job<'_, '_>],
     waiting: &Waiting,
     count: usize,
-) -> Result<Option<u64>, AllocError>
+) -> AllocResult<Option<u64>>
     ensures value { IfOk result (λ o. IfSome o (HavePlan (seen_graph graph.now) (map seen jobs.now) count)) }
 {
     let run = waiting.run(alloc, count)?;
@@ -174,7 +174,7 @@ fn checked(
     plan: &[Job<'_, '_>],
     there: &[u64],
     count: usize,
-) -> Result<Option<u64>, AllocError>
+) -> AllocResult<Option<u64>>
     ensures value { (ks : List SeenJob) → map kept (map seen plan.now) ≡ map kept ks
         → IfOk result (λ o. IfSome o (HavePlan (seen_graph graph.now) ks count)) }
 {
@@ -195,7 +195,7 @@ fn planned_jobs<'s, 'a>(
     alloc: Global,
     jobs: &[Job<'s, 'a>],
     began: &[u64],
-) -> Result<Vec<Job<'s, 'a>>, AllocError>
+) -> AllocResult<Vec<Job<'s, 'a>>>
     ensures value { IfOk result (λ plan. map kept (map seen plan.items) ≡ map kept (map seen jobs.now)) }
 {
     let mut plan = Vec::with_capacity(alloc, jobs.len())?;
@@ -214,7 +214,7 @@ fn planned_jobs<'s, 'a>(
 }
 
 // Whether no more than so many run at a time: each but the first so many begins when another has ended, by the order of both.
-fn are_few(alloc: Global, plan: &[Span], count: usize) -> Result<bool, AllocError>
+fn are_few(alloc: Global, plan: &[Span], count: usize) -> AllocResult<bool>
     ensures value { IfOk result (λ is. IsTrue is → (t : ℕ) → running plan.now t ≤ count) }
 {
     let starts = rising(plan.iter().map(|span| span.began).collect(alloc)?);

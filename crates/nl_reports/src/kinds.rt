@@ -10,7 +10,8 @@ use crate::kind::{KindRule, kind_of};
 use crate::rows::{Row, Sums};
 use indexmap::IndexMap;
 use nl_table::Secret;
-use std::alloc::{AllocError, Global};
+use nl_tool_texts::AllocResult;
+use std::alloc::Global;
 
 /// The kinds stand in the order in which they first appear, and are hashed under a secret.
 pub fn kinds_of<'a>(
@@ -18,7 +19,7 @@ pub fn kinds_of<'a>(
     secret: Secret,
     rule: KindRule,
     rows: &[Row<'a>],
-) -> Result<Vec<Row<'a>>, AllocError>
+) -> AllocResult<Vec<Row<'a>>>
     requires one { All IsOfOne rows.now }
     ensures value { IfOk result (λ found. map told_row found.items ≡ kinds rule (map told_row rows.now)) }
 {
@@ -37,7 +38,7 @@ fn count_row<'a>(
     row: &Row<'_>,
     last: Option<Row<'a>>,
     sums: &mut IndexMap<&'a [u8], Sums, Secret>,
-) -> Result<Row<'a>, AllocError>
+) -> AllocResult<Row<'a>>
     requires one { IsOfOne row.now }
     requires few { (n : ℕ) × ((n < 2 ^ 63) × AreSumsOf n (map kind_pair (with_last last sums.old.entries))) }
     ensures value { IfOk result (λ now. map kind_pair (with_last (Some now) sums.new.entries)
@@ -58,7 +59,7 @@ fn sums_before<'a>(
     kind: &[u8],
     last: Option<Row<'a>>,
     sums: &mut IndexMap<&'a [u8], Sums, Secret>,
-) -> Result<Sums, AllocError>
+) -> AllocResult<Sums>
     ensures value { IfOk result (λ before. before ≡ sums_in (with_last last.entry sums.old.entries) kind.entry.now) }
     ensures others { (s : Sums) → OnOk result (map kind_pair (insert_entry same_bytes sums.new.entries kind.entry s)
         ≡ map kind_pair (insert_entry same_bytes (with_last last.entry sums.old.entries) kind.entry s)) }
@@ -72,10 +73,7 @@ fn sums_before<'a>(
     Ok(sums_at(kind, sums))
 }
 
-fn put_last<'a>(
-    last: Option<Row<'a>>,
-    sums: &mut IndexMap<&'a [u8], Sums, Secret>,
-) -> Result<(), AllocError>
+fn put_last<'a>(last: Option<Row<'a>>, sums: &mut IndexMap<&'a [u8], Sums, Secret>) -> AllocResult
     ensures entries { OnOk result (sums.new.entries ≡ with_last last.entry sums.old.entries) }
 {
     if let Some(run) = last {
@@ -97,10 +95,7 @@ fn sums_at(kind: &[u8], sums: &IndexMap<&[u8], Sums, Secret>) -> Sums
     }
 }
 
-fn rows_in<'a>(
-    alloc: Global,
-    sums: &IndexMap<&'a [u8], Sums, Secret>,
-) -> Result<Vec<Row<'a>>, AllocError>
+fn rows_in<'a>(alloc: Global, sums: &IndexMap<&'a [u8], Sums, Secret>) -> AllocResult<Vec<Row<'a>>>
     ensures value { IfOk result (λ found. map told_row found.items ≡ map kind_pair sums.now.entries) }
 {
     let mut rows = Vec::new(alloc);

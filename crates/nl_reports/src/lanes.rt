@@ -4,7 +4,8 @@ ghost use Rattle.nl_reports.specs.Spans.{closed_of};
 ghost use Rattle.nl_reports.specs.Lanes.{AreLow, first_free, given, lanes};
 
 use crate::span::Span;
-use std::alloc::{AllocError, Global};
+use nl_tool_texts::AllocResult;
+use std::alloc::Global;
 
 // The lanes of a block have one least end, by which they are passed over together.
 const BLOCK: usize = 1024;
@@ -17,7 +18,7 @@ pub struct Lanes {
 }
 
 /// The commands stand in the order of START. Each gets the first lane whose last command has ended.
-pub fn lanes_of(alloc: Global, commands: &[Span]) -> Result<Vec<u64>, AllocError>
+pub fn lanes_of(alloc: Global, commands: &[Span]) -> AllocResult<Vec<u64>>
     ensures value { IfOk result (λ found. found.items ≡ lanes commands.now) }
 {
     let mut open = Lanes {
@@ -33,7 +34,7 @@ pub fn lanes_of(alloc: Global, commands: &[Span]) -> Result<Vec<u64>, AllocError
 }
 
 impl Lanes {
-    fn take(&mut self, command: &Span) -> Result<usize, AllocError>
+    fn take(&mut self, command: &Span) -> AllocResult<usize>
         requires low { AreLow self.old }
         ensures lane { IfOk result (λ lane. lane ≡ first_free command.now.began self.old.ends.items) }
         ensures ends { IfOk result
@@ -63,7 +64,7 @@ impl Lanes {
         lane
     }
 
-    fn give(&mut self, lane: usize, end: u64) -> Result<(), AllocError>
+    fn give(&mut self, lane: usize, end: u64) -> AllocResult
         requires low { AreLow self.old }
         requires lane { lane ≤ length self.old.ends.items }
         ensures ends { OnOk result (self.new.ends.items ≡ given lane end self.old.ends.items) }
@@ -77,7 +78,7 @@ impl Lanes {
         Ok(())
     }
 
-    fn open(&mut self, end: u64) -> Result<(), AllocError>
+    fn open(&mut self, end: u64) -> AllocResult
         requires low { AreLow self.old }
         ensures ends { OnOk result (self.new.ends.items ≡ self.old.ends.items ++ end ∷ []) }
         ensures low { OnOk result (AreLow self.new) }

@@ -7,7 +7,8 @@ use indexmap::IndexSet;
 use nl_builds::{Build, Builds, Command, How};
 use nl_fields::EntryRef;
 use nl_table::Secret;
-use std::alloc::{AllocError, Global};
+use nl_tool_texts::AllocResult;
+use std::alloc::Global;
 
 /// Only the last entry of each output is left, and none of an output that waits for a command which didn't end. Commands and builds
 /// without an entry go. Names are hashed under a secret.
@@ -16,7 +17,7 @@ pub fn lasting<'a>(
     secret: Secret,
     waiting: &[&'a [u8]],
     from: Builds<'a>,
-) -> Result<Builds<'a>, AllocError>
+) -> AllocResult<Builds<'a>>
     ensures value { IfOk result (λ left. told left ≡ lasting (map (λ n. n.now) waiting.now) (told from.entry)) }
 {
     let Builds {
@@ -45,7 +46,7 @@ fn last_entries<'a>(
     secret: Secret,
     waiting: &[&'a [u8]],
     entries: Vec<EntryRef<'a>>,
-) -> Result<(Vec<EntryRef<'a>>, Vec<usize>), AllocError>
+) -> AllocResult<(Vec<EntryRef<'a>>, Vec<usize>)>
     ensures items { IfOk result (λ left. left.0.items ≡ last_entries (map (λ n. n.now) waiting.now) entries.entry.items) }
     ensures behind { IfOk result (λ left. (place : ℕ) → get_or left.1.items place 0
         ≡ length (last_entries (map (λ n. n.now) waiting.now) (drop place entries.entry.items))) }
@@ -68,7 +69,7 @@ fn take<'a>(
     later: &mut IndexSet<&'a [u8], Secret>,
     left: &mut Vec<EntryRef<'a>>,
     behind: &mut Vec<usize>,
-) -> Result<(), AllocError>
+) -> AllocResult
     ensures later { (name : List ℕ) → OnOk result (is_held later.new.keys name ≡ (bytes_eq entry.entry.name name || is_held later.old.keys name)) }
     ensures left { OnOk result (left.new.items
         ≡ left.old.items ++ (if is_held later.old.keys entry.entry.name then [] else entry.entry ∷ [])) }
@@ -86,7 +87,7 @@ pub(crate) fn names_of<'a>(
     alloc: Global,
     secret: Secret,
     names: &[&'a [u8]],
-) -> Result<IndexSet<&'a [u8], Secret>, AllocError>
+) -> AllocResult<IndexSet<&'a [u8], Secret>>
     ensures value { IfOk result (λ set. (name : List ℕ) → is_held set.keys name ≡ is_among name (map (λ n. n.now) names.now)) }
 {
     let mut set = IndexSet::with_hasher(alloc, secret);
@@ -102,7 +103,7 @@ fn commands_left(
     entries: usize,
     behind: &[usize],
     commands: &[Command],
-) -> Result<(Vec<Command>, Vec<usize>), AllocError>
+) -> AllocResult<(Vec<Command>, Vec<usize>)>
     ensures items { IfOk result (λ left. left.0.items
         ≡ commands_left (λ place. entries - get_or behind.now place 0) 0 commands.now) }
     ensures before { IfOk result (λ left. (place : ℕ) → get_or left.1.items place (length left.0.items)
@@ -127,7 +128,7 @@ fn builds_left(
     commands: usize,
     before: &[usize],
     builds: &[Build],
-) -> Result<Vec<Build>, AllocError>
+) -> AllocResult<Vec<Build>>
     ensures value { IfOk result (λ left. left.items ≡ builds_left (λ place. get_or before.now place commands) 0 builds.now) }
 {
     let mut left = Vec::new(alloc);

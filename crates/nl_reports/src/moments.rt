@@ -9,7 +9,8 @@ ghost use Rattle.nl_reports.specs.SweepSteps.{Rises};
 ghost use Rattle.nl_reports.specs.declared.span.Span.{Span};
 
 use crate::span::Span;
-use std::alloc::{AllocError, Global};
+use nl_tool_texts::AllocResult;
+use std::alloc::Global;
 
 // So many moves of each moment are tried, on average.
 pub(crate) const MOVES: usize = 16;
@@ -32,7 +33,7 @@ pub(crate) struct Near {
 }
 
 impl Moments {
-    pub fn of(alloc: Global, spans: &[Span]) -> Result<Moments, AllocError>
+    pub fn of(alloc: Global, spans: &[Span]) -> AllocResult<Moments>
         requires early { All IsEarly spans.now }
         ensures value { IfOk result (AreMoments spans.now) }
     {

@@ -8,7 +8,8 @@ ghost use Rattle.nl_reports.specs.Spans.{IsEarly};
 use crate::job::{Job, commands_to, entries_to};
 use crate::span::Span;
 use nl_builds::Builds;
-use std::alloc::{AllocError, Global};
+use nl_tool_texts::AllocResult;
+use std::alloc::Global;
 
 /// Times are in milliseconds.
 #[derive(Clone, Copy, Drop)]
@@ -55,7 +56,7 @@ fn count_outputs(from: &Builds, number: usize) -> usize
     entries_to(end, from.commands.as_slice()).saturating_sub(start)
 }
 
-pub fn spans_of(alloc: Global, jobs: &[Job<'_, '_>]) -> Result<Vec<Span>, AllocError>
+pub fn spans_of(alloc: Global, jobs: &[Job<'_, '_>]) -> AllocResult<Vec<Span>>
     ensures value { IfOk result (λ spans. spans.items ≡ spans_of (map seen jobs.now)) }
     ensures early { All (λ j. IsEarly j.span) jobs.now → IfOk result (λ spans. All IsEarly spans.items) }
 {

@@ -5,7 +5,7 @@ ghost use Rattle.nl_reports.specs.GraphText.{IsGraphFault, seen_edge};
 ghost use Rattle.nl_reports.specs.Paths.{ClosesCycle};
 
 use crate::graph::Edge;
-use nl_tool_texts::ToolFault;
+use nl_tool_texts::{AllocResult, ToolFault};
 use std::alloc::{AllocError, Global};
 
 // No place.
@@ -70,7 +70,7 @@ pub(crate) fn order_of(alloc: Global, count: usize, edges: &[Edge]) -> Result<Ve
 }
 
 // For each edge the one from the same node that is looked at next. The marks name the first ones.
-fn next_edges(alloc: Global, edges: &[Edge], marks: &mut [Mark]) -> Result<Vec<usize>, AllocError> {
+fn next_edges(alloc: Global, edges: &[Edge], marks: &mut [Mark]) -> AllocResult<Vec<usize>> {
     let mut next = Vec::new(alloc);
     for place in 0..edges.len() {
         let from = edges[place].from;

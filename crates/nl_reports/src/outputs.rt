@@ -6,7 +6,8 @@ ghost use Rattle.nl_reports.specs.Outputs.{HoldPlaces, last_at, places_from, pla
 use crate::job::Job;
 use indexmap::IndexMap;
 use nl_table::Secret;
-use std::alloc::{AllocError, Global};
+use nl_tool_texts::AllocResult;
+use std::alloc::Global;
 
 /// Each output has the place of the last command that makes it.
 #[derive(Drop)]
@@ -16,11 +17,7 @@ pub struct Outputs<'a> {
 
 impl<'a> Outputs<'a> {
     /// Names are hashed under a secret.
-    pub fn of(
-        alloc: Global,
-        secret: Secret,
-        jobs: &[Job<'_, 'a>],
-    ) -> Result<Outputs<'a>, AllocError>
+    pub fn of(alloc: Global, secret: Secret, jobs: &[Job<'_, 'a>]) -> AllocResult<Outputs<'a>>
         ensures value { IfOk result (λ outputs. HoldPlaces (places_of (map seen jobs.now)) outputs.places.entries) }
     {
         let mut places = IndexMap::with_hasher(alloc, secret);
@@ -44,7 +41,7 @@ fn put_outputs<'a>(
     job: &Job<'_, 'a>,
     place: usize,
     places: &mut IndexMap<&'a [u8], usize, Secret>,
-) -> Result<(), AllocError>
+) -> AllocResult
     ensures ok { (ps : List (List ℕ × ℕ)) → HoldPlaces ps places.old.entries
         → OnOk result (HoldPlaces (ps ++ places_from place (seen job.now ∷ [])) places.new.entries) }
 {

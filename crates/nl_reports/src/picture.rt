@@ -31,9 +31,10 @@ use crate::work::{Work, place, word};
 use nl_builds::Builds;
 use nl_table::Secret;
 use nl_tool_texts::{
-    Part, Ranking, ToolFault, append, append_label, append_parts, highest, write_full, write_rest,
+    AllocResult, Part, Ranking, ToolFault, append, append_label, append_parts, highest, write_full,
+    write_rest,
 };
-use std::alloc::{AllocError, Global};
+use std::alloc::Global;
 use std::io::Write;
 
 const LISTED: u64 = 10;
@@ -164,12 +165,7 @@ fn write_jobs<W: Write>(
     )
 }
 
-fn append_start(
-    frame: &Frame,
-    known: Known,
-    jobs: &[Job<'_, '_>],
-    out: &mut Vec<u8>,
-) -> Result<(), AllocError>
+fn append_start(frame: &Frame, known: Known, jobs: &[Job<'_, '_>], out: &mut Vec<u8>) -> AllocResult
     requires early { All (λ j. IsEarly j.span) jobs.now }
     requires frame { IsFrame frame.now }
     ensures items { OnOk result (out.new.items ≡ out.old.items ++ start frame.now known (map seen jobs.now)) }
@@ -190,7 +186,7 @@ fn append_end(
     lanes: &[u64],
     jobs: &[Job<'_, '_>],
     out: &mut Vec<u8>,
-) -> Result<(), AllocError>
+) -> AllocResult
     requires early { All (λ j. IsEarly j.span) jobs.now }
     requires frame { IsFrame frame.now }
     ensures items { (cs : List Span) → AreMoments cs moments.now
@@ -207,7 +203,7 @@ fn append_outlined(
     lanes: &[u64],
     path: Option<&FoundPath<'_>>,
     out: &mut Vec<u8>,
-) -> Result<(), AllocError>
+) -> AllocResult
     ensures items { OnOk result (out.new.items ≡ out.old.items ++ outlined frame.now lanes.now (rans_of path.entry)) }
 {
     match path {
@@ -221,7 +217,7 @@ fn append_outlines(
     lanes: &[u64],
     commands: &[Ran<'_>],
     out: &mut Vec<u8>,
-) -> Result<(), AllocError>
+) -> AllocResult
     ensures items { OnOk result (out.new.items ≡ out.old.items ++ outlined frame.now lanes.now (Some (map ran_seen commands.now))) }
 {
     append(OUTLINED, out)?;
@@ -231,12 +227,7 @@ fn append_outlines(
     Ok(())
 }
 
-fn append_outline(
-    frame: &Frame,
-    lanes: &[u64],
-    ran: &Ran<'_>,
-    out: &mut Vec<u8>,
-) -> Result<(), AllocError>
+fn append_outline(frame: &Frame, lanes: &[u64], ran: &Ran<'_>, out: &mut Vec<u8>) -> AllocResult
     ensures items { OnOk result (out.new.items ≡ out.old.items ++ outline frame.now lanes.now (ran_seen ran.now)) }
 {
     let x = edge_at(frame, ran.span.began);
@@ -250,13 +241,7 @@ fn edge_at(frame: &Frame, at: u64) -> u64
     frame.x_at(at.min(4_294_967_295))
 }
 
-fn append_edges(
-    frame: &Frame,
-    lane: u64,
-    x: u64,
-    until: u64,
-    out: &mut Vec<u8>,
-) -> Result<(), AllocError>
+fn append_edges(frame: &Frame, lane: u64, x: u64, until: u64, out: &mut Vec<u8>) -> AllocResult
     ensures items { OnOk result (out.new.items ≡ out.old.items ++ outline_text frame.now lane x until) }
 {
     let width = until.saturating_sub(x).max(10);
@@ -328,7 +313,7 @@ fn append_head(
     commands: u64,
     known: Known,
     out: &mut Vec<u8>,
-) -> Result<(), AllocError>
+) -> AllocResult
     requires few { AreTimesOf commands times.now }
     requires small { commands < 2 ^ 63 }
     ensures items { OnOk result (out.new.items ≡ out.old.items ++ head frame.now times.now commands known) }
@@ -351,12 +336,7 @@ fn append_head(
     append_known(known, out)
 }
 
-fn append_name(
-    frame: &Frame,
-    times: &Times,
-    commands: u64,
-    out: &mut Vec<u8>,
-) -> Result<(), AllocError>
+fn append_name(frame: &Frame, times: &Times, commands: u64, out: &mut Vec<u8>) -> AllocResult
     requires few { AreTimesOf commands times.now }
     requires small { commands < 2 ^ 63 }
     ensures items { OnOk result (out.new.items ≡ out.old.items ++ name frame.now times.now commands) }
@@ -387,7 +367,7 @@ fn commands_word(commands: u64) -> &'static [u8]
     }
 }
 
-fn append_known(known: Known, out: &mut Vec<u8>) -> Result<(), AllocError>
+fn append_known(known: Known, out: &mut Vec<u8>) -> AllocResult
     ensures items { OnOk result (out.new.items ≡ out.old.items ++ known_line known) }
 {
     match known {
@@ -419,7 +399,7 @@ fn append_known(known: Known, out: &mut Vec<u8>) -> Result<(), AllocError>
     }
 }
 
-fn append_legend(times: &Times, commands: u64, out: &mut Vec<u8>) -> Result<(), AllocError>
+fn append_legend(times: &Times, commands: u64, out: &mut Vec<u8>) -> AllocResult
     requires few { AreTimesOf commands times.now }
     requires small { commands < 2 ^ 63 }
     ensures items { OnOk result (out.new.items ≡ out.old.items ++ legend times.now) }
@@ -432,12 +412,7 @@ fn append_legend(times: &Times, commands: u64, out: &mut Vec<u8>) -> Result<(), 
     append_kind(times, commands, Work::Other, out)
 }
 
-fn append_kind(
-    times: &Times,
-    commands: u64,
-    work: Work,
-    out: &mut Vec<u8>,
-) -> Result<(), AllocError>
+fn append_kind(times: &Times, commands: u64, work: Work, out: &mut Vec<u8>) -> AllocResult
     requires few { AreTimesOf commands times.now }
     requires small { commands < 2 ^ 63 }
     ensures items { OnOk result (out.new.items ≡ out.old.items ++ legend_kind times.now work) }
@@ -467,7 +442,7 @@ fn append_longest(
     frame: &Frame,
     jobs: &[Job<'_, '_>],
     out: &mut Vec<u8>,
-) -> Result<(), AllocError>
+) -> AllocResult
     requires early { All (λ j. IsEarly j.span) jobs.now }
     ensures items { OnOk result (out.new.items ≡ out.old.items ++ longest frame.now (map seen jobs.now)) }
 {
@@ -492,7 +467,7 @@ fn append_long(
     line: u64,
     job: &Job<'_, '_>,
     out: &mut Vec<u8>,
-) -> Result<(), AllocError>
+) -> AllocResult
     ensures items { OnOk result (out.new.items ≡ out.old.items ++ long_line frame.now line (seen job.now)) }
 {
     let y = frame.line_at(line);

@@ -6,8 +6,8 @@ ghost use Rattle.nl_tool_texts.specs.Falling.{falling};
 
 use crate::lists::Lists;
 use crate::sweep::PARTS;
-use nl_tool_texts::{Part, Ranking, append, append_line, highest, percent, ratio};
-use std::alloc::{AllocError, Global};
+use nl_tool_texts::{AllocResult, Part, Ranking, append, append_line, highest, percent, ratio};
+use std::alloc::Global;
 
 /// How many commands there are, the sum of their milliseconds, and that of their weighted times, in parts of a millisecond.
 #[derive(Clone, Copy, Drop)]
@@ -58,7 +58,7 @@ pub(crate) fn append_list(
     rank: Rank,
     rows: &[Row<'_>],
     lines: &mut Vec<u8>,
-) -> Result<(), AllocError>
+) -> AllocResult
     requires room { total < 2 ^ 120 }
     ensures items { OnOk result
         (lines.new.items ≡ lines.old.items ++ list_lines lists total listed rank (map told_row rows.now)) }
@@ -75,7 +75,7 @@ fn append_highest(
     rank: Rank,
     rows: &[Row<'_>],
     lines: &mut Vec<u8>,
-) -> Result<(), AllocError>
+) -> AllocResult
     requires room { total < 2 ^ 120 }
     ensures items { OnOk result (lines.new.items ≡ lines.old.items
         ++ flat_map (list_line lists.screen total listed rank) (take lists.most (falling (rank_told rank) (map told_row rows.now)))) }
@@ -97,12 +97,7 @@ fn heading(screen: bool, listed: Listed) -> &'static [u8]
     }
 }
 
-fn append_screen_row(
-    listed: Listed,
-    total: u128,
-    row: &Row<'_>,
-    lines: &mut Vec<u8>,
-) -> Result<(), AllocError>
+fn append_screen_row(listed: Listed, total: u128, row: &Row<'_>, lines: &mut Vec<u8>) -> AllocResult
     requires room { total < 2 ^ 120 }
     ensures items { OnOk result
         (lines.new.items ≡ lines.old.items ++ screen_row listed total (told_row row.now)) }
@@ -126,7 +121,7 @@ fn append_row(
     rank: Rank,
     row: &Row<'_>,
     lines: &mut Vec<u8>,
-) -> Result<(), AllocError>
+) -> AllocResult
     requires room { total < 2 ^ 120 }
     ensures items { OnOk result
         (lines.new.items ≡ lines.old.items ++ list_line screen total listed rank (told_row row.now)) }
@@ -150,7 +145,7 @@ fn append_key(
     rank: Rank,
     commands: u128,
     lines: &mut Vec<u8>,
-) -> Result<(), AllocError>
+) -> AllocResult
     ensures items { OnOk result (lines.new.items ≡ lines.old.items ++ list_key listed rank commands) }
 {
     let by = rank_key(rank);

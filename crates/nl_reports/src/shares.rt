@@ -9,7 +9,8 @@ ghost use Rattle.nl_reports.specs.Shares.{AreSharesOf};
 use crate::moments::{Moments, Near, up_to};
 use crate::span::Span;
 use crate::sweep::{Sweeping, sweep};
-use std::alloc::{AllocError, Global};
+use nl_tool_texts::AllocResult;
+use std::alloc::Global;
 
 /// The shares of commands among each other.
 #[derive(Drop)]
@@ -19,7 +20,7 @@ pub struct Shares {
 }
 
 impl Shares {
-    pub fn of(alloc: Global, spans: &[Span]) -> Result<Shares, AllocError>
+    pub fn of(alloc: Global, spans: &[Span]) -> AllocResult<Shares>
         requires early { All IsEarly spans.now }
         ensures value { IfOk result (AreSharesOf spans.now) }
     {

@@ -12,9 +12,9 @@ use crate::outputs::Outputs;
 use indexmap::IndexSet;
 use nl_builds::Builds;
 use nl_table::Secret;
-use nl_tool_texts::Ranking;
+use nl_tool_texts::{AllocResult, Ranking};
 use nl_versions::LogVersion;
-use std::alloc::{AllocError, Global};
+use std::alloc::Global;
 
 /// A log that is compared. `told` has only the last entry of each output; `waiting` are the outputs of commands that didn't end.
 #[derive(Clone, Copy, Drop)]
@@ -47,7 +47,7 @@ struct Held<'s, 'a> {
 }
 
 impl<'s, 'a> Held<'s, 'a> {
-    fn of(alloc: Global, secret: Secret, side: &Side<'s, 'a>) -> Result<Held<'s, 'a>, AllocError>
+    fn of(alloc: Global, secret: Secret, side: &Side<'s, 'a>) -> AllocResult<Held<'s, 'a>>
         ensures value { IfOk result (λ held. held_side held ≡ side_of side.now) }
     {
         let told = side.told;
@@ -80,7 +80,7 @@ pub fn compared<'a>(
     rules: Rules,
     old: &Side<'_, 'a>,
     new: &Side<'_, 'a>,
-) -> Result<Vec<ComparedRow<'a>>, AllocError>
+) -> AllocResult<Vec<ComparedRow<'a>>>
     ensures value { IfOk result (λ rows. map compared_of rows.items ≡ compared rules (side_of old.now) (side_of new.now)) }
 {
     let before = Held::of(alloc, secret, old)?;
@@ -94,7 +94,7 @@ fn told_pairs<'a>(
     rules: Rules,
     old: &Held<'_, 'a>,
     new: &Held<'_, 'a>,
-) -> Result<Vec<ComparedRow<'a>>, AllocError>
+) -> AllocResult<Vec<ComparedRow<'a>>>
     ensures value { IfOk result (λ rows. map compared_of rows.items ≡ compared rules (held_side old.now) (held_side new.now)) }
 {
     let outputs = Outputs::of(alloc, secret, new.jobs.as_slice())?;
@@ -113,7 +113,7 @@ fn push_pairs<'a>(
     outputs: &Outputs<'a>,
     left: &mut Vec<bool>,
     rows: &mut Vec<ComparedRow<'a>>,
-) -> Result<(), AllocError>
+) -> AllocResult
     requires held { HoldPlaces (places_of (map seen new.now.jobs.items)) outputs.now.places.entries }
     ensures rows { OnOk result (map compared_of rows.new.items
         ++ map (told_pair rules (held_side old.now) (held_side new.now)) (pairs_from (map seen new.now.jobs.items) left.new.items [])
@@ -134,7 +134,7 @@ fn push_fresh<'a>(
     new: &Held<'_, 'a>,
     left: &[bool],
     rows: &mut Vec<ComparedRow<'a>>,
-) -> Result<(), AllocError>
+) -> AllocResult
     ensures rows { OnOk result (map compared_of rows.new.items ≡ map compared_of rows.old.items
         ++ map (fresh (held_side old.now) (held_side new.now)) (marked left.now (map seen new.now.jobs.items))) }
 {
@@ -235,7 +235,7 @@ pub(crate) fn of_class<'a>(
     alloc: Global,
     class: Class,
     rows: &[ComparedRow<'a>],
-) -> Result<Vec<ComparedRow<'a>>, AllocError>
+) -> AllocResult<Vec<ComparedRow<'a>>>
     ensures value { IfOk result
         (λ kept. map compared_of kept.items ≡ of_class class (map compared_of rows.now)) }
 {

@@ -5,6 +5,7 @@ use crate::graph::NinjaGraph;
 use crate::job::Job;
 use crate::outputs::Outputs;
 use nl_table::Secret;
+use nl_tool_texts::AllocResult;
 use std::alloc::{AllocError, Global};
 use std::cmp::Reverse;
 use std::collections::BinaryHeap;
@@ -78,7 +79,7 @@ impl Waiting {
         graph: &NinjaGraph<'_>,
         jobs: &[Job<'_, '_>],
         priority: Priority,
-    ) -> Result<Waiting, AllocError> {
+    ) -> AllocResult<Waiting> {
         let mut waiting = Waiting {
             nodes: Vec::new(alloc),
             next: Vec::new(alloc),
@@ -105,7 +106,7 @@ impl Waiting {
         secret: Secret,
         graph: &NinjaGraph<'_>,
         jobs: &[Job<'_, '_>],
-    ) -> Result<(), AllocError> {
+    ) -> AllocResult {
         let outputs = Outputs::of(alloc, secret, jobs)?;
         for place in 0..self.nodes.len() {
             let command = match name_at(graph, place) {
@@ -129,7 +130,7 @@ impl Waiting {
         Ok(())
     }
 
-    fn take_edges(&mut self, graph: &NinjaGraph<'_>) -> Result<(), AllocError> {
+    fn take_edges(&mut self, graph: &NinjaGraph<'_>) -> AllocResult {
         for place in 0..graph.edges.len() {
             let edge = graph.edges[place];
             let mut next = NONE;
@@ -148,12 +149,7 @@ impl Waiting {
     }
 
     // Says in what order commands are taken. Commands of no node come last.
-    fn rank(
-        &mut self,
-        alloc: Global,
-        graph: &NinjaGraph<'_>,
-        priority: Priority,
-    ) -> Result<(), AllocError> {
+    fn rank(&mut self, alloc: Global, graph: &NinjaGraph<'_>, priority: Priority) -> AllocResult {
         let chains = match priority {
             Priority::Critical => self.chains(alloc, graph)?,
             Priority::Graph => Vec::new(alloc),
@@ -174,7 +170,7 @@ impl Waiting {
     }
 
     // How many commands stand in the longest chain from each node on, itself included.
-    fn chains(&self, alloc: Global, graph: &NinjaGraph<'_>) -> Result<Vec<usize>, AllocError> {
+    fn chains(&self, alloc: Global, graph: &NinjaGraph<'_>) -> AllocResult<Vec<usize>> {
         let mut chains = Vec::new(alloc);
         for node in &self.nodes {
             chains.push(own_count(node))?;
@@ -217,7 +213,7 @@ impl Waiting {
 
     /// What happens if so many run at a time at most. Each command that is ready is taken as soon as fewer run; what waits for itself is never
     /// taken.
-    pub(crate) fn run(&self, alloc: Global, count: usize) -> Result<Run, AllocError> {
+    pub(crate) fn run(&self, alloc: Global, count: usize) -> AllocResult<Run> {
         let mut going = Going::of(alloc, self, count)?;
         going.begin(self)?;
         for _ in 0..u64::MAX {
@@ -260,7 +256,7 @@ struct Going {
 }
 
 impl Going {
-    fn of(alloc: Global, waiting: &Waiting, count: usize) -> Result<Going, AllocError> {
+    fn of(alloc: Global, waiting: &Waiting, count: usize) -> AllocResult<Going> {
         let mut going = Going {
             now: 0,
             free: count,
@@ -283,7 +279,7 @@ impl Going {
         Ok(going)
     }
 
-    fn begin(&mut self, waiting: &Waiting) -> Result<(), AllocError> {
+    fn begin(&mut self, waiting: &Waiting) -> AllocResult {
         for place in 0..waiting.nodes.len() {
             if waiting.nodes[place].waits == 0 {
                 self.reach(waiting, place)?;
@@ -300,7 +296,7 @@ impl Going {
     }
 
     // All that a node waits for is there.
-    fn reach(&mut self, waiting: &Waiting, place: usize) -> Result<(), AllocError> {
+    fn reach(&mut self, waiting: &Waiting, place: usize) -> AllocResult {
         let command = waiting.node_at(place).command;
         if command == NONE {
             self.meet(place)?;
@@ -314,14 +310,14 @@ impl Going {
         Ok(())
     }
 
-    fn meet(&mut self, place: usize) -> Result<(), AllocError> {
+    fn meet(&mut self, place: usize) -> AllocResult {
         if place < self.there.len() {
             self.there[place] = self.now;
         }
         self.met.push(place).map_err(AllocError::from)
     }
 
-    fn follow(&mut self, waiting: &Waiting) -> Result<(), AllocError> {
+    fn follow(&mut self, waiting: &Waiting) -> AllocResult {
         for _ in 0..u64::MAX {
             let Some(place) = self.met.pop() else {
                 break;
@@ -339,7 +335,7 @@ impl Going {
         Ok(())
     }
 
-    fn pass(&mut self, waiting: &Waiting, to: usize) -> Result<(), AllocError> {
+    fn pass(&mut self, waiting: &Waiting, to: usize) -> AllocResult {
         if to < self.edges.len() {
             self.edges[to] = self.edges[to].saturating_sub(1);
             if self.edges[to] == 0 {
@@ -350,7 +346,7 @@ impl Going {
     }
 
     // Takes commands that are ready, while fewer run than may.
-    fn start(&mut self, waiting: &Waiting) -> Result<(), AllocError> {
+    fn start(&mut self, waiting: &Waiting) -> AllocResult {
         let free = self.free;
         for _ in 0..free {
             let Some(Reverse(rank)) = self.ready.pop() else {
@@ -369,7 +365,7 @@ impl Going {
         Ok(())
     }
 
-    fn end(&mut self, waiting: &Waiting, command: usize) -> Result<(), AllocError> {
+    fn end(&mut self, waiting: &Waiting, command: usize) -> AllocResult {
         let mut node = waiting.task_at(command).node;
         for _ in 0..waiting.nodes.len() {
             if node == NONE {

@@ -21,8 +21,8 @@ use crate::numbers::{Numbers, numbers_of, spans_of};
 use crate::rows::{Listed, Rank, Row, Sums, append_list};
 use crate::shares::Shares;
 use nl_builds::{Build, Builds, How};
-use nl_tool_texts::{Part, append_line, append_parts, highest, ratio};
-use std::alloc::{AllocError, Global};
+use nl_tool_texts::{AllocResult, Part, append_line, append_parts, highest, ratio};
+use std::alloc::Global;
 
 /// The sums of the numbers of builds, one after another. Times are in milliseconds.
 #[derive(Clone, Copy, Drop)]
@@ -45,7 +45,7 @@ pub fn summary_lines(
     lists: Lists,
     unfinished: usize,
     from: &Builds,
-) -> Result<Vec<u8>, AllocError>
+) -> AllocResult<Vec<u8>>
     ensures value { IfOk result (λ lines. lines.items ≡ summary_text scope lists unfinished (told from.now)) }
 {
     let mut lines = Vec::new(alloc);
@@ -56,12 +56,7 @@ pub fn summary_lines(
     Ok(lines)
 }
 
-fn append_few(
-    screen: bool,
-    builds: usize,
-    unfinished: usize,
-    lines: &mut Vec<u8>,
-) -> Result<(), AllocError>
+fn append_few(screen: bool, builds: usize, unfinished: usize, lines: &mut Vec<u8>) -> AllocResult
     ensures items { OnOk result (lines.new.items ≡ lines.old.items ++ few_text screen builds unfinished) }
 {
     append_count(screen, b"builds", b"builds in LOG", builds, lines)?;
@@ -76,7 +71,7 @@ fn append_chosen(
     unfinished: usize,
     from: &Builds,
     lines: &mut Vec<u8>,
-) -> Result<(), AllocError>
+) -> AllocResult
     requires small { choice.first < 2 ^ 63 }
     ensures items { OnOk result
         (lines.new.items ≡ lines.old.items ++ chosen_text scope (Some choice) lists unfinished (told from.now)) }
@@ -105,7 +100,7 @@ fn append_title(
     number: usize,
     count: usize,
     lines: &mut Vec<u8>,
-) -> Result<(), AllocError>
+) -> AllocResult
     ensures items { OnOk result (lines.new.items ≡ lines.old.items ++ title screen scope number count) }
 {
     let count = Part::Number(count as u128);
@@ -144,7 +139,7 @@ fn all_of<'a>(
     from: &Builds<'a>,
     first: usize,
     builds: &[Build],
-) -> Result<Summed<'a>, AllocError>
+) -> AllocResult<Summed<'a>>
     requires small { first < 2 ^ 63 }
     ensures totals { IfOk result (λ all. all.totals ≡ totals_from no_totals (told from.now) first builds.now) }
     ensures rows { IfOk result (λ all. map told_row all.rows.items ≡ rows_from (told from.now) first builds.now) }
@@ -174,7 +169,7 @@ fn add_build<'a>(
     from: &Builds<'a>,
     number: usize,
     all: &mut Summed<'a>,
-) -> Result<(), AllocError>
+) -> AllocResult
     requires few { (n : ℕ) × ((n < 2 ^ 63) × AreTotalsOf n all.old.totals) }
     requires one { All IsOfOne all.old.rows.items }
     ensures totals { OnOk result
@@ -207,11 +202,7 @@ fn with_numbers(totals: &Totals, numbers: &Numbers, shares: &Shares) -> Totals
     }
 }
 
-fn push_rows<'a>(
-    jobs: &[Job<'_, 'a>],
-    shares: &Shares,
-    rows: &mut Vec<Row<'a>>,
-) -> Result<(), AllocError>
+fn push_rows<'a>(jobs: &[Job<'_, 'a>], shares: &Shares, rows: &mut Vec<Row<'a>>) -> AllocResult
     requires shares { AreSharesOf (spans_of (map seen jobs.now)) shares.now }
     requires early { All (λ j. IsEarly j.span) jobs.now }
     requires one { All IsOfOne rows.old.items }
@@ -248,7 +239,7 @@ fn append_totals(
     totals: &Totals,
     rows: &[Row<'_>],
     lines: &mut Vec<u8>,
-) -> Result<(), AllocError>
+) -> AllocResult
     requires room { totals.now.wall < 2 ^ 120 }
     requires one { All IsOfOne rows.now }
     ensures items { OnOk result
@@ -300,7 +291,7 @@ fn append_facts(
     none: u128,
     parallel: &[u8],
     lines: &mut Vec<u8>,
-) -> Result<(), AllocError>
+) -> AllocResult
     ensures items { OnOk result
         (lines.new.items ≡ lines.old.items ++ facts totals.now commands total best none parallel.now) }
 {
@@ -345,12 +336,7 @@ fn total_of(rows: &[Row<'_>]) -> u128
 }
 
 // At a terminal it heads the list.
-fn append_slowest(
-    alloc: Global,
-    screen: bool,
-    rows: &[Row<'_>],
-    lines: &mut Vec<u8>,
-) -> Result<(), AllocError>
+fn append_slowest(alloc: Global, screen: bool, rows: &[Row<'_>], lines: &mut Vec<u8>) -> AllocResult
     ensures items { OnOk result
         (lines.new.items ≡ lines.old.items ++ slowest_line screen (first_of (falling (rank_told Time) (map told_row rows.now)))) }
 {
@@ -367,7 +353,7 @@ fn append_slowest(
     )
 }
 
-fn slowest_time(alloc: Global, rows: &[Row<'_>]) -> Result<u128, AllocError>
+fn slowest_time(alloc: Global, rows: &[Row<'_>]) -> AllocResult<u128>
     ensures value { IfOk result (λ time. time ≡ slowest_time (first_of (falling (rank_told Time) (map told_row rows.now)))) }
 {
     match slowest_of(alloc, rows)? {
@@ -376,7 +362,7 @@ fn slowest_time(alloc: Global, rows: &[Row<'_>]) -> Result<u128, AllocError>
     }
 }
 
-fn slowest_of<'a>(alloc: Global, rows: &[Row<'a>]) -> Result<Option<Row<'a>>, AllocError>
+fn slowest_of<'a>(alloc: Global, rows: &[Row<'a>]) -> AllocResult<Option<Row<'a>>>
     ensures value { IfOk result (λ row. option_map told_row row ≡ first_of (falling (rank_told Time) (map told_row rows.now))) }
 {
     let kept = highest(alloc, &Rank::Time, 1, rows)?;
@@ -426,7 +412,7 @@ fn more_taken(most: Option<usize>, how: How) -> Option<usize>
     }
 }
 
-fn append_again(screen: bool, taken: Option<usize>, lines: &mut Vec<u8>) -> Result<(), AllocError>
+fn append_again(screen: bool, taken: Option<usize>, lines: &mut Vec<u8>) -> AllocResult
     ensures items { OnOk result (lines.new.items ≡ lines.old.items ++ again_line screen taken) }
 {
     match taken {
@@ -441,7 +427,7 @@ fn append_again(screen: bool, taken: Option<usize>, lines: &mut Vec<u8>) -> Resu
     }
 }
 
-fn append_unfinished(screen: bool, count: usize, lines: &mut Vec<u8>) -> Result<(), AllocError>
+fn append_unfinished(screen: bool, count: usize, lines: &mut Vec<u8>) -> AllocResult
     ensures items { OnOk result (lines.new.items ≡ lines.old.items ++ unfinished_line screen count) }
 {
     if count == 0 {
@@ -462,7 +448,7 @@ fn append_count(
     words: &[u8],
     count: usize,
     lines: &mut Vec<u8>,
-) -> Result<(), AllocError>
+) -> AllocResult
     ensures items { OnOk result (lines.new.items ≡ lines.old.items ++ count_line screen key.now words.now count) }
 {
     if screen {
@@ -471,12 +457,7 @@ fn append_count(
     append_line(&[Part::Text(key), Part::Number(count as u128)], lines)
 }
 
-fn append_lists(
-    alloc: Global,
-    lists: Lists,
-    rows: &[Row<'_>],
-    lines: &mut Vec<u8>,
-) -> Result<(), AllocError>
+fn append_lists(alloc: Global, lists: Lists, rows: &[Row<'_>], lines: &mut Vec<u8>) -> AllocResult
     requires one { All IsOfOne rows.now }
     ensures items { OnOk result
         (lines.new.items ≡ lines.old.items ++ lists_text lists (map told_row rows.now)) }
@@ -497,7 +478,7 @@ fn append_both(
     listed: Listed,
     rows: &[Row<'_>],
     lines: &mut Vec<u8>,
-) -> Result<(), AllocError>
+) -> AllocResult
     requires room { total < 2 ^ 120 }
     ensures items { OnOk result
         (lines.new.items ≡ lines.old.items ++ both_lists lists total listed (map told_row rows.now)) }

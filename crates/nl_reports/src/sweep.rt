@@ -3,7 +3,8 @@ ghost use Rattle.std.specs.Prelude.{◌≡◌, ◌⊎◌, ◌+◌, ◌-◌, ◌*
 ghost use Rattle.nl_reports.specs.Sweep.{share_of, any_of, alone_of, parts};
 ghost use Rattle.nl_reports.specs.SweepSteps.{AreSums, IsLow, IsSwept, Rises, running_by, shares_before};
 
-use std::alloc::{AllocError, Global};
+use nl_tool_texts::AllocResult;
+use std::alloc::Global;
 
 // The parts of a millisecond: up to 22 commands share them with nothing left.
 pub const PARTS: u64 = 232_792_560;
@@ -77,7 +78,7 @@ fn is_start_next(starts: &[u64], begun: usize, ends: &[u64], ended: usize) -> bo
     begun < starts.len() && (ended >= ends.len() || starts[begun] <= ends[ended])
 }
 
-fn step(starts: &[u64], ends: &[u64], so_far: &mut Sweeping) -> Result<(), AllocError>
+fn step(starts: &[u64], ends: &[u64], so_far: &mut Sweeping) -> AllocResult
     requires order { Rises starts.now × Rises ends.now }
     requires swept { IsSwept starts.now ends.now so_far.old }
     requires more { (so_far.old.begun < length starts.now) ⊎ (so_far.old.ended < length ends.now) }
@@ -98,7 +99,7 @@ fn step(starts: &[u64], ends: &[u64], so_far: &mut Sweeping) -> Result<(), Alloc
     Ok(())
 }
 
-pub fn sweep(alloc: Global, starts: &[u64], ends: &[u64]) -> Result<Sweeping, AllocError>
+pub fn sweep(alloc: Global, starts: &[u64], ends: &[u64]) -> AllocResult<Sweeping>
     requires order { Rises starts.now × Rises ends.now }
     ensures swept { IfOk result (λ swept. IsSwept starts.now ends.now swept
         × (swept.begun ≡ length starts.now) × (swept.ended ≡ length ends.now)) }

@@ -5,8 +5,7 @@ ghost use Rattle.nl_reports.specs.Frame.{IsFrame};
 ghost use Rattle.nl_reports.specs.Ticks.{IsStep, step_in, step_of, tick, ticks};
 
 use crate::frame::Frame;
-use nl_tool_texts::{Part, append_parts};
-use std::alloc::AllocError;
+use nl_tool_texts::{AllocResult, Part, append_parts};
 
 // In milliseconds; a build has at most twelve steps.
 const STEPS: [u64; 26] = [
@@ -61,7 +60,7 @@ fn step_in(wall: u64, steps: &[u64]) -> u64
     LONGEST
 }
 
-pub(crate) fn append_ticks(frame: &Frame, out: &mut Vec<u8>) -> Result<(), AllocError>
+pub(crate) fn append_ticks(frame: &Frame, out: &mut Vec<u8>) -> AllocResult
     requires early { IsFrame frame.now }
     ensures items { OnOk result (out.new.items ≡ out.old.items ++ ticks frame.now) }
 {
@@ -72,7 +71,7 @@ pub(crate) fn append_ticks(frame: &Frame, out: &mut Vec<u8>) -> Result<(), Alloc
     Ok(())
 }
 
-fn append_tick(frame: &Frame, ms: u64, out: &mut Vec<u8>) -> Result<(), AllocError>
+fn append_tick(frame: &Frame, ms: u64, out: &mut Vec<u8>) -> AllocResult
     requires early { IsFrame frame.now }
     requires within { ms < 2 ^ 32 }
     ensures items { OnOk result (out.new.items ≡ out.old.items ++ tick frame.now ms) }

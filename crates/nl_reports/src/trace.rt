@@ -18,8 +18,8 @@ use crate::numbers::spans_of;
 use crate::summary::most_taken;
 use crate::turns::jobs_in_turn;
 use nl_builds::{Build, Builds, How};
-use nl_tool_texts::{ToolFault, append, write_full, write_out, write_rest};
-use std::alloc::{AllocError, Global};
+use nl_tool_texts::{AllocResult, ToolFault, append, write_full, write_out, write_rest};
+use std::alloc::Global;
 use std::io::Write;
 
 /// Writes what builds did, one after another on one clock, as the events of a trace: a JSON array. Each command has a lane, in which no other
@@ -123,7 +123,7 @@ fn append_events(
     lane: u64,
     job: &Job<'_, '_>,
     out: &mut Vec<u8>,
-) -> Result<(), AllocError>
+) -> AllocResult
     requires early { IsEarly job.now.span }
     requires lane { lane < 2 ^ 63 }
     ensures items { (cs : List Span) → AreMoments cs moments.now → OnOk result

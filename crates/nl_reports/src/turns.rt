@@ -11,7 +11,8 @@ use crate::choice::{Choice, Scope, chosen};
 use crate::job::{Job, between, jobs_by_start, jobs_of};
 use crate::span::Span;
 use nl_builds::{Build, Builds};
-use std::alloc::{AllocError, Global};
+use nl_tool_texts::AllocResult;
+use std::alloc::Global;
 
 // The last moment of the clock.
 const LAST: u64 = 4_294_967_295;
@@ -22,7 +23,7 @@ pub fn jobs_in_turn<'s, 'a>(
     alloc: Global,
     scope: Scope,
     from: &'s Builds<'a>,
-) -> Result<Vec<Job<'s, 'a>>, AllocError>
+) -> AllocResult<Vec<Job<'s, 'a>>>
     ensures value { IfOk result (λ jobs. map seen jobs.items ≡ jobs_in_turn scope (told from.now)) }
     ensures early { IfOk result (λ jobs. All (λ j. IsEarly j.span) jobs.items) }
 {
@@ -40,7 +41,7 @@ fn jobs_turned<'s, 'a>(
     from: &'s Builds<'a>,
     first: usize,
     builds: &[Build],
-) -> Result<Vec<Job<'s, 'a>>, AllocError>
+) -> AllocResult<Vec<Job<'s, 'a>>>
     requires small { first < 2 ^ 63 }
     ensures value { IfOk result (λ jobs. map seen jobs.items ≡ jobs_turned 0 (told from.now) first builds.now) }
     ensures early { IfOk result (λ jobs. All (λ j. IsEarly j.span) jobs.items) }
@@ -60,7 +61,7 @@ fn push_build<'s, 'a>(
     jobs: &[Job<'s, 'a>],
     clock: u64,
     all: &mut Vec<Job<'s, 'a>>,
-) -> Result<u64, AllocError>
+) -> AllocResult<u64>
     requires jobs { All (λ j. IsEarly j.span) jobs.now }
     requires clock { clock < 2 ^ 32 }
     requires early { All (λ j. IsEarly j.span) all.old.items }
