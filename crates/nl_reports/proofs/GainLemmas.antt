@@ -1,7 +1,6 @@
 -- Commands of which one takes half its time, and the lines of gains.
 use Rattle.std.proofs.Common.{◌≡◌, ◌∙◌, ◌==◌, ◌<◌, ℕ, Bool, zero, suc, ◌+◌, drop, List, [], ◌∷◌, ◌++◌, Option, None, Some, ap, arith, get_or, length, map, option_and_then, option_map, refl, subst, sym, take}
 use Rattle.std.proofs.lemmas.List.{at_drop_more, length-map, map-append, take_more}
-use Rattle.std.specs.Borrow.{Bor}
 use Rattle.std.specs.Prelude.{slice_get}
 use Rattle.nl_reports.specs.Critical.{IsFoundPath, Ran, names_of, ran_at, ran_in_place, ran_named, weight}
 use Rattle.nl_reports.specs.Gains.{AreGains, AreGainsOf, IsGain, IsHalfPath, heading, half_ran, halved, halved_from, job_if, longest_rans}
@@ -69,20 +68,18 @@ halved_at nodes js place [] = refl
 halved_at nodes js place (id ∷ ids) = λ i. half_at nodes js place id i ∷ halved_at nodes js place ids i
 
 -- one more node was looked at
-pub half_more : (place : ℕ) (xs hs : List (Option HeldRan)) (h : Option HeldRan) (i : ℕ) → i < length xs
-    → option_map ran_seen h ≡ option_map (half_ran place) (get_or (rans_seen xs) i None)
-    → rans_seen hs ≡ map (option_map (half_ran place)) (take i (rans_seen xs))
-    → rans_seen (hs ++ h ∷ []) ≡ map (option_map (half_ran place)) (take (i + 1) (rans_seen xs))
-half_more place xs hs h i inside is so_far =
-    let g : Option Ran → Option Ran = option_map (half_ran place) in
+pub ran_changed : (g : Option Ran → Option Ran) (xs hs : List (Option HeldRan)) (h : Option HeldRan) (i : ℕ) → i < length xs
+    → option_map ran_seen h ≡ g (get_or (rans_seen xs) i None)
+    → rans_seen hs ≡ map g (take i (rans_seen xs)) → rans_seen (hs ++ h ∷ []) ≡ map g (take (i + 1) (rans_seen xs))
+ran_changed g xs hs h i inside is so_far =
     let there : i < length (rans_seen xs) = omega (arith, inside, length-map xs (option_map ran_seen)) in
     map-append (option_map ran_seen) hs (h ∷ []) ∙ (λ k. so_far k ++ is k ∷ [])
     ∙ sym (ap (map g) (take_more (rans_seen xs) i None there) ∙ map-append g (take i (rans_seen xs)) (get_or (rans_seen xs) i None ∷ []))
 
-pub are_half : (g : NinjaGraph) (js : List Job) (place : ℕ) (r s : Reaches) → AreOf g js r → s.graph ≡ r.graph
+pub are_half : (g : NinjaGraph) (js : List Job) (place : ℕ) (r s : Reaches) → AreOf g js r → s.graph.now ≡ r.graph.now
     → rans_seen s.ran.items ≡ map (option_map (half_ran place)) (rans_seen r.ran.items) → AreOf g (halved place js) s
 are_half g js place r s are graph ran = record {
-  graph = ap (λ (x : Bor NinjaGraph). x.now) graph ∙ are.graph;
+  graph = graph ∙ are.graph;
   distinct = are.distinct;
   ran = ran ∙ ap (map (option_map (half_ran place))) are.ran ∙ halved_at (nodes_of g.nodes.entries) js place (ids_of g.nodes.entries);
 }

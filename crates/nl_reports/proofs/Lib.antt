@@ -38,3 +38,4 @@ mod FitLemmas
 mod SizeLemmas
 mod PlanLemmas
 mod GainLemmas
+mod FoundLemmas

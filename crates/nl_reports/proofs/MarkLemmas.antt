@@ -1,12 +1,7 @@
 -- The bars of short commands, mark by mark.
-use Rattle.std.proofs.Common.{◌≡◌, ◌∙◌, ℕ, ◌+◌, ◌-◌, ◌<◌, true, List, [], ◌∷◌, ◌++◌, Option, drop, get_or, length, map, take, sym, ap, subst, arith, append_assoc, refl}
+use Rattle.std.proofs.Common.{◌≡◌, ◌∙◌, ℕ, ◌+◌, ◌-◌, ◌<◌, true, List, ◌∷◌, ◌++◌, Option, drop, get_or, length, take, sym, ap, subst, arith, append_assoc, refl}
 use Rattle.std.proofs.lemmas.List.{at_drop_more, length-drop, take_all}
-use Rattle.std.specs.List.{All}
-use Rattle.std.proofs.lemmas.List.Elements.{All-head, All-tail}
-use Rattle.std.proofs.lemmas.List.Sorted.{All-permutation}
-use Rattle.nl_reports.specs.Bars.{is_last, joined, joined_bar, mark_by, rank_of}
-use Rattle.nl_tool_texts.specs.Falling.{falling}
-use Rattle.nl_tool_texts.proofs.FallingLemmas.{falling_moves, map-falling}
+use Rattle.nl_reports.specs.Bars.{is_last, joined, joined_bar}
 use Rattle.nl_tool_texts.specs.Writing.{HoldsAllBut}
 use Rattle.nl_reports.specs.declared.bars.Mark.{Mark}
 use Rattle.nl_reports.specs.declared.frame.Frame.{Frame}
@@ -32,13 +27,3 @@ marks_held old mid whole held more f ms i count now d within holds is =
     subst (λ (l : List ℕ). HoldsAllBut old mid whole l)
     (at_drop_more (λ (l : List Mark). held ++ joined f count l) ms i d within
     ∙ sym (subst (λ (rest : List Mark). more ++ joined f now rest ≡ held ++ joined f count (get_or ms i d ∷ rest)) (rest_is ms i) is)) holds
-
--- marks that their ranks tell are sorted by these
-pub by_ranks : (ms : List Mark) → All (λ m. mark_by (rank_of m) ≡ m) ms → map mark_by (falling (λ n. n) (map rank_of ms)) ≡ falling rank_of ms
-by_ranks ms told =
-    ap (map mark_by) (sym (map-falling rank_of (λ n. n) ms))
-    ∙ back (falling rank_of ms) (All-permutation (λ m. mark_by (rank_of m) ≡ m) ms (falling rank_of ms) (falling_moves rank_of ms) told)
-  where
-    back : (ns : List Mark) → All (λ m. mark_by (rank_of m) ≡ m) ns → map mark_by (map rank_of ns) ≡ ns
-    back [] all = refl
-    back (n ∷ ns) all = λ i. All-head (λ m. mark_by (rank_of m) ≡ m) n ns all i ∷ back ns (All-tail (λ m. mark_by (rank_of m) ≡ m) n ns all) i

@@ -78,7 +78,7 @@ kept_time None = 0
 kept_time (Some p) = p.0
 
 module _ where
-  same_places : (at : ℕ) (plan js : List Job) → map kept plan ≡ map kept js → places_from at plan ≡ places_from at js
+  pub same_places : (at : ℕ) (plan js : List Job) → map kept plan ≡ map kept js → places_from at plan ≡ places_from at js
   same_places at plan js same = by at plan ∙ ap (from at) same ∙ sym (by at js)
     where
       from : ℕ → List Kept → List (List ℕ × ℕ)
@@ -89,7 +89,7 @@ module _ where
       by at [] = refl
       by at (j ∷ js) = ap (λ (l : List (List ℕ × ℕ)). outputs_at at j.outputs ++ l) (by (at + 1) js)
 
-get_kept : (js : List Job) (k : ℕ) → slice_get (map kept js) k ≡ option_map kept (slice_get js k)
+pub get_kept : (js : List Job) (k : ℕ) → slice_get (map kept js) k ≡ option_map kept (slice_get js k)
 get_kept [] k = refl
 get_kept (j ∷ js) zero = refl
 get_kept (j ∷ js) (suc k) = get_kept js k

@@ -6,8 +6,6 @@ use Rattle.std.proofs.lemmas.List.{get_or-map, length-map, map-append, take_more
 use Rattle.std.proofs.lemmas.List.Concat.{flat_map-append}
 use Rattle.std.proofs.lemmas.List.Elements.{All-map, All-weaker}
 use Rattle.std.proofs.lemmas.Map.Keys.{IsDistinct-head, IsDistinct-tail}
-use Rattle.std.specs.Borrow.{Bor}
-use Rattle.std.specs.Global.{Vec}
 use Rattle.std.specs.Prelude.{IfSome}
 use Rattle.std.specs.Cmp.Lexicographic.{bytes_decides}
 use Rattle.std.specs.List.{All, AllByRecursion, Contains, IsDistinct, flat_map, sum_by}
@@ -170,14 +168,6 @@ module _ (ps : List HeldNode) (js : List Job) (r : Reaches) (distinct : IsDistin
       by : (o : Option Ran) (a b : ℕ) → b ≡ a → IfSome o (λ (y : Ran). a + y.span.began ≡ wall) → IfSome o (λ (y : Ran). wall - b ≡ y.span.began)
       by None a b same is = tt
       by (Some y) a b same is = omega (arith, is, same)
-
--- what ran doesn't go by how far it is said to be
-pub are_still : (g : NinjaGraph) (js : List Job) (r s : Reaches) → AreOf g js r → s.graph ≡ r.graph → s.ran ≡ r.ran → AreOf g js s
-are_still g js r s are graph ran = record {
-  graph = ap (λ (x : Bor NinjaGraph). x.now) graph ∙ are.graph;
-  distinct = are.distinct;
-  ran = ap (λ (v : Vec (Option HeldRan)). rans_seen v.items) ran ∙ are.ran;
-}
 
 -- what holds by the graph of these holds by that graph
 pub by_graph : (g : NinjaGraph) (js : List Job) (r : Reaches) → AreOf g js r → (P : NinjaGraph → Type 0) → (AreOf r.graph.now js r → P r.graph.now) → P g

@@ -1,5 +1,5 @@
 -- The bars of commands.
-use Rattle.std.specs.Prelude.{ℕ, ◌+◌, ◌-◌, ◌*◌, ◌/◌, ◌%◌, ◌==◌, ◌&&◌, Bool, min, not, true, nat_lt, List, [], ◌∷◌, ◌++◌, drop, length, codes, decimal, if◌then◌else◌}
+use Rattle.std.specs.Prelude.{ℕ, ◌+◌, ◌-◌, ◌*◌, ◌/◌, ◌==◌, ◌&&◌, Bool, min, not, true, nat_lt, List, [], ◌∷◌, ◌++◌, drop, length, codes, decimal, if◌then◌else◌}
 use Rattle.nl_reports.specs.Spans.{closed_of, time_of}
 use Rattle.nl_tool_texts.specs.Falling.{falling}
 use Rattle.nl_reports.specs.Jobs.{Job, first_name}
@@ -90,12 +90,9 @@ abbrev pub joined : Frame → ℕ → List Mark → List ℕ
 joined f count [] = []
 joined f count (m ∷ ms) = if is_last m ms then joined_bar f (count + 1) m ++ joined f 0 ms else joined f (count + 1) ms
 
--- marks stand by lane, pixel and kind; and what a rank tells of its mark
+-- marks stand by lane, pixel and kind
 abbrev pub rank_of : Mark → ℕ
 rank_of m = (m.lane * 2048 + m.pixel) * 16 + m.kind
-
-abbrev pub mark_by : ℕ → Mark
-mark_by rank = record { lane = rank / 32768 % 18446744073709551616; pixel = rank / 16 % 2048; kind = rank % 16 }
 
 abbrev pub joined_bars : Frame → List Mark → List ℕ
 joined_bars f ms = joined f 0 (falling rank_of ms)

@@ -32,3 +32,4 @@ pub mod Picture
 pub mod GraphText
 pub mod Reaches
 pub mod Plans
+pub mod Found

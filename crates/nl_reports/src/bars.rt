@@ -1,20 +1,16 @@
 //! The bars of commands, and those of commands that are too short for one of their own.
-ghost use Rattle.std.specs.Prelude.{◌≡◌, ◌<◌, ◌≤◌, ◌+◌, ◌^◌, ◌++◌, ◌∷◌, map, IfOk, IsTrue, OnOk};
-ghost use Rattle.std.specs.List.{All};
-ghost use Rattle.nl_reports.specs.Bars.{bar, base_of, drawn_width, is_alike, is_last, joined, kind_of, long_bar, mark_by, marks, more_outputs, name_text, rank_of, rect, title, width_of};
+ghost use Rattle.std.specs.Prelude.{◌≡◌, ◌<◌, ◌≤◌, ◌+◌, ◌^◌, ◌++◌, ◌∷◌, map, IfOk, IsTrue, OnOk, All};
+ghost use Rattle.nl_reports.specs.Bars.{bar, base_of, drawn_width, is_alike, is_last, joined, kind_of, long_bar, marks, more_outputs, name_text, rank_of, rect, title, width_of};
 ghost use Rattle.nl_reports.specs.Jobs.{seen};
 ghost use Rattle.nl_reports.specs.Spans.{IsEarly};
-ghost use Rattle.nl_tool_texts.specs.Falling.{falling};
 
 use crate::frame::{Frame, append_seconds};
 use crate::job::Job;
 use crate::kind::{KindRule, kind_of as kind_by};
 use crate::work::{place, work_of};
 use nl_tool_texts::{
-    AllocResult, Part, Ranking, append, append_cut_name, append_label, append_parts, append_with,
-    falling,
+    AllocResult, Ranking, append, append_cut_name, append_label, append_with, put,
 };
-use std::alloc::Global;
 
 // A command whose bar would be narrower shares one with others.
 const NARROW: u64 = 5;
@@ -34,9 +30,8 @@ pub struct Mark {
 
 /// Appends the bar of a command in its lane; if it is too short for one, adds where it stands.
 pub(crate) fn append_bar(
-    alloc: Global,
     frame: &Frame,
-    job: &Job<'_, '_>,
+    job: &Job,
     lane: u64,
     short: &mut Vec<Mark>,
     out: &mut Vec<u8>,
@@ -45,45 +40,28 @@ pub(crate) fn append_bar(
     ensures items { OnOk result (out.new.items ≡ out.old.items ++ bar frame.now (seen job.now, lane)) }
     ensures short { OnOk result (short.new.items ≡ short.old.items ++ marks frame.now (seen job.now, lane)) }
 {
-    let x = frame.x_at(job.span.began);
-    let width = width_of(frame, job);
-    let kind = kind_of(job);
-    if width < NARROW {
-        short.push(Mark {
-            lane,
-            pixel: x / 10,
-            kind,
-        })?;
+    if width_of(frame, job) < NARROW {
+        let pixel = frame.x_at(job.span.began) / 10;
+        let kind = kind_of(job);
+        short.push(Mark { lane, pixel, kind })?;
         return Ok(());
     }
-    append_long(alloc, frame, job, lane, out)
+    append_long(frame, job, lane, out)
 }
 
-fn append_long(
-    alloc: Global,
-    frame: &Frame,
-    job: &Job<'_, '_>,
-    lane: u64,
-    out: &mut Vec<u8>,
-) -> AllocResult
+fn append_long(frame: &Frame, job: &Job, lane: u64, out: &mut Vec<u8>) -> AllocResult
     requires early { IsEarly job.now.span }
     ensures items { OnOk result (out.new.items ≡ out.old.items ++ long_bar frame.now (seen job.now) lane) }
 {
     let x = frame.x_at(job.span.began);
     let width = width_of(frame, job);
-    append_rect(
-        frame,
-        lane,
-        u128::from(x),
-        drawn_width(width),
-        kind_of(job),
-        out,
-    )?;
-    append_title(alloc, frame, job, out)?;
-    append_name(alloc, frame, lane, x, width, job.name(), out)
+    let drawn = drawn_width(width);
+    append_rect(frame, lane, u128::from(x), drawn, kind_of(job), out)?;
+    append_title(frame, job, out)?;
+    append_name(frame, lane, x, width, job.name(), out)
 }
 
-fn width_of(frame: &Frame, job: &Job<'_, '_>) -> u64
+fn width_of(frame: &Frame, job: &Job) -> u64
     requires early { IsEarly job.now.span }
     ensures value { result ≡ width_of frame.now (seen job.now) }
 {
@@ -91,7 +69,7 @@ fn width_of(frame: &Frame, job: &Job<'_, '_>) -> u64
     frame.x_at(job.span.closed()).saturating_sub(x)
 }
 
-fn kind_of(job: &Job<'_, '_>) -> u64
+fn kind_of(job: &Job) -> u64
     ensures value { result ≡ kind_of (seen job.now) }
 {
     place(work_of(job.name()))
@@ -114,28 +92,14 @@ fn append_rect(
 ) -> AllocResult
     ensures items { OnOk result (out.new.items ≡ out.old.items ++ rect frame.now lane x width kind) }
 {
-    append_parts(
-        &[
-            Part::Text(b"<rect class=\"k"),
-            Part::Number(u128::from(kind)),
-            Part::Text(b"\" x=\""),
-            Part::Number(x),
-            Part::Text(b"\" y=\""),
-            Part::Number(frame.y_at(lane)),
-            Part::Text(b"\" width=\""),
-            Part::Number(u128::from(width)),
-            Part::Text(b"\" height=\""),
-            Part::Number(frame.height()),
-            Part::Text(b"\"><title>"),
-        ],
-        out,
-    )
+    put!(out; b"<rect class=\"k" {kind} b"\" x=\"" {x} b"\" y=\"" {frame.y_at(lane)} b"\" width=\""
+        {width} b"\" height=\"" {frame.height()} b"\"><title>")
 }
 
-fn append_title(alloc: Global, frame: &Frame, job: &Job<'_, '_>, out: &mut Vec<u8>) -> AllocResult
+fn append_title(frame: &Frame, job: &Job, out: &mut Vec<u8>) -> AllocResult
     ensures items { OnOk result (out.new.items ≡ out.old.items ++ title frame.now (seen job.now)) }
 {
-    append_label(alloc, job.name(), out)?;
+    append_label(*out.allocator(), job.name(), out)?;
     append_more(job.outputs.len().saturating_sub(1), out)?;
     append(b"\n", out)?;
     append_seconds(job.span.time(), out)?;
@@ -155,7 +119,6 @@ fn append_more(count: usize, out: &mut Vec<u8>) -> AllocResult
 }
 
 fn append_name(
-    alloc: Global,
     frame: &Frame,
     lane: u64,
     x: u64,
@@ -170,17 +133,8 @@ fn append_name(
     if room < 4 || !frame.is_named() {
         return Ok(());
     }
-    append_parts(
-        &[
-            Part::Text(b"<text x=\""),
-            Part::Number(u128::from(x + 40)),
-            Part::Text(b"\" y=\""),
-            Part::Number(frame.y_at(lane) + 135),
-            Part::Text(b"\">"),
-        ],
-        out,
-    )?;
-    append_cut_name(alloc, room as usize, base_of(name), out)?;
+    put!(out; b"<text x=\"" {x + 40} b"\" y=\"" {frame.y_at(lane) + 135} b"\">")?;
+    append_cut_name(*out.allocator(), room as usize, base_of(name), out)?;
     append(b"</text>\n", out)
 }
 
@@ -191,72 +145,20 @@ fn base_of(name: &[u8]) -> &[u8]
     &name[folder.len().min(name.len())..]
 }
 
-/// By lane, pixel and kind, the highest first. What is sorted are the ranks, which are quicker to compare.
-pub(crate) fn by_place(alloc: Global, marks: Vec<Mark>) -> AllocResult<Vec<Mark>>
-    ensures value { IfOk result (λ sorted. sorted.items ≡ falling rank_of marks.items) }
-{
-    if !are_told(marks.as_slice()) {
-        return falling(&ByPlace, marks);
-    }
-    let ranks = marks.iter().map(|mark| rank_of(mark)).collect(alloc)?;
-    marks_by(alloc, falling(&ByRank, ranks)?.as_slice())
-}
-
-fn marks_by(alloc: Global, ranks: &[u128]) -> AllocResult<Vec<Mark>>
-    ensures value { IfOk result (λ marks. marks.items ≡ map mark_by ranks.now) }
-{
-    let mut marks = Vec::with_capacity(alloc, ranks.len())?;
-    for rank in ranks {
-        marks.push(mark_by(*rank))?;
-    }
-    Ok(marks)
-}
-
-// Whether each is told by its rank, as all are in a picture.
-fn are_told(marks: &[Mark]) -> bool
-    ensures { IsTrue result → All (λ m. mark_by (rank_of m) ≡ m) marks.now }
-{
-    for mark in marks {
-        if !is_alike(&mark_by(rank_of(mark)), mark) {
-            return false;
-        }
-    }
-    true
-}
-
-fn mark_by(rank: u128) -> Mark
-    ensures { result ≡ mark_by rank }
-{
-    Mark {
-        lane: (rank / 32768 % 0x1_0000_0000_0000_0000) as u64,
-        pixel: (rank / 16 % 2048) as u64,
-        kind: (rank % 16) as u64,
-    }
-}
-
 fn rank_of(mark: &Mark) -> u128
     ensures value { result ≡ rank_of mark.now }
 {
     (u128::from(mark.lane) * 2048 + u128::from(mark.pixel)) * 16 + u128::from(mark.kind)
 }
 
-struct ByPlace;
+/// By lane, pixel and kind.
+pub(crate) struct ByPlace;
 
 impl Ranking<Mark> for ByPlace {
     ghost rank = { λ by mark. rank_of mark };
 
     fn rank(&self, mark: &Mark) -> u128 {
         rank_of(mark)
-    }
-}
-
-struct ByRank;
-
-impl Ranking<u128> for ByRank {
-    ghost rank = { λ by rank. rank };
-
-    fn rank(&self, rank: &u128) -> u128 {
-        *rank
     }
 }
 

@@ -10,7 +10,7 @@ use jiff_core::Timestamp;
 use jiff_core::civil::DateTime;
 use jiff_tz::TimeZone;
 use nl_builds::{Build, Builds};
-use nl_tool_texts::{AllocResult, Part, append, append_line, append_parts};
+use nl_tool_texts::{AllocResult, Part, append, append_line, put};
 use std::alloc::Global;
 
 // The moments of builds count from so many nanoseconds before 1970.
@@ -18,7 +18,7 @@ const ZERO: i128 = 2_147_483_648_000_000;
 
 /// A line for each build: its number, when it began by a clock of this time zone, how long it took, how many commands and outputs it has,
 /// and how it is known. A heading stands before them. Tabs part fields.
-pub fn builds_screen(alloc: Global, zone: &TimeZone<'_>, from: &Builds) -> AllocResult<Vec<u8>>
+pub fn builds_screen(alloc: Global, zone: &TimeZone, from: &Builds) -> AllocResult<Vec<u8>>
     ensures value { IfOk result (λ lines. IsBuildsScreen zone.now (told from.now) lines.items) }
 {
     let rows = rows_of(alloc, zone, from)?;
@@ -28,7 +28,7 @@ pub fn builds_screen(alloc: Global, zone: &TimeZone<'_>, from: &Builds) -> Alloc
     Ok(lines)
 }
 
-fn heading_for(zone: &TimeZone<'_>) -> &'static [u8]
+fn heading_for(zone: &TimeZone) -> &'static [u8]
     ensures { result.now ≡ heading_for zone.now }
 {
     match zone {
@@ -41,28 +41,23 @@ fn heading_for(zone: &TimeZone<'_>) -> &'static [u8]
     }
 }
 
-fn rows_of(alloc: Global, zone: &TimeZone<'_>, from: &Builds) -> AllocResult<Vec<u8>>
+fn rows_of(alloc: Global, zone: &TimeZone, from: &Builds) -> AllocResult<Vec<u8>>
     ensures value { IfOk result
         (λ rows. AreRows zone.now (told from.now) (length from.now.builds.items) rows.items) }
 {
     let mut rows = Vec::new(alloc);
     for place in 0..from.builds.len() {
-        append_row(alloc, zone, from, place, &mut rows)?;
+        append_row(zone, from, place, &mut rows)?;
     }
     Ok(rows)
 }
 
-fn append_row(
-    alloc: Global,
-    zone: &TimeZone<'_>,
-    from: &Builds,
-    place: usize,
-    rows: &mut Vec<u8>,
-) -> AllocResult
+fn append_row(zone: &TimeZone, from: &Builds, place: usize, rows: &mut Vec<u8>) -> AllocResult
     requires there { place < length from.now.builds.items }
     ensures row { OnOk result
         ((row : List ℕ) × (IsRow zone.now (told from.now) place row × (rows.new.items ≡ rows.old.items ++ row))) }
 {
+    let alloc = *rows.allocator();
     let build = from.builds[place];
     let number = place + 1;
     let began = began_text(alloc, zone, build.began)?;
@@ -94,7 +89,7 @@ fn append_fields(
     )
 }
 
-fn began_text(alloc: Global, zone: &TimeZone<'_>, began: Option<u64>) -> AllocResult<Vec<u8>>
+fn began_text(alloc: Global, zone: &TimeZone, began: Option<u64>) -> AllocResult<Vec<u8>>
     ensures value { IfOk result (λ text. IsBegun zone.now began text.items) }
 {
     let mut text = Vec::new(alloc);
@@ -107,7 +102,7 @@ fn began_text(alloc: Global, zone: &TimeZone<'_>, began: Option<u64>) -> AllocRe
     Ok(text)
 }
 
-fn shown_at(zone: &TimeZone<'_>, began: u64) -> DateTime
+fn shown_at(zone: &TimeZone, began: u64) -> DateTime
     ensures value { IsShownBy zone.now (moment_of began) result }
 {
     zone.to_datetime(Timestamp {
@@ -119,25 +114,7 @@ fn append_date(shown: &DateTime, out: &mut Vec<u8>) -> AllocResult
     ensures items { OnOk result (out.new.items ≡ out.old.items ++ date_text shown.now) }
 {
     let DateTime { date, time } = *shown;
-    append_parts(
-        &[
-            Part::Number(u128::from(date.year.unsigned_abs())),
-            Part::Text(b"-"),
-            Part::Number(u128::from(date.month / 10)),
-            Part::Number(u128::from(date.month % 10)),
-            Part::Text(b"-"),
-            Part::Number(u128::from(date.day / 10)),
-            Part::Number(u128::from(date.day % 10)),
-            Part::Text(b" "),
-            Part::Number(u128::from(time.hour / 10)),
-            Part::Number(u128::from(time.hour % 10)),
-            Part::Text(b":"),
-            Part::Number(u128::from(time.minute / 10)),
-            Part::Number(u128::from(time.minute % 10)),
-            Part::Text(b":"),
-            Part::Number(u128::from(time.second / 10)),
-            Part::Number(u128::from(time.second % 10)),
-        ],
-        out,
-    )
+    put!(out; {date.year.unsigned_abs()} b"-" {date.month / 10} {date.month % 10} b"-"
+        {date.day / 10} {date.day % 10} b" " {time.hour / 10} {time.hour % 10} b":"
+        {time.minute / 10} {time.minute % 10} b":" {time.second / 10} {time.second % 10})
 }

@@ -19,41 +19,26 @@ pub fn builds_lines(alloc: Global, from: &Builds) -> AllocResult<Vec<u8>>
     let mut number = 0;
     for build in &from.builds {
         number += 1;
-        append_build(alloc, from, number, build, &mut lines)?;
+        append_build(from, number, build, &mut lines)?;
     }
     Ok(lines)
 }
 
-fn append_build(
-    alloc: Global,
-    from: &Builds,
-    number: usize,
-    build: &Build,
-    out: &mut Vec<u8>,
-) -> AllocResult
+fn append_build(from: &Builds, number: usize, build: &Build, out: &mut Vec<u8>) -> AllocResult
     ensures items { OnOk result
         (out.new.items ≡ out.old.items ++ build_line (told from.now) number build.now) }
 {
-    let jobs = jobs_of(alloc, from, number)?;
+    let jobs = jobs_of(*out.allocator(), from, number)?;
     let numbers = numbers_of(from, number, jobs.as_slice());
-    append_line(alloc, number, &numbers, build, out)
+    append_line(number, &numbers, build, out)
 }
 
-fn append_line(
-    alloc: Global,
-    number: usize,
-    numbers: &Numbers,
-    build: &Build,
-    out: &mut Vec<u8>,
-) -> AllocResult
+fn append_line(number: usize, numbers: &Numbers, build: &Build, out: &mut Vec<u8>) -> AllocResult
     ensures items { OnOk result (out.new.items ≡ out.old.items ++ numbers_line number numbers.now build.now) }
 {
-    let Numbers {
-        commands,
-        outputs,
-        wall,
-        total,
-    } = numbers;
+    let (commands, outputs) = (numbers.commands, numbers.outputs);
+    let (wall, total) = (numbers.wall, numbers.total);
+    let alloc = *out.allocator();
     let word = border_word(build);
     let taken = taken_text(alloc, build.how)?;
     let line = format!(in alloc;

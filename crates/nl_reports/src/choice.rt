@@ -1,13 +1,11 @@
 //! Which builds are told of.
-ghost use Rattle.std.specs.Prelude.{◌≡◌, ◌<◌, ◌^◌, map, IfOk, IfSome};
-ghost use Rattle.std.specs.List.{All};
+ghost use Rattle.std.specs.Prelude.{◌≡◌, ◌<◌, ◌^◌, map, IfOk, IfSome, All};
 ghost use Rattle.nl_reports.specs.Jobs.{build_commands, is_manifest_alone, last_number, seen, told};
 ghost use Rattle.nl_reports.specs.Choice.{chosen, chosen_jobs};
 ghost use Rattle.nl_reports.specs.Spans.{IsEarly};
 
-use crate::job::{Job, between, commands_to, jobs_by_start, jobs_in};
+use crate::job::{Job, JobsResult, between, commands_to, jobs_by_start, jobs_in};
 use nl_builds::{Builds, Command};
-use nl_tool_texts::AllocResult;
 use std::alloc::Global;
 
 /// Which builds a report tells of.
@@ -35,34 +33,31 @@ pub fn chosen(scope: Scope, from: &Builds) -> Option<Choice>
 {
     match scope {
         Scope::Last => {
-            let number = last_number(from);
+            let last = last_number(from);
             Some(Choice {
-                first: number.max(1),
-                last: number,
+                first: last.max(1),
+                last,
             })
         }
         Scope::Numbered(number) => {
             if number > from.builds.len() as u64 {
                 return None;
             }
+            let last = number as usize;
             Some(Choice {
-                first: (number as usize).max(1),
-                last: number as usize,
+                first: last.max(1),
+                last,
             })
         }
-        Scope::All => Some(Choice {
-            first: 1,
-            last: from.builds.len(),
-        }),
+        Scope::All => {
+            let last = from.builds.len();
+            Some(Choice { first: 1, last })
+        }
     }
 }
 
 /// The commands of these builds in the order of START; none, where there aren't so many.
-pub fn chosen_jobs<'s, 'a>(
-    alloc: Global,
-    scope: Scope,
-    from: &'s Builds<'a>,
-) -> AllocResult<Vec<Job<'s, 'a>>>
+pub fn chosen_jobs<'s, 'a>(alloc: Global, scope: Scope, from: &'s Builds<'a>) -> JobsResult<'s, 'a>
     ensures value { IfOk result (λ jobs. map seen jobs.items ≡ chosen_jobs scope (told from.now)) }
     ensures early { IfOk result (λ jobs. All (λ j. IsEarly j.span) jobs.items) }
 {
@@ -99,8 +94,5 @@ fn build_commands<'s>(from: &'s Builds, number: usize) -> &'s [Command]
 fn is_manifest_alone(commands: &[Command]) -> bool
     ensures { result ≡ is_manifest_alone commands.now }
 {
-    match commands.first() {
-        Some(command) => commands.len() == 1 && command.is_manifest,
-        None => false,
-    }
+    commands.len() == 1 && commands[0].is_manifest
 }

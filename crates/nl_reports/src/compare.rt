@@ -1,13 +1,12 @@
 //! The text of `compare`.
-ghost use Rattle.std.specs.Prelude.{◌≡◌, ◌++◌, map, take, IfOk, OnOk};
-ghost use Rattle.std.specs.List.{flat_map};
-ghost use Rattle.nl_reports.specs.Compare.{are_comparable, class_heading, class_lines, compare_text, compared_of, cost, head, lines_of, row_line, side_of, told_of_all, total_line, total_of};
+ghost use Rattle.std.specs.Prelude.{◌≡◌, ◌++◌, map, take, IfOk, OnOk, flat_map};
+ghost use Rattle.nl_reports.specs.Compare.{are_comparable, class_heading, class_lines, compare_text, compared_of, cost, head, row_line, side_of, total_line};
 ghost use Rattle.nl_tool_texts.specs.Falling.{falling};
 
 use crate::class::{Class, class_text};
 use crate::sides::{ByCost, ComparedRow, Rules, Side, compared, new_time, of_class, old_time};
 use nl_table::Secret;
-use nl_tool_texts::{AllocResult, Part, append, append_line, append_parts, highest};
+use nl_tool_texts::{AllocResult, Part, append, append_line, highest, put};
 use nl_versions::LogVersion;
 use std::alloc::Global;
 
@@ -32,15 +31,19 @@ pub fn compare_lines(
     screen: bool,
     most: usize,
     least: u64,
-    old: &Side<'_, '_>,
-    new: &Side<'_, '_>,
+    old: &Side,
+    new: &Side,
 ) -> AllocResult<Vec<u8>>
     ensures value { IfOk result (λ lines. lines.items
         ≡ compare_text screen most least (are_comparable old.now.version new.now.version) (side_of old.now) (side_of new.now)) }
 {
     let hashes = are_comparable(old.version, new.version);
     let rows = compared(alloc, secret, Rules { hashes, least }, old, new)?;
-    told_of_all(alloc, screen, most, hashes, rows.as_slice())
+    let mut lines = Vec::new(alloc);
+    append(head(screen, hashes), &mut lines)?;
+    let all = CLASSES.as_slice();
+    append_classes(screen, most, all, &all[..6], rows.as_slice(), &mut lines)?;
+    Ok(lines)
 }
 
 // Whether logs of these versions have one hash of a command.
@@ -48,30 +51,6 @@ fn are_comparable(old: LogVersion, new: LogVersion) -> bool
     ensures { result ≡ are_comparable old new }
 {
     old.is_rapid() == new.is_rapid()
-}
-
-fn told_of_all(
-    alloc: Global,
-    screen: bool,
-    most: usize,
-    hashes: bool,
-    rows: &[ComparedRow<'_>],
-) -> AllocResult<Vec<u8>>
-    ensures value { IfOk result
-        (λ lines. lines.items ≡ told_of_all screen most hashes (map compared_of rows.now)) }
-{
-    let mut lines = Vec::new(alloc);
-    append(head(screen, hashes), &mut lines)?;
-    append_classes(
-        alloc,
-        screen,
-        most,
-        &CLASSES,
-        &CLASSES[..6],
-        rows,
-        &mut lines,
-    )?;
-    Ok(lines)
 }
 
 fn head(screen: bool, hashes: bool) -> &'static [u8]
@@ -86,95 +65,59 @@ fn head(screen: bool, hashes: bool) -> &'static [u8]
 }
 
 fn append_classes(
-    alloc: Global,
     screen: bool,
     most: usize,
     all: &[Class],
     listed: &[Class],
-    rows: &[ComparedRow<'_>],
+    rows: &[ComparedRow],
     lines: &mut Vec<u8>,
 ) -> AllocResult
     ensures items { OnOk result (lines.new.items ≡ (lines.old.items ++ flat_map (total_line screen (map compared_of rows.now)) all.now)
         ++ flat_map (class_lines screen most (map compared_of rows.now)) listed.now) }
 {
     for class in all {
-        append_total(alloc, screen, *class, rows, lines)?;
+        append_total(screen, *class, rows, lines)?;
     }
     for one in listed {
-        append_class(alloc, screen, most, *one, rows, lines)?;
+        append_class(screen, most, *one, rows, lines)?;
     }
     Ok(())
 }
 
-fn append_total(
-    alloc: Global,
-    screen: bool,
-    class: Class,
-    rows: &[ComparedRow<'_>],
-    lines: &mut Vec<u8>,
-) -> AllocResult
+fn append_total(screen: bool, class: Class, rows: &[ComparedRow], out: &mut Vec<u8>) -> AllocResult
     ensures items { OnOk result
-        (lines.new.items ≡ lines.old.items ++ total_line screen (map compared_of rows.now) class) }
+        (out.new.items ≡ out.old.items ++ total_line screen (map compared_of rows.now) class) }
 {
-    let kept = of_class(alloc, class, rows)?;
+    let kept = of_class(*out.allocator(), class, rows)?;
     let old = old_time(kept.as_slice());
     let new = new_time(kept.as_slice());
-    append_total_of(screen, class, kept.len(), old, new, lines)
-}
-
-fn append_total_of(
-    screen: bool,
-    class: Class,
-    count: usize,
-    old: u128,
-    new: u128,
-    lines: &mut Vec<u8>,
-) -> AllocResult
-    ensures items { OnOk result (lines.new.items ≡ lines.old.items ++ total_of screen class count old new) }
-{
     let class = Part::Text(class_text(class).as_bytes());
-    let count = Part::Number(count as u128);
+    let count = Part::Number(kept.len() as u128);
     let change = Part::Change(screen, old, new);
     let old = Part::Took(screen, old);
     let new = Part::Took(screen, new);
     if screen {
-        return append_line(&[count, change, old, new, class], lines);
+        return append_line(&[count, change, old, new, class], out);
     }
-    let total = Part::Text(b"total");
-    append_line(&[total, class, count, change, old, new], lines)
+    append_line(&[Part::Text(b"total"), class, count, change, old, new], out)
 }
 
 fn append_class(
-    alloc: Global,
     screen: bool,
     most: usize,
     class: Class,
-    rows: &[ComparedRow<'_>],
+    rows: &[ComparedRow],
     lines: &mut Vec<u8>,
 ) -> AllocResult
     ensures items { OnOk result
         (lines.new.items ≡ lines.old.items ++ class_lines screen most (map compared_of rows.now) class) }
 {
-    let kept = of_class(alloc, class, rows)?;
-    append_kept(alloc, screen, most, class, kept.as_slice(), lines)
-}
-
-fn append_kept(
-    alloc: Global,
-    screen: bool,
-    most: usize,
-    class: Class,
-    kept: &[ComparedRow<'_>],
-    lines: &mut Vec<u8>,
-) -> AllocResult
-    ensures items { OnOk result
-        (lines.new.items ≡ lines.old.items ++ lines_of screen most class (map compared_of kept.now)) }
-{
+    let kept = of_class(*lines.allocator(), class, rows)?;
     if most == 0 || kept.len() == 0 {
         return Ok(());
     }
     append_heading(screen, class, lines)?;
-    append_rows(alloc, screen, most, kept, lines)
+    append_rows(screen, most, kept.as_slice(), lines)
 }
 
 fn append_heading(screen: bool, class: Class, lines: &mut Vec<u8>) -> AllocResult
@@ -183,34 +126,22 @@ fn append_heading(screen: bool, class: Class, lines: &mut Vec<u8>) -> AllocResul
     if !screen {
         return Ok(());
     }
-    append_parts(
-        &[
-            Part::Text(b"\nCommands: "),
-            Part::Text(class_text(class).as_bytes()),
-            Part::Text(b"\nChange\tOld\tNew\tOutput\n"),
-        ],
-        lines,
-    )
+    put!(lines; b"\nCommands: " [Part::Text(class_text(class).as_bytes())]
+        b"\nChange\tOld\tNew\tOutput\n")
 }
 
-fn append_rows(
-    alloc: Global,
-    screen: bool,
-    most: usize,
-    kept: &[ComparedRow<'_>],
-    lines: &mut Vec<u8>,
-) -> AllocResult
+fn append_rows(screen: bool, most: usize, kept: &[ComparedRow], lines: &mut Vec<u8>) -> AllocResult
     ensures items { OnOk result (lines.new.items ≡ lines.old.items
         ++ flat_map (row_line screen) (take most (falling cost (map compared_of kept.now)))) }
 {
-    let listed = highest(alloc, &ByCost, most, kept)?;
+    let listed = highest(*lines.allocator(), &ByCost, most, kept)?;
     for i in 0..listed.len() {
         append_row(screen, &listed[i], lines)?;
     }
     Ok(())
 }
 
-fn append_row(screen: bool, row: &ComparedRow<'_>, lines: &mut Vec<u8>) -> AllocResult
+fn append_row(screen: bool, row: &ComparedRow, lines: &mut Vec<u8>) -> AllocResult
     ensures items { OnOk result
         (lines.new.items ≡ lines.old.items ++ row_line screen (compared_of row.now)) }
 {

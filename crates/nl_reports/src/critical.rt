@@ -1,14 +1,16 @@
 //! What `summary` tells of the critical path.
-ghost use Rattle.std.specs.Prelude.{◌≡◌, ◌<◌, ◌≤◌, ◌+◌, ◌^◌, ◌++◌, ℕ, List, Some, IfOk, IfSome, IsTrue, OnOk, get_or, length, map, option_and_then, option_map};
-ghost use Rattle.std.specs.List.{All, sum_by};
+ghost use Rattle.std.specs.Prelude.{◌≡◌, ◌<◌, ◌≤◌, ◌+◌, ◌^◌, ◌++◌, ℕ, List, Some, IfOk, IfSome, IsFalse, IsTrue, OnOk, get_or, length, map, option_and_then, option_map, All, sum_by};
 ghost use Rattle.nl_reports.specs.Critical.{IsCritical, IsFoundPath, any_named, lacking, lacking_line, path_head, ran_line, told_path, took_time};
+ghost use Rattle.nl_reports.specs.Found.{AreFound, IsFound, in_plan};
 ghost use Rattle.nl_reports.specs.Gains.{half_ran, halved, span_if};
 ghost use Rattle.nl_reports.specs.GraphText.{HeldNode, seen_graph};
 ghost use Rattle.nl_reports.specs.Jobs.{Job as SeenJob, seen};
 ghost use Rattle.nl_reports.specs.Paths.{Graph};
+ghost use Rattle.nl_reports.specs.Plans.{kept};
 ghost use Rattle.nl_reports.specs.Outputs.{HoldPlaces, places_of};
 ghost use Rattle.nl_reports.specs.Reaches.{AreOf, HoldNames, IsBegun, IsFarthest, IsFollowed, IsTight, behind_at, far_at, ran_in, ran_named_in, ran_seen};
 ghost use Rattle.nl_reports.specs.Spans.{time_of};
+ghost use Rattle.nl_reports.specs.declared.graph.NinjaGraph.{NinjaGraph as HeldGraph};
 
 use crate::graph::NinjaGraph;
 use crate::job::Job;
@@ -17,7 +19,7 @@ use crate::span::Span;
 use indexmap::IndexMap;
 use nl_fields::EntryRef;
 use nl_table::Secret;
-use nl_tool_texts::{AllocResult, BEGINNING, Part, append_line, append_parts};
+use nl_tool_texts::{AllocResult, BEGINNING, Part, append_line, put};
 use std::alloc::{AllocError, Global};
 
 /// When the command ran whose output is a node, the node's name, and the place of the command.
@@ -28,61 +30,71 @@ pub(crate) struct Ran<'a> {
     pub(crate) place: usize,
 }
 
-/// How long the critical path of these commands is, which stand in the order of START, its commands in order, and how many commands the
-/// graph lacks; nothing, where there is no command. None, where it lacks them all: then it isn't this build's. Names are hashed under a
-/// secret.
-pub fn critical_lines(
-    alloc: Global,
-    screen: bool,
-    secret: Secret,
-    graph: &NinjaGraph<'_>,
-    jobs: &[Job<'_, '_>],
-) -> AllocResult<Option<Vec<u8>>>
-    ensures value { IfOk result (IsCritical screen (seen_graph graph.now) (map seen jobs.now)) }
-{
-    if jobs.is_empty() {
-        return Ok(Some(Vec::new(alloc)));
-    }
-    let Lacking { count, time } = lacking_of(alloc, secret, graph, jobs)?;
-    if count == jobs.len() {
-        return Ok(None);
-    }
-    let reaches = Reaches::of(alloc, secret, graph, jobs)?;
-    let found = reaches.path(alloc)?;
-    let mut lines = path_lines(alloc, screen, &found)?;
-    append_lacking(screen, count, time, &mut lines)?;
-    Ok(Some(lines))
+/// What a graph tells of commands that it doesn't all lack.
+#[derive(Drop)]
+pub(crate) struct Critical<'g, 'a> {
+    pub(crate) reaches: Reaches<'g, 'a>,
+    pub(crate) path: FoundPath<'a>,
+    lacking: Lacking,
 }
 
-/// The critical path of these commands; None, where the graph lacks them all.
-pub(crate) fn path_in<'a>(
+/// None, where the graph lacks all commands: then it isn't this build's. Names are hashed under a secret.
+pub(crate) fn critical_of<'g, 'a>(
     alloc: Global,
     secret: Secret,
-    graph: &NinjaGraph<'a>,
-    jobs: &[Job<'_, '_>],
-) -> AllocResult<Option<FoundPath<'a>>>
-    ensures value { IfOk result (λ o. IfSome o
-        (λ found. IsFoundPath (seen_graph graph.now) (map seen jobs.now) found.length (map ran_seen found.commands.items))) }
+    graph: &'g NinjaGraph<'a>,
+    jobs: &[Job],
+) -> AllocResult<Option<Critical<'g, 'a>>>
+    ensures value { IfOk result (AreFound graph.now (map seen jobs.now)) }
 {
-    let Lacking { count, .. } = lacking_of(alloc, secret, graph, jobs)?;
-    if count > 0 && count == jobs.len() {
+    let lacking = lacking_of(alloc, secret, graph, jobs)?;
+    if lacking.are_all(jobs.len()) {
         return Ok(None);
     }
     let reaches = Reaches::of(alloc, secret, graph, jobs)?;
-    Ok(Some(reaches.path(alloc)?))
+    let path = reaches.path()?;
+    Ok(Some(Critical {
+        reaches,
+        path,
+        lacking,
+    }))
+}
+
+/// How long the critical path of these commands is, its commands in order, and how many commands the graph lacks; nothing, where there is
+/// no command.
+pub(crate) fn critical_lines(screen: bool, found: &Critical, jobs: &[Job]) -> AllocResult<Vec<u8>>
+    ensures value { (g : HeldGraph) → IsFound g (map seen jobs.now) found.now
+        → IfOk result (λ lines. IsCritical screen (seen_graph g) (map seen jobs.now) (Some lines)) }
+{
+    let alloc = *found.path.commands.allocator();
+    if jobs.is_empty() {
+        return Ok(Vec::new(alloc));
+    }
+    let mut lines = path_lines(alloc, screen, &found.path)?;
+    append_lacking(screen, found.lacking, &mut lines)?;
+    Ok(lines)
 }
 
 #[derive(Clone, Copy, Drop)]
-struct Lacking {
+pub(crate) struct Lacking {
     count: usize,
     time: u128,
+}
+
+impl Lacking {
+    fn are_all(&self, commands: usize) -> bool
+        ensures some { IsTrue result → (0 < commands) × (self.now.count ≡ commands) }
+        ensures few { IsFalse result → self.now.count ≡ commands → commands ≡ 0 }
+    {
+        self.count == commands && commands > 0
+    }
 }
 
 fn lacking_of(
     alloc: Global,
     secret: Secret,
-    graph: &NinjaGraph<'_>,
-    jobs: &[Job<'_, '_>],
+    graph: &NinjaGraph,
+    jobs: &[Job],
 ) -> AllocResult<Lacking>
     ensures count { IfOk result (λ l. l.count ≡ length (lacking (seen_graph graph.now) (map seen jobs.now))) }
     ensures time { IfOk result (λ l. l.time ≡ sum_by (λ (j : SeenJob). time_of j.span) (lacking (seen_graph graph.now) (map seen jobs.now))) }
@@ -117,13 +129,11 @@ fn names_in<'a>(
 pub(crate) fn name_at<'a>(graph: &NinjaGraph<'a>, node: usize) -> Option<&'a [u8]>
     ensures value { (d : HeldNode) → node < length graph.now.nodes.entries → result ≡ (get_or graph.now.nodes.entries node d).1 }
 {
-    match graph.nodes.get_index(node) {
-        Some((_, name)) => *name,
-        None => None,
-    }
+    let (_, name) = graph.nodes.get_index(node)?;
+    *name
 }
 
-fn any_named(names: &IndexMap<&[u8], (), Secret>, outputs: &[EntryRef<'_>]) -> bool
+fn any_named(names: &IndexMap<&[u8], (), Secret>, outputs: &[EntryRef]) -> bool
     ensures value { (g : Graph) → HoldNames g.nodes names.now.entries → result ≡ any_named g outputs.now }
 {
     for entry in outputs {
@@ -134,22 +144,15 @@ fn any_named(names: &IndexMap<&[u8], (), Secret>, outputs: &[EntryRef<'_>]) -> b
     false
 }
 
-fn ran_named<'a>(
-    name: Option<&'a [u8]>,
-    outputs: &Outputs<'_>,
-    jobs: &[Job<'_, '_>],
-) -> Option<Ran<'a>>
+fn ran_named<'a>(name: Option<&'a [u8]>, outputs: &Outputs, jobs: &[Job]) -> Option<Ran<'a>>
     ensures value { HoldPlaces (places_of (map seen jobs.now)) outputs.now.places.entries
         → option_map ran_seen result ≡ ran_named_in (map seen jobs.now) name.entry }
 {
     let name = name?;
     let place = outputs.place_of(name)?;
     let job = jobs.get(place)?;
-    Some(Ran {
-        span: job.span,
-        name,
-        place,
-    })
+    let span = job.span;
+    Some(Ran { span, name, place })
 }
 
 /// A longest path: how long it is, and its commands that took time, in order.
@@ -159,7 +162,7 @@ pub(crate) struct FoundPath<'a> {
     pub(crate) commands: Vec<Ran<'a>>,
 }
 
-fn path_lines(alloc: Global, screen: bool, found: &FoundPath<'_>) -> AllocResult<Vec<u8>>
+fn path_lines(alloc: Global, screen: bool, found: &FoundPath) -> AllocResult<Vec<u8>>
     ensures value { IfOk result (λ lines. lines.items ≡ told_path screen found.now.length (map ran_seen found.now.commands.items)) }
 {
     let mut lines = Vec::new(alloc);
@@ -178,18 +181,11 @@ fn append_head(screen: bool, length: u128, lines: &mut Vec<u8>) -> AllocResult
     if !screen {
         return append_line(&[Part::Text(b"critical-path"), Part::Number(length)], lines);
     }
-    append_parts(
-        &[
-            Part::Text(b"\nCritical path: "),
-            Part::Took(true, length),
-            Part::Text(b"\nTime\tWaited\tBegan\tOutput\n"),
-        ],
-        lines,
-    )
+    put!(lines; b"\nCritical path: " [Part::Took(true, length)] b"\nTime\tWaited\tBegan\tOutput\n")
 }
 
 // The command before it on the path ended at that moment.
-fn append_ran(screen: bool, before: u64, ran: &Ran<'_>, lines: &mut Vec<u8>) -> AllocResult
+fn append_ran(screen: bool, before: u64, ran: &Ran, lines: &mut Vec<u8>) -> AllocResult
     ensures items { OnOk result (lines.new.items ≡ lines.old.items ++ ran_line screen before (ran_seen ran.now)) }
 {
     let time = Part::Took(screen, u128::from(ran.span.time()));
@@ -203,9 +199,10 @@ fn append_ran(screen: bool, before: u64, ran: &Ran<'_>, lines: &mut Vec<u8>) -> 
     append_line(&[Part::Text(b"on-path"), time, began, ended, name], lines)
 }
 
-fn append_lacking(screen: bool, count: usize, time: u128, lines: &mut Vec<u8>) -> AllocResult
-    ensures items { OnOk result (lines.new.items ≡ lines.old.items ++ lacking_line screen count time) }
+fn append_lacking(screen: bool, lacking: Lacking, lines: &mut Vec<u8>) -> AllocResult
+    ensures items { OnOk result (lines.new.items ≡ lines.old.items ++ lacking_line screen lacking.count lacking.time) }
 {
+    let Lacking { count, time } = lacking;
     if count == 0 {
         return Ok(());
     }
@@ -214,32 +211,27 @@ fn append_lacking(screen: bool, count: usize, time: u128, lines: &mut Vec<u8>) -
     if !screen {
         return append_line(&[Part::Text(b"not-in-graph"), count, time], lines);
     }
-    append_parts(
-        &[
-            Part::Text(b"Commands that the graph lacks: "),
-            count,
-            Part::Text(b" ("),
-            time,
-            Part::Text(b")\n"),
-        ],
-        lines,
-    )
+    put!(lines; b"Commands that the graph lacks: " [count] b" (" [time] b")\n")
 }
 
 /// What ran at each node of a graph, and how far it is said to be behind each.
 #[derive(Drop)]
 pub(crate) struct Reaches<'g, 'a> {
-    graph: &'g NinjaGraph<'a>,
+    pub(crate) graph: &'g NinjaGraph<'a>,
     ran: Vec<Option<Ran<'a>>>,
     behind: Vec<u64>,
 }
 
 impl<'g, 'a> Reaches<'g, 'a> {
+    pub(crate) fn allocator(&self) -> Global {
+        *self.ran.allocator()
+    }
+
     pub(crate) fn of(
         alloc: Global,
         secret: Secret,
         graph: &'g NinjaGraph<'a>,
-        jobs: &[Job<'_, '_>],
+        jobs: &[Job],
     ) -> AllocResult<Reaches<'g, 'a>>
         ensures value { IfOk result (AreOf graph.now (map seen jobs.now)) }
     {
@@ -248,55 +240,45 @@ impl<'g, 'a> Reaches<'g, 'a> {
         for node in 0..graph.nodes.len() {
             ran.push(ran_named(name_at(graph, node), &outputs, jobs))?;
         }
-        let mut behind = Vec::new(alloc);
-        behind.resize(ran.len(), 0)?;
-        let mut reaches = Reaches { graph, ran, behind };
-        reaches.spread();
+        let reaches = Reaches::by_ran(graph, ran)?;
         Ok(reaches)
     }
 
     // Takes the last edges first.
-    fn spread(&mut self)
-        ensures graph { self.new.graph ≡ self.old.graph }
-        ensures ran { self.new.ran ≡ self.old.ran }
+    fn by_ran(graph: &'g NinjaGraph<'a>, ran: Vec<Option<Ran<'a>>>) -> AllocResult<Reaches<'g, 'a>>
+        ensures graph { IfOk result (λ r. r.graph.now ≡ graph.now) }
+        ensures ran { IfOk result (λ r. r.ran ≡ ran.entry) }
     {
-        let graph = self.graph;
+        let behind = vec![in *ran.allocator(); 0; ran.len()]?;
+        let mut reaches = Reaches { graph, ran, behind };
         for place in graph.order.iter().rev() {
             if let Some(edge) = graph.edges.get(*place) {
-                let far = u64::try_from(self.far_at(edge.to)).unwrap_or(u64::MAX);
-                if edge.from < self.behind.len() {
-                    self.behind[edge.from] = self.behind[edge.from].max(far);
+                let far = u64::try_from(reaches.far_at(edge.to)).unwrap_or(u64::MAX);
+                if edge.from < reaches.behind.len() {
+                    reaches.behind[edge.from] = reaches.behind[edge.from].max(far);
                 }
             }
         }
+        Ok(reaches)
     }
 
     fn behind_at(&self, node: usize) -> u128
         ensures value { result ≡ behind_at self.now node }
         ensures bound { result < 2 ^ 64 }
     {
-        match self.behind.get(node) {
-            Some(far) => u128::from(*far),
-            None => 0,
-        }
+        self.behind.get(node).map_or(0, |far| u128::from(*far))
     }
 
-    fn ran_at(&self, node: usize) -> Option<Ran<'a>>
+    pub(crate) fn ran_at(&self, node: usize) -> Option<Ran<'a>>
         ensures value { option_map ran_seen result ≡ ran_in self.now node }
     {
-        match self.ran.get(node) {
-            Some(ran) => *ran,
-            None => None,
-        }
+        self.ran.get(node).copied().unwrap_or(None)
     }
 
-    fn far_at(&self, node: usize) -> u128
+    pub(crate) fn far_at(&self, node: usize) -> u128
         ensures { result ≡ far_at self.now node }
     {
-        let time = match self.ran_at(node) {
-            Some(ran) => ran.span.time(),
-            None => 0,
-        };
+        let time = self.ran_at(node).map_or(0, |ran| ran.span.time());
         u128::from(time) + self.behind_at(node)
     }
 
@@ -328,7 +310,7 @@ impl<'g, 'a> Reaches<'g, 'a> {
     }
 
     /// A longest path. That one is found isn't shown: if none is, memory is told to be wanting. No such case is known.
-    pub(crate) fn path(&self, alloc: Global) -> AllocResult<FoundPath<'a>>
+    pub(crate) fn path(&self) -> AllocResult<FoundPath<'a>>
         ensures value { (js : List SeenJob) → AreOf self.now.graph.now js self.now → IfOk result
             (λ found. IsFoundPath (seen_graph self.now.graph.now) js found.length (map ran_seen found.commands.items)) }
     {
@@ -336,48 +318,52 @@ impl<'g, 'a> Reaches<'g, 'a> {
             return Err(AllocError);
         }
         let start = self.farthest();
-        let mut commands = Vec::new(alloc);
+        let mut commands = Vec::new(self.allocator());
         self.append_path(start, &mut commands)?;
-        Ok(FoundPath {
-            length: self.far_at(start),
-            commands,
-        })
+        let length = self.far_at(start);
+        Ok(FoundPath { length, commands })
     }
 
     /// The same, if the command at a place took half as long.
-    pub(crate) fn with_half(&self, alloc: Global, place: usize) -> AllocResult<Reaches<'g, 'a>>
+    pub(crate) fn with_half(&self, place: usize) -> AllocResult<Reaches<'g, 'a>>
         ensures value { (js : List SeenJob) → AreOf self.now.graph.now js self.now → IfOk result (AreOf self.now.graph.now (halved place js)) }
     {
-        let mut ran = Vec::with_capacity(alloc, self.ran.len())?;
+        let mut ran = Vec::with_capacity(self.allocator(), self.ran.len())?;
         for node in 0..self.ran.len() {
             ran.push(halved(self.ran_at(node), place))?;
         }
-        let mut behind = Vec::new(alloc);
-        behind.resize(ran.len(), 0)?;
-        let mut reaches = Reaches {
-            graph: self.graph,
-            ran,
-            behind,
-        };
-        reaches.spread();
-        Ok(reaches)
+        let half = Reaches::by_ran(self.graph, ran)?;
+        Ok(half)
     }
 
-    /// Says how far it is behind each node in a plan that takes so long, in which they are there from these moments on.
+    /// It counts the commands on the way: each takes one millisecond.
+    pub(crate) fn in_commands(&self) -> AllocResult<Reaches<'g, 'a>> {
+        let span = Span { began: 0, ended: 1 };
+        let mut ran = Vec::with_capacity(self.allocator(), self.ran.len())?;
+        for node in 0..self.ran.len() {
+            ran.push(self.ran_at(node).map(|ran| Ran { span, ..ran }))?;
+        }
+        Reaches::by_ran(self.graph, ran)
+    }
+
+    /// The same in a plan that takes so long, in which nodes are there from these moments on.
     pub(crate) fn with_plan(
-        self,
-        alloc: Global,
+        &self,
+        plan: &[Job],
         wall: u64,
         there: &[u64],
     ) -> AllocResult<Reaches<'g, 'a>>
-        ensures graph { IfOk result (λ r. r.graph ≡ self.entry.graph) }
-        ensures ran { IfOk result (λ r. r.ran ≡ self.entry.ran) }
+        ensures value { (g : HeldGraph) (js : List SeenJob) → AreOf g js self.now → map kept (map seen plan.now) ≡ map kept js
+            → IfOk result (AreOf g (map seen plan.now)) }
     {
-        let mut behind = Vec::new(alloc);
-        for at in there {
-            behind.push(wall.saturating_sub(*at))?;
+        let alloc = self.allocator();
+        let mut ran = Vec::with_capacity(alloc, self.ran.len())?;
+        for node in 0..self.ran.len() {
+            ran.push(planned(self.ran_at(node), plan))?;
         }
-        let Reaches { graph, ran, .. } = self;
+        let left = there.iter().map(|at| wall.saturating_sub(*at));
+        let behind = left.collect(alloc)?;
+        let graph = self.graph;
         Ok(Reaches { graph, ran, behind })
     }
 
@@ -401,10 +387,8 @@ impl<'g, 'a> Reaches<'g, 'a> {
         if far > wall {
             return false;
         }
-        match self.ran_at(node) {
-            Some(ran) => far + u128::from(ran.span.began) == wall,
-            None => true,
-        }
+        self.ran_at(node)
+            .is_none_or(|ran| far + u128::from(ran.span.began) == wall)
     }
 
     fn append_path(&self, start: usize, commands: &mut Vec<Ran<'a>>) -> AllocResult
@@ -452,23 +436,22 @@ fn push_long<'a>(ran: Ran<'a>, commands: &mut Vec<Ran<'a>>) -> AllocResult
 fn halved<'a>(found: Option<Ran<'a>>, place: usize) -> Option<Ran<'a>>
     ensures value { option_map ran_seen result ≡ option_map (half_ran place) (option_map ran_seen found.entry) }
 {
-    match found {
-        Some(ran) => Some(Ran {
-            span: span_if(ran.place == place, ran.span),
-            ..ran
-        }),
-        None => None,
-    }
+    let ran = found?;
+    let span = span_if(ran.place == place, ran.span);
+    Some(Ran { span, ..ran })
+}
+
+fn planned<'a>(found: Option<Ran<'a>>, plan: &[Job]) -> Option<Ran<'a>>
+    ensures value { option_map ran_seen result ≡ option_and_then (in_plan (map seen plan.now)) (option_map ran_seen found.entry) }
+{
+    let ran = found?;
+    let span = plan.get(ran.place)?.span;
+    Some(Ran { span, ..ran })
 }
 
 fn span_if(half: bool, span: Span) -> Span
     ensures { result ≡ span_if half span }
 {
-    if half {
-        return Span {
-            began: span.began,
-            ended: span.began + span.time() / 2,
-        };
-    }
-    span
+    let ended = span.began + span.time() / 2;
+    if half { Span { ended, ..span } } else { span }
 }

@@ -2,53 +2,31 @@
 ghost use Rattle.std.specs.Prelude.{◌≡◌, ◌<◌, ◌++◌, List, OnOk};
 ghost use Rattle.nl_reports.specs.declared.span.Span.{Span};
 ghost use Rattle.nl_reports.specs.Moments.{AreMoments};
-ghost use Rattle.nl_reports.specs.Curve.{curve, curve_end, curve_start, height_of, point, points};
+ghost use Rattle.nl_reports.specs.Curve.{curve, curve_end, height_of, point, points};
 ghost use Rattle.nl_reports.specs.Frame.{IsFrame};
 
 use crate::frame::Frame;
 use crate::moments::Moments;
-use nl_tool_texts::{AllocResult, Part, append_parts};
+use nl_tool_texts::{AllocResult, put};
 
 pub(crate) fn append_curve(frame: &Frame, moments: &Moments, out: &mut Vec<u8>) -> AllocResult
     requires early { IsFrame frame.now }
     ensures items { (cs : List Span) → AreMoments cs moments.now
         → OnOk result (out.new.items ≡ out.old.items ++ curve frame.now cs) }
 {
-    append_start(frame, out)?;
+    put!(out; b"<path class=\"q\" d=\"M1000 " {frame.foot()})?;
     append_points(frame, moments, out)?;
     append_end(frame, out)
-}
-
-fn append_start(frame: &Frame, out: &mut Vec<u8>) -> AllocResult
-    ensures items { OnOk result (out.new.items ≡ out.old.items ++ curve_start frame.now) }
-{
-    append_parts(
-        &[
-            Part::Text(b"<path class=\"q\" d=\"M1000 "),
-            Part::Number(frame.foot()),
-        ],
-        out,
-    )
 }
 
 fn append_end(frame: &Frame, out: &mut Vec<u8>) -> AllocResult
     ensures items { OnOk result (out.new.items ≡ out.old.items ++ curve_end frame.now) }
 {
     let foot = frame.foot();
-    append_parts(
-        &[
-            Part::Text(b"V"),
-            Part::Number(foot),
-            Part::Text(b"z\"/>\n<text class=\"m\" x=\"950\" y=\""),
-            Part::Number(foot.saturating_sub(720)),
-            Part::Text(b"\" text-anchor=\"end\">"),
-            Part::Number(u128::from(frame.top) + 1),
-            Part::Text(b" at a time</text>\n<text class=\"m\" x=\"950\" y=\""),
-            Part::Number(foot),
-            Part::Text(b"\" text-anchor=\"end\">0</text>\n"),
-        ],
-        out,
-    )
+    put!(out; b"V" {foot} b"z\"/>\n<text class=\"m\" x=\"950\" y=\"" {foot.saturating_sub(720)}
+        b"\" text-anchor=\"end\">" {u128::from(frame.top) + 1}
+        b" at a time</text>\n<text class=\"m\" x=\"950\" y=\"" {foot}
+        b"\" text-anchor=\"end\">0</text>\n")
 }
 
 fn append_points(frame: &Frame, moments: &Moments, out: &mut Vec<u8>) -> AllocResult
@@ -69,15 +47,7 @@ fn append_point(frame: &Frame, moments: &Moments, i: u64, out: &mut Vec<u8>) -> 
         → OnOk result (out.new.items ≡ out.old.items ++ point frame.now cs i) }
 {
     let count = moments.running(frame.began + i * frame.wall / 480);
-    append_parts(
-        &[
-            Part::Text(b"V"),
-            Part::Number(height(frame, count)),
-            Part::Text(b"H"),
-            Part::Number(u128::from(1030 + i * 30)),
-        ],
-        out,
-    )
+    put!(out; b"V" {height(frame, count)} b"H" {1030 + i * 30})
 }
 
 fn height(frame: &Frame, count: u64) -> u128

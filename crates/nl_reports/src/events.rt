@@ -23,9 +23,10 @@ pub(crate) struct BuildEvent {
 }
 
 /// Appends the name of a build, which says whether it was found again, and how many of its outputs later builds may have taken.
-pub(crate) fn append_build(alloc: Global, build: BuildEvent, out: &mut Vec<u8>) -> AllocResult
+pub(crate) fn append_build(build: BuildEvent, out: &mut Vec<u8>) -> AllocResult
     ensures items { OnOk result (out.new.items ≡ out.old.items ++ event_text (build_event build)) }
 {
+    let alloc = *out.allocator();
     let number = build.number;
     let name = build_name(alloc, number)?;
     match build.how {
@@ -55,10 +56,9 @@ fn build_name(alloc: Global, number: u64) -> AllocResult<String>
 
 /// Appends a command in a lane, after a comma.
 pub(crate) fn append_command(
-    alloc: Global,
     build: BuildEvent,
     lane: u64,
-    job: &Job<'_, '_>,
+    job: &Job,
     out: &mut Vec<u8>,
 ) -> AllocResult
     requires early { IsEarly job.now.span }
@@ -71,17 +71,17 @@ pub(crate) fn append_command(
     let tid = lane + 1;
     let ts = job.span.began.saturating_sub(build.began) * 1000;
     append(b",{\"args\":", out)?;
-    append_args(alloc, job, out)?;
+    append_args(job, out)?;
     append_with(b",\"dur\":", dur, out)?;
     append(b",\"name\":", out)?;
-    append_shown(alloc, job.name(), out)?;
+    append_shown(job.name(), out)?;
     append_with(b",\"ph\":\"X\",\"pid\":", number, out)?;
     append_with(b",\"tid\":", tid, out)?;
     append_with(b",\"ts\":", ts, out)?;
     append(b"}", out)
 }
 
-fn append_args(alloc: Global, job: &Job<'_, '_>, out: &mut Vec<u8>) -> AllocResult
+fn append_args(job: &Job, out: &mut Vec<u8>) -> AllocResult
     ensures items { OnOk result (out.new.items ≡ out.old.items ++ event_text (args_of (seen job.now))) }
 {
     append(b"{\"hash\":\"", out)?;
@@ -90,14 +90,14 @@ fn append_args(alloc: Global, job: &Job<'_, '_>, out: &mut Vec<u8>) -> AllocResu
     let mut comma: &[u8] = b"";
     for entry in job.outputs {
         append(comma, out)?;
-        append_shown(alloc, entry.name(), out)?;
+        append_shown(entry.name(), out)?;
         comma = b",";
     }
     append(b"]}", out)
 }
 
 // A name as JSON, with U+FFFD for what isn't UTF-8.
-fn append_shown(alloc: Global, name: &[u8], out: &mut Vec<u8>) -> AllocResult
+fn append_shown(name: &[u8], out: &mut Vec<u8>) -> AllocResult
     ensures items { OnOk result (out.new.items ≡ out.old.items ++ event_text (shown name.now)) }
 {
     if is_bare(name) {
@@ -105,6 +105,7 @@ fn append_shown(alloc: Global, name: &[u8], out: &mut Vec<u8>) -> AllocResult
         append(name, out)?;
         return append(b"\"", out);
     }
+    let alloc = *out.allocator();
     let text = String::from_utf8_lossy(alloc, name)?;
     let mut json = Writer::new(Vec::new(alloc));
     json.string(text.as_str())?;

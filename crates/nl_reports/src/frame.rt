@@ -1,6 +1,5 @@
 //! Where things stand in a picture, and how moments are told.
-ghost use Rattle.std.specs.Prelude.{◌≡◌, ◌<◌, ◌≤◌, ◌^◌, ◌++◌, OnOk};
-ghost use Rattle.std.specs.List.{All};
+ghost use Rattle.std.specs.Prelude.{◌≡◌, ◌<◌, ◌≤◌, ◌^◌, ◌++◌, OnOk, All};
 ghost use Rattle.nl_reports.specs.Spans.{IsEarly};
 ghost use Rattle.nl_reports.specs.Frame.{IsFrame, across, first_began, foot_of, frame_of, height, is_named, last_closed, line_at, pitch, seconds, top_of, x_at, x_of, y_at};
 
@@ -110,10 +109,7 @@ pub(crate) fn first_began(spans: &[Span]) -> u64
     ensures value { result ≡ first_began spans.now }
     ensures bound { result < 2 ^ 32 }
 {
-    match spans.first() {
-        Some(first) => first.began,
-        None => 0,
-    }
+    spans.first().map_or(0, |first| first.began)
 }
 
 fn last_closed(spans: &[Span]) -> u64

@@ -64,9 +64,9 @@ pub fn read_graph<'a>(
 }
 
 impl<'a> NinjaGraph<'a> {
-    fn take(&mut self, number: u64, said: Line<'a>) -> AllocResult
+    fn take(&mut self, line: u64, said: Line<'a>) -> AllocResult
         ensures ok { (ns : List Node) (es : List SeenEdge) → Holds ns es self.old.nodes.entries self.old.edges.items → OnOk result
-            (Holds (ns ++ nodes_said (line_seen said.entry)) (es ++ edges_said number (line_seen said.entry)) self.new.nodes.entries self.new.edges.items) }
+            (Holds (ns ++ nodes_said (line_seen said.entry)) (es ++ edges_said line (line_seen said.entry)) self.new.nodes.entries self.new.edges.items) }
     {
         match said {
             Line::Passed => Ok(()),
@@ -77,11 +77,7 @@ impl<'a> NinjaGraph<'a> {
             Line::Joined { from, to } => {
                 let from = self.place_of(from)?;
                 let to = self.place_of(to)?;
-                self.edges.push(Edge {
-                    from,
-                    to,
-                    line: number,
-                })?;
+                self.edges.push(Edge { from, to, line })?;
                 Ok(())
             }
         }

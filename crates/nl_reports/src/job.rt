@@ -1,6 +1,5 @@
 //! The commands of a build, with the entries of their outputs.
-ghost use Rattle.std.specs.Prelude.{◌≡◌, map, IfOk};
-ghost use Rattle.std.specs.List.{All};
+ghost use Rattle.std.specs.Prelude.{◌≡◌, map, IfOk, All};
 ghost use Rattle.nl_reports.specs.Jobs.{between, build_jobs, commands_to, entries_to, first_name, jobs_between, jobs_from, seen, told};
 ghost use Rattle.nl_reports.specs.Rows.{by_start};
 ghost use Rattle.nl_reports.specs.Spans.{IsEarly};
@@ -31,12 +30,10 @@ impl<'a> Job<'_, 'a> {
     }
 }
 
+pub type JobsResult<'s, 'a> = AllocResult<Vec<Job<'s, 'a>>>;
+
 /// Builds are numbered from 1. No commands if there is no such build.
-pub fn jobs_of<'s, 'a>(
-    alloc: Global,
-    from: &'s Builds<'a>,
-    number: usize,
-) -> AllocResult<Vec<Job<'s, 'a>>>
+pub fn jobs_of<'s, 'a>(alloc: Global, from: &'s Builds<'a>, number: usize) -> JobsResult<'s, 'a>
     ensures value { IfOk result (λ jobs. map seen jobs.items ≡ build_jobs (told from.now) number) }
     ensures early { IfOk result (λ jobs. All (λ j. IsEarly j.span) jobs.items) }
 {
@@ -48,7 +45,7 @@ pub(crate) fn jobs_in<'s, 'a>(
     from: &'s Builds<'a>,
     first: usize,
     last: usize,
-) -> AllocResult<Vec<Job<'s, 'a>>>
+) -> JobsResult<'s, 'a>
     ensures value { IfOk result (λ jobs. map seen jobs.items ≡ jobs_between (told from.now) first last) }
     ensures early { IfOk result (λ jobs. All (λ j. IsEarly j.span) jobs.items) }
 {
@@ -65,7 +62,7 @@ pub(crate) fn jobs_from<'s, 'a>(
     place: usize,
     commands: &[Command],
     entries: &'s [EntryRef<'a>],
-) -> AllocResult<Vec<Job<'s, 'a>>>
+) -> JobsResult<'s, 'a>
     ensures value { IfOk result (λ jobs. map seen jobs.items ≡ jobs_from entries.now place commands.now) }
     ensures early { IfOk result (λ jobs. All (λ j. IsEarly j.span) jobs.items) }
 {
@@ -88,10 +85,7 @@ pub(crate) fn commands_to(count: usize, builds: &[Build]) -> usize
     if count == 0 {
         return 0;
     }
-    match builds.get(count - 1) {
-        Some(build) => build.to,
-        None => 0,
-    }
+    builds.get(count - 1).map_or(0, |build| build.to)
 }
 
 pub(crate) fn entries_to(count: usize, commands: &[Command]) -> usize
@@ -100,10 +94,7 @@ pub(crate) fn entries_to(count: usize, commands: &[Command]) -> usize
     if count == 0 {
         return 0;
     }
-    match commands.get(count - 1) {
-        Some(command) => command.to,
-        None => 0,
-    }
+    commands.get(count - 1).map_or(0, |command| command.to)
 }
 
 pub(crate) fn between<T>(from: usize, to: usize, items: &[T]) -> &[T]
@@ -117,7 +108,7 @@ pub(crate) fn between<T>(from: usize, to: usize, items: &[T]) -> &[T]
 const NO_MOMENT: u64 = 1 << 32;
 
 /// Commands of one START keep their order.
-pub fn jobs_by_start<'s, 'a>(jobs: Vec<Job<'s, 'a>>) -> AllocResult<Vec<Job<'s, 'a>>>
+pub fn jobs_by_start<'s, 'a>(jobs: Vec<Job<'s, 'a>>) -> JobsResult<'s, 'a>
     requires early { All (λ j. IsEarly j.span) jobs.items }
     ensures value { IfOk result (λ sorted. map seen sorted.items ≡ by_start (map seen jobs.entry.items)) }
     ensures early { IfOk result (λ sorted. All (λ j. IsEarly j.span) sorted.items) }
@@ -134,7 +125,7 @@ pub fn jobs_by_start<'s, 'a>(jobs: Vec<Job<'s, 'a>>) -> AllocResult<Vec<Job<'s, 
 
 // Moves each command to before those next to it that began later. Commands that are nearly in order are then in order, and to sort them
 // takes little.
-fn settle(jobs: &mut Vec<Job<'_, '_>>)
+fn settle(jobs: &mut Vec<Job>)
     requires early { All (λ j. IsEarly j.span) jobs.old.items }
     ensures early { All (λ j. IsEarly j.span) jobs.new.items }
     ensures order { by_start (map seen jobs.new.items) ≡ by_start (map seen jobs.old.items) }

@@ -1,15 +1,18 @@
 //! What so many commands at a time would take: estimates by a graph and by measured times.
 ghost use Rattle.std.specs.Prelude.{◌≡◌, ◌≤◌, ◌<◌, ◌^◌, ◌++◌, ℕ, List, map, IfOk, IfSome, IsTrue, OnOk};
+ghost use Rattle.nl_reports.specs.Found.{IsFound};
 ghost use Rattle.nl_reports.specs.GraphText.{seen_graph};
 ghost use Rattle.nl_reports.specs.Jobs.{Job as SeenJob, seen};
 ghost use Rattle.nl_reports.specs.Numbers.{total_time};
 ghost use Rattle.nl_reports.specs.Plans.{AreEstimates, HavePlan, AreBehind, IsToldBy, estimate_line, floor_of, heading, kept};
+ghost use Rattle.nl_reports.specs.Reaches.{AreOf};
 ghost use Rattle.nl_reports.specs.Sweep.{last_moment, running};
+ghost use Rattle.nl_reports.specs.declared.graph.NinjaGraph.{NinjaGraph as HeldGraph};
 
-use crate::critical::{Reaches, critical_lines};
+use crate::critical::{Critical, Reaches, critical_lines, critical_of};
 use crate::gains::gain_lines;
 use crate::graph::NinjaGraph;
-use crate::job::Job;
+use crate::job::{Job, JobsResult};
 use crate::moments::rising;
 use crate::numbers::spans_of;
 use crate::simulation::{Priority, Waiting};
@@ -34,25 +37,22 @@ pub struct ByGraph<'g, 't> {
 pub fn graph_lines(
     alloc: Global,
     secret: Secret,
-    by: &ByGraph<'_, '_>,
+    by: &ByGraph,
     priority: Priority,
-    jobs: &[Job<'_, '_>],
+    jobs: &[Job],
 ) -> AllocResult<Option<Vec<u8>>>
     ensures value { IfOk result (IsToldBy by.now.screen (seen_graph by.now.graph.now) by.now.most by.now.counts.now (map seen jobs.now)) }
 {
-    let Some(path) = critical_lines(alloc, by.screen, secret, by.graph, jobs)? else {
+    let Some(found) = critical_of(alloc, secret, by.graph, jobs)? else {
         return Ok(None);
     };
-    let mut lines = path;
-    let gains = gain_lines(alloc, by.screen, secret, by.graph, by.most, jobs)?;
+    let mut lines = critical_lines(by.screen, &found, jobs)?;
+    let gains = gain_lines(by.screen, by.most, &found)?;
     lines.extend_from_slice(gains.as_slice())?;
     if by.counts.is_empty() {
         return Ok(Some(lines));
     }
-    let estimates = estimate_lines(
-        alloc, by.screen, secret, by.graph, jobs, priority, by.counts,
-    )?;
-    let Some(estimates) = estimates else {
+    let Some(estimates) = estimate_lines(by, priority, &found, jobs)? else {
         return Ok(None);
     };
     lines.extend_from_slice(estimates.as_slice())?;
@@ -60,25 +60,21 @@ pub fn graph_lines(
 }
 
 fn estimate_lines(
-    alloc: Global,
-    screen: bool,
-    secret: Secret,
-    graph: &NinjaGraph<'_>,
-    jobs: &[Job<'_, '_>],
+    by: &ByGraph,
     priority: Priority,
-    counts: &[usize],
+    found: &Critical,
+    jobs: &[Job],
 ) -> AllocResult<Option<Vec<u8>>>
-    ensures value { IfOk result (λ o. IfSome o (λ lines. AreEstimates screen (seen_graph graph.now) (map seen jobs.now) counts.now lines.items)) }
+    ensures value { (g : HeldGraph) → IsFound g (map seen jobs.now) found.now → IfOk result (λ o. IfSome o
+        (λ lines. AreEstimates by.now.screen (seen_graph g) (map seen jobs.now) by.now.counts.now lines.items)) }
 {
-    let waiting = Waiting::of(alloc, secret, graph, jobs, priority)?;
-    let reaches = Reaches::of(alloc, secret, graph, jobs)?;
-    let found = reaches.path(alloc)?;
-    let path = found.length;
+    let (screen, path) = (by.screen, found.path.length);
+    let waiting = Waiting::of(&found.reaches, jobs, priority)?;
     let total = total_of(jobs);
-    let mut lines = Vec::new(alloc);
-    append(heading(screen, counts), &mut lines)?;
-    for count in counts {
-        let wall = wall_of(alloc, secret, graph, jobs, &waiting, *count)?;
+    let mut lines = Vec::new(found.reaches.allocator());
+    append(heading(screen, by.counts), &mut lines)?;
+    for count in by.counts {
+        let wall = wall_of(&found.reaches, &waiting, jobs, *count)?;
         let Some(wall) = wall else {
             return Ok(None);
         };
@@ -101,7 +97,7 @@ fn is_at_bounds(count: usize, commands: usize, wall: u64, total: u128, path: u12
     count > 0 && (count != 1 || wall == total) && (count < commands || wall == path)
 }
 
-fn total_of(jobs: &[Job<'_, '_>]) -> u128
+fn total_of(jobs: &[Job]) -> u128
     ensures value { result ≡ total_time (map seen jobs.now) }
     ensures bound { result < 2 ^ 127 }
 {
@@ -152,37 +148,28 @@ fn append_estimate(
 
 // How long a plan takes in which so many run at a time; None, if none is found.
 fn wall_of(
-    alloc: Global,
-    secret: Secret,
-    graph: &NinjaGraph<'_>,
-    jobs: &[Job<'_, '_>],
+    reaches: &Reaches,
     waiting: &Waiting,
+    jobs: &[Job],
     count: usize,
 ) -> AllocResult<Option<u64>>
-    ensures value { IfOk result (λ o. IfSome o (HavePlan (seen_graph graph.now) (map seen jobs.now) count)) }
+    ensures value { (g : HeldGraph) → AreOf g (map seen jobs.now) reaches.now
+        → IfOk result (λ o. IfSome o (HavePlan (seen_graph g) (map seen jobs.now) count)) }
 {
-    let run = waiting.run(alloc, count)?;
-    let plan = planned_jobs(alloc, jobs, run.began.as_slice())?;
-    let there = run.there.as_slice();
-    checked(alloc, secret, graph, plan.as_slice(), there, count)
+    let (began, there) = waiting.run(jobs, count)?;
+    let plan = planned_jobs(*began.allocator(), jobs, began.as_slice())?;
+    checked(reaches, plan.as_slice(), there.as_slice(), count)
 }
 
-fn checked(
-    alloc: Global,
-    secret: Secret,
-    graph: &NinjaGraph<'_>,
-    plan: &[Job<'_, '_>],
-    there: &[u64],
-    count: usize,
-) -> AllocResult<Option<u64>>
-    ensures value { (ks : List SeenJob) → map kept (map seen plan.now) ≡ map kept ks
-        → IfOk result (λ o. IfSome o (HavePlan (seen_graph graph.now) ks count)) }
+fn checked(reaches: &Reaches, plan: &[Job], there: &[u64], count: usize) -> AllocResult<Option<u64>>
+    ensures value { (g : HeldGraph) (ks : List SeenJob) → AreOf g ks reaches.now → map kept (map seen plan.now) ≡ map kept ks
+        → IfOk result (λ o. IfSome o (HavePlan (seen_graph g) ks count)) }
 {
+    let alloc = reaches.allocator();
     let spans = spans_of(alloc, plan)?;
     let few = are_few(alloc, spans.as_slice(), count)?;
     let wall = last_of(spans.as_slice());
-    let reaches = Reaches::of(alloc, secret, graph, plan)?;
-    let reaches = reaches.with_plan(alloc, wall, there)?;
+    let reaches = reaches.with_plan(plan, wall, there)?;
     let tight = reaches.are_tight();
     let begun = reaches.are_begun(wall);
     if few && tight && begun {
@@ -191,24 +178,16 @@ fn checked(
     Ok(None)
 }
 
-fn planned_jobs<'s, 'a>(
-    alloc: Global,
-    jobs: &[Job<'s, 'a>],
-    began: &[u64],
-) -> AllocResult<Vec<Job<'s, 'a>>>
+fn planned_jobs<'s, 'a>(alloc: Global, jobs: &[Job<'s, 'a>], began: &[u64]) -> JobsResult<'s, 'a>
     ensures value { IfOk result (λ plan. map kept (map seen plan.items) ≡ map kept (map seen jobs.now)) }
 {
     let mut plan = Vec::with_capacity(alloc, jobs.len())?;
     for place in 0..jobs.len() {
         let job = jobs[place];
         let began = began.get(place).copied().unwrap_or(0);
-        let Some(ended) = began.checked_add(job.span.time()) else {
-            return Err(AllocError);
-        };
-        plan.push(Job {
-            span: Span { began, ended },
-            ..job
-        })?;
+        let ended = began.checked_add(job.span.time()).ok_or(AllocError)?;
+        let span = Span { began, ended };
+        plan.push(Job { span, ..job })?;
     }
     Ok(plan)
 }

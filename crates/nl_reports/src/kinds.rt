@@ -1,6 +1,5 @@
 //! The commands of builds by kind.
-ghost use Rattle.std.specs.Prelude.{◌≡◌, ◌<◌, ◌^◌, ℕ, Some, map, IfOk, OnOk};
-ghost use Rattle.std.specs.List.{All};
+ghost use Rattle.std.specs.Prelude.{◌≡◌, ◌<◌, ◌^◌, ℕ, Some, map, IfOk, OnOk, All};
 ghost use Rattle.indexmap.specs.IndexMap.{insert_entry};
 ghost use Rattle.nl_reports.specs.Kinds.{AreSumsOf, IsOfOne, counted, kind_pair, kinds, same_bytes, sums_in, with_last};
 ghost use Rattle.nl_reports.specs.Rows.{told_row};
@@ -35,7 +34,7 @@ pub fn kinds_of<'a>(
 // The sums of the kind of the command before this one aren't put to the others until another kind comes. It answers those of this kind.
 fn count_row<'a>(
     kind: &'a [u8],
-    row: &Row<'_>,
+    row: &Row,
     last: Option<Row<'a>>,
     sums: &mut IndexMap<&'a [u8], Sums, Secret>,
 ) -> AllocResult<Row<'a>>
@@ -85,14 +84,7 @@ fn put_last<'a>(last: Option<Row<'a>>, sums: &mut IndexMap<&'a [u8], Sums, Secre
 fn sums_at(kind: &[u8], sums: &IndexMap<&[u8], Sums, Secret>) -> Sums
     ensures value { result ≡ sums_in sums.now.entries kind.now }
 {
-    match sums.get(kind) {
-        Some(before) => *before,
-        None => Sums {
-            commands: 0,
-            time: 0,
-            weight: 0,
-        },
-    }
+    sums.get(kind).copied().unwrap_or(Sums::default())
 }
 
 fn rows_in<'a>(alloc: Global, sums: &IndexMap<&'a [u8], Sums, Secret>) -> AllocResult<Vec<Row<'a>>>
@@ -101,10 +93,8 @@ fn rows_in<'a>(alloc: Global, sums: &IndexMap<&'a [u8], Sums, Secret>) -> AllocR
     let mut rows = Vec::new(alloc);
     for i in 0..sums.len() {
         if let Some((name, at)) = sums.get_index(i) {
-            rows.push(Row {
-                name: *name,
-                sums: *at,
-            })?;
+            let (name, sums) = (*name, *at);
+            rows.push(Row { name, sums })?;
         }
     }
     Ok(rows)

@@ -21,10 +21,8 @@ pub struct Lanes {
 pub fn lanes_of(alloc: Global, commands: &[Span]) -> AllocResult<Vec<u64>>
     ensures value { IfOk result (λ found. found.items ≡ lanes commands.now) }
 {
-    let mut open = Lanes {
-        ends: Vec::new(alloc),
-        least: Vec::new(alloc),
-    };
+    let (ends, least) = (Vec::new(alloc), Vec::new(alloc));
+    let mut open = Lanes { ends, least };
     let mut found = Vec::with_capacity(alloc, commands.len())?;
     for command in commands {
         let lane = open.take(command)?;
@@ -112,8 +110,5 @@ fn least_in(ends: &[u64], block: usize) -> u64
 pub(crate) fn lane_at(lanes: &[u64], place: usize) -> u64
     ensures { result ≡ get_or lanes.now place 0 }
 {
-    match lanes.get(place) {
-        Some(lane) => *lane,
-        None => 0,
-    }
+    lanes.get(place).copied().unwrap_or(0)
 }

@@ -20,19 +20,10 @@ pub fn lasting<'a>(
 ) -> AllocResult<Builds<'a>>
     ensures value { IfOk result (λ left. told left ≡ lasting (map (λ n. n.now) waiting.now) (told from.entry)) }
 {
-    let Builds {
-        entries,
-        commands,
-        builds,
-    } = from;
-    let (entries, behind) = last_entries(alloc, secret, waiting, entries)?;
-    let (commands, before) = commands_left(
-        alloc,
-        entries.len(),
-        behind.as_slice(),
-        commands.as_slice(),
-    )?;
-    let builds = builds_left(alloc, commands.len(), before.as_slice(), builds.as_slice())?;
+    let (commands, builds) = (from.commands, from.builds);
+    let (entries, behind) = last_entries(alloc, secret, waiting, from.entries)?;
+    let (commands, before) = commands_left(alloc, entries.len(), &behind, &commands)?;
+    let builds = builds_left(alloc, commands.len(), &before, &builds)?;
     Ok(Builds {
         entries,
         commands,
@@ -136,11 +127,8 @@ fn builds_left(
     for build in builds {
         let to = number_at(before, build.to, commands);
         if from < to {
-            left.push(Build {
-                to,
-                how: whole(build.how),
-                ..*build
-            })?;
+            let how = whole(build.how);
+            left.push(Build { to, how, ..*build })?;
         }
         from = to;
     }

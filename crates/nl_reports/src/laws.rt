@@ -1,7 +1,5 @@
 //! Laws of weighted times, lists, kinds, comparisons, plans, lanes and events, each the contract of a function that does nothing.
-ghost use Rattle.std.specs.Prelude.{◌≡◌, ◌+◌, ◌*◌, ◌/◌, ◌<◌, ◌≤◌, ◌^◌, ◌++◌, ◌∷◌, [], ℕ, Bool, true, false, IfSome, List, Some, count_by, length, map, slice_index, slice_index_or, take};
-ghost use Rattle.std.specs.List.{All, filter, flat_map, sum_by};
-ghost use Rattle.std.specs.List.Sorted.{IsPermutation};
+ghost use Rattle.std.specs.Prelude.{◌≡◌, ◌+◌, ◌*◌, ◌/◌, ◌<◌, ◌≤◌, ◌^◌, ◌++◌, ◌∷◌, [], ℕ, Bool, true, false, IfSome, List, Some, count_by, length, map, slice_index, slice_index_or, take, All, filter, flat_map, sum_by, IsPermutation};
 ghost use Rattle.serde_json.specs.Data.{Data, array};
 ghost use Rattle.serde_json.specs.Read.{read};
 ghost use Rattle.serde_json.specs.View.{items_of};
@@ -22,6 +20,7 @@ ghost use Rattle.nl_reports.specs.Reading.{FewTaken, IsEvent};
 ghost use Rattle.nl_reports.specs.Rows.{Told, by_start, spans, told_jobs};
 ghost use Rattle.nl_tool_texts.specs.Falling.{falling, ranked};
 ghost use Rattle.nl_reports.specs.Spans.{IsEarly, time_of};
+ghost use Rattle.nl_reports.specs.declared.span.Span.{Span};
 ghost use Rattle.nl_reports.specs.Sweep.{busy_time, left_over, parts, runs_at, weight};
 ghost use Rattle.nl_reports.specs.Ticks.{IsRound, step_of};
 ghost use Rattle.nl_reports.specs.Times.{job_work, share_of, time_in, times_of, total};
@@ -35,7 +34,6 @@ ghost use Rattle.nl_reports.specs.declared.choice.Scope.{Scope};
 ghost use Rattle.nl_reports.specs.declared.sides.Rules.{Rules};
 ghost use Rattle.nl_reports.specs.declared.frame.Frame.{Frame};
 ghost use Rattle.nl_reports.specs.declared.kind.KindRule.{KindRule};
-ghost use Rattle.nl_reports.specs.declared.span.Span.{Span};
 
 /// The weighted times of commands, and what is left over, add up to the time in which one command at least runs.
 pub fn weights_add_up()

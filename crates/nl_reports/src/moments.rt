@@ -1,12 +1,10 @@
 //! When commands begin and end.
-ghost use Rattle.std.specs.Prelude.{◌≡◌, ◌-◌, ◌<◌, ◌≤◌, ◌^◌, ℕ, List, length, slice_index, IfOk, IsTrue};
-ghost use Rattle.std.specs.List.{All};
-ghost use Rattle.std.specs.List.Sorted.{IsPermutation};
+ghost use Rattle.std.specs.Prelude.{◌≡◌, ◌-◌, ◌<◌, ◌≤◌, ◌^◌, ℕ, List, length, slice_index, IfOk, IsTrue, All, IsPermutation};
 ghost use Rattle.nl_reports.specs.Moments.{AreMoments};
 ghost use Rattle.nl_reports.specs.Spans.{IsEarly};
+ghost use Rattle.nl_reports.specs.declared.span.Span.{Span};
 ghost use Rattle.nl_reports.specs.Sweep.{running};
 ghost use Rattle.nl_reports.specs.SweepSteps.{Rises};
-ghost use Rattle.nl_reports.specs.declared.span.Span.{Span};
 
 use crate::span::Span;
 use nl_tool_texts::AllocResult;
@@ -26,7 +24,7 @@ pub struct Moments {
 }
 
 /// How many commands had begun and ended at the moment that was asked for last.
-#[derive(Clone, Copy, Drop)]
+#[derive(Clone, Copy, Default, Drop)]
 pub(crate) struct Near {
     pub begun: usize,
     pub ended: usize,

@@ -1,6 +1,5 @@
 //! The numbers of builds.
-ghost use Rattle.std.specs.Prelude.{◌≡◌, map, IfOk};
-ghost use Rattle.std.specs.List.{All};
+ghost use Rattle.std.specs.Prelude.{◌≡◌, map, IfOk, All};
 ghost use Rattle.nl_reports.specs.Jobs.{build_jobs, seen, told};
 ghost use Rattle.nl_reports.specs.Numbers.{IsSmall, count_outputs, numbers_of, spans_of};
 ghost use Rattle.nl_reports.specs.Spans.{IsEarly};
@@ -26,7 +25,7 @@ pub struct Numbers {
 const NO_MOMENT: u64 = 1 << 32;
 
 /// `jobs` are the commands of the build of this number.
-pub fn numbers_of(from: &Builds, number: usize, jobs: &[Job<'_, '_>]) -> Numbers
+pub fn numbers_of(from: &Builds, number: usize, jobs: &[Job]) -> Numbers
     requires early { All (λ j. IsEarly j.span) jobs.now }
     ensures value { map seen jobs.now ≡ build_jobs (told from.now) number → result ≡ numbers_of (told from.now) number }
     ensures small { IsSmall result }
@@ -56,7 +55,7 @@ fn count_outputs(from: &Builds, number: usize) -> usize
     entries_to(end, from.commands.as_slice()).saturating_sub(start)
 }
 
-pub fn spans_of(alloc: Global, jobs: &[Job<'_, '_>]) -> AllocResult<Vec<Span>>
+pub fn spans_of(alloc: Global, jobs: &[Job]) -> AllocResult<Vec<Span>>
     ensures value { IfOk result (λ spans. spans.items ≡ spans_of (map seen jobs.now)) }
     ensures early { All (λ j. IsEarly j.span) jobs.now → IfOk result (λ spans. All IsEarly spans.items) }
 {

@@ -30,10 +30,7 @@ impl<'a> Outputs<'a> {
     pub fn place_of(&self, name: &[u8]) -> Option<usize>
         ensures value { (ps : List (List ℕ × ℕ)) → HoldPlaces ps self.now.places.entries → result ≡ last_at ps name.now }
     {
-        match self.places.get(name) {
-            Some(place) => Some(*place),
-            None => None,
-        }
+        self.places.get(name).copied()
     }
 }
 

@@ -1,21 +1,20 @@
 //! The text of `picture`: builds as SVG.
-ghost use Rattle.std.specs.Prelude.{◌≡◌, ◌<◌, ◌^◌, ◌++◌, List, Some, length, map, option_map, IfErr, OnOk};
-ghost use Rattle.std.specs.List.{All, zip};
+ghost use Rattle.std.specs.Prelude.{◌≡◌, ◌<◌, ◌^◌, ◌++◌, List, Some, length, map, option_map, IfErr, OnOk, All, zip};
 ghost use Rattle.nl_reports.specs.Bars.{joined};
 ghost use Rattle.nl_reports.specs.Frame.{IsFrame};
 ghost use Rattle.nl_reports.specs.GraphText.{seen_graph};
 ghost use Rattle.nl_reports.specs.Jobs.{seen, told};
 ghost use Rattle.nl_reports.specs.Moments.{AreMoments};
-ghost use Rattle.nl_reports.specs.Picture.{IsOutlined, IsPicture, bars, commands_word, end, head, known_by, known_in, known_line, legend, legend_kind, long_line, longest, name, edge_at, outline, outline_text, outlined, picture, start};
+ghost use Rattle.nl_reports.specs.Picture.{IsOutlined, IsPicture, bars, commands_word, end, head, known_by, known_in, known_line, legend, legend_kind, long_line, longest, name, outline, outlined, picture, start};
 ghost use Rattle.nl_reports.specs.Reaches.{ran_seen, rans_of};
 ghost use Rattle.nl_reports.specs.Spans.{IsEarly, time_of};
+ghost use Rattle.nl_reports.specs.declared.span.Span.{Span};
 ghost use Rattle.nl_reports.specs.Times.{AreTimesOf};
 ghost use Rattle.nl_tool_texts.specs.Writing.{IsFoundFault, IsWriteFault, Moves, PrintsInPieces, Writes};
-ghost use Rattle.nl_reports.specs.declared.span.Span.{Span};
 
-use crate::bars::{Mark, append_bar, append_mark, by_place};
+use crate::bars::{ByPlace, Mark, append_bar, append_mark};
 use crate::choice::{Scope, chosen};
-use crate::critical::{FoundPath, Ran, path_in};
+use crate::critical::{FoundPath, Ran, critical_of};
 use crate::curve::append_curve;
 use crate::frame::Frame;
 use crate::graph::NinjaGraph;
@@ -31,13 +30,16 @@ use crate::work::{Work, place, word};
 use nl_builds::Builds;
 use nl_table::Secret;
 use nl_tool_texts::{
-    AllocResult, Part, Ranking, ToolFault, append, append_label, append_parts, highest, write_full,
+    AllocResult, Part, Ranking, ToolFault, append, append_label, falling, highest, put, write_full,
     write_rest,
 };
 use std::alloc::Global;
 use std::io::Write;
 
 const LISTED: u64 = 10;
+
+// The last moment of a picture's clock.
+const LATEST: u64 = 4_294_967_295;
 
 const ROOT: &[u8] =
     b"\" role=\"img\" aria-labelledby=\"t\" font-family=\"sans-serif\" font-size=\"120\">\n<title id=\"t\">";
@@ -70,7 +72,7 @@ pub fn draw_builds<W: Write>(
     alloc: Global,
     secret: Secret,
     scope: Scope,
-    graph: Option<&NinjaGraph<'_>>,
+    graph: Option<&NinjaGraph>,
     from: &Builds,
     writer: &mut W,
 ) -> Result<(), ToolFault>
@@ -90,19 +92,19 @@ pub fn draw_builds<W: Write>(
 fn write_outlined<W: Write>(
     alloc: Global,
     secret: Secret,
-    graph: &NinjaGraph<'_>,
+    graph: &NinjaGraph,
     known: Known,
-    jobs: &[Job<'_, '_>],
+    jobs: &[Job],
     writer: &mut W,
 ) -> Result<(), ToolFault>
     requires early { All (λ j. IsEarly j.span) jobs.now }
     ensures prints { PrintsInPieces (IsOutlined (seen_graph graph.now) known (map seen jobs.now)) (W.contents writer.old) (W.contents writer.new) result }
     ensures faults { IfErr result (IsFoundFault (Some graph)) }
 {
-    let Some(found) = path_in(alloc, secret, graph, jobs)? else {
+    let Some(found) = critical_of(alloc, secret, graph, jobs)? else {
         return Err(ToolFault::OtherGraph);
     };
-    write_jobs(alloc, known, Some(&found), jobs, writer)
+    write_jobs(alloc, known, Some(&found.path), jobs, writer)
 }
 
 fn known_in(scope: Scope, from: &Builds) -> Known
@@ -130,8 +132,8 @@ fn known_by(scope: Scope, taken: Option<usize>) -> Known
 fn write_jobs<W: Write>(
     alloc: Global,
     known: Known,
-    path: Option<&FoundPath<'_>>,
-    jobs: &[Job<'_, '_>],
+    path: Option<&FoundPath>,
+    jobs: &[Job],
     writer: &mut W,
 ) -> Result<(), ToolFault>
     requires early { All (λ j. IsEarly j.span) jobs.now }
@@ -145,15 +147,7 @@ fn write_jobs<W: Write>(
     let mut start = Vec::new(alloc);
     append_start(&frame, known, jobs, &mut start)?;
     let mut end = Vec::new(alloc);
-    append_end(
-        alloc,
-        &frame,
-        &moments,
-        path,
-        lanes.as_slice(),
-        jobs,
-        &mut end,
-    )?;
+    append_end(&frame, &moments, path, lanes.as_slice(), jobs, &mut end)?;
     write_bars(
         alloc,
         &frame,
@@ -165,7 +159,7 @@ fn write_jobs<W: Write>(
     )
 }
 
-fn append_start(frame: &Frame, known: Known, jobs: &[Job<'_, '_>], out: &mut Vec<u8>) -> AllocResult
+fn append_start(frame: &Frame, known: Known, jobs: &[Job], out: &mut Vec<u8>) -> AllocResult
     requires early { All (λ j. IsEarly j.span) jobs.now }
     requires frame { IsFrame frame.now }
     ensures items { OnOk result (out.new.items ≡ out.old.items ++ start frame.now known (map seen jobs.now)) }
@@ -179,12 +173,11 @@ fn append_start(frame: &Frame, known: Known, jobs: &[Job<'_, '_>], out: &mut Vec
 }
 
 fn append_end(
-    alloc: Global,
     frame: &Frame,
     moments: &Moments,
-    path: Option<&FoundPath<'_>>,
+    path: Option<&FoundPath>,
     lanes: &[u64],
-    jobs: &[Job<'_, '_>],
+    jobs: &[Job],
     out: &mut Vec<u8>,
 ) -> AllocResult
     requires early { All (λ j. IsEarly j.span) jobs.now }
@@ -195,13 +188,13 @@ fn append_end(
     append(b"</g>\n", out)?;
     append_curve(frame, moments, out)?;
     append_outlined(frame, lanes, path, out)?;
-    append_longest(alloc, frame, jobs, out)
+    append_longest(frame, jobs, out)
 }
 
 fn append_outlined(
     frame: &Frame,
     lanes: &[u64],
-    path: Option<&FoundPath<'_>>,
+    path: Option<&FoundPath>,
     out: &mut Vec<u8>,
 ) -> AllocResult
     ensures items { OnOk result (out.new.items ≡ out.old.items ++ outlined frame.now lanes.now (rans_of path.entry)) }
@@ -212,12 +205,7 @@ fn append_outlined(
     }
 }
 
-fn append_outlines(
-    frame: &Frame,
-    lanes: &[u64],
-    commands: &[Ran<'_>],
-    out: &mut Vec<u8>,
-) -> AllocResult
+fn append_outlines(frame: &Frame, lanes: &[u64], commands: &[Ran], out: &mut Vec<u8>) -> AllocResult
     ensures items { OnOk result (out.new.items ≡ out.old.items ++ outlined frame.now lanes.now (Some (map ran_seen commands.now))) }
 {
     append(OUTLINED, out)?;
@@ -227,44 +215,23 @@ fn append_outlines(
     Ok(())
 }
 
-fn append_outline(frame: &Frame, lanes: &[u64], ran: &Ran<'_>, out: &mut Vec<u8>) -> AllocResult
+fn append_outline(frame: &Frame, lanes: &[u64], ran: &Ran, out: &mut Vec<u8>) -> AllocResult
     ensures items { OnOk result (out.new.items ≡ out.old.items ++ outline frame.now lanes.now (ran_seen ran.now)) }
 {
-    let x = edge_at(frame, ran.span.began);
-    let until = edge_at(frame, ran.span.closed());
-    append_edges(frame, lane_at(lanes, ran.place), x, until, out)
-}
-
-fn edge_at(frame: &Frame, at: u64) -> u64
-    ensures { result ≡ edge_at frame.now at }
-{
-    frame.x_at(at.min(4_294_967_295))
-}
-
-fn append_edges(frame: &Frame, lane: u64, x: u64, until: u64, out: &mut Vec<u8>) -> AllocResult
-    ensures items { OnOk result (out.new.items ≡ out.old.items ++ outline_text frame.now lane x until) }
-{
-    let width = until.saturating_sub(x).max(10);
-    append_parts(
-        &[
-            Part::Text(b"<rect class=\"c\" x=\""),
-            Part::Number(u128::from(x)),
-            Part::Text(b"\" y=\""),
-            Part::Number(frame.y_at(lane)),
-            Part::Text(b"\" width=\""),
-            Part::Number(u128::from(width)),
-            Part::Text(b"\" height=\""),
-            Part::Number(frame.height()),
-            Part::Text(b"\"/>\n"),
-        ],
-        out,
-    )
+    let x = frame.x_at(ran.span.began.min(LATEST));
+    let width = frame
+        .x_at(ran.span.closed().min(LATEST))
+        .saturating_sub(x)
+        .max(10);
+    let y = frame.y_at(lane_at(lanes, ran.place));
+    put!(out; b"<rect class=\"c\" x=\"" {x} b"\" y=\"" {y} b"\" width=\"" {width}
+        b"\" height=\"" {frame.height()} b"\"/>\n")
 }
 
 fn write_bars<W: Write>(
     alloc: Global,
     frame: &Frame,
-    jobs: &[Job<'_, '_>],
+    jobs: &[Job],
     lanes: &[u64],
     start: Vec<u8>,
     end: &[u8],
@@ -280,10 +247,11 @@ fn write_bars<W: Write>(
     let mut held = start;
     let mut short = Vec::new(alloc);
     for i in 0..jobs.len() {
-        append_bar(alloc, frame, &jobs[i], lanes[i], &mut short, &mut held)?;
+        append_bar(frame, &jobs[i], lanes[i], &mut short, &mut held)?;
         write_full(&mut held, writer)?;
     }
-    write_marks(frame, by_place(alloc, short)?.as_slice(), &mut held, writer)?;
+    let marks = falling(&ByPlace, short)?;
+    write_marks(frame, marks.as_slice(), &mut held, writer)?;
     append(end, &mut held)?;
     write_rest(held, writer)
 }
@@ -319,16 +287,8 @@ fn append_head(
     ensures items { OnOk result (out.new.items ≡ out.old.items ++ head frame.now times.now commands known) }
 {
     let height = frame.line_at(commands.min(LISTED) + 1);
-    append_parts(
-        &[
-            Part::Text(b"<svg xmlns=\"http://www.w3.org/2000/svg\" width=\"1600\" height=\""),
-            Part::Number(height / 10),
-            Part::Text(b"\" viewBox=\"0 0 16000 "),
-            Part::Number(height),
-            Part::Text(ROOT),
-        ],
-        out,
-    )?;
+    put!(out; b"<svg xmlns=\"http://www.w3.org/2000/svg\" width=\"1600\" height=\"" {height / 10}
+        b"\" viewBox=\"0 0 16000 " {height} [Part::Text(ROOT)])?;
     append_name(frame, times, commands, out)?;
     append(STYLE, out)?;
     append_name(frame, times, commands, out)?;
@@ -342,19 +302,8 @@ fn append_name(frame: &Frame, times: &Times, commands: u64, out: &mut Vec<u8>) -
     ensures items { OnOk result (out.new.items ≡ out.old.items ++ name frame.now times.now commands) }
 {
     let tenths = times.total() * 10 / u128::from(frame.wall.max(1));
-    append_parts(
-        &[
-            Part::Number(u128::from(commands)),
-            Part::Text(commands_word(commands)),
-            Part::Time(frame.wall),
-            Part::Text(b", "),
-            Part::Number(tenths / 10),
-            Part::Text(b"."),
-            Part::Number(tenths % 10),
-            Part::Text(b" at a time"),
-        ],
-        out,
-    )
+    put!(out; {commands} [Part::Text(commands_word(commands))] [Part::Time(frame.wall)] b", "
+        {tenths / 10} b"." {tenths % 10} b" at a time")
 }
 
 fn commands_word(commands: u64) -> &'static [u8]
@@ -372,30 +321,16 @@ fn append_known(known: Known, out: &mut Vec<u8>) -> AllocResult
 {
     match known {
         Known::AsWritten => Ok(()),
-        Known::FoundAgain { taken } => append_parts(
-            &[
-                Part::Text(
-                    b"<text class=\"m\" x=\"15400\" y=\"380\" text-anchor=\"end\">found again: later builds may have taken ",
-                ),
-                Part::Number(taken as u128),
-                Part::Text(b" of its outputs</text>\n"),
-            ],
-            out,
-        ),
+        Known::FoundAgain { taken } => put!(out;
+            b"<text class=\"m\" x=\"15400\" y=\"380\" text-anchor=\"end\">found again: later builds may have taken "
+            {taken} b" of its outputs</text>\n"),
         Known::SomeAgain => append(
             b"<text class=\"m\" x=\"15400\" y=\"380\" text-anchor=\"end\">builds were found again</text>\n",
             out,
         ),
-        Known::Missing { builds } => append_parts(
-            &[
-                Part::Text(
-                    b"<text class=\"m\" x=\"15400\" y=\"380\" text-anchor=\"end\">no such build; builds: ",
-                ),
-                Part::Number(builds as u128),
-                Part::Text(b"</text>\n"),
-            ],
-            out,
-        ),
+        Known::Missing { builds } => put!(out;
+            b"<text class=\"m\" x=\"15400\" y=\"380\" text-anchor=\"end\">no such build; builds: "
+            {builds} b"</text>\n"),
     }
 }
 
@@ -419,71 +354,31 @@ fn append_kind(times: &Times, commands: u64, work: Work, out: &mut Vec<u8>) -> A
 {
     let kind = u128::from(place(work));
     let x = 1000 + kind * 1800;
-    append_parts(
-        &[
-            Part::Text(b"<rect class=\"k"),
-            Part::Number(kind),
-            Part::Text(b"\" x=\""),
-            Part::Number(x),
-            Part::Text(b"\" y=\"540\" width=\"140\" height=\"140\"/><text x=\""),
-            Part::Number(x + 200),
-            Part::Text(b"\" y=\"655\">"),
-            Part::Text(word(work)),
-            Part::Text(b" "),
-            Part::Number(times.share_of(work)),
-            Part::Text(b" %</text>\n"),
-        ],
-        out,
-    )
+    put!(out; b"<rect class=\"k" {kind} b"\" x=\"" {x}
+        b"\" y=\"540\" width=\"140\" height=\"140\"/><text x=\"" {x + 200} b"\" y=\"655\">"
+        [Part::Text(word(work))] b" " {times.share_of(work)} b" %</text>\n")
 }
 
-fn append_longest(
-    alloc: Global,
-    frame: &Frame,
-    jobs: &[Job<'_, '_>],
-    out: &mut Vec<u8>,
-) -> AllocResult
+fn append_longest(frame: &Frame, jobs: &[Job], out: &mut Vec<u8>) -> AllocResult
     requires early { All (λ j. IsEarly j.span) jobs.now }
     ensures items { OnOk result (out.new.items ≡ out.old.items ++ longest frame.now (map seen jobs.now)) }
 {
-    let kept = highest(alloc, &ByTime, LISTED as usize, jobs)?;
-    append_parts(
-        &[
-            Part::Text(b"<text x=\"1000\" y=\""),
-            Part::Number(frame.line_at(0)),
-            Part::Text(b"\">The commands that took the longest:</text>\n"),
-        ],
-        out,
-    )?;
+    let kept = highest(*out.allocator(), &ByTime, LISTED as usize, jobs)?;
+    put!(out; b"<text x=\"1000\" y=\"" {frame.line_at(0)}
+        b"\">The commands that took the longest:</text>\n")?;
     for i in 0..kept.len() {
-        append_long(alloc, frame, i as u64 + 1, &kept[i], out)?;
+        append_long(frame, i as u64 + 1, &kept[i], out)?;
     }
     append(b"</svg>\n", out)
 }
 
-fn append_long(
-    alloc: Global,
-    frame: &Frame,
-    line: u64,
-    job: &Job<'_, '_>,
-    out: &mut Vec<u8>,
-) -> AllocResult
+fn append_long(frame: &Frame, line: u64, job: &Job, out: &mut Vec<u8>) -> AllocResult
     ensures items { OnOk result (out.new.items ≡ out.old.items ++ long_line frame.now line (seen job.now)) }
 {
     let y = frame.line_at(line);
-    append_parts(
-        &[
-            Part::Text(b"<text x=\"1900\" y=\""),
-            Part::Number(y),
-            Part::Text(b"\" text-anchor=\"end\">"),
-            Part::Time(job.span.time()),
-            Part::Text(b"</text><text x=\"2050\" y=\""),
-            Part::Number(y),
-            Part::Text(b"\">"),
-        ],
-        out,
-    )?;
-    append_label(alloc, job.name(), out)?;
+    put!(out; b"<text x=\"1900\" y=\"" {y} b"\" text-anchor=\"end\">" [Part::Time(job.span.time())]
+        b"</text><text x=\"2050\" y=\"" {y} b"\">")?;
+    append_label(*out.allocator(), job.name(), out)?;
     append(b"</text>\n", out)
 }
 

@@ -1,16 +1,14 @@
 //! Commands and kinds of commands, the largest first.
-ghost use Rattle.std.specs.Prelude.{◌≡◌, ◌<◌, ◌^◌, ◌++◌, map, take, OnOk};
-ghost use Rattle.std.specs.List.{flat_map};
+ghost use Rattle.std.specs.Prelude.{◌≡◌, ◌<◌, ◌^◌, ◌++◌, map, take, OnOk, flat_map};
 ghost use Rattle.nl_reports.specs.Rows.{heading, list_key, list_line, list_lines, rank_key, rank_of, rank_told, screen_row, shown_name, told_row};
 ghost use Rattle.nl_tool_texts.specs.Falling.{falling};
 
 use crate::lists::Lists;
 use crate::sweep::PARTS;
 use nl_tool_texts::{AllocResult, Part, Ranking, append, append_line, highest, percent, ratio};
-use std::alloc::Global;
 
 /// How many commands there are, the sum of their milliseconds, and that of their weighted times, in parts of a millisecond.
-#[derive(Clone, Copy, Drop)]
+#[derive(Clone, Copy, Default, Drop)]
 pub struct Sums {
     pub commands: u128,
     pub time: u128,
@@ -51,12 +49,11 @@ impl<'a> Ranking<Row<'a>> for Rank {
 
 /// Appends the lines of the highest rows by this rank, under a heading at a terminal. All commands take so long together.
 pub(crate) fn append_list(
-    alloc: Global,
     lists: Lists,
     total: u128,
     listed: Listed,
     rank: Rank,
-    rows: &[Row<'_>],
+    rows: &[Row],
     lines: &mut Vec<u8>,
 ) -> AllocResult
     requires room { total < 2 ^ 120 }
@@ -64,25 +61,9 @@ pub(crate) fn append_list(
         (lines.new.items ≡ lines.old.items ++ list_lines lists total listed rank (map told_row rows.now)) }
 {
     append(heading(lists.screen, listed), lines)?;
-    append_highest(alloc, lists, total, listed, rank, rows, lines)
-}
-
-fn append_highest(
-    alloc: Global,
-    lists: Lists,
-    total: u128,
-    listed: Listed,
-    rank: Rank,
-    rows: &[Row<'_>],
-    lines: &mut Vec<u8>,
-) -> AllocResult
-    requires room { total < 2 ^ 120 }
-    ensures items { OnOk result (lines.new.items ≡ lines.old.items
-        ++ flat_map (list_line lists.screen total listed rank) (take lists.most (falling (rank_told rank) (map told_row rows.now)))) }
-{
-    let kept = highest(alloc, &rank, lists.most, rows)?;
+    let kept = highest(*lines.allocator(), &rank, lists.most, rows)?;
     for i in 0..kept.len() {
-        append_row(alloc, lists.screen, total, listed, rank, &kept[i], lines)?;
+        append_row(lists.screen, total, listed, rank, &kept[i], lines)?;
     }
     Ok(())
 }
@@ -97,7 +78,7 @@ fn heading(screen: bool, listed: Listed) -> &'static [u8]
     }
 }
 
-fn append_screen_row(listed: Listed, total: u128, row: &Row<'_>, lines: &mut Vec<u8>) -> AllocResult
+fn append_screen_row(listed: Listed, total: u128, row: &Row, lines: &mut Vec<u8>) -> AllocResult
     requires room { total < 2 ^ 120 }
     ensures items { OnOk result
         (lines.new.items ≡ lines.old.items ++ screen_row listed total (told_row row.now)) }
@@ -114,12 +95,11 @@ fn append_screen_row(listed: Listed, total: u128, row: &Row<'_>, lines: &mut Vec
 }
 
 fn append_row(
-    alloc: Global,
     screen: bool,
     total: u128,
     listed: Listed,
     rank: Rank,
-    row: &Row<'_>,
+    row: &Row,
     lines: &mut Vec<u8>,
 ) -> AllocResult
     requires room { total < 2 ^ 120 }
@@ -129,7 +109,8 @@ fn append_row(
     if screen {
         return append_screen_row(listed, total, row, lines);
     }
-    append_key(alloc, listed, rank, row.sums.commands, lines)?;
+    append_key(listed, rank, row.sums.commands, lines)?;
+    let alloc = *lines.allocator();
     let time = row.sums.time;
     let weighted = ratio(alloc, row.sums.weight, u128::from(PARTS))?;
     let times = format!(in alloc; "{time}\t{weighted}\t")?;
@@ -139,20 +120,14 @@ fn append_row(
     Ok(())
 }
 
-fn append_key(
-    alloc: Global,
-    listed: Listed,
-    rank: Rank,
-    commands: u128,
-    lines: &mut Vec<u8>,
-) -> AllocResult
+fn append_key(listed: Listed, rank: Rank, commands: u128, lines: &mut Vec<u8>) -> AllocResult
     ensures items { OnOk result (lines.new.items ≡ lines.old.items ++ list_key listed rank commands) }
 {
     let by = rank_key(rank);
     match listed {
         Listed::Commands => lines.extend_from_slice(by.as_bytes())?,
         Listed::Kinds => {
-            let key = format!(in alloc; "kinds-{by}{commands}\t")?;
+            let key = format!(in *lines.allocator(); "kinds-{by}{commands}\t")?;
             lines.extend_from_slice(key.as_bytes())?;
         }
     }

@@ -1,9 +1,8 @@
 //! How much of the time of a build each command counts for.
-ghost use Rattle.std.specs.Prelude.{◌≡◌, ◌-◌, List, get_or, max, IfOk};
-ghost use Rattle.std.specs.List.{All, Contains};
-ghost use Rattle.nl_reports.specs.declared.span.Span.{Span};
+ghost use Rattle.std.specs.Prelude.{◌≡◌, ◌-◌, List, get_or, max, IfOk, All, Contains};
 ghost use Rattle.nl_reports.specs.Sweep.{alone_time, busy_time, most_at_once, weight};
 ghost use Rattle.nl_reports.specs.Spans.{IsEarly};
+ghost use Rattle.nl_reports.specs.declared.span.Span.{Span};
 ghost use Rattle.nl_reports.specs.Shares.{AreSharesOf};
 
 use crate::moments::{Moments, Near, up_to};

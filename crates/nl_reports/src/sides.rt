@@ -85,23 +85,11 @@ pub fn compared<'a>(
 {
     let before = Held::of(alloc, secret, old)?;
     let after = Held::of(alloc, secret, new)?;
-    told_pairs(alloc, secret, rules, &before, &after)
-}
-
-fn told_pairs<'a>(
-    alloc: Global,
-    secret: Secret,
-    rules: Rules,
-    old: &Held<'_, 'a>,
-    new: &Held<'_, 'a>,
-) -> AllocResult<Vec<ComparedRow<'a>>>
-    ensures value { IfOk result (λ rows. map compared_of rows.items ≡ compared rules (held_side old.now) (held_side new.now)) }
-{
-    let outputs = Outputs::of(alloc, secret, new.jobs.as_slice())?;
-    let mut left = vec![in alloc; true; new.jobs.len()]?;
+    let outputs = Outputs::of(alloc, secret, after.jobs.as_slice())?;
+    let mut left = vec![in alloc; true; after.jobs.len()]?;
     let mut rows = Vec::new(alloc);
-    push_pairs(rules, old, new, &outputs, &mut left, &mut rows)?;
-    push_fresh(old, new, left.as_slice(), &mut rows)?;
+    push_pairs(rules, &before, &after, &outputs, &mut left, &mut rows)?;
+    push_fresh(&before, &after, left.as_slice(), &mut rows)?;
     Ok(rows)
 }
 
@@ -141,20 +129,15 @@ fn push_fresh<'a>(
     let mut place = 0;
     for other in &new.jobs {
         if is_left(left, place) {
-            rows.push(row(
-                Class::New,
-                old.waits(other),
-                0,
-                new.time(other),
-                other.name(),
-            ))?;
+            let (waits, time) = (old.waits(other), new.time(other));
+            rows.push(row(Class::New, waits, 0, time, other.name()))?;
         }
         place += 1;
     }
     Ok(())
 }
 
-fn partner(outputs: &Outputs<'_>, left: &[bool], job: &Job<'_, '_>) -> Option<usize>
+fn partner(outputs: &Outputs, left: &[bool], job: &Job) -> Option<usize>
     ensures value { (ps : List (List ℕ × ℕ)) → HoldPlaces ps outputs.now.places.entries
         → result ≡ partner ps left.now job.now.outputs.now }
 {
@@ -249,14 +232,14 @@ pub(crate) fn of_class<'a>(
 }
 
 /// In milliseconds.
-pub(crate) fn old_time(rows: &[ComparedRow<'_>]) -> u128
+pub(crate) fn old_time(rows: &[ComparedRow]) -> u128
     ensures { result ≡ old_time (map compared_of rows.now) }
 {
     rows.iter().map(|row| u128::from(row.old)).sum()
 }
 
 /// In milliseconds.
-pub(crate) fn new_time(rows: &[ComparedRow<'_>]) -> u128
+pub(crate) fn new_time(rows: &[ComparedRow]) -> u128
     ensures { result ≡ new_time (map compared_of rows.now) }
 {
     rows.iter().map(|row| u128::from(row.new)).sum()

@@ -1,6 +1,5 @@
 //! The text of `summary`.
-ghost use Rattle.std.specs.Prelude.{◌≡◌, ◌+◌, ◌++◌, ◌<◌, ◌^◌, ℕ, List, None, Some, map, option_map, IfOk, OnOk};
-ghost use Rattle.std.specs.List.{All, Contains};
+ghost use Rattle.std.specs.Prelude.{◌≡◌, ◌+◌, ◌++◌, ◌<◌, ◌^◌, ℕ, List, None, Some, map, option_map, IfOk, OnOk, All, Contains};
 ghost use Rattle.nl_reports.specs.Jobs.{build_jobs, seen, told};
 ghost use Rattle.nl_reports.specs.Kinds.{IsOfOne};
 ghost use Rattle.nl_reports.specs.Numbers.{IsSmall, spans_of};
@@ -8,9 +7,9 @@ ghost use Rattle.nl_reports.specs.Rows.{rank_told, told_job, told_jobs, told_row
 ghost use Rattle.nl_tool_texts.specs.Falling.{falling};
 ghost use Rattle.nl_reports.specs.Shares.{AreSharesOf};
 ghost use Rattle.nl_reports.specs.Spans.{IsEarly};
-ghost use Rattle.nl_reports.specs.Summary.{AreTotalsOf, again_in, again_line, both_lists, bound, chosen_text, count_line, facts, few_text, first_of, lists_text, more_taken, most_taken, no_totals, number_lines, rows_from, slowest_line, slowest_time, summary_text, taken_in, title, total_of, totals_from, unfinished_line, with_build, with_numbers};
-ghost use Rattle.nl_reports.specs.declared.rows.Rank.TheVariants.{Time};
 ghost use Rattle.nl_reports.specs.declared.span.Span.{Span};
+ghost use Rattle.nl_reports.specs.Summary.{AreTotalsOf, again_in, again_line, both_lists, bound, chosen_text, count_line, few_text, first_of, lists_text, more_taken, most_taken, no_totals, number_lines, rows_from, slowest_line, slowest_time, summary_text, taken_in, title, total_of, totals_from, unfinished_line, with_build, with_numbers};
+ghost use Rattle.nl_reports.specs.declared.rows.Rank.TheVariants.{Time};
 
 use crate::choice::{Choice, Scope, chosen};
 use crate::job::{Job, between, jobs_of};
@@ -21,11 +20,11 @@ use crate::numbers::{Numbers, numbers_of, spans_of};
 use crate::rows::{Listed, Rank, Row, Sums, append_list};
 use crate::shares::Shares;
 use nl_builds::{Build, Builds, How};
-use nl_tool_texts::{AllocResult, Part, append_line, append_parts, highest, ratio};
+use nl_tool_texts::{AllocResult, Part, append_line, highest, put, ratio};
 use std::alloc::Global;
 
 /// The sums of the numbers of builds, one after another. Times are in milliseconds.
-#[derive(Clone, Copy, Drop)]
+#[derive(Clone, Copy, Default, Drop)]
 pub struct Totals {
     pub outputs: u128,
     pub wall: u128,
@@ -50,7 +49,7 @@ pub fn summary_lines(
 {
     let mut lines = Vec::new(alloc);
     match chosen(scope, from) {
-        Some(choice) => append_chosen(alloc, scope, choice, lists, unfinished, from, &mut lines)?,
+        Some(choice) => append_chosen(scope, choice, lists, unfinished, from, &mut lines)?,
         None => append_few(lists.screen, from.builds.len(), unfinished, &mut lines)?,
     }
     Ok(lines)
@@ -64,7 +63,6 @@ fn append_few(screen: bool, builds: usize, unfinished: usize, lines: &mut Vec<u8
 }
 
 fn append_chosen(
-    alloc: Global,
     scope: Scope,
     choice: Choice,
     lists: Lists,
@@ -76,22 +74,19 @@ fn append_chosen(
     ensures items { OnOk result
         (lines.new.items ≡ lines.old.items ++ chosen_text scope (Some choice) lists unfinished (told from.now)) }
 {
-    let told = between(
-        choice.first.saturating_sub(1),
-        choice.last,
-        from.builds.as_slice(),
-    );
+    let before = choice.first.saturating_sub(1);
+    let told = between(before, choice.last, from.builds.as_slice());
     if told.is_empty() {
         return append_unfinished(lists.screen, unfinished, lines);
     }
-    let all = all_of(alloc, from, choice.first, told)?;
+    let all = all_of(*lines.allocator(), from, choice.first, told)?;
     let rows = all.rows.as_slice();
     append_title(lists.screen, scope, choice.first, from.builds.len(), lines)?;
-    append_totals(alloc, lists.screen, &all.totals, rows, lines)?;
-    append_slowest(alloc, lists.screen, rows, lines)?;
+    append_totals(lists.screen, &all.totals, rows, lines)?;
+    append_slowest(lists.screen, rows, lines)?;
     append_again(lists.screen, again_in(scope, told), lines)?;
     append_unfinished(lists.screen, unfinished, lines)?;
-    append_lists(alloc, lists, rows, lines)
+    append_lists(lists, rows, lines)
 }
 
 fn append_title(
@@ -106,24 +101,9 @@ fn append_title(
     let count = Part::Number(count as u128);
     match (screen, scope) {
         (false, _) => Ok(()),
-        (true, Scope::All) => append_parts(
-            &[
-                Part::Text(b"All "),
-                count,
-                Part::Text(b" builds, each output once\n"),
-            ],
-            lines,
-        ),
+        (true, Scope::All) => put!(lines; b"All " [count] b" builds, each output once\n"),
         (true, Scope::Last | Scope::Numbered(_)) => {
-            let number = Part::Number(number as u128);
-            let parts = [
-                Part::Text(b"Build "),
-                number,
-                Part::Text(b" of "),
-                count,
-                Part::Text(b"\n"),
-            ];
-            append_parts(&parts, lines)
+            put!(lines; b"Build " {number} b" of " [count] b"\n")
         }
     }
 }
@@ -147,13 +127,7 @@ fn all_of<'a>(
     ensures room { IfOk result (λ all. all.totals.wall < 2 ^ 120) }
 {
     let mut all = Summed {
-        totals: Totals {
-            outputs: 0,
-            wall: 0,
-            busy: 0,
-            alone: 0,
-            most: 0,
-        },
+        totals: Totals::default(),
         rows: Vec::new(alloc),
     };
     let mut number = first;
@@ -233,18 +207,13 @@ fn row_of<'a>(job: &Job<'_, 'a>, shares: &Shares, near: &mut Near) -> Row<'a>
     }
 }
 
-fn append_totals(
-    alloc: Global,
-    screen: bool,
-    totals: &Totals,
-    rows: &[Row<'_>],
-    lines: &mut Vec<u8>,
-) -> AllocResult
+fn append_totals(screen: bool, totals: &Totals, rows: &[Row], lines: &mut Vec<u8>) -> AllocResult
     requires room { totals.now.wall < 2 ^ 120 }
     requires one { All IsOfOne rows.now }
     ensures items { OnOk result
         (lines.new.items ≡ lines.old.items ++ number_lines screen totals.now (map told_row rows.now)) }
 {
+    let alloc = *lines.allocator();
     let commands = rows.len();
     let total = total_of(rows);
     let parallel = ratio(alloc, total, totals.wall)?;
@@ -252,23 +221,16 @@ fn append_totals(
         let slowest = slowest_time(alloc, rows)?;
         let best = bound(totals.most, total, slowest);
         let none = totals.wall.saturating_sub(totals.busy);
-        return append_facts(
-            totals,
-            commands,
-            total,
-            best,
-            none,
-            parallel.as_bytes(),
-            lines,
-        );
+        let most = u128::from(totals.most);
+        return put!(lines; [Part::Took(true, totals.wall)] b"\telapsed\n" [Part::Took(true, total)]
+            b"\tof work\n" {commands} b"\tcommands\n" {totals.outputs} b"\toutputs\n"
+            [Part::Text(parallel.as_bytes())] b"\tat a time on average\n" {most}
+            b"\tat a time at most\n" [Part::Took(true, best)] b"\tat best with " {most}
+            b" at a time\n" [Part::Took(true, totals.alone)] b"\twith one command alone\n"
+            [Part::Took(true, none)] b"\twith none\n");
     }
-    let Totals {
-        outputs,
-        wall,
-        busy,
-        alone,
-        ..
-    } = totals;
+    let (outputs, wall) = (totals.outputs, totals.wall);
+    let (busy, alone) = (totals.busy, totals.alone);
     let text = format!(in alloc;
         "commands\t{commands}\noutputs\t{outputs}\nwall\t{wall}\ntotal\t{total}\nbusy\t{busy}\nalone\t{alone}\nparallel\t{parallel}\n"
     )?;
@@ -283,47 +245,7 @@ fn bound(most: u64, total: u128, slowest: u128) -> u128
     (total / u128::from(most.max(1))).max(slowest)
 }
 
-fn append_facts(
-    totals: &Totals,
-    commands: usize,
-    total: u128,
-    best: u128,
-    none: u128,
-    parallel: &[u8],
-    lines: &mut Vec<u8>,
-) -> AllocResult
-    ensures items { OnOk result
-        (lines.new.items ≡ lines.old.items ++ facts totals.now commands total best none parallel.now) }
-{
-    let most = u128::from(totals.most);
-    append_parts(
-        &[
-            Part::Took(true, totals.wall),
-            Part::Text(b"\telapsed\n"),
-            Part::Took(true, total),
-            Part::Text(b"\tof work\n"),
-            Part::Number(commands as u128),
-            Part::Text(b"\tcommands\n"),
-            Part::Number(totals.outputs),
-            Part::Text(b"\toutputs\n"),
-            Part::Text(parallel),
-            Part::Text(b"\tat a time on average\n"),
-            Part::Number(most),
-            Part::Text(b"\tat a time at most\n"),
-            Part::Took(true, best),
-            Part::Text(b"\tat best with "),
-            Part::Number(most),
-            Part::Text(b" at a time\n"),
-            Part::Took(true, totals.alone),
-            Part::Text(b"\twith one command alone\n"),
-            Part::Took(true, none),
-            Part::Text(b"\twith none\n"),
-        ],
-        lines,
-    )
-}
-
-fn total_of(rows: &[Row<'_>]) -> u128
+fn total_of(rows: &[Row]) -> u128
     requires one { All IsOfOne rows.now }
     ensures value { result ≡ total_of (map told_row rows.now) }
     ensures room { result < 2 ^ 120 }
@@ -336,14 +258,14 @@ fn total_of(rows: &[Row<'_>]) -> u128
 }
 
 // At a terminal it heads the list.
-fn append_slowest(alloc: Global, screen: bool, rows: &[Row<'_>], lines: &mut Vec<u8>) -> AllocResult
+fn append_slowest(screen: bool, rows: &[Row], lines: &mut Vec<u8>) -> AllocResult
     ensures items { OnOk result
         (lines.new.items ≡ lines.old.items ++ slowest_line screen (first_of (falling (rank_told Time) (map told_row rows.now)))) }
 {
     if screen {
         return Ok(());
     }
-    let Some(first) = slowest_of(alloc, rows)? else {
+    let Some(first) = slowest_of(*lines.allocator(), rows)? else {
         return Ok(());
     };
     let time = Part::Number(first.sums.time);
@@ -353,7 +275,7 @@ fn append_slowest(alloc: Global, screen: bool, rows: &[Row<'_>], lines: &mut Vec
     )
 }
 
-fn slowest_time(alloc: Global, rows: &[Row<'_>]) -> AllocResult<u128>
+fn slowest_time(alloc: Global, rows: &[Row]) -> AllocResult<u128>
     ensures value { IfOk result (λ time. time ≡ slowest_time (first_of (falling (rank_told Time) (map told_row rows.now)))) }
 {
     match slowest_of(alloc, rows)? {
@@ -384,11 +306,8 @@ pub fn taken_in(scope: Scope, from: &Builds) -> Option<usize>
     ensures value { result ≡ taken_in scope (told from.now) }
 {
     let choice = chosen(scope, from)?;
-    most_taken(between(
-        choice.first.saturating_sub(1),
-        choice.last,
-        from.builds.as_slice(),
-    ))
+    let before = choice.first.saturating_sub(1);
+    most_taken(between(before, choice.last, from.builds.as_slice()))
 }
 
 /// How many outputs later builds may have taken at most of one of these.
@@ -416,13 +335,10 @@ fn append_again(screen: bool, taken: Option<usize>, lines: &mut Vec<u8>) -> Allo
     ensures items { OnOk result (lines.new.items ≡ lines.old.items ++ again_line screen taken) }
 {
     match taken {
-        Some(count) => append_count(
-            screen,
-            b"again",
-            b"outputs lost to later builds",
-            count,
-            lines,
-        ),
+        Some(count) => {
+            let words = b"outputs lost to later builds";
+            append_count(screen, b"again", words, count, lines)
+        }
         None => Ok(()),
     }
 }
@@ -433,13 +349,8 @@ fn append_unfinished(screen: bool, count: usize, lines: &mut Vec<u8>) -> AllocRe
     if count == 0 {
         return Ok(());
     }
-    append_count(
-        screen,
-        b"unfinished",
-        b"outputs have yet to be made",
-        count,
-        lines,
-    )
+    let words = b"outputs have yet to be made";
+    append_count(screen, b"unfinished", words, count, lines)
 }
 
 fn append_count(
@@ -457,7 +368,7 @@ fn append_count(
     append_line(&[Part::Text(key), Part::Number(count as u128)], lines)
 }
 
-fn append_lists(alloc: Global, lists: Lists, rows: &[Row<'_>], lines: &mut Vec<u8>) -> AllocResult
+fn append_lists(lists: Lists, rows: &[Row], lines: &mut Vec<u8>) -> AllocResult
     requires one { All IsOfOne rows.now }
     ensures items { OnOk result
         (lines.new.items ≡ lines.old.items ++ lists_text lists (map told_row rows.now)) }
@@ -466,26 +377,25 @@ fn append_lists(alloc: Global, lists: Lists, rows: &[Row<'_>], lines: &mut Vec<u
         return Ok(());
     }
     let total = total_of(rows);
-    let kinds = kinds_of(alloc, lists.secret, lists.rule, rows)?;
-    append_both(alloc, lists, total, Listed::Commands, rows, lines)?;
-    append_both(alloc, lists, total, Listed::Kinds, kinds.as_slice(), lines)
+    let kinds = kinds_of(*lines.allocator(), lists.secret, lists.rule, rows)?;
+    append_both(lists, total, Listed::Commands, rows, lines)?;
+    append_both(lists, total, Listed::Kinds, kinds.as_slice(), lines)
 }
 
 fn append_both(
-    alloc: Global,
     lists: Lists,
     total: u128,
     listed: Listed,
-    rows: &[Row<'_>],
+    rows: &[Row],
     lines: &mut Vec<u8>,
 ) -> AllocResult
     requires room { total < 2 ^ 120 }
     ensures items { OnOk result
         (lines.new.items ≡ lines.old.items ++ both_lists lists total listed (map told_row rows.now)) }
 {
-    append_list(alloc, lists, total, listed, Rank::Time, rows, lines)?;
+    append_list(lists, total, listed, Rank::Time, rows, lines)?;
     if lists.screen {
         return Ok(());
     }
-    append_list(alloc, lists, total, listed, Rank::Weight, rows, lines)
+    append_list(lists, total, listed, Rank::Weight, rows, lines)
 }

@@ -10,7 +10,7 @@ use std::alloc::Global;
 pub const PARTS: u64 = 232_792_560;
 
 // The sums over the milliseconds before `at`.
-#[derive(Clone, Copy, Drop)]
+#[derive(Clone, Copy, Default, Drop)]
 pub struct Sums {
     pub at: u64,
     pub shares: u64,
@@ -105,12 +105,7 @@ pub fn sweep(alloc: Global, starts: &[u64], ends: &[u64]) -> AllocResult<Sweepin
         × (swept.begun ≡ length starts.now) × (swept.ended ≡ length ends.now)) }
 {
     let mut so_far = Sweeping {
-        sums: Sums {
-            at: 0,
-            shares: 0,
-            busy: 0,
-            alone: 0,
-        },
+        sums: Sums::default(),
         begun: 0,
         ended: 0,
         at_starts: Vec::with_capacity(alloc, starts.len())?,

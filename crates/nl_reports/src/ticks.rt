@@ -1,40 +1,16 @@
 //! The axis of time, with a line at each round step.
-ghost use Rattle.std.specs.Prelude.{◌≡◌, ◌<◌, ◌^◌, ◌++◌, OnOk};
-ghost use Rattle.std.specs.List.{All};
+ghost use Rattle.std.specs.Prelude.{◌≡◌, ◌<◌, ◌^◌, ◌++◌, OnOk, All};
 ghost use Rattle.nl_reports.specs.Frame.{IsFrame};
 ghost use Rattle.nl_reports.specs.Ticks.{IsStep, step_in, step_of, tick, ticks};
 
 use crate::frame::Frame;
-use nl_tool_texts::{AllocResult, Part, append_parts};
+use nl_tool_texts::{AllocResult, Part, put};
 
 // In milliseconds; a build has at most twelve steps.
 const STEPS: [u64; 26] = [
-    1,
-    2,
-    5,
-    10,
-    20,
-    50,
-    100,
-    200,
-    500,
-    1000,
-    2000,
-    5000,
-    10_000,
-    15_000,
-    30_000,
-    60_000,
-    120_000,
-    300_000,
-    900_000,
-    1_800_000,
-    3_600_000,
-    7_200_000,
-    18_000_000,
-    36_000_000,
-    72_000_000,
-    180_000_000,
+    1, 2, 5, 10, 20, 50, 100, 200, 500, 1000, 2000, 5000, 10_000, 15_000, 30_000, 60_000, 120_000,
+    300_000, 900_000, 1_800_000, 3_600_000, 7_200_000, 18_000_000, 36_000_000, 72_000_000,
+    180000000,
 ];
 
 const LONGEST: u64 = 360_000_000;
@@ -77,18 +53,6 @@ fn append_tick(frame: &Frame, ms: u64, out: &mut Vec<u8>) -> AllocResult
     ensures items { OnOk result (out.new.items ≡ out.old.items ++ tick frame.now ms) }
 {
     let x = u128::from(frame.x_of(ms));
-    append_parts(
-        &[
-            Part::Text(b"<path class=\"g\" d=\"M"),
-            Part::Number(x),
-            Part::Text(b" 1000V"),
-            Part::Number(frame.foot()),
-            Part::Text(b"\"/><text class=\"m\" x=\""),
-            Part::Number(x),
-            Part::Text(b"\" y=\"950\" text-anchor=\"middle\">"),
-            Part::Time(ms),
-            Part::Text(b"</text>\n"),
-        ],
-        out,
-    )
+    put!(out; b"<path class=\"g\" d=\"M" {x} b" 1000V" {frame.foot()} b"\"/><text class=\"m\" x=\""
+        {x} b"\" y=\"950\" text-anchor=\"middle\">" [Part::Time(ms)] b"</text>\n")
 }

@@ -1,6 +1,5 @@
 //! How long commands took by what they do.
-ghost use Rattle.std.specs.Prelude.{◌≡◌, ◌+◌, ◌<◌, ◌^◌, ℕ, length, map};
-ghost use Rattle.std.specs.List.{All};
+ghost use Rattle.std.specs.Prelude.{◌≡◌, ◌+◌, ◌<◌, ◌^◌, ℕ, length, map, All};
 ghost use Rattle.nl_reports.specs.Jobs.{seen};
 ghost use Rattle.nl_reports.specs.Spans.{IsEarly};
 ghost use Rattle.nl_reports.specs.Times.{AreTimesOf, share_of, time_in, times_of, total, with_time};
@@ -9,7 +8,7 @@ use crate::job::Job;
 use crate::work::{Work, work_of};
 
 /// In milliseconds.
-#[derive(Clone, Copy, Drop)]
+#[derive(Clone, Copy, Default, Drop)]
 pub struct Times {
     pub compile: u128,
     pub link: u128,
@@ -20,19 +19,12 @@ pub struct Times {
 }
 
 impl Times {
-    pub(crate) fn of(jobs: &[Job<'_, '_>]) -> Times
+    pub(crate) fn of(jobs: &[Job]) -> Times
         requires early { All (λ j. IsEarly j.span) jobs.now }
         ensures value { result ≡ times_of (map seen jobs.now) }
         ensures few { AreTimesOf (length jobs.now) result }
     {
-        let mut times = Times {
-            compile: 0,
-            link: 0,
-            archive: 0,
-            generate: 0,
-            test: 0,
-            other: 0,
-        };
+        let mut times = Times::default();
         for job in jobs {
             times.add(work_of(job.name()), job.span.time());
         }

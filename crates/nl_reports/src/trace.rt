@@ -1,12 +1,11 @@
 //! The text of `trace`.
-ghost use Rattle.std.specs.Prelude.{◌≡◌, ◌<◌, ◌^◌, ◌++◌, List, map, IfErr, OnOk};
-ghost use Rattle.std.specs.List.{All};
+ghost use Rattle.std.specs.Prelude.{◌≡◌, ◌<◌, ◌^◌, ◌++◌, List, map, IfErr, OnOk, All};
 ghost use Rattle.nl_reports.specs.Jobs.{seen, told};
 ghost use Rattle.nl_reports.specs.Moments.{AreMoments};
 ghost use Rattle.nl_reports.specs.Spans.{IsEarly};
-ghost use Rattle.nl_reports.specs.Trace.{array_text, behind_commas, build_events, events_of, how_among, how_in, number_in, scoped_text};
-ghost use Rattle.nl_tool_texts.specs.Writing.{IsWriteFault, Writes};
 ghost use Rattle.nl_reports.specs.declared.span.Span.{Span};
+ghost use Rattle.nl_reports.specs.Trace.{array_text, behind_commas, build_events, events_of, how_in, number_in, scoped_text};
+ghost use Rattle.nl_tool_texts.specs.Writing.{IsWriteFault, Writes};
 
 use crate::choice::{Choice, Scope, chosen, last_number};
 use crate::events::{BuildEvent, append_build, append_command, append_running};
@@ -17,7 +16,7 @@ use crate::moments::{Moments, Near};
 use crate::numbers::spans_of;
 use crate::summary::most_taken;
 use crate::turns::jobs_in_turn;
-use nl_builds::{Build, Builds, How};
+use nl_builds::{Builds, How};
 use nl_tool_texts::{AllocResult, ToolFault, append, write_full, write_out, write_rest};
 use std::alloc::Global;
 use std::io::Write;
@@ -57,12 +56,7 @@ fn how_in(scope: Scope, from: &Builds) -> Option<How>
     ensures { result ≡ how_in scope (told from.now) }
 {
     let Choice { first, last } = chosen(scope, from)?;
-    how_among(between(first.saturating_sub(1), last, from.builds.as_slice()))
-}
-
-fn how_among(builds: &[Build]) -> Option<How>
-    ensures { result ≡ how_among builds.now }
-{
+    let builds = between(first.saturating_sub(1), last, from.builds.as_slice());
     if builds.is_empty() {
         return None;
     }
@@ -77,7 +71,7 @@ fn write_events<W: Write>(
     alloc: Global,
     number: u64,
     how: How,
-    jobs: &[Job<'_, '_>],
+    jobs: &[Job],
     writer: &mut W,
 ) -> Result<(), ToolFault>
     requires early { All (λ j. IsEarly j.span) jobs.now }
@@ -88,20 +82,14 @@ fn write_events<W: Write>(
     let spans = spans_of(alloc, jobs)?;
     let lanes = lanes_of(alloc, spans.as_slice())?;
     let moments = Moments::of(alloc, spans.as_slice())?;
-    let build = BuildEvent {
-        number,
-        began: first_began(spans.as_slice()),
-        how,
-    };
+    let began = first_began(spans.as_slice());
+    let build = BuildEvent { number, began, how };
     let mut held = Vec::from_slice(alloc, b"[")?;
-    append_build(alloc, build, &mut held)?;
-    let mut near = NearBoth {
-        began: Near { begun: 0, ended: 0 },
-        closed: Near { begun: 0, ended: 0 },
-    };
+    append_build(build, &mut held)?;
+    let mut near = NearBoth::default();
     for i in 0..jobs.len() {
         let lane = lane_at(lanes.as_slice(), i);
-        append_events(alloc, build, &moments, &mut near, lane, &jobs[i], &mut held)?;
+        append_events(build, &moments, &mut near, lane, &jobs[i], &mut held)?;
         write_full(&mut held, writer)?;
     }
     append(b"]", &mut held)?;
@@ -109,19 +97,18 @@ fn write_events<W: Write>(
 }
 
 // Near where the last command began, and near where it had ended.
-#[derive(Clone, Copy, Drop)]
+#[derive(Clone, Copy, Default, Drop)]
 struct NearBoth {
     began: Near,
     closed: Near,
 }
 
 fn append_events(
-    alloc: Global,
     build: BuildEvent,
     moments: &Moments,
     near: &mut NearBoth,
     lane: u64,
-    job: &Job<'_, '_>,
+    job: &Job,
     out: &mut Vec<u8>,
 ) -> AllocResult
     requires early { IsEarly job.now.span }
@@ -129,7 +116,7 @@ fn append_events(
     ensures items { (cs : List Span) → AreMoments cs moments.now → OnOk result
         (out.new.items ≡ out.old.items ++ behind_commas (events_of build cs (seen job.now, lane))) }
 {
-    append_command(alloc, build, lane, job, out)?;
+    append_command(build, lane, job, out)?;
     append_running(build, moments, &mut near.began, job.span.began, out)?;
     append_running(build, moments, &mut near.closed, job.span.closed(), out)
 }

@@ -1,6 +1,5 @@
 //! Builds one after another on one clock.
-ghost use Rattle.std.specs.Prelude.{◌≡◌, ◌<◌, ◌++◌, ◌^◌, map, IfOk};
-ghost use Rattle.std.specs.List.{All};
+ghost use Rattle.std.specs.Prelude.{◌≡◌, ◌<◌, ◌++◌, ◌^◌, map, IfOk, All};
 ghost use Rattle.nl_reports.specs.Frame.{first_began};
 ghost use Rattle.nl_reports.specs.Jobs.{build_jobs, seen, told};
 ghost use Rattle.nl_reports.specs.Rows.{by_start, spans};
@@ -8,7 +7,7 @@ ghost use Rattle.nl_reports.specs.Spans.{IsEarly};
 ghost use Rattle.nl_reports.specs.Turns.{clock_behind, jobs_in_turn, jobs_turned, turned, turned_job, turned_jobs};
 
 use crate::choice::{Choice, Scope, chosen};
-use crate::job::{Job, between, jobs_by_start, jobs_of};
+use crate::job::{Job, JobsResult, between, jobs_by_start, jobs_of};
 use crate::span::Span;
 use nl_builds::{Build, Builds};
 use nl_tool_texts::AllocResult;
@@ -19,11 +18,7 @@ const LAST: u64 = 4_294_967_295;
 
 /// The commands of these builds, on a clock on which each build begins as the one before it has ended, the first at 0; those of each in the
 /// order of START.
-pub fn jobs_in_turn<'s, 'a>(
-    alloc: Global,
-    scope: Scope,
-    from: &'s Builds<'a>,
-) -> AllocResult<Vec<Job<'s, 'a>>>
+pub fn jobs_in_turn<'s, 'a>(alloc: Global, scope: Scope, from: &'s Builds<'a>) -> JobsResult<'s, 'a>
     ensures value { IfOk result (λ jobs. map seen jobs.items ≡ jobs_in_turn scope (told from.now)) }
     ensures early { IfOk result (λ jobs. All (λ j. IsEarly j.span) jobs.items) }
 {
@@ -41,7 +36,7 @@ fn jobs_turned<'s, 'a>(
     from: &'s Builds<'a>,
     first: usize,
     builds: &[Build],
-) -> AllocResult<Vec<Job<'s, 'a>>>
+) -> JobsResult<'s, 'a>
     requires small { first < 2 ^ 63 }
     ensures value { IfOk result (λ jobs. map seen jobs.items ≡ jobs_turned 0 (told from.now) first builds.now) }
     ensures early { IfOk result (λ jobs. All (λ j. IsEarly j.span) jobs.items) }
@@ -80,7 +75,7 @@ fn push_build<'s, 'a>(
     Ok(last)
 }
 
-fn began_of(jobs: &[Job<'_, '_>]) -> u64
+fn began_of(jobs: &[Job]) -> u64
     ensures { result ≡ first_began (spans (map seen jobs.now)) }
 {
     jobs.first().map_or(0, |job| job.span.began)

@@ -15,7 +15,7 @@ returns c =
     let x = c.x_at-x.ensures.value in
     let width = c.width_of-width.ensures.value in
     let left = c.from.ensures ∙ x in
-    let drawn = c.drawn_width.ensures ∙ ap drawn_width width in
+    let drawn = c.drawn_width-drawn.ensures ∙ ap drawn_width width in
     record {
       items = on_ok_weaker c.append_name.result (λ h. three_parts old c.append_rect.new.out.items c.append_title.new.out.items c.append_name.new.out.items
           (rect f lane (x_at f j.span.began) (drawn_width (width_of f j)) (kind_of j)) (title f j)

@@ -8,6 +8,6 @@ returns c =
     let foot = c.foot-foot.ensures.value in
     let above = c.saturating_sub.ensures ∙ ap (λ (y : ℕ). y - 720) foot in
     record {
-      items = on_ok_weaker c.append_parts.result (λ h. h ∙ (λ i. c.args.out.now.items ++ curve_end_text (foot i) (above i) (c.from.ensures i + 1)))
-          c.append_parts.ensures.items;
+      items = on_ok_weaker c.put.result (λ h. h ∙ (λ i. c.args.out.now.items ++ curve_end_text (foot i) (above i) (c.from.ensures i + 1)))
+          c.put.ensures.items;
     }

@@ -3,16 +3,15 @@ use Rattle.nl_reports.specs.Jobs.{seen}
 use Rattle.nl_reports.specs.Rows.{spans}
 use Rattle.nl_reports.specs.Sweep.{last_moment, running}
 use Rattle.nl_reports.specs.declared.span.Span.{Span}
-use Rattle.nl_reports.proofs.ReachesLemmas.{are_still, have_plan}
+use Rattle.nl_reports.proofs.ReachesLemmas.{have_plan}
 use Rattle.nl_reports.proofs.jobs.checked.Goals as goal
 
 pub returns-then-begun : goal.returns-then-begun
 returns-then-begun c = record {
-  value = λ ks same.
-      let g = c.args.graph.now in
+  value = λ g ks there same.
       let js = map seen c.args.plan.now in
-      let r = c.in_ok-reaches-2.reaches in
-      let are = are_still g js c.in_ok-reaches.reaches r c.in_ok-reaches.ensures.value c.in_ok-reaches-2.ensures.graph c.in_ok-reaches-2.ensures.ran in
+      let r = c.in_ok-reaches.reaches in
+      let are = c.in_ok-reaches.ensures.value g ks there same in
       let ran : c.as_slice.result.now ≡ spans js = c.as_slice.ensures.value ∙ c.in_ok-spans.ensures.value in
       let last : c.as_slice-2.result.now ≡ spans js = c.as_slice-2.ensures.value ∙ c.in_ok-spans.ensures.value in
       have_plan g js ks c.args.count c.last_of-wall.result r are same

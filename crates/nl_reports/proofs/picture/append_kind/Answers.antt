@@ -7,6 +7,6 @@ pub returns : goal.returns
 returns c =
     let kind = c.from-kind.ensures ∙ c.place.ensures.value in
     record {
-      items = on_ok_weaker c.append_parts.result (λ h. h ∙ (λ i. c.args.out.now.items ++ legend_text (kind i) (c.word.ensures i) (c.share_of.ensures.value i)))
-          c.append_parts.ensures.items;
+      items = on_ok_weaker c.put.result (λ h. h ∙ (λ i. c.args.out.now.items ++ legend_text (kind i) (c.word.ensures i) (c.share_of.ensures.value i)))
+          c.put.ensures.items;
     }

@@ -13,8 +13,8 @@ returns c =
     let old = c.args.out.now.items in
     let j = c.args.job.now in
     record {
-      items = on_ok_weaker c.append.result (λ h. three_parts old c.append_parts.new.out.items c.append_label.new.out.items c.append.new.out.items
+      items = on_ok_weaker c.append.result (λ h. three_parts old c.put.new.out.items c.append_label.new.out.items c.append.new.out.items
           (long_start (line_at c.args.frame.now c.args.line) (time_of j.span)) (label (first_name j.outputs.now)) (codes "</text>\n")
-          (c.in_ok-append_parts.ensures.items ∙ (λ i. old ++ long_start (c.line_at-y.ensures.value i) (c.time.ensures.value i)))
-          (c.in_ok-append_label.ensures.items ∙ ap (λ (n : List ℕ). c.append_parts.new.out.items ++ label n) c.name.ensures) h) c.append.ensures.items;
+          (c.in_ok-put.ensures.items ∙ (λ i. old ++ long_start (c.line_at-y.ensures.value i) (c.time.ensures.value i)))
+          (c.in_ok-append_label.ensures.items ∙ ap (λ (n : List ℕ). c.put.new.out.items ++ label n) c.name.ensures) h) c.append.ensures.items;
     }

@@ -8,7 +8,7 @@ use Rattle.nl_reports.proofs.picture.append_longest.Goals as goal
 pub loop-i-init : goal.loop-i-init
 loop-i-init c =
     ap (λ (l : List ℕ). l ++ long_lines c.args.frame.now 1 (map seen c.in_ok-kept.kept.items))
-    (c.in_ok-append_parts.ensures.items ∙ (λ i. c.args.out.now.items ++ long_head_text (c.line_at.ensures.value i)))
+    (c.in_ok-put.ensures.items ∙ (λ i. c.args.out.now.items ++ long_head_text (c.line_at.ensures.value i)))
 
 pub loop-i-preserved : goal.loop-i-preserved
 loop-i-preserved c =

@@ -34,16 +34,16 @@ returns-in_err-write_full-clause-writes g c =
     c.index-jobs-i.is (get_or_default ls i 0 (get_or ls i 0) there) c.in_ok-append_bar.ensures.items c.in_ok-append_bar.ensures.short
     c.loop-i.invariant) c.in_err-write_full.ensures.prefix)))
 
-pub returns-in_err-by_place-clause-writes : goal.returns-in_err-by_place-clause-writes
-returns-in_err-by_place-clause-writes g c =
-    err_writes _ _ _ _ c.from_residual-in_err-by_place.ensures.0 (end_missing _ _ _ c.args.end.now c.requires.some (_, c.loop-i.invariant))
+pub returns-in_err-marks-clause-writes : goal.returns-in_err-marks-clause-writes
+returns-in_err-marks-clause-writes g c =
+    err_writes _ _ _ _ c.from_residual-in_err-marks.ensures.0 (end_missing _ _ _ c.args.end.now c.requires.some (_, c.loop-i.invariant))
 
 pub returns-in_err-write_marks-clause-writes : goal.returns-in_err-write_marks-clause-writes
 returns-in_err-write_marks-clause-writes g c =
     let all : length c.args.jobs.now ≤ c.loop-i.i = omega (arith, c.loop-i-test.false) in
     err_writes _ _ _ _ c.from_residual-in_err-write_marks.ensures.0 (end_missing _ _ _ c.args.end.now c.requires.some (some_moved _ _ _ _ _
     (bars_over _ _ _ _ c.args.frame.now c.args.jobs.now c.args.lanes.now c.loop-i.i c.loop-i.short.items c.as_slice.result.now all
-    (c.as_slice.ensures.value ∙ c.in_ok-by_place.ensures.value) c.loop-i.invariant) c.in_err-write_marks.ensures.moves))
+    (c.as_slice.ensures.value ∙ c.in_ok-marks.ensures.value) c.loop-i.invariant) c.in_err-write_marks.ensures.moves))
 
 pub returns-in_err-append-clause-writes : goal.returns-in_err-append-clause-writes
 returns-in_err-append-clause-writes g c =
@@ -52,7 +52,7 @@ returns-in_err-append-clause-writes g c =
       _,
       moved_on _ _ _ _ _ _
           (bars_over _ _ _ _ c.args.frame.now c.args.jobs.now c.args.lanes.now c.loop-i.i c.loop-i.short.items c.as_slice.result.now all
-          (c.as_slice.ensures.value ∙ c.in_ok-by_place.ensures.value) c.loop-i.invariant) c.in_ok-write_marks.ensures.moves,
+          (c.as_slice.ensures.value ∙ c.in_ok-marks.ensures.value) c.loop-i.invariant) c.in_ok-write_marks.ensures.moves,
     ))
 
 pub returns-clause-writes : goal.returns-clause-writes
@@ -60,4 +60,4 @@ returns-clause-writes g c =
     let all : length c.args.jobs.now ≤ c.loop-i.i = omega (arith, c.loop-i-test.false) in
     rest_written _ _ _ _ _ c.write_rest.result (rw c.in_ok-append.ensures.items (held_more _ _ _ _ c.args.end.now (moved_on _ _ _ _ _ _
     (bars_over _ _ _ _ c.args.frame.now c.args.jobs.now c.args.lanes.now c.loop-i.i c.loop-i.short.items c.as_slice.result.now all
-    (c.as_slice.ensures.value ∙ c.in_ok-by_place.ensures.value) c.loop-i.invariant) c.in_ok-write_marks.ensures.moves))) c.write_rest.ensures.writes
+    (c.as_slice.ensures.value ∙ c.in_ok-marks.ensures.value) c.loop-i.invariant) c.in_ok-write_marks.ensures.moves))) c.write_rest.ensures.writes

@@ -26,7 +26,7 @@ returns c =
     let slow = slowest_line screen (first_of (falling (rank_told Time) us)) in
     let last = unfinished_line screen c.args.unfinished in
     let chosen : bs ≡ between (first - 1) c.args.choice.last c.args.from.now.builds.items =
-    c.between-told.ensures ∙ (λ i. between (c.saturating_sub.ensures i) c.args.choice.last (c.as_slice.ensures.value i)) in
+    c.between-told.ensures ∙ (λ i. between (c.saturating_sub-before.ensures i) c.args.choice.last (c.as_slice.ensures.value i)) in
     record {
       items = on_ok_weaker c.append_lists.result (λ h.
           let whole : c.append_lists.new.lines.items ≡ old ++ text_of head c.args.lists c.args.unfinished ts us taken =

@@ -17,9 +17,9 @@ returns-then-screen c =
     let parallel = c.as_bytes.ensures.value ∙ c.in_ok-parallel.ensures.value ∙ ap (λ (n : ℕ). ratio n t.wall) total in
     let best = c.bound-best.ensures.value ∙ (λ i. bound t.most (total i) (c.in_ok-slowest.ensures.value i)) in
     record {
-      items = on_ok_weaker c.append_facts.result (λ h. h
-          ∙ (λ i. c.args.lines.now.items ++ facts t (count i) (total i) (best i) (c.saturating_sub-none.ensures i) (parallel i))
-          ∙ ap (λ (l : List ℕ). c.args.lines.now.items ++ l) (sym (cond-true c.args.screen (facts_of t (map told_row rows)) _ c.if-screen.true))) c.append_facts.ensures.items;
+      items = on_ok_weaker c.put.result (λ h. h
+          ∙ (λ i. c.args.lines.now.items ++ facts (record t { most = c.from-most.ensures i }) (count i) (total i) (best i) (c.saturating_sub-none.ensures i) (parallel i))
+          ∙ ap (λ (l : List ℕ). c.args.lines.now.items ++ l) (sym (cond-true c.args.screen (facts_of t (map told_row rows)) _ c.if-screen.true))) c.put.ensures.items;
     }
 
 pub returns : goal.returns

@@ -19,11 +19,11 @@ use Rattle.nl_reports.proofs.trace.write_events.Goals as goal
 pub loop-i-init : goal.loop-i-init
 loop-i-init g c =
     let js = map seen c.args.jobs.now in
-    let b : BuildEvent = record { number = c.args.number; began = c.first_began.result; how = c.args.how } in
+    let b : BuildEvent = record { number = c.args.number; began = c.first_began-began.result; how = c.args.how } in
     let told = array_text (build_events c.args.number c.args.how js) in
     subst (λ (l : List ℕ). HoldsAllBut (g.W.Write.contents c.args.writer.now) (g.W.Write.contents c.args.writer.now) told l)
-    (all_told c.args.number c.first_began.result c.args.how js c.in_ok-lanes.lanes.items c.append_build.new.out.items
-    (c.first_began.ensures.value ∙ ap first_began (c.as_slice-3.ensures.value ∙ c.in_ok-spans.ensures.value))
+    (all_told c.args.number c.first_began-began.result c.args.how js c.in_ok-lanes.lanes.items c.append_build.new.out.items
+    (c.first_began-began.ensures.value ∙ ap first_began (c.as_slice-3.ensures.value ∙ c.in_ok-spans.ensures.value))
     (c.in_ok-lanes.ensures.value ∙ ap lanes (c.as_slice.ensures.value ∙ c.in_ok-spans.ensures.value))
     (c.in_ok-append_build.ensures.items ∙ ap (λ (l : List ℕ). l ++ event_text (build_event b)) c.in_ok-held.ensures.items)) (all_held _ told)
 
@@ -42,7 +42,7 @@ loop-i-preserved g c =
     let ran = spans (map seen ks) in
     let i = c.loop-i.i in
     let ls = c.in_ok-lanes.lanes.items in
-    let b : BuildEvent = record { number = c.args.number; began = c.first_began.result; how = c.args.how } in
+    let b : BuildEvent = record { number = c.args.number; began = c.first_began-began.result; how = c.args.how } in
     let count : length ran ≡ length ks = omega (arith, length-map (map seen ks) (λ j. j.span), length-map ks seen) in
     let within : i < length ks = omega (arith, c.loop-i-test.true) in
     let there : i < length ls = omega (
@@ -70,7 +70,7 @@ returns-in_err-write_full-clause-writes g c =
     let ran = spans (map seen ks) in
     let i = c.loop-i.i in
     let ls = c.in_ok-lanes.lanes.items in
-    let b : BuildEvent = record { number = c.args.number; began = c.first_began.result; how = c.args.how } in
+    let b : BuildEvent = record { number = c.args.number; began = c.first_began-began.result; how = c.args.how } in
     let count : length ran ≡ length ks = omega (arith, length-map (map seen ks) (λ j. j.span), length-map ks seen) in
     let within : i < length ks = omega (arith, c.loop-i-test.true) in
     let there : i < length ls = omega (
@@ -97,7 +97,7 @@ pub returns-clause-writes : goal.returns-clause-writes
 returns-clause-writes g c =
     let ks = c.args.jobs.now in
     let js = map seen ks in
-    let b : BuildEvent = record { number = c.args.number; began = c.first_began.result; how = c.args.how } in
+    let b : BuildEvent = record { number = c.args.number; began = c.first_began-began.result; how = c.args.how } in
     let all : length ks ≤ c.loop-i.i = omega (arith, c.loop-i-test.false) in
     let over = ap behind_commas (pairs_over (events_of b (spans js)) ks c.in_ok-lanes.lanes.items c.loop-i.i all) in
     rest_written _ _ _ _ _ c.write_rest.result (rw c.in_ok-append.ensures.items (subst (λ (l : List ℕ). HoldsAllBut (g.W.Write.contents c.args.writer.now)

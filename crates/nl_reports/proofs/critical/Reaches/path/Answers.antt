@@ -18,7 +18,7 @@ returns c = record {
         longest = longest ps js r are.distinct are.ran r.graph.now.edges.items (far_at r c.farthest-start.result)
             (c.if-not-are_tight.ensures.value refl)
             is.farthest followed.path followed.is_path followed.length_is;
-        length_is = c.far_at.ensures ∙ sym followed.length_is;
+        length_is = c.far_at-length.ensures ∙ sym followed.length_is;
         rans_are = followed.rans_are ∙ ap (λ (l : List Ran). map ran_seen l ++ path_rans (seen_graph r.graph.now) js followed.path) c.new-commands.ensures.items;
       };
 }

@@ -5,7 +5,7 @@ use Rattle.nl_reports.specs.Critical.{Ran as Told}
 use Rattle.nl_reports.specs.Gains.{half_ran}
 use Rattle.nl_reports.specs.Reaches.{ran_seen, rans_seen}
 use Rattle.nl_reports.specs.declared.critical.Ran.{Ran}
-use Rattle.nl_reports.proofs.GainLemmas.{are_half, half_more}
+use Rattle.nl_reports.proofs.GainLemmas.{are_half, ran_changed}
 use Rattle.nl_reports.proofs.critical.Reaches.with_half.Goals as goal
 
 pub loop-node-preserved : goal.loop-node-preserved
@@ -14,7 +14,7 @@ loop-node-preserved c =
     let i = c.loop-node.node in
     let inside : i < length xs = omega (arith, c.loop-node-test.true, c.len-node-end.ensures) in
     ap rans_seen c.in_ok-push.ensures.items
-    ∙ half_more c.args.place xs c.loop-node.ran.items c.halved.result i inside
+    ∙ ran_changed (option_map (half_ran c.args.place)) xs c.loop-node.ran.items c.halved.result i inside
     (c.halved.ensures.value ∙ ap (option_map (half_ran c.args.place)) c.ran_at.ensures.value) c.loop-node.invariant
 
 pub returns : goal.returns
@@ -24,6 +24,6 @@ returns c = record {
       let i = c.loop-node.node in
       let half : List (Option Told) → List (Option Told) = map (option_map (half_ran c.args.place)) in
       let all : length (rans_seen r.ran.items) ≤ i = omega (arith, c.loop-node-test.false, c.len-node-end.ensures, length-map r.ran.items (option_map ran_seen)) in
-      are_half r.graph.now js c.args.place r c.spread.new.self are c.spread.ensures.graph
-      (ap (λ (v : Vec (Option Ran)). rans_seen v.items) c.spread.ensures.ran ∙ c.loop-node.invariant ∙ ap half (take_all i (rans_seen r.ran.items) all));
+      are_half r.graph.now js c.args.place r c.in_ok-half.half are c.in_ok-half.ensures.graph
+      (ap (λ (v : Vec (Option Ran)). rans_seen v.items) c.in_ok-half.ensures.ran ∙ c.loop-node.invariant ∙ ap half (take_all i (rans_seen r.ran.items) all));
 }

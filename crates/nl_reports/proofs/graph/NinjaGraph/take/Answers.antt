@@ -11,7 +11,7 @@ returns-in_ok-insert-in-Labelled c = record {
   ok = λ ns es holds.
       let hs = c.args.self.now.edges.items in
       let new = c.insert.new.self.entries in
-      let n = c.args.number in
+      let n = c.args.line in
       let P : Line → Type 0 = λ said. Holds (ns ++ nodes_said (line_seen said)) (es ++ edges_said n (line_seen said)) new hs in
       subst P (sym c.in-Labelled.is) (holds_named ns es c.args.self.now.nodes.entries new hs holds c.in-Labelled.id c.in-Labelled.name
       c.in_ok-insert-in-Labelled.ensures.entries c.in_ok-insert-in-Labelled.ensures.updates.0);
@@ -23,7 +23,7 @@ returns-in_ok-push-in-Joined c = record {
       let first = c.in_ok-from-in-Joined.ensures.place in
       let second = c.in_ok-to-in-Joined.ensures.place in
       let kept = second.kept c.in_ok-from-in-Joined.from first.within in
-      let n = c.args.number in
+      let n = c.args.line in
       let e : HeldEdge = record { from = c.in_ok-from-in-Joined.from; to = c.in_ok-to-in-Joined.to; line = n } in
       let new = c.place_of-in-Joined.new.self in
       let held = c.in_ok-to-in-Joined.ensures.holds ns es (c.in_ok-from-in-Joined.ensures.holds ns es holds) in
