@@ -114,8 +114,7 @@ fn append_more(count: usize, out: &mut Vec<u8>) -> AllocResult
     if count == 0 {
         return Ok(());
     }
-    append_with(b" and ", count, out)?;
-    append(b" more", out)
+    put!(out; b" and " {count} b" more")
 }
 
 fn append_name(

@@ -42,8 +42,7 @@ fn heading_for(zone: &TimeZone) -> &'static [u8]
 }
 
 fn rows_of(alloc: Global, zone: &TimeZone, from: &Builds) -> AllocResult<Vec<u8>>
-    ensures value { IfOk result
-        (λ rows. AreRows zone.now (told from.now) (length from.now.builds.items) rows.items) }
+    ensures value { IfOk result (λ rows. AreRows zone.now (told from.now) (length from.now.builds.items) rows.items) }
 {
     let mut rows = Vec::new(alloc);
     for place in 0..from.builds.len() {
@@ -54,8 +53,7 @@ fn rows_of(alloc: Global, zone: &TimeZone, from: &Builds) -> AllocResult<Vec<u8>
 
 fn append_row(zone: &TimeZone, from: &Builds, place: usize, rows: &mut Vec<u8>) -> AllocResult
     requires there { place < length from.now.builds.items }
-    ensures row { OnOk result
-        ((row : List ℕ) × (IsRow zone.now (told from.now) place row × (rows.new.items ≡ rows.old.items ++ row))) }
+    ensures row { OnOk result ((row : List ℕ) × (IsRow zone.now (told from.now) place row × (rows.new.items ≡ rows.old.items ++ row))) }
 {
     let alloc = *rows.allocator();
     let build = from.builds[place];
@@ -73,8 +71,7 @@ fn append_fields(
     build: &Build,
     rows: &mut Vec<u8>,
 ) -> AllocResult
-    ensures items { OnOk result
-        (rows.new.items ≡ rows.old.items ++ row_text number began.now numbers.now build.now) }
+    ensures items { OnOk result (rows.new.items ≡ rows.old.items ++ row_text number began.now numbers.now build.now) }
 {
     append_line(
         &[
@@ -83,7 +80,7 @@ fn append_fields(
             Part::Time(numbers.wall),
             Part::Number(numbers.commands as u128),
             Part::Number(numbers.outputs as u128),
-            Part::Text(border_word(build).as_bytes()),
+            Part::Text(border_word(build)),
         ],
         rows,
     )

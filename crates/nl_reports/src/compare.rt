@@ -85,8 +85,7 @@ fn append_classes(
 }
 
 fn append_total(screen: bool, class: Class, rows: &[ComparedRow], out: &mut Vec<u8>) -> AllocResult
-    ensures items { OnOk result
-        (out.new.items ≡ out.old.items ++ total_line screen (map compared_of rows.now) class) }
+    ensures items { OnOk result (out.new.items ≡ out.old.items ++ total_line screen (map compared_of rows.now) class) }
 {
     let kept = of_class(*out.allocator(), class, rows)?;
     let old = old_time(kept.as_slice());
@@ -109,8 +108,7 @@ fn append_class(
     rows: &[ComparedRow],
     lines: &mut Vec<u8>,
 ) -> AllocResult
-    ensures items { OnOk result
-        (lines.new.items ≡ lines.old.items ++ class_lines screen most (map compared_of rows.now) class) }
+    ensures items { OnOk result (lines.new.items ≡ lines.old.items ++ class_lines screen most (map compared_of rows.now) class) }
 {
     let kept = of_class(*lines.allocator(), class, rows)?;
     if most == 0 || kept.len() == 0 {
@@ -142,8 +140,7 @@ fn append_rows(screen: bool, most: usize, kept: &[ComparedRow], lines: &mut Vec<
 }
 
 fn append_row(screen: bool, row: &ComparedRow, lines: &mut Vec<u8>) -> AllocResult
-    ensures items { OnOk result
-        (lines.new.items ≡ lines.old.items ++ row_line screen (compared_of row.now)) }
+    ensures items { OnOk result (lines.new.items ≡ lines.old.items ++ row_line screen (compared_of row.now)) }
 {
     let change = Part::Change(screen, u128::from(row.old), u128::from(row.new));
     let old = Part::Took(screen, u128::from(row.old));

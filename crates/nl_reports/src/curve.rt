@@ -11,8 +11,7 @@ use nl_tool_texts::{AllocResult, put};
 
 pub(crate) fn append_curve(frame: &Frame, moments: &Moments, out: &mut Vec<u8>) -> AllocResult
     requires early { IsFrame frame.now }
-    ensures items { (cs : List Span) → AreMoments cs moments.now
-        → OnOk result (out.new.items ≡ out.old.items ++ curve frame.now cs) }
+    ensures items { (cs : List Span) → AreMoments cs moments.now → OnOk result (out.new.items ≡ out.old.items ++ curve frame.now cs) }
 {
     put!(out; b"<path class=\"q\" d=\"M1000 " {frame.foot()})?;
     append_points(frame, moments, out)?;
@@ -31,8 +30,7 @@ fn append_end(frame: &Frame, out: &mut Vec<u8>) -> AllocResult
 
 fn append_points(frame: &Frame, moments: &Moments, out: &mut Vec<u8>) -> AllocResult
     requires early { IsFrame frame.now }
-    ensures items { (cs : List Span) → AreMoments cs moments.now
-        → OnOk result (out.new.items ≡ out.old.items ++ points frame.now cs 480) }
+    ensures items { (cs : List Span) → AreMoments cs moments.now → OnOk result (out.new.items ≡ out.old.items ++ points frame.now cs 480) }
 {
     for i in 0..480_u64 {
         append_point(frame, moments, i, out)?;
@@ -43,8 +41,7 @@ fn append_points(frame: &Frame, moments: &Moments, out: &mut Vec<u8>) -> AllocRe
 fn append_point(frame: &Frame, moments: &Moments, i: u64, out: &mut Vec<u8>) -> AllocResult
     requires early { IsFrame frame.now }
     requires within { i < 480 }
-    ensures items { (cs : List Span) → AreMoments cs moments.now
-        → OnOk result (out.new.items ≡ out.old.items ++ point frame.now cs i) }
+    ensures items { (cs : List Span) → AreMoments cs moments.now → OnOk result (out.new.items ≡ out.old.items ++ point frame.now cs i) }
 {
     let count = moments.running(frame.began + i * frame.wall / 480);
     put!(out; b"V" {height(frame, count)} b"H" {1030 + i * 30})

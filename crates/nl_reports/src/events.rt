@@ -63,8 +63,7 @@ pub(crate) fn append_command(
 ) -> AllocResult
     requires early { IsEarly job.now.span }
     requires lane { lane < 2 ^ 63 }
-    ensures items { OnOk result
-        (out.new.items ≡ out.old.items ++ 44 ∷ event_text (command_event build lane (seen job.now))) }
+    ensures items { OnOk result (out.new.items ≡ out.old.items ++ 44 ∷ event_text (command_event build lane (seen job.now))) }
 {
     let number = build.number;
     let dur = job.span.time() * 1000;

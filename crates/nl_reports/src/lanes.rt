@@ -35,8 +35,7 @@ impl Lanes {
     fn take(&mut self, command: &Span) -> AllocResult<usize>
         requires low { AreLow self.old }
         ensures lane { IfOk result (λ lane. lane ≡ first_free command.now.began self.old.ends.items) }
-        ensures ends { IfOk result
-            (λ lane. self.new.ends.items ≡ given lane (closed_of command.now) self.old.ends.items) }
+        ensures ends { IfOk result (λ lane. self.new.ends.items ≡ given lane (closed_of command.now) self.old.ends.items) }
         ensures low { OnOk result (AreLow self.new) }
     {
         let lane = self.first_free(command.began);

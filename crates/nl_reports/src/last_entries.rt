@@ -95,8 +95,7 @@ fn commands_left(
     behind: &[usize],
     commands: &[Command],
 ) -> AllocResult<(Vec<Command>, Vec<usize>)>
-    ensures items { IfOk result (λ left. left.0.items
-        ≡ commands_left (λ place. entries - get_or behind.now place 0) 0 commands.now) }
+    ensures items { IfOk result (λ left. left.0.items ≡ commands_left (λ place. entries - get_or behind.now place 0) 0 commands.now) }
     ensures before { IfOk result (λ left. (place : ℕ) → get_or left.1.items place (length left.0.items)
         ≡ length (commands_left (λ place. entries - get_or behind.now place 0) 0 (take place commands.now))) }
 {

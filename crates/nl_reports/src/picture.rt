@@ -199,15 +199,10 @@ fn append_outlined(
 ) -> AllocResult
     ensures items { OnOk result (out.new.items ≡ out.old.items ++ outlined frame.now lanes.now (rans_of path.entry)) }
 {
-    match path {
-        Some(found) => append_outlines(frame, lanes, found.commands.as_slice(), out),
-        None => Ok(()),
-    }
-}
-
-fn append_outlines(frame: &Frame, lanes: &[u64], commands: &[Ran], out: &mut Vec<u8>) -> AllocResult
-    ensures items { OnOk result (out.new.items ≡ out.old.items ++ outlined frame.now lanes.now (Some (map ran_seen commands.now))) }
-{
+    let Some(found) = path else {
+        return Ok(());
+    };
+    let commands = found.commands.as_slice();
     append(OUTLINED, out)?;
     for i in 0..commands.len() {
         append_outline(frame, lanes, &commands[i], out)?;

@@ -5,7 +5,9 @@ ghost use Rattle.nl_tool_texts.specs.Falling.{falling};
 
 use crate::lists::Lists;
 use crate::sweep::PARTS;
-use nl_tool_texts::{AllocResult, Part, Ranking, append, append_line, highest, percent, ratio};
+use nl_tool_texts::{
+    AllocResult, Part, Ranking, append, append_line, highest, percent, put, ratio,
+};
 
 /// How many commands there are, the sum of their milliseconds, and that of their weighted times, in parts of a millisecond.
 #[derive(Clone, Copy, Default, Drop)]
@@ -57,8 +59,7 @@ pub(crate) fn append_list(
     lines: &mut Vec<u8>,
 ) -> AllocResult
     requires room { total < 2 ^ 120 }
-    ensures items { OnOk result
-        (lines.new.items ≡ lines.old.items ++ list_lines lists total listed rank (map told_row rows.now)) }
+    ensures items { OnOk result (lines.new.items ≡ lines.old.items ++ list_lines lists total listed rank (map told_row rows.now)) }
 {
     append(heading(lists.screen, listed), lines)?;
     let kept = highest(*lines.allocator(), &rank, lists.most, rows)?;
@@ -80,8 +81,7 @@ fn heading(screen: bool, listed: Listed) -> &'static [u8]
 
 fn append_screen_row(listed: Listed, total: u128, row: &Row, lines: &mut Vec<u8>) -> AllocResult
     requires room { total < 2 ^ 120 }
-    ensures items { OnOk result
-        (lines.new.items ≡ lines.old.items ++ screen_row listed total (told_row row.now)) }
+    ensures items { OnOk result (lines.new.items ≡ lines.old.items ++ screen_row listed total (told_row row.now)) }
 {
     let time = Part::Took(true, row.sums.time);
     let share = Part::Percent(percent(row.sums.time, total));
@@ -103,21 +103,16 @@ fn append_row(
     lines: &mut Vec<u8>,
 ) -> AllocResult
     requires room { total < 2 ^ 120 }
-    ensures items { OnOk result
-        (lines.new.items ≡ lines.old.items ++ list_line screen total listed rank (told_row row.now)) }
+    ensures items { OnOk result (lines.new.items ≡ lines.old.items ++ list_line screen total listed rank (told_row row.now)) }
 {
     if screen {
         return append_screen_row(listed, total, row, lines);
     }
     append_key(listed, rank, row.sums.commands, lines)?;
-    let alloc = *lines.allocator();
-    let time = row.sums.time;
-    let weighted = ratio(alloc, row.sums.weight, u128::from(PARTS))?;
-    let times = format!(in alloc; "{time}\t{weighted}\t")?;
-    lines.extend_from_slice(times.as_bytes())?;
-    lines.extend_from_slice(shown_name(listed, row.name))?;
-    lines.push(b'\n')?;
-    Ok(())
+    let weighted = ratio(*lines.allocator(), row.sums.weight, u128::from(PARTS))?;
+    put!(lines; {row.sums.time} b"\t" [Part::Text(weighted.as_bytes())] b"\t")?;
+    append(shown_name(listed, row.name), lines)?;
+    append(b"\n", lines)
 }
 
 fn append_key(listed: Listed, rank: Rank, commands: u128, lines: &mut Vec<u8>) -> AllocResult
@@ -125,21 +120,17 @@ fn append_key(listed: Listed, rank: Rank, commands: u128, lines: &mut Vec<u8>) -
 {
     let by = rank_key(rank);
     match listed {
-        Listed::Commands => lines.extend_from_slice(by.as_bytes())?,
-        Listed::Kinds => {
-            let key = format!(in *lines.allocator(); "kinds-{by}{commands}\t")?;
-            lines.extend_from_slice(key.as_bytes())?;
-        }
+        Listed::Commands => append(by, lines),
+        Listed::Kinds => put!(lines; b"kinds-" [Part::Text(by)] {commands} b"\t"),
     }
-    Ok(())
 }
 
-fn rank_key(rank: Rank) -> &'static str
+fn rank_key(rank: Rank) -> &'static [u8]
     ensures { result.now ≡ rank_key rank }
 {
     match rank {
-        Rank::Time => "by-time\t",
-        Rank::Weight => "by-weight\t",
+        Rank::Time => b"by-time\t",
+        Rank::Weight => b"by-weight\t",
     }
 }
 

@@ -56,16 +56,14 @@ impl Shares {
 
     /// The weighted time of a command, in parts of a millisecond.
     pub fn weight(&self, span: &Span) -> u64
-        ensures value { (cs : List Span) → AreSharesOf cs self.now → Contains cs span.now
-            → result ≡ weight cs span.now }
+        ensures value { (cs : List Span) → AreSharesOf cs self.now → Contains cs span.now → result ≡ weight cs span.now }
     {
         self.weight_near(&mut Near { begun: 0, ended: 0 }, span)
     }
 
     /// It is the quicker the nearer the command is to the one before.
     pub(crate) fn weight_near(&self, near: &mut Near, span: &Span) -> u64
-        ensures value { (cs : List Span) → AreSharesOf cs self.now → Contains cs span.now
-            → result ≡ weight cs span.now }
+        ensures value { (cs : List Span) → AreSharesOf cs self.now → Contains cs span.now → result ≡ weight cs span.now }
     {
         if span.ended <= span.began {
             return 0;

@@ -138,8 +138,7 @@ fn push_fresh<'a>(
 }
 
 fn partner(outputs: &Outputs, left: &[bool], job: &Job) -> Option<usize>
-    ensures value { (ps : List (List ℕ × ℕ)) → HoldPlaces ps outputs.now.places.entries
-        → result ≡ partner ps left.now job.now.outputs.now }
+    ensures value { (ps : List (List ℕ × ℕ)) → HoldPlaces ps outputs.now.places.entries → result ≡ partner ps left.now job.now.outputs.now }
 {
     for entry in job.outputs {
         if let Some(place) = outputs.place_of(entry.name()) {
@@ -199,12 +198,7 @@ fn met<'a>(
 
 // If one of its outputs waits, the command is unfinished, whatever `class` is.
 fn row(class: Class, is_waiting: bool, old: u64, new: u64, output: &[u8]) -> ComparedRow<'_>
-    ensures value { compared_of result ≡ record {
-      class = or_unfinished class is_waiting;
-      old = old;
-      new = new;
-      output = output.now;
-    } }
+    ensures value { compared_of result ≡ record { class = or_unfinished class is_waiting; old = old; new = new; output = output.now } }
 {
     ComparedRow {
         class: if is_waiting { Class::Unfinished } else { class },
@@ -219,8 +213,7 @@ pub(crate) fn of_class<'a>(
     class: Class,
     rows: &[ComparedRow<'a>],
 ) -> AllocResult<Vec<ComparedRow<'a>>>
-    ensures value { IfOk result
-        (λ kept. map compared_of kept.items ≡ of_class class (map compared_of rows.now)) }
+    ensures value { IfOk result (λ kept. map compared_of kept.items ≡ of_class class (map compared_of rows.now)) }
 {
     let mut kept = Vec::new(alloc);
     for row in rows {

@@ -71,8 +71,7 @@ fn append_chosen(
     lines: &mut Vec<u8>,
 ) -> AllocResult
     requires small { choice.first < 2 ^ 63 }
-    ensures items { OnOk result
-        (lines.new.items ≡ lines.old.items ++ chosen_text scope (Some choice) lists unfinished (told from.now)) }
+    ensures items { OnOk result (lines.new.items ≡ lines.old.items ++ chosen_text scope (Some choice) lists unfinished (told from.now)) }
 {
     let before = choice.first.saturating_sub(1);
     let told = between(before, choice.last, from.builds.as_slice());
@@ -146,8 +145,7 @@ fn add_build<'a>(
 ) -> AllocResult
     requires few { (n : ℕ) × ((n < 2 ^ 63) × AreTotalsOf n all.old.totals) }
     requires one { All IsOfOne all.old.rows.items }
-    ensures totals { OnOk result
-        (all.new.totals ≡ with_build all.old.totals (told from.now) number) }
+    ensures totals { OnOk result (all.new.totals ≡ with_build all.old.totals (told from.now) number) }
     ensures rows { OnOk result (map told_row all.new.rows.items
         ≡ map told_row all.old.rows.items ++ told_jobs (build_jobs (told from.now) number)) }
     ensures few { (n : ℕ) → AreTotalsOf n all.old.totals → OnOk result (AreTotalsOf (n + 1) all.new.totals) }
@@ -180,8 +178,7 @@ fn push_rows<'a>(jobs: &[Job<'_, 'a>], shares: &Shares, rows: &mut Vec<Row<'a>>)
     requires shares { AreSharesOf (spans_of (map seen jobs.now)) shares.now }
     requires early { All (λ j. IsEarly j.span) jobs.now }
     requires one { All IsOfOne rows.old.items }
-    ensures rows { OnOk result
-        (map told_row rows.new.items ≡ map told_row rows.old.items ++ told_jobs (map seen jobs.now)) }
+    ensures rows { OnOk result (map told_row rows.new.items ≡ map told_row rows.old.items ++ told_jobs (map seen jobs.now)) }
     ensures one { OnOk result (All IsOfOne rows.new.items) }
 {
     rows.reserve(jobs.len())?;
@@ -193,8 +190,7 @@ fn push_rows<'a>(jobs: &[Job<'_, 'a>], shares: &Shares, rows: &mut Vec<Row<'a>>)
 }
 
 fn row_of<'a>(job: &Job<'_, 'a>, shares: &Shares, near: &mut Near) -> Row<'a>
-    ensures value { (cs : List Span) → AreSharesOf cs shares.now → Contains cs job.now.span
-        → told_row result ≡ told_job cs (seen job.now) }
+    ensures value { (cs : List Span) → AreSharesOf cs shares.now → Contains cs job.now.span → told_row result ≡ told_job cs (seen job.now) }
     ensures one { IsEarly job.now.span → IsOfOne result }
 {
     Row {
@@ -210,8 +206,7 @@ fn row_of<'a>(job: &Job<'_, 'a>, shares: &Shares, near: &mut Near) -> Row<'a>
 fn append_totals(screen: bool, totals: &Totals, rows: &[Row], lines: &mut Vec<u8>) -> AllocResult
     requires room { totals.now.wall < 2 ^ 120 }
     requires one { All IsOfOne rows.now }
-    ensures items { OnOk result
-        (lines.new.items ≡ lines.old.items ++ number_lines screen totals.now (map told_row rows.now)) }
+    ensures items { OnOk result (lines.new.items ≡ lines.old.items ++ number_lines screen totals.now (map told_row rows.now)) }
 {
     let alloc = *lines.allocator();
     let commands = rows.len();
@@ -268,11 +263,8 @@ fn append_slowest(screen: bool, rows: &[Row], lines: &mut Vec<u8>) -> AllocResul
     let Some(first) = slowest_of(*lines.allocator(), rows)? else {
         return Ok(());
     };
-    let time = Part::Number(first.sums.time);
-    append_line(
-        &[Part::Text(b"slowest"), time, Part::Text(first.name)],
-        lines,
-    )
+    let (time, name) = (Part::Number(first.sums.time), Part::Text(first.name));
+    append_line(&[Part::Text(b"slowest"), time, name], lines)
 }
 
 fn slowest_time(alloc: Global, rows: &[Row]) -> AllocResult<u128>
@@ -370,8 +362,7 @@ fn append_count(
 
 fn append_lists(lists: Lists, rows: &[Row], lines: &mut Vec<u8>) -> AllocResult
     requires one { All IsOfOne rows.now }
-    ensures items { OnOk result
-        (lines.new.items ≡ lines.old.items ++ lists_text lists (map told_row rows.now)) }
+    ensures items { OnOk result (lines.new.items ≡ lines.old.items ++ lists_text lists (map told_row rows.now)) }
 {
     if lists.most == 0 {
         return Ok(());
@@ -390,8 +381,7 @@ fn append_both(
     lines: &mut Vec<u8>,
 ) -> AllocResult
     requires room { total < 2 ^ 120 }
-    ensures items { OnOk result
-        (lines.new.items ≡ lines.old.items ++ both_lists lists total listed (map told_row rows.now)) }
+    ensures items { OnOk result (lines.new.items ≡ lines.old.items ++ both_lists lists total listed (map told_row rows.now)) }
 {
     append_list(lists, total, listed, Rank::Time, rows, lines)?;
     if lists.screen {

@@ -24,8 +24,7 @@ impl Sums {
         requires order { self.old.at ≤ next }
         requires room { next ≤ 2 ^ 32 }
         requires fits { IsLow self.old }
-        ensures value { (k : ℕ → ℕ) → ((t : ℕ) → self.old.at ≤ t → t < next → k t ≡ running)
-            → AreSums k self.old → AreSums k self.new }
+        ensures value { (k : ℕ → ℕ) → ((t : ℕ) → self.old.at ≤ t → t < next → k t ≡ running) → AreSums k self.old → AreSums k self.new }
         ensures fits { IsLow self.new }
         ensures at { self.new.at ≡ next }
     {
@@ -83,8 +82,7 @@ fn step(starts: &[u64], ends: &[u64], so_far: &mut Sweeping) -> AllocResult
     requires swept { IsSwept starts.now ends.now so_far.old }
     requires more { (so_far.old.begun < length starts.now) ⊎ (so_far.old.ended < length ends.now) }
     ensures swept { OnOk result (IsSwept starts.now ends.now so_far.new) }
-    ensures count { OnOk result
-        (so_far.new.begun + so_far.new.ended ≡ so_far.old.begun + so_far.old.ended + 1) }
+    ensures count { OnOk result (so_far.new.begun + so_far.new.ended ≡ so_far.old.begun + so_far.old.ended + 1) }
 {
     let running = (so_far.begun as u64).saturating_sub(so_far.ended as u64);
     if is_start_next(starts, so_far.begun, ends, so_far.ended) {

@@ -1,0 +1,36 @@
+use Rattle.std.proofs.Common.{◌≡◌, ◌∙◌, ◌<◌, ◌≤◌, ◌++◌, ℕ, List, Option, Some, ap, append-nil, append_assoc, arith, length, map, sym}
+use Rattle.std.proofs.lemmas.List.{drop_all}
+use Rattle.std.specs.Borrow.{Bor}
+use Rattle.std.specs.List.{flat_map}
+use Rattle.nl_reports.specs.Picture.{outline, outlined, outlined_style}
+use Rattle.nl_reports.specs.Reaches.{ran_seen, rans_of}
+use Rattle.nl_reports.specs.declared.critical.FoundPath.{FoundPath}
+use Rattle.nl_reports.specs.declared.critical.Ran.{Ran}
+use Rattle.nl_reports.proofs.DrawLemmas.{outlines_next}
+use Rattle.nl_reports.proofs.picture.append_outlined.Goals as goal
+
+pub loop-i-init : goal.loop-i-init
+loop-i-init c =
+    let rest = flat_map (outline c.args.frame.now c.args.lanes.now) (map ran_seen c.as_slice-commands.result.now) in
+    ap (λ (l : List ℕ). l ++ rest) c.in_ok-append.ensures.items ∙ append_assoc c.args.out.now.items outlined_style rest
+
+pub loop-i-preserved : goal.loop-i-preserved
+loop-i-preserved c =
+    let commands = c.as_slice-commands.result.now in
+    let within : c.loop-i.i < length commands = omega (arith, c.loop-i-test.true) in
+    outlines_next c.args.frame.now c.args.lanes.now commands c.loop-i.i _ _ _ _ within c.in_ok-append_outline.ensures.items c.loop-i.invariant
+
+pub returns : goal.returns
+returns c =
+    let f = c.args.frame.now in
+    let ls = c.args.lanes.now in
+    let old = c.args.out.now.items in
+    let now = c.loop-i.out.items in
+    let commands = c.as_slice-commands.result.now in
+    let all : length commands ≤ c.loop-i.i = omega (arith, c.loop-i-test.false) in
+    record {
+      items = sym (append-nil now)
+          ∙ ap (λ (rest : List Ran). now ++ flat_map (outline f ls) (map ran_seen rest)) (sym (drop_all c.loop-i.i commands all)) ∙ c.loop-i.invariant
+          ∙ ap (λ (l : List Ran). old ++ outlined f ls (Some (map ran_seen l))) c.as_slice-commands.ensures.value
+          ∙ ap (λ (p : Option (Bor FoundPath)). old ++ outlined f ls (rans_of p)) (sym c.in-Some.is);
+    }
