@@ -70,8 +70,12 @@ impl Lanes {
         if lane == self.ends.len() {
             return self.open(end);
         }
+        let block = lane / BLOCK;
+        let is_least = self.ends[lane] <= self.least[block] || end < self.least[block];
         self.ends[lane] = end;
-        self.least[lane / BLOCK] = least_in(self.ends.as_slice(), lane / BLOCK);
+        if is_least {
+            self.least[block] = least_in(self.ends.as_slice(), block);
+        }
         Ok(())
     }
 
