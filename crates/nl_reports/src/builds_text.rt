@@ -1,10 +1,10 @@
 //! The text of `builds`.
 ghost use Rattle.std.specs.Prelude.{◌≡◌, ◌++◌, IfOk, OnOk};
-ghost use Rattle.nl_reports.specs.BuildsText.{border_word, build_line, builds_text, numbers_line};
+ghost use Rattle.nl_reports.specs.BuildsText.{border_word, build_line, builds_text};
 ghost use Rattle.nl_reports.specs.Jobs.{told};
 
 use crate::job::jobs_of;
-use crate::numbers::{Numbers, numbers_of};
+use crate::numbers::numbers_of;
 use nl_builds::{Build, Builds, How};
 use nl_tool_texts::{AllocResult, Part, append, put};
 use std::alloc::Global;
@@ -29,12 +29,6 @@ fn append_build(from: &Builds, number: usize, build: &Build, out: &mut Vec<u8>) 
 {
     let jobs = jobs_of(*out.allocator(), from, number)?;
     let numbers = numbers_of(from, number, jobs.as_slice());
-    append_line(number, &numbers, build, out)
-}
-
-fn append_line(number: usize, numbers: &Numbers, build: &Build, out: &mut Vec<u8>) -> AllocResult
-    ensures items { OnOk result (out.new.items ≡ out.old.items ++ numbers_line number numbers.now build.now) }
-{
     put!(out; {number} b"\t" {numbers.commands} b"\t" {numbers.outputs} b"\t" {numbers.wall} b"\t"
         {numbers.total} b"\t" [Part::Text(border_word(build))])?;
     match build.how {

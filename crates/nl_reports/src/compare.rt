@@ -1,7 +1,6 @@
 //! The text of `compare`.
-ghost use Rattle.std.specs.Prelude.{◌≡◌, ◌++◌, map, take, IfOk, OnOk, flat_map};
-ghost use Rattle.nl_reports.specs.Compare.{are_comparable, class_heading, class_lines, compare_text, compared_of, cost, head, row_line, side_of, total_line};
-ghost use Rattle.nl_tool_texts.specs.Falling.{falling};
+ghost use Rattle.std.specs.Prelude.{◌≡◌, ◌++◌, map, IfOk, OnOk, flat_map};
+ghost use Rattle.nl_reports.specs.Compare.{are_comparable, class_heading, class_lines, compare_text, compared_of, head, row_line, side_of, total_line};
 
 use crate::class::{Class, class_text};
 use crate::sides::{ByCost, ComparedRow, Rules, Side, compared, new_time, of_class, old_time};
@@ -115,7 +114,11 @@ fn append_class(
         return Ok(());
     }
     append_heading(screen, class, lines)?;
-    append_rows(screen, most, kept.as_slice(), lines)
+    let listed = highest(*lines.allocator(), &ByCost, most, kept.as_slice())?;
+    for i in 0..listed.len() {
+        append_row(screen, &listed[i], lines)?;
+    }
+    Ok(())
 }
 
 fn append_heading(screen: bool, class: Class, lines: &mut Vec<u8>) -> AllocResult
@@ -126,17 +129,6 @@ fn append_heading(screen: bool, class: Class, lines: &mut Vec<u8>) -> AllocResul
     }
     put!(lines; b"\nCommands: " [Part::Text(class_text(class).as_bytes())]
         b"\nChange\tOld\tNew\tOutput\n")
-}
-
-fn append_rows(screen: bool, most: usize, kept: &[ComparedRow], lines: &mut Vec<u8>) -> AllocResult
-    ensures items { OnOk result (lines.new.items ≡ lines.old.items
-        ++ flat_map (row_line screen) (take most (falling cost (map compared_of kept.now)))) }
-{
-    let listed = highest(*lines.allocator(), &ByCost, most, kept)?;
-    for i in 0..listed.len() {
-        append_row(screen, &listed[i], lines)?;
-    }
-    Ok(())
 }
 
 fn append_row(screen: bool, row: &ComparedRow, lines: &mut Vec<u8>) -> AllocResult

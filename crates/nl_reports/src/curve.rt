@@ -2,7 +2,7 @@
 ghost use Rattle.std.specs.Prelude.{◌≡◌, ◌<◌, ◌++◌, List, OnOk};
 ghost use Rattle.nl_reports.specs.declared.span.Span.{Span};
 ghost use Rattle.nl_reports.specs.Moments.{AreMoments};
-ghost use Rattle.nl_reports.specs.Curve.{curve, curve_end, height_of, point, points};
+ghost use Rattle.nl_reports.specs.Curve.{curve, height_of, point, points};
 ghost use Rattle.nl_reports.specs.Frame.{IsFrame};
 
 use crate::frame::Frame;
@@ -13,15 +13,9 @@ pub(crate) fn append_curve(frame: &Frame, moments: &Moments, out: &mut Vec<u8>) 
     requires early { IsFrame frame.now }
     ensures items { (cs : List Span) → AreMoments cs moments.now → OnOk result (out.new.items ≡ out.old.items ++ curve frame.now cs) }
 {
-    put!(out; b"<path class=\"q\" d=\"M1000 " {frame.foot()})?;
-    append_points(frame, moments, out)?;
-    append_end(frame, out)
-}
-
-fn append_end(frame: &Frame, out: &mut Vec<u8>) -> AllocResult
-    ensures items { OnOk result (out.new.items ≡ out.old.items ++ curve_end frame.now) }
-{
     let foot = frame.foot();
+    put!(out; b"<path class=\"q\" d=\"M1000 " {foot})?;
+    append_points(frame, moments, out)?;
     put!(out; b"V" {foot} b"z\"/>\n<text class=\"m\" x=\"950\" y=\"" {foot.saturating_sub(720)}
         b"\" text-anchor=\"end\">" {u128::from(frame.top) + 1}
         b" at a time</text>\n<text class=\"m\" x=\"950\" y=\"" {foot}

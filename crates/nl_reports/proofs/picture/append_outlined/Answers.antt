@@ -1,4 +1,4 @@
-use Rattle.std.proofs.Common.{◌≡◌, ◌∙◌, ◌<◌, ◌≤◌, ◌++◌, ℕ, List, Option, Some, ap, append-nil, append_assoc, arith, length, map, sym}
+use Rattle.std.proofs.Common.{◌∙◌, ◌<◌, ◌≤◌, ◌++◌, ℕ, List, Option, Some, ap, append-nil, append_assoc, arith, length, map, sym}
 use Rattle.std.proofs.lemmas.List.{drop_all}
 use Rattle.std.specs.Borrow.{Bor}
 use Rattle.std.specs.List.{flat_map}

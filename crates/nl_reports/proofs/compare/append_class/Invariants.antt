@@ -1,0 +1,8 @@
+use Rattle.std.proofs.Common.{◌≡◌, ◌++◌, map, take}
+use Rattle.std.specs.List.{flat_map}
+use Rattle.nl_reports.specs.Compare.{class_heading, compared_of, row_line}
+use Rattle.nl_reports.proofs.compare.append_class.Given as goal
+
+-- the line of each row before this one
+abbrev pub invariant-loop-i : goal.invariant-loop-i
+invariant-loop-i l = l.lines.items ≡ (l.fn.lines.items ++ class_heading l.screen l.fn.class) ++ flat_map (row_line l.screen) (map compared_of (take l.i l.listed.items))
