@@ -56,29 +56,48 @@ impl<R: Clock + Eprint> Clock for Waiting<'_, R> {
     }
 }
 
-macro_rules! passed_on {
-    ($($called:ident($($with:ident: $of:ty),+) -> $answer:ty;)+) => {
-        impl<R: Files> Files for Waiting<'_, R> {
-            type File = R::File;
-            type Dir = R::Dir;
+impl<R: Files> Files for Waiting<'_, R> {
+    type File = R::File;
 
-            $(fn $called(&self, $($with: $of),+) -> io::Result<$answer> { self.rt.$called($($with),+) })+
+    type Dir = R::Dir;
 
-            fn remove_dir_all<B: Allocator>(&self, alloc: B, path: &str) -> io::Result<()> {
-                self.rt.remove_dir_all(alloc, path)
-            }
-        }
-    };
-}
+    fn open_file(&self, how: &OpenOptions, path: &str) -> io::Result<R::File> {
+        self.rt.open_file(how, path)
+    }
 
-passed_on! {
-    open_file(how: &OpenOptions, path: &str) -> R::File;
-    open_dir(path: &str) -> R::Dir;
-    metadata(path: &str) -> Metadata;
-    symlink_metadata(path: &str) -> Metadata;
-    copy(from: &str, to: &str) -> u64;
-    rename(from: &str, to: &str) -> ();
-    remove_file(path: &str) -> ();
-    create_dir(path: &str) -> ();
-    remove_dir(path: &str) -> ();
+    fn open_dir(&self, path: &str) -> io::Result<R::Dir> {
+        self.rt.open_dir(path)
+    }
+
+    fn metadata(&self, path: &str) -> io::Result<Metadata> {
+        self.rt.metadata(path)
+    }
+
+    fn symlink_metadata(&self, path: &str) -> io::Result<Metadata> {
+        self.rt.symlink_metadata(path)
+    }
+
+    fn copy(&self, from: &str, to: &str) -> io::Result<u64> {
+        self.rt.copy(from, to)
+    }
+
+    fn rename(&self, from: &str, to: &str) -> io::Result<()> {
+        self.rt.rename(from, to)
+    }
+
+    fn remove_file(&self, path: &str) -> io::Result<()> {
+        self.rt.remove_file(path)
+    }
+
+    fn create_dir(&self, path: &str) -> io::Result<()> {
+        self.rt.create_dir(path)
+    }
+
+    fn remove_dir(&self, path: &str) -> io::Result<()> {
+        self.rt.remove_dir(path)
+    }
+
+    fn remove_dir_all<B: Allocator>(&self, alloc: B, path: &str) -> io::Result<()> {
+        self.rt.remove_dir_all(alloc, path)
+    }
 }

@@ -6,6 +6,7 @@ ghost use Rattle.nl_tool_words.specs.Rows.{app_by, named, nlog, rule_by, with_ru
 
 use crate::changing::CHANGING;
 use crate::looking::LOOKING;
+use crate::values::VERBOSE;
 use clap::{Arg, ArgAction, Command};
 use std::alloc::{AllocError, Global};
 
@@ -23,7 +24,7 @@ pub struct WordRow {
 // Rows of words: the name, what it takes, and the texts of its help.
 macro_rules! rows {
     ($($name:literal [$($takes:ident)*] => $about:literal, $after:literal;)+) => {
-        [$(WordRow { name: $name, about: $about, after: $after, takes: &[$(Value::$takes),*] }),+]
+        [$(WordRow { name: $name, about: $about, after: $after, takes: &[$($takes),*] }),+]
     };
 }
 
@@ -109,7 +110,7 @@ fn command_of<'a>(alloc: Global, row: &WordRow) -> Result<Command<'a>, AllocErro
     ensures local { IfOk result (λ c. (out-Command c).has_globals ≡ false) }
 {
     let command = with_values(alloc, begun_command(alloc, row), row.takes)?;
-    with_value(alloc, command, &Value::VERBOSE)
+    with_value(alloc, command, &VERBOSE)
 }
 
 fn begun_command<'a>(alloc: Global, row: &WordRow) -> Command<'a>
