@@ -1,6 +1,8 @@
 -- The entries of a log as they are listed line by line.
 use Rattle.std.proofs.Common.{◌≡◌, ◌∙◌, ℕ, Bool, leb, ◌==◌, List, [], ◌∷◌, ◌++◌, length, refl, sym, ap, subst, ◌+◌}
-use Rattle.std.specs.Prelude.{◌≤◌, Option, None, Some, Ok, drop, map}
+use Rattle.std.specs.Prelude.{◌≤◌, Option, None, Some, Result, Ok, Err, drop, map}
+use Rattle.std.specs.Result.{IsErrAnd}
+use Rattle.nl_tool_texts.specs.declared.fault.ToolFault.{ToolFault}
 use Rattle.std.specs.List.{cons_option}
 use Rattle.std.proofs.lemmas.Bool.{cond-false, cond-true, le-leb, ne_eqb}
 use Rattle.std.proofs.lemmas.List.{append-nil}
@@ -69,6 +71,11 @@ pub some_listed : (known w v : Option (List ℕ)) → IsSoFar (λ bs. text_by_li
     → IsSoFar (λ bs. entries_text_of (as_five bs)) known w v
 some_listed known w v so_far =
     subst (λ (text_of : List ℕ → Option (List ℕ)). IsSoFar (λ bs. text_of (as_five bs)) known w v) same_text so_far
+
+pub streams_refused : (text_of : List ℕ → Option (List ℕ)) (known w v : Option (List ℕ)) (r : Result (Unit {0}) ToolFault)
+    (P : ToolFault → Type 0) → IsErrAnd r P → IsSoFar text_of known w v → Streams text_of known w v r
+streams_refused text_of known w v (Ok done) P is so_far = absurd is
+streams_refused text_of known w v (Err e) P is so_far = so_far
 
 -- the entries of a log, loaded again, are its table
 pub entries_shown : (bytes text : List ℕ) → entries_text_of bytes ≡ Some text → length (header_line ++ text) ≤ max_log

@@ -1,18 +1,17 @@
 //! The command `check`.
-ghost use Rattle.std.specs.Prelude.{◌≡◌, length, string_bytes, IfErr, IfOk, IfSome, IsErrOf};
-ghost use Rattle.nl_table.specs.Log.{log_of, NotALog, OtherVersion};
-ghost use Rattle.nl_tool_print.specs.Faults.{IsLogFault};
+ghost use Rattle.std.specs.Prelude.{◌≡◌, length, string_bytes, IfErr, IfOk};
+ghost use Rattle.nl_table.specs.Log.{log_of};
+ghost use Rattle.nl_tool_print.specs.Faults.{IfNotALog, IfOtherVersion, IsLogFault};
 ghost use Rattle.nl_tool_texts.specs.Output.{Prints};
 ghost use Rattle.nl_tool_print.specs.Output.{check_text_of, report, yes_or_no, IsTextAsRead};
 ghost use Rattle.nl_versions.specs.LogAs.{log_for};
 ghost use Rattle.nl_tool_print.specs.Versions.{IsReportFor};
-ghost use Rattle.nl_tool_texts.specs.declared.fault.ToolFault.{ToolFault};
 
 use crate::loading::load_read;
 use nl_table::{Loaded, NO_SECRET, Secret, is_due};
-use nl_tool_texts::{ToolFault, write_out};
+use nl_tool_texts::{AllocResult, ToolFault, write_out};
 use nl_versions::LogVersion;
-use std::alloc::{AllocError, Global};
+use std::alloc::Global;
 use std::io::{Read, Write};
 
 /// Writes six lines: the log's version, its counts of entry lines, outputs, skipped lines and torn bytes, and whether it is due.
@@ -23,10 +22,8 @@ pub fn check_to<R: Read + Drop, W: Write>(
 ) -> Result<(), ToolFault>
     ensures prints { Prints (IsTextAsRead check_text_of (R.remaining reader))
         (W.contents writer.old) (W.contents writer.new) result }
-    ensures not_a_log { IsErrOf result ToolFault.NotALog
-        → IfSome (R.remaining reader) (λ bs. log_of bs ≡ NotALog) }
-    ensures other_version { IsErrOf result ToolFault.OtherVersion
-        → IfSome (R.remaining reader) (λ bs. log_of bs ≡ OtherVersion) }
+    ensures not_a_log { IfNotALog result log_of (R.remaining reader) }
+    ensures other_version { IfOtherVersion result log_of (R.remaining reader) }
     ensures faults { IfErr result IsLogFault }
 {
     check_log(alloc, NO_SECRET, Some(LogVersion::Five), reader, writer)
@@ -43,10 +40,8 @@ pub fn check_log<R: Read + Drop, W: Write>(
 ) -> Result<(), ToolFault>
     ensures prints { Prints (IsReportFor asked (R.remaining reader)) (W.contents writer.old)
         (W.contents writer.new) result }
-    ensures not_a_log { IsErrOf result ToolFault.NotALog
-        → IfSome (R.remaining reader) (λ bs. log_for asked bs ≡ NotALog) }
-    ensures other_version { IsErrOf result ToolFault.OtherVersion
-        → IfSome (R.remaining reader) (λ bs. log_for asked bs ≡ OtherVersion) }
+    ensures not_a_log { IfNotALog result (log_for asked) (R.remaining reader) }
+    ensures other_version { IfOtherVersion result (log_for asked) (R.remaining reader) }
     ensures faults { IfErr result IsLogFault }
 {
     let (version, mut loaded) = load_read(alloc, secret, asked, reader)?;
@@ -55,22 +50,15 @@ pub fn check_log<R: Read + Drop, W: Write>(
     write_out(report.as_bytes(), writer)
 }
 
-fn report_text(alloc: Global, loaded: &Loaded) -> Result<String, AllocError>
-    ensures value { IfOk result (λ text. string_bytes text
-        ≡ report loaded.now.version loaded.now.total
-        (length loaded.now.table) loaded.now.skipped loaded.now.torn) }
+fn report_text(alloc: Global, loaded: &Loaded) -> AllocResult<String>
+    ensures value { IfOk result (λ text. string_bytes text ≡ report loaded.now.version
+        loaded.now.total (length loaded.now.table) loaded.now.skipped loaded.now.torn) }
 {
-    let Loaded {
-        version,
-        total,
-        skipped,
-        torn,
-        ..
-    } = loaded;
     let unique = loaded.table.len() as u64;
-    let due = yes_or_no(is_due(*version, *total, unique));
+    let due = yes_or_no(is_due(loaded.version, loaded.total, unique));
     format!(in alloc;
-        "version {version}\ntotal {total}\nunique {unique}\nskipped {skipped}\ntorn {torn}\ndue {due}\n"
+        "version {}\ntotal {}\nunique {unique}\nskipped {}\ntorn {}\ndue {due}\n",
+        loaded.version, loaded.total, loaded.skipped, loaded.torn
     )
 }
 

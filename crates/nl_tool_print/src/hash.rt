@@ -1,15 +1,14 @@
 //! The command `hash`.
-ghost use Rattle.std.specs.Prelude.{◌≡◌, ◌++◌, ◌∷◌, [], IfErr, IfOk};
-ghost use Rattle.nl_fields.specs.Digits.{digits_of};
+ghost use Rattle.std.specs.Prelude.{◌≡◌, IfErr};
 ghost use Rattle.nl_tool_print.specs.Faults.{IsHashFault};
 ghost use Rattle.nl_tool_texts.specs.Output.{Prints};
 ghost use Rattle.nl_tool_print.specs.Output.{IsHashText};
 ghost use Rattle.nl_tool_print.specs.Versions.{hash_text_as};
 
 use nl_fields::append_hex64;
-use nl_tool_texts::{ToolFault, write_out};
+use nl_tool_texts::{ToolFault, append, write_out};
 use nl_versions::{LogVersion, command_hash_in};
-use std::alloc::{AllocError, Global};
+use std::alloc::Global;
 use std::io::Write;
 
 /// It writes the hash as a log spells it, and a newline.
@@ -32,15 +31,8 @@ pub fn hash_for<W: Write>(
         (W.contents writer.old) (W.contents writer.new) result }
     ensures faults { IfErr result IsHashFault }
 {
-    let text = hash_line(alloc, command_hash_in(version, command))?;
-    write_out(text.as_slice(), writer)
-}
-
-fn hash_line(alloc: Global, hash: u64) -> Result<Vec<u8>, AllocError>
-    ensures value { IfOk result (λ text. text.items ≡ digits_of 16 hash ++ 10 ∷ []) }
-{
     let mut text = Vec::new(alloc);
-    append_hex64(hash, &mut text)?;
-    text.push(b'\n')?;
-    Ok(text)
+    append_hex64(command_hash_in(version, command), &mut text)?;
+    append(b"\n", &mut text)?;
+    write_out(text.as_slice(), writer)
 }

@@ -1,12 +1,14 @@
 //! The command `hash-file`.
-ghost use Rattle.std.specs.Prelude.{◌≡◌, ◌⊎◌, IfErr, IfOk};
-ghost use Rattle.nl_tool_texts.specs.Files.{OfBytes};
+ghost use Rattle.std.specs.Prelude.{◌≡◌, ◌≤◌, ◌⊎◌, IfErr, IfOk, IfSome, IsErrOf};
+ghost use Rattle.nl_lines.specs.Source.{FailedBetween};
+ghost use Rattle.nl_table.specs.declared.loader.LoadFault.{LoadFault};
 ghost use Rattle.nl_tool_texts.specs.Output.{Prints};
-ghost use Rattle.nl_tool_texts.specs.declared.fault.ToolFault.{ToolFault};
 ghost use Rattle.nl_tool_print.specs.Faults.{IsHashFileFault};
 ghost use Rattle.nl_tool_print.specs.Versions.{IsFileHashAs};
 
 use crate::hash::hash_for;
+use nl_lines::{ReadSource, Source};
+use nl_table::LoadFault;
 use nl_tool_texts::ToolFault;
 use nl_versions::LogVersion;
 use std::alloc::Global;
@@ -26,25 +28,28 @@ pub fn hash_read<R: Read + Drop, W: Write>(
         (W.contents writer.new) result }
     ensures faults { IfErr result IsHashFileFault }
 {
-    let command = read_all(alloc, reader)?;
+    let command = read_all(alloc, &mut ReadSource::new(reader))?;
     hash_for(alloc, version, command.as_slice(), writer)
 }
 
-// A read that was interrupted has failed.
-fn read_all<R: Read + Drop>(alloc: Global, reader: R) -> Result<Vec<u8>, ToolFault>
-    ensures value { IfOk result (λ all. OfBytes (R.remaining reader) (λ bytes. bytes ≡ all.items)) }
-    ensures faults { IfErr result (λ e. (e ≡ ToolFault.Read) ⊎ (e ≡ ToolFault.Memory)) }
+/// All that the source has left. It takes the memory of that.
+pub fn read_all<S: Source>(alloc: Global, source: &mut S) -> Result<Vec<u8>, LoadFault>
+    ensures value { IfOk result (λ all. IfSome (S.ahead source.old) (λ bytes. bytes ≡ all.items)) }
+    ensures cause { IsErrOf result LoadFault.Read
+        → FailedBetween (S.failures source.old) (S.failures source.new) }
+    ensures refusals { IfErr result (λ why. (why ≡ LoadFault.Read) ⊎ (why ≡ LoadFault.OutOfMemory)) }
+    ensures rises { S.failures source.old ≤ S.failures source.new }
+    ensures relation { S.keeps source.old source.new }
 {
-    let mut reader = reader;
     let mut piece = Vec::new(alloc);
     piece.resize(PIECE, 0)?;
     let mut all = Vec::new(alloc);
-    for _ in 0..u64::MAX {
-        match reader.read(piece.as_mut_slice()) {
+    'pieces: for _ in 0..u64::MAX {
+        match source.read_some(piece.as_mut_slice()) {
             Ok(0) => return Ok(all),
             Ok(n) => all.extend_from_slice(&piece[..n])?,
-            Err(_) => return Err(ToolFault::Read),
+            Err(_) => return Err(LoadFault::Read),
         }
     }
-    Err(ToolFault::Read)
+    Err(LoadFault::OutOfMemory)
 }

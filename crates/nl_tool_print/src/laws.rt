@@ -7,7 +7,6 @@ ghost use Rattle.nl_tool_print.specs.Streams.{entries_text_of};
 
 /// `show` prints the same for the log as for the header line with what `entries` printed.
 pub fn entries_are_shown()
-    ensures { (bytes text : List ℕ) → entries_text_of bytes ≡ Some text
-        → length (header_line ++ text) ≤ max_log
-        → show_text_of (header_line ++ text) ≡ show_text_of bytes }
+    ensures { (bytes text : List ℕ) → entries_text_of bytes ≡ Some text → length (header_line ++
+        text) ≤ max_log → show_text_of (header_line ++ text) ≡ show_text_of bytes }
 {}

@@ -15,6 +15,6 @@ pub use check::{check_log, check_to};
 pub use damage::damage_to;
 pub use entries::{entries_named, entries_to};
 pub use hash::{hash_for, hash_to};
-pub use hash_file::hash_read;
+pub use hash_file::{hash_read, read_all};
 pub use loading::load_read;
 pub use show::{PIECE, show_log, show_to, write_lines};

@@ -1,10 +1,9 @@
 //! Loading the log that a reader gives.
-ghost use Rattle.std.specs.Prelude.{◌≡◌, IfErr, IfOk, IfSome, IsErrOf};
-ghost use Rattle.nl_table.specs.Log.{NotALog, OtherVersion};
+ghost use Rattle.std.specs.Prelude.{IfErr, IfOk, IsErrOf};
 ghost use Rattle.nl_versions.specs.Loading.{IsLoadFor};
 ghost use Rattle.nl_versions.specs.LogAs.{log_for};
 ghost use Rattle.nl_tool_texts.specs.declared.fault.ToolFault.{ToolFault};
-ghost use Rattle.nl_tool_print.specs.Faults.{IsLogFault};
+ghost use Rattle.nl_tool_print.specs.Faults.{IfNotALog, IfOtherVersion, IsLogFault};
 
 use nl_lines::ReadSource;
 use nl_table::{Loaded, Secret};
@@ -22,10 +21,8 @@ pub fn load_read<R: Read + Drop>(
     reader: R,
 ) -> Result<(LogVersion, Loaded), ToolFault>
     ensures loaded { IfOk result (λ both. IsLoadFor asked (R.remaining reader) both.0 both.1) }
-    ensures not_a_log { IsErrOf result ToolFault.NotALog
-        → IfSome (R.remaining reader) (λ bs. log_for asked bs ≡ NotALog) }
-    ensures other_version { IsErrOf result ToolFault.OtherVersion
-        → IfSome (R.remaining reader) (λ bs. log_for asked bs ≡ OtherVersion) }
+    ensures not_a_log { IfNotALog result (log_for asked) (R.remaining reader) }
+    ensures other_version { IfOtherVersion result (log_for asked) (R.remaining reader) }
     ensures faults { IfErr result IsLogFault }
     ensures write { IsErrOf result ToolFault.Write → ⊥ }
 {

@@ -1,10 +1,10 @@
 //! The command `show`.
-ghost use Rattle.std.specs.Prelude.{◌≡◌, ◌+◌, ◌≤◌, [], map, vec_len, vec_capacity, IfErr, IfSome, IsErrOf, OnErr, OnOk};
+ghost use Rattle.std.specs.Prelude.{◌≡◌, ◌+◌, ◌≤◌, [], map, vec_len, vec_capacity, IfErr, OnErr, OnOk};
 ghost use Rattle.std.specs.Io.KnownBytes.{Appends};
 ghost use Rattle.nl_fields.specs.EntryLine.{line_of};
 ghost use Rattle.nl_lines.specs.Split.{joined};
-ghost use Rattle.nl_table.specs.Log.{log_of, NotALog, OtherVersion};
-ghost use Rattle.nl_tool_print.specs.Faults.{IsLogFault};
+ghost use Rattle.nl_table.specs.Log.{log_of};
+ghost use Rattle.nl_tool_print.specs.Faults.{IfNotALog, IfOtherVersion, IsLogFault};
 ghost use Rattle.nl_tool_texts.specs.Output.{AppendsPrefixOf, Prints};
 ghost use Rattle.nl_tool_print.specs.Output.{IsTextAsRead, HoldsAllBut, show_text_of};
 ghost use Rattle.nl_versions.specs.LogAs.{log_for};
@@ -30,10 +30,8 @@ pub fn show_to<R: Read + Drop, W: Write>(
 ) -> Result<(), ToolFault>
     ensures prints { Prints (IsTextAsRead show_text_of (R.remaining reader)) (W.contents writer.old)
         (W.contents writer.new) result }
-    ensures not_a_log { IsErrOf result ToolFault.NotALog
-        → IfSome (R.remaining reader) (λ bs. log_of bs ≡ NotALog) }
-    ensures other_version { IsErrOf result ToolFault.OtherVersion
-        → IfSome (R.remaining reader) (λ bs. log_of bs ≡ OtherVersion) }
+    ensures not_a_log { IfNotALog result log_of (R.remaining reader) }
+    ensures other_version { IfOtherVersion result log_of (R.remaining reader) }
     ensures faults { IfErr result IsLogFault }
 {
     show_log(alloc, NO_SECRET, Some(LogVersion::Five), reader, writer)
@@ -49,10 +47,8 @@ pub fn show_log<R: Read + Drop, W: Write>(
 ) -> Result<(), ToolFault>
     ensures prints { Prints (IsTextAsRead (show_text_for asked) (R.remaining reader))
         (W.contents writer.old) (W.contents writer.new) result }
-    ensures not_a_log { IsErrOf result ToolFault.NotALog
-        → IfSome (R.remaining reader) (λ bs. log_for asked bs ≡ NotALog) }
-    ensures other_version { IsErrOf result ToolFault.OtherVersion
-        → IfSome (R.remaining reader) (λ bs. log_for asked bs ≡ OtherVersion) }
+    ensures not_a_log { IfNotALog result (log_for asked) (R.remaining reader) }
+    ensures other_version { IfOtherVersion result (log_for asked) (R.remaining reader) }
     ensures faults { IfErr result IsLogFault }
 {
     let (_, loaded) = load_read(alloc, secret, asked, reader)?;

@@ -1,8 +1,9 @@
-use Rattle.nl_tool_print.proofs.EntryLemmas.{all_listed, some_listed}
+use Rattle.nl_tool_print.proofs.EntryLemmas.{all_listed, some_listed, streams_refused}
 use Rattle.nl_tool_print.proofs.entries.entries_named.Goals as goal
 
-pub returns-in-Ok-clause-streams : goal.returns-in-Ok-clause-streams
-returns-in-Ok-clause-streams g c = all_listed _ _ _ _ c.in-Ok.ensures.finds
+pub returns-clause-streams : goal.returns-clause-streams
+returns-clause-streams g c = all_listed _ _ _ _ c.in_ok-stream_named.ensures.finds
 
-pub returns-in-Err-clause-streams : goal.returns-in-Err-clause-streams
-returns-in-Err-clause-streams g c = some_listed _ _ _ c.in-Err.ensures.finds
+pub returns-in_err-stream_named-clause-streams : goal.returns-in_err-stream_named-clause-streams
+returns-in_err-stream_named-clause-streams g c =
+    streams_refused _ _ _ _ c.from_residual.result _ c.from_residual.ensures.1 (some_listed _ _ _ c.in_err-stream_named.ensures.finds)

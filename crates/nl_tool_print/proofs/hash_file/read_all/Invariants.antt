@@ -1,10 +1,12 @@
-use Rattle.std.proofs.Common.{◌<◌, length}
+use Rattle.std.proofs.Common.{◌<◌, ◌≤◌, length}
 use Rattle.std.specs.Io.KnownBytes.{Consumes}
 use Rattle.nl_tool_print.proofs.hash_file.read_all.Given as goal
 
 -- what was read is held, and there is room to ask for more
-abbrev pub invariant-loop : goal.invariant-loop
-invariant-loop g l = record {
-  read : Consumes (g.R.Read.remaining l.fn.reader) (g.R.Read.remaining l.reader) l.all.items;
+abbrev pub invariant-pieces : goal.invariant-pieces
+invariant-pieces g l = record {
+  read : Consumes (g.S.Source.ahead l.initial.source) (g.S.Source.ahead l.source) l.all.items;
   room : 0 < length l.piece.items;
+  rises : g.S.Source.failures l.initial.source ≤ g.S.Source.failures l.source;
+  relation : g.S.Source.keeps l.initial.source l.source;
 }
