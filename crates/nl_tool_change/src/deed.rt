@@ -13,7 +13,8 @@ use nl_fields::Name;
 use nl_folder::Folder;
 use nl_session::{Event, Log, LogFault, Reply, reply_to_event};
 use nl_table::{KeepList, NameSet, Secret};
-use std::alloc::{AllocError, Global};
+use nl_tool_texts::AllocResult;
+use std::alloc::Global;
 use std::marker::Model;
 
 /// `kept` is the set of the names that the event keeps, if it has a list of them.
@@ -35,7 +36,7 @@ impl Model for Deed {
 }
 
 impl Deed {
-    pub fn of(alloc: Global, secret: Secret, event: Event) -> Result<Deed, AllocError>
+    pub fn of(alloc: Global, secret: Secret, event: Event) -> AllocResult<Deed>
         ensures value { IfOk result (λ deed. deed ≡ event) }
         ensures memory { IsErr result → KeepsNames event }
     {
@@ -62,7 +63,7 @@ impl Deed {
     }
 }
 
-fn set_for(alloc: Global, secret: Secret, event: &Event) -> Result<Option<NameSet>, AllocError>
+fn set_for(alloc: Global, secret: Secret, event: &Event) -> AllocResult<Option<NameSet>>
     ensures value { IfOk result (SetsFor event.now) }
     ensures memory { IsErr result → KeepsNames event.now }
 {
@@ -73,7 +74,7 @@ fn set_for(alloc: Global, secret: Secret, event: &Event) -> Result<Option<NameSe
     }
 }
 
-fn kept_by(alloc: Global, secret: Secret, keep: &KeepList) -> Result<Option<NameSet>, AllocError>
+fn kept_by(alloc: Global, secret: Secret, keep: &KeepList) -> AllocResult<Option<NameSet>>
     ensures value { IfOk result (λ kept. IfSome kept (λ names. IsDeadBut names keep.now)) }
     ensures memory { IsErr result → HasNames keep.now }
 {
@@ -83,7 +84,7 @@ fn kept_by(alloc: Global, secret: Secret, keep: &KeepList) -> Result<Option<Name
     }
 }
 
-fn set_of(alloc: Global, secret: Secret, names: &[Name]) -> Result<NameSet, AllocError>
+fn set_of(alloc: Global, secret: Secret, names: &[Name]) -> AllocResult<NameSet>
     ensures value { IfOk result (λ set. set ≡ each_once names.now) }
 {
     let mut set = NameSet::new(alloc, secret);

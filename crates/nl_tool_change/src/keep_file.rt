@@ -10,14 +10,14 @@ use crate::line_fault::{LineFault, Told};
 use crate::parts::{Part, read_parts};
 use nl_fields::{Name, NameFault};
 use nl_table::{NameSet, Secret};
-use nl_tool_texts::ToolFault;
+use nl_tool_texts::{AllocResult, ToolFault};
 use std::alloc::{AllocError, Global};
 use std::io::Read;
 
 impl Part for Name {
     ghost part_of = { name_on };
 
-    fn read(alloc: Global, line: &[u8]) -> Result<Result<Name, LineFault>, AllocError> {
+    fn read(alloc: Global, line: &[u8]) -> AllocResult<Result<Name, LineFault>> {
         match Name::read(alloc, line) {
             Ok(name) => Ok(Ok(name)),
             Err(NameFault::OutOfMemory) => Err(AllocError),

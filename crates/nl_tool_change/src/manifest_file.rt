@@ -8,8 +8,8 @@ ghost use Rattle.nl_tool_texts.specs.declared.fault.ToolFault.{ToolFault};
 use crate::line_fault::{LineFault, Told};
 use crate::parts::{Part, read_parts};
 use nl_fields::Name;
-use nl_tool_texts::ToolFault;
-use std::alloc::{AllocError, Global};
+use nl_tool_texts::{AllocResult, ToolFault};
+use std::alloc::Global;
 use std::io::Read;
 use std::marker::Model;
 
@@ -27,7 +27,7 @@ impl Model for Target {
 impl Part for Target {
     ghost part_of = { target_on };
 
-    fn read(alloc: Global, line: &[u8]) -> Result<Result<Target, LineFault>, AllocError> {
+    fn read(alloc: Global, line: &[u8]) -> AllocResult<Result<Target, LineFault>> {
         let Some(target) = before_rule(line) else {
             return Ok(Err(LineFault::NoRule));
         };
@@ -86,7 +86,7 @@ pub fn read_manifest<R: Read + Drop>(
     Ok(names_of(alloc, targets)?)
 }
 
-fn names_of(alloc: Global, targets: Vec<Target>) -> Result<Vec<Name>, AllocError>
+fn names_of(alloc: Global, targets: Vec<Target>) -> AllocResult<Vec<Name>>
     ensures value { IfOk result (λ names. names.items ≡ targets.items) }
 {
     let mut names = Vec::new(alloc);

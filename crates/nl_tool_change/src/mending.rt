@@ -21,9 +21,8 @@ pub fn mend_on<F: Folder>(
     place: FoundFolder<F>,
     names: &[Name],
 ) -> (F, Result<(), ToolFault>)
-    ensures call { IsFree (F.disk place.folder) place.version
-        → MendsLogAs place.version names.now result.1
-        (folder_view F.Folder place.folder) (folder_view F.Folder result.0) }
+    ensures call { IsFree (F.disk place.folder) place.version → MendsLogAs place.version names.now
+        result.1 (folder_view F.Folder place.folder) (folder_view F.Folder result.0) }
     ensures faults { IfErr result.1 IsRecordFault }
 {
     let FoundFolder {
@@ -63,8 +62,7 @@ fn mend_seen<F: Folder, V: Version>(
     folder: F,
     names: &[Name],
 ) -> (F, Result<(), ToolFault>)
-    ensures call { IsFree (F.disk folder) V.version
-        → MendsSeen V.version names.now result.1
+    ensures call { IsFree (F.disk folder) V.version → MendsSeen V.version names.now result.1
         (folder_view F.Folder folder) (folder_view F.Folder result.0) }
     ensures faults { IfErr result.1 IsRecordFault }
 {

@@ -9,15 +9,15 @@ ghost use Rattle.nl_tool_texts.specs.declared.fault.ToolFault.{ToolFault};
 
 use crate::line_fault::{LineFault, Told};
 use nl_lines::{Line, Lines, MAX_LINE, ReadSource, Source};
-use nl_tool_texts::ToolFault;
-use std::alloc::{AllocError, Global};
+use nl_tool_texts::{AllocResult, ToolFault};
+use std::alloc::Global;
 use std::io::Read;
 
 pub trait Part: Drop {
     ghost part_of: { List ℕ → Option Self };
 
     /// A line that says none is refused with what is wrong with it.
-    fn read(alloc: Global, line: &[u8]) -> Result<Result<Self, LineFault>, AllocError>
+    fn read(alloc: Global, line: &[u8]) -> AllocResult<Result<Self, LineFault>>
         ensures value { IfOk result (λ read. result_ok read ≡ part_of line.now) };
 
     fn is_negative(&self) -> bool;
@@ -74,7 +74,7 @@ fn read_lines<P: Part, S: Source>(alloc: Global, source: &mut S) -> Result<SoFar
     }
 }
 
-fn take<P: Part>(alloc: Global, line: &[u8], so_far: &mut SoFar<P>) -> Result<(), AllocError>
+fn take<P: Part>(alloc: Global, line: &[u8], so_far: &mut SoFar<P>) -> AllocResult
     requires short { length line.now ≤ max_line }
     requires room { so_far.old.count < 2 ^ 63 }
     ensures ok { OnOk result (said_of so_far.new.parts.items (line_of so_far.new.bad) ≡ said_after P.part_of
@@ -110,12 +110,7 @@ fn refuse<P: Part>(so_far: &mut SoFar<P>)
     }
 }
 
-fn take_rest<P: Part>(
-    alloc: Global,
-    len: u64,
-    lent: &[u8],
-    so_far: &mut SoFar<P>,
-) -> Result<(), AllocError>
+fn take_rest<P: Part>(alloc: Global, len: u64, lent: &[u8], so_far: &mut SoFar<P>) -> AllocResult
     requires short { length lent.now ≤ max_line }
     requires room { so_far.old.count < 2 ^ 63 }
     ensures ok { (rest : List ℕ) → len ≡ length rest → lent.now ≡ lent_rest rest

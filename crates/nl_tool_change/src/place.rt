@@ -142,9 +142,8 @@ fn change_seen<F: Folder, V: Version, C: Change>(
     folder: F,
     change: &C,
 ) -> (F, Result<(), ToolFault>)
-    ensures call { IsFree (F.disk folder) V.version
-        → ChangesSeen V.version (C.meaning change.now) result.1
-        (folder_view F.Folder folder) (folder_view F.Folder result.0) }
+    ensures call { IsFree (F.disk folder) V.version → ChangesSeen V.version (C.meaning change.now)
+        result.1 (folder_view F.Folder folder) (folder_view F.Folder result.0) }
     ensures faults { IfErr result.1 (IsFaultBy (C.meaning change.now)) }
 {
     let (seen, result) = change_on(alloc, secret, VersionFolder::new(version, folder), change);

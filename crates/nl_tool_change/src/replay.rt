@@ -10,7 +10,7 @@ use crate::reply_line::append_reply;
 use crate::script::{Script, read_script};
 use nl_folder::MemFolder;
 use nl_session::{Event, Outcome, Reply, run_events};
-use nl_tool_texts::{ToolFault, write_out};
+use nl_tool_texts::{AllocResult, ToolFault, write_out};
 use std::alloc::{AllocError, Global};
 use std::io::{Read, Write};
 
@@ -49,7 +49,7 @@ fn set_up(alloc: Global, script: Script) -> (MemFolder, Vec<Event>)
     (folder, events)
 }
 
-fn run_script(alloc: Global, script: Script) -> Result<Vec<u8>, AllocError>
+fn run_script(alloc: Global, script: Script) -> AllocResult<Vec<u8>>
     ensures value { IfOk result (λ text. IsReplayOf script.events.items text.items) }
 {
     let (folder, events) = set_up(alloc, script);
@@ -60,7 +60,7 @@ fn run_script(alloc: Global, script: Script) -> Result<Vec<u8>, AllocError>
     }
 }
 
-fn text_of(alloc: Global, replies: &[Reply], log: &[u8]) -> Result<Vec<u8>, AllocError>
+fn text_of(alloc: Global, replies: &[Reply], log: &[u8]) -> AllocResult<Vec<u8>>
     ensures value { IfOk result (λ text. text.items ≡ printed replies.now log.now) }
 {
     let mut text = Vec::new(alloc);

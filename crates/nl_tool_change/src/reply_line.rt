@@ -6,12 +6,12 @@ ghost use Rattle.nl_tool_change.specs.Replay.{reply_line};
 
 use itoa::Buffer;
 use nl_session::{LogFault, Reply};
-use std::alloc::AllocError;
+use nl_tool_texts::AllocResult;
 
 /// Bytes, with the newline.
 pub const MAX_REPLY_LINE: usize = 64;
 
-pub fn append_reply(reply: Reply, out: &mut Vec<u8>) -> Result<(), AllocError>
+pub fn append_reply(reply: Reply, out: &mut Vec<u8>) -> AllocResult
     ensures ok { OnOk result (out.new.items ≡ out.old.items ++ reply_line reply) }
     ensures unchanged { OnErr result (out.new.items ≡ out.old.items) }
 
@@ -31,7 +31,7 @@ pub fn append_reply(reply: Reply, out: &mut Vec<u8>) -> Result<(), AllocError>
     }
 }
 
-fn append_place(index: usize, out: &mut Vec<u8>) -> Result<(), AllocError>
+fn append_place(index: usize, out: &mut Vec<u8>) -> AllocResult
     ensures ok { OnOk result (out.new.items
         ≡ out.old.items ++ reply_line (Reply.Refused (LogFault.NegativeTime index))) }
     ensures unchanged { OnErr result (out.new.items ≡ out.old.items) }

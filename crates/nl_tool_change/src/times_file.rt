@@ -10,14 +10,14 @@ use crate::line_fault::{LineFault, NumberFault, Told, number_fault};
 use crate::parts::{Part, read_parts};
 use crate::script::split_tab;
 use nl_fields::{Name, read_i64};
-use nl_tool_texts::ToolFault;
-use std::alloc::{AllocError, Global};
+use nl_tool_texts::{AllocResult, ToolFault};
+use std::alloc::Global;
 use std::io::Read;
 
 impl Part for (Name, i64) {
     ghost part_of = { pair_on };
 
-    fn read(alloc: Global, line: &[u8]) -> Result<Result<(Name, i64), LineFault>, AllocError> {
+    fn read(alloc: Global, line: &[u8]) -> AllocResult<Result<(Name, i64), LineFault>> {
         let Some((time, name)) = time_and_name(line) else {
             return Ok(Err(LineFault::NoTab));
         };
