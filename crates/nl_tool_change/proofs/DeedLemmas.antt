@@ -5,7 +5,6 @@ use Rattle.std.specs.List.{flat_map}
 use Rattle.nl_table.specs.History.{holds}
 use Rattle.nl_table.specs.Table.{each_once}
 use Rattle.nl_table.proofs.NameSetLemmas.{held_once}
-use Rattle.nl_table.specs.declared.log_user.KeepList.{KeepList}
 use Rattle.nl_table.specs.declared.log_user.KeepList.TheVariants.{All, Only}
 use Rattle.nl_session.specs.declared.events.Event.{Event}
 use Rattle.nl_session.specs.declared.events.Event.TheVariants.{Open as OpenLog, Record, Sync, Recompact, Restat, Stop, Crash}

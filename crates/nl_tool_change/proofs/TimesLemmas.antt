@@ -16,6 +16,8 @@ use Rattle.nl_fields.specs.Digits.{IsDecimal, decimal_of, integer_of}
 use Rattle.nl_fields.proofs.DigitLemmas.{same_decimal_spelling}
 use Rattle.nl_fields.proofs.NumberLemmas.{IsDecimal-decimal_of, integer_of-decimal}
 use Rattle.nl_fields.specs.Name.{is_name}
+use Rattle.std.proofs.Common.{Bor}
+use Rattle.nl_tool_change.specs.Replay.{behind_tab}
 use Rattle.nl_tool_change.specs.Files.{name_on, is_pair, pair_on}
 
 not_true : (b : Bool) → (b ≡ true → ⊥) → b ≡ false
@@ -37,6 +39,11 @@ none_at (c ∷ a) none =
 pub no_tab : (line time : List ℕ) → line ≡ time ++ [] → HasNoTab time → after_tab line ≡ []
 no_tab line time is none =
     ap after_tab (is ∙ append-nil time) ∙ drop_of_length-le time (omega (arith, none_at time none))
+
+-- what isn't there has no text
+pub no_rest : (rest : Option (Bor (List ℕ))) → ((name : Bor (List ℕ)) → rest ≡ Some name → ⊥) → behind_tab rest ≡ []
+no_rest None not = refl
+no_rest (Some name) not = absurd (not name refl)
 
 -- the texts at the two sides of the first tab
 pub at_tab : (line time name : List ℕ) → line ≡ time ++ 9 ∷ name → HasNoTab time → (time ≡ before_tab line) × (name ≡ after_tab line)

@@ -9,8 +9,14 @@ use Rattle.nl_table.specs.declared.log_user.KeepList.TheVariants.{All, Only}
 use Rattle.nl_session.specs.declared.events.Event.{Event}
 use Rattle.nl_session.specs.declared.events.Event.TheVariants.{Open as OpenLog, Record, Sync, Recompact, Restat, Stop, Crash}
 use Rattle.nl_tool_change.specs.Replay.{KeepsSome, event_line, keep_fields, name_field, time_fields}
+use Rattle.nl_tool_change.specs.declared.script.LineRefusal.{LineRefusal}
+use Rattle.nl_tool_change.specs.declared.script.LineRefusal.TheVariants.{OutOfMemory}
 use Rattle.nl_tool_change.specs.declared.script.Word.{Word}
 use Rattle.nl_tool_change.specs.declared.script.Word.TheVariants as word
+
+-- memory was refused
+abbrev pub LacksMemory : LineRefusal → Type 0
+LacksMemory refusal = refusal ≡ OutOfMemory
 
 abbrev pub AreNames : KeepList → Type 0
 AreNames All = ⊤

@@ -2,8 +2,6 @@
 //!
 //! A log of version 6 or 7 is changed through a folder that sees it as one of version 5. That folder would take a log of version 4 too, and
 //! write it anew as one of the version, so if 6 or 7 is asked for, a log of version 4 is of another.
-ghost use Rattle.std.specs.Prelude.{◌≢◌, None, Some};
-ghost use Rattle.nl_versions.specs.declared.version.LogVersion.{LogVersion};
 ghost use Rattle.nl_tool_change.specs.Calls.{Looks};
 ghost use Rattle.nl_folder.specs.FolderView.{folder_view};
 
@@ -20,33 +18,14 @@ pub fn look_for<F: Folder>(
     ensures looks { Looks asked (folder_view F.Folder folder) (folder_view F.Folder result.0)
         result.1 }
 {
-    match asked {
-        Some(LogVersion::Five) => (folder, Ok(LogVersion::Five)),
-        Some(version) => look_past_four(version, folder),
-        None => look_named(folder),
+    if asked == Some(LogVersion::Five) {
+        return (folder, Ok(LogVersion::Five));
     }
-}
-
-fn look_past_four<F: Folder>(version: LogVersion, folder: F) -> (F, Result<LogVersion, LogFault>)
-    requires version { version ≢ LogVersion.Five }
-    ensures looks { Looks (Some version) (folder_view F.Folder folder)
-        (folder_view F.Folder result.0) result.1 }
-{
     let (folder, looked) = first_line_in(folder);
-    match looked {
-        Ok(line) if line.is_four => (folder, Err(LogFault::OtherVersion)),
-        Ok(_) => (folder, Ok(version)),
-        Err(_) => (folder, Err(LogFault::Fault)),
-    }
-}
-
-fn look_named<F: Folder>(folder: F) -> (F, Result<LogVersion, LogFault>)
-    ensures looks { Looks None (folder_view F.Folder folder) (folder_view F.Folder result.0)
-        result.1 }
-{
-    let (folder, looked) = first_line_in(folder);
-    match looked {
-        Ok(line) => (folder, Ok(line.version)),
-        Err(_) => (folder, Err(LogFault::Fault)),
+    match (looked, asked) {
+        (Ok(line), None) => (folder, Ok(line.version)),
+        (Ok(line), Some(_)) if line.is_four => (folder, Err(LogFault::OtherVersion)),
+        (Ok(_), Some(version)) => (folder, Ok(version)),
+        (Err(_), _) => (folder, Err(LogFault::Fault)),
     }
 }

@@ -5,44 +5,29 @@ ghost use Rattle.nl_tool_change.specs.Calls.{IsFree};
 ghost use Rattle.nl_tool_change.specs.Faults.{IsRecordFault};
 ghost use Rattle.nl_tool_change.specs.Mending.{MendsLog, MendsLogAs, MendsSeen};
 
-use crate::log_fault::of_log_fault;
+use crate::log_fault::{ToolResult, of_log_fault};
 use crate::place::FoundFolder;
 use nl_fields::Name;
 use nl_folder::Folder;
 use nl_session::Log;
 use nl_table::Secret;
-use nl_tool_texts::ToolFault;
 use nl_versions::{LogVersion, Version, VersionFolder, VersionSeven, VersionSix};
 use std::alloc::Global;
 
 /// It makes the intents durable. Damaged lines are gone then, because the log is written anew.
-pub fn mend_on<F: Folder>(
-    alloc: Global,
-    place: FoundFolder<F>,
-    names: &[Name],
-) -> (F, Result<(), ToolFault>)
+pub fn mend_on<F: Folder>(alloc: Global, place: FoundFolder<F>, names: &[Name]) -> (F, ToolResult)
     ensures call { IsFree (F.disk place.folder) place.version → MendsLogAs place.version names.now
         result.1 (folder_view F.Folder place.folder) (folder_view F.Folder result.0) }
     ensures faults { IfErr result.1 IsRecordFault }
 {
-    let FoundFolder {
-        secret,
-        version,
-        folder,
-    } = place;
-    match version {
-        LogVersion::Five => mend_log(alloc, secret, folder, names),
-        LogVersion::Six => mend_seen(alloc, secret, VersionSix, folder, names),
-        LogVersion::Seven => mend_seen(alloc, secret, VersionSeven, folder, names),
+    match place.version {
+        LogVersion::Five => mend_log(alloc, place.secret, place.folder, names),
+        LogVersion::Six => mend_seen(alloc, place.secret, VersionSix, place.folder, names),
+        LogVersion::Seven => mend_seen(alloc, place.secret, VersionSeven, place.folder, names),
     }
 }
 
-fn mend_log<F: Folder>(
-    alloc: Global,
-    secret: Secret,
-    folder: F,
-    names: &[Name],
-) -> (F, Result<(), ToolFault>)
+fn mend_log<F: Folder>(alloc: Global, secret: Secret, folder: F, names: &[Name]) -> (F, ToolResult)
     ensures call { MendsLog names.now result.1
         (folder_view F.Folder folder) (folder_view F.Folder result.0) }
     ensures faults { IfErr result.1 IsRecordFault }
@@ -61,7 +46,7 @@ fn mend_seen<F: Folder, V: Version>(
     version: V,
     folder: F,
     names: &[Name],
-) -> (F, Result<(), ToolFault>)
+) -> (F, ToolResult)
     ensures call { IsFree (F.disk folder) V.version → MendsSeen V.version names.now result.1
         (folder_view F.Folder folder) (folder_view F.Folder result.0) }
     ensures faults { IfErr result.1 IsRecordFault }

@@ -45,8 +45,12 @@ pub fn read_parts<P: Part, R: Read + Drop>(
     ensures why { IsErrAnd result IsBadLine → IsSome told.new.why }
     ensures faults { IfErr result IsFileFault }
 {
-    let so_far = read_lines(alloc, &mut ReadSource::new(reader))?;
-    parts_of(so_far, told)
+    let so_far: SoFar<P> = read_lines(alloc, &mut ReadSource::new(reader))?;
+    told.negative = so_far.negative;
+    match so_far.bad {
+        Some((number, why)) => Err(told.refuse(number, why)),
+        None => Ok(so_far.parts),
+    }
 }
 
 fn read_lines<P: Part, S: Source>(alloc: Global, source: &mut S) -> Result<SoFar<P>, ToolFault>
@@ -123,22 +127,4 @@ fn take_rest<P: Part>(alloc: Global, len: u64, lent: &[u8], so_far: &mut SoFar<P
         return Ok(());
     }
     take(alloc, lent, so_far)
-}
-
-fn parts_of<P: Part>(so_far: SoFar<P>, told: &mut Told) -> Result<Vec<P>, ToolFault>
-    ensures value { MatchResult result (λ parts. (so_far.bad ≡ None) × (parts ≡ so_far.parts))
-        (λ e. IsSomeAnd so_far.bad (λ bad. e ≡ ToolFault.BadLine bad.0)) }
-    ensures why { IsErrAnd result IsBadLine → IsSome told.new.why }
-{
-    let SoFar {
-        parts,
-        count: _,
-        bad,
-        negative,
-    } = so_far;
-    told.negative = negative;
-    match bad {
-        Some((number, why)) => Err(told.refuse(number, why)),
-        None => Ok(parts),
-    }
 }

@@ -91,46 +91,27 @@ impl<F: Folder> LogPlace for FoundFolder<F> {
     }
 
     fn change<C: Change>(self, alloc: Global, change: &C) -> (Self, Result<(), ToolFault>) {
-        let FoundFolder {
-            secret,
-            version,
-            folder,
-        } = self;
-        match version {
-            LogVersion::Five => {
-                let (folder, result) = change_on(alloc, secret, folder, change);
-                (
-                    FoundFolder {
-                        secret,
-                        version,
-                        folder,
-                    },
-                    result,
-                )
-            }
-            LogVersion::Six => {
-                let (folder, result) = change_seen(alloc, secret, VersionSix, folder, change);
-                (
-                    FoundFolder {
-                        secret,
-                        version,
-                        folder,
-                    },
-                    result,
-                )
-            }
-            LogVersion::Seven => {
-                let (folder, result) = change_seen(alloc, secret, VersionSeven, folder, change);
-                (
-                    FoundFolder {
-                        secret,
-                        version,
-                        folder,
-                    },
-                    result,
-                )
-            }
-        }
+        let (folder, result) = change_found(alloc, self.secret, self.version, self.folder, change);
+        (FoundFolder { folder, ..self }, result)
+    }
+}
+
+// The log is one of the version, or is taken for one.
+pub(crate) fn change_found<F: Folder, C: Change>(
+    alloc: Global,
+    secret: Secret,
+    version: LogVersion,
+    folder: F,
+    change: &C,
+) -> (F, Result<(), ToolFault>)
+    ensures call { IsFree (F.disk folder) version → ChangesLogAs version (C.meaning change.now)
+        result.1 (folder_view F.Folder folder) (folder_view F.Folder result.0) }
+    ensures faults { IfErr result.1 (IsFaultBy (C.meaning change.now)) }
+{
+    match version {
+        LogVersion::Five => change_on(alloc, secret, folder, change),
+        LogVersion::Six => change_seen(alloc, secret, VersionSix, folder, change),
+        LogVersion::Seven => change_seen(alloc, secret, VersionSeven, folder, change),
     }
 }
 
@@ -161,37 +142,13 @@ impl<F: Folder> LogPlace for AskedFolder<F> {
     }
 
     fn change<C: Change>(self, alloc: Global, change: &C) -> (Self, Result<(), ToolFault>) {
-        let AskedFolder {
-            secret,
-            asked,
-            folder,
-        } = self;
-        let (folder, looked) = look_for(asked, folder);
+        let (folder, looked) = look_for(self.asked, self.folder);
         match looked {
             Ok(version) => {
-                let place = FoundFolder {
-                    secret,
-                    version,
-                    folder,
-                };
-                let (found, result) = place.change(alloc, change);
-                (
-                    AskedFolder {
-                        secret,
-                        asked,
-                        folder: found.folder,
-                    },
-                    result,
-                )
+                let (folder, result) = change_found(alloc, self.secret, version, folder, change);
+                (AskedFolder { folder, ..self }, result)
             }
-            Err(fault) => (
-                AskedFolder {
-                    secret,
-                    asked,
-                    folder,
-                },
-                Err(of_log_fault(fault)),
-            ),
+            Err(fault) => (AskedFolder { folder, ..self }, Err(of_log_fault(fault))),
         }
     }
 }

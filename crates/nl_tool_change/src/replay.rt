@@ -37,16 +37,10 @@ fn set_up(alloc: Global, script: Script) -> (MemFolder, Vec<Event>)
     ensures choices { choices_of result.0 ≡ told_by script }
     ensures events { result.1.items ≡ script.events.items }
 {
-    let Script {
-        writes,
-        fates,
-        tails,
-        fuse,
-        events,
-    } = script;
-    let mut folder = MemFolder::new(alloc, Vec::new(alloc), writes, fates, fuse);
-    folder.set_tails(tails);
-    (folder, events)
+    let log = Vec::new(alloc);
+    let mut folder = MemFolder::new(alloc, log, script.writes, script.fates, script.fuse);
+    folder.set_tails(script.tails);
+    (folder, script.events)
 }
 
 fn run_script(alloc: Global, script: Script) -> AllocResult<Vec<u8>>

@@ -2,9 +2,8 @@
 ghost use Rattle.std.specs.Prelude.{◌≡◌, ◌↔◌, ◌<◌, ◌++◌, ◌∷◌, ◌^◌, ℕ, [], pos, Some, length, IfErr, IfOk, IfSome, IsErr, IsErrAnd, IsErrOf, IsSome, OnOk};
 ghost use Rattle.std.specs.List.{All as Each, flat_map};
 ghost use Rattle.nl_fields.specs.Digits.{IsDecimal};
-ghost use Rattle.nl_fields.specs.EntryLine.{IsEntryLine};
 ghost use Rattle.nl_fields.specs.Fields.{HasNoTab};
-ghost use Rattle.nl_fields.specs.EntryLine.{line_of};
+ghost use Rattle.nl_fields.specs.EntryLine.{IsEntryLine, line_of};
 ghost use Rattle.nl_fields.specs.Name.{IsName};
 ghost use Rattle.nl_folder.specs.declared.fuse.Call.{Call};
 ghost use Rattle.nl_tool_change.specs.Faults.{IsBadLine, IsFaultOfLine, IsScriptFault};
@@ -14,10 +13,11 @@ ghost use Rattle.nl_tool_change.specs.declared.script.Word.{Word};
 ghost use Rattle.nl_tool_texts.specs.Files.{OfBytes, file_lines};
 ghost use Rattle.nl_fields.specs.declared.entry.Entry.{Entry};
 ghost use Rattle.nl_session.specs.declared.events.Event.{Event};
-ghost use Rattle.nl_tool_change.specs.Reading.{HoldsNames, IsLineOf, IsReadable, SaysNames, SaysTimes, fields_of_event, word_of_event};
+ghost use Rattle.nl_tool_change.specs.Reading.{HoldsNames, IsLineOf, IsReadable, LacksMemory, SaysNames, SaysTimes, fields_of_event, word_of_event};
 ghost use Rattle.nl_tool_change.specs.Replay.{IsScript, KeepsSome, NamesSome, SaysMore, TakesScriptLine, behind_tab, event_line, keep_fields, name_field, text_of_word, time_fields, word_of};
 
 use crate::line_fault::{LineFault, Told};
+use crate::log_fault::ToolResult;
 use nl_fields::{Entry, Name, NameFault, read_entry, read_i64};
 use nl_folder::{Call, Fuse};
 use nl_lines::{Line, Lines, ReadSource, Source};
@@ -90,11 +90,7 @@ impl From<NameFault> for LineRefusal {
 }
 
 /// It stops at the first bad line.
-pub fn read_script<R: Read + Drop>(
-    alloc: Global,
-    reader: R,
-    told: &mut Told,
-) -> Result<Script, ToolFault>
+pub fn read_script<R: Read + Drop>(alloc: Global, reader: R, told: &mut Told) -> ToolResult<Script>
     ensures value { IfOk result (λ script.
         OfBytes (R.remaining reader) (λ bytes. IsScript (file_lines bytes) script.events.items)) }
     ensures why { IsErrAnd result IsBadLine → IsSome told.new.why }
@@ -107,7 +103,7 @@ fn read_script_lines<S: Source>(
     alloc: Global,
     source: &mut S,
     told: &mut Told,
-) -> Result<Script, ToolFault>
+) -> ToolResult<Script>
     ensures value { IfOk result (λ script.
         OfBytes (S.ahead source.old) (λ bytes. IsScript (file_lines bytes) script.events.items)) }
     ensures why { IsErrAnd result IsBadLine → IsSome told.new.why }
@@ -120,31 +116,18 @@ fn read_script_lines<S: Source>(
         match lines.next(source)? {
             Some(Line::Whole(line)) => take_line(alloc, line, number, &mut script, told)?,
             Some(Line::TooLong) => return Err(told.refuse(number, LineFault::LongLine)),
-            Some(Line::Torn { bytes, .. }) => return with_last(alloc, script, bytes, number, told),
+            // It is too long to be lent.
+            Some(Line::Torn { bytes, .. }) if bytes.is_empty() => {
+                return Err(told.refuse(number, LineFault::LongLine));
+            }
+            Some(Line::Torn { bytes, .. }) => {
+                take_line(alloc, bytes, number, &mut script, told)?;
+                return Ok(script);
+            }
             None => return Ok(script),
         }
         number += 1;
     }
-}
-
-// The last line has no newline, and is empty only if it was too long to be lent.
-fn with_last(
-    alloc: Global,
-    mut script: Script,
-    line: &[u8],
-    number: u64,
-    told: &mut Told,
-) -> Result<Script, ToolFault>
-    ensures value { IfOk result (λ new.
-        (0 < length line.now) × TakesScriptLine script.events.items new.events.items line.now) }
-    ensures why { IsErrAnd result IsBadLine → IsSome told.new.why }
-    ensures faults { IfErr result (IsFaultOfLine number) }
-{
-    if line.is_empty() {
-        return Err(told.refuse(number, LineFault::LongLine));
-    }
-    take_line(alloc, line, number, &mut script, told)?;
-    Ok(script)
 }
 
 fn take_line(
@@ -153,7 +136,7 @@ fn take_line(
     number: u64,
     script: &mut Script,
     told: &mut Told,
-) -> Result<(), ToolFault>
+) -> ToolResult
     ensures ok { OnOk result
         (TakesScriptLine script.old.events.items script.new.events.items line.now) }
     ensures why { IsErrAnd result IsBadLine → IsSome told.new.why }
@@ -214,8 +197,7 @@ impl Script {
 pub fn read_event_line(alloc: Global, line: &[u8]) -> Result<Event, LineRefusal>
     ensures line { IfOk result (λ event. event_line event ≡ line.now) }
     ensures some { IfOk result KeepsSome }
-    ensures accepts { (event : Event) → IsLineOf event line.now
-        → IfErr result (λ refusal. refusal ≡ OutOfMemory) }
+    ensures accepts { (event : Event) → IsLineOf event line.now → IfErr result LacksMemory }
     ensures memory { IsErrOf result OutOfMemory → HoldsNames line.now }
 {
     let (word, rest) = split_tab(line);
@@ -271,8 +253,7 @@ fn read_event(alloc: Global, word: Word, rest: Option<&[u8]>) -> Result<Event, L
         (λ event. event_line event ≡ text_of_word word ++ behind_tab rest.entry) }
     ensures some { IfOk result KeepsSome }
     ensures accepts { (event : Event) → word ≡ word_of_event event
-        → behind_tab rest.entry ≡ fields_of_event event → IsReadable event → KeepsSome event
-        → IfErr result (λ refusal. refusal ≡ OutOfMemory) }
+        → behind_tab rest.entry ≡ fields_of_event event → IsReadable event → KeepsSome event → IfErr result LacksMemory }
     ensures memory { IsErrOf result OutOfMemory
         → HoldsNames (text_of_word word ++ behind_tab rest.entry) }
 {
@@ -291,8 +272,7 @@ fn read_event(alloc: Global, word: Word, rest: Option<&[u8]>) -> Result<Event, L
 fn read_kept(alloc: Global, text: Option<&[u8]>) -> Result<KeepList, LineRefusal>
     ensures line { IfOk result (λ keep. keep_fields keep ≡ behind_tab text.entry) }
     ensures some { IfOk result NamesSome }
-    ensures accepts { SaysNames (behind_tab text.entry)
-        → IfErr result (λ refusal. refusal ≡ OutOfMemory) }
+    ensures accepts { SaysNames (behind_tab text.entry) → IfErr result LacksMemory }
     ensures memory { IsErr result → IsSome text.entry }
 {
     match text {
@@ -304,8 +284,7 @@ fn read_kept(alloc: Global, text: Option<&[u8]>) -> Result<KeepList, LineRefusal
 pub fn read_names(alloc: Global, text: &[u8]) -> Result<Vec<Name>, LineRefusal>
     ensures line { IfOk result (λ names. flat_map name_field names.items ≡ name_field text.now) }
     ensures names { IfOk result (λ names. Each IsName names.items) }
-    ensures accepts { SaysNames (name_field text.now)
-        → IfErr result (λ refusal. refusal ≡ OutOfMemory) }
+    ensures accepts { SaysNames (name_field text.now) → IfErr result LacksMemory }
 {
     let mut names = Vec::new(alloc);
     let mut left = Some(text);
@@ -319,8 +298,7 @@ pub fn read_names(alloc: Global, text: &[u8]) -> Result<Vec<Name>, LineRefusal>
 
 fn read_times(alloc: Global, text: Option<&[u8]>) -> Result<Vec<(Name, i64)>, LineRefusal>
     ensures line { IfOk result (λ times. flat_map time_fields times.items ≡ behind_tab text.entry) }
-    ensures accepts { SaysTimes (behind_tab text.entry)
-        → IfErr result (λ refusal. refusal ≡ OutOfMemory) }
+    ensures accepts { SaysTimes (behind_tab text.entry) → IfErr result LacksMemory }
     ensures memory { IsErr result → IsSome text.entry }
 {
     let mut pairs = Vec::new(alloc);
@@ -339,8 +317,7 @@ fn read_times(alloc: Global, text: Option<&[u8]>) -> Result<Vec<(Name, i64)>, Li
 
 fn read_record(alloc: Global, line: &[u8]) -> Result<Entry, LineRefusal>
     ensures line { IfOk result (λ e. line_of e ≡ line.now) }
-    ensures accepts { (e : Entry) → IsEntryLine e line.now
-        → IfErr result (λ refusal. refusal ≡ OutOfMemory) }
+    ensures accepts { (e : Entry) → IsEntryLine e line.now → IfErr result LacksMemory }
 {
     let Some(entry) = read_entry(line) else {
         return Err(LineRefusal::BadLine);

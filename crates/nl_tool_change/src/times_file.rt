@@ -18,7 +18,8 @@ impl Part for (Name, i64) {
     ghost part_of = { pair_on };
 
     fn read(alloc: Global, line: &[u8]) -> AllocResult<Result<(Name, i64), LineFault>> {
-        let Some((time, name)) = time_and_name(line) else {
+        let (time, rest) = split_tab(line);
+        let Some(name) = rest else {
             return Ok(Err(LineFault::NoTab));
         };
         let Some(mtime) = read_i64(time) else {
@@ -33,18 +34,6 @@ impl Part for (Name, i64) {
 
     fn is_negative(&self) -> bool {
         self.1 < 0
-    }
-}
-
-fn time_and_name(line: &[u8]) -> Option<(&[u8], &[u8])>
-    ensures found { IfSome result
-        (λ parts. (parts.0.now ≡ before_tab line.now) × (parts.1.now ≡ after_tab line.now)) }
-    ensures none { IsNone result → after_tab line.now ≡ [] }
-{
-    let (time, rest) = split_tab(line);
-    match rest {
-        Some(name) => Some((time, name)),
-        None => None,
     }
 }
 

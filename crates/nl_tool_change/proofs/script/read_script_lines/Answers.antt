@@ -1,5 +1,5 @@
-use Rattle.std.proofs.Common.{◌∷◌, [], arith, inl, inr, refl, subst, length-append}
-use Rattle.std.proofs.lemmas.Result.{IfOk-weaker}
+use Rattle.std.proofs.Common.{◌<◌, ◌∷◌, [], length, arith, inl, inr, refl, subst, length-append}
+use Rattle.std.proofs.lemmas.Grind.{common_steps}
 use Rattle.nl_tool_change.specs.Replay.{TakesScriptLine}
 use Rattle.nl_tool_change.proofs.ScriptLemmas.{Scripted_none, Scripted_more, Scripted_rest, Scripted_end, Scripted_reading, lent_whole}
 use Rattle.nl_tool_change.proofs.script.read_script_lines.Goals as goal
@@ -14,12 +14,14 @@ lines-init g c = record {
   fits = rw c.in_ok-lines.ensures.value (omega arith);
 }
 
-pub returns-in-Some-Torn-clause-value : goal.returns-in-Some-Torn-clause-value
-returns-in-Some-Torn-clause-value g c =
+pub returns-in-Some-Torn-2-clause-value : goal.returns-in-Some-Torn-2-clause-value
+returns-in-Some-Torn-2-clause-value g c =
     let h = rw (c.in_ok-line.was, c.in-Some-Torn.is, c.in-Some-Torn.field-0-is) at c.next.follows.holds-at-none in
-    IfOk-weaker c.with_last.result _ _ (λ script says. Scripted_rest _ _ _ _ c.lines.invariant.scripted _ _ h.0 script.events.items h.1
-    (subst (TakesScriptLine c.lines.script.events.items script.events.items) (lent_whole h.0 c.in-Some-Torn.bytes.now h.5 says.0) says.1))
-    c.with_last.ensures.value
+    let bytes = c.in-Some-Torn.bytes.now in
+    let events = c.take_line-in-Some-Torn-2.new.script.events.items in
+    let some : 0 < length bytes = grind (arith, common_steps) in
+    Scripted_rest _ _ _ _ c.lines.invariant.scripted _ _ h.0 events h.1
+    (subst (TakesScriptLine c.lines.script.events.items events) (lent_whole h.0 bytes h.5 some) c.in_ok-take_line-in-Some-Torn-2.ensures.ok)
 
 pub returns-in-None-clause-value : goal.returns-in-None-clause-value
 returns-in-None-clause-value g c =

@@ -11,11 +11,11 @@ of_log_fault-requires g c = (reason_fault _ _ _ _ _ c.in-Err.is c.look_for-folde
 
 pub returns-in-Ok : goal.returns-in-Ok
 returns-in-Ok g c =
-    let call = looked_at _ _ _ _ _ _ _ c.in-Ok.version c.in-Ok.is c.look_for-folder.ensures.looks c.change-found.ensures.call in
+    let call = looked_at _ _ _ _ _ _ _ c.in-Ok.version c.in-Ok.is c.look_for-folder.ensures.looks c.change_found-folder.ensures.call in
     record {
       call = call;
-      repairs = λ all. repairs_for _ all (g.met.F.Folder.is_disk c.change-found.result.0.folder) call;
-      faults = c.change-found.ensures.faults;
+      repairs = λ all. repairs_for _ all (g.met.F.Folder.is_disk c.change_found-folder.result.0) call;
+      faults = c.change_found-folder.ensures.faults;
     }
 
 pub returns-in-Err : goal.returns-in-Err
