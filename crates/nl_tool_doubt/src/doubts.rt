@@ -18,9 +18,9 @@ use nl_distrust::laws::a_whole_log_is_trusted;
 use nl_distrust::{distrusted, is_whole};
 use nl_fields::{Entry, EntryRef};
 use nl_table::{LoadFault, Secret, Table};
-use nl_tool_texts::{ToolFault, write_out};
+use nl_tool_texts::{AllocResult, ToolFault, write_out};
 use nl_versions::lines_version;
-use std::alloc::{AllocError, Global};
+use std::alloc::Global;
 use std::io::Write;
 
 /// An output that can't be trusted, with its last entry.
@@ -56,8 +56,7 @@ pub fn doubts_of<F: OutputFiles>(
 {
     let lines = read_entries(alloc, log)?;
     let table = table_of(alloc, secret, lines.entries.as_slice())?;
-    let doubts = name_all(alloc, lines, &table, &Table::new(alloc), files)?;
-    Ok(doubts)
+    Ok(name_all(alloc, lines, &table, &Table::new(alloc), files)?)
 }
 
 /// As `doubts_of`, but an output that a damaged or torn line may be about is damaged, whatever its file says.
@@ -75,11 +74,10 @@ pub fn untrusted_of<F: OutputFiles>(
     let lines = read_entries(alloc, log)?;
     let table = table_of(alloc, secret, lines.entries.as_slice())?;
     let damaged = damaged_of(alloc, log, &table)?;
-    let doubts = name_all(alloc, lines, &table, &damaged, files)?;
-    Ok(doubts)
+    Ok(name_all(alloc, lines, &table, &damaged, files)?)
 }
 
-fn damaged_of(alloc: Global, log: &[u8], table: &Table) -> Result<Table, AllocError>
+fn damaged_of(alloc: Global, log: &[u8], table: &Table) -> AllocResult<Table>
     ensures value { IfOk result (λ found. found ≡ damaged_in log.now table.now) }
 {
     let version = lines_version(log);
@@ -90,7 +88,7 @@ fn damaged_of(alloc: Global, log: &[u8], table: &Table) -> Result<Table, AllocEr
     distrusted(alloc, version, log, table)
 }
 
-fn table_of(alloc: Global, secret: Secret, entries: &[EntryRef]) -> Result<Table, AllocError>
+fn table_of(alloc: Global, secret: Secret, entries: &[EntryRef]) -> AllocResult<Table>
     ensures value { IfOk result (λ found. (version : ℕ) → found ≡ table (logged version entries.now)) }
 {
     let mut table = Table::with_secret(alloc, secret);
@@ -106,7 +104,7 @@ fn name_all<F: OutputFiles>(
     table: &Table,
     damaged: &Table,
     files: &F,
-) -> Result<Doubts, AllocError>
+) -> AllocResult<Doubts>
     ensures value { IfOk result (AreDoubts damaged.now lines.entry.stamps lines.entry.entries.items table.now (F.states files.now)) }
 {
     let LogEntries { stamps, entries } = lines;
@@ -129,7 +127,7 @@ fn name_looked(
     moments: &Moments,
     looked: &[Looked],
     damaged: &Table,
-) -> Result<Vec<Doubted>, AllocError>
+) -> AllocResult<Vec<Doubted>>
     ensures value { IfOk result (λ named. named.items ≡ flat_map (named_by damaged.now counts stamps moments.now) looked.now) }
 {
     let mut named = Vec::new(alloc);
@@ -171,7 +169,7 @@ fn name_one(
     doubt: Option<Doubt>,
     damaged: &Table,
     named: &mut Vec<Doubted>,
-) -> Result<(), AllocError>
+) -> AllocResult
     ensures items { OnOk result (named.new.items ≡ named.old.items ++ doubted entry.now (why damaged.now doubt entry.now)) }
 {
     let why = if damaged.get(entry.name()).is_some() {
@@ -203,7 +201,7 @@ pub fn write_doubts<W: Write>(
     Ok(!named.is_empty())
 }
 
-fn text_of(alloc: Global, named: &[Doubted]) -> Result<Vec<u8>, AllocError>
+fn text_of(alloc: Global, named: &[Doubted]) -> AllocResult<Vec<u8>>
     ensures value { IfOk result (λ text. text.items ≡ flat_map doubt_line named.now) }
 {
     let mut text = Vec::new(alloc);

@@ -6,7 +6,8 @@ ghost use Rattle.nl_tool_doubt.specs.declared.files.FileState.{FileState};
 
 use nl_fields::EntryRef;
 use nl_table::Table;
-use std::alloc::{AllocError, Global};
+use nl_tool_texts::AllocResult;
+use std::alloc::Global;
 
 const SECOND: i128 = 1_000_000_000;
 
@@ -72,7 +73,7 @@ pub(crate) fn look_all<'a, F: OutputFiles>(
     alloc: Global,
     table: &'a Table,
     files: &F,
-) -> Result<Vec<Looked<'a>>, AllocError>
+) -> AllocResult<Vec<Looked<'a>>>
     ensures looked { IfOk result (λ looked. AreLooked table.now (F.states files.now) looked.items) }
 {
     let mut looked = Vec::with_capacity(alloc, table.len())?;

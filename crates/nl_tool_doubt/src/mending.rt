@@ -4,7 +4,7 @@ ghost use Rattle.nl_folder.specs.FolderView.{folder_view};
 ghost use Rattle.nl_tool_change.specs.Faults.{IsRecordFault};
 ghost use Rattle.nl_tool_change.specs.Mending.{MendsLogAs};
 ghost use Rattle.nl_versions.specs.VersionOf.{version_of};
-ghost use Rattle.nl_tool_doubt.specs.Mending.{EndsBy, IsIn, IsMendFault, IsSaid, Mends, MendsBytes, MendsFolder, MendsSaid, cause_of, is_due, is_elsewhere, is_taken, line_of, mend_lines, taken, taken_by, word_of};
+ghost use Rattle.nl_tool_doubt.specs.Mending.{EndsBy, IsIn, IsMendFault, IsSaid, Mends, MendsFolder, MendsSaid, cause_of, is_due, is_elsewhere, is_taken, mend_lines, taken, word_of};
 
 use crate::doubts::{Doubted, Doubts, untrusted_of};
 use crate::files::OutputFiles;
@@ -15,9 +15,9 @@ use nl_folder::Folder;
 use nl_session::is_intent;
 use nl_table::Secret;
 use nl_tool_change::{FoundFolder, mend_on, read_log};
-use nl_tool_texts::{ToolFault, write_out};
+use nl_tool_texts::{AllocResult, ToolFault, write_out};
 use nl_versions::{lines_version, version_of};
-use std::alloc::{AllocError, Global};
+use std::alloc::Global;
 use std::io::Write;
 
 #[derive(Clone, Copy, Drop)]
@@ -48,35 +48,17 @@ pub fn mend_to<D: Folder, F: OutputFiles, W: Write>(
     how: How,
     writer: &mut W,
 ) -> (D, Result<Mended, ToolFault>)
-    ensures call { MendsFolder (F.states files.now) how
-        (W.contents writer.old) (W.contents writer.new) result.1
-        (folder_view D.Folder folder) (folder_view D.Folder result.0) }
+    ensures call { MendsFolder (F.states files.now) how (W.contents writer.old) (W.contents
+        writer.new) result.1 (folder_view D.Folder folder) (folder_view D.Folder result.0) }
     ensures faults { IfErr result.1 IsMendFault }
 {
     let (folder, read) = read_log(alloc, folder);
     match read {
-        Ok(log) => mend_bytes(alloc, secret, folder, log.as_slice(), files, how, writer),
+        Ok(log) => match untrusted_of(alloc, secret, log.as_slice(), files) {
+            Ok(doubts) => mend_doubted(alloc, secret, folder, log.as_slice(), &doubts, how, writer),
+            Err(fault) => (folder, Err(ToolFault::from(fault))),
+        },
         Err(fault) => (folder, Err(fault)),
-    }
-}
-
-fn mend_bytes<D: Folder, F: OutputFiles, W: Write>(
-    alloc: Global,
-    secret: Secret,
-    folder: D,
-    log: &[u8],
-    files: &F,
-    how: How,
-    writer: &mut W,
-) -> (D, Result<Mended, ToolFault>)
-    ensures call { IsIn (D.disk folder) log.now
-        → MendsBytes (F.states files.now) how log.now (W.contents writer.old) (W.contents writer.new)
-        result.1 (folder_view D.Folder folder) (folder_view D.Folder result.0) }
-    ensures faults { IfErr result.1 IsMendFault }
-{
-    match untrusted_of(alloc, secret, log, files) {
-        Ok(doubts) => mend_doubted(alloc, secret, folder, log, &doubts, how, writer),
-        Err(fault) => (folder, Err(ToolFault::from(fault))),
     }
 }
 
@@ -135,7 +117,7 @@ struct Said {
     is_due: bool,
 }
 
-fn said_of(alloc: Global, log: &[u8], doubts: &Doubts, how: How) -> Result<Said, AllocError>
+fn said_of(alloc: Global, log: &[u8], doubts: &Doubts, how: How) -> AllocResult<Said>
     ensures value { IfOk result (IsSaid how log.now doubts.now.named.items) }
 {
     let mut text = lines_of(alloc, doubts.named.as_slice())?;
@@ -151,50 +133,31 @@ fn said_of(alloc: Global, log: &[u8], doubts: &Doubts, how: How) -> Result<Said,
     })
 }
 
-fn lines_of(alloc: Global, named: &[Doubted]) -> Result<Vec<u8>, AllocError>
+fn lines_of(alloc: Global, named: &[Doubted]) -> AllocResult<Vec<u8>>
     ensures value { IfOk result (λ text. text.items ≡ mend_lines named.now) }
 {
     let mut text = Vec::new(alloc);
     for it in named {
-        append_line(it, &mut text)?;
+        if let Some(cause) = cause_of(it) {
+            text.extend_from_slice(word_of(cause).as_bytes())?;
+            text.push(b'\t')?;
+            text.extend_from_slice(it.entry.name.bytes())?;
+            text.push(b'\n')?;
+        }
     }
     Ok(text)
 }
 
-fn append_line(it: &Doubted, text: &mut Vec<u8>) -> Result<(), AllocError>
-    ensures items { OnOk result (text.new.items ≡ text.old.items ++ line_of it.now) }
-{
-    if let Some(cause) = cause_of(it) {
-        text.extend_from_slice(word_of(cause).as_bytes())?;
-        text.push(b'\t')?;
-        text.extend_from_slice(it.entry.name.bytes())?;
-        text.push(b'\n')?;
-    }
-    Ok(())
-}
-
-fn names_of(alloc: Global, named: &[Doubted], all: bool) -> Result<Vec<Name>, AllocError>
+fn names_of(alloc: Global, named: &[Doubted], all: bool) -> AllocResult<Vec<Name>>
     ensures value { IfOk result (λ names. names.items ≡ taken all named.now) }
 {
     let mut names = Vec::new(alloc);
     for it in named {
-        push_taken(alloc, all, it, &mut names)?;
+        if is_taken(all, cause_of(it)) {
+            names.push(it.entry.name.copy(alloc)?)?;
+        }
     }
     Ok(names)
-}
-
-fn push_taken(
-    alloc: Global,
-    all: bool,
-    it: &Doubted,
-    names: &mut Vec<Name>,
-) -> Result<(), AllocError>
-    ensures items { OnOk result (names.new.items ≡ names.old.items ++ taken_by all it.now) }
-{
-    if is_taken(all, cause_of(it)) {
-        names.push(it.entry.name.copy(alloc)?)?;
-    }
-    Ok(())
 }
 
 #[derive(Clone, Copy)]
@@ -253,7 +216,7 @@ fn append_end(
     taken: usize,
     is_due: bool,
     text: &mut Vec<u8>,
-) -> Result<(), AllocError>
+) -> AllocResult
     ensures ends { OnOk result (EndsBy how.at_terminal text.old.items text.new.items) }
 {
     if !how.at_terminal || !is_told && !is_due {

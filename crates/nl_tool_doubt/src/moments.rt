@@ -8,7 +8,8 @@ ghost use Rattle.nl_tool_doubt.specs.Moments.{begun, is_sure, is_whole, length_o
 use crate::spans::{Span, greatest_up_to, least_from, merged, rising, summed, within};
 use nl_builds::Stamps;
 use nl_fields::EntryRef;
-use std::alloc::{AllocError, Global};
+use nl_tool_texts::AllocResult;
+use std::alloc::Global;
 use std::marker::Model;
 
 pub const NANOSECONDS: u64 = 1_000_000;
@@ -88,11 +89,7 @@ impl<'a> Model for Moments<'a> {
 
 impl<'a> Moments<'a> {
     /// It takes the time of sorting what the entries tell.
-    pub fn of(
-        alloc: Global,
-        stamps: Stamps,
-        entries: Vec<EntryRef<'a>>,
-    ) -> Result<Moments<'a>, AllocError>
+    pub fn of(alloc: Global, stamps: Stamps, entries: Vec<EntryRef<'a>>) -> AllocResult<Moments<'a>>
         ensures value { IfOk result (λ moments. moments ≡ lines_that_tell stamps entries.entry.items) }
     {
         let mut ends = Vec::new(alloc);
@@ -172,11 +169,7 @@ fn are_whole(lines: &[EntryRef]) -> bool
     true
 }
 
-fn add_spans(
-    lines: &[EntryRef],
-    ends: &mut Vec<Span>,
-    starts: &mut Vec<Span>,
-) -> Result<(), AllocError>
+fn add_spans(lines: &[EntryRef], ends: &mut Vec<Span>, starts: &mut Vec<Span>) -> AllocResult
     ensures ends { OnOk result (ends.new.items ≡ ends.old.items ++ map end_span (filter tells lines.now)) }
     ensures starts { OnOk result (starts.new.items ≡ starts.old.items ++ map start_span (filter tells lines.now)) }
 {

@@ -4,7 +4,8 @@ ghost use Rattle.nl_tool_doubt.specs.Moments.{least_from};
 ghost use Rattle.nl_tool_doubt.specs.Spans.{Alike, Joins, Rises, both, greatest_of, one, sums, within};
 ghost use Rattle.nl_tool_doubt.specs.declared.spans.Span.{Span};
 
-use std::alloc::{AllocError, Global};
+use nl_tool_texts::AllocResult;
+use std::alloc::Global;
 
 /// The first place of some values, the least of them and the greatest.
 #[derive(Clone, Copy, Drop)]
@@ -43,7 +44,7 @@ pub fn rising(spans: Vec<Span>) -> Vec<Span>
 }
 
 /// Each span gets the greatest value up to it.
-pub fn summed(alloc: Global, spans: &[Span]) -> Result<Vec<Span>, AllocError>
+pub fn summed(alloc: Global, spans: &[Span]) -> AllocResult<Vec<Span>>
     ensures value { IfOk result (λ all. all.items ≡ sums 0 spans.now) }
 {
     let mut all = Vec::with_capacity(alloc, spans.len())?;
@@ -59,7 +60,7 @@ pub fn summed(alloc: Global, spans: &[Span]) -> Result<Vec<Span>, AllocError>
 }
 
 /// There is then one span for each place. `spans` stand in order.
-pub fn merged(alloc: Global, spans: &[Span]) -> Result<Vec<Span>, AllocError>
+pub fn merged(alloc: Global, spans: &[Span]) -> AllocResult<Vec<Span>>
     requires rises { Rises spans.now }
     ensures alike { IfOk result (λ all. Alike all.items spans.now) }
     ensures rises { IfOk result (λ all. Rises all.items) }
@@ -72,7 +73,7 @@ pub fn merged(alloc: Global, spans: &[Span]) -> Result<Vec<Span>, AllocError>
 }
 
 // The span comes after those of earlier places, or joins that of its own.
-fn join(span: Span, all: &mut Vec<Span>) -> Result<(), AllocError>
+fn join(span: Span, all: &mut Vec<Span>) -> AllocResult
     ensures ok { OnOk result (Joins all.old.items span all.new.items) }
 {
     match all.pop() {

@@ -1,9 +1,9 @@
 //! What the files of a log's outputs are: which are there, and when each was written.
-ghost use Rattle.std.specs.Prelude.{◌≡◌, ◌++◌, ◌≤◌, ◌⊎◌, [], ℕ, List, length, IfErr, IfOk, IfSome, IsErrOf, OnOk};
+ghost use Rattle.std.specs.Prelude.{◌≡◌, ◌++◌, ◌≤◌, ◌⊎◌, [], ℕ, List, length, IfErr, IfOk, IsErrOf, OnOk};
 ghost use Rattle.std.specs.List.{count_by, flat_map};
-ghost use Rattle.nl_table.specs.Log.{log_of, NotALog, OtherVersion};
+ghost use Rattle.nl_table.specs.Log.{log_of};
 ghost use Rattle.nl_tool_texts.specs.declared.fault.ToolFault.{ToolFault};
-ghost use Rattle.nl_tool_print.specs.Faults.{IsLogFault};
+ghost use Rattle.nl_tool_print.specs.Faults.{IfNotALog, IfOtherVersion, IsLogFault};
 ghost use Rattle.nl_versions.specs.VersionOf.{as_five};
 ghost use Rattle.nl_tool_doubt.specs.There.{AddsFor, KeepsMost, LosesMost, is_kept, learned, name_by, pair_by};
 
@@ -12,8 +12,8 @@ use nl_fields::{Entry, EntryRef, Name};
 use nl_session::is_intent;
 use nl_table::{NameSet, Secret};
 use nl_tool_print::load_read;
-use nl_tool_texts::ToolFault;
-use std::alloc::{AllocError, Global};
+use nl_tool_texts::{AllocResult, ToolFault};
+use std::alloc::Global;
 use std::io::Read;
 
 /// The targets, and each output whose file isn't missing: the file of each is asked for, in the order of first appearance. If the log
@@ -28,10 +28,8 @@ pub fn names_there<R: Read + Drop, F: OutputFiles>(
     ensures kept { IfOk result (KeepsMost (R.remaining reader) (F.states files.now) targets.items) }
     ensures elsewhere { IsErrOf result ToolFault.Elsewhere → (set : List (List ℕ))
         × LosesMost (R.remaining reader) (F.states files.now) targets.items set }
-    ensures not_a_log { IsErrOf result ToolFault.NotALog
-        → IfSome (R.remaining reader) (λ bs. log_of (as_five bs) ≡ NotALog) }
-    ensures other_version { IsErrOf result ToolFault.OtherVersion
-        → IfSome (R.remaining reader) (λ bs. log_of (as_five bs) ≡ OtherVersion) }
+    ensures not_a_log { IfNotALog result (λ bs. log_of (as_five bs)) (R.remaining reader) }
+    ensures other_version { IfOtherVersion result (λ bs. log_of (as_five bs)) (R.remaining reader) }
     ensures faults { IfErr result (λ e. IsLogFault e ⊎ (e ≡ ToolFault.Elsewhere)) }
 {
     let (_, loaded) = load_read(alloc, secret, None, reader)?;
@@ -63,19 +61,16 @@ pub fn times_there<R: Read + Drop, F: OutputFiles>(
 ) -> Result<Vec<(Name, i64)>, ToolFault>
     ensures given { IfOk result (λ times. AddsFor pair_by (R.remaining reader) (F.states files.now)
         [] times.items) }
-    ensures not_a_log { IsErrOf result ToolFault.NotALog
-        → IfSome (R.remaining reader) (λ bs. log_of (as_five bs) ≡ NotALog) }
-    ensures other_version { IsErrOf result ToolFault.OtherVersion
-        → IfSome (R.remaining reader) (λ bs. log_of (as_five bs) ≡ OtherVersion) }
+    ensures not_a_log { IfNotALog result (λ bs. log_of (as_five bs)) (R.remaining reader) }
+    ensures other_version { IfOtherVersion result (λ bs. log_of (as_five bs)) (R.remaining reader) }
     ensures faults { IfErr result IsLogFault }
 {
     let (_, loaded) = load_read(alloc, secret, None, reader)?;
     let looked = look_all(alloc, &loaded.table, files)?;
-    let times = times_of(alloc, looked.as_slice())?;
-    Ok(times)
+    Ok(times_of(alloc, looked.as_slice())?)
 }
 
-fn add_names(alloc: Global, looked: &[Looked], names: &mut Vec<Name>) -> Result<(), AllocError>
+fn add_names(alloc: Global, looked: &[Looked], names: &mut Vec<Name>) -> AllocResult
     ensures items { OnOk result (names.new.items ≡ names.old.items ++ flat_map (learned name_by) looked.now) }
 {
     for it in looked {
@@ -86,7 +81,7 @@ fn add_names(alloc: Global, looked: &[Looked], names: &mut Vec<Name>) -> Result<
     Ok(())
 }
 
-fn times_of(alloc: Global, looked: &[Looked]) -> Result<Vec<(Name, i64)>, AllocError>
+fn times_of(alloc: Global, looked: &[Looked]) -> AllocResult<Vec<(Name, i64)>>
     ensures items { IfOk result (λ times. times.items ≡ flat_map (learned pair_by) looked.now) }
 {
     let mut times = Vec::new(alloc);
@@ -101,9 +96,8 @@ fn times_of(alloc: Global, looked: &[Looked]) -> Result<Vec<(Name, i64)>, AllocE
     Ok(times)
 }
 
-fn name_of(alloc: Global, entry: &EntryRef<'_>) -> Result<Name, AllocError>
+fn name_of(alloc: Global, entry: &EntryRef<'_>) -> AllocResult<Name>
     ensures value { IfOk result (λ name. name ≡ entry.now.name) }
 {
-    let entry = Entry::of(alloc, entry)?;
-    Ok(entry.name)
+    Ok(Entry::of(alloc, entry)?.name)
 }

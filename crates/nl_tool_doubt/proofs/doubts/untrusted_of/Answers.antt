@@ -7,5 +7,5 @@ returns-clause-value g c =
     let reads = c.in_ok-lines.ensures.value in
     let lines = c.in_ok-lines.lines in
     let tabled = rw c.as_slice.ensures.value at c.in_ok-table.ensures.value in
-    is_doubts (damaged_in c.args.log.now) c.args.log.now (g.F.OutputFiles.states c.args.files.now) c.in_ok-doubts.doubts reads.0 lines.stamps lines.entries.items _ _
-    reads.1 c.in_ok-lines.ensures.stamps (tabled reads.0) c.in_ok-damaged.ensures.value c.in_ok-doubts.ensures.value
+    is_doubts (damaged_in c.args.log.now) c.args.log.now (g.F.OutputFiles.states c.args.files.now) c.in_ok-name_all.field-0 reads.0 lines.stamps lines.entries.items _ _
+    reads.1 c.in_ok-lines.ensures.stamps (tabled reads.0) c.in_ok-damaged.ensures.value c.in_ok-name_all.ensures.value
