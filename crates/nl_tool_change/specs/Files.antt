@@ -1,12 +1,15 @@
 -- What the files KEEP and TIMES and the targets of a build say: docs/CLI.md, "Files".
 use Rattle.std.specs.Prelude.{ℕ, ◌+◌, ◌==◌, ℤ, nat_le, Bool, false, not, ◌&&◌, List, [], ◌∷◌, ◌++◌, length, Option, None, Some, bytes_eq, option_and_then}
-use Rattle.std.specs.Prelude.{if◌then◌else◌}
+use Rattle.std.specs.Prelude.{◌≡◌, IfOk, IsErrOf, Result, if◌then◌else◌}
 use Rattle.std.specs.List.{list_all}
 use Rattle.nl_fields.specs.Digits.{decimal_of, integer_of}
 use Rattle.nl_fields.specs.EntryLine.{before_tab, after_tab, is_within}
 use Rattle.nl_fields.specs.Name.{is_name}
 use Rattle.nl_lines.specs.Lines.{max_line}
-use Rattle.nl_tool_texts.specs.Files.{file_lines}
+use Rattle.std.specs.Global.{Vec}
+use Rattle.nl_tool_texts.specs.Files.{OfBytes, file_lines}
+use Rattle.nl_tool_texts.specs.declared.fault.ToolFault.{ToolFault}
+use Rattle.nl_tool_texts.specs.declared.fault.ToolFault.TheVariants.{BadLine}
 use Rattle.nl_tool_change.specs.declared.line_fault.LineFault.{LineFault}
 
 -- the lines say these parts, in order, or the line of this number is the first bad one
@@ -96,3 +99,11 @@ some_said (BadAt number) = BadAt number
 
 abbrev pub manifest_of : List ℕ → FileReading (List ℕ)
 manifest_of bytes = some_said (said_by target_on bytes)
+
+-- the parts are those that the file says
+abbrev pub IfSaid : {T : Type 0} → Result (Vec T) ToolFault → (List ℕ → FileReading T) → Option (List ℕ) → Type 0
+IfSaid result reading known = IfOk result (λ parts. OfBytes known (λ bytes. reading bytes ≡ Says parts.items))
+
+-- the number is that of the first bad line
+abbrev pub IfBadLine : {R T : Type 0} → Result R ToolFault → (List ℕ → FileReading T) → Option (List ℕ) → Type 0
+IfBadLine result reading known = (number : ℕ) → IsErrOf result (BadLine number) → OfBytes known (λ bytes. reading bytes ≡ BadAt number)

@@ -56,8 +56,8 @@ impl Deed {
         ensures answered { Answered self.now result (view_of log.old) (view_of log.new) }
     {
         match (&self.event, &self.kept) {
-            (Event::Open(_), Some(kept)) => reply_of(open_keeping(log, kept)),
-            (Event::Recompact(_), Some(kept)) => reply_of(recompact_keeping(log, kept)),
+            (Event::Open(_), Some(kept)) => reply_of(log.open(kept)),
+            (Event::Recompact(_), Some(kept)) => reply_of(log.recompact(kept)),
             _ => reply_to_event(log, &self.event),
         }
     }
@@ -68,8 +68,7 @@ fn set_for(alloc: Global, secret: Secret, event: &Event) -> AllocResult<Option<N
     ensures memory { IsErr result → KeepsNames event.now }
 {
     match event {
-        Event::Open(keep) => kept_by(alloc, secret, keep),
-        Event::Recompact(keep) => kept_by(alloc, secret, keep),
+        Event::Open(keep) | Event::Recompact(keep) => kept_by(alloc, secret, keep),
         _ => Ok(None),
     }
 }
@@ -94,21 +93,7 @@ fn set_of(alloc: Global, secret: Secret, names: &[Name]) -> AllocResult<NameSet>
     Ok(set)
 }
 
-fn open_keeping<F: Folder>(log: &mut Log<F>, kept: &NameSet) -> Result<(), LogFault>
-    ensures answered { (keep : KeepList) → IsDeadBut kept.now keep
-        → Answered (Event.Open keep) (reply_of result) (view_of log.old) (view_of log.new) }
-{
-    log.open(kept)
-}
-
-fn recompact_keeping<F: Folder>(log: &mut Log<F>, kept: &NameSet) -> Result<(), LogFault>
-    ensures answered { (keep : KeepList) → IsDeadBut kept.now keep
-        → Answered (Event.Recompact keep) (reply_of result) (view_of log.old) (view_of log.new) }
-{
-    log.recompact(kept)
-}
-
-fn reply_of(answer: Result<(), LogFault>) -> Reply
+pub fn reply_of(answer: Result<(), LogFault>) -> Reply
     ensures value { result ≡ reply_of answer }
 {
     match answer {

@@ -50,10 +50,7 @@ fn distrusted_of(
         ⊎ (why ≡ LogFault.OutOfMemory)) }
 {
     match load_seen(alloc, secret, asked, SliceSource::new(bytes)) {
-        Ok((_, loaded)) => match distrusted(alloc, loaded.version, bytes, &loaded.table) {
-            Ok(found) => Ok(found),
-            Err(_) => Err(LogFault::OutOfMemory),
-        },
+        Ok((_, loaded)) => Ok(distrusted(alloc, loaded.version, bytes, &loaded.table)?),
         Err(LoadFault::NotALog) => Err(LogFault::NotALog),
         Err(LoadFault::OtherVersion) => Err(LogFault::OtherVersion),
         // No read of bytes that are there fails.

@@ -1,10 +1,9 @@
 //! KEEP: the names of the outputs to keep, one a line.
-ghost use Rattle.std.specs.Prelude.{◌≡◌, ℕ, List, IfOk, IfErr, IsErrAnd, IsErrOf, IsSome};
+ghost use Rattle.std.specs.Prelude.{◌≡◌, ℕ, List, IfOk, IfErr, IsErrAnd, IsSome};
 ghost use Rattle.nl_table.specs.History.{holds};
 ghost use Rattle.nl_tool_change.specs.Faults.{IsBadLine, IsFileFault};
 ghost use Rattle.nl_tool_texts.specs.Files.{OfBytes};
-ghost use Rattle.nl_tool_change.specs.Files.{Says, BadAt, name_on, keep_of};
-ghost use Rattle.nl_tool_texts.specs.declared.fault.ToolFault.{ToolFault};
+ghost use Rattle.nl_tool_change.specs.Files.{IfBadLine, Says, name_on, keep_of};
 
 use crate::line_fault::{LineFault, Told};
 use crate::parts::{Part, read_parts};
@@ -49,8 +48,7 @@ pub fn read_keep<R: Read + Drop>(
     ensures value { IfOk result (λ set. OfBytes (R.remaining reader) (λ bytes.
         (names : List (List ℕ)) × (keep_of bytes ≡ Says names)
         × ((name : List ℕ) → holds set name ≡ holds names name))) }
-    ensures bad_line { (number : ℕ) → IsErrOf result (ToolFault.BadLine number)
-        → OfBytes (R.remaining reader) (λ bytes. keep_of bytes ≡ BadAt number) }
+    ensures bad_line { IfBadLine result keep_of (R.remaining reader) }
     ensures why { IsErrAnd result IsBadLine → IsSome told.new.why }
     ensures faults { IfErr result IsFileFault }
 {

@@ -79,22 +79,19 @@ pub fn number_fault(text: &[u8], past: NumberFault) -> NumberFault {
         [b'-', digits @ ..] => digits,
         _ => text,
     };
-    if digits.is_empty() || !digits.iter().all(|byte| byte.is_ascii_digit()) {
-        return NumberFault::NoNumber;
-    }
-    if digits[0] == b'0' {
-        NumberFault::Spelling
-    } else {
-        past
+    match digits {
+        [] => NumberFault::NoNumber,
+        _ if !digits.iter().all(|byte| byte.is_ascii_digit()) => NumberFault::NoNumber,
+        [b'0', ..] => NumberFault::Spelling,
+        _ => past,
     }
 }
 
 // The text isn't a number from 0 up to 2^63 - 1.
 pub fn count_fault(text: &[u8]) -> NumberFault {
-    if text.starts_with(b"-") {
-        number_fault(text, NumberFault::Below)
-    } else {
-        number_fault(text, NumberFault::Past64)
+    match text {
+        [b'-', ..] => number_fault(text, NumberFault::Below),
+        _ => number_fault(text, NumberFault::Past64),
     }
 }
 

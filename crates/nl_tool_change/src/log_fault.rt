@@ -5,6 +5,9 @@ ghost use Rattle.nl_tool_change.specs.Faults.{IsOpenOrChangeRefusal, of_log_faul
 use nl_session::LogFault;
 use nl_tool_texts::ToolFault;
 
+/// What a log answers.
+pub type LogResult<T = ()> = Result<T, LogFault>;
+
 /// What a command answers.
 pub type ToolResult<T = ()> = Result<T, ToolFault>;
 

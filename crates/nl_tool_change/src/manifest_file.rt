@@ -1,9 +1,7 @@
 //! The targets of a build, as `ninja -t targets all` prints them: a name, `: ` and a rule a line.
-ghost use Rattle.std.specs.Prelude.{◌≡◌, ◌++◌, ◌∷◌, [], ℕ, List, IfOk, IfErr, IsErrAnd, IsErrOf, IsNone, IsSome, IfSome, option_map};
+ghost use Rattle.std.specs.Prelude.{◌≡◌, ◌++◌, ◌∷◌, [], ℕ, List, IfOk, IfErr, IsErrAnd, IsNone, IsSome, IfSome, option_map};
 ghost use Rattle.nl_tool_change.specs.Faults.{IsBadLine, IsFileFault};
-ghost use Rattle.nl_tool_texts.specs.Files.{OfBytes};
-ghost use Rattle.nl_tool_change.specs.Files.{Says, BadAt, before_rule, manifest_of, target_on};
-ghost use Rattle.nl_tool_texts.specs.declared.fault.ToolFault.{ToolFault};
+ghost use Rattle.nl_tool_change.specs.Files.{IfBadLine, IfSaid, before_rule, manifest_of, target_on};
 
 use crate::line_fault::{LineFault, Told};
 use crate::parts::{Part, read_parts};
@@ -72,10 +70,8 @@ pub fn read_manifest<R: Read + Drop>(
     reader: R,
     told: &mut Told,
 ) -> Result<Vec<Name>, ToolFault>
-    ensures value { IfOk result (λ names.
-        OfBytes (R.remaining reader) (λ bytes. manifest_of bytes ≡ Says names.items)) }
-    ensures bad_line { (number : ℕ) → IsErrOf result (ToolFault.BadLine number)
-        → OfBytes (R.remaining reader) (λ bytes. manifest_of bytes ≡ BadAt number) }
+    ensures value { IfSaid result manifest_of (R.remaining reader) }
+    ensures bad_line { IfBadLine result manifest_of (R.remaining reader) }
     ensures why { IsErrAnd result IsBadLine → IsSome told.new.why }
     ensures faults { IfErr result IsFileFault }
 {

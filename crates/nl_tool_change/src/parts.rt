@@ -1,10 +1,10 @@
 //! Files that say something line by line.
-ghost use Rattle.std.specs.Prelude.{◌≡◌, ◌⊎◌, ℕ, ◌+◌, ◌<◌, ◌≤◌, ◌^◌, List, Option, Some, None, IfOk, IfErr, IsErrAnd, IsErrOf, IsSome, IsSomeAnd, MatchResult, OnOk, length};
+ghost use Rattle.std.specs.Prelude.{◌≡◌, ◌⊎◌, ℕ, ◌+◌, ◌<◌, ◌≤◌, ◌^◌, List, Option, None, IfOk, IfErr, IsErrAnd, IsSome, OnOk, length};
 ghost use Rattle.std.specs.Result.{result_ok};
 ghost use Rattle.nl_lines.specs.Lines.{lent_rest, max_line};
 ghost use Rattle.nl_tool_change.specs.Faults.{IsBadLine, IsFileFault};
 ghost use Rattle.nl_tool_texts.specs.Files.{OfBytes};
-ghost use Rattle.nl_tool_change.specs.Files.{Says, BadAt, line_of, said_by, said_after, said_of};
+ghost use Rattle.nl_tool_change.specs.Files.{IfBadLine, IfSaid, line_of, said_by, said_after, said_of};
 ghost use Rattle.nl_tool_texts.specs.declared.fault.ToolFault.{ToolFault};
 
 use crate::line_fault::{LineFault, Told};
@@ -38,10 +38,8 @@ pub fn read_parts<P: Part, R: Read + Drop>(
     reader: R,
     told: &mut Told,
 ) -> Result<Vec<P>, ToolFault>
-    ensures value { IfOk result (λ parts.
-        OfBytes (R.remaining reader) (λ bytes. said_by P.part_of bytes ≡ Says parts.items)) }
-    ensures bad_line { (number : ℕ) → IsErrOf result (ToolFault.BadLine number)
-        → OfBytes (R.remaining reader) (λ bytes. said_by P.part_of bytes ≡ BadAt number) }
+    ensures value { IfSaid result (said_by P.part_of) (R.remaining reader) }
+    ensures bad_line { IfBadLine result (said_by P.part_of) (R.remaining reader) }
     ensures why { IsErrAnd result IsBadLine → IsSome told.new.why }
     ensures faults { IfErr result IsFileFault }
 {

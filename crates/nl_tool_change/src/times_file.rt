@@ -1,10 +1,7 @@
 //! TIMES: an mtime and the name of an output a line, with a tab between them.
-ghost use Rattle.std.specs.Prelude.{◌≡◌, ℕ, [], IfOk, IfErr, IfSome, IsErrAnd, IsErrOf, IsNone, IsSome};
-ghost use Rattle.nl_fields.specs.EntryLine.{before_tab, after_tab};
+ghost use Rattle.std.specs.Prelude.{IfErr, IsErrAnd, IsSome};
 ghost use Rattle.nl_tool_change.specs.Faults.{IsBadLine, IsFileFault};
-ghost use Rattle.nl_tool_texts.specs.Files.{OfBytes};
-ghost use Rattle.nl_tool_change.specs.Files.{Says, BadAt, pair_on, times_of};
-ghost use Rattle.nl_tool_texts.specs.declared.fault.ToolFault.{ToolFault};
+ghost use Rattle.nl_tool_change.specs.Files.{IfBadLine, IfSaid, pair_on, times_of};
 
 use crate::line_fault::{LineFault, NumberFault, Told, number_fault};
 use crate::parts::{Part, read_parts};
@@ -43,10 +40,8 @@ pub fn read_times<R: Read + Drop>(
     reader: R,
     told: &mut Told,
 ) -> Result<Vec<(Name, i64)>, ToolFault>
-    ensures value { IfOk result
-        (λ times. OfBytes (R.remaining reader) (λ bytes. times_of bytes ≡ Says times.items)) }
-    ensures bad_line { (number : ℕ) → IsErrOf result (ToolFault.BadLine number)
-        → OfBytes (R.remaining reader) (λ bytes. times_of bytes ≡ BadAt number) }
+    ensures value { IfSaid result times_of (R.remaining reader) }
+    ensures bad_line { IfBadLine result times_of (R.remaining reader) }
     ensures why { IsErrAnd result IsBadLine → IsSome told.new.why }
     ensures faults { IfErr result IsFileFault }
 {

@@ -1,35 +1,57 @@
-use Rattle.std.proofs.Common.{◌∙◌, List, ℕ, Some, Option, subst, sym}
+use Rattle.std.proofs.Common.{◌∙◌, List, ℕ, Some, Option, sym}
+use Rattle.nl_session.proofs.Names.{◌≡◌, refl, subst, view_of, rules, is_dead_by, on_err_weaker, IsErrOf, Result, reply_of, survivors}
+use Rattle.nl_session.proofs.Names.{CallOf, StepsBy, Opens, Recompacts}
+use Rattle.nl_session.specs.declared.fault.LogFault.{LogFault}
+use Rattle.nl_session.specs.declared.fault.LogFault.TheVariants.{Fault}
 use Rattle.nl_session.specs.Answers.{Answered}
-use Rattle.nl_session.specs.LogView.{view_of}
+use Rattle.nl_session.specs.Calls as calls
 use Rattle.nl_session.specs.declared.events.Event.{Event}
 use Rattle.nl_session.specs.declared.events.Event.TheVariants.{Open as OpenLog, Recompact}
 use Rattle.nl_session.specs.declared.events.Reply.{Reply}
+use Rattle.nl_session.proofs.RunLemmas.{open_moves, open_sound, breaks_by_fault, other_moves, rewrite_leaves, answered_open, stayed}
 use Rattle.nl_tool_change.specs.Deeds.{SetsFor}
 use Rattle.nl_tool_change.proofs.deed.Deed.ask.Goals as goal
 
 pub returns-in-Open-Some : goal.returns-in-Open-Some
 returns-in-Open-Some g c =
     let old = view_of c.args.log.now in
-    let new = view_of c.open_keeping.new.log in
+    let new = view_of c.open.new.self in
     let keep = c.in-Open-Some.field-0-0 in
     let kept = c.in-Open-Some.kept in
     let sets = subst (λ (it : Event). SetsFor it (Some kept)) c.in-Open-Some.is-0
     (subst (λ (it : Option (List (List ℕ))). SetsFor c.self.inside.event it) c.in-Open-Some.is-1 c.self.invariant) in
+    let r = c.open.result in
+    let call = subst (λ dead. calls.Opens dead r old new) sets c.open.ensures.call in
+    let step = subst (λ dead. StepsBy (Opens dead) (reply_of r) old new) sets c.open.ensures.step in
+    let called : (r : Result (Unit {0}) LogFault) × (reply_of c.open.result ≡ reply_of r) × CallOf (OpenLog keep) r old new = (r, refl, call) in
+    let moves = open_moves keep r old new (g.met.F.Folder.is_disk c.args.log.now.reader.folder) call in
+    let sound = open_sound (is_dead_by keep) r old new call in
+    let answered : Answered (OpenLog keep) (reply_of r) old new
+    = search (rules, called, step, moves, sound, breaks_by_fault r old new call.opened call.unchanged) in
     record {
       answered = subst (λ (it : Event). Answered it c.reply_of.result old new) (sym c.in-Open-Some.is-0 ∙ c.self.view_is)
-          (subst (λ (it : Reply). Answered (OpenLog keep) it old new) (sym c.reply_of.ensures.value) (c.open_keeping.ensures.answered keep sets));
+          (subst (λ (it : Reply). Answered (OpenLog keep) it old new) (sym c.reply_of.ensures.value) answered);
     }
 
 pub returns-in-Recompact-Some : goal.returns-in-Recompact-Some
 returns-in-Recompact-Some g c =
     let old = view_of c.args.log.now in
-    let new = view_of c.recompact_keeping.new.log in
+    let new = view_of c.recompact.new.self in
     let keep = c.in-Recompact-Some.field-0-0 in
     let kept = c.in-Recompact-Some.kept in
     let sets = subst (λ (it : Event). SetsFor it (Some kept)) c.in-Recompact-Some.is-0
     (subst (λ (it : Option (List (List ℕ))). SetsFor c.self.inside.event it) c.in-Recompact-Some.is-1 c.self.invariant) in
+    let r = c.recompact.result in
+    let call = subst (λ dead. calls.Recompacts dead r old new) sets c.recompact.ensures.call in
+    let step = subst (λ dead. StepsBy (Recompacts dead) (reply_of r) old new) sets c.recompact.ensures.step in
+    let event = Recompact keep in
+    let same = λ (other : IsErrOf r Fault → ⊥). on_err_weaker r (stayed _ _) (c.recompact.ensures.unchanged other) in
+    let answered : Answered event (reply_of r) old new
+    = search (answered_open event r old new call.mode call.count same step
+    (λ sound. other_moves event (reply_of r) _ _ (g.met.F.Folder.is_disk c.args.log.now.reader.folder) (λ d try. try) (λ c. absurd c)
+    (rewrite_leaves event (survivors (is_dead_by keep)) r old new (λ ok. ok)
+    (λ fault. fault) call.mode call.contents call.left same sound)) (search rules) (λ is. absurd (cc)) call) in
     record {
       answered = subst (λ (it : Event). Answered it c.reply_of-in-Recompact-Some.result old new) (sym c.in-Recompact-Some.is-0 ∙ c.self.view_is)
-          (subst (λ (it : Reply). Answered (Recompact keep) it old new) (sym c.reply_of-in-Recompact-Some.ensures.value)
-          (c.recompact_keeping.ensures.answered keep sets));
+          (subst (λ (it : Reply). Answered event it old new) (sym c.reply_of-in-Recompact-Some.ensures.value) answered);
     }
