@@ -1,6 +1,6 @@
 -- A mend of a log, by the answers of what it calls.
-use Rattle.std.proofs.Common.{◌≡◌, ◌≢◌, ◌∙◌, ◌⊎◌, ◌↔◌, inl, inr, [], refl, sym, subst, List, ℕ, Result, Ok, Err}
-use Rattle.std.specs.Prelude.{Bool, true, false, Option, None, Some, IsErrOf}
+use Rattle.std.proofs.Common.{◌≡◌, ◌≢◌, ◌∙◌, ◌↔◌, inl, inr, [], refl, sym, subst, List, ℕ, Result, Ok, Err}
+use Rattle.std.specs.Prelude.{Bool, true, false, Option, None, Some}
 use Rattle.std.specs.Io.KnownBytes.{Keeps}
 use Rattle.std.proofs.lemmas.List.{append-nil}
 use Rattle.nl_folder.specs.DiskState.{Disk}

@@ -1,8 +1,6 @@
-use Rattle.std.proofs.Common.{rules, arith, ◌≡◌, ◌∙◌, ◌++◌, ◌≤◌, ◌<◌, ◌*◌, ◌-◌, ap, length}
-use Rattle.std.specs.List.{count_by, flat_map}
-use Rattle.nl_table.specs.Log.{log_of}
-use Rattle.nl_versions.specs.VersionOf.{as_five}
-use Rattle.nl_tool_doubt.specs.There.{AddsFor, IsKept, is_kept, learned, name_by, table_in}
+use Rattle.std.proofs.Common.{rules, arith, ◌≡◌, ◌∙◌, ◌≤◌, ◌<◌, ◌*◌, ap, length}
+use Rattle.std.specs.List.{count_by}
+use Rattle.nl_tool_doubt.specs.There.{is_kept}
 use Rattle.nl_tool_doubt.proofs.there.names_there.Goals as goal
 
 pub returns-then-kept-len-clause-elsewhere : goal.returns-then-kept-len-clause-elsewhere

@@ -1,5 +1,4 @@
-use Rattle.std.proofs.Common.{◌∙◌, ◌-◌, arith}
-use Rattle.nl_tool_doubt.specs.Spans.{within}
+use Rattle.std.proofs.Common.{◌∙◌, arith}
 use Rattle.nl_tool_doubt.proofs.LineLemmas.{nearest_far, nearest_none, nearest_some, of_lines, window}
 use Rattle.nl_tool_doubt.proofs.moments.Moments.nearest.Goals as goal
 
