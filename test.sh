@@ -71,8 +71,7 @@ peer() {
 }
 
 room=$(mktemp -d)
-edits=
-trap '[[ -z $edits ]] || kill "$edits" 2> /dev/null; rm -rf "$room"' EXIT
+trap 'rm -rf "$room"' EXIT
 
 if ! python3 -c 'import sys; sys.exit(sys.version_info < (3, 8))' 2> /dev/null; then
     echo "test.sh: FAILED: the trials of tests/ want Python 3.8 or later, which isn't here; nothing was run"
@@ -86,23 +85,10 @@ if ! command -v rt > /dev/null; then
     exit 1
 fi
 
-# The edits of a crate are tried once it is proved, by processors that the proofs leave idle.
-: > "$room/gate"
-nice -n 19 python3 tests/edits.py --times --behind "$room/gate" > "$room/edits" 2>&1 < /dev/null &
-edits=$!
-echo "== rt ci"
-rt ci 2>&1 | tee "$room/gate"
-count "${PIPESTATUS[0]}" "$room/gate" rt ci
-# (a gate that was stopped says nothing of its end)
-echo "0 passed, 0 failed" >> "$room/gate"
+part rt ci
 # The verdicts, and what is compiled of what is proved, which lib/archive.sh and lib/program.sh take below.
 part python3 tests/verdicts.py
-echo "== python3 tests/edits.py --times"
-wait "$edits"
-status=$?
-edits=
-cat "$room/edits"
-count "$status" "$room/edits" python3 tests/edits.py --times
+part python3 tests/edits.py --times
 part python3 tests/labels.py
 part python3 tests/citations.py
 part python3 tests/prose.py

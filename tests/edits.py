@@ -1,7 +1,7 @@
 #!/usr/bin/env python3
 """Tries the edits of crates/NAME/edits: each puts a bug into one function, which the prover must refuse at the clause that the edit names.
 
-    python3 tests/edits.py [--singly] [--lanes N] [--times] [--behind FILE] [CRATE [EDIT ..]]
+    python3 tests/edits.py [--singly] [--lanes N] [--times] [CRATE [EDIT ..]]
 
 An edit is a file NAME.edit: a line `why:`, what would break for a user, and then `; refused at `PLACE`, clause `LABEL``; a line `file:`; and
 lines `old:` and `new:` by twos, each old text standing once in the file. It changes code, and no contract, definition or proof.
@@ -14,8 +14,7 @@ their sources, and else has `rt check` make them.
 
 An edit is refused where its own function is, at a goal of the clause that it names. Every other end is a failure: it is let through, it is
 refused elsewhere, it doesn't compile, or it can't be applied. With --singly each edit is in a check of its own, with --times each line has
-the seconds that its function took. With --behind it runs beside `rt ci`, which writes FILE: a crate's edits wait until that says that the crate
-is proved, and none wait once it has ended.
+the seconds that its function took.
 
 A run over all crates ends with one of the checks, with no edit in it, where each function must be let through: else the runner refuses what it
 should not. The commit's hash says which, so that each comes round. The last line is `N passed, M failed`.
@@ -36,8 +35,6 @@ from glob import glob
 TOP = os.path.dirname(os.path.dirname(os.path.abspath(__file__)))
 # What a check takes at the most, in bytes.
 MEMORY = 3_000_000_000
-# How many run side by side while the gate runs.
-BESIDE = 2
 QUIET = {"stdin": subprocess.DEVNULL, "stdout": subprocess.PIPE, "stderr": subprocess.STDOUT, "errors": "replace", "text": True}
 
 HEAD = re.compile(r"^(\s*)(?:pub(?:\([^)]*\))?\s+)?(?:(?:const|unsafe|extern \"C\")\s+)*fn\s+(\w+)")
@@ -489,14 +486,6 @@ def sampled(top, work):
     return crate, [Edit(crate, it.name) for it in batch]
 
 
-def proved_in(gate, listed):
-    """The crates that the gate has proved, by what it wrote so far, and whether it has ended: then, or where there is none, all of them count."""
-    said = text_of(gate) if gate else ""
-    if not gate or re.search(r"(?m)^\d+ passed, \d+ failed$", said):
-        return {*listed}, True
-    return {*re.findall(r"(?m)^rt: (\w+) (?:proved$|is kept:)", said)}, False
-
-
 def lanes_of(number):
     """How many checks run side by side: one a processor, and as many as the free memory holds."""
     with open("/proc/meminfo", encoding="ascii") as it:
@@ -511,7 +500,6 @@ def main():
     words.add_argument("--unedited", action="store_true", help="the same checks with no edit in them: each function must be let through")
     words.add_argument("--keep", metavar="FOLDER", help="a folder for what each check says, in a file CRATE.N")
     words.add_argument("--times", action="store_true", help="each line has the seconds that its function took")
-    words.add_argument("--behind", metavar="FILE", help="what `rt ci` has written so far: the edits of a crate wait until it is proved")
     words.add_argument("--tree", default=TOP, help="another repository than this one")
     words.add_argument("names", nargs="*", metavar="CRATE [EDIT ..]", help="one crate alone, or some of its edits")
     given = words.parse_args()
@@ -544,37 +532,17 @@ def main():
                 failed += 1
                 print(f"{crate.name}/{name}: BAD EDIT: {why}", flush=True)
         if edits:
+            crate.build_below()
             work.append((crate, edits))
     # (those that take the longest first)
     work.sort(key=lambda it: -len(it[1]) * sum(len(f.text) for f in it[0].functions.values()))
     tasks = [(*it, kit, given, say) for it in work]
     if work and not given.names and not given.unedited:
         tasks.append((*sampled(given.tree, work), kit, argparse.Namespace(**{**vars(given), "unedited": True}), tell))
-    lanes, todo, ends = lanes_of(given.lanes), [*tasks], {}
-    # (beside the gate two, which leave it most of the memory)
-    kept = max(0, lanes - BESIDE) if given.behind else 0
-    is_free = threading.Semaphore(lanes - kept)
-
-    def run(task):
-        with is_free:
-            return tried(*task)
-
-    with concurrent.futures.ThreadPoolExecutor(len(tasks) or 1) as pool:
-        while todo or kept and not all(it.done() for it in ends.values()):
-            proved, has_ended = proved_in(given.behind, found)
-            for task in [it for it in todo if it[0].name in proved]:
-                task[0].build_below()
-                ends[id(task)] = pool.submit(run, task)
-                todo.remove(task)
-            if kept and has_ended:
-                is_free.release(kept)
-                kept = 0
-            time.sleep(1 if given.behind else 0)
-    for task in tasks:
-        crate, edits, *_, how = task
-        good, bad = ends[id(task)].result()
-        passed, failed = passed + good, failed + bad
-        print(f"edits.py: tried {len(edits)} edits of {crate.name}" if how is say else f"edits.py: tried 1 check with no edit in it: {len(edits)} functions of {crate.name}")
+    with concurrent.futures.ThreadPoolExecutor(lanes_of(given.lanes)) as pool:
+        for (crate, edits, *_, how), (good, bad) in zip(tasks, pool.map(lambda it: tried(*it), tasks)):
+            passed, failed = passed + good, failed + bad
+            print(f"edits.py: tried {len(edits)} edits of {crate.name}" if how is say else f"edits.py: tried 1 check with no edit in it: {len(edits)} functions of {crate.name}")
     used = resource.getrusage(resource.RUSAGE_CHILDREN)
     print(f"{len(work)} crates, {used.ru_utime + used.ru_stime:.0f} s of processors")
     print(f"{passed} passed, {failed} failed")

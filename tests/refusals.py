@@ -150,23 +150,7 @@ def try_runner(trials, room):
         alone, _ = told(room, "--singly", "sums", name)
         trials.want(f"{name}, alone", alone.get(name, "").split(" at ")[0], said.get(name, "").split(" at ")[0])
     unedited, lines = told(room, "--unedited", "sums", "a_sum_is_thrice", "a_constant_is_larger", "the_other_clause_is_broken")
-    try_behind(trials, room)
     trials.want("with no edit in them", ({*unedited.values()}, lines[-1]), ({"LET THROUGH"}, "3 passed, 0 failed"))
-
-
-def try_behind(trials, room):
-    """Beside a gate nothing is tried before that says that the crate is proved, or has ended."""
-    for written, begins in (("rt: sums proved\n", True), ("rt: sums is kept: it was proved\n", True), ("0 passed, 1 failed\n", True), ("rt: sums NOT PROVED\nrt: sum proved\n", False)):
-        with open(f"{room}/gate", "w", encoding="utf-8") as it:
-            it.write(written)
-        words = [sys.executable, f"{TOP}/tests/edits.py", "--tree", room, "--behind", f"{room}/gate", "sums", "a_sum_is_thrice"]
-        with subprocess.Popen(words, stdin=subprocess.DEVNULL, stdout=subprocess.PIPE, stderr=subprocess.STDOUT, text=True) as ran:
-            try:
-                said = ran.communicate(timeout=None if begins else 5)[0]
-            except subprocess.TimeoutExpired:
-                ran.kill()
-                said = ran.communicate()[0]
-        trials.want(f"behind '{written.strip()}'", "a_sum_is_thrice: refused" in said, begins)
 
 
 def said_of(rows, but=None, less=1, skip=None):
