@@ -31,8 +31,7 @@ pub(crate) fn new_names(
 
 // Whether it is new.
 fn add<'a>(name: &'a [u8], names: &mut IndexSet<&'a [u8], Secret>) -> Result<bool, AllocError>
-    ensures names { OnOk result
-        (map (λ n. n.now) names.new.keys ≡ with_name (map (λ n. n.now) names.old.keys) name.now) }
+    ensures names { OnOk result (map (λ n. n.now) names.new.keys ≡ with_name (map (λ n. n.now) names.old.keys) name.now) }
     ensures is_new { IfOk result (λ is_new. is_new ≡ not (holds (map (λ n. n.now) names.old.keys) name.now)) }
 {
     Ok(names.insert(name)?)

@@ -1,6 +1,5 @@
 //! Laws of commands and builds. Each is the contract of a function that does nothing.
-ghost use Rattle.std.specs.Prelude.{◌≡◌, ◌+◌, ℕ, Bool, List, false, length, true};
-ghost use Rattle.std.specs.List.Sorted.{IsPermutation};
+ghost use Rattle.std.specs.Prelude.{◌≡◌, ◌+◌, ℕ, Bool, List, false, length, true, IsPermutation};
 ghost use Rattle.nl_fields.specs.declared.entry.Entry.{Entry};
 ghost use Rattle.nl_builds.specs.Builds.{builds_of, next_is_sure, walk, written_build};
 ghost use Rattle.nl_builds.specs.Commands.{falls, is_same, row_commands};
@@ -41,16 +40,13 @@ pub fn nothing_found_again_is_sure()
 /// A build is sure only if both its borders are.
 pub fn a_sure_build_has_sure_borders()
     ensures { (stamps : Stamps) (new from : ℕ) (beside : Bool) (s : Seen) (ss : List Seen)
-        → (written_build stamps new from beside s ss).is_sure ≡ true
-        → (s.is_sure ≡ true) × (next_is_sure ss ≡ true) }
+        → (written_build stamps new from beside s ss).is_sure ≡ true → (s.is_sure ≡ true) × (next_is_sure ss ≡ true) }
 {}
 
 /// Between lines as Ninja wrote them. So is a command that comes again.
 pub fn an_end_that_falls_is_a_sure_border()
-    ensures falls { (stamps : Stamps) (s : Seen) (c : Command) → falls s.last c ≡ true
-        → mark_written stamps s c ≡ Sure }
-    ensures same { (stamps : Stamps) (s : Seen) (c : Command) → is_same s.last c ≡ true
-        → mark_written stamps s c ≡ Sure }
+    ensures falls { (stamps : Stamps) (s : Seen) (c : Command) → falls s.last c ≡ true → mark_written stamps s c ≡ Sure }
+    ensures same { (stamps : Stamps) (s : Seen) (c : Command) → is_same s.last c ≡ true → mark_written stamps s c ≡ Sure }
 {}
 
 pub fn entries_without_intents_are_of_commands()

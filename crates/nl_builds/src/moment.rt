@@ -1,6 +1,5 @@
 //! Moments, and how far apart two may be.
-ghost use Rattle.std.specs.Prelude.{◌≡◌, ◌<◌, ◌+◌, ◌^◌};
-ghost use Rattle.std.specs.Int.RustNames.{unsigned_abs};
+ghost use Rattle.std.specs.Prelude.{◌≡◌, ◌<◌, ◌+◌, ◌^◌, unsigned_abs};
 ghost use Rattle.nl_builds.specs.Moments.{greatest, is_past, least, moment_at, nanos, reaches};
 
 const NANOS: u64 = 1_000_000;

@@ -78,8 +78,7 @@ pub extern "C" fn carried_open(
 ) -> u32
     ensures call { (asked : ℕ) (bytes : List ℕ) → IsSomeAnd (loaded_in found.old.kept.log) (IsLoadedAs asked bytes)
         → InCarried (CarriedOpened asked bytes wants_whole (change.old, change.new)) result handle.old.kept.log handle.new.kept.log }
-    ensures other { option_and_then all_of found.old.kept.log ≡ None
-        → (result ≡ no_handle) × (handle.new.kept.log ≡ handle.old.kept.log) }
+    ensures other { option_and_then all_of found.old.kept.log ≡ None → (result ≡ no_handle) × (handle.new.kept.log ≡ handle.old.kept.log) }
     ensures used { found.new.kept.log ≡ None }
 {
     let Some(log) = take_all(found, alloc) else {

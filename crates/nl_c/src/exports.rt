@@ -68,14 +68,11 @@ pub extern "C" fn nlog_load(
     key1: u64,
     bytes: &[u8],
 ) -> u32
-    ensures ok { result ≡ ok → IsSomeAnd handle.new.kept.log
-        (λ held. IsSomeAnd (loaded_of held) (IsLoadedAs version bytes.now)) }
-    ensures not_a_log { result ≡ not_a_log
-        → IsSomeAnd (version_for version bytes.now) (λ v. log_of (as_version v bytes.now) ≡ NotALog) }
+    ensures ok { result ≡ ok → IsSomeAnd handle.new.kept.log (λ held. IsSomeAnd (loaded_of held) (IsLoadedAs version bytes.now)) }
+    ensures not_a_log { result ≡ not_a_log → IsSomeAnd (version_for version bytes.now) (λ v. log_of (as_version v bytes.now) ≡ NotALog) }
     ensures other_version { result ≡ other_version → (version_for version bytes.now ≡ None)
         ⊎ IsSomeAnd (version_for version bytes.now) (λ v. log_of (as_version v bytes.now) ≡ OtherVersion) }
-    ensures refusals { (result ≡ ok) ⊎ (result ≡ not_a_log) ⊎ (result ≡ other_version)
-        ⊎ (result ≡ out_of_memory) }
+    ensures refusals { (result ≡ ok) ⊎ (result ≡ not_a_log) ⊎ (result ≡ other_version) ⊎ (result ≡ out_of_memory) }
     ensures unchanged { result ≢ ok → handle.new.kept.log ≡ handle.old.kept.log }
 {
     let log = match LoadedLog::load(alloc, version, Secret::of(key0, key1), bytes) {
@@ -102,12 +99,10 @@ pub extern "C" fn nlog_load_distrusted(
     key1: u64,
     bytes: &[u8],
 ) -> u32
-    ensures ok { result ≡ ok → IsSomeAnd handle.new.kept.log
-        (λ held. IsSomeAnd (loaded_of held) (IsDistrustedFrom bytes.now)) }
+    ensures ok { result ≡ ok → IsSomeAnd handle.new.kept.log (λ held. IsSomeAnd (loaded_of held) (IsDistrustedFrom bytes.now)) }
     ensures not_a_log { result ≡ not_a_log → log_of (as_five bytes.now) ≡ NotALog }
     ensures other_version { result ≡ other_version → log_of (as_five bytes.now) ≡ OtherVersion }
-    ensures refusals { (result ≡ ok) ⊎ (result ≡ not_a_log) ⊎ (result ≡ other_version)
-        ⊎ (result ≡ out_of_memory) }
+    ensures refusals { (result ≡ ok) ⊎ (result ≡ not_a_log) ⊎ (result ≡ other_version) ⊎ (result ≡ out_of_memory) }
     ensures unchanged { result ≢ ok → handle.new.kept.log ≡ handle.old.kept.log }
 {
     let log = match LoadedLog::load_distrusted(alloc, Secret::of(key0, key1), bytes) {
@@ -167,8 +162,7 @@ pub extern "C" fn nlog_at(
 ) -> u32
     ensures same { handle.new.kept.log ≡ handle.old.kept.log }
     ensures value { (result, record { stamp = stamp.new; name = name.new; len = name_len.new })
-        ≡ answered_at (table_in handle.old.kept.log) place
-        (record { stamp = stamp.old; name = name.old; len = name_len.old }) }
+        ≡ answered_at (table_in handle.old.kept.log) place (record { stamp = stamp.old; name = name.old; len = name_len.old }) }
 {
     lent!(
         handle,
@@ -186,8 +180,7 @@ pub extern "C" fn nlog_find(
     stamp: &mut CStamp,
 ) -> u32
     ensures same { handle.new.kept.log ≡ handle.old.kept.log }
-    ensures value { (result, stamp.new)
-        ≡ answered_find (table_in handle.old.kept.log) name.now stamp.old }
+    ensures value { (result, stamp.new) ≡ answered_find (table_in handle.old.kept.log) name.now stamp.old }
 {
     lent!(
         handle,
@@ -206,8 +199,7 @@ pub extern "C" fn nlog_read_line(
     name: &mut [u8],
     name_len: &mut usize,
 ) -> u32
-    ensures { (result, record { stamp = stamp.new; name = name.new; len = name_len.new })
-        ≡ answer_line version line.now
+    ensures { (result, record { stamp = stamp.new; name = name.new; len = name_len.new }) ≡ answer_line version line.now
         (record { stamp = stamp.old; name = name.old; len = name_len.old }) }
 {
     look_up::line(version, line, stamp, name, name_len)

@@ -16,29 +16,23 @@ ghost use Rattle.nl_c.specs.PlanLaws.{PlansStand, WithdrawalsGiveBack};
 
 /// Wherever a rewriting stops, even if the power then fails, the log is what could be found before, or is the new text.
 pub fn a_rewriting_leaves_the_old_or_the_new()
-    ensures { (old new : Disk) (text bs : List ℕ) → IsDisk old
-        → StepsLeave (steps_of replace old.visible text) old new → IsImage new bs
+    ensures { (old new : Disk) (text bs : List ℕ) → IsDisk old → StepsLeave (steps_of replace old.visible text) old new → IsImage new bs
         → IsImage old bs ⊎ (bs ≡ text) }
 {}
 
 /// When a call of the writer unlocks and closes, it changes nothing on disk.
 pub fn an_end_leaves_the_disk()
-    ensures { (ending : Ending) (is_shared : Bool) (old new : Disk)
-        → StepsLeave (exit_of ending is_shared) old new → new ≡ old }
+    ensures { (ending : Ending) (is_shared : Bool) (old new : Disk) → StepsLeave (exit_of ending is_shared) old new → new ≡ old }
 {}
 
 /// Someone else's lines at the end of an open log's file are recorded one by one: the table is then that of the whole file.
 pub fn appended_lines_are_recorded()
-    ensures contents { (text : List ℕ) (entries table : List Entry) → IsOpenText text
-        → IsTableOf table text → All IsEntry entries
-        → length (text ++ lines_of_entries entries) ≤ max_log
-        → IsOpenText (text ++ lines_of_entries entries) }
-    ensures table { (text : List ℕ) (entries table : List Entry) → IsOpenText text
-        → IsTableOf table text → All IsEntry entries
+    ensures contents { (text : List ℕ) (entries table : List Entry) → IsOpenText text → IsTableOf table text → All IsEntry entries
+        → length (text ++ lines_of_entries entries) ≤ max_log → IsOpenText (text ++ lines_of_entries entries) }
+    ensures table { (text : List ℕ) (entries table : List Entry) → IsOpenText text → IsTableOf table text → All IsEntry entries
         → length (text ++ lines_of_entries entries) ≤ max_log
         → IsTableOf (all_entered_table entries table) (text ++ lines_of_entries entries) }
-    ensures opened { (dead : List ℕ → Bool) (text : List ℕ) → IsOpenText text
-        → IsSomeAnd (history_of text) (λ h. is_history_due h ≡ false)
+    ensures opened { (dead : List ℕ → Bool) (text : List ℕ) → IsOpenText text → IsSomeAnd (history_of text) (λ h. is_history_due h ≡ false)
         → opened_bytes dead text ≡ text }
 {}
 

@@ -47,8 +47,7 @@ pub(crate) fn at(
     name: &mut [u8],
     name_len: &mut usize,
 ) -> u32
-    ensures { (result, record { stamp = stamp.new; name = name.new; len = name_len.new })
-        ≡ answer_at table.now place
+    ensures { (result, record { stamp = stamp.new; name = name.new; len = name_len.new }) ≡ answer_at table.now place
         (record { stamp = stamp.old; name = name.old; len = name_len.old }) }
 {
     fill(table.at(place), stamp, name, name_len)
@@ -62,8 +61,7 @@ pub(crate) fn line(
     name: &mut [u8],
     name_len: &mut usize,
 ) -> u32
-    ensures { (result, record { stamp = stamp.new; name = name.new; len = name_len.new })
-        ≡ answer_line version line.now
+    ensures { (result, record { stamp = stamp.new; name = name.new; len = name_len.new }) ≡ answer_line version line.now
         (record { stamp = stamp.old; name = name.old; len = name_len.old }) }
 {
     if line.len() > MAX_LINE {

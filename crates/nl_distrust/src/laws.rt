@@ -14,43 +14,34 @@ ghost use Rattle.nl_distrust.specs.Plain.{entry_last, plain_last, plain_texts};
 
 /// The last line that plain Ninja takes for an entry of a name is its last entry, unless the log mentions the name.
 pub fn trusted_lines_are_read_alike()
-    ensures { (version : ℕ) (bytes name : List ℕ) → IsName name
-        → holds (mentioned_in version bytes) name ≡ false
-        → plain_last name (drop 1 (lines_of bytes))
-        ≡ entry_last version name (drop 1 (lines_of bytes)) }
+    ensures { (version : ℕ) (bytes name : List ℕ) → IsName name → holds (mentioned_in version bytes) name ≡ false
+        → plain_last name (drop 1 (lines_of bytes)) ≡ entry_last version name (drop 1 (lines_of bytes)) }
 {}
 
 /// Plain Ninja takes the line of an entry for one with the entry's texts.
 pub fn entries_are_read_alike()
-    ensures five { (line : List ℕ) (e : Entry) → entry_on current_version line ≡ Some e
-        → IsSomeAnd (plain_texts line) (IsSpelled e) }
-    ensures four { (line : List ℕ) (e : Entry) → entry_on oldest_version line ≡ Some e
-        → IsSomeAnd (plain_texts line) (IsTold e) }
+    ensures five { (line : List ℕ) (e : Entry) → entry_on current_version line ≡ Some e → IsSomeAnd (plain_texts line) (IsSpelled e) }
+    ensures four { (line : List ℕ) (e : Entry) → entry_on oldest_version line ≡ Some e → IsSomeAnd (plain_texts line) (IsTold e) }
 {}
 
 /// A line that is no entry, and that plain Ninja takes for one, mentions its name.
 pub fn what_is_taken_is_mentioned()
-    ensures { (version : ℕ) (line : List ℕ) (t : Texts) → entry_on version line ≡ None
-        → plain_texts line ≡ Some t → IsName t.name
+    ensures { (version : ℕ) (line : List ℕ) (t : Texts) → entry_on version line ≡ None → plain_texts line ≡ Some t → IsName t.name
         → holds (mentioned_on version line) t.name ≡ true }
 {}
 
 /// An entry's first four texts name its output wherever they stand in a line: at its beginning, behind a torn line, and before another
 /// one. So does a name behind which the line was torn.
 pub fn each_part_is_named()
-    ensures within { (before behind : List ℕ) (e : Entry) → IsName e.name
-        → holds (named_in (before ++ line_with e behind)) e.name ≡ true }
-    ensures torn { (before : List ℕ) (e : Entry) → IsName e.name
-        → holds (named_in (before ++ torn_behind_name e)) e.name ≡ true }
+    ensures within { (before behind : List ℕ) (e : Entry) → IsName e.name → holds (named_in (before ++ line_with e behind)) e.name ≡ true }
+    ensures torn { (before : List ℕ) (e : Entry) → IsName e.name → holds (named_in (before ++ torn_behind_name e)) e.name ≡ true }
 {}
 
 /// If each line is an entry, and nothing is torn, no name is mentioned.
 pub fn a_whole_log_is_trusted()
-    ensures entries { (version : ℕ) (bytes : List ℕ)
-        → All (λ line. IsSome (entry_on version line)) (drop 1 (lines_of bytes))
+    ensures entries { (version : ℕ) (bytes : List ℕ) → All (λ line. IsSome (entry_on version line)) (drop 1 (lines_of bytes))
         → rest_of bytes ≡ [] → mentioned_in version bytes ≡ [] }
-    ensures whole { (version : ℕ) (bytes : List ℕ) (es : List Entry)
-        → is_whole version bytes ≡ true → distrusted_in version bytes es ≡ [] }
+    ensures whole { (version : ℕ) (bytes : List ℕ) (es : List Entry) → is_whole version bytes ≡ true → distrusted_in version bytes es ≡ [] }
 {}
 
 pub fn a_whole_log_skips_no_line()
@@ -60,7 +51,6 @@ pub fn a_whole_log_skips_no_line()
 
 /// What can't be trusted are the table's entries of the names that the log mentions, and no others.
 pub fn mentioned_names_are_found()
-    ensures { (version : ℕ) (bytes name : List ℕ) (es : List Entry)
-        → entry_named (distrusted_in version bytes es) name
+    ensures { (version : ℕ) (bytes name : List ℕ) (es : List Entry) → entry_named (distrusted_in version bytes es) name
         ≡ (if holds (mentioned_in version bytes) name then entry_named es name else None) }
 {}

@@ -46,8 +46,7 @@ fn leading_digits(bytes: &[u8]) -> (u64, usize)
     requires short { length bytes.now ≤ 19 }
     ensures within { result.1 ≤ length bytes.now }
     ensures spells { 1 ≤ result.1 → IsDigits 10 result.0 (take result.1 bytes.now) }
-    ensures longest { (n k : ℕ) → k ≤ length bytes.now → IsDigits 10 n (take k bytes.now)
-        → k ≤ result.1 }
+    ensures longest { (n k : ℕ) → k ≤ length bytes.now → IsDigits 10 n (take k bytes.now) → k ≤ result.1 }
 {
     let Some((first, rest)) = bytes.split_first() else {
         return (0, 0);
@@ -73,8 +72,7 @@ fn leading_digits(bytes: &[u8]) -> (u64, usize)
 fn longest_digits(bytes: &[u8]) -> (u64, usize)
     ensures within { result.1 ≤ length bytes.now }
     ensures spells { 1 ≤ result.1 → IsDigits 10 result.0 (take result.1 bytes.now) }
-    ensures longest { (n k : ℕ) → n < 10 ^ 19 → k ≤ length bytes.now
-        → IsDigits 10 n (take k bytes.now) → k ≤ result.1 }
+    ensures longest { (n k : ℕ) → n < 10 ^ 19 → k ≤ length bytes.now → IsDigits 10 n (take k bytes.now) → k ≤ result.1 }
 {
     if bytes.len() >= LONGEST {
         leading_digits(&bytes[..LONGEST])
@@ -86,8 +84,7 @@ fn longest_digits(bytes: &[u8]) -> (u64, usize)
 #[inline(always)]
 fn split_digits(bytes: &[u8]) -> Option<(u64, &[u8])>
     ensures found { IfSome result (λ r. BeginsWith (IsDigits 10 r.0) bytes.now r.1.now) }
-    ensures accepts { (n : ℕ) (rest : List ℕ) → n < 10 ^ 19 → BeginsWith (IsDigits 10 n) bytes.now rest
-        → IsSome result }
+    ensures accepts { (n : ℕ) (rest : List ℕ) → n < 10 ^ 19 → BeginsWith (IsDigits 10 n) bytes.now rest → IsSome result }
 {
     let (number, len) = longest_digits(bytes);
     if len == 0 {
@@ -116,8 +113,7 @@ fn to_i32(number: i64) -> Option<i32>
 #[inline(always)]
 pub(crate) fn split_i64(bytes: &[u8]) -> Option<(i64, &[u8])>
     ensures found { IfSome result (λ r. BeginsWith (IsDecimal r.0) bytes.now r.1.now) }
-    ensures accepts { (n : ℤ) (rest : List ℕ) → FitsSigned w64 n
-        → BeginsWith (IsDecimal n) bytes.now rest → IsSome result }
+    ensures accepts { (n : ℤ) (rest : List ℕ) → FitsSigned w64 n → BeginsWith (IsDecimal n) bytes.now rest → IsSome result }
 {
     let (first, digits) = bytes.split_first()?;
     if *first == b'-' {
@@ -136,8 +132,7 @@ pub(crate) fn split_i64(bytes: &[u8]) -> Option<(i64, &[u8])>
 #[inline(always)]
 pub(crate) fn split_i32(bytes: &[u8]) -> Option<(i32, &[u8])>
     ensures found { IfSome result (λ r. BeginsWith (IsDecimal r.0) bytes.now r.1.now) }
-    ensures accepts { (n : ℤ) (rest : List ℕ) → FitsSigned w32 n
-        → BeginsWith (IsDecimal n) bytes.now rest → IsSome result }
+    ensures accepts { (n : ℤ) (rest : List ℕ) → FitsSigned w32 n → BeginsWith (IsDecimal n) bytes.now rest → IsSome result }
 {
     let (number, rest) = split_i64(bytes)?;
     Some((to_i32(number)?, rest))

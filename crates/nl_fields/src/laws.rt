@@ -28,8 +28,7 @@ pub fn one_decimal()
 
 pub fn one_hexadecimal()
     ensures spelling { (n : ℕ) (k l : List ℕ) → IsDigits 16 n k → IsDigits 16 n l → k ≡ l }
-    ensures number { (m n : ℕ) (bytes : List ℕ) → IsDigits 16 m bytes
-        → IsDigits 16 n bytes → m ≡ n }
+    ensures number { (m n : ℕ) (bytes : List ℕ) → IsDigits 16 m bytes → IsDigits 16 n bytes → m ≡ n }
     ensures exists { (n : ℕ) → n < 2 ^ 64 → IsDigits 16 n (digits_of 16 n) }
 {}
 
@@ -40,23 +39,18 @@ pub fn one_line()
 {}
 
 pub fn one_entry()
-    ensures entry { (e f : Entry) (line : List ℕ) → IsEntryLine e line
-        → IsEntryLine f line → e ≡ f }
+    ensures entry { (e f : Entry) (line : List ℕ) → IsEntryLine e line → IsEntryLine f line → e ≡ f }
     ensures decides { (e : Entry) (line : List ℕ) → (entry_of line ≡ Some e) ↔ IsEntryLine e line }
 {}
 
 pub fn one_entry_v4()
-    ensures entry { (e f : Entry) (line : List ℕ) → IsEntryLineFour e line
-        → IsEntryLineFour f line → e ≡ f }
-    ensures decides { (e : Entry) (line : List ℕ)
-        → (entry_of_four line ≡ Some e) ↔ IsEntryLineFour e line }
-    ensures newline { (e : Entry) (line : List ℕ) → IsEntryLineFour e line
-        → All (λ b. b ≢ 10) line }
+    ensures entry { (e f : Entry) (line : List ℕ) → IsEntryLineFour e line → IsEntryLineFour f line → e ≡ f }
+    ensures decides { (e : Entry) (line : List ℕ) → (entry_of_four line ≡ Some e) ↔ IsEntryLineFour e line }
+    ensures newline { (e : Entry) (line : List ℕ) → IsEntryLineFour e line → All (λ b. b ≢ 10) line }
 {}
 
 pub fn line_is_short()
-    ensures length { (e : Entry) (line : List ℕ) → IsEntryLine e line
-        → length line + 1 ≤ max_entry_line }
+    ensures length { (e : Entry) (line : List ℕ) → IsEntryLine e line → length line + 1 ≤ max_entry_line }
     ensures newline { (e : Entry) (line : List ℕ) → IsEntryLine e line → All (λ b. b ≢ 10) line }
 {}
 

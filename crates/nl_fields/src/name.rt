@@ -61,8 +61,7 @@ pub fn name_fault(bytes: &[u8]) -> Option<NameFault>
 #[inline(always)]
 pub(crate) fn split_name(bytes: &[u8]) -> Option<(&[u8], &[u8])>
     ensures found { IfSome result (λ r. IsName r.0.now × (bytes.now ≡ r.0.now ++ 9 ∷ r.1.now)) }
-    ensures accepts { (name rest : List ℕ) → IsName name → bytes.now ≡ name ++ 9 ∷ rest
-        → IsSome result }
+    ensures accepts { (name rest : List ℕ) → IsName name → bytes.now ≡ name ++ 9 ∷ rest → IsSome result }
 {
     let at = first_forbidden(bytes)?;
     if bytes[at] != b'\t' {
@@ -122,8 +121,7 @@ impl Name {
     pub fn from_vec(bytes: Vec<u8>) -> Result<Name, (Vec<u8>, NameFault)>
         ensures accepts { IsOk result ↔ IsName bytes.items }
         ensures value { IfOk result (λ name. name ≡ bytes.items) }
-        ensures fault { IfErr result
-            (λ e. (e.0 ≡ bytes) × HasFault bytes.items e.1 × (e.1 ≢ NameFault.OutOfMemory)) }
+        ensures fault { IfErr result (λ e. (e.0 ≡ bytes) × HasFault bytes.items e.1 × (e.1 ≢ NameFault.OutOfMemory)) }
     {
         match name_fault(bytes.as_slice()) {
             Some(fault) => Err((bytes, fault)),

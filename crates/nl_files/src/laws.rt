@@ -15,6 +15,5 @@ pub fn writing_leaves_the_record()
 
 /// If the folder knows what the name may show.
 pub fn a_crash_leaves_an_image_of_the_record()
-    ensures { (m : Model) (h : Holdings) (settled : Bool) (bs : List ℕ) → Covers m h settled
-        → SystemImage m bs → IsImage (disk_of h m) bs }
+    ensures { (m : Model) (h : Holdings) (settled : Bool) (bs : List ℕ) → Covers m h settled → SystemImage m bs → IsImage (disk_of h m) bs }
 {}

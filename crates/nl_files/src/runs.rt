@@ -24,24 +24,19 @@ pub fn run_over_system<S: CrashableSystem + Drop>(
     requires begins { ForSome (S.System.model system) IsAtStart }
     ensures headline { (start : History) → BeginsAt start (option_map begun (S.System.model system))
         → IfOk result (λ r. HeadlineOn start (zip events.now r.1.items) (state_of r.0).disk) }
-    ensures run { (start : History) → BeginsAt start (option_map begun (S.System.model system))
-        → IfOk result
+    ensures run { (start : History) → BeginsAt start (option_map begun (S.System.model system)) → IfOk result
         (λ r. Ran start events.now r.1.items (state_of r.0).disk (state_of r.0).is_settled) }
     ensures disks { (d : Disk) → option_map begun (S.System.model system) ≡ Some d
-        → IfOk result (λ r. Moved (option_map begun (S.System.model system))
-        (zip events.now r.1.items) (state_of r.0).disk) }
-    ensures rests { IfOk result (λ r.
-        RestsThrough events.now (option_map begun (S.System.model system)) (state_of r.0).disk) }
+        → IfOk result (λ r. Moved (option_map begun (S.System.model system)) (zip events.now r.1.items) (state_of r.0).disk) }
+    ensures rests { IfOk result (λ r. RestsThrough events.now (option_map begun (S.System.model system)) (state_of r.0).disk) }
     ensures reopens { IfOk result (λ r. OpensAtLast (zip events.now r.1.items)
         (option_map begun (S.System.model system)) (state_of r.0).disk) }
     ensures failures { IfOk result (λ r. HasRisen 0 (faults_of r.1.items) (failure_count r.0)) }
     ensures steady { IfOk result (λ r. faults_of r.1.items ≡ 0 → failure_count r.0 ≡ 0) }
     ensures memory { IfOk result (λ r. HadMemory r.1.items) }
     ensures outcome { IfOk result (λ r. Ends r.2 events.now r.1.items) }
-    ensures same { IfOk result (λ r. r.1.items ≡ []
-        → SameState (begun_view (S.System.model system)) (state_of r.0)) }
-    ensures untouched { IfOk result (λ r. r.1.items ≡ []
-        → ¬ IsSomeAnd (slice_get events.now 0) TakesMemory → system_of r.0 ≡ system) }
+    ensures same { IfOk result (λ r. r.1.items ≡ [] → SameState (begun_view (S.System.model system)) (state_of r.0)) }
+    ensures untouched { IfOk result (λ r. r.1.items ≡ [] → ¬ IsSomeAnd (slice_get events.now 0) TakesMemory → system_of r.0 ≡ system) }
 {
     let folder = FileFolder::new(system, alloc)?;
     Ok(run_events(alloc, folder, events))
@@ -55,24 +50,18 @@ pub fn run_in_memory(
 ) -> Result<(FileFolder<MemSystem>, Vec<Reply>, Outcome), AllocError>
     ensures headline { (start : History) → history_of [] ≡ Some start
         → IfOk result (λ r. HeadlineOn start (zip events.now r.1.items) (state_of r.0).disk) }
-    ensures run { (start : History) → history_of [] ≡ Some start
-        → IfOk result
+    ensures run { (start : History) → history_of [] ≡ Some start → IfOk result
         (λ r. Ran start events.now r.1.items (state_of r.0).disk (state_of r.0).is_settled) }
-    ensures disks { IfOk result
-        (λ r. Moved (Some (begun no_files)) (zip events.now r.1.items) (state_of r.0).disk) }
-    ensures rests { IfOk result
-        (λ r. RestsThrough events.now (Some (begun no_files)) (state_of r.0).disk) }
-    ensures reopens { IfOk result
-        (λ r. OpensAtLast (zip events.now r.1.items) (Some (begun no_files)) (state_of r.0).disk) }
+    ensures disks { IfOk result (λ r. Moved (Some (begun no_files)) (zip events.now r.1.items) (state_of r.0).disk) }
+    ensures rests { IfOk result (λ r. RestsThrough events.now (Some (begun no_files)) (state_of r.0).disk) }
+    ensures reopens { IfOk result (λ r. OpensAtLast (zip events.now r.1.items) (Some (begun no_files)) (state_of r.0).disk) }
     ensures failures { IfOk result (λ r. HasRisen 0 (faults_of r.1.items) (failure_count r.0)) }
     ensures steady { IfOk result (λ r. faults_of r.1.items ≡ 0 → failure_count r.0 ≡ 0) }
     ensures memory { IfOk result (λ r. HadMemory r.1.items) }
     ensures outcome { IfOk result (λ r. Ends r.2 events.now r.1.items) }
-    ensures same { IfOk result (λ r. r.1.items ≡ []
-        → SameState (begun_view (Some no_files)) (state_of r.0)) }
+    ensures same { IfOk result (λ r. r.1.items ≡ [] → SameState (begun_view (Some no_files)) (state_of r.0)) }
     ensures untouched { IfOk result
-        (λ r. r.1.items ≡ [] → ¬ IsSomeAnd (slice_get events.now 0) TakesMemory
-        → numbers_left (system_of r.0).plan ≡ numbers_left plan) }
+        (λ r. r.1.items ≡ [] → ¬ IsSomeAnd (slice_get events.now 0) TakesMemory → numbers_left (system_of r.0).plan ≡ numbers_left plan) }
 {
     run_over_system(alloc, MemSystem::new(alloc, plan), events)
 }

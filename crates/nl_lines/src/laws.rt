@@ -39,35 +39,29 @@ pub fn without_whole_bytes_there_is_no_line()
 pub fn joined_lines_come_back()
     ensures lines { (lines : List (List ℕ)) (tail : List ℕ) → All NoNewline lines
         → lines_of (joined lines ++ tail) ≡ lines ++ lines_of tail }
-    ensures rest { (lines : List (List ℕ)) (tail : List ℕ) → All NoNewline lines
-        → rest_of (joined lines ++ tail) ≡ rest_of tail }
+    ensures rest { (lines : List (List ℕ)) (tail : List ℕ) → All NoNewline lines → rest_of (joined lines ++ tail) ≡ rest_of tail }
 {}
 
 pub fn a_last_newline_leaves_no_rest()
     ensures lines { (text : List ℕ) → EndsInNewline text → 1 ≤ length (lines_of text) }
     ensures rest { (text : List ℕ) → EndsInNewline text → rest_of text ≡ [] }
-    ensures joined { (line : List ℕ) (lines : List (List ℕ))
-        → EndsInNewline (joined (line ∷ lines)) }
+    ensures joined { (line : List ℕ) (lines : List (List ℕ)) → EndsInNewline (joined (line ∷ lines)) }
 {}
 
 /// A prefix that has all whole lines has the same lines, and a prefix of the rest.
 pub fn a_cut_rest_leaves_the_lines()
-    ensures lines { (text prefix : List ℕ) → IsPrefix prefix text → whole_len text ≤ length prefix
-        → lines_of prefix ≡ lines_of text }
+    ensures lines { (text prefix : List ℕ) → IsPrefix prefix text → whole_len text ≤ length prefix → lines_of prefix ≡ lines_of text }
     ensures rest { (text prefix : List ℕ) → IsPrefix prefix text → whole_len text ≤ length prefix
         → IsPrefix (rest_of prefix) (rest_of text) }
 {}
 
 pub fn a_tail_without_a_newline_changes_no_line()
-    ensures lines { (text tail : List ℕ) → NoNewline tail
-        → lines_of (text ++ tail) ≡ lines_of text }
-    ensures rest { (text tail : List ℕ) → NoNewline tail
-        → rest_of (text ++ tail) ≡ rest_of text ++ tail }
+    ensures lines { (text tail : List ℕ) → NoNewline tail → lines_of (text ++ tail) ≡ lines_of text }
+    ensures rest { (text tail : List ℕ) → NoNewline tail → rest_of (text ++ tail) ≡ rest_of text ++ tail }
 {}
 
 pub fn a_prefix_has_the_first_lines()
-    ensures { (text prefix : List ℕ) → IsPrefix prefix text
-        → IsPrefix (lines_of prefix) (lines_of text) }
+    ensures { (text prefix : List ℕ) → IsPrefix prefix text → IsPrefix (lines_of prefix) (lines_of text) }
 {}
 
 pub fn a_prefix_of_a_line_is_whole_or_torn()
@@ -77,41 +71,31 @@ pub fn a_prefix_of_a_line_is_whole_or_torn()
 
 /// It is the first line of the text that was still to be given, and the later ones are still to come.
 pub fn a_line_is_the_first()
-    ensures { (old : Reader) (a : Option (List ℕ)) (new : Reader) (b : Option (List ℕ))
-        (line text : List ℕ)
-        → TakesLine old a new b line → text_left old a ≡ Some text
-        → (left : List ℕ) × (text_left new b ≡ Some left)
+    ensures { (old : Reader) (a : Option (List ℕ)) (new : Reader) (b : Option (List ℕ)) (line text : List ℕ)
+        → TakesLine old a new b line → text_left old a ≡ Some text → (left : List ℕ) × (text_left new b ≡ Some left)
         × (lines_of text ≡ line ∷ lines_of left) × (rest_of text ≡ rest_of left) }
 {}
 
 /// No line was still to be given.
 pub fn the_rest_is_last()
-    ensures { (old : Reader) (a : Option (List ℕ)) (new : Reader) (b : Option (List ℕ))
-        (rest text : List ℕ)
-        → TakesRest old a new b rest → text_left old a ≡ Some text
-        → (lines_of text ≡ []) × (rest_of text ≡ rest) }
+    ensures { (old : Reader) (a : Option (List ℕ)) (new : Reader) (b : Option (List ℕ)) (rest text : List ℕ)
+        → TakesRest old a new b rest → text_left old a ≡ Some text → (lines_of text ≡ []) × (rest_of text ≡ rest) }
 {}
 
 /// Calls of `next` up to the first `None` show the lines of a text in order and then its rest, in whatever pieces the text comes.
 pub fn a_run_shows_the_text()
-    ensures { (text : List ℕ) (lines : List Line)
-        (last : Reader) (b : Option (List ℕ)) (end : Reader) (c : Option (List ℕ))
-        → GivenInTurn fresh (Some text) lines last b → AnswersNext last b end c (Ok None)
-        → map as_shown lines ≡ text_shown text }
+    ensures { (text : List ℕ) (lines : List Line) (last : Reader) (b : Option (List ℕ)) (end : Reader) (c : Option (List ℕ))
+        → GivenInTurn fresh (Some text) lines last b → AnswersNext last b end c (Ok None) → map as_shown lines ≡ text_shown text }
 {}
 
 /// A run comes to its `None` only then.
 pub fn a_text_that_is_shown_is_within_the_limit()
-    ensures { (text : List ℕ) (lines : List Line)
-        (last : Reader) (b : Option (List ℕ)) (end : Reader) (c : Option (List ℕ))
-        → GivenInTurn fresh (Some text) lines last b → AnswersNext last b end c (Ok None)
-        → length text ≤ max_log }
+    ensures { (text : List ℕ) (lines : List Line) (last : Reader) (b : Option (List ℕ)) (end : Reader) (c : Option (List ℕ))
+        → GivenInTurn fresh (Some text) lines last b → AnswersNext last b end c (Ok None) → length text ≤ max_log }
 {}
 
 /// A run ends with `TooLarge` only then.
 pub fn a_text_that_is_too_large_is_beyond_the_limit()
-    ensures { (text : List ℕ) (lines : List Line)
-        (last : Reader) (b : Option (List ℕ)) (end : Reader) (c : Option (List ℕ))
-        → GivenInTurn fresh (Some text) lines last b → AnswersNext last b end c (Err LineFault.TooLarge)
-        → max_log < length text }
+    ensures { (text : List ℕ) (lines : List Line) (last : Reader) (b : Option (List ℕ)) (end : Reader) (c : Option (List ℕ))
+        → GivenInTurn fresh (Some text) lines last b → AnswersNext last b end c (Err LineFault.TooLarge) → max_log < length text }
 {}

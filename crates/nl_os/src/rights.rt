@@ -44,8 +44,7 @@ impl Mode {
     }
 
     pub fn bits(self) -> u32
-        ensures value { self.owner < 8 → self.group < 8 → self.others < 8
-            → result ≡ self.owner * 64 + self.group * 8 + self.others }
+        ensures value { self.owner < 8 → self.group < 8 → self.others < 8 → result ≡ self.owner * 64 + self.group * 8 + self.others }
     {
         (self.owner << 3 | self.group) << 3 | self.others
     }
@@ -65,8 +64,7 @@ impl Mode {
         ensures others { IsWithin result.others self.others }
         ensures left_group { is_group_kept ≡ false → IsWithin result.others self.group }
         ensures joined_group { is_group_kept ≡ false → IsWithin result.group self.others }
-        ensures old_owner { is_owner_kept ≡ false
-            → IsWithin result.group self.owner × IsWithin result.others self.owner }
+        ensures old_owner { is_owner_kept ≡ false → IsWithin result.group self.owner × IsWithin result.others self.owner }
     {
         let of_group = self.for_group(is_group_kept);
         of_group.for_owner(is_owner_kept)
@@ -97,8 +95,7 @@ impl Mode {
         ensures owner { result.owner ≡ self.owner }
         ensures group { IsWithin result.group self.group }
         ensures others { IsWithin result.others self.others }
-        ensures old_owner { is_kept ≡ false
-            → IsWithin result.group self.owner × IsWithin result.others self.owner }
+        ensures old_owner { is_kept ≡ false → IsWithin result.group self.owner × IsWithin result.others self.owner }
     {
         if is_kept {
             return self;

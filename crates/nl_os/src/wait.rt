@@ -69,10 +69,8 @@ impl Wait {
         ensures changed { self.old.sign ≢ Some sign → self.new.since ≡ now }
         ensures same_since { self.old.sign ≡ Some sign → self.new.since ≡ self.old.since }
         ensures sign { self.new.sign ≡ Some sign }
-        ensures some { IfSome result (λ n. (0 < n) × (n ≤ 20)
-            × (now - self.new.since + n ≤ 10000) × (now - self.new.began + n ≤ 60000)) }
-        ensures none { result ≡ None
-            → (10000 ≤ now - self.new.since) ⊎ (60000 ≤ now - self.new.began) }
+        ensures some { IfSome result (λ n. (0 < n) × (n ≤ 20) × (now - self.new.since + n ≤ 10000) × (now - self.new.began + n ≤ 60000)) }
+        ensures none { result ≡ None → (10000 ≤ now - self.new.since) ⊎ (60000 ≤ now - self.new.began) }
     {
         if self.sign.is_none() {
             self.began = now;

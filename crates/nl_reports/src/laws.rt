@@ -49,38 +49,30 @@ pub fn little_is_left_over()
 /// those that are equal by it stand as before.
 pub fn the_largest_come_first()
     ensures each { (rank : Told → ℕ) (ts : List Told) → IsPermutation ts (falling rank ts) }
-    ensures order { (rank : Told → ℕ) (ts : List Told) (i j : ℕ) (d : Told) → i ≤ j
-        → j < length (falling rank ts)
+    ensures order { (rank : Told → ℕ) (ts : List Told) (i j : ℕ) (d : Told) → i ≤ j → j < length (falling rank ts)
         → rank (slice_index_or (falling rank ts) j d) ≤ rank (slice_index_or (falling rank ts) i d) }
-    ensures alike { (rank : Told → ℕ) (v : ℕ) (ts : List Told)
-        → ranked rank v (falling rank ts) ≡ ranked rank v ts }
+    ensures alike { (rank : Told → ℕ) (v : ℕ) (ts : List Told) → ranked rank v (falling rank ts) ≡ ranked rank v ts }
 {}
 
 /// Each kind is told once, with the sums of its own commands.
 pub fn each_kind_is_its_commands()
-    ensures once { (rule : KindRule) (kind : List ℕ) (ts : List Told)
-        → length (named kind (kinds rule ts)) ≤ 1 }
+    ensures once { (rule : KindRule) (kind : List ℕ) (ts : List Told) → length (named kind (kinds rule ts)) ≤ 1 }
     ensures commands { (rule : KindRule) (kind : List ℕ) (ts : List Told)
         → sum_by (λ (k : Told). k.sums.commands) (named kind (kinds rule ts))
         ≡ sum_by (λ (t : Told). t.sums.commands) (of_kind rule kind ts) }
-    ensures times { (rule : KindRule) (kind : List ℕ) (ts : List Told)
-        → sum_by (λ (k : Told). k.sums.time) (named kind (kinds rule ts))
+    ensures times { (rule : KindRule) (kind : List ℕ) (ts : List Told) → sum_by (λ (k : Told). k.sums.time) (named kind (kinds rule ts))
         ≡ sum_by (λ (t : Told). t.sums.time) (of_kind rule kind ts) }
-    ensures weights { (rule : KindRule) (kind : List ℕ) (ts : List Told)
-        → sum_by (λ (k : Told). k.sums.weight) (named kind (kinds rule ts))
+    ensures weights { (rule : KindRule) (kind : List ℕ) (ts : List Told) → sum_by (λ (k : Told). k.sums.weight) (named kind (kinds rule ts))
         ≡ sum_by (λ (t : Told). t.sums.weight) (of_kind rule kind ts) }
 {}
 
 /// The commands of all kinds are those of the build, and their times add up to the sum of its commands' times. Their weighted times, and
 /// what is left over, add up to the time in which one command at least runs.
 pub fn kinds_add_up()
-    ensures commands { (rule : KindRule) (js : List Job)
-        → sum_by (λ (k : Told). k.sums.commands) (kinds rule (told_jobs js)) ≡ length js }
-    ensures times { (rule : KindRule) (js : List Job)
-        → sum_by (λ (k : Told). k.sums.time) (kinds rule (told_jobs js)) ≡ total_time js }
+    ensures commands { (rule : KindRule) (js : List Job) → sum_by (λ (k : Told). k.sums.commands) (kinds rule (told_jobs js)) ≡ length js }
+    ensures times { (rule : KindRule) (js : List Job) → sum_by (λ (k : Told). k.sums.time) (kinds rule (told_jobs js)) ≡ total_time js }
     ensures weights { (rule : KindRule) (js : List Job)
-        → sum_by (λ (k : Told). k.sums.weight) (kinds rule (told_jobs js)) + left_over (spans js)
-        ≡ parts * busy_time (spans js) }
+        → sum_by (λ (k : Told). k.sums.weight) (kinds rule (told_jobs js)) + left_over (spans js) ≡ parts * busy_time (spans js) }
 {}
 
 /// What is left of the entries of an output is its last one, and nothing where it waits; and what is left of all stands as before.
@@ -89,38 +81,33 @@ pub fn the_last_entry_of_each_output_is_left()
         → of_name name (lasting names t).entries ≡ last_of (of_name name t.entries) }
     ensures waiting { (names : List (List ℕ)) (t : BuildsTold) (name : List ℕ) → is_among name names ≡ true
         → of_name name (lasting names t).entries ≡ [] }
-    ensures order { (names : List (List ℕ)) (t : BuildsTold)
-        → (marks : List Bool) × ((lasting names t).entries ≡ marked marks t.entries) }
+    ensures order { (names : List (List ℕ)) (t : BuildsTold) → (marks : List Bool) × ((lasting names t).entries ≡ marked marks t.entries) }
 {}
 
 /// Each command keeps those of its outputs that are left, and one of which none is left is gone. Here places rise.
 pub fn each_command_keeps_what_is_left()
     ensures { (names : List (List ℕ)) (t : BuildsTold) → Rise 0 t.commands
-        → jobs_from (lasting names t).entries 0 (lasting names t).commands
-        ≡ filter has_outputs (jobs_left names t.entries 0 t.commands) }
+        → jobs_from (lasting names t).entries 0 (lasting names t).commands ≡ filter has_outputs (jobs_left names t.entries 0 t.commands) }
 {}
 
 /// What is compared are pairs: each command of the old log stands in one, in its order; and those of the new log that stand in pairs, with
 /// an old one or alone, are all of its commands, each once.
 pub fn each_command_is_compared_once()
-    ensures rows { (rules : Rules) (old new : Log)
-        → compared rules old new ≡ map (told_pair rules old new) (pairs old.jobs new.jobs) }
+    ensures rows { (rules : Rules) (old new : Log) → compared rules old new ≡ map (told_pair rules old new) (pairs old.jobs new.jobs) }
     ensures old { (js ks : List Job) → flat_map old_of (pairs js ks) ≡ js }
     ensures new { (js ks : List Job) → IsPermutation ks (flat_map new_of (pairs js ks)) }
 {}
 
 /// The commands that are compared begin with those of the old log, in its order.
 pub fn each_old_command_is_compared()
-    ensures { (rules : Rules) (old new : Log)
-        → map (λ (c : Compared). c.output) (take (length old.jobs) (compared rules old new))
+    ensures { (rules : Rules) (old new : Log) → map (λ (c : Compared). c.output) (take (length old.jobs) (compared rules old new))
         ≡ map (λ (j : Job). first_name j.outputs) old.jobs }
 {}
 
 /// Each command is in one class; so the totals of all classes add up to those of all commands, whatever is summed.
 pub fn each_command_is_in_one_class()
     ensures one { (c : Compared) → count_by (λ k. is_of k c) classes ≡ 1 }
-    ensures sums { (f : Compared → ℕ) (cs : List Compared)
-        → sum_by (λ k. sum_by f (of_class k cs)) classes ≡ sum_by f cs }
+    ensures sums { (f : Compared → ℕ) (cs : List Compared) → sum_by (λ k. sum_by f (of_class k cs)) classes ≡ sum_by f cs }
 {}
 
 /// No lane holds two commands that run at one moment.
@@ -156,8 +143,7 @@ pub fn a_bar_takes_at_most_400_bytes()
 
 /// A bar stands between where the build begins and where it ends.
 pub fn a_bar_is_within_the_picture()
-    ensures { (f : Frame) (j : Job) → (1000 ≤ x_at f j.span.began)
-        × (x_at f j.span.began + drawn_width (width_of f j) ≤ 15400) }
+    ensures { (f : Frame) (j : Job) → (1000 ≤ x_at f j.span.began) × (x_at f j.span.began + drawn_width (width_of f j) ≤ 15400) }
 {}
 
 /// The lines of the axis stand a round time apart, and there are twelve steps at most.
@@ -186,6 +172,5 @@ pub fn bars_take_at_most_400_bytes_a_command()
 pub fn no_plan_comes_below_the_floor()
     ensures path { (g : Graph) (js : List Job) (n wall : ℕ) (plan : List Job) → IsPlan g js n wall plan
         → (path : List (List ℕ)) → IsPath g.edges path → length_of (node_weight g.nodes js) path ≤ wall }
-    ensures total { (g : Graph) (js : List Job) (n wall : ℕ) (plan : List Job) → IsPlan g js n wall plan
-        → total_time js ≤ n * wall }
+    ensures total { (g : Graph) (js : List Job) (n wall : ℕ) (plan : List Job) → IsPlan g js n wall plan → total_time js ≤ n * wall }
 {}

@@ -71,8 +71,7 @@ fn is_start_next(starts: &[u64], begun: usize, ends: &[u64], ended: usize) -> bo
     ensures { MatchBool result
         ((begun < length starts.now) × (ended < length ends.now
         → slice_index starts.now begun ≤ slice_index ends.now ended))
-        (begun < length starts.now → (ended < length ends.now)
-        × (slice_index ends.now ended ≤ slice_index starts.now begun)) }
+        (begun < length starts.now → (ended < length ends.now) × (slice_index ends.now ended ≤ slice_index starts.now begun)) }
 {
     begun < starts.len() && (ended >= ends.len() || starts[begun] <= ends[ended])
 }

@@ -101,8 +101,7 @@ fn record_at<D: Files + Clock + Drop>(
 ) -> Result<(), ToolFault>
 where
     D::File: SystemFile,
-    ensures call { (left : FolderView)
-        × ChangesLogFor place.asked (λ version. adding (hashed entry.entry command.now version)) result
+    ensures call { (left : FolderView) × ChangesLogFor place.asked (λ version. adding (hashed entry.entry command.now version)) result
         (folder_view ⟦<DiskFolder<D> as Folder>⟧ place.folder) left }
     ensures faults { IfErr result IsRecordFault }
 {

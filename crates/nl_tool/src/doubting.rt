@@ -1,7 +1,6 @@
 //! `doubt`, over LOG or standard input, and the files of the outputs, with standard output for its text.
-ghost use Rattle.std.specs.Prelude.{◌≡◌, ◌<◌, ◌↔◌, None, IfErr, IfOk, IsErrOf, length};
+ghost use Rattle.std.specs.Prelude.{◌≡◌, ◌<◌, ◌↔◌, None, IfErr, IfOk, IsErrOf, length, flat_map};
 ghost use Rattle.std.specs.Io.KnownBytes.{Appends};
-ghost use Rattle.std.specs.List.{flat_map};
 ghost use Rattle.nl_tool_doubt.specs.Doubts.{IsDoubts, doubt_line, undamaged};
 ghost use Rattle.nl_tool_doubt.specs.declared.doubts.Doubts.{Doubts};
 ghost use Rattle.nl_tool_print.specs.Faults.{IsLogFault};
@@ -90,8 +89,7 @@ fn tell_doubts<F: OutputFiles, W: Write>(
     writer: &mut W,
 ) -> Result<Verdict, ToolFault>
     ensures found { IfOk result
-        (λ outcome.
-        (doubts : Doubts) × IsDoubts undamaged log.now (F.states files.now) doubts
+        (λ outcome. (doubts : Doubts) × IsDoubts undamaged log.now (F.states files.now) doubts
         × Appends (W.contents writer.old) (W.contents writer.new) (flat_map doubt_line doubts.named.items)
         × ((outcome ≡ Verdict.Found) ↔ (0 < length doubts.named.items))) }
     ensures not_a_log { IsErrOf result ToolFault.NotALog → log_of (as_five log.now) ≡ NotALog }

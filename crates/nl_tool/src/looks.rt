@@ -1,6 +1,5 @@
 //! What the bytes look like of a file that is no log.
-ghost use Rattle.std.specs.Prelude.{◌≡◌, ◌++◌, IfSome, OnOk, Some, string_bytes};
-ghost use Rattle.std.specs.List.{flat_map};
+ghost use Rattle.std.specs.Prelude.{◌≡◌, ◌++◌, IfSome, OnOk, Some, string_bytes, flat_map};
 ghost use Rattle.nl_tool.specs.Looks.{escaped, look_of, look_text, start_text};
 
 use nl_tool_texts::append_number;

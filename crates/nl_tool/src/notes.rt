@@ -50,10 +50,8 @@ pub struct Notes {
 impl Notes {
     /// Nothing is known yet.
     pub fn new(alloc: Global, looks: bool, screen: Screen, secret: Secret) -> Notes
-        ensures none { (result.heard.failure ≡ None) × (result.written ≡ None)
-            × (result.folder ≡ None) × (result.unsynced ≡ None)
-            × (result.is_missing ≡ false) × (result.is_second ≡ false)
-            × (result.is_again ≡ false) × (result.is_masked ≡ false) }
+        ensures none { (result.heard.failure ≡ None) × (result.written ≡ None) × (result.folder ≡ None) × (result.unsynced ≡ None)
+            × (result.is_missing ≡ false) × (result.is_second ≡ false) × (result.is_again ≡ false) × (result.is_masked ≡ false) }
         ensures looks { result.looks ≡ looks }
         ensures screen { result.screen ≡ screen }
     {

@@ -137,15 +137,12 @@ fn tell_damage<R: Read + Drop, W: Write>(
     writer: &mut W,
 ) -> Result<Verdict, ToolFault>
     ensures found { MatchResult result
-        (λ outcome.
-        (text : List ℕ) × IsTextAsRead (λ bs. damage_text_of (as_five bs)) (R.remaining reader) text
+        (λ outcome. (text : List ℕ) × IsTextAsRead (λ bs. damage_text_of (as_five bs)) (R.remaining reader) text
         × Appends (W.contents writer.old) (W.contents writer.new) text
         × ((outcome ≡ Verdict.Found) ↔ (0 < length text)))
-        (λ _. IsSoFar (λ bs. damage_text_of (as_five bs)) (R.remaining reader)
-        (W.contents writer.old) (W.contents writer.new)) }
+        (λ _. IsSoFar (λ bs. damage_text_of (as_five bs)) (R.remaining reader) (W.contents writer.old) (W.contents writer.new)) }
     ensures not_a_log { IsErrOf result ToolFault.NotALog → IfSome (R.remaining reader) (λ bs. log_of (as_five bs) ≡ NotALog) }
-    ensures other_version { IsErrOf result ToolFault.OtherVersion
-        → IfSome (R.remaining reader) (λ bs. log_of (as_five bs) ≡ OtherVersion) }
+    ensures other_version { IsErrOf result ToolFault.OtherVersion → IfSome (R.remaining reader) (λ bs. log_of (as_five bs) ≡ OtherVersion) }
     ensures faults { IfErr result IsLogFault }
 {
     match damage_to(alloc, reader, writer) {
@@ -165,8 +162,7 @@ fn print_to<R: Read + Drop, W: Write>(
     writer: &mut W,
     told: &mut Told,
 ) -> Result<(), ToolFault>
-    ensures prints { Prints (IsAnswer asked printing.entry (R.remaining reader))
-        (W.contents writer.old) (W.contents writer.new) result }
+    ensures prints { Prints (IsAnswer asked printing.entry (R.remaining reader)) (W.contents writer.old) (W.contents writer.new) result }
     ensures bytes { RefusesLog (log_for asked) (R.remaining reader) result }
     ensures faults { IfErr result (IsPrintingFault printing.entry) }
 {

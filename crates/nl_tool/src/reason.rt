@@ -207,8 +207,7 @@ pub fn note_of<'a>(line: &CommandLine<'a>, notes: &Notes) -> Option<Why<'a>>
     ensures quiet { line.now.verbose ≡ false → result ≡ None }
     ensures note { IfSome result (IsNoteFor (words_heard line.now.words notes.now.is_second) notes.now.is_missing) }
     ensures whenever { line.now.verbose ≡ true → notes.now.is_missing ≡ true
-        → IsSome (log_place (words_heard line.now.words notes.now.is_second) FileRole.Log)
-        → IsSome result }
+        → IsSome (log_place (words_heard line.now.words notes.now.is_second) FileRole.Log) → IsSome result }
 {
     if !line.verbose || !notes.is_missing {
         return None;

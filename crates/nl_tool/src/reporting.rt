@@ -168,8 +168,7 @@ fn tell<W: Write>(
     writer: &mut W,
     again: &mut bool,
 ) -> Result<(), ToolFault>
-    ensures prints { PrintsReport means.columns report.entry
-        (IsReport report.entry (waiting log.entry) (told log.entry.told))
+    ensures prints { PrintsReport means.columns report.entry (IsReport report.entry (waiting log.entry) (told log.entry.told))
         (W.contents writer.old) (W.contents writer.new) result }
     ensures faults { IfErr result (IsToldFault report.entry) }
 {
@@ -290,8 +289,7 @@ fn summary_of(
 }
 
 pub fn write_lines<W: Write>(means: Means, lines: Vec<u8>, writer: &mut W) -> Result<(), ToolFault>
-    ensures prints { Prints (λ text. text ≡ laid_out means.columns lines.items) (W.contents writer.old)
-        (W.contents writer.new) result }
+    ensures prints { Prints (λ text. text ≡ laid_out means.columns lines.items) (W.contents writer.old) (W.contents writer.new) result }
     ensures faults { IfErr result IsWriteFault }
 {
     let Some(most) = means.columns else {

@@ -190,8 +190,7 @@ fn keep_there<P: LogPlace, R: Read + Drop, F: OutputFiles>(
     files: &F,
 ) -> (P, Result<(), ToolFault>)
     ensures call { (IsErr result.1 × (result.0 ≡ place)) ⊎ ((kept : List (List ℕ))
-        × KeepsMost (R.remaining log) (F.states files.now) targets.items kept
-        × P.changes (keeping kept) result.1 place result.0) }
+        × KeepsMost (R.remaining log) (F.states files.now) targets.items kept × P.changes (keeping kept) result.1 place result.0) }
     ensures faults { IfErr result.1 IsPruneFault }
 {
     match names_there(alloc, place.secret(), log, files, targets) {
@@ -208,8 +207,7 @@ fn retime_there<P: LogPlace, R: Read + Drop, F: OutputFiles>(
     early: &mut Vec<u8>,
 ) -> (P, Result<(), ToolFault>)
     ensures call { (IsErr result.1 × (result.0 ≡ place)) ⊎ ((times : List (List ℕ × ℤ))
-        × AddsFor pair_by (R.remaining log) (F.states files.now) [] times
-        × P.changes (touching times) result.1 place result.0) }
+        × AddsFor pair_by (R.remaining log) (F.states files.now) [] times × P.changes (touching times) result.1 place result.0) }
     ensures negative_time { (i : ℕ) → result.1 ≡ Err (ToolFault.NegativeTime i) → result.0 ≡ place }
     ensures faults { IfErr result.1 IsSettlingFault }
 {

@@ -118,8 +118,7 @@ fn begins(alloc: Global, fields: &[u8]) -> Asked<'_>
 }
 
 fn read_begin(alloc: Global, fields: &[u8]) -> Result<Begin, LineRefusal>
-    ensures value { IfOk result
-        (λ begin. BeginsBy begin.moment_ms begin.hash begin.names.items fields.now) }
+    ensures value { IfOk result (λ begin. BeginsBy begin.moment_ms begin.hash begin.names.items fields.now) }
     ensures bad_line { IsErrAnd result (λ why. why ≢ LineRefusal.OutOfMemory) → BeginsNone fields.now }
 {
     let (moment, rest) = split_tab(fields);

@@ -23,8 +23,7 @@ pub fn distrusted_for<F: Folder>(
     asked: Option<LogVersion>,
     folder: F,
 ) -> (F, Result<Table, LogFault>)
-    ensures distrusts { Distrusts asked (folder_view F.Folder folder)
-        (folder_view F.Folder result.0) result.1 }
+    ensures distrusts { Distrusts asked (folder_view F.Folder folder) (folder_view F.Folder result.0) result.1 }
 {
     let (folder, read) = read_bytes(alloc, folder);
     match read {
@@ -44,10 +43,8 @@ fn distrusted_of(
 ) -> Result<Table, LogFault>
     ensures found { IfOk result (AreDistrusted asked bytes.now) }
     ensures not_a_log { IsErrOf result LogFault.NotALog → log_for asked bytes.now ≡ NotALog }
-    ensures other_version { IsErrOf result LogFault.OtherVersion
-        → log_for asked bytes.now ≡ OtherVersion }
-    ensures refusals { IfErr result (λ why. (why ≡ LogFault.NotALog) ⊎ (why ≡ LogFault.OtherVersion)
-        ⊎ (why ≡ LogFault.OutOfMemory)) }
+    ensures other_version { IsErrOf result LogFault.OtherVersion → log_for asked bytes.now ≡ OtherVersion }
+    ensures refusals { IfErr result (λ why. (why ≡ LogFault.NotALog) ⊎ (why ≡ LogFault.OtherVersion) ⊎ (why ≡ LogFault.OutOfMemory)) }
 {
     match load_seen(alloc, secret, asked, SliceSource::new(bytes)) {
         Ok((_, loaded)) => Ok(distrusted(alloc, loaded.version, bytes, &loaded.table)?),

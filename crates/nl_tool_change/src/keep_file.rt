@@ -45,8 +45,7 @@ pub fn read_keep<R: Read + Drop>(
     reader: R,
     told: &mut Told,
 ) -> Result<NameSet, ToolFault>
-    ensures value { IfOk result (λ set. OfBytes (R.remaining reader) (λ bytes.
-        (names : List (List ℕ)) × (keep_of bytes ≡ Says names)
+    ensures value { IfOk result (λ set. OfBytes (R.remaining reader) (λ bytes. (names : List (List ℕ)) × (keep_of bytes ≡ Says names)
         × ((name : List ℕ) → holds set name ≡ holds names name))) }
     ensures bad_line { IfBadLine result keep_of (R.remaining reader) }
     ensures why { IsErrAnd result IsBadLine → IsSome told.new.why }

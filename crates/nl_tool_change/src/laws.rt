@@ -13,8 +13,7 @@ use nl_folder::Folder;
 
 /// `damage` prints nothing of a log exactly if `check` counts no skipped line and no torn byte.
 pub fn damage_is_what_check_counts()
-    ensures { (bytes text : List ℕ) → damage_text_of bytes ≡ Some text
-        → (text ≡ []) ↔ ((skipped_count bytes ≡ 0) × (torn_len bytes ≡ 0)) }
+    ensures { (bytes text : List ℕ) → damage_text_of bytes ≡ Some text → (text ≡ []) ↔ ((skipped_count bytes ≡ 0) × (torn_len bytes ≡ 0)) }
 {}
 
 pub fn a_repaired_log_has_no_damage()

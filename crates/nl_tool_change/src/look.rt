@@ -13,8 +13,7 @@ use nl_versions::{LogVersion, first_line_in};
 /// The version that is asked for, or else the one that the log's first line names. The folder stays as it is, and isn't looked at if 5 is
 /// asked for.
 pub fn look_for<F: Folder>(asked: Option<LogVersion>, folder: F) -> (F, LogResult<LogVersion>)
-    ensures looks { Looks asked (folder_view F.Folder folder) (folder_view F.Folder result.0)
-        result.1 }
+    ensures looks { Looks asked (folder_view F.Folder folder) (folder_view F.Folder result.0) result.1 }
 {
     if asked == Some(LogVersion::Five) {
         return (folder, Ok(LogVersion::Five));

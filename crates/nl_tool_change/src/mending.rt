@@ -28,8 +28,7 @@ pub fn mend_on<F: Folder>(alloc: Global, place: FoundFolder<F>, names: &[Name]) 
 }
 
 fn mend_log<F: Folder>(alloc: Global, secret: Secret, folder: F, names: &[Name]) -> (F, ToolResult)
-    ensures call { MendsLog names.now result.1
-        (folder_view F.Folder folder) (folder_view F.Folder result.0) }
+    ensures call { MendsLog names.now result.1 (folder_view F.Folder folder) (folder_view F.Folder result.0) }
     ensures faults { IfErr result.1 IsRecordFault }
 {
     let mut log = Log::with_secret(alloc, secret, folder);

@@ -67,8 +67,7 @@ fn change_on<F: Folder, C: Change>(
     folder: F,
     change: &C,
 ) -> (F, Result<(), ToolFault>)
-    ensures call { ChangesLog (C.meaning change.now) result.1
-        (folder_view F.Folder folder) (folder_view F.Folder result.0) }
+    ensures call { ChangesLog (C.meaning change.now) result.1 (folder_view F.Folder folder) (folder_view F.Folder result.0) }
     ensures faults { IfErr result.1 (IsFaultBy (C.meaning change.now)) }
 {
     let mut log = Log::with_secret(alloc, secret, folder);

@@ -11,8 +11,7 @@ use std::alloc::Global;
 
 /// The folder stays as it is. It takes the memory of the bytes.
 pub fn read_log<F: Folder>(alloc: Global, folder: F) -> (F, Result<Vec<u8>, ToolFault>)
-    ensures reads { ReadsWhole (folder_view F.Folder folder) (folder_view F.Folder result.0)
-        result.1 }
+    ensures reads { ReadsWhole (folder_view F.Folder folder) (folder_view F.Folder result.0) result.1 }
 {
     let (folder, answer) = read_bytes(alloc, folder);
     match answer {
@@ -22,8 +21,7 @@ pub fn read_log<F: Folder>(alloc: Global, folder: F) -> (F, Result<Vec<u8>, Tool
 }
 
 pub(crate) fn read_bytes<F: Folder>(alloc: Global, folder: F) -> (F, Result<Vec<u8>, LogFault>)
-    ensures reads { ReadsLog (folder_view F.Folder folder) (folder_view F.Folder result.0)
-        result.1 }
+    ensures reads { ReadsLog (folder_view F.Folder folder) (folder_view F.Folder result.0) result.1 }
 {
     let mut reader = LogReader::new(folder);
     reader.begin_load();

@@ -18,8 +18,7 @@ pub fn entry_of<'a>(
 ) -> Result<EntryRef<'a>, ToolFault>
     ensures value { IfOk result (IsEntryOf start.now end.now mtime.now name.entry.now) }
     ensures accepts { OnOk result (GiveEntry start.now end.now mtime.now name.entry.now) }
-    ensures faults { IfErr result
-        (IsWordFault start.now end.now mtime.now name.entry.now told.new.number) }
+    ensures faults { IfErr result (IsWordFault start.now end.now mtime.now name.entry.now told.new.number) }
 {
     let start_ms = time_of(start, NumberOf::Start, told)?;
     let end_ms = time_of(end, NumberOf::End, told)?;

@@ -21,8 +21,7 @@ pub fn replay_to<R: Read + Drop, W: Write>(
     writer: &mut W,
     told: &mut Told,
 ) -> Result<(), ToolFault>
-    ensures prints { Prints (IsReplayText (R.remaining reader)) (W.contents writer.old)
-        (W.contents writer.new) result }
+    ensures prints { Prints (IsReplayText (R.remaining reader)) (W.contents writer.old) (W.contents writer.new) result }
     ensures why { IsErrAnd result IsBadLine → IsSome told.new.why }
     ensures faults { IfErr result IsReplayFault }
 {

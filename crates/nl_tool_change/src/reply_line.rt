@@ -32,8 +32,7 @@ pub fn append_reply(reply: Reply, out: &mut Vec<u8>) -> AllocResult
 }
 
 fn append_place(index: usize, out: &mut Vec<u8>) -> AllocResult
-    ensures ok { OnOk result (out.new.items
-        ≡ out.old.items ++ reply_line (Reply.Refused (LogFault.NegativeTime index))) }
+    ensures ok { OnOk result (out.new.items ≡ out.old.items ++ reply_line (Reply.Refused (LogFault.NegativeTime index))) }
     ensures unchanged { OnErr result (out.new.items ≡ out.old.items) }
     ensures room { vec_len out.old + MAX_REPLY_LINE ≤ vec_capacity out.old → IsOk result }
     ensures capacity { vec_capacity out.old ≤ vec_capacity out.new }

@@ -1,6 +1,6 @@
 //! Reading a script: what a folder in memory is told, and then the events.
-ghost use Rattle.std.specs.Prelude.{◌≡◌, ◌↔◌, ◌<◌, ◌++◌, ◌∷◌, ◌^◌, ℕ, [], pos, Some, length, IfErr, IfOk, IfSome, IsErr, IsErrAnd, IsErrOf, IsSome, OnOk};
-ghost use Rattle.std.specs.List.{All as Each, flat_map};
+ghost use Rattle.std.specs.Prelude.{◌≡◌, ◌↔◌, ◌<◌, ◌++◌, ◌∷◌, ◌^◌, ℕ, [], pos, Some, length, IfErr, IfOk, IfSome, IsErr, IsErrAnd, IsErrOf, IsSome, OnOk, flat_map};
+ghost use Rattle.std.specs.List.{All as Each};
 ghost use Rattle.nl_fields.specs.Digits.{IsDecimal};
 ghost use Rattle.nl_fields.specs.Fields.{HasNoTab};
 ghost use Rattle.nl_fields.specs.EntryLine.{IsEntryLine, line_of};
@@ -91,8 +91,7 @@ impl From<NameFault> for LineRefusal {
 
 /// It stops at the first bad line.
 pub fn read_script<R: Read + Drop>(alloc: Global, reader: R, told: &mut Told) -> ToolResult<Script>
-    ensures value { IfOk result (λ script.
-        OfBytes (R.remaining reader) (λ bytes. IsScript (file_lines bytes) script.events.items)) }
+    ensures value { IfOk result (λ script. OfBytes (R.remaining reader) (λ bytes. IsScript (file_lines bytes) script.events.items)) }
     ensures why { IsErrAnd result IsBadLine → IsSome told.new.why }
     ensures faults { IfErr result IsScriptFault }
 {
@@ -104,8 +103,7 @@ fn read_script_lines<S: Source>(
     source: &mut S,
     told: &mut Told,
 ) -> ToolResult<Script>
-    ensures value { IfOk result (λ script.
-        OfBytes (S.ahead source.old) (λ bytes. IsScript (file_lines bytes) script.events.items)) }
+    ensures value { IfOk result (λ script. OfBytes (S.ahead source.old) (λ bytes. IsScript (file_lines bytes) script.events.items)) }
     ensures why { IsErrAnd result IsBadLine → IsSome told.new.why }
     ensures faults { IfErr result IsScriptFault }
 {
@@ -137,8 +135,7 @@ fn take_line(
     script: &mut Script,
     told: &mut Told,
 ) -> ToolResult
-    ensures ok { OnOk result
-        (TakesScriptLine script.old.events.items script.new.events.items line.now) }
+    ensures ok { OnOk result (TakesScriptLine script.old.events.items script.new.events.items line.now) }
     ensures why { IsErrAnd result IsBadLine → IsSome told.new.why }
     ensures faults { IfErr result (IsFaultOfLine number) }
 {
@@ -249,13 +246,11 @@ fn word_named(name: &str) -> Option<Word>
 }
 
 fn read_event(alloc: Global, word: Word, rest: Option<&[u8]>) -> Result<Event, LineRefusal>
-    ensures line { IfOk result
-        (λ event. event_line event ≡ text_of_word word ++ behind_tab rest.entry) }
+    ensures line { IfOk result (λ event. event_line event ≡ text_of_word word ++ behind_tab rest.entry) }
     ensures some { IfOk result KeepsSome }
     ensures accepts { (event : Event) → word ≡ word_of_event event
         → behind_tab rest.entry ≡ fields_of_event event → IsReadable event → KeepsSome event → IfErr result LacksMemory }
-    ensures memory { IsErrOf result OutOfMemory
-        → HoldsNames (text_of_word word ++ behind_tab rest.entry) }
+    ensures memory { IsErrOf result OutOfMemory → HoldsNames (text_of_word word ++ behind_tab rest.entry) }
 {
     match (word, rest) {
         (Word::Open, names) => Ok(Event::Open(read_kept(alloc, names)?)),

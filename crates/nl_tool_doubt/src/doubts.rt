@@ -1,6 +1,5 @@
 //! The outputs of a log that can't be trusted, and the lines that say so.
-ghost use Rattle.std.specs.Prelude.{◌≡◌, ◌⊎◌, ◌++◌, ℕ, count_by, length, nat_lt, IfErr, IfOk, IsErrOf, OnOk};
-ghost use Rattle.std.specs.List.{flat_map};
+ghost use Rattle.std.specs.Prelude.{◌≡◌, ◌⊎◌, ◌++◌, ℕ, count_by, length, nat_lt, IfErr, IfOk, IsErrOf, OnOk, flat_map};
 ghost use Rattle.std.specs.Io.KnownBytes.{Appends, Keeps};
 ghost use Rattle.nl_table.specs.History.{logged, table};
 ghost use Rattle.nl_table.specs.Log.{log_of, NotALog, OtherVersion};

@@ -1,6 +1,5 @@
 //! Laws of doubt, each the contract of a function that does nothing.
-ghost use Rattle.std.specs.Prelude.{◌≡◌, ◌+◌, ◌≤◌, ℤ, List, Option, Some, None, true, false, int_lt, map, pos, if◌then◌else◌};
-ghost use Rattle.std.specs.List.{Contains};
+ghost use Rattle.std.specs.Prelude.{◌≡◌, ◌+◌, ◌≤◌, ℤ, List, Option, Some, None, true, false, int_lt, map, pos, if◌then◌else◌, Contains};
 ghost use Rattle.std.specs.Ordering.{int_eq};
 ghost use Rattle.nl_fields.specs.declared.entry.Entry.{Entry};
 ghost use Rattle.nl_builds.specs.declared.stamps.Stamps.{Stamps};
@@ -17,11 +16,9 @@ pub fn a_file_that_is_not_behind_mtime_agrees()
 /// A file is newer exactly if it is later than MTIME, and none is unsure.
 pub fn a_log_of_version_5_has_no_slack()
     ensures four { (ls : List Entry) (e : Entry) (time last : ℤ) → doubt_by Stamps.Unknown ls e time last
-        ≡ (if int_eq e.mtime (pos 0) then Some Doubt.NoTime
-        else if int_lt e.mtime last then Some Doubt.Newer else None) }
+        ≡ (if int_eq e.mtime (pos 0) then Some Doubt.NoTime else if int_lt e.mtime last then Some Doubt.Newer else None) }
     ensures five { (ls : List Entry) (e : Entry) (time last : ℤ) → doubt_by Stamps.OfEnd ls e time last
-        ≡ (if int_eq e.mtime (pos 0) then Some Doubt.NoTime
-        else if int_lt e.mtime last then Some Doubt.Newer else None) }
+        ≡ (if int_eq e.mtime (pos 0) then Some Doubt.NoTime else if int_lt e.mtime last then Some Doubt.Newer else None) }
 {}
 
 /// The build of a line began no later than its own moment, at the moment of a line of the log, and no more than 5 ms and a tick before
@@ -29,13 +26,11 @@ pub fn a_log_of_version_5_has_no_slack()
 pub fn the_moment_of_a_build()
     ensures late { (ls : List Entry) (e : Entry) → begun ls e ≤ m_of e }
     ensures of_a_line { (ls : List Entry) (e : Entry) → Contains ls e → Contains (map m_of ls) (begun ls e) }
-    ensures early { (ls : List Entry) (e : Entry) → Contains ls e → lo_of e ≤ m_of e
-        → lo_of e ≤ begun ls e + 5 + tick_of ls }
+    ensures early { (ls : List Entry) (e : Entry) → Contains ls e → lo_of e ≤ m_of e → lo_of e ≤ begun ls e + 5 + tick_of ls }
 {}
 
 /// It is later by 8 ms and a tick, and MTIME is when the command started.
 pub fn a_file_behind_its_command_is_newer()
     ensures { (ls : List Entry) (e : Entry) (time last : ℤ) → tells e ≡ true → int_lt e.mtime last ≡ true
-        → is_newer (tick_of ls) (ended (m_of e) e) (written last) ≡ true
-        → doubt_by Stamps.OfStart ls e time last ≡ Some Doubt.Newer }
+        → is_newer (tick_of ls) (ended (m_of e) e) (written last) ≡ true → doubt_by Stamps.OfStart ls e time last ≡ Some Doubt.Newer }
 {}

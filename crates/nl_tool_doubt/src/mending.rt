@@ -71,8 +71,7 @@ fn mend_doubted<D: Folder, W: Write>(
     how: How,
     writer: &mut W,
 ) -> (D, Result<Mended, ToolFault>)
-    ensures call { IsIn (D.disk folder) log.now
-        → Mends how log.now doubts.now (W.contents writer.old) (W.contents writer.new)
+    ensures call { IsIn (D.disk folder) log.now → Mends how log.now doubts.now (W.contents writer.old) (W.contents writer.new)
         result.1 (folder_view D.Folder folder) (folder_view D.Folder result.0) }
     ensures faults { IfErr result.1 IsMendFault }
 {
@@ -243,8 +242,7 @@ fn mend_said<D: Folder, W: Write>(
     said: &Said,
     writer: &mut W,
 ) -> (D, Result<(), ToolFault>)
-    ensures call { IsIn (D.disk folder) log.now
-        → MendsSaid log.now said.now (W.contents writer.old) (W.contents writer.new)
+    ensures call { IsIn (D.disk folder) log.now → MendsSaid log.now said.now (W.contents writer.old) (W.contents writer.new)
         result.1 (folder_view D.Folder folder) (folder_view D.Folder result.0) }
     ensures faults { IfErr result.1 IsMendFault }
 {
@@ -262,8 +260,7 @@ fn change_if_due<D: Folder>(
     log: &[u8],
     said: &Said,
 ) -> (D, Result<(), ToolFault>)
-    ensures call { said.now.is_due ≡ true → IsIn (D.disk folder) log.now
-        → MendsLogAs (version_of log.now) said.now.names.items result.1
+    ensures call { said.now.is_due ≡ true → IsIn (D.disk folder) log.now → MendsLogAs (version_of log.now) said.now.names.items result.1
         (folder_view D.Folder folder) (folder_view D.Folder result.0) }
     ensures stays { said.now.is_due ≡ false → (result.0 ≡ folder) × (result.1 ≡ Ok tt) }
     ensures faults { IfErr result.1 IsRecordFault }

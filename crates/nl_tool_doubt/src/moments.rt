@@ -1,6 +1,6 @@
 //! When the builds of a log's lines began, in whole milliseconds.
-ghost use Rattle.std.specs.Prelude.{◌≡◌, ◌<◌, ◌≤◌, ◌++◌, ◌^◌, IfOk, OnOk, map};
-ghost use Rattle.std.specs.List.{filter, list_all};
+ghost use Rattle.std.specs.Prelude.{◌≡◌, ◌<◌, ◌≤◌, ◌++◌, ◌^◌, IfOk, OnOk, map, filter};
+ghost use Rattle.std.specs.List.{list_all};
 ghost use Rattle.nl_builds.specs.Commands.{moment};
 ghost use Rattle.nl_tool_doubt.specs.Known.{end_span, line_of, start_span};
 ghost use Rattle.nl_tool_doubt.specs.Moments.{begun, is_sure, is_whole, length_of, lines_that_tell, nearest, tells, tick_of};

@@ -137,8 +137,7 @@ pub fn least_from(spans: &[Span], from: u64, own: u64) -> u64
 
 /// Each of `spans` has the greatest value up to it.
 pub fn greatest_up_to(spans: &[Span], to: u64) -> u64
-    ensures value { (ss : List Span) → Rises ss → spans.now ≡ sums 0 ss
-        → result ≡ greatest_of (within 0 to ss) }
+    ensures value { (ss : List Span) → Rises ss → spans.now ≡ sums 0 ss → result ≡ greatest_of (within 0 to ss) }
 {
     match spans.partition_point(|span| span.first <= to) {
         0 => 0,

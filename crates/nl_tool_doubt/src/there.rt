@@ -1,6 +1,5 @@
 //! What the files of a log's outputs are: which are there, and when each was written.
-ghost use Rattle.std.specs.Prelude.{◌≡◌, ◌++◌, ◌≤◌, ◌⊎◌, [], ℕ, List, length, IfErr, IfOk, IsErrOf, OnOk};
-ghost use Rattle.std.specs.List.{count_by, flat_map};
+ghost use Rattle.std.specs.Prelude.{◌≡◌, ◌++◌, ◌≤◌, ◌⊎◌, [], ℕ, List, length, IfErr, IfOk, IsErrOf, OnOk, count_by, flat_map};
 ghost use Rattle.nl_table.specs.Log.{log_of};
 ghost use Rattle.nl_tool_texts.specs.declared.fault.ToolFault.{ToolFault};
 ghost use Rattle.nl_tool_print.specs.Faults.{IfNotALog, IfOtherVersion, IsLogFault};
@@ -59,8 +58,7 @@ pub fn times_there<R: Read + Drop, F: OutputFiles>(
     reader: R,
     files: &F,
 ) -> Result<Vec<(Name, i64)>, ToolFault>
-    ensures given { IfOk result (λ times. AddsFor pair_by (R.remaining reader) (F.states files.now)
-        [] times.items) }
+    ensures given { IfOk result (λ times. AddsFor pair_by (R.remaining reader) (F.states files.now) [] times.items) }
     ensures not_a_log { IfNotALog result (λ bs. log_of (as_five bs)) (R.remaining reader) }
     ensures other_version { IfOtherVersion result (λ bs. log_of (as_five bs)) (R.remaining reader) }
     ensures faults { IfErr result IsLogFault }

@@ -20,8 +20,7 @@ pub fn check_to<R: Read + Drop, W: Write>(
     reader: R,
     writer: &mut W,
 ) -> Result<(), ToolFault>
-    ensures prints { Prints (IsTextAsRead check_text_of (R.remaining reader))
-        (W.contents writer.old) (W.contents writer.new) result }
+    ensures prints { Prints (IsTextAsRead check_text_of (R.remaining reader)) (W.contents writer.old) (W.contents writer.new) result }
     ensures not_a_log { IfNotALog result log_of (R.remaining reader) }
     ensures other_version { IfOtherVersion result log_of (R.remaining reader) }
     ensures faults { IfErr result IsLogFault }
@@ -38,8 +37,7 @@ pub fn check_log<R: Read + Drop, W: Write>(
     reader: R,
     writer: &mut W,
 ) -> Result<(), ToolFault>
-    ensures prints { Prints (IsReportFor asked (R.remaining reader)) (W.contents writer.old)
-        (W.contents writer.new) result }
+    ensures prints { Prints (IsReportFor asked (R.remaining reader)) (W.contents writer.old) (W.contents writer.new) result }
     ensures not_a_log { IfNotALog result (log_for asked) (R.remaining reader) }
     ensures other_version { IfOtherVersion result (log_for asked) (R.remaining reader) }
     ensures faults { IfErr result IsLogFault }

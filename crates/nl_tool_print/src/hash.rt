@@ -13,8 +13,7 @@ use std::io::Write;
 
 /// It writes the hash as a log spells it, and a newline.
 pub fn hash_to<W: Write>(alloc: Global, command: &[u8], writer: &mut W) -> Result<(), ToolFault>
-    ensures prints { Prints (IsHashText command.now) (W.contents writer.old)
-        (W.contents writer.new) result }
+    ensures prints { Prints (IsHashText command.now) (W.contents writer.old) (W.contents writer.new) result }
     ensures faults { IfErr result IsHashFault }
 {
     hash_for(alloc, LogVersion::Five, command, writer)
@@ -27,8 +26,7 @@ pub fn hash_for<W: Write>(
     command: &[u8],
     writer: &mut W,
 ) -> Result<(), ToolFault>
-    ensures prints { Prints (λ text. text ≡ hash_text_as version command.now)
-        (W.contents writer.old) (W.contents writer.new) result }
+    ensures prints { Prints (λ text. text ≡ hash_text_as version command.now) (W.contents writer.old) (W.contents writer.new) result }
     ensures faults { IfErr result IsHashFault }
 {
     let mut text = Vec::new(alloc);

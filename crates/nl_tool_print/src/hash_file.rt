@@ -24,8 +24,7 @@ pub fn hash_read<R: Read + Drop, W: Write>(
     reader: R,
     writer: &mut W,
 ) -> Result<(), ToolFault>
-    ensures prints { Prints (IsFileHashAs version (R.remaining reader)) (W.contents writer.old)
-        (W.contents writer.new) result }
+    ensures prints { Prints (IsFileHashAs version (R.remaining reader)) (W.contents writer.old) (W.contents writer.new) result }
     ensures faults { IfErr result IsHashFileFault }
 {
     let command = read_all(alloc, &mut ReadSource::new(reader))?;
@@ -35,8 +34,7 @@ pub fn hash_read<R: Read + Drop, W: Write>(
 /// All that the source has left. It takes the memory of that.
 pub fn read_all<S: Source>(alloc: Global, source: &mut S) -> Result<Vec<u8>, LoadFault>
     ensures value { IfOk result (λ all. IfSome (S.ahead source.old) (λ bytes. bytes ≡ all.items)) }
-    ensures cause { IsErrOf result LoadFault.Read
-        → FailedBetween (S.failures source.old) (S.failures source.new) }
+    ensures cause { IsErrOf result LoadFault.Read → FailedBetween (S.failures source.old) (S.failures source.new) }
     ensures refusals { IfErr result (λ why. (why ≡ LoadFault.Read) ⊎ (why ≡ LoadFault.OutOfMemory)) }
     ensures rises { S.failures source.old ≤ S.failures source.new }
     ensures relation { S.keeps source.old source.new }

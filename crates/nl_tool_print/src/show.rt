@@ -28,8 +28,7 @@ pub fn show_to<R: Read + Drop, W: Write>(
     reader: R,
     writer: &mut W,
 ) -> Result<(), ToolFault>
-    ensures prints { Prints (IsTextAsRead show_text_of (R.remaining reader)) (W.contents writer.old)
-        (W.contents writer.new) result }
+    ensures prints { Prints (IsTextAsRead show_text_of (R.remaining reader)) (W.contents writer.old) (W.contents writer.new) result }
     ensures not_a_log { IfNotALog result log_of (R.remaining reader) }
     ensures other_version { IfOtherVersion result log_of (R.remaining reader) }
     ensures faults { IfErr result IsLogFault }
@@ -65,10 +64,8 @@ pub fn write_lines<W: Write>(
     requires empty { piece.old.items ≡ [] }
     requires room { MAX_ENTRY_LINE ≤ vec_capacity piece.old }
     ensures capacity { vec_capacity piece.old ≤ vec_capacity piece.new }
-    ensures ok { OnOk result
-        (Appends (W.contents writer.old) (W.contents writer.new) (joined (map line_of table.now))) }
-    ensures prefix { OnErr result (AppendsPrefixOf (W.contents writer.old) (W.contents writer.new)
-        (joined (map line_of table.now))) }
+    ensures ok { OnOk result (Appends (W.contents writer.old) (W.contents writer.new) (joined (map line_of table.now))) }
+    ensures prefix { OnErr result (AppendsPrefixOf (W.contents writer.old) (W.contents writer.new) (joined (map line_of table.now))) }
     ensures faults { IfErr result (λ e. e ≡ ToolFault.Write) }
 {
     for place in 0..table.len() {
@@ -84,10 +81,8 @@ pub fn make_room<W: Write>(held: &mut Vec<u8>, writer: &mut W) -> Result<(), Too
     requires { MAX_ENTRY_LINE ≤ vec_capacity held.old }
     ensures room { OnOk result (vec_len held.new + MAX_ENTRY_LINE ≤ vec_capacity held.new) }
     ensures capacity { vec_capacity held.old ≤ vec_capacity held.new }
-    ensures moved { OnOk result (HoldsAllBut (W.contents writer.old)
-        (W.contents writer.new) held.old.items held.new.items) }
-    ensures prefix { OnErr result
-        (AppendsPrefixOf (W.contents writer.old) (W.contents writer.new) held.old.items) }
+    ensures moved { OnOk result (HoldsAllBut (W.contents writer.old) (W.contents writer.new) held.old.items held.new.items) }
+    ensures prefix { OnErr result (AppendsPrefixOf (W.contents writer.old) (W.contents writer.new) held.old.items) }
     ensures faults { IfErr result (λ e. e ≡ ToolFault.Write) }
 {
     if held.capacity() - held.len() >= MAX_ENTRY_LINE {

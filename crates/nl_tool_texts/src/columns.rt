@@ -58,12 +58,9 @@ fn append_row(
     found: &mut Vec<usize>,
     out: &mut Vec<u8>,
 ) -> AllocResult
-    requires found { found.old.items
-        ≡ widths (length found.old.items) (map (λ line. line.now) lines.now) }
-    ensures found { OnOk result (found.new.items
-        ≡ widths (length found.new.items) (map (λ line. line.now) lines.now)) }
-    ensures items { OnOk result
-        (out.new.items ≡ out.old.items ++ row_of most (map (λ line. line.now) lines.now) line.now) }
+    requires found { found.old.items ≡ widths (length found.old.items) (map (λ line. line.now) lines.now) }
+    ensures found { OnOk result (found.new.items ≡ widths (length found.new.items) (map (λ line. line.now) lines.now)) }
+    ensures items { OnOk result (out.new.items ≡ out.old.items ++ row_of most (map (λ line. line.now) lines.now) line.now) }
 {
     let count = count_fields(line);
     if found.len() != count {
@@ -73,8 +70,7 @@ fn append_row(
 }
 
 fn widths_of(alloc: Global, lines: &[&[u8]], count: usize) -> AllocResult<Vec<usize>>
-    ensures value { IfOk result
-        (λ found. found.items ≡ widths count (map (λ line. line.now) lines.now)) }
+    ensures value { IfOk result (λ found. found.items ≡ widths count (map (λ line. line.now) lines.now)) }
     ensures len { IfOk result (λ found. length found.items ≡ count) }
 {
     let mut found = Vec::new(alloc);
@@ -97,8 +93,7 @@ fn widest(lines: &[&[u8]], count: usize, place: usize) -> usize
 }
 
 fn append_cells(most: usize, widths: &[usize], line: &[u8], out: &mut Vec<u8>) -> AllocResult
-    ensures items { OnOk result
-        (out.new.items ≡ out.old.items ++ cells most widths.now line.now) }
+    ensures items { OnOk result (out.new.items ≡ out.old.items ++ cells most widths.now line.now) }
 {
     let last = widths.len().saturating_sub(1);
     let mut room = most;

@@ -9,8 +9,7 @@ use std::io::Write;
 /// It stops at the first write that fails or takes no byte. A write that was interrupted has failed.
 pub fn write_out<W: Write>(text: &[u8], writer: &mut W) -> Result<(), ToolFault>
     ensures ok { OnOk result (Appends (W.contents writer.old) (W.contents writer.new) text.now) }
-    ensures prefix { OnErr result
-        (AppendsPrefixOf (W.contents writer.old) (W.contents writer.new) text.now) }
+    ensures prefix { OnErr result (AppendsPrefixOf (W.contents writer.old) (W.contents writer.new) text.now) }
     ensures faults { IfErr result (λ e. e ≡ ToolFault.Write) }
 {
     let mut rest = text;

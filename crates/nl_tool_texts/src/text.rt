@@ -1,6 +1,5 @@
 //! Texts that are appended part by part.
-ghost use Rattle.std.specs.Prelude.{◌≡◌, ◌++◌, IsTrue, OnOk, map};
-ghost use Rattle.std.specs.List.{All};
+ghost use Rattle.std.specs.Prelude.{◌≡◌, ◌++◌, IsTrue, OnOk, map, All};
 ghost use Rattle.nl_tool_texts.specs.Escape.{IsBare};
 ghost use Rattle.nl_tool_texts.specs.Texts.{change_text, line, part_text, parts_text, rest_text, sign, time_text, told_moment, took_text, two_text};
 

@@ -14,10 +14,8 @@ const FULL: usize = 16_384;
 /// It writes nothing before a piece is full.
 pub fn write_full<W: Write>(held: &mut Vec<u8>, writer: &mut W) -> Result<(), ToolFault>
     ensures few { OnOk result (length held.new.items < 16384) }
-    ensures moved { OnOk result (HoldsAllBut (W.contents writer.old)
-        (W.contents writer.new) held.old.items held.new.items) }
-    ensures prefix { OnErr result
-        (AppendsPrefixOf (W.contents writer.old) (W.contents writer.new) held.old.items) }
+    ensures moved { OnOk result (HoldsAllBut (W.contents writer.old) (W.contents writer.new) held.old.items held.new.items) }
+    ensures prefix { OnErr result (AppendsPrefixOf (W.contents writer.old) (W.contents writer.new) held.old.items) }
     ensures faults { IfErr result (λ e. e ≡ ToolFault.Write) }
 {
     if held.len() < FULL {

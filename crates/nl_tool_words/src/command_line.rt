@@ -29,10 +29,8 @@ pub struct CommandLine<'a> {
 /// Help and the version of the program are an `Err` too: its text is what was asked for.
 pub fn read_words<'a>(alloc: Global, words: &'a [String]) -> Result<CommandLine<'a>, Error>
     ensures value { IfOk result (λ line. IsSaid line.words (entered_of (map string_bytes words.entry.now))) }
-    ensures version { IfOk result (λ line.
-        IsAsked line.version (given_in version_id (entered_of (map string_bytes words.entry.now)))) }
-    ensures verbose { IfOk result (λ line. line.verbose
-        ≡ is_flagged (codes "verbose") (entered_of (map string_bytes words.entry.now))) }
+    ensures version { IfOk result (λ line. IsAsked line.version (given_in version_id (entered_of (map string_bytes words.entry.now)))) }
+    ensures verbose { IfOk result (λ line. line.verbose ≡ is_flagged (codes "verbose") (entered_of (map string_bytes words.entry.now))) }
     ensures missing_ok { IfOk result (λ line. line.missing_ok
         ≡ is_flagged (codes "missing-ok") (entered_of (map string_bytes words.entry.now))) }
     ensures tabs { IfOk result (λ line. line.tabs ≡ is_flagged (codes "tabs") (entered_of (map string_bytes words.entry.now))) }

@@ -15,8 +15,7 @@ pub struct VersionSource<S> {
 
 impl<S: Source> VersionSource<S> {
     pub fn new(version: LogVersion, source: S) -> Self
-        ensures ahead { ⟦<VersionSource<S> as Source>⟧.ahead result
-            ≡ option_map (as_version version) (S.ahead source) }
+        ensures ahead { ⟦<VersionSource<S> as Source>⟧.ahead result ≡ option_map (as_version version) (S.ahead source) }
         ensures failures { ⟦<VersionSource<S> as Source>⟧.failures result ≡ S.failures source }
     {
         VersionSource {
