@@ -1,10 +1,11 @@
 //! The events of a trace.
-ghost use Rattle.std.specs.Prelude.{◌≡◌, ◌<◌, ◌^◌, ◌++◌, ◌∷◌, List, IfOk, OnOk, string_bytes};
+ghost use Rattle.std.specs.Prelude.{◌≡◌, ◌<◌, ◌^◌, ◌++◌, ◌∷◌, List, IfOk, IsTrue, OnOk, All, string_bytes};
 ghost use Rattle.nl_reports.specs.Events.{args_of, build_event, build_name, command_event, event_text, running_event, shown};
-ghost use Rattle.nl_reports.specs.Jobs.{seen};
+ghost use Rattle.nl_reports.specs.Jobs.{first_name, seen};
 ghost use Rattle.nl_reports.specs.Moments.{AreMoments};
 ghost use Rattle.nl_reports.specs.Spans.{IsEarly};
 ghost use Rattle.nl_reports.specs.declared.span.Span.{Span};
+ghost use Rattle.nl_tool_texts.specs.Escape.{IsBare};
 
 use crate::job::Job;
 use crate::moments::{Moments, Near};
@@ -69,18 +70,22 @@ pub(crate) fn append_command(
     let dur = job.span.time() * 1000;
     let tid = lane + 1;
     let ts = job.span.began.saturating_sub(build.began) * 1000;
+    let name = job.name();
+    let is_bare = is_bare(name);
     append(b",{\"args\":", out)?;
-    append_args(job, out)?;
+    append_args(is_bare, job, out)?;
     append_with(b",\"dur\":", dur, out)?;
     append(b",\"name\":", out)?;
-    append_shown(job.name(), out)?;
+    append_shown(is_bare, name, out)?;
     append_with(b",\"ph\":\"X\",\"pid\":", number, out)?;
     append_with(b",\"tid\":", tid, out)?;
     append_with(b",\"ts\":", ts, out)?;
     append(b"}", out)
 }
 
-fn append_args(job: &Job, out: &mut Vec<u8>) -> AllocResult
+// The name of its first output is looked at by the caller.
+fn append_args(is_first_bare: bool, job: &Job, out: &mut Vec<u8>) -> AllocResult
+    requires bare { IsTrue is_first_bare → All IsBare (first_name job.now.outputs.now) }
     ensures items { OnOk result (out.new.items ≡ out.old.items ++ event_text (args_of (seen job.now))) }
 {
     append(b"{\"hash\":\"", out)?;
@@ -88,18 +93,24 @@ fn append_args(job: &Job, out: &mut Vec<u8>) -> AllocResult
     append(b"\",\"outputs\":[", out)?;
     let mut comma: &[u8] = b"";
     for entry in job.outputs {
+        let is_bare = if comma.is_empty() {
+            is_first_bare
+        } else {
+            is_bare(entry.name())
+        };
         append(comma, out)?;
-        append_shown(entry.name(), out)?;
+        append_shown(is_bare, entry.name(), out)?;
         comma = b",";
     }
     append(b"]}", out)
 }
 
 // A name as JSON, with U+FFFD for what isn't UTF-8.
-fn append_shown(name: &[u8], out: &mut Vec<u8>) -> AllocResult
+fn append_shown(is_bare: bool, name: &[u8], out: &mut Vec<u8>) -> AllocResult
+    requires bare { IsTrue is_bare → All IsBare name.now }
     ensures items { OnOk result (out.new.items ≡ out.old.items ++ event_text (shown name.now)) }
 {
-    if is_bare(name) {
+    if is_bare {
         append(b"\"", out)?;
         append(name, out)?;
         return append(b"\"", out);

@@ -1,11 +1,14 @@
-use Rattle.std.proofs.Common.{◌≡◌, ◌∙◌, ◌≤◌, ◌++◌, ◌∷◌, [], ℕ, List, ap, append_assoc, arith, codes, length, sym}
+use Rattle.std.proofs.Common.{◌≡◌, ◌∙◌, ◌≤◌, ◌++◌, ◌∷◌, [], ℕ, List, ap, append_assoc, arith, codes, length, subst, sym}
+use Rattle.std.specs.Prelude.{All}
+use Rattle.nl_tool_texts.specs.Escape.{IsBare}
 use Rattle.std.proofs.lemmas.List.{at_drop_all}
 use Rattle.std.proofs.lemmas.Result.{on_ok_weaker}
 use Rattle.nl_fields.specs.Digits.{digits_of}
 use Rattle.nl_reports.specs.Events.{event_text, shown}
 use Rattle.nl_reports.specs.Jobs.{seen}
-use Rattle.nl_reports.proofs.NameLemmas.{args_are, hash_told, names_text}
+use Rattle.nl_reports.proofs.NameLemmas.{args_are, first_bare, hash_told, names_text}
 use Rattle.nl_reports.proofs.events.append_args.Goals as goal
+use Rattle.nl_reports.proofs.events.append_args.Goals.{then-is_empty, else-is_empty}
 
 pub returns : goal.returns
 returns c =
@@ -25,3 +28,13 @@ returns c =
           ∙ ap (λ (l : List ℕ). l ++ 125 ∷ []) (told ∙ ap (λ (l : List ℕ). l ++ names_text 0 j.outputs) start) ∙ (simp append_assoc)
           ∙ ap (λ (l : List ℕ). old ++ l) (args_are j)) c.append-3.ensures.items;
     }
+
+pub append_shown-requires : goal.append_shown-requires
+append_shown-requires c = record {
+  bare = elim c.if-is_empty.branch [
+    then-is_empty w ↦ λ is. first_bare c.args.job.now.outputs.now c.loop-entry.entry-index c.loop-entry.comma.now _ c.entry-item.result c.entry-item.result
+        (c.requires.bare (sym w.is_bare-is ∙ is)) c.loop-entry.invariant.comma w.if-is_empty.ensures (omega (arith, c.loop-entry-test.true))
+        c.entry-item.is c.name-in-loop-entry.ensures.value
+    | else-is_empty w ↦ λ is. subst (All IsBare) (w.name.ensures.value ∙ sym c.name-in-loop-entry.ensures.value) (w.is_bare-is_bare.ensures.bare (sym w.is_bare-is ∙ is))
+  ];
+}

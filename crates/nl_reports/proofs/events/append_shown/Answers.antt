@@ -19,7 +19,7 @@ returns-then-is_bare c =
     record {
       items = on_ok_weaker c.append-then-is_bare-2.result (λ h. three_parts old c.append.new.out.items c.append-then-is_bare.new.out.items
           c.append-then-is_bare-2.new.out.items (34 ∷ []) name (34 ∷ []) c.in_ok-append.ensures.items c.in_ok-append-2.ensures.items h
-          ∙ ap (λ (l : List ℕ). old ++ l) (bare_quoted name (c.if-is_bare.ensures.bare refl))) c.append-then-is_bare-2.ensures.items;
+          ∙ ap (λ (l : List ℕ). old ++ l) (bare_quoted name (c.requires.bare c.if-is_bare.true))) c.append-then-is_bare-2.ensures.items;
     }
 
 pub returns : goal.returns
