@@ -1,9 +1,11 @@
 -- The first lane that is free, and the ends of the lanes.
-use Rattle.std.proofs.Common.{◌≡◌, ℕ, zero, suc, ◌+◌, ◌<◌, ◌≤◌, List, [], ◌∷◌, ◌++◌, length, get_or, set, refl, ap, arith}
+use Rattle.std.proofs.Common.{◌≡◌, ℕ, zero, suc, ◌+◌, ◌<◌, ◌≤◌, List, [], ◌∷◌, ◌++◌, length, get_or, set, refl, sym, ap, subst, inl, inr, arith, ◌∙◌}
+use Rattle.std.specs.Prelude.{slice_index}
+use Rattle.std.proofs.lemmas.Bool.Decides.{leb_tells}
 use Rattle.std.proofs.lemmas.Bool.{le-leb, lt-leb}
 use Rattle.nl_reports.specs.Spans.{closed_of}
 use Rattle.nl_reports.specs.declared.span.Span.{Span}
-use Rattle.nl_reports.specs.Lanes.{first_free, given, lanes_from}
+use Rattle.nl_reports.specs.Lanes.{AreBusy, first_free, given, lanes_from}
 
 -- the lanes before this one are busy at a moment
 abbrev pub AllBusy : ℕ → List ℕ → ℕ → Type 0
@@ -20,6 +22,21 @@ pub none_free : (at : ℕ) (ends : List ℕ) → AllBusy at ends (length ends) �
 none_free at [] busy = refl
 none_free at (e ∷ ends) busy =
     rw (lt-leb e at (busy 0 (omega arith))) (ap suc (none_free at ends (λ i before. busy (suc i) (omega (arith, before)))))
+
+-- the blocks before one are busy, and in it the lanes before a free one
+pub free_behind : (at from lane : ℕ) (ends now : List ℕ) → now ≡ ends → AreBusy at 0 from ends → AreBusy at from lane now
+    → slice_index now lane ≤ at → lane < length now → lane ≡ first_free at ends
+free_behind at from lane ends now same before after free there =
+    let first : AreBusy at 0 from now = subst (AreBusy at 0 from) (sym same) before in
+    let busy : AllBusy at now lane = λ i within. elim (leb_tells from i) [
+      | inl h ↦ after i h.1 within (omega (arith, within, there))
+      | inr h ↦ first i (omega arith) h.1 (omega (arith, within, there))
+    ] in
+    sym (free_at at now lane there busy free) ∙ ap (first_free at) same
+
+-- all blocks are busy
+pub none_behind : (at to : ℕ) (ends : List ℕ) → AreBusy at 0 to ends → length ends ≤ to → length ends ≡ first_free at ends
+none_behind at to ends busy all = sym (none_free at ends (λ i within. busy i (omega arith) (omega (arith, within, all)) within))
 
 pub given_new : (ends : List ℕ) (lane end : ℕ) → lane ≡ length ends → given lane end ends ≡ ends ++ end ∷ []
 given_new [] lane end is = refl

@@ -31,3 +31,7 @@ Begin cs = (i j : ℕ) (d : Span) → i ≤ j → j < length cs → (slice_index
 pub record AreLow (l : Lanes) : Type 0 where
   pub covered : length l.ends.items ≤ length l.least.items * 1024
   pub low : (i : ℕ) → i < length l.ends.items → slice_index l.least.items (i / 1024) ≤ slice_index l.ends.items i
+
+-- at a moment the lanes from one on, up to another, are busy
+abbrev pub AreBusy : ℕ → ℕ → ℕ → List ℕ → Type 0
+AreBusy at from to ends = (i : ℕ) → from ≤ i → i < to → i < length ends → at < slice_index ends i

@@ -1,7 +1,7 @@
 //! Lanes of commands: no two commands of a lane run at one time.
-ghost use Rattle.std.specs.Prelude.{◌≡◌, ◌++◌, ◌∷◌, [], ◌*◌, ◌/◌, ◌<◌, ◌≤◌, ℕ, get_or, length, slice_index, IfOk, OnOk};
+ghost use Rattle.std.specs.Prelude.{◌≡◌, ◌++◌, ◌∷◌, [], ◌+◌, ◌*◌, ◌<◌, ◌≤◌, ℕ, get_or, length, slice_index, IfOk, IfSome, IsNone, OnOk};
 ghost use Rattle.nl_reports.specs.Spans.{closed_of};
-ghost use Rattle.nl_reports.specs.Lanes.{AreLow, first_free, given, lanes};
+ghost use Rattle.nl_reports.specs.Lanes.{AreBusy, AreLow, first_free, given, lanes};
 
 use crate::span::Span;
 use nl_tool_texts::AllocResult;
@@ -43,22 +43,44 @@ impl Lanes {
         Ok(lane)
     }
 
-    fn first_free(&self, at: u64) -> usize
-        requires low { AreLow self.now }
-        ensures value { result ≡ first_free at self.now.ends.items }
+    // A block in which no lane is free has its least end anew, so it isn't looked through again before that.
+    fn first_free(&mut self, at: u64) -> usize
+        requires low { AreLow self.old }
+        ensures value { result ≡ first_free at self.old.ends.items }
+        ensures ends { self.new.ends ≡ self.old.ends }
+        ensures low { AreLow self.new }
     {
-        let mut lane = 0;
-        'lanes: while lane < self.ends.len() {
-            if lane % BLOCK == 0 && self.least[lane / BLOCK] > at {
-                lane = self.ends.len().min(lane + BLOCK);
-                continue 'lanes;
+        for block in 0..self.least.len() {
+            if self.least[block] <= at {
+                if let Some(lane) = self.free_in(block, at) {
+                    return lane;
+                }
             }
-            if self.ends[lane] <= at {
-                return lane;
-            }
-            lane += 1;
         }
-        lane
+        self.ends.len()
+    }
+
+    fn free_in(&mut self, block: usize, at: u64) -> Option<usize>
+        requires low { AreLow self.old }
+        requires block { block < length self.old.least.items }
+        ensures some { IfSome result (λ lane. (slice_index self.old.ends.items lane ≤ at) × (lane < length self.old.ends.items)) }
+        ensures first { IfSome result (λ lane. AreBusy at (block * 1024) lane self.old.ends.items) }
+        ensures none { IsNone result → AreBusy at (block * 1024) (block * 1024 + 1024) self.old.ends.items }
+        ensures ends { self.new.ends ≡ self.old.ends }
+        ensures blocks { length self.new.least.items ≡ length self.old.least.items }
+        ensures low { AreLow self.new }
+    {
+        let from = block.saturating_mul(BLOCK);
+        let to = self.ends.len().min(from.saturating_add(BLOCK));
+        let mut least = u64::MAX;
+        for lane in from..to {
+            if self.ends[lane] <= at {
+                return Some(lane);
+            }
+            least = least.min(self.ends[lane]);
+        }
+        self.least[block] = least;
+        None
     }
 
     fn give(&mut self, lane: usize, end: u64) -> AllocResult
@@ -71,11 +93,8 @@ impl Lanes {
             return self.open(end);
         }
         let block = lane / BLOCK;
-        let is_least = self.ends[lane] <= self.least[block] || end < self.least[block];
         self.ends[lane] = end;
-        if is_least {
-            self.least[block] = least_in(self.ends.as_slice(), block);
-        }
+        self.least[block] = self.least[block].min(end);
         Ok(())
     }
 
@@ -93,20 +112,6 @@ impl Lanes {
         self.ends.push(end)?;
         Ok(())
     }
-}
-
-// No lane of the block ends before this.
-fn least_in(ends: &[u64], block: usize) -> u64
-    requires block { block * 1024 < length ends.now }
-    ensures value { (i : ℕ) → i < length ends.now → i / 1024 ≡ block → result ≤ slice_index ends.now i }
-{
-    let from = block * BLOCK;
-    let to = ends.len().min(from + BLOCK);
-    let mut least = u64::MAX;
-    for i in from..to {
-        least = least.min(ends[i]);
-    }
-    least
 }
 
 /// The first lane if there is none at the place.

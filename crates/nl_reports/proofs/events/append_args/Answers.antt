@@ -32,7 +32,7 @@ returns c =
 pub append_shown-requires : goal.append_shown-requires
 append_shown-requires c = record {
   bare = elim c.if-is_empty.branch [
-    then-is_empty w ↦ λ is. first_bare c.args.job.now.outputs.now c.loop-entry.entry-index c.loop-entry.comma.now _ c.entry-item.result c.entry-item.result
+    | then-is_empty w ↦ λ is. first_bare c.args.job.now.outputs.now c.loop-entry.entry-index c.loop-entry.comma.now _ c.entry-item.result c.entry-item.result
         (c.requires.bare (sym w.is_bare-is ∙ is)) c.loop-entry.invariant.comma w.if-is_empty.ensures (omega (arith, c.loop-entry-test.true))
         c.entry-item.is c.name-in-loop-entry.ensures.value
     | else-is_empty w ↦ λ is. subst (All IsBare) (w.name.ensures.value ∙ sym c.name-in-loop-entry.ensures.value) (w.is_bare-is_bare.ensures.bare (sym w.is_bare-is ∙ is))

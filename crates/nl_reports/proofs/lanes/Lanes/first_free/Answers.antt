@@ -1,18 +1,15 @@
-use Rattle.std.proofs.Common.{◌≡◌, ◌∙◌, ◌<◌, ◌≤◌, length, get_or, sym, subst, arith}
-use Rattle.std.proofs.lemmas.List.{get_or_default}
-use Rattle.nl_reports.proofs.LaneLemmas.{AllBusy, free_at, none_free}
+use Rattle.std.proofs.Common.{◌≡◌, ◌∙◌, ◌*◌, ℕ, List, ap, arith, length}
+use Rattle.nl_reports.proofs.LaneLemmas.{free_behind, none_behind}
 use Rattle.nl_reports.proofs.lanes.Lanes.first_free.Goals as goal
 
-pub returns-then-index-at-2 : goal.returns-then-index-at-2
-returns-then-index-at-2 c =
-    let ends = c.args.self.now.ends.items in
-    let there : c.lanes.lane < length ends = omega (arith, c.lanes-test.true, c.len.ensures) in
-    let free : get_or ends c.lanes.lane 0 ≤ c.args.at =
-    omega (arith, c.if-index-at-2.true, c.index-in-lanes.ensures, get_or_default ends c.lanes.lane 0 c.index-in-lanes.result.now there) in
-    record { value = sym (free_at c.args.at ends c.lanes.lane there c.lanes.invariant.busy free) }
+pub returns-in-Some-clause-value : goal.returns-in-Some-clause-value
+returns-in-Some-clause-value c =
+    free_behind c.args.at (c.loop-block.block * 1024) c.in-Some.lane c.args.self.now.ends.items c.loop-block.self.ends.items
+    (λ i. (c.loop-block.invariant.ends i).items) c.loop-block.invariant.busy c.in-Some.ensures.first c.in-Some.ensures.some.0 c.in-Some.ensures.some.1
 
-pub returns : goal.returns
-returns c =
-    let ends = c.args.self.now.ends.items in
-    let all : c.lanes.lane ≡ length ends = omega (arith, c.lanes-test.false, c.len.ensures, c.lanes.invariant.within) in
-    record { value = all ∙ sym (none_free c.args.at ends (subst (AllBusy c.args.at ends) all c.lanes.invariant.busy)) }
+pub returns-clause-value : goal.returns-clause-value
+returns-clause-value c =
+    let now : c.len.result ≡ length c.loop-block.self.ends.items = omega (arith, c.len.ensures) in
+    now ∙ ap (λ (l : List ℕ). length l) (λ i. (c.loop-block.invariant.ends i).items)
+    ∙ none_behind c.args.at (c.loop-block.block * 1024) c.args.self.now.ends.items c.loop-block.invariant.busy
+    (omega (arith, c.loop-block-test.false, c.loop-block.auto.block-end, c.len-block-end.ensures, c.requires.low.covered))

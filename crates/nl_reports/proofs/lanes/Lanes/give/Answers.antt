@@ -8,12 +8,7 @@ returns-then-lane-len-clause-ends c =
     let new : c.args.lane ≡ length c.args.self.now.ends.items = omega (arith, c.if-lane-len.true, c.len.ensures) in
     on_ok_weaker c.open.result (λ is. is ∙ sym (given_new c.args.self.now.ends.items c.args.lane c.args.end new)) c.open.ensures.ends
 
-pub returns-then-is_least-clause-ends : goal.returns-then-is_least-clause-ends
-returns-then-is_least-clause-ends c =
-    let within : c.args.lane < length c.args.self.now.ends.items = omega (arith, c.if-lane-len.false, c.len.ensures, c.requires.lane) in
-    sym (given_old c.args.self.now.ends.items c.args.lane c.args.end within)
-
-pub returns-else-is_least-clause-ends : goal.returns-else-is_least-clause-ends
-returns-else-is_least-clause-ends c =
+pub returns-clause-ends : goal.returns-clause-ends
+returns-clause-ends c =
     let within : c.args.lane < length c.args.self.now.ends.items = omega (arith, c.if-lane-len.false, c.len.ensures, c.requires.lane) in
     sym (given_old c.args.self.now.ends.items c.args.lane c.args.end within)
