@@ -152,8 +152,7 @@ fn add_build<'a>(
     ensures one { OnOk result (All IsOfOne all.new.rows.items) }
 {
     let jobs = jobs_of(alloc, from, number)?;
-    let spans = spans_of(alloc, jobs.as_slice())?;
-    let shares = Shares::of(alloc, spans.as_slice())?;
+    let shares = Shares::of(alloc, spans_of(alloc, jobs.as_slice())?.as_slice())?;
     let numbers = numbers_of(from, number, jobs.as_slice());
     all.totals = with_numbers(&all.totals, &numbers, &shares);
     push_rows(jobs.as_slice(), &shares, &mut all.rows)
