@@ -1,6 +1,6 @@
 //! What `builds` tells at a terminal.
 ghost use Rattle.std.specs.Prelude.{◌≡◌, ◌<◌, ◌++◌, List, ℕ, IfOk, OnOk, length};
-ghost use Rattle.nl_reports.specs.BuildsTable.{AreRows, IsBegun, IsBuildsScreen, IsRow, IsShownBy, date_text, heading_for, moment_of, row_text};
+ghost use Rattle.nl_reports.specs.BuildsTable.{AreRows, IsBegun, IsBuildsScreen, IsRow, IsShownBy, date_text, moment_of, row_text};
 ghost use Rattle.nl_reports.specs.Jobs.{told};
 
 use crate::builds_text::border_word;
@@ -23,22 +23,17 @@ pub fn builds_screen(alloc: Global, zone: &TimeZone, from: &Builds) -> AllocResu
 {
     let rows = rows_of(alloc, zone, from)?;
     let mut lines = Vec::new(alloc);
-    lines.extend_from_slice(heading_for(zone))?;
-    lines.extend_from_slice(rows.as_slice())?;
-    Ok(lines)
-}
-
-fn heading_for(zone: &TimeZone) -> &'static [u8]
-    ensures { result.now ≡ heading_for zone.now }
-{
-    match zone {
+    let heading: &[u8] = match zone {
         TimeZone::UTC | TimeZone::Unknown => {
             b"Build\tBegan (UTC)\tElapsed\tCommands\tOutputs\tKnown\n"
         }
         TimeZone::Fixed(_) | TimeZone::Posix(_) | TimeZone::Tzif(_) => {
             b"Build\tBegan\tElapsed\tCommands\tOutputs\tKnown\n"
         }
-    }
+    };
+    lines.extend_from_slice(heading)?;
+    lines.extend_from_slice(rows.as_slice())?;
+    Ok(lines)
 }
 
 fn rows_of(alloc: Global, zone: &TimeZone, from: &Builds) -> AllocResult<Vec<u8>>

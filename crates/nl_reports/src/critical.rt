@@ -2,7 +2,7 @@
 ghost use Rattle.std.specs.Prelude.{◌≡◌, ◌<◌, ◌≤◌, ◌+◌, ◌^◌, ◌++◌, ℕ, List, Some, IfOk, IfSome, IsFalse, IsTrue, OnOk, get_or, length, map, option_and_then, option_map, All, sum_by};
 ghost use Rattle.nl_reports.specs.Critical.{IsCritical, IsFoundPath, any_named, lacking, lacking_line, path_head, ran_line, told_path, took_time};
 ghost use Rattle.nl_reports.specs.Found.{AreFound, IsFound, in_plan};
-ghost use Rattle.nl_reports.specs.Gains.{half_ran, halved, span_if};
+ghost use Rattle.nl_reports.specs.Gains.{half_ran, halved};
 ghost use Rattle.nl_reports.specs.GraphText.{HeldNode, seen_graph};
 ghost use Rattle.nl_reports.specs.Jobs.{Job as SeenJob, seen};
 ghost use Rattle.nl_reports.specs.Paths.{Graph};
@@ -417,27 +417,20 @@ impl<'g, 'a> Reaches<'g, 'a> {
         ensures items { OnOk result (map ran_seen commands.new.items ≡ map ran_seen commands.old.items ++ took_time (ran_in self.now node)) }
     {
         match self.ran_at(node) {
-            Some(ran) => push_long(ran, commands),
-            None => Ok(()),
+            Some(ran) if ran.span.time() > 0 => commands.push(ran)?,
+            _ => {}
         }
+        Ok(())
     }
-}
-
-fn push_long<'a>(ran: Ran<'a>, commands: &mut Vec<Ran<'a>>) -> AllocResult
-    ensures items { OnOk result (map ran_seen commands.new.items ≡ map ran_seen commands.old.items ++ took_time (Some (ran_seen ran.entry))) }
-{
-    if ran.span.time() == 0 {
-        return Ok(());
-    }
-    commands.push(ran)?;
-    Ok(())
 }
 
 fn halved<'a>(found: Option<Ran<'a>>, place: usize) -> Option<Ran<'a>>
     ensures value { option_map ran_seen result ≡ option_map (half_ran place) (option_map ran_seen found.entry) }
 {
     let ran = found?;
-    let span = span_if(ran.place == place, ran.span);
+    let ended = ran.span.began + ran.span.time() / 2;
+    let half = Span { ended, ..ran.span };
+    let span = if ran.place == place { half } else { ran.span };
     Some(Ran { span, ..ran })
 }
 
@@ -447,11 +440,4 @@ fn planned<'a>(found: Option<Ran<'a>>, plan: &[Job]) -> Option<Ran<'a>>
     let ran = found?;
     let span = plan.get(ran.place)?.span;
     Some(Ran { span, ..ran })
-}
-
-fn span_if(half: bool, span: Span) -> Span
-    ensures { result ≡ span_if half span }
-{
-    let ended = span.began + span.time() / 2;
-    if half { Span { ended, ..span } } else { span }
 }

@@ -1,7 +1,7 @@
 //! Where things stand in a picture, and how moments are told.
 ghost use Rattle.std.specs.Prelude.{◌≡◌, ◌<◌, ◌≤◌, ◌^◌, ◌++◌, OnOk, All};
 ghost use Rattle.nl_reports.specs.Spans.{IsEarly};
-ghost use Rattle.nl_reports.specs.Frame.{IsFrame, across, first_began, foot_of, frame_of, height, is_named, last_closed, line_at, pitch, seconds, top_of, x_at, x_of, y_at};
+ghost use Rattle.nl_reports.specs.Frame.{IsFrame, first_began, foot_of, frame_of, height, is_named, last_closed, line_at, pitch, seconds, top_of, x_at, x_of, y_at};
 
 use crate::span::Span;
 use nl_tool_texts::{AllocResult, append_with};
@@ -29,22 +29,13 @@ impl Frame {
         }
     }
 
-    // In tenths of a pixel, as all places and sizes in a picture.
-    fn across(&self, ms: u64) -> u64
-        requires early { ms < 2 ^ 32 }
-        ensures value { result ≡ across self.now ms }
-        ensures bound { result ≤ 14400 }
-    {
-        (ms * 14400 / self.wall.max(1)).min(14400)
-    }
-
-    /// `ms` counts from the beginning of the build.
+    /// In tenths of a pixel, as all places and sizes in a picture. `ms` counts from the beginning of the build.
     pub(crate) fn x_of(&self, ms: u64) -> u64
         requires early { ms < 2 ^ 32 }
         ensures value { result ≡ x_of self.now ms }
         ensures bound { result ≤ 15400 }
     {
-        1000 + self.across(ms)
+        1000 + (ms * 14400 / self.wall.max(1)).min(14400)
     }
 
     pub(crate) fn x_at(&self, at: u64) -> u64

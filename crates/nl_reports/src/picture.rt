@@ -5,7 +5,7 @@ ghost use Rattle.nl_reports.specs.Frame.{IsFrame};
 ghost use Rattle.nl_reports.specs.GraphText.{seen_graph};
 ghost use Rattle.nl_reports.specs.Jobs.{seen, told};
 ghost use Rattle.nl_reports.specs.Moments.{AreMoments};
-ghost use Rattle.nl_reports.specs.Picture.{IsOutlined, IsPicture, bars, commands_word, end, head, known_by, known_in, known_line, legend, legend_kind, long_line, longest, name, outline, outlined, picture, start};
+ghost use Rattle.nl_reports.specs.Picture.{IsOutlined, IsPicture, bars, end, head, known_in, known_line, legend, legend_kind, long_line, longest, name, outline, outlined, picture, start};
 ghost use Rattle.nl_reports.specs.Reaches.{ran_seen, rans_of};
 ghost use Rattle.nl_reports.specs.Spans.{IsEarly, time_of};
 ghost use Rattle.nl_reports.specs.declared.span.Span.{Span};
@@ -115,13 +115,7 @@ fn known_in(scope: Scope, from: &Builds) -> Known
             builds: from.builds.len(),
         };
     }
-    known_by(scope, taken_in(scope, from))
-}
-
-fn known_by(scope: Scope, taken: Option<usize>) -> Known
-    ensures { result ≡ known_by scope taken }
-{
-    match (scope, taken) {
+    match (scope, taken_in(scope, from)) {
         (_, None) => Known::AsWritten,
         (Scope::All, Some(_)) => Known::SomeAgain,
         (Scope::Last | Scope::Numbered(_), Some(taken)) => Known::FoundAgain { taken },
@@ -297,18 +291,13 @@ fn append_name(frame: &Frame, times: &Times, commands: u64, out: &mut Vec<u8>) -
     ensures items { OnOk result (out.new.items ≡ out.old.items ++ name frame.now times.now commands) }
 {
     let tenths = times.total() * 10 / u128::from(frame.wall.max(1));
-    put!(out; {commands} [Part::Text(commands_word(commands))] [Part::Time(frame.wall)] b", "
-        {tenths / 10} b"." {tenths % 10} b" at a time")
-}
-
-fn commands_word(commands: u64) -> &'static [u8]
-    ensures { result.now ≡ commands_word commands }
-{
-    if commands == 1 {
+    let word: &[u8] = if commands == 1 {
         b" command in "
     } else {
         b" commands in "
-    }
+    };
+    put!(out; {commands} [Part::Text(word)] [Part::Time(frame.wall)] b", " {tenths / 10} b"."
+        {tenths % 10} b" at a time")
 }
 
 fn append_known(known: Known, out: &mut Vec<u8>) -> AllocResult

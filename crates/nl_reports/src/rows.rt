@@ -1,6 +1,6 @@
 //! Commands and kinds of commands, the largest first.
 ghost use Rattle.std.specs.Prelude.{◌≡◌, ◌<◌, ◌^◌, ◌++◌, map, take, OnOk, flat_map};
-ghost use Rattle.nl_reports.specs.Rows.{heading, list_key, list_line, list_lines, rank_key, rank_of, rank_told, screen_row, shown_name, told_row};
+ghost use Rattle.nl_reports.specs.Rows.{heading, list_key, list_line, list_lines, rank_of, rank_told, screen_row, shown_name, told_row};
 ghost use Rattle.nl_tool_texts.specs.Falling.{falling};
 
 use crate::lists::Lists;
@@ -118,19 +118,13 @@ fn append_row(
 fn append_key(listed: Listed, rank: Rank, commands: u128, lines: &mut Vec<u8>) -> AllocResult
     ensures items { OnOk result (lines.new.items ≡ lines.old.items ++ list_key listed rank commands) }
 {
-    let by = rank_key(rank);
+    let by: &[u8] = match rank {
+        Rank::Time => b"by-time\t",
+        Rank::Weight => b"by-weight\t",
+    };
     match listed {
         Listed::Commands => append(by, lines),
         Listed::Kinds => put!(lines; b"kinds-" [Part::Text(by)] {commands} b"\t"),
-    }
-}
-
-fn rank_key(rank: Rank) -> &'static [u8]
-    ensures { result.now ≡ rank_key rank }
-{
-    match rank {
-        Rank::Time => b"by-time\t",
-        Rank::Weight => b"by-weight\t",
     }
 }
 
