@@ -20,12 +20,13 @@ const LETTER: u64 = 70;
 
 const MOST: u64 = 22;
 
-/// Where a command stands that is too short for a bar: its lane, the pixel, and its kind.
+/// Where a command stands that is too short for a bar: its lane, the pixel, and its kind. It takes 16 bytes, because small ones are quickly
+/// sorted.
 #[derive(Clone, Copy, Drop)]
 pub struct Mark {
     pub lane: u64,
-    pub pixel: u64,
-    pub kind: u64,
+    pub pixel: u32,
+    pub kind: u32,
 }
 
 /// Appends the bar of a command in its lane; if it is too short for one, adds where it stands.
@@ -41,7 +42,7 @@ pub(crate) fn append_bar(
     ensures short { OnOk result (short.new.items ≡ short.old.items ++ marks frame.now (seen job.now, lane)) }
 {
     if width_of(frame, job) < NARROW {
-        let pixel = frame.x_at(job.span.began) / 10;
+        let pixel = (frame.x_at(job.span.began) / 10) as u32;
         let kind = kind_of(job);
         short.push(Mark { lane, pixel, kind })?;
         return Ok(());
@@ -69,7 +70,7 @@ fn width_of(frame: &Frame, job: &Job) -> u64
     frame.x_at(job.span.closed()).saturating_sub(x)
 }
 
-fn kind_of(job: &Job) -> u64
+fn kind_of(job: &Job) -> u32
     ensures value { result ≡ kind_of (seen job.now) }
 {
     place(work_of(job.name()))
@@ -87,7 +88,7 @@ fn append_rect(
     lane: u64,
     x: u128,
     width: u64,
-    kind: u64,
+    kind: u32,
     out: &mut Vec<u8>,
 ) -> AllocResult
     ensures items { OnOk result (out.new.items ≡ out.old.items ++ rect frame.now lane x width kind) }

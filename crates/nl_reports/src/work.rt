@@ -80,7 +80,7 @@ pub(crate) fn word(work: Work) -> &'static [u8]
     }
 }
 
-pub(crate) fn place(work: Work) -> u64
+pub(crate) fn place(work: Work) -> u32
     ensures value { result ≡ place work }
 {
     match work {
