@@ -43,6 +43,7 @@ fn last_entries<'a>(
         ≡ length (last_entries (map (λ n. n.now) waiting.now) (drop place entries.entry.items))) }
 {
     let mut later = names_of(alloc, secret, waiting)?;
+    later.reserve(entries.len())?;
     let mut left = Vec::with_capacity(alloc, entries.len())?;
     let mut behind = Vec::with_capacity(alloc, entries.len())?;
     let mut rest = entries;

@@ -14,7 +14,7 @@ use std::alloc::Global;
 pub(crate) const MOVES: usize = 16;
 
 // A place that is so near is found without a search.
-const STEPS: usize = 64;
+const STEPS: u32 = 64;
 
 /// Each list is in order.
 #[derive(Drop)]
@@ -87,35 +87,15 @@ pub(crate) fn up_to(moments: &[u64], near: usize, at: u64) -> usize
     ensures before { Rises moments.now → (k : ℕ) → k < result → slice_index moments.now k ≤ at }
     ensures after { Rises moments.now → (k : ℕ) → result ≤ k → k < length moments.now → at < slice_index moments.now k }
 {
-    let place = walk(moments, near, at);
-    if is_end(moments, place, at) {
-        return place;
+    let mut place = near.min(moments.len());
+    for _ in 0..STEPS {
+        if place < moments.len() && moments[place] <= at {
+            place += 1;
+        } else if place > 0 && at < moments[place - 1] {
+            place -= 1;
+        } else {
+            return place;
+        }
     }
     moments.partition_point(|m| *m <= at)
-}
-
-// Whether the moments up to this one end at the place.
-fn is_end(moments: &[u64], place: usize, at: u64) -> bool
-    requires within { place ≤ length moments.now }
-    ensures last { IsTrue result → 0 < place → slice_index moments.now (place - 1) ≤ at }
-    ensures first { IsTrue result → place < length moments.now → at < slice_index moments.now place }
-{
-    (place == 0 || moments[place - 1] <= at) && (place == moments.len() || at < moments[place])
-}
-
-// It takes some steps from a place to where the moments up to this one end.
-fn walk(moments: &[u64], from: usize, at: u64) -> usize
-    ensures within { result ≤ length moments.now }
-{
-    let near = from.min(moments.len());
-    let first = near.saturating_sub(STEPS);
-    let last = moments.len().min(near.saturating_add(STEPS));
-    let mut place = near;
-    'later: while place < last && moments[place] <= at {
-        place += 1;
-    }
-    'earlier: while place > first && at < moments[place - 1] {
-        place -= 1;
-    }
-    place
 }

@@ -4,18 +4,7 @@ use Rattle.std.proofs.lemmas.Bool.{leb-false, leb-true}
 use Rattle.std.proofs.lemmas.List.{get_or_default}
 use Rattle.std.proofs.lemmas.List.Sorted.{IsPartitionedBy-leb, IsPartitionPoint-from_clause}
 use Rattle.nl_reports.specs.SweepSteps.{Rises}
-use Rattle.nl_reports.proofs.MomentLemmas.{begins_after, ends_before}
 use Rattle.nl_reports.proofs.moments.up_to.Goals as goal
-
-pub returns-then-is_end : goal.returns-then-is_end
-returns-then-is_end c =
-    let moments = c.args.moments.now in
-    let place = c.walk-place.result in
-    record {
-      within = c.walk-place.ensures.within;
-      before = λ rise. ends_before moments place c.args.at rise c.walk-place.ensures.within (c.is_end.ensures.last c.if-is_end.true);
-      after = λ rise. begins_after moments place c.args.at rise (c.is_end.ensures.first c.if-is_end.true);
-    }
 
 pub returns : goal.returns
 returns c =
