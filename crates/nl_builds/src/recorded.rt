@@ -1,7 +1,7 @@
 //! Which entries are of commands: not those that stand for outputs while their command runs, nor those that stand again when it doesn't.
 ghost use Rattle.std.specs.Prelude.{◌≡◌, ◌++◌, ◌∷◌, [], filter, map, if◌then◌else◌, IfOk, OnOk};
 ghost use Rattle.nl_table.specs.Table.{entered_table, entry_named};
-ghost use Rattle.nl_builds.specs.Recorded.{any_intent, is_intent, is_of_none, is_some_equal, is_some_intent, is_withdrawn, name_of_new, recorded, stood_with, unfinished};
+ghost use Rattle.nl_builds.specs.Recorded.{any_intent, is_intent, is_of_none, is_some_equal, is_some_intent, name_of_new, recorded, stood_with, unfinished};
 
 use nl_fields::EntryRef;
 use nl_table::{Secret, Table};
@@ -24,27 +24,16 @@ pub fn keep_recorded<'a>(
     ensures entries { IfOk result (λ kept. kept.entries.items ≡ recorded entries.entry.items) }
     ensures unfinished { IfOk result (λ kept. map (λ n. n.now) kept.unfinished.items ≡ unfinished entries.entry.items) }
 {
-    if any_intent(entries.as_slice()) {
-        return recorded_among(alloc, secret, entries);
+    let mut names = Vec::new(alloc);
+    if !any_intent(entries.as_slice()) {
+        return Ok(Recorded {
+            entries,
+            unfinished: names,
+        });
     }
-    Ok(Recorded {
-        entries,
-        unfinished: Vec::new(alloc),
-    })
-}
-
-fn recorded_among<'a>(
-    alloc: Global,
-    secret: Secret,
-    entries: Vec<EntryRef<'a>>,
-) -> Result<Recorded<'a>, AllocError>
-    ensures entries { IfOk result (λ kept. kept.entries.items ≡ recorded entries.entry.items) }
-    ensures unfinished { IfOk result (λ kept. map (λ n. n.now) kept.unfinished.items ≡ unfinished entries.entry.items) }
-{
     let mut kept = Vec::new(alloc);
     let mut last = Table::with_secret(alloc, secret);
     let mut stood = Table::with_secret(alloc, secret);
-    let mut names = Vec::new(alloc);
     for entry in entries {
         take(entry, &mut last, &mut stood, &mut names, &mut kept)?;
     }
@@ -55,6 +44,7 @@ fn recorded_among<'a>(
     })
 }
 
+// `last` has the last entry of each name, and `stood` the last that is no intent.
 fn take<'a>(
     entry: EntryRef<'a>,
     last: &mut Table,
@@ -69,23 +59,19 @@ fn take<'a>(
     ensures kept { OnOk result (kept.new.items
         ≡ kept.old.items ++ (if is_of_none last.old stood.old entry.entry then [] else entry.entry ∷ [])) }
 {
-    push_new(&entry, last, names)?;
-    let is_of_none = is_of_none(last, stood, &entry);
-    last.enter(&entry)?;
-    enter_stood(&entry, stood)?;
-    push_unless(is_of_none, entry, kept)
-}
-
-fn push_new<'a>(
-    entry: &EntryRef<'a>,
-    last: &Table,
-    names: &mut Vec<&'a [u8]>,
-) -> Result<(), AllocError>
-    ensures items { OnOk result (map (λ n. n.now) names.new.items
-        ≡ map (λ n. n.now) names.old.items ++ name_of_new (entry_named last.now entry.now.name) entry.now) }
-{
-    if last.get(entry.name()).is_none() {
+    let was = last.get(entry.name());
+    if was.is_none() {
         names.push(entry.name())?;
+    }
+    let is_intent = is_intent(&entry);
+    let is_of_none = is_intent
+        || is_some_intent(&was) && is_some_equal(&stood.get(entry.name()), &entry);
+    last.enter(&entry)?;
+    if !is_intent {
+        stood.enter(&entry)?;
+    }
+    if !is_of_none {
+        kept.push(entry)?;
     }
     Ok(())
 }
@@ -95,41 +81,6 @@ fn keep_waiting(last: &Table, names: &mut Vec<&[u8]>)
     ensures items { names.new.items ≡ filter (λ n. is_some_intent (entry_named last.now n.now)) names.old.items }
 {
     names.retain(|name| is_some_intent(&last.get(name)));
-}
-
-// `last` has the last entry of each name, and `stood` the last that is no intent.
-fn is_of_none(last: &Table, stood: &Table, entry: &EntryRef) -> bool
-    ensures { result ≡ is_of_none last.now stood.now entry.now }
-{
-    is_intent(entry) || is_withdrawn(last, stood, entry)
-}
-
-fn push_unless<'a>(
-    is_of_none: bool,
-    entry: EntryRef<'a>,
-    kept: &mut Vec<EntryRef<'a>>,
-) -> Result<(), AllocError>
-    ensures items { OnOk result (kept.new.items ≡ kept.old.items ++ (if is_of_none then [] else entry.entry ∷ [])) }
-{
-    if !is_of_none {
-        kept.push(entry)?;
-    }
-    Ok(())
-}
-
-fn enter_stood(entry: &EntryRef, stood: &mut Table) -> Result<(), AllocError>
-    ensures ok { OnOk result (stood.new ≡ stood_with entry.now stood.old) }
-{
-    if is_intent(entry) {
-        return Ok(());
-    }
-    stood.enter(entry)
-}
-
-fn is_withdrawn(last: &Table, stood: &Table, entry: &EntryRef) -> bool
-    ensures { result ≡ is_withdrawn last.now stood.now entry.now }
-{
-    is_some_intent(&last.get(entry.name())) && is_some_equal(&stood.get(entry.name()), entry)
 }
 
 fn is_some_intent(entry: &Option<EntryRef>) -> bool

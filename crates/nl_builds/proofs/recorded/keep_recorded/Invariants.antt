@@ -2,7 +2,7 @@ use Rattle.std.proofs.Common.{◌≡◌, ◌++◌, [], List, map}
 use Rattle.nl_fields.specs.declared.entry.Entry.{Entry}
 use Rattle.nl_table.specs.Table.{all_entered_table, entry_names}
 use Rattle.nl_builds.specs.Recorded.{recorded, recorded_from}
-use Rattle.nl_builds.proofs.recorded.recorded_among.Given as goal
+use Rattle.nl_builds.proofs.recorded.keep_recorded.Given as goal
 
 abbrev pub invariant-loop-entry : goal.invariant-loop-entry
 invariant-loop-entry l = record {
