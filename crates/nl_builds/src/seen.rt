@@ -1,6 +1,6 @@
 //! What is known of a build so far, and where another begins.
 ghost use Rattle.std.specs.Prelude.{◌≡◌};
-ghost use Rattle.nl_builds.specs.Seen.{begun, better, differs_by, doubts, is_after, is_back, is_behind, is_mixed, is_moment_of, is_tied, mark, mark_behind, mark_by_moment, mark_written, only, past_by, told, with_command};
+ghost use Rattle.nl_builds.specs.Seen.{begun, differs_by, doubts, is_after, is_back, is_behind, is_moment_of, is_tied, mark, only, past_by, told, with_command};
 
 use crate::command::Command;
 use crate::moment::{AGREEMENT, ONE_MOMENT, SLACK, greatest, is_past, least, reaches};
@@ -98,20 +98,21 @@ impl Seen {
         ensures value { result ≡ with_command self stamps to is_doubtful command.now }
     {
         let is_tied = self.is_tied(command);
+        let one = Seen::begun(stamps, to, self.is_sure, self.past, command);
         Seen {
-            to,
-            is_sure: self.is_sure,
-            is_doubtful: self.is_doubtful || is_doubtful || !command.tells(),
-            began: better(stamps, self.began, told(stamps, self.past, command)),
-            past: self.past,
-            earliest: greatest(self.earliest, command.earliest()),
-            latest: least(self.latest, command.latest()),
-            top: greatest(self.top, command.latest()),
-            ended: self.ended.max(command.ended),
-            last: *command,
-            piece: greatest(only(is_tied, self.piece), command.earliest()),
+            is_doubtful: self.is_doubtful || is_doubtful || one.is_doubtful,
+            began: match stamps {
+                Stamps::OfStart => least(self.began, one.began),
+                Stamps::Unknown | Stamps::OfEnd => greatest(self.began, one.began),
+            },
+            earliest: greatest(self.earliest, one.earliest),
+            latest: least(self.latest, one.latest),
+            top: greatest(self.top, one.top),
+            ended: self.ended.max(one.ended),
+            piece: greatest(only(is_tied, self.piece), one.piece),
             pieces: least(self.pieces, only(!is_tied, self.piece)),
-            oldest: least(self.oldest, only(!command.has_waited, command.latest())),
+            oldest: least(self.oldest, one.oldest),
+            ..one
         }
     }
 
@@ -119,15 +120,16 @@ impl Seen {
     pub(crate) fn mark(&self, order: Order, stamps: Stamps, command: &Command) -> Mark
         ensures { result ≡ mark order stamps self.now command.now }
     {
-        match order {
-            Order::Written => self.mark_written(stamps, command),
-            Order::ByMoment => self.mark_by_moment(stamps, command),
+        if matches!(order, Order::ByMoment) {
+            return if self.last.is_manifest
+                || command.is_manifest
+                || self.is_behind(told(stamps, None, command))
+            {
+                Mark::Unsure
+            } else {
+                Mark::Inside
+            };
         }
-    }
-
-    fn mark_written(&self, stamps: Stamps, command: &Command) -> Mark
-        ensures { result ≡ mark_written stamps self.now command.now }
-    {
         if self.last.falls(command) || self.last.is_same(command) {
             return Mark::Sure;
         }
@@ -135,8 +137,15 @@ impl Seen {
             return Mark::Unsure;
         }
         let moment = told(stamps, self.past, command);
+        // By its moment another build had begun.
         if self.is_behind(moment) {
-            return self.mark_behind(stamps, command);
+            return if stamps.is_start() && self.is_behind(command.earliest()) {
+                Mark::Sure
+            } else if self.is_tied(command) {
+                Mark::Doubtful
+            } else {
+                Mark::Unsure
+            };
         }
         // A command of the hash of the one before it may be that one again.
         let hides = stamps.is_start() && differs_by(AGREEMENT, self.began, moment);
@@ -147,42 +156,12 @@ impl Seen {
         }
     }
 
-    // By the command's moment another build had begun.
-    fn mark_behind(&self, stamps: Stamps, command: &Command) -> Mark
-        ensures { result ≡ mark_behind stamps self.now command.now }
-    {
-        if stamps.is_start() && self.is_behind(command.earliest()) {
-            Mark::Sure
-        } else if self.is_tied(command) {
-            Mark::Doubtful
-        } else {
-            Mark::Unsure
-        }
-    }
-
-    fn mark_by_moment(&self, stamps: Stamps, command: &Command) -> Mark
-        ensures { result ≡ mark_by_moment stamps self.now command.now }
-    {
-        if self.last.is_manifest
-            || command.is_manifest
-            || self.is_behind(told(stamps, None, command))
-        {
-            Mark::Unsure
-        } else {
-            Mark::Inside
-        }
-    }
-
     // By this moment another build had begun, behind the end of this one.
     fn is_behind(&self, moment: Option<u64>) -> bool
         ensures { result ≡ is_behind self.now moment }
     {
-        match (self.began, moment) {
-            (Some(began), Some(at)) => {
-                is_past(SLACK, began, at) && reaches(began, self.ended, at)
-            }
-            _ => false,
-        }
+        self.began.zip(moment).is_some_and(|(began, at)| is_past(SLACK, began, at)
+            && reaches(began, self.ended, at))
     }
 
     // It, or one behind it in its row, waited for one of the row before it.
@@ -205,15 +184,11 @@ impl Seen {
     pub(crate) fn doubts(&self, stamps: Stamps, early: bool) -> bool
         ensures { result ≡ doubts stamps early self.now }
     {
-        self.is_doubtful || stamps.is_end() && self.is_mixed(early)
-    }
-
-    // Not all of it tells its moment.
-    fn is_mixed(&self, early: bool) -> bool
-        ensures { result ≡ is_mixed early self.now }
-    {
-        differs_by(ONE_MOMENT, least(self.pieces, self.piece), self.earliest)
-            || early && differs_by(ONE_MOMENT, self.oldest, self.earliest)
+        // If MTIME is of the end, not all of it may tell its moment.
+        self.is_doubtful
+            || stamps.is_end()
+                && (differs_by(ONE_MOMENT, least(self.pieces, self.piece), self.earliest)
+                    || early && differs_by(ONE_MOMENT, self.oldest, self.earliest))
     }
 
     /// It can't stand behind a build with this earliest end.
@@ -238,20 +213,15 @@ fn only(is_so: bool, moment: Option<u64>) -> Option<u64>
 fn differs_by(much: u64, from: Option<u64>, to: Option<u64>) -> bool
     ensures { result ≡ differs_by much from to }
 {
-    match (from, to) {
-        (Some(x), Some(y)) => is_past(much, x, y),
-        _ => false,
-    }
+    from.zip(to).is_some_and(|(x, y)| is_past(much, x, y))
 }
 
 // A moment isn't before the end, or one of the two isn't known.
 fn is_after(end: Option<Past>, moment: Option<u64>) -> bool
     ensures { result ≡ is_after end moment }
 {
-    match (end, moment) {
-        (Some(past), Some(at)) => reaches(past.began, past.ended, at),
-        _ => true,
-    }
+    end.zip(moment)
+        .is_none_or(|(past, at)| reaches(past.began, past.ended, at))
 }
 
 // The build with this end began at this moment, and took long enough.
@@ -274,14 +244,5 @@ fn told(stamps: Stamps, past: Option<Past>, command: &Command) -> Option<u64>
         Stamps::OfStart if command.tells() => command.up,
         Stamps::OfEnd if is_after(past, command.latest()) => command.earliest(),
         _ => None,
-    }
-}
-
-fn better(stamps: Stamps, a: Option<u64>, b: Option<u64>) -> Option<u64>
-    ensures { result ≡ better stamps a b }
-{
-    match stamps {
-        Stamps::OfStart => least(a, b),
-        Stamps::Unknown | Stamps::OfEnd => greatest(a, b),
     }
 }

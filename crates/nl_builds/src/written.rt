@@ -1,9 +1,9 @@
 //! The builds of commands, one behind another.
 ghost use Rattle.std.specs.Prelude.{◌≡◌, ◌+◌, ◌<◌, ◌^◌, length, IfOk, None};
-ghost use Rattle.nl_builds.specs.Builds.{first_back, past_in, walk};
+ghost use Rattle.nl_builds.specs.Builds.{first_back, walk};
 
 use crate::command::Command;
-use crate::seen::{Mark, Order, Past, Seen};
+use crate::seen::{Mark, Order, Seen};
 use crate::stamps::Stamps;
 use std::alloc::{AllocError, Global};
 
@@ -30,7 +30,11 @@ pub(crate) fn walk(
         let mark = current.mark(order, stamps, command);
         if matches!(mark, Mark::Unsure | Mark::Sure) {
             found.push(current)?;
-            let past = past_in(order, &current);
+            // It tells of the next build only if they stand as Ninja wrote them.
+            let past = match order {
+                Order::Written => current.end(current.began, current.past),
+                Order::ByMoment => None,
+            };
             current = Seen::begun(stamps, to, matches!(mark, Mark::Sure), past, command);
         } else {
             current = current.with_command(stamps, to, matches!(mark, Mark::Doubtful), command);
@@ -38,16 +42,6 @@ pub(crate) fn walk(
     }
     found.push(current)?;
     Ok(found)
-}
-
-// It tells of the next build only if they stand as Ninja wrote them.
-fn past_in(order: Order, seen: &Seen) -> Option<Past>
-    ensures { result ≡ past_in order seen.now }
-{
-    match order {
-        Order::Written => seen.end(seen.began, seen.past),
-        Order::ByMoment => None,
-    }
 }
 
 /// The place before the first build that can't stand behind the one before it.
