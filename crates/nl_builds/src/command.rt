@@ -1,8 +1,8 @@
 //! A command of a log, as the entries of its outputs tell it.
 ghost use Rattle.std.specs.Prelude.{◌≡◌};
-ghost use Rattle.nl_builds.specs.Commands.{agreed, falls, is_manifest_name, is_more, is_same, latest, longer, moment, one, tells, with_next, with_wait};
+ghost use Rattle.nl_builds.specs.Commands.{falls, is_more, is_same, latest, longer, moment, one, tells, with_next, with_wait};
 
-use crate::moment::{least, moment_at};
+use crate::moment::{NANOS, least};
 use nl_fields::EntryRef;
 
 // Ninja begins anew once it made the manifest.
@@ -34,18 +34,17 @@ impl Command {
     pub(crate) fn one(to: usize, entry: &EntryRef) -> Command
         ensures value { result ≡ one to entry.now }
     {
-        let stamp = entry.stamp();
-        let began = moment(stamp.start_ms);
+        let began = moment(entry.start_ms);
         Command {
             began,
-            ended: moment(stamp.end_ms),
-            mtime: stamp.mtime,
-            hash: stamp.hash,
+            ended: moment(entry.end_ms),
+            mtime: entry.mtime,
+            hash: entry.hash,
             to,
-            up: latest(stamp.mtime, began),
+            up: latest(entry.mtime, began),
             has_waited: false,
             wait: None,
-            is_manifest: is_manifest_name(entry.name()),
+            is_manifest: entry.name() == MANIFEST.as_slice(),
         }
     }
 
@@ -53,10 +52,9 @@ impl Command {
     pub(crate) fn is_more(&self, first: &[u8], last: &[u8], entry: &EntryRef) -> bool
         ensures { result ≡ is_more self.now first.now last.now entry.now }
     {
-        let stamp = entry.stamp();
-        self.began == moment(stamp.start_ms)
-            && self.ended == moment(stamp.end_ms)
-            && self.hash == stamp.hash
+        self.began == moment(entry.start_ms)
+            && self.ended == moment(entry.end_ms)
+            && self.hash == entry.hash
             && !(entry.name() == first || entry.name() == last)
     }
 
@@ -64,12 +62,16 @@ impl Command {
     pub(crate) fn longer(self, to: usize, entry: &EntryRef) -> Command
         ensures value { result ≡ longer self to entry.now }
     {
-        let mtime = agreed(self.mtime, entry.stamp().mtime);
+        let mtime = if self.mtime == entry.mtime {
+            self.mtime
+        } else {
+            0
+        };
         Command {
             mtime,
             to,
             up: latest(mtime, self.began),
-            is_manifest: self.is_manifest || is_manifest_name(entry.name()),
+            is_manifest: self.is_manifest || entry.name() == MANIFEST.as_slice(),
             ..self
         }
     }
@@ -148,17 +150,5 @@ pub(crate) fn latest(mtime: i64, ms: u32) -> Option<u64>
     if mtime <= 0 {
         return None;
     }
-    Some(moment_at(mtime, ms))
-}
-
-fn agreed(a: i64, b: i64) -> i64
-    ensures value { result ≡ agreed a b }
-{
-    if a == b { a } else { 0 }
-}
-
-fn is_manifest_name(name: &[u8]) -> bool
-    ensures { result ≡ is_manifest_name name.now }
-{
-    name == MANIFEST.as_slice()
+    Some(mtime.unsigned_abs() + ((1 << 32) - u64::from(ms)) * NANOS)
 }

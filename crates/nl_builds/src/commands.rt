@@ -1,5 +1,5 @@
 //! The commands of a log's entries.
-ghost use Rattle.std.specs.Prelude.{◌≡◌, ◌∷◌, ◌++◌, [], nat_lt, false, IfOk};
+ghost use Rattle.std.specs.Prelude.{◌≡◌, [], nat_lt, false, IfOk};
 ghost use Rattle.std.specs.List.{list_any};
 ghost use Rattle.std.specs.List.Sorted.{IsNonDecreasing};
 ghost use Rattle.nl_builds.specs.Commands.{commands, row_to, waited, with_next, with_rows, with_waits};

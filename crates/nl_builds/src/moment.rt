@@ -1,8 +1,8 @@
 //! Moments, and how far apart two may be.
-ghost use Rattle.std.specs.Prelude.{◌≡◌, ◌<◌, ◌+◌, ◌^◌, unsigned_abs};
-ghost use Rattle.nl_builds.specs.Moments.{greatest, is_past, least, moment_at, nanos, reaches};
+ghost use Rattle.std.specs.Prelude.{◌≡◌, ◌<◌, ◌+◌, ◌^◌};
+ghost use Rattle.nl_builds.specs.Moments.{greatest, is_past, least, nanos, reaches};
 
-const NANOS: u64 = 1_000_000;
+pub(crate) const NANOS: u64 = 1_000_000;
 
 // Nanoseconds by which the clocks of a file system and of a build may differ (docs/BUILDS.md).
 pub(crate) const SLACK: u64 = 20_000_000;
@@ -14,15 +14,6 @@ pub(crate) const ONE_MOMENT: u64 = 10_000_000;
 
 // START and END count from so many milliseconds before the build began, so that none is negative.
 const ZERO: u64 = 1 << 31;
-
-const NONE: u64 = 1 << 32;
-
-/// When a build began, if MTIME is at `ms` of it, in nanoseconds from before all that there can be.
-pub(crate) fn moment_at(mtime: i64, ms: u32) -> u64
-    ensures value { result ≡ moment_at (unsigned_abs mtime) ms }
-{
-    mtime.unsigned_abs() + (NONE - u64::from(ms)) * NANOS
-}
 
 fn nanos(ms: u64) -> u128
     ensures value { result ≡ nanos ms }
