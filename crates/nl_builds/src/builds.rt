@@ -1,6 +1,6 @@
 //! The builds of a log's entries.
-ghost use Rattle.std.specs.Prelude.{◌≡◌, ◌++◌, ◌+◌, ◌<◌, ◌≤◌, ◌^◌, List, length, drop, take, false, map, IfOk};
-ghost use Rattle.nl_builds.specs.Builds.{again, beside_doubts, builds_of, entries_of, falls_at, found_build, is_before, IsTold, new_commands, told_by, told_with, written_build, written_builds};
+ghost use Rattle.std.specs.Prelude.{◌≡◌, drop, take, ◌<◌, false, map, IfOk};
+ghost use Rattle.nl_builds.specs.Builds.{again, builds_of, entries_of, falls_at, found_build, IsTold, written_builds};
 
 use crate::build::{Build, How};
 use crate::command::Command;
@@ -36,14 +36,12 @@ pub fn builds_of<'a>(
     let commands = with_rows(with_waits(alloc, commands_of(alloc, entries.as_slice())?)?);
     let seen = walk(alloc, Order::Written, stamps, 0, true, commands.as_slice())?;
     let back = first_back(stamps, seen.as_slice());
-    let counts = back.is_some() || stamps.is_end();
-    let count = new_commands(
-        alloc,
-        secret,
-        counts,
-        entries.as_slice(),
-        commands.as_slice(),
-    )?;
+    let count = if back.is_some() || stamps.is_end() {
+        let names = new_names(alloc, secret, entries.as_slice())?;
+        whole_commands(names, commands.as_slice())
+    } else {
+        0
+    };
     if back.is_some_and(|place| place < count) {
         return again(alloc, stamps, count, entries, commands);
     }
@@ -53,21 +51,6 @@ pub fn builds_of<'a>(
         commands,
         builds,
     })
-}
-
-fn new_commands(
-    alloc: Global,
-    secret: Secret,
-    counts: bool,
-    entries: &[EntryRef],
-    commands: &[Command],
-) -> Result<usize, AllocError>
-    ensures value { IfOk result (λ count. count ≡ new_commands counts entries.now commands.now) }
-{
-    if !counts {
-        return Ok(0);
-    }
-    Ok(whole_commands(new_names(alloc, secret, entries)?, commands))
 }
 
 // The entries of so many commands were written anew.
@@ -168,50 +151,26 @@ fn written_builds(
     let mut beside = false;
     let mut rest = seen;
     'builds: while let Some((build, later)) = rest.split_first() {
-        builds.push(written_build(stamps, new, from, beside, build, later))?;
-        beside = build.doubts(stamps, from < new);
+        let doubts = build.doubts(stamps, from < new);
+        // If MTIME is of the end, what hides beside a build counts only where the log may have been written anew.
+        let counts = stamps.is_start() || from < new;
+        builds.push(Build {
+            to: build.to,
+            began: build.began,
+            how: How::AsWritten,
+            is_sure: (stamps.is_start() || stamps.is_end())
+                && build.is_sure
+                && later.first().is_none_or(|it| it.is_sure)
+                && !(doubts
+                    || counts
+                        && (beside
+                            || later
+                                .first()
+                                .is_some_and(|it| it.doubts(stamps, build.to < new)))),
+        })?;
+        beside = doubts;
         from = build.to;
         rest = later;
     }
     Ok(builds)
-}
-
-fn written_build(
-    stamps: Stamps,
-    new: usize,
-    from: usize,
-    beside: bool,
-    build: &Seen,
-    later: &[Seen],
-) -> Build
-    ensures value { result ≡ written_build stamps new from beside build.now later.now }
-{
-    Build {
-        to: build.to,
-        began: build.began,
-        how: How::AsWritten,
-        is_sure: (stamps.is_start() || stamps.is_end())
-            && build.is_sure
-            && later.first().is_none_or(|it| it.is_sure)
-            && !(build.doubts(stamps, from < new)
-                || beside_doubts(stamps, new, from, beside, build, later)),
-    }
-}
-
-// If MTIME is of the end, what hides beside a build counts only where the log may have been written anew.
-fn beside_doubts(
-    stamps: Stamps,
-    new: usize,
-    from: usize,
-    beside: bool,
-    build: &Seen,
-    later: &[Seen],
-) -> bool
-    ensures { result ≡ beside_doubts stamps new from beside build.now later.now }
-{
-    (stamps.is_start() || from < new)
-        && (beside
-            || later
-                .first()
-                .is_some_and(|it| it.doubts(stamps, build.to < new)))
 }
