@@ -11,8 +11,5 @@ const MARK: &[u8; 13] = b"# ninja log v";
 pub fn may_be_log(text: &[u8]) -> bool
     ensures not_a_log { (more : List ℕ) → result ≡ false → log_of (as_five (text.now ++ more)) ≡ NotALog }
 {
-    if text.len() < 14 {
-        return true;
-    }
-    text.starts_with(MARK)
+    text.len() < 14 || text.starts_with(MARK)
 }
