@@ -41,18 +41,12 @@ pub(crate) fn reaches(began: u64, ended: u32, moment: u64) -> bool
 pub(crate) fn least(a: Option<u64>, b: Option<u64>) -> Option<u64>
     ensures { result ≡ least a b }
 {
-    match (a, b) {
-        (Some(x), Some(y)) => Some(x.min(y)),
-        _ => a.or(b),
-    }
+    a.zip(b).map_or(a.or(b), |(x, y)| Some(x.min(y)))
 }
 
 /// The one that is known, if only one is.
 pub(crate) fn greatest(a: Option<u64>, b: Option<u64>) -> Option<u64>
     ensures { result ≡ greatest a b }
 {
-    match (a, b) {
-        (Some(x), Some(y)) => Some(x.max(y)),
-        _ => a.or(b),
-    }
+    a.zip(b).map_or(a.or(b), |(x, y)| Some(x.max(y)))
 }
