@@ -22,10 +22,10 @@ pub struct Command {
     pub to: usize,
     /// The least [`latest`](Command::latest) of it and of those behind it in its row; in a log that was written anew its own.
     pub up: Option<u64>,
-    /// Whether it began as one before it in its row ended.
-    pub has_waited: bool,
     /// The least START of those that so waited, of it and of those behind it in its row.
     pub wait: Option<u64>,
+    /// Whether it began as one before it in its row ended.
+    pub has_waited: bool,
     pub is_manifest: bool,
 }
 

@@ -18,7 +18,7 @@ pub(crate) fn new_names(
 ) -> Result<usize, AllocError>
     ensures value { IfOk result (λ count. count ≡ new_names [] entries.now) }
 {
-    let mut names = IndexSet::with_hasher(alloc, secret);
+    let mut names = IndexSet::with_capacity_and_hasher(alloc, entries.len(), secret)?;
     let mut count = 0;
     for entry in entries {
         if !add(entry.name(), &mut names)? {
