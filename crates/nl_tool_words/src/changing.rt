@@ -1,9 +1,6 @@
 //! The words that change a log, a row each, in the order of the help; and `replay`.
-use crate::shape::{WordRow, rows};
-use crate::values::{
-    ANY_LOG, DRY_RUN, END, FOLDER, KEEP, LINES_SCRIPT, LOG, MENDED_LOG, MISSING_OK, MTIME, NAME,
-    OPTIONAL_SCRIPT, OWN_VERSION, RECORDED_COMMAND, START, TARGETS, TIMES, UNSURE_TOO, VERSION,
-};
+use crate::shape::{Given, Value, WordRow, rows};
+use crate::values::value;
 
 pub const CHANGING: [WordRow; 9] = rows! {
     "mend" [MENDED_LOG FOLDER DRY_RUN UNSURE_TOO] =>

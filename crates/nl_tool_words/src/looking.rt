@@ -1,9 +1,6 @@
 //! The words that look and change nothing, a row each, in the order of the help.
-use crate::shape::{WordRow, rows};
-use crate::values::{
-    ALL, AT_LEAST, AUTO_VERSION, BUILD, COMMAND, DRAWN_GRAPH, GRAPH, HASH_VERSION, JOBS, KIND,
-    LINES, MISSING_OK, NEW, OLD, OPTIONAL_ANY_LOG, OPTIONAL_FILE, OPTIONAL_LOG, TABS, VERSION,
-};
+use crate::shape::{Given, Value, WordRow, rows};
+use crate::values::value;
 
 pub const LOOKING: [WordRow; 12] = rows! {
     "show" [OPTIONAL_LOG VERSION] =>

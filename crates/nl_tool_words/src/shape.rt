@@ -2,11 +2,11 @@
 ghost use Rattle.std.specs.Prelude.{◌≡◌, IfOk, false, map};
 ghost use Rattle.clap.specs.Words.{app_of, new_app, rule_of, with_rule};
 ghost use Rattle.clap.specs.declared.builder.command.Command.TheViews.{out-Command};
-ghost use Rattle.nl_tool_words.specs.Rows.{app_by, named, nlog, rule_by, with_rules, with_words, word_by};
+ghost use Rattle.nl_tool_words.specs.Rows.{app_by, nlog, rule_by, with_rules, with_words, word_by};
 
 use crate::changing::CHANGING;
 use crate::looking::LOOKING;
-use crate::values::VERBOSE;
+use crate::values::value;
 use clap::{Arg, ArgAction, Command};
 use std::alloc::{AllocError, Global};
 
@@ -24,7 +24,7 @@ pub struct WordRow {
 // Rows of words: the name, what it takes, and the texts of its help.
 macro_rules! rows {
     ($($name:literal [$($takes:ident)*] => $about:literal, $after:literal;)+) => {
-        [$(WordRow { name: $name, about: $about, after: $after, takes: &[$($takes),*] }),+]
+        [$(WordRow { name: $name, about: $about, after: $after, takes: &[$(value!($takes)),*] }),+]
     };
 }
 
@@ -76,27 +76,20 @@ with `--verbose`, after the command); 2 wrong words; 3 `mend`, `damage`, `doubt`
 pub fn nlog_command<'a>(alloc: Global) -> Result<Command<'a>, AllocError>
     ensures { IfOk result (λ c. app_of c ≡ nlog) }
 {
-    let looking = with_words(alloc, named_command(alloc), &LOOKING)?;
-    with_words(alloc, looking, &CHANGING)
-}
-
-fn named_command<'a>(alloc: Global) -> Command<'a>
-    ensures { app_of result ≡ named }
-{
-    Command::new(alloc, "nlog")
+    let nlog = Command::new(alloc, "nlog")
         .version(VERSION)
         .about("Reads, checks and changes build logs of Ninja, versions 4 to 7")
-        .after_help(AFTER)
+        .after_help(AFTER);
+    with_words(alloc, with_words(alloc, nlog, &LOOKING)?, &CHANGING)
 }
 
 fn with_words<'a>(
     alloc: Global,
-    nlog: Command<'a>,
+    mut nlog: Command<'a>,
     rows: &[WordRow],
 ) -> Result<Command<'a>, AllocError>
     ensures { IfOk result (λ c. app_of c ≡ with_words (app_of nlog.entry) (map word_by rows.now)) }
 {
-    let mut nlog = nlog;
     let mut rest = rows;
     'rows: while let Some((row, later)) = rest.split_first() {
         nlog = nlog.subcommand(command_of(alloc, row)?)?;
@@ -110,7 +103,7 @@ fn command_of<'a>(alloc: Global, row: &WordRow) -> Result<Command<'a>, AllocErro
     ensures local { IfOk result (λ c. (out-Command c).has_globals ≡ false) }
 {
     let command = with_values(alloc, begun_command(alloc, row), row.takes)?;
-    with_value(alloc, command, &VERBOSE)
+    with_value(alloc, command, &value!(VERBOSE))
 }
 
 fn begun_command<'a>(alloc: Global, row: &WordRow) -> Command<'a>
@@ -126,13 +119,12 @@ fn begun_command<'a>(alloc: Global, row: &WordRow) -> Command<'a>
 
 fn with_values<'a>(
     alloc: Global,
-    command: Command<'a>,
+    mut command: Command<'a>,
     values: &[Value],
 ) -> Result<Command<'a>, AllocError>
     ensures shape { IfOk result (λ c. app_of c ≡ with_rules (app_of command.entry) (map rule_by values.now)) }
     ensures local { IfOk result (λ c. (out-Command c).has_globals ≡ (out-Command command.entry).has_globals) }
 {
-    let mut command = command;
     let mut rest = values;
     'values: while let Some((value, later)) = rest.split_first() {
         command = with_value(alloc, command, value)?;
