@@ -1,14 +1,15 @@
 //! What a command line says, read by `clap`.
 ghost use Rattle.std.specs.Prelude.{◌≡◌, codes, map, option_map, string_bytes, IfErr, IfOk};
+ghost use Rattle.clap.specs.Kinds.{or_else};
 ghost use Rattle.clap.specs.Words.{kind_of, subcommand_rows_of, FailsBy};
-ghost use Rattle.nl_tool_words.specs.CommandLine.{IsAsked, IsSaid, asks_twice, choice_fault, entered_of, fault_in, given_in, input_fault, is_flagged, is_kind_text, is_path, jobs_fault, kind_fault, path_in_place, scope_fault, version_fault, version_id};
+ghost use Rattle.nl_tool_words.specs.CommandLine.{IsAsked, IsSaid, choice_fault, entered_of, fault_in, given_in, input_fault, is_flagged, jobs_fault, path_in_place, version_fault, version_id};
 
 use crate::shape::nlog_command;
 use crate::version::{AskedVersion, tells_version, version_for};
 use crate::words::{Words, optional, words_in};
 use clap::error::ErrorKind;
 use clap::{ArgMatches, Error};
-use std::alloc::{AllocError, Global};
+use std::alloc::Global;
 
 /// What a command line says: a command with its values, and its options.
 #[derive(Clone, Copy, PartialEq, Eq)]
@@ -52,42 +53,24 @@ pub fn read_words<'a>(alloc: Global, words: &'a [String]) -> Result<CommandLine<
 pub fn path_in_place(words: &[String]) -> Option<&str>
     ensures value { option_map (λ text. text.now) result ≡ path_in_place (map string_bytes words.now) }
 {
-    let Some((_, given)) = words.split_first() else {
-        return None;
-    };
-    let Some((first, _)) = given.split_first() else {
-        return None;
-    };
-    if is_path(first.as_str()) {
-        return Some(first.as_str());
-    }
-    None
-}
-
-fn is_path(word: &str) -> bool
-    ensures { result ≡ is_path word.now }
-{
-    let bytes = word.as_bytes();
-    bytes.contains(&b'.') || bytes.contains(&b'/')
+    let (_, given) = words.split_first()?;
+    let (first, _) = given.split_first()?;
+    let bytes = first.as_bytes();
+    (bytes.contains(&b'.') || bytes.contains(&b'/')).then_some(first.as_str())
 }
 
 // Whether the command that was entered was given the flag of this name.
 fn is_flagged(matches: &ArgMatches<'_>, id: &str) -> bool
     ensures { result ≡ is_flagged id.now (subcommand_rows_of matches.now) }
 {
-    match given(matches, id) {
-        Some("true") => true,
-        _ => false,
-    }
+    matches!(given(matches, id), Some("true"))
 }
 
 // The value of this name that the command which was entered was given.
 fn given<'a>(matches: &ArgMatches<'a>, id: &str) -> Option<&'a str>
     ensures { option_map (λ text. text.now) result ≡ given_in id.now (subcommand_rows_of matches.now) }
 {
-    let Some((_, inner)) = matches.subcommand() else {
-        return None;
-    };
+    let (_, inner) = matches.subcommand()?;
     optional(inner, id)
 }
 
@@ -107,77 +90,35 @@ fn version_in<'a>(alloc: Global, matches: &ArgMatches<'a>) -> Result<Option<Aske
     }
 }
 
-// Refuses choices that can't be met.
+// Refuses choices that can't be met: both a build and all of them, and a rule for kinds that there isn't.
 fn known_choices(alloc: Global, matches: &ArgMatches<'_>) -> Result<(), Error>
     ensures accepts { FailsBy (choice_fault (subcommand_rows_of matches.now)) result }
-{
-    one_scope(alloc, matches)?;
-    known_kind(alloc, matches)?;
-    one_input(alloc, matches)?;
-    has_graph(alloc, matches)
-}
-
-// Refuses both a build and all of them.
-fn one_scope(alloc: Global, matches: &ArgMatches<'_>) -> Result<(), Error>
-    ensures accepts { FailsBy (scope_fault (subcommand_rows_of matches.now)) result }
 {
     if is_flagged(matches, "all") && given(matches, "build").is_some() {
         let message = "the argument '--build <BUILD>' cannot be used with '--all'";
         return Err(refusal(alloc, ErrorKind::ArgumentConflict, message)?);
     }
-    Ok(())
-}
-
-// Refuses a rule for kinds that there isn't.
-fn known_kind(alloc: Global, matches: &ArgMatches<'_>) -> Result<(), Error>
-    ensures accepts { FailsBy (kind_fault (subcommand_rows_of matches.now)) result }
-{
-    let Some(text) = given(matches, "kind") else {
-        return Ok(());
-    };
-    if is_kind(text) {
-        return Ok(());
+    match given(matches, "kind") {
+        None | Some("extension" | "folder" | "top" | "work") => {}
+        Some(text) => {
+            let message = format!(in alloc;
+                "invalid value '{text}' for '--kind <RULE>': it is extension, folder, top or work"
+            )?;
+            return Err(refusal(alloc, ErrorKind::InvalidValue, message.as_str())?);
+        }
     }
-    let message = kind_text(alloc, text)?;
-    Err(refusal(alloc, ErrorKind::InvalidValue, message.as_str())?)
+    known_input(alloc, matches)
 }
 
-fn is_kind(text: &str) -> bool
-    ensures { result ≡ is_kind_text text.now }
+// Refuses a graph and a log that are both to be read from standard input, and estimates without a graph, because nothing else tells
+// which command waits for which.
+fn known_input(alloc: Global, matches: &ArgMatches<'_>) -> Result<(), Error>
+    ensures accepts { FailsBy (or_else (input_fault (subcommand_rows_of matches.now)) (jobs_fault (subcommand_rows_of matches.now))) result }
 {
-    matches!(text, "extension" | "folder" | "top" | "work")
-}
-
-fn kind_text(alloc: Global, text: &str) -> Result<String, AllocError> {
-    format!(in alloc;
-        "invalid value '{text}' for '--kind <RULE>': it is extension, folder, top or work"
-    )
-}
-
-// Refuses a graph and a log that are both to be read from standard input.
-fn one_input(alloc: Global, matches: &ArgMatches<'_>) -> Result<(), Error>
-    ensures accepts { FailsBy (input_fault (subcommand_rows_of matches.now)) result }
-{
-    if asks_twice(matches) {
+    if matches!(given(matches, "graph"), Some("-")) && given(matches, "LOG").is_none() {
         let message = "the argument '--graph -' reads standard input, so LOG is required with it";
         return Err(refusal(alloc, ErrorKind::ArgumentConflict, message)?);
     }
-    Ok(())
-}
-
-fn asks_twice(matches: &ArgMatches<'_>) -> bool
-    ensures { result ≡ asks_twice (subcommand_rows_of matches.now) }
-{
-    match given(matches, "graph") {
-        Some("-") => given(matches, "LOG").is_none(),
-        _ => false,
-    }
-}
-
-// Refuses estimates without a graph, because nothing else tells which command waits for which.
-fn has_graph(alloc: Global, matches: &ArgMatches<'_>) -> Result<(), Error>
-    ensures accepts { FailsBy (jobs_fault (subcommand_rows_of matches.now)) result }
-{
     if given(matches, "jobs").is_some() && given(matches, "graph").is_none() {
         let message = "the argument '--jobs <LIST>' needs '--graph <FILE>'";
         return Err(refusal(alloc, ErrorKind::MissingRequiredArgument, message)?);
@@ -190,23 +131,20 @@ fn no_version(alloc: Global, command: &str, text: &str) -> Result<Error, Error>
     ensures value { IfOk result (λ e. kind_of e ≡ ErrorKind.InvalidValue) }
     ensures memory { IfErr result (λ e. kind_of e ≡ ErrorKind.OutOfMemory) }
 {
-    let message = told_of(alloc, command, text)?;
-    refusal(alloc, ErrorKind::InvalidValue, message.as_str())
-}
-
-fn told_of(alloc: Global, command: &str, text: &str) -> Result<String, AllocError> {
     let those = if tells_version(command) {
         "auto"
     } else {
         "5, 6, 7 or auto"
     };
-    format!(in alloc; "invalid value '{text}' for '--log-version <VERSION>': it is {those}")
+    let message = format!(in alloc;
+        "invalid value '{text}' for '--log-version <VERSION>': it is {those}"
+    )?;
+    refusal(alloc, ErrorKind::InvalidValue, message.as_str())
 }
 
 fn refusal(alloc: Global, kind: ErrorKind, message: &str) -> Result<Error, Error>
     ensures value { IfOk result (λ e. kind_of e ≡ kind) }
     ensures memory { IfErr result (λ e. kind_of e ≡ ErrorKind.OutOfMemory) }
 {
-    let error = nlog_command(alloc)?.error(kind, message)?;
-    Ok(error)
+    Ok(nlog_command(alloc)?.error(kind, message)?)
 }
