@@ -37,11 +37,7 @@ pub fn version_for(command: &str, text: &str) -> Option<AskedVersion>
     if !tells_version(command) {
         return asked_version_of(text);
     }
-    if text == "auto" {
-        Some(AskedVersion::Auto)
-    } else {
-        None
-    }
+    (text == "auto").then_some(AskedVersion::Auto)
 }
 
 // Whether the command of this name has no version but the one that its log names.

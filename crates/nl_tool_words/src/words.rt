@@ -1,7 +1,7 @@
 //! The word that a command line names, with its values.
 ghost use Rattle.std.specs.Prelude.{◌≡◌, codes, is_some, true, IfSome};
 ghost use Rattle.clap.specs.Words.{first_of, found_of, rows_of, subcommand_rows_of};
-ghost use Rattle.nl_tool_words.specs.CommandLine.{HasEach, HasValues, IsBeside, IsChosen, IsComplete, IsGiven, IsName, IsSaid, IsThere, changing_name, is_changing, is_reading, is_set_in, name_of, reading_name, required_of};
+ghost use Rattle.nl_tool_words.specs.CommandLine.{HasEach, HasValues, IsComplete, IsGiven, IsName, IsSaid, IsThere, changing_name, is_changing, is_reading, is_set_in, name_of, reading_name, required_of};
 
 use clap::ArgMatches;
 
@@ -120,14 +120,25 @@ fn words_of<'a>(name: &str, inner: &ArgMatches<'a>) -> Words<'a>
         return Words::Read {
             what,
             log: optional(inner, "LOG"),
-            choices: choices_in(inner),
+            choices: Choices {
+                build: optional(inner, "build"),
+                all: is_set(inner, "all"),
+                kind: optional(inner, "kind"),
+                lines: optional(inner, "lines"),
+                graph: optional(inner, "graph"),
+                jobs: optional(inner, "jobs"),
+            },
         };
     }
     if let Some(what) = changing_of(name) {
         return Words::Change {
             what,
             log: value(inner, "LOG"),
-            file: file_beside(what, inner),
+            file: match what {
+                Changing::Prune => optional(inner, "TARGETS"),
+                Changing::Apply => optional(inner, "SCRIPT"),
+                Changing::Retime | Changing::Repair => None,
+            },
         };
     }
     match name {
@@ -196,36 +207,10 @@ fn changing_of(name: &str) -> Option<Changing>
     }
 }
 
-fn choices_in<'a>(inner: &ArgMatches<'a>) -> Choices<'a>
-    ensures { IsChosen result (rows_of (found_of inner.now)) }
-{
-    Choices {
-        build: optional(inner, "build"),
-        all: is_set(inner, "all"),
-        kind: optional(inner, "kind"),
-        lines: optional(inner, "lines"),
-        graph: optional(inner, "graph"),
-        jobs: optional(inner, "jobs"),
-    }
-}
-
-fn file_beside<'a>(what: Changing, inner: &ArgMatches<'a>) -> Option<&'a str>
-    ensures { IsBeside what (rows_of (found_of inner.now)) result }
-{
-    match what {
-        Changing::Prune => optional(inner, "TARGETS"),
-        Changing::Apply => optional(inner, "SCRIPT"),
-        Changing::Retime | Changing::Repair => None,
-    }
-}
-
-pub fn is_set(inner: &ArgMatches<'_>, id: &str) -> bool
+fn is_set(inner: &ArgMatches<'_>, id: &str) -> bool
     ensures { result ≡ is_set_in id.now (rows_of (found_of inner.now)) }
 {
-    match optional(inner, id) {
-        Some("true") => true,
-        _ => false,
-    }
+    matches!(optional(inner, id), Some("true"))
 }
 
 pub fn optional<'a>(matches: &ArgMatches<'a>, id: &str) -> Option<&'a str>
