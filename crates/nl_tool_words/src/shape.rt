@@ -1,6 +1,6 @@
 //! What a row says of a word, and the command of `clap` that it makes.
 ghost use Rattle.std.specs.Prelude.{◌≡◌, IfOk, false, map};
-ghost use Rattle.clap.specs.Words.{app_of, new_app, rule_of, with_rule};
+ghost use Rattle.clap.specs.Words.{app_of, new_app, rule_of};
 ghost use Rattle.clap.specs.declared.builder.command.Command.TheViews.{out-Command};
 ghost use Rattle.nl_tool_words.specs.Rows.{app_by, nlog, rule_by, with_rules, with_words, word_by};
 
@@ -103,7 +103,7 @@ fn command_of<'a>(alloc: Global, row: &WordRow) -> Result<Command<'a>, AllocErro
     ensures local { IfOk result (λ c. (out-Command c).has_globals ≡ false) }
 {
     let command = with_values(alloc, begun_command(alloc, row), row.takes)?;
-    with_value(alloc, command, &value!(VERBOSE))
+    command.arg(arg_of(alloc, &value!(VERBOSE)))
 }
 
 fn begun_command<'a>(alloc: Global, row: &WordRow) -> Command<'a>
@@ -127,21 +127,10 @@ fn with_values<'a>(
 {
     let mut rest = values;
     'values: while let Some((value, later)) = rest.split_first() {
-        command = with_value(alloc, command, value)?;
+        command = command.arg(arg_of(alloc, value))?;
         rest = later;
     }
     Ok(command)
-}
-
-fn with_value<'a>(
-    alloc: Global,
-    command: Command<'a>,
-    value: &Value,
-) -> Result<Command<'a>, AllocError>
-    ensures shape { IfOk result (λ c. app_of c ≡ with_rule (app_of command.entry) (rule_by value.now)) }
-    ensures local { IfOk result (λ c. (out-Command c).has_globals ≡ (out-Command command.entry).has_globals) }
-{
-    command.arg(arg_of(alloc, value))
 }
 
 fn arg_of<'a>(alloc: Global, value: &Value) -> Arg<'a>
