@@ -4,7 +4,7 @@ ghost use Rattle.nl_os.specs.declared.failed_call.FileRole.{FileRole};
 ghost use Rattle.nl_tool_texts.specs.declared.fault.ToolFault.{ToolFault};
 ghost use Rattle.nl_tool.specs.declared.reason.Place.{Place};
 ghost use Rattle.nl_tool.specs.declared.reason.Reason.{Reason};
-ghost use Rattle.nl_tool.specs.Reasons.{change_place, with_graph, HasText, IsByteAt, IsEarly, IsLongNameOf, IsLookAt, IsMasked, IsNegative, IsNoteFor, IsReasonFor, IsSystem, IsUnsynced, IsVersion, file_place, graph_file, heard_of, is_input, log_place, mended_place, number_text, place_text, read_place, reads_input, reason_text, refusal_text, why_text, words_for, words_heard};
+ghost use Rattle.nl_tool.specs.Reasons.{change_place, HasText, IsEarly, IsLookAt, IsMasked, IsNegative, IsNoteFor, IsReasonFor, IsSystem, IsUnsynced, file_place, log_place, mended_place, number_text, place_text, read_place, reads_input, reason_text, refusal_text, why_text, words_for, words_heard};
 
 use crate::looks::{Look, escaped_of, look_of, start_of};
 use crate::notes::Notes;
@@ -167,10 +167,12 @@ pub struct Why<'a> {
 }
 
 impl<'a> Why<'a> {
-    fn of(place: Place<'a>, reason: Reason) -> Why<'a>
-        ensures { result ≡ record { place = place.entry; reason = reason } }
+    fn at(place: Option<Place<'a>>, reason: Reason) -> Option<Why<'a>>
+        ensures value { IfSome result (λ why. (place.entry ≡ Some why.place) × (why.reason ≡ reason)) }
+        ensures whenever { IsSome place.entry → IsSome result }
     {
-        Why { place, reason }
+        let place = place?;
+        Some(Why { place, reason })
     }
 }
 
@@ -212,9 +214,8 @@ pub fn note_of<'a>(line: &CommandLine<'a>, notes: &Notes) -> Option<Why<'a>>
     if !line.verbose || !notes.is_missing {
         return None;
     }
-    let place = log_place(&words_heard(&line.words, notes.is_second), FileRole::Log)?;
-    let reason = Reason::Missing;
-    Some(Why { place, reason })
+    let words = words_heard(&line.words, notes.is_second);
+    Why::at(log_place(&words, FileRole::Log), Reason::Missing)
 }
 
 /// What is said of a command that was done: that builds were found again of which it told.
@@ -226,9 +227,7 @@ pub fn again_note<'a>(line: &CommandLine<'a>, notes: &Notes) -> Option<Why<'a>>
     if !notes.is_again {
         return None;
     }
-    let place = log_place(&line.words, FileRole::Log)?;
-    let reason = Reason::Again;
-    Some(Why { place, reason })
+    Why::at(log_place(&line.words, FileRole::Log), Reason::Again)
 }
 
 /// What is said of a command that was done in a folder which can't be synced, where the command line asks for more.
@@ -242,10 +241,8 @@ pub fn unsynced_note<'a>(alloc: Global, line: &CommandLine<'a>, notes: &Notes) -
     }
     let error = notes.unsynced?;
     let text = format!(in alloc; "{error}").ok()?;
-    Some(Why {
-        place: log_place(&line.words, FileRole::Folder)?,
-        reason: Reason::Unsynced(text),
-    })
+    let place = log_place(&line.words, FileRole::Folder);
+    Why::at(place, Reason::Unsynced(text))
 }
 
 /// What is said of a command that was done: that the log's access control list is gone, if it had one, where the command line asks for
@@ -260,9 +257,7 @@ pub fn masked_note<'a>(line: &CommandLine<'a>, notes: &Notes) -> Option<Why<'a>>
     if !line.verbose || !notes.is_masked {
         return None;
     }
-    let place = log_place(&line.words, FileRole::Log)?;
-    let reason = Reason::Masked;
-    Some(Why { place, reason })
+    Why::at(log_place(&line.words, FileRole::Log), Reason::Masked)
 }
 
 /// What is said of a fault of a command: its reason, where it is known, if the command line asks for it, or a person reads it.
@@ -307,17 +302,11 @@ fn words_heard<'a>(words: &Words<'a>, is_second: bool) -> Words<'a>
 {
     match *words {
         Words::Compare { old, new, .. } => Words::Show(Some(if is_second { new } else { old })),
-        Words::Read { choices, .. } => with_graph(choices.graph, is_second, words),
+        Words::Read { choices, .. } => match choices.graph {
+            Some(path) if is_second => Words::HashFile((path != "-").then_some(path)),
+            _ => *words,
+        },
         other => other,
-    }
-}
-
-fn with_graph<'a>(graph: Option<&'a str>, is_second: bool, words: &Words<'a>) -> Words<'a>
-    ensures { result ≡ with_graph graph.entry is_second words.now }
-{
-    match graph {
-        Some(path) if is_second => Words::HashFile(graph_file(path)),
-        _ => *words,
     }
 }
 
@@ -325,61 +314,56 @@ fn with_graph<'a>(graph: Option<&'a str>, is_second: bool, words: &Words<'a>) ->
 pub fn reads_input(words: &Words<'_>) -> bool
     ensures value { result ≡ reads_input words.now }
 {
-    is_input(read_place(&words_heard(words, false)))
-        || is_input(read_place(&words_heard(words, true)))
-}
-
-fn is_input(place: Option<Place<'_>>) -> bool
-    ensures value { result ≡ is_input place.entry }
-{
-    match place {
-        Some(Place::Input) => true,
-        _ => false,
-    }
-}
-
-fn graph_file(path: &str) -> Option<&str>
-    ensures { result ≡ graph_file path.entry }
-{
-    if path == "-" {
-        return None;
-    }
-    Some(path)
+    matches!(read_place(&words_heard(words, false)), Some(Place::Input))
+        || matches!(read_place(&words_heard(words, true)), Some(Place::Input))
 }
 
 fn why_of<'a>(alloc: Global, words: &Words<'a>, fault: ToolFault, notes: &Notes) -> Option<Why<'a>>
     ensures { IfSome result (IsReasonFor words.now fault notes.now) }
 {
     match fault {
-        ToolFault::Read => unread_of(alloc, words, notes),
-        ToolFault::Write => said_of(alloc, Place::Output, notes.written?),
+        ToolFault::Read => match notes.heard.failure {
+            Some(error) => said_of(alloc, read_place(words), error),
+            None => {
+                let Failure { file, error } = notes.folder?;
+                said_of(alloc, log_place(words, file), error)
+            }
+        },
+        ToolFault::Write => said_of(alloc, Some(Place::Output), notes.written?),
         ToolFault::Folder => {
-            let failure = notes.folder?;
-            failed_of(alloc, log_place(words, failure.file)?, &failure)
+            let Failure { file, error } = notes.folder?;
+            Why::at(log_place(words, file), folder_reason(alloc, error)?)
         }
-        ToolFault::BadLine(number) => Some(Why::of(
-            read_place(words)?,
-            Reason::Line(number, notes.told.why),
-        )),
+        ToolFault::BadLine(number) => {
+            Why::at(read_place(words), Reason::Line(number, notes.told.why))
+        }
         ToolFault::NegativeTime(_) => negative_why(alloc, words, notes),
-        ToolFault::OtherVersion => version_why(alloc, words, notes),
-        ToolFault::NotALog => looks_of(alloc, words, notes),
-        ToolFault::EmptyName => Some(Why::of(Place::Name, Reason::NoBytes)),
-        ToolFault::BadByte(at) => bad_byte(words, at),
-        ToolFault::LongName => long_name(words),
-        ToolFault::OtherGraph => Some(Why::of(read_place(words)?, Reason::OtherBuild)),
+        ToolFault::OtherVersion => {
+            let digits = named_version(notes.heard.beginning.bytes())?;
+            let version = String::from_str(alloc, str::from_utf8(digits).ok()?).ok()?;
+            Why::at(log_place(words, FileRole::Log), Reason::Version(version))
+        }
+        ToolFault::NotALog => {
+            let reason = look_reason(alloc, notes.heard.beginning.bytes())?;
+            Why::at(log_place(words, FileRole::Log), reason)
+        }
+        ToolFault::EmptyName => Why::at(Some(Place::Name), Reason::NoBytes),
+        ToolFault::BadByte(at) => {
+            let Words::Record { name, .. } = *words else {
+                return None;
+            };
+            match name.as_bytes().get(at)? {
+                b'\n' => Why::at(Some(Place::Name), Reason::Newline(at)),
+                _ => Why::at(Some(Place::Name), Reason::Tab(at)),
+            }
+        }
+        ToolFault::LongName => match *words {
+            Words::Record { name, .. } => Why::at(Some(Place::Name), Reason::Long(name.len())),
+            _ => None,
+        },
+        ToolFault::OtherGraph => Why::at(read_place(words), Reason::OtherBuild),
         ToolFault::BadNumber | ToolFault::Memory | ToolFault::Elsewhere => None,
     }
-}
-
-fn unread_of<'a>(alloc: Global, words: &Words<'a>, notes: &Notes) -> Option<Why<'a>>
-    ensures { IfSome result (IsReasonFor words.now ToolFault.Read notes.now) }
-{
-    if let Some(error) = notes.heard.failure {
-        return said_of(alloc, read_place(words)?, error);
-    }
-    let failure = notes.folder?;
-    said_of(alloc, log_place(words, failure.file)?, failure.error)
 }
 
 fn negative_why<'a>(alloc: Global, words: &Words<'a>, notes: &Notes) -> Option<Why<'a>>
@@ -392,7 +376,7 @@ fn negative_why<'a>(alloc: Global, words: &Words<'a>, notes: &Notes) -> Option<W
         } => early_reason(alloc, notes.early.as_slice())?,
         _ => Reason::Negative(notes.told.negative?),
     };
-    Some(Why::of(read_place(words)?, reason))
+    Why::at(read_place(words), reason)
 }
 
 fn early_reason(alloc: Global, name: &[u8]) -> Option<Reason>
@@ -404,29 +388,17 @@ fn early_reason(alloc: Global, name: &[u8]) -> Option<Reason>
     Some(Reason::Early(escaped_of(alloc, name)?))
 }
 
-fn failed_of<'a>(alloc: Global, place: Place<'a>, failure: &Failure) -> Option<Why<'a>>
-    ensures place { IfSome result (λ why. why.place ≡ place.entry) }
-    ensures reason { IfSome result (λ why. IsSystem why.reason) }
+fn folder_reason(alloc: Global, error: io::Error) -> Option<Reason>
+    ensures { IfSome result IsSystem }
 {
-    let error = failure.error;
     let text = format!(in alloc; "{error}").ok()?;
-    let reason = if error.raw_os_error() == Some(FULL) {
-        Reason::Full(text)
-    } else if error.kind() == io::ErrorKind::WouldBlock {
-        Reason::Locked(text)
-    } else {
-        Reason::System(text)
-    };
-    Some(Why { place, reason })
-}
-
-fn looks_of<'a>(alloc: Global, words: &Words<'a>, notes: &Notes) -> Option<Why<'a>>
-    ensures place { IfSome result (λ why. log_place words.now FileRole.Log ≡ Some why.place) }
-    ensures reason { IfSome result (λ why. IsLookAt (heard_of notes.now) why.reason) }
-{
-    let place = log_place(words, FileRole::Log)?;
-    let reason = look_reason(alloc, notes.heard.beginning.bytes())?;
-    Some(Why { place, reason })
+    if error.raw_os_error() == Some(FULL) {
+        return Some(Reason::Full(text));
+    }
+    match error.kind() {
+        io::ErrorKind::WouldBlock => Some(Reason::Locked(text)),
+        _ => Some(Reason::System(text)),
+    }
 }
 
 fn look_reason(alloc: Global, bytes: &[u8]) -> Option<Reason>
@@ -444,92 +416,37 @@ fn bad_number<'a>(words: &Words<'a>, notes: &Notes) -> Option<Why<'a>>
 {
     let WrongNumber { which, nth, why } = notes.told.number?;
     let text = number_text(words, which)?;
-    Some(Why::of(Place::Number(which, text), Reason::Number(nth, why)))
+    Why::at(Some(Place::Number(which, text)), Reason::Number(nth, why))
 }
 
 fn number_text<'a>(words: &Words<'a>, which: NumberOf) -> Option<&'a str>
     ensures { result ≡ number_text words.now which }
 {
-    match *words {
-        Words::Record {
-            start,
-            end,
-            mtime,
-            ..
-        } => match which {
-            NumberOf::Start => Some(start),
-            NumberOf::End => Some(end),
-            NumberOf::Mtime => Some(mtime),
-            _ => None,
-        },
-        Words::Read { choices, .. } => match which {
-            NumberOf::Lines => choices.lines,
-            NumberOf::Build => choices.build,
-            NumberOf::Jobs => choices.jobs,
-            _ => None,
-        },
-        Words::Compare { lines, least, .. } => match which {
-            NumberOf::Lines => lines,
-            NumberOf::Least => least,
-            _ => None,
-        },
+    match (*words, which) {
+        (Words::Record { start, .. }, NumberOf::Start) => Some(start),
+        (Words::Record { end, .. }, NumberOf::End) => Some(end),
+        (Words::Record { mtime, .. }, NumberOf::Mtime) => Some(mtime),
+        (Words::Read { choices, .. }, NumberOf::Lines) => choices.lines,
+        (Words::Read { choices, .. }, NumberOf::Build) => choices.build,
+        (Words::Read { choices, .. }, NumberOf::Jobs) => choices.jobs,
+        (Words::Compare { lines, .. }, NumberOf::Lines) => lines,
+        (Words::Compare { least, .. }, NumberOf::Least) => least,
         _ => None,
     }
 }
 
-fn bad_byte<'a>(words: &Words<'a>, at: usize) -> Option<Why<'a>>
-    ensures { IfSome result (λ why. (why.place ≡ Place.Name) × IsByteAt at why.reason) }
+fn said_of<'a>(alloc: Global, place: Option<Place<'a>>, error: io::Error) -> Option<Why<'a>>
+    ensures { IfSome result (λ why. (place.entry ≡ Some why.place) × IsSystem why.reason) }
 {
-    let Words::Record { name, .. } = *words else {
-        return None;
-    };
-    match name.as_bytes().get(at)? {
-        b'\n' => Some(Why::of(Place::Name, Reason::Newline(at))),
-        _ => Some(Why::of(Place::Name, Reason::Tab(at))),
-    }
-}
-
-fn long_name<'a>(words: &Words<'a>) -> Option<Why<'a>>
-    ensures { IfSome result (IsLongNameOf words.now) }
-{
-    let Words::Record { name, .. } = *words else {
-        return None;
-    };
-    Some(Why::of(Place::Name, Reason::Long(name.len())))
-}
-
-fn said_of<'a>(alloc: Global, place: Place<'a>, error: io::Error) -> Option<Why<'a>>
-    ensures place { IfSome result (λ why. why.place ≡ place.entry) }
-    ensures reason { IfSome result (λ why. IsSystem why.reason) }
-{
-    let text = format!(in alloc; "{error}").ok()?;
-    Some(Why {
-        place,
-        reason: Reason::System(text),
-    })
-}
-
-fn version_why<'a>(alloc: Global, words: &Words<'a>, notes: &Notes) -> Option<Why<'a>>
-    ensures place { IfSome result (λ why. log_place words.now FileRole.Log ≡ Some why.place) }
-    ensures reason { IfSome result (λ why. IsVersion why.reason) }
-{
-    let digits = named_version(notes.heard.beginning.bytes())?;
-    let version = str::from_utf8(digits).ok()?;
-    Some(Why::of(
-        log_place(words, FileRole::Log)?,
-        Reason::Version(String::from_str(alloc, version).ok()?),
-    ))
+    Why::at(place, Reason::System(format!(in alloc; "{error}").ok()?))
 }
 
 fn named_version(beginning: &[u8]) -> Option<&[u8]> {
     let rest = beginning.strip_prefix(b"# ninja log v")?;
     let end = rest.iter().position(|byte| *byte == b'\n')?;
     let version = &rest[..end];
-    if version.iter().all(|byte| byte.is_ascii_digit()) {
-        Some(version)
-    } else {
-        None
-    }
+    let is_number = version.iter().all(|byte| byte.is_ascii_digit());
+    is_number.then_some(version)
 }
 
 fn read_place<'a>(words: &Words<'a>) -> Option<Place<'a>>
@@ -581,10 +498,7 @@ fn log_place<'a>(words: &Words<'a>, file: FileRole) -> Option<Place<'a>>
 fn mended_place<'a>(log: Option<&'a str>, folder: Option<&'a str>, file: FileRole) -> Place<'a>
     ensures { result ≡ mended_place log.entry folder.entry file }
 {
-    match log {
-        Some(log) => file_place(log, file),
-        None => Place::OfBuild(folder, file),
-    }
+    log.map_or(Place::OfBuild(folder, file), |log| file_place(log, file))
 }
 
 fn file_place(log: &str, file: FileRole) -> Place<'_>
