@@ -69,24 +69,19 @@ where
         ensures faults { IfErr result IsApplyFault }
     {
         let Desk { rt, alloc, .. } = *self;
-        match script {
-            None => {
-                let place = self.log_at(log)?;
-                apply_at(rt, alloc, place, rt.reader(), Place::Input, &mut self.notes)
-            }
-            Some(path) => {
-                let lines = self.open(path)?;
-                let (place, script) = (self.log_at(log)?, Place::Script(path));
-                apply_at(rt, alloc, place, lines, script, &mut self.notes)
-            }
-        }
+        let Some(path) = script else {
+            let place = self.log_at(log)?;
+            return apply_at(rt, alloc, place, rt.reader(), Place::Input, &mut self.notes);
+        };
+        let lines = self.open(path)?;
+        let (place, script) = (self.log_at(log)?, Place::Script(path));
+        apply_at(rt, alloc, place, lines, script, &mut self.notes)
     }
 
     pub fn repair_in(&mut self, log: &str) -> Result<(), ToolFault>
         ensures faults { IfErr result IsRepairFault }
     {
-        let missing_ok = self.missing_ok;
-        self.look_there(log, missing_ok)?;
+        self.look_there(log, self.missing_ok)?;
         let place = self.log_at(log)?;
         repair_at(self.alloc, place, &mut self.notes)
     }
@@ -107,8 +102,7 @@ where
 {
     let (secret, asked, folder) = (place.secret, place.asked, place.folder);
     let (folder, answer) = record_command(alloc, secret, asked, folder, entry, command.as_bytes());
-    close(folder, answer.err(), notes);
-    answer
+    close(folder, answer, notes)
 }
 
 fn recompact_at<D: Files + Clock + Drop, R: Read + Drop>(
@@ -125,8 +119,7 @@ where
 {
     let names = NotedReader::new(names, &mut notes.heard);
     let (left, answer) = recompact_on(alloc, place, names, &mut notes.told);
-    close(left.folder, answer.err(), notes);
-    answer
+    close(left.folder, answer, notes)
 }
 
 fn restat_at<D: Files + Clock + Drop, R: Read + Drop>(
@@ -143,8 +136,7 @@ where
 {
     let pairs = NotedReader::new(pairs, &mut notes.heard);
     let (left, answer) = restat_on(alloc, place, pairs, &mut notes.told);
-    close(left.folder, answer.err(), notes);
-    answer
+    close(left.folder, answer, notes)
 }
 
 // The lines of `apply`: of a bad one it is said why, where that is asked for.
@@ -187,8 +179,7 @@ where
     let reader = NotedReader::new(reader, &mut notes.heard);
     let (folder, answer) = apply_on(alloc, secret, asked, folder, reader, &mut out, &mut hears);
     notes.written = out.failure;
-    close(folder, answer.err(), notes);
-    answer
+    close(folder, answer, notes)
 }
 
 fn repair_at<D: Files + Clock + Drop>(
@@ -203,6 +194,5 @@ where
     ensures faults { IfErr result IsRecordFault }
 {
     let (left, answer) = repair_on(alloc, place);
-    close(left.folder, answer.err(), notes);
-    answer
+    close(left.folder, answer, notes)
 }

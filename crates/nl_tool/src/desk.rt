@@ -56,24 +56,16 @@ impl<'r, R: Runtime> Desk<'r, R> {
         ensures columns { is_some result.columns ≡ (notes.screen.output && not line.now.tabs) }
         ensures notes { result.notes ≡ notes }
     {
+        let is_read = notes.screen.output && !line.tabs;
         Desk {
             rt,
             alloc,
             asked: asked_in(line),
             missing_ok: line.missing_ok,
-            columns: columns_for(rt, &notes, line),
+            columns: is_read.then(|| width_of(rt)),
             notes,
         }
     }
-}
-
-fn columns_for<R: Runtime>(rt: &R, notes: &Notes, line: &CommandLine<'_>) -> Option<usize>
-    ensures { is_some result ≡ (notes.now.screen.output && not line.now.tabs) }
-{
-    if notes.screen.output && !line.tabs {
-        return Some(width_of(rt));
-    }
-    None
 }
 
 /// Where a log stands that is waited for.
@@ -99,25 +91,23 @@ where
 }
 
 /// Keeps why calls of a folder failed. If the file isn't taken for a log, its beginning is kept too, because the reason names it.
-pub fn close<R: Files + Clock + Drop>(
-    folder: DiskFolder<R>,
-    fault: Option<ToolFault>,
+pub fn close<R: Files + Clock + Drop, T: Drop>(
+    mut folder: DiskFolder<R>,
+    answer: Result<T, ToolFault>,
     notes: &mut Notes,
-)
+) -> Result<T, ToolFault>
 where
     R::File: SystemFile,
+    ensures same { result ≡ answer }
     ensures kept { notes.new.folder ≡ folder.last_failure }
     ensures unsynced { notes.new.unsynced ≡ unsynced_of (system_of folder.folder) }
     ensures masked { notes.new.is_masked ≡ is_masked (system_of folder.folder) }
 {
-    let mut folder = folder;
     notes.folder = folder.last_failure();
     notes.unsynced = folder.unsynced_folder();
     notes.is_masked = folder.is_masked();
-    match fault {
-        Some(ToolFault::OtherVersion | ToolFault::NotALog) if notes.looks => {
-            notes.look_at(&mut folder);
-        }
-        _ => {}
+    if notes.looks && matches!(answer, Err(ToolFault::OtherVersion | ToolFault::NotALog)) {
+        notes.look_at(&mut folder);
     }
+    answer
 }

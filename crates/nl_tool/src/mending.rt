@@ -70,7 +70,14 @@ where
     ) -> Result<Verdict, ToolFault>
         ensures faults { IfErr result IsMendFault }
     {
-        self.look_in(folder)?;
+        // It refuses a missing folder, because the log that is missing with it would be taken for a whole one.
+        if let Some(path) = folder {
+            if let Err(error) = fs::metadata(self.rt, path) {
+                let file = FileRole::Folder;
+                self.notes.folder = Some(Failure { file, error });
+                return Err(ToolFault::Read);
+            }
+        }
         match (log, folder) {
             (Some(path), _) => self.mend_log(path, folder, how),
             (None, Some(folder)) => {
@@ -78,25 +85,6 @@ where
                 self.mend_log(path.as_str(), Some(folder), how)
             }
             (None, None) => self.mend_log(".ninja_log", None, how),
-        }
-    }
-
-    // It refuses a missing folder, because the log that is missing with it would be taken for a whole one.
-    fn look_in(&mut self, folder: Option<&str>) -> Result<(), ToolFault>
-        ensures faults { IfErr result (λ e. e ≡ ToolFault.Read) }
-    {
-        let Some(path) = folder else {
-            return Ok(());
-        };
-        match fs::metadata(self.rt, path) {
-            Ok(_) => Ok(()),
-            Err(error) => {
-                self.notes.folder = Some(Failure {
-                    file: FileRole::Folder,
-                    error,
-                });
-                Err(ToolFault::Read)
-            }
         }
     }
 
@@ -119,19 +107,15 @@ where
         let answer = mend_at(alloc, place, &files, how, &mut out, &mut self.notes);
         self.notes.written = out.failure;
         let mended = answer?;
-        tell_few(rt, log, mended);
+        // If few outputs have a file, the folder may be that of another build.
+        let Mended { outputs, there, .. } = mended;
+        if there < outputs / FEW {
+            let _ = eprintln!(rt; "nlog: LOG {log}: {there} of {outputs} outputs are here");
+        }
         if mended.is_told {
             return Ok(Verdict::Found);
         }
         Ok(Verdict::Done)
-    }
-}
-
-// If few outputs have a file, the folder may be that of another build.
-fn tell_few(rt: &impl Eprint, log: &str, mended: Mended) {
-    let Mended { outputs, there, .. } = mended;
-    if there < outputs / FEW {
-        let _ = eprintln!(rt; "nlog: LOG {log}: {there} of {outputs} outputs are here");
     }
 }
 
@@ -151,6 +135,5 @@ where
 {
     let AskedFolder { secret, folder, .. } = place;
     let (left, answer) = mend_to(alloc, secret, folder, files, how, writer);
-    close(left, answer.err(), notes);
-    answer
+    close(left, answer, notes)
 }

@@ -42,10 +42,8 @@ where
         // The targets were read, so it is LOG that couldn't be.
         if let Some(error) = self.notes.heard.failure {
             self.notes.heard.failure = None;
-            self.notes.folder = Some(Failure {
-                file: FileRole::Log,
-                error,
-            });
+            let file = FileRole::Log;
+            self.notes.folder = Some(Failure { file, error });
         }
         answer
     }
@@ -91,21 +89,13 @@ where
     fn damage_in(&mut self, log: &str) -> Result<Verdict, ToolFault>
         ensures faults { IfErr result IsSettlingFault }
     {
-        self.refuse_other(log)?;
-        self.stream_log(Streaming::Damage, Some(log), false)
-    }
-
-    fn refuse_other(&mut self, log: &str) -> Result<(), ToolFault>
-        ensures faults { IfErr result IsLogFault }
-    {
-        let Desk { alloc, asked, .. } = *self;
-        if asked.is_none() {
-            return Ok(());
+        let (alloc, asked, secret) = (self.alloc, self.asked, self.notes.secret);
+        if asked.is_some() {
+            let file = self.open(log)?;
+            let file = NotedReader::new(file, &mut self.notes.heard);
+            check_version(alloc, secret, asked, file)?;
         }
-        let file = self.open(log)?;
-        let secret = self.notes.secret;
-        let file = NotedReader::new(file, &mut self.notes.heard);
-        check_version(alloc, secret, asked, file)
+        self.stream_log(Streaming::Damage, Some(log), false)
     }
 
     pub fn retime_in(&mut self, log: &str) -> Result<Verdict, ToolFault>
@@ -138,9 +128,11 @@ where
     ensures faults { IfErr result IsPruneFault }
 {
     let log = NotedReader::new(log, &mut notes.heard);
-    let (left, answer) = keep_there(alloc, place, targets, log, files);
-    close(left.folder, answer.err(), notes);
-    answer
+    let (left, answer) = match names_there(alloc, place.secret(), log, files, targets) {
+        Ok(set) => place.change(alloc, &set),
+        Err(fault) => (place, Err(fault)),
+    };
+    close(left.folder, answer, notes)
 }
 
 fn check_version<R: Read + Drop>(
@@ -178,25 +170,7 @@ where
 {
     let log = NotedReader::new(log, &mut notes.heard);
     let (left, answer) = retime_there(alloc, place, log, files, &mut notes.early);
-    close(left.folder, answer.err(), notes);
-    answer
-}
-
-fn keep_there<P: LogPlace, R: Read + Drop, F: OutputFiles>(
-    alloc: Global,
-    place: P,
-    targets: Vec<Name>,
-    log: R,
-    files: &F,
-) -> (P, Result<(), ToolFault>)
-    ensures call { (IsErr result.1 × (result.0 ≡ place)) ⊎ ((kept : List (List ℕ))
-        × KeepsMost (R.remaining log) (F.states files.now) targets.items kept × P.changes (keeping kept) result.1 place result.0) }
-    ensures faults { IfErr result.1 IsPruneFault }
-{
-    match names_there(alloc, place.secret(), log, files, targets) {
-        Ok(set) => place.change(alloc, &set),
-        Err(fault) => (place, Err(fault)),
-    }
+    close(left.folder, answer, notes)
 }
 
 fn retime_there<P: LogPlace, R: Read + Drop, F: OutputFiles>(
