@@ -16,11 +16,10 @@ use nl_table::Secret;
 use nl_tool_doubt::{FileState, FileTimes, OutputFiles, doubts_of, write_doubts};
 use nl_tool_texts::ToolFault;
 use std::alloc::Global;
-use std::fs::{self, Metadata};
 use std::io::{self, ErrorKind, Write};
 use std::os::unix::fs::MetadataExt;
 use std::rt::{Files, Runtime};
-use std::str;
+use std::{fs, str};
 
 const NANOSECONDS: i64 = 1_000_000_000;
 
@@ -40,19 +39,15 @@ impl<R: Files> OutputFiles for SystemFiles<'_, R> {
         };
         match fs::metadata(self.rt, path) {
             Ok(metadata) if metadata.is_dir() => FileState::Directory,
-            Ok(metadata) => FileState::Written(times_of(&metadata)),
+            Ok(metadata) => FileState::Written(FileTimes {
+                written: time_of(metadata.mtime(), metadata.mtime_nsec()),
+                changed: time_of(metadata.ctime(), metadata.ctime_nsec()),
+            }),
             Err(error) => match error.kind() {
                 ErrorKind::NotFound | ErrorKind::NotADirectory => FileState::Missing,
                 _ => FileState::Unknown,
             },
         }
-    }
-}
-
-fn times_of(metadata: &Metadata) -> FileTimes {
-    FileTimes {
-        written: time_of(metadata.mtime(), metadata.mtime_nsec()),
-        changed: time_of(metadata.ctime(), metadata.ctime_nsec()),
     }
 }
 

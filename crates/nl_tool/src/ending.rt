@@ -4,10 +4,11 @@ ghost use Rattle.std.specs.IoError.{error_kind};
 ghost use Rattle.std.specs.declared.io.ErrorKind.TheVariants.{OutOfMemory};
 ghost use Rattle.clap.specs.Words.{kind_of};
 ghost use Rattle.nl_tool.specs.Ending.{status_after, IsStatusBy, IsStatusOfKind};
+ghost use Rattle.nl_tool.specs.Faults.{CanFind};
+ghost use Rattle.nl_tool.specs.Meant.{meant};
 ghost use Rattle.nl_tool_words.specs.CommandLine.{entered_of, fault_in};
 
 use crate::desk::Desk;
-use crate::meant::{log_here, meant};
 use crate::notes::Notes;
 use crate::program::{Verdict, run_at};
 use crate::reason::{
@@ -30,6 +31,9 @@ const DONE: u8 = 0;
 const WRONG_WORDS: u8 = 2;
 
 const FOUND: u8 = 3;
+
+// The log of a build, in its folder: it is meant where standard input is a terminal.
+const HERE: &str = ".ninja_log";
 
 /// The whole program: reads the words that it was given, does what they say, and answers the status to end with.
 pub fn run_program<R: Runtime + AllocGlobal + RandomSource>(rt: &R, screen: Screen) -> u8
@@ -62,7 +66,7 @@ where
     match read_words(alloc, line) {
         Ok(said) => {
             let line = CommandLine {
-                words: meant(said.words, log_here(screen)),
+                words: meant(said.words, screen.input.then_some(HERE)),
                 ..said
             };
             say_reads(rt, &line.words, screen);
@@ -73,6 +77,21 @@ where
             end(rt, alloc, &line, answer, &desk.notes)
         }
         Err(error) => explain(rt, line, &error),
+    }
+}
+
+// The words with this log, where they tell of one and name none. `show` and `check` read standard input all the same.
+fn meant<'a>(words: Words<'a>, here: Option<&'a str>) -> Words<'a>
+    ensures value { result ≡ meant words.entry here.entry }
+    ensures can_find { CanFind result → CanFind words.entry }
+{
+    match words {
+        Words::Read { what, log, choices } => Words::Read {
+            what,
+            log: log.or(here),
+            choices,
+        },
+        other => other,
     }
 }
 
@@ -97,6 +116,8 @@ fn given_words<R: Runtime + AllocGlobal>(rt: &R) -> io::Result<Vec<String>> {
     Ok(env::args(rt)?.collect(rt.alloc())?)
 }
 
+// Of a command that was done it says that its log was missing, that its folder can't be synced, and that an access control list may be
+// gone, where that is asked for; and that the log was written anew by whose builds it went.
 fn end(
     rt: &impl Eprint,
     alloc: Global,
@@ -109,21 +130,15 @@ fn end(
 {
     match answer {
         Ok(Verdict::Done) => {
-            say_notes(rt, alloc, line, notes);
+            say_note(rt, again_note(line, notes));
+            say_note(rt, note_of(line, notes));
+            say_note(rt, unsynced_note(alloc, line, notes));
+            say_note(rt, masked_note(line, notes));
             DONE
         }
         Ok(Verdict::Found) => FOUND,
         Err(fault) => say(rt, &refusal_of(alloc, line, fault, notes)),
     }
-}
-
-// Says of a command that was done that its log was missing, that its folder can't be synced, and that an access control list may be
-// gone, where that is asked for; and that the log was written anew by whose builds it went.
-fn say_notes(rt: &impl Eprint, alloc: Global, line: &CommandLine<'_>, notes: &Notes) {
-    say_note(rt, again_note(line, notes));
-    say_note(rt, note_of(line, notes));
-    say_note(rt, unsynced_note(alloc, line, notes));
-    say_note(rt, masked_note(line, notes));
 }
 
 fn say_note(rt: &impl Eprint, note: Option<Why<'_>>) {
@@ -174,14 +189,10 @@ fn explain(rt: &(impl Print + Eprint), line: &[String], error: &Error) -> u8
         },
         _ => {
             let _ = error.print(rt);
-            say_path(rt, line);
+            if let Some(path) = path_in_place(line) {
+                let _ = eprintln!(rt; "nlog: a command comes first: nlog show {path}");
+            }
             WRONG_WORDS
         }
-    }
-}
-
-fn say_path(rt: &impl Eprint, line: &[String]) {
-    if let Some(path) = path_in_place(line) {
-        let _ = eprintln!(rt; "nlog: a command comes first: nlog show {path}");
     }
 }

@@ -54,12 +54,6 @@ impl<R: Runtime> Desk<'_, R> {
         ensures faults { IfErr result (λ e. e ≡ ToolFault.Read) }
         ensures noted { IsErr result → IsSome self.new.notes.heard.failure }
     {
-        match fs::open(self.rt, path) {
-            Ok(file) => Ok(file),
-            Err(error) => {
-                self.notes.heard.failure = Some(error);
-                Err(ToolFault::Read)
-            }
-        }
+        Ok(self.open_log(path, false)?.unwrap())
     }
 }

@@ -9,7 +9,6 @@ mod ending;
 mod files;
 pub mod laws;
 mod looks;
-mod meant;
 mod mending;
 mod notes;
 mod numbers;

@@ -68,28 +68,10 @@ pub fn escaped_of(alloc: Global, bytes: &[u8]) -> Option<String>
     ensures value { IfSome result (λ text. string_bytes text ≡ flat_map escaped bytes.now) }
 {
     let mut text = Vec::new(alloc);
-    match push_all(bytes, &mut text) {
-        Ok(()) => string_of(text),
-        Err(_) => None,
-    }
-}
-
-fn string_of(bytes: Vec<u8>) -> Option<String>
-    ensures { IfSome result (λ text. string_bytes text ≡ bytes.items) }
-{
-    match String::from_utf8(bytes) {
-        Ok(text) => Some(text),
-        Err(_) => None,
-    }
-}
-
-fn push_all(bytes: &[u8], out: &mut Vec<u8>) -> Result<(), AllocError>
-    ensures ok { OnOk result (out.new.items ≡ out.old.items ++ flat_map escaped bytes.now) }
-{
     for byte in bytes {
-        push_escaped(*byte, out)?;
+        push_escaped(*byte, &mut text).ok()?;
     }
-    Ok(())
+    String::from_utf8(text).ok()
 }
 
 fn push_escaped(byte: u8, out: &mut Vec<u8>) -> Result<(), AllocError>

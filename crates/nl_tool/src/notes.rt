@@ -173,16 +173,12 @@ impl<R: Read> Read for NotedReader<'_, R> {
         ensures bytes { ReadConsumes (R.remaining self.old.reader) (R.remaining self.new.reader) result buf.new }
         ensures noted { IfErr result (λ error. self.new.heard.now.failure ≡ Some error) }
     {
-        match self.reader.read(buf) {
-            Ok(count) => {
-                self.heard.beginning.note(&buf[..count]);
-                Ok(count)
-            }
-            Err(error) => {
-                self.heard.failure = Some(error);
-                Err(error)
-            }
+        let answer = self.reader.read(buf);
+        match answer {
+            Ok(count) => self.heard.beginning.note(&buf[..count]),
+            Err(error) => self.heard.failure = Some(error),
         }
+        answer
     }
 }
 
@@ -213,25 +209,21 @@ impl<W: Write> Write for NotedWriter<W> {
         ensures bytes { WriteAppends (W.contents self.old.writer) (W.contents self.new.writer) result buf.now }
         ensures noted { IfErr result (λ error. self.new.failure ≡ Some error) }
     {
-        match self.writer.write(buf) {
-            Ok(count) => Ok(count),
-            Err(error) => {
-                self.failure = Some(error);
-                Err(error)
-            }
+        let answer = self.writer.write(buf);
+        if let Err(error) = answer {
+            self.failure = Some(error);
         }
+        answer
     }
 
     fn flush(&mut self) -> io::Result<()>
         ensures bytes { Keeps (W.contents self.old.writer) (W.contents self.new.writer) }
         ensures noted { IfErr result (λ error. self.new.failure ≡ Some error) }
     {
-        match self.writer.flush() {
-            Ok(()) => Ok(()),
-            Err(error) => {
-                self.failure = Some(error);
-                Err(error)
-            }
+        let answer = self.writer.flush();
+        if let Err(error) = answer {
+            self.failure = Some(error);
         }
+        answer
     }
 }

@@ -41,14 +41,12 @@ fn count_for(text: &str, which: NumberOf, told: &mut Told) -> Result<usize, Tool
     ensures accepts { (n : ℕ) → n < 2 ^ 63 → IsDecimal (pos n) text.now → result ≡ Ok n }
     ensures faults { IfErr result (IsToldOf which told.new.number) }
 {
-    match count_of(text) {
-        Some(count) => Ok(count),
-        None => Err(told.refuse_number(WrongNumber {
-            which,
-            nth: None,
-            why: count_fault(text.as_bytes()),
-        })),
-    }
+    let text = text.as_bytes();
+    let Some(count) = count_in(text) else {
+        let (nth, why) = (None, count_fault(text));
+        return Err(told.refuse_number(WrongNumber { which, nth, why }));
+    };
+    Ok(count)
 }
 
 pub fn scope_of(all: bool, build: Option<&str>, told: &mut Told) -> Result<Scope, ToolFault>
@@ -80,24 +78,14 @@ fn numbered_by(text: &str, told: &mut Told) -> Result<Scope, ToolFault>
     ensures faults { IfErr result (IsToldOf NumberOf.Build told.new.number) }
 {
     let text = text.as_bytes();
-    match positive_of(text) {
-        Some(number) => Ok(Scope::Numbered(number as u64)),
-        None => Err(told.refuse_number(WrongNumber {
-            which: NumberOf::Build,
-            nth: None,
-            why: build_fault(text),
-        })),
-    }
+    let Some(number) = positive_of(text) else {
+        let (which, nth, why) = (NumberOf::Build, None, build_fault(text));
+        return Err(told.refuse_number(WrongNumber { which, nth, why }));
+    };
+    Ok(Scope::Numbered(number as u64))
 }
 
 // A number of 0 up to 2^63 - 1, in its one spelling.
-pub fn count_of(text: &str) -> Option<usize>
-    ensures value { IfSome result (λ n. (n < 2 ^ 63) × IsDecimal (pos n) text.now) }
-    ensures accepts { (n : ℕ) → n < 2 ^ 63 → IsDecimal (pos n) text.now → result ≡ Some n }
-{
-    count_in(text.as_bytes())
-}
-
 fn count_in(text: &[u8]) -> Option<usize>
     ensures value { IfSome result (λ n. (n < 2 ^ 63) × IsDecimal (pos n) text.now) }
     ensures accepts { (n : ℕ) → n < 2 ^ 63 → IsDecimal (pos n) text.now → result ≡ Some n }
@@ -152,13 +140,10 @@ fn positive_in(alloc: Global, texts: &[&[u8]], told: &mut Told) -> Result<Vec<us
     Ok(counts)
 }
 
-fn positive_of(text: &[u8]) -> Option<usize>
+// A number of 1 up to 2^63 - 1, in its one spelling.
+pub fn positive_of(text: &[u8]) -> Option<usize>
     ensures value { IfSome result (λ n. (0 < n) × (n < 2 ^ 63) × IsDecimal (pos n) text.now) }
     ensures accepts { (n : ℕ) → 0 < n → n < 2 ^ 63 → IsDecimal (pos n) text.now → result ≡ Some n }
 {
-    let count = count_in(text)?;
-    if count == 0 {
-        return None;
-    }
-    Some(count)
+    count_in(text).filter(|count| *count > 0)
 }

@@ -71,7 +71,13 @@ impl<R: Runtime> Desk<'_, R> {
     {
         let mut out = NotedWriter::new(io::writer(self.rt));
         let reader = NotedReader::new(reader, &mut self.notes.heard);
-        let answer = stream_of(self.alloc, streaming, reader, &mut out);
+        let answer = match streaming {
+            Streaming::Entries => match entries_to(self.alloc, reader, &mut out) {
+                Ok(()) => Ok(Verdict::Done),
+                Err(fault) => Err(fault),
+            },
+            Streaming::Damage => tell_damage(self.alloc, reader, &mut out),
+        };
         self.notes.written = out.failure;
         answer
     }
@@ -110,24 +116,6 @@ impl<R: Runtime> Desk<'_, R> {
         let answer = print_to(alloc, secret, printing, asked, reader, &mut out, told);
         self.notes.written = out.failure;
         answer
-    }
-}
-
-fn stream_of<R: Read + Drop, W: Write>(
-    alloc: Global,
-    streaming: Streaming,
-    reader: R,
-    writer: &mut W,
-) -> Result<Verdict, ToolFault>
-    ensures faults { IfErr result IsLogFault }
-    ensures outcome { IfOk result (λ outcome. outcome ≡ Verdict.Found → streaming ≡ Streaming.Damage) }
-{
-    match streaming {
-        Streaming::Entries => {
-            entries_to(alloc, reader, writer)?;
-            Ok(Verdict::Done)
-        }
-        Streaming::Damage => tell_damage(alloc, reader, writer),
     }
 }
 

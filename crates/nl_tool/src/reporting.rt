@@ -10,7 +10,7 @@ ghost use Rattle.nl_reports.specs.declared.choice.Scope.{Scope};
 ghost use Rattle.nl_tool.specs.Answers.{RefusesLog};
 ghost use Rattle.nl_tool.specs.Faults.{IsBuildFault, IsPathFault, IsPictureFault, IsReportFault, IsSummaryFault, IsToldFault};
 ghost use Rattle.nl_tool_print.specs.Faults.{IsLogFault};
-ghost use Rattle.nl_tool.specs.Reports.{AreBuilds, AreCounts, IsFound, IsLaidOut, IsMost, IsReport, IsReportOf, IsScope, IsSummary, PrintsReport, asked_told, laid_out, rule_by, rule_of, waiting};
+ghost use Rattle.nl_tool.specs.Reports.{AreBuilds, AreCounts, IsFound, IsLaidOut, IsMost, IsReport, IsReportOf, IsScope, IsSummary, PrintsReport, asked_told, laid_out, rule_of, waiting};
 
 use crate::desk::{Desk, Means};
 use crate::notes::NotedWriter;
@@ -130,18 +130,10 @@ pub fn rule_of(kind: Option<&str>, screen: bool) -> KindRule
     match kind {
         None if screen => KindRule::Work,
         None => KindRule::Extension,
-        Some(text) => rule_by(text),
-    }
-}
-
-fn rule_by(text: &str) -> KindRule
-    ensures value { result ≡ rule_by text.entry.now }
-{
-    match text {
-        "folder" => KindRule::Folder,
-        "top" => KindRule::Top,
-        "work" => KindRule::Work,
-        _ => KindRule::Extension,
+        Some("folder") => KindRule::Folder,
+        Some("top") => KindRule::Top,
+        Some("work") => KindRule::Work,
+        Some(_) => KindRule::Extension,
     }
 }
 

@@ -1,5 +1,5 @@
 //! Which of the standard streams a person looks at, and how wide the screen is.
-use crate::numbers::count_of;
+use crate::numbers::positive_of;
 use std::env;
 use std::rt::Runtime;
 
@@ -29,8 +29,5 @@ pub fn width_of<R: Runtime>(rt: &R) -> usize {
     let Ok(text) = env::var(rt, "COLUMNS") else {
         return USUAL;
     };
-    match count_of(text.as_str()) {
-        None | Some(0) => USUAL,
-        Some(count) => count,
-    }
+    positive_of(text.as_bytes()).unwrap_or(USUAL)
 }
