@@ -22,14 +22,14 @@ pub fn a_repaired_log_has_no_damage()
 
 /// A change by KEEP answers by the names that KEEP holds, or nothing was done.
 pub fn keep_is_read_first<F: Folder>()
-    ensures { (known : Option (List ℕ)) (result : Result (Unit {0}) ToolFault) (old new : F) →
-        ChangesAsRead F.Folder keep_of keeping known result old new → SaysAsRead keep_of keeping
-        known result (folder_view F.Folder old) (folder_view F.Folder new) }
+    ensures { (known : Option (List ℕ)) (result : Result (Unit {0}) ToolFault) (old new : F)
+        → ChangesAsRead F.Folder keep_of keeping known result old new
+        → SaysAsRead keep_of keeping known result (folder_view F.Folder old) (folder_view F.Folder new) }
 {}
 
 /// A change by TIMES answers by the pairs that TIMES holds, or nothing was done.
 pub fn times_are_read_first<F: Folder>()
-    ensures { (known : Option (List ℕ)) (result : Result (Unit {0}) ToolFault) (old new : F) →
-        ChangesAsRead F.Folder times_of touching known result old new → SaysAsRead times_of touching
-        known result (folder_view F.Folder old) (folder_view F.Folder new) }
+    ensures { (known : Option (List ℕ)) (result : Result (Unit {0}) ToolFault) (old new : F)
+        → ChangesAsRead F.Folder times_of touching known result old new
+        → SaysAsRead times_of touching known result (folder_view F.Folder old) (folder_view F.Folder new) }
 {}
