@@ -20,7 +20,7 @@ use crate::line_fault::{LineFault, Told};
 use crate::log_fault::ToolResult;
 use nl_fields::{Entry, Name, NameFault, read_entry, read_i64};
 use nl_folder::{Call, Fuse};
-use nl_lines::{Line, Lines, ReadSource, Source};
+use nl_lines::{Line, Lines, ReadSource};
 use nl_session::Event;
 use nl_table::KeepList;
 use nl_tool_texts::ToolFault;
@@ -95,58 +95,25 @@ pub fn read_script<R: Read + Drop>(alloc: Global, reader: R, told: &mut Told) ->
     ensures why { IsErrAnd result IsBadLine → IsSome told.new.why }
     ensures faults { IfErr result IsScriptFault }
 {
-    read_script_lines(alloc, &mut ReadSource::new(reader), told)
-}
-
-fn read_script_lines<S: Source>(
-    alloc: Global,
-    source: &mut S,
-    told: &mut Told,
-) -> ToolResult<Script>
-    ensures value { IfOk result (λ script. OfBytes (S.ahead source.old) (λ bytes. IsScript (file_lines bytes) script.events.items)) }
-    ensures why { IsErrAnd result IsBadLine → IsSome told.new.why }
-    ensures faults { IfErr result IsScriptFault }
-{
+    let mut source = ReadSource::new(reader);
     let mut lines = Lines::new(alloc)?;
     let mut script = Script::new(alloc);
     let mut number = 1;
     'lines: loop {
-        match lines.next(source)? {
-            Some(Line::Whole(line)) => take_line(alloc, line, number, &mut script, told)?,
+        match lines.next(&mut source)? {
+            Some(Line::Whole(line)) => script.take_line(alloc, line, number, told)?,
             Some(Line::TooLong) => return Err(told.refuse(number, LineFault::LongLine)),
             // It is too long to be lent.
             Some(Line::Torn { bytes, .. }) if bytes.is_empty() => {
                 return Err(told.refuse(number, LineFault::LongLine));
             }
             Some(Line::Torn { bytes, .. }) => {
-                take_line(alloc, bytes, number, &mut script, told)?;
+                script.take_line(alloc, bytes, number, told)?;
                 return Ok(script);
             }
             None => return Ok(script),
         }
         number += 1;
-    }
-}
-
-fn take_line(
-    alloc: Global,
-    line: &[u8],
-    number: u64,
-    script: &mut Script,
-    told: &mut Told,
-) -> ToolResult
-    ensures ok { OnOk result (TakesScriptLine script.old.events.items script.new.events.items line.now) }
-    ensures why { IsErrAnd result IsBadLine → IsSome told.new.why }
-    ensures faults { IfErr result (IsFaultOfLine number) }
-{
-    if line.is_empty() {
-        return Ok(());
-    }
-    match script.add(alloc, line) {
-        Ok(()) => Ok(()),
-        Err(LineRefusal::NoEvent) => Err(told.refuse(number, LineFault::NoEvent)),
-        Err(LineRefusal::BadLine) => Err(told.refuse(number, LineFault::Values)),
-        Err(LineRefusal::OutOfMemory) => Err(ToolFault::Memory),
     }
 }
 
@@ -160,6 +127,22 @@ impl Script {
             tails: Vec::new(alloc),
             fuse: None,
             events: Vec::new(alloc),
+        }
+    }
+
+    fn take_line(&mut self, alloc: Global, line: &[u8], number: u64, told: &mut Told) -> ToolResult
+        ensures ok { OnOk result (TakesScriptLine self.old.events.items self.new.events.items line.now) }
+        ensures why { IsErrAnd result IsBadLine → IsSome told.new.why }
+        ensures faults { IfErr result (IsFaultOfLine number) }
+    {
+        if line.is_empty() {
+            return Ok(());
+        }
+        match self.add(alloc, line) {
+            Ok(()) => Ok(()),
+            Err(LineRefusal::NoEvent) => Err(told.refuse(number, LineFault::NoEvent)),
+            Err(LineRefusal::BadLine) => Err(told.refuse(number, LineFault::Values)),
+            Err(LineRefusal::OutOfMemory) => Err(ToolFault::Memory),
         }
     }
 
