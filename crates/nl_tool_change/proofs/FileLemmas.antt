@@ -2,7 +2,7 @@
 use Rattle.std.proofs.Common.{◌≡◌, ◌∙◌, ℕ, ◌+◌, ◌≤◌, nat_le, List, [], ◌∷◌, ◌++◌, length, refl, sym, ap, subst, inl, inr, arith}
 use Rattle.std.proofs.Common.{length-append, leb-true}
 use Rattle.std.specs.Prelude.{Option, None, Some}
-use Rattle.std.proofs.lemmas.Bool.{cases_Bool, cond-true, cond-false}
+use Rattle.std.proofs.lemmas.Bool.{cases_Bool, cond-true, cond-false, le-leb}
 use Rattle.nl_lines.specs.Lines.{Reader, HasEnded, IsReading, TakesLine, TakesRest, TakesLines, TakesAll, fresh, lent_rest, max_line}
 use Rattle.nl_lines.proofs.LinesLemmas.{TakesLines_none, TakesLines_more, TakesLines_rest}
 use Rattle.nl_tool_texts.specs.Files.{OfBytes}
@@ -116,3 +116,7 @@ lent_is_short rest lent is = elim (cases_Bool (nat_le (length rest) max_line)) [
   | inl short ↦ omega (arith, ap length (is ∙ cond-true _ rest [] short), leb-true (length rest) max_line short)
   | inr long ↦ omega (arith, ap length (is ∙ cond-false _ rest [] long))
 ]
+
+-- and is all of it, if it does
+pub lent_all : (rest lent : List ℕ) → length rest ≤ max_line → lent ≡ lent_rest rest → lent ≡ rest
+lent_all rest lent short is = is ∙ cond-true _ rest [] (le-leb (length rest) max_line short)

@@ -50,6 +50,10 @@ abbrev pub line_of : Option (ℕ × LineFault) → Option ℕ
 line_of None = None
 line_of (Some bad) = Some bad.0
 
+-- what the lines said that were taken so far
+abbrev pub said_so_far : {T : Type 0} → List T → Option (ℕ × LineFault) → FileReading T
+said_so_far parts bad = said_of parts (line_of bad)
+
 abbrev pub said_by : {T : Type 0} → (List ℕ → Option T) → List ℕ → FileReading T
 said_by part_of bytes = said_from part_of 1 (file_lines bytes)
 

@@ -7,7 +7,7 @@ ghost use Rattle.nl_tool_change.specs.declared.asked.Asked.{Asked};
 ghost use Rattle.nl_tool_change.specs.Applying.{Asks, BeginsBy, BeginsNone};
 
 use crate::deed::Deed;
-use crate::keep_file::why_no_name;
+use crate::files::why_no_name;
 use crate::line_fault::LineFault;
 use crate::script::{LineRefusal, read_event_line, read_names, split_tab};
 use nl_fields::{Name, name_fault, read_hex64, read_i32};

@@ -7,12 +7,11 @@ mod asked;
 mod change;
 mod deed;
 mod distrusted;
-mod keep_file;
+mod files;
 pub mod laws;
 mod line_fault;
 mod log_fault;
 mod look;
-mod manifest_file;
 mod mending;
 mod parts;
 mod place;
@@ -22,14 +21,13 @@ mod replay;
 mod reply_line;
 mod script;
 mod seen;
-mod times_file;
 mod update;
 
 pub use apply::{Hears, Nobody, apply_on};
+pub use files::read_manifest;
 pub use line_fault::{
     LineFault, NumberFault, NumberOf, Told, UNTOLD, WrongNumber, build_fault, count_fault,
 };
-pub use manifest_file::read_manifest;
 pub use mending::mend_on;
 pub use place::{AskedFolder, FoundFolder, LogPlace};
 pub use reading::read_log;

@@ -4,12 +4,13 @@ ghost use Rattle.std.specs.Result.{result_ok};
 ghost use Rattle.nl_lines.specs.Lines.{lent_rest, max_line};
 ghost use Rattle.nl_tool_change.specs.Faults.{IsBadLine, IsFileFault};
 ghost use Rattle.nl_tool_texts.specs.Files.{OfBytes};
-ghost use Rattle.nl_tool_change.specs.Files.{IfBadLine, IfSaid, line_of, said_by, said_after, said_of};
+ghost use Rattle.nl_tool_change.specs.Files.{IfBadLine, IfSaid, said_after, said_by, said_so_far};
 ghost use Rattle.nl_tool_texts.specs.declared.fault.ToolFault.{ToolFault};
 
 use crate::line_fault::{LineFault, Told};
+use crate::log_fault::ToolResult;
 use nl_lines::{Line, Lines, MAX_LINE, ReadSource, Source};
-use nl_tool_texts::{AllocResult, ToolFault};
+use nl_tool_texts::AllocResult;
 use std::alloc::Global;
 use std::io::Read;
 
@@ -20,7 +21,9 @@ pub trait Part: Drop {
     fn read(alloc: Global, line: &[u8]) -> AllocResult<Result<Self, LineFault>>
         ensures value { IfOk result (λ read. result_ok read ≡ part_of line.now) };
 
-    fn is_negative(&self) -> bool;
+    fn is_negative(&self) -> bool {
+        false
+    }
 }
 
 #[derive(Drop)]
@@ -37,7 +40,7 @@ pub fn read_parts<P: Part, R: Read + Drop>(
     alloc: Global,
     reader: R,
     told: &mut Told,
-) -> Result<Vec<P>, ToolFault>
+) -> ToolResult<Vec<P>>
     ensures value { IfSaid result (said_by P.part_of) (R.remaining reader) }
     ensures bad_line { IfBadLine result (said_by P.part_of) (R.remaining reader) }
     ensures why { IsErrAnd result IsBadLine → IsSome told.new.why }
@@ -51,9 +54,8 @@ pub fn read_parts<P: Part, R: Read + Drop>(
     }
 }
 
-fn read_lines<P: Part, S: Source>(alloc: Global, source: &mut S) -> Result<SoFar<P>, ToolFault>
-    ensures value { IfOk result (λ so_far. OfBytes (S.ahead source.old)
-        (λ bytes. said_by P.part_of bytes ≡ said_of so_far.parts.items (line_of so_far.bad))) }
+fn read_lines<P: Part, S: Source>(alloc: Global, source: &mut S) -> ToolResult<SoFar<P>>
+    ensures value { IfOk result (λ so_far. OfBytes (S.ahead source.old) (λ bytes. said_by P.part_of bytes ≡ said_so_far so_far.parts.items so_far.bad)) }
     ensures faults { IfErr result (λ e. (e ≡ ToolFault.Read) ⊎ (e ≡ ToolFault.Memory)) }
 {
     let mut lines = Lines::new(alloc)?;
@@ -65,10 +67,14 @@ fn read_lines<P: Part, S: Source>(alloc: Global, source: &mut S) -> Result<SoFar
     };
     'lines: loop {
         match lines.next(source)? {
-            Some(Line::Whole(line)) => take(alloc, line, &mut so_far)?,
-            Some(Line::TooLong) => refuse(&mut so_far),
-            Some(Line::Torn { at: _, len, bytes }) => {
-                take_rest(alloc, len, bytes, &mut so_far)?;
+            Some(Line::Whole(line)) => so_far.take(alloc, line)?,
+            Some(Line::TooLong) => so_far.refuse(),
+            Some(Line::Torn { len, .. }) if len > MAX_LINE as u64 => {
+                so_far.refuse();
+                return Ok(so_far);
+            }
+            Some(Line::Torn { bytes, .. }) => {
+                so_far.take(alloc, bytes)?;
                 return Ok(so_far);
             }
             None => return Ok(so_far),
@@ -76,53 +82,39 @@ fn read_lines<P: Part, S: Source>(alloc: Global, source: &mut S) -> Result<SoFar
     }
 }
 
-fn take<P: Part>(alloc: Global, line: &[u8], so_far: &mut SoFar<P>) -> AllocResult
-    requires short { length line.now ≤ max_line }
-    requires room { so_far.old.count < 2 ^ 63 }
-    ensures ok { OnOk result (said_of so_far.new.parts.items (line_of so_far.new.bad) ≡ said_after P.part_of
-        so_far.new.count line.now (said_of so_far.old.parts.items (line_of so_far.old.bad))) }
-    ensures count { so_far.new.count ≡ so_far.old.count + 1 }
-{
-    so_far.count += 1;
-    if line.is_empty() || so_far.bad.is_some() {
-        return Ok(());
-    }
-    match P::read(alloc, line)? {
-        Ok(part) => {
-            if so_far.negative.is_none() && part.is_negative() {
-                so_far.negative = Some(so_far.count);
-            }
-            so_far.parts.push(part)?;
+impl<P: Part> SoFar<P> {
+    fn take(&mut self, alloc: Global, line: &[u8]) -> AllocResult
+        requires short { length line.now ≤ max_line }
+        requires room { self.old.count < 2 ^ 63 }
+        ensures ok { OnOk result (said_so_far self.new.parts.items self.new.bad
+            ≡ said_after P.part_of self.new.count line.now (said_so_far self.old.parts.items self.old.bad)) }
+        ensures count { self.new.count ≡ self.old.count + 1 }
+    {
+        self.count += 1;
+        if line.is_empty() || self.bad.is_some() {
+            return Ok(());
         }
-        Err(why) => so_far.bad = Some((so_far.count, why)),
+        match P::read(alloc, line)? {
+            Ok(part) => {
+                if self.negative.is_none() && part.is_negative() {
+                    self.negative = Some(self.count);
+                }
+                self.parts.push(part)?;
+            }
+            Err(why) => self.bad = Some((self.count, why)),
+        }
+        Ok(())
     }
-    Ok(())
-}
 
-fn refuse<P: Part>(so_far: &mut SoFar<P>)
-    requires room { so_far.old.count < 2 ^ 63 }
-    ensures value { (line : List ℕ) → max_line < length line
-        → said_of so_far.new.parts.items (line_of so_far.new.bad) ≡ said_after P.part_of so_far.new.count line
-        (said_of so_far.old.parts.items (line_of so_far.old.bad)) }
-    ensures count { so_far.new.count ≡ so_far.old.count + 1 }
-{
-    so_far.count += 1;
-    if so_far.bad.is_none() {
-        so_far.bad = Some((so_far.count, LineFault::LongLine));
+    fn refuse(&mut self)
+        requires room { self.old.count < 2 ^ 63 }
+        ensures value { (line : List ℕ) → max_line < length line → said_so_far self.new.parts.items self.new.bad
+            ≡ said_after P.part_of self.new.count line (said_so_far self.old.parts.items self.old.bad) }
+        ensures count { self.new.count ≡ self.old.count + 1 }
+    {
+        self.count += 1;
+        if self.bad.is_none() {
+            self.bad = Some((self.count, LineFault::LongLine));
+        }
     }
-}
-
-fn take_rest<P: Part>(alloc: Global, len: u64, lent: &[u8], so_far: &mut SoFar<P>) -> AllocResult
-    requires short { length lent.now ≤ max_line }
-    requires room { so_far.old.count < 2 ^ 63 }
-    ensures ok { (rest : List ℕ) → len ≡ length rest → lent.now ≡ lent_rest rest
-        → OnOk result (said_of so_far.new.parts.items (line_of so_far.new.bad) ≡ said_after P.part_of
-        so_far.new.count rest (said_of so_far.old.parts.items (line_of so_far.old.bad))) }
-    ensures count { so_far.new.count ≡ so_far.old.count + 1 }
-{
-    if len > MAX_LINE as u64 {
-        refuse(so_far);
-        return Ok(());
-    }
-    take(alloc, lent, so_far)
 }

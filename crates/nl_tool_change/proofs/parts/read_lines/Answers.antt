@@ -1,5 +1,5 @@
-use Rattle.std.proofs.Common.{inl, inr}
-use Rattle.nl_tool_change.proofs.FileLemmas.{Telling_none, Telling_more, Telling_rest, Telling_reading, Telling_end, lent_is_short}
+use Rattle.std.proofs.Common.{◌≡◌, arith, inl, inr}
+use Rattle.nl_tool_change.proofs.FileLemmas.{Telling_none, Telling_more, Telling_rest, Telling_reading, Telling_end, lent_all, lent_is_short}
 use Rattle.nl_tool_change.proofs.parts.read_lines.Goals as goal
 
 pub lines-init : goal.lines-init
@@ -8,8 +8,8 @@ lines-init g c = record {
       (Telling_none g.P.Part.part_of (g.S.Source.ahead c.args.source.now) c.new-2.result.items c.new-2.ensures.items);
 }
 
-pub take_rest-requires-clause-short : goal.take_rest-requires-clause-short
-take_rest-requires-clause-short g c =
+pub take-requires-in-Some-Torn-2-clause-short : goal.take-requires-in-Some-Torn-2-clause-short
+take-requires-in-Some-Torn-2-clause-short g c =
     let h = rw (c.in_ok-line.was, c.in-Some-Torn.is, c.in-Some-Torn.field-0-is) at c.next.follows.holds-at-none in
     lent_is_short h.0 _ h.5
 
@@ -33,7 +33,14 @@ pub returns-in-Some-Torn-clause-value : goal.returns-in-Some-Torn-clause-value
 returns-in-Some-Torn-clause-value g c =
     let h = rw (c.in_ok-line.was, c.in-Some-Torn.is, c.in-Some-Torn.field-0-is) at c.next.follows.holds-at-none in
     Telling_rest g.P.Part.part_of _ _ _ _ _ _ c.lines.invariant.telling _ _ h.0 h.1 _ _ _
-    (c.in_ok-take_rest-in-Some-Torn.ensures.ok h.0 h.4 h.5) c.take_rest.ensures.count
+    (c.refuse-in-Some-Torn.ensures.value h.0 (omega (arith, h.4))) c.refuse-in-Some-Torn.ensures.count
+
+pub returns-in-Some-Torn-2-clause-value : goal.returns-in-Some-Torn-2-clause-value
+returns-in-Some-Torn-2-clause-value g c =
+    let h = rw (c.in_ok-line.was, c.in-Some-Torn.is, c.in-Some-Torn.field-0-is) at c.next.follows.holds-at-none in
+    let whole : c.in-Some-Torn.field-0-2.now ≡ h.0 = lent_all h.0 c.in-Some-Torn.field-0-2.now (omega (arith, h.4)) h.5 in
+    Telling_rest g.P.Part.part_of _ _ _ _ _ _ c.lines.invariant.telling _ _ h.0 h.1 _ _ _
+    (rw whole at c.in_ok-take-in-Some-Torn-2.ensures.ok) c.take-in-Some-Torn-2.ensures.count
 
 pub returns-in-None-clause-value : goal.returns-in-None-clause-value
 returns-in-None-clause-value g c =

@@ -2,7 +2,7 @@ use Rattle.std.proofs.Common.{◌≡◌, ap, Err}
 use Rattle.nl_tool_texts.specs.declared.fault.ToolFault.TheVariants.{BadLine}
 use Rattle.nl_tool_change.proofs.KeepLemmas.{is_err}
 use Rattle.nl_tool_change.proofs.ManifestLemmas.{bad_manifest}
-use Rattle.nl_tool_change.proofs.manifest_file.read_manifest.Goals as goal
+use Rattle.nl_tool_change.proofs.files.read_manifest.Goals as goal
 
 pub returns-in_err-targets-clause-bad_line : goal.returns-in_err-targets-clause-bad_line
 returns-in_err-targets-clause-bad_line g c number is =

@@ -1,5 +1,5 @@
 use Rattle.nl_tool_change.proofs.ManifestLemmas.{cut_at, uncut}
-use Rattle.nl_tool_change.proofs.manifest_file.before_rule.Goals as goal
+use Rattle.nl_tool_change.proofs.files.before_rule.Goals as goal
 
 pub returns-then-last-eq32 : goal.returns-then-last-eq32
 returns-then-last-eq32 c =

@@ -1,6 +1,6 @@
 use Rattle.std.proofs.Common.{◌≡◌, ◌++◌, ℕ, List, true, length}
 use Rattle.nl_tool_change.specs.Files.{has_no_space}
-use Rattle.nl_tool_change.proofs.manifest_file.before_rule.Given as goal
+use Rattle.nl_tool_change.proofs.files.before_rule.Given as goal
 
 -- there is no space behind the rest
 abbrev pub invariant-bytes : goal.invariant-bytes
