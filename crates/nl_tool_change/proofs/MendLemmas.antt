@@ -4,10 +4,8 @@ use Rattle.std.specs.Prelude.{IsTrue}
 use Rattle.std.proofs.lemmas.Bool.{cond-false}
 use Rattle.nl_folder.specs.FolderView.{FolderView}
 use Rattle.nl_versions.specs.declared.version.LogVersion.{LogVersion}
-use Rattle.nl_versions.specs.declared.version.LogVersion.TheVariants.{Five}
 use Rattle.nl_versions.specs.LogAs.{is_barred}
 use Rattle.nl_versions.specs.VersionFolder.{disk_as_version, seen_as_version}
-use Rattle.nl_versions.proofs.LogAsLemmas.{log_five, seen_five}
 use Rattle.nl_versions.proofs.VersionFolderLemmas.{seen-twice}
 use Rattle.nl_session.specs.declared.fault.LogFault.{LogFault}
 use Rattle.nl_session.specs.declared.fault.LogFault.TheVariants as refusal
@@ -18,6 +16,7 @@ use Rattle.nl_tool_texts.specs.declared.fault.ToolFault.{ToolFault}
 use Rattle.nl_tool_change.specs.Calls.{IsFree}
 use Rattle.nl_tool_change.specs.Faults.{IsOpenOrChangeRefusal, IsRecordFault, of_log_fault}
 use Rattle.nl_tool_change.specs.Mending.{MendsDisk, MendsLog, MendsLogAs, MendsSeen}
+use Rattle.nl_tool_change.specs.Seen.{Begins, HandsBack, Seen}
 use Rattle.nl_tool_change.proofs.ChangeLemmas.{ok_with}
 
 -- a closed log that was mended
@@ -154,7 +153,7 @@ unmended refusal.Fault closed call = (
 
 module _ {names : List (List ℕ)} {r : Result (Unit {0}) ToolFault} {old new : FolderView} where
   -- through a folder that sees it so, where no bytes are barred
-  pub mends_through : {from to : FolderView} (version : LogVersion) → IsFree old.disk version → from.disk ≡ seen_as_version version old.disk
+  mends_through : {from to : FolderView} (version : LogVersion) → IsFree old.disk version → from.disk ≡ seen_as_version version old.disk
       → new.disk ≡ seen_as_version version to.disk → (IsTrue to.is_settled → IsTrue new.is_settled)
       → from.failures ≡ old.failures → new.failures ≤ to.failures → (0 < to.failures → 0 < new.failures)
       → MendsLog names r from to → MendsSeen version names r old new
@@ -180,29 +179,14 @@ module _ {names : List (List ℕ)} {r : Result (Unit {0}) ToolFault} {old new : 
         refusals = call.refusals;
       }
 
-  -- of version 5, as it is
-  pub mends_five : {version : LogVersion} → version ≡ Five → MendsLog names r old new → MendsLogAs version names r old new
-  mends_five {version} is call =
-      let same = seen_five version is in
+  -- by a log that is seen as of the version
+  pub mended_as : {version : LogVersion} (from to : Seen) → from.version ≡ version → to.version ≡ from.version → Begins old from → HandsBack to new
+      → IsFree old.disk version → MendsLog names r from.view.folder to.view.folder → MendsLogAs version names r old new
+  mended_as {version} from to is same begins hands free call =
+      let late : to.version ≡ version = same ∙ is in
       record {
-        seen = record {
-          disk = subst (λ d. MendsDisk names r d (seen_as_version version new.disk)) (sym (same old.disk))
-              (subst (MendsDisk names r old.disk) (sym (same new.disk)) call.disk);
-          settled = call.settled;
-          bytes = record {
-            not_a_log = λ d was refused. log_five version is d.visible ∙ call.bytes.not_a_log d was refused;
-            other_version = λ d was refused. log_five version is d.visible ∙ call.bytes.other_version d was refused;
-          };
-          count = λ none. call.count;
-          refusals = call.refusals;
-        };
-        five = λ five. call;
+        seen = mends_through version free (begins.disk ∙ ap (λ v. seen_as_version v old.disk) is)
+            (hands.disk ∙ ap (λ v. seen_as_version v to.view.folder.disk) late) hands.settled begins.failures hands.failed hands.cause call;
+        five = λ five. subst (λ (found : FolderView). MendsLog names r found new) (begins.five (is ∙ five))
+            (subst (MendsLog names r from.view.folder) (sym (hands.five (late ∙ five))) call);
       }
-
-  -- of another
-  pub mends_other : {version seen : LogVersion} → version ≡ seen → (seen ≡ Five → ⊥) → MendsSeen seen names r old new
-      → MendsLogAs version names r old new
-  mends_other is other call = record {
-    seen = subst (λ v. MendsSeen v names r old new) (sym is) call;
-    five = λ five. absurd (other (sym is ∙ five));
-  }

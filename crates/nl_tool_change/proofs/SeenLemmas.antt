@@ -1,5 +1,5 @@
 -- A change of a log that is seen as one of another version.
-use Rattle.std.proofs.Common.{◌≡◌, ◌∙◌, ◌<◌, ◌≤◌, true, false, refl, sym, ap, subst, inl, arith, Option, None, Some, Result, Ok, Err}
+use Rattle.std.proofs.Common.{◌≡◌, ◌∙◌, ◌<◌, ◌≤◌, true, refl, sym, ap, subst, inl, arith, Option, None, Some, Result, Ok, Err}
 use Rattle.std.specs.Prelude.{IsTrue}
 use Rattle.std.proofs.lemmas.Bool.{cond-true, cond-false}
 use Rattle.nl_lines.specs.Source.{FailedBetween}
@@ -13,13 +13,13 @@ use Rattle.nl_session.specs.declared.fault.LogFault.TheVariants as refusal
 use Rattle.nl_session.specs.Runs.{BeginsAt}
 use Rattle.nl_versions.specs.VersionOf.{version_of}
 use Rattle.nl_versions.specs.LogAs.{is_barred}
-use Rattle.nl_versions.proofs.LogAsLemmas.{log_five, seen_five}
 use Rattle.nl_tool_texts.specs.declared.fault.ToolFault.{ToolFault}
 use Rattle.nl_tool_texts.specs.declared.fault.ToolFault.TheVariants.{Folder, OtherVersion}
 use Rattle.nl_tool_change.specs.Calls.{ChangesDisk, ChangesLog, ChangesLogAs, ChangesLogFor, ChangesSeen, IsFaultBy, IsFree, IsReason}
 use Rattle.nl_folder.specs.FolderView.{FolderView, SameState}
 use Rattle.nl_tool_change.specs.Calls.{IsVersionFor, Looks, Meaning}
 use Rattle.nl_tool_change.specs.Faults.{IsOpenOrChangeRefusal, IsRecordFault, of_log_fault}
+use Rattle.nl_tool_change.specs.Seen.{Begins, HandsBack, Seen}
 use Rattle.nl_tool_change.proofs.ChangeLemmas.{found_first, ok_with}
 
 module _ {m : Meaning} {old new : FolderView} where
@@ -46,7 +46,7 @@ module _ {m : Meaning} {old new : FolderView} where
 
 module _ {m : Meaning} {r : Result (Unit {0}) ToolFault} {old new : FolderView} where
   -- through a folder that sees it so, where no bytes are barred
-  pub through : {from to : FolderView} (version : LogVersion) → IsFree old.disk version → from.disk ≡ seen_as_version version old.disk
+  through : {from to : FolderView} (version : LogVersion) → IsFree old.disk version → from.disk ≡ seen_as_version version old.disk
       → new.disk ≡ seen_as_version version to.disk → (IsTrue to.is_settled → IsTrue new.is_settled)
       → from.failures ≡ old.failures → new.failures ≤ to.failures → (0 < to.failures → 0 < new.failures)
       → ChangesLog m r from to → ChangesSeen version m r old new
@@ -76,35 +76,17 @@ module _ {m : Meaning} {r : Result (Unit {0}) ToolFault} {old new : FolderView} 
         refusals = call.refusals;
       }
 
-  -- of version 5, as it is
-  pub as_five : {version : LogVersion} → version ≡ Five → ChangesLog m r old new → ChangesLogAs version m r old new
-  as_five {version} is call =
-      let same = seen_five version is in
+  -- by a log that is seen as of the version
+  pub changed_as : {version : LogVersion} (from to : Seen) → from.version ≡ version → to.version ≡ from.version → Begins old from → HandsBack to new
+      → IsFree old.disk version → ChangesLog m r from.view.folder to.view.folder → ChangesLogAs version m r old new
+  changed_as {version} from to is same begins hands free call =
+      let late : to.version ≡ version = same ∙ is in
       record {
-        seen = record {
-          disk = subst (λ d. ChangesDisk m r d (seen_as_version version new.disk)) (sym (same old.disk))
-              (subst (ChangesDisk m r old.disk) (sym (same new.disk)) call.disk);
-          settled = call.settled;
-          barred =
-              λ d was four. let free : is_barred version d.visible ≡ false = ap (λ v. is_barred v d.visible) is in absurd (cc (free, four));
-          bytes = record {
-            not_a_log = λ d was refused. log_five version is d.visible ∙ call.bytes.not_a_log d was refused;
-            other_version = λ d was refused. log_five version is d.visible ∙ call.bytes.other_version d was refused;
-          };
-          unchanged = λ refused. (call.unchanged refused).disk;
-          count = λ none. call.count;
-          refusals = call.refusals;
-        };
-        five = λ five. call;
+        seen = through version free (begins.disk ∙ ap (λ v. seen_as_version v old.disk) is)
+            (hands.disk ∙ ap (λ v. seen_as_version v to.view.folder.disk) late) hands.settled begins.failures hands.failed hands.cause call;
+        five = λ five. subst (λ (found : FolderView). ChangesLog m r found new) (begins.five (is ∙ five))
+            (subst (ChangesLog m r from.view.folder) (sym (hands.five (late ∙ five))) call);
       }
-
-  -- of another
-  pub as_other : {version seen : LogVersion} → version ≡ seen → (seen ≡ Five → ⊥) → ChangesSeen seen m r old new
-      → ChangesLogAs version m r old new
-  as_other is other call = record {
-    seen = subst (λ v. ChangesSeen v m r old new) (sym is) call;
-    five = λ five. absurd (other (sym is ∙ five));
-  }
 
 -- a version for a folder, where none is asked for
 pub version_of_disk : Option Disk → LogVersion

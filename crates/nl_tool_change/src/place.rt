@@ -2,17 +2,16 @@
 ghost use Rattle.std.specs.Prelude.{◌≡◌, Result, IfErr};
 ghost use Rattle.nl_versions.specs.VersionFolder.{seen_as_version};
 ghost use Rattle.nl_tool_texts.specs.declared.fault.ToolFault.{ToolFault};
-ghost use Rattle.nl_tool_change.specs.Calls.{ChangesLog, ChangesLogAs, ChangesLogFor, ChangesSeen, IsFaultBy, IsFree, Meaning, Repairs, RepairsFor, keeping_all};
+ghost use Rattle.nl_tool_change.specs.Calls.{ChangesLog, ChangesLogAs, ChangesLogFor, IsFaultBy, IsFree, Meaning, Repairs, RepairsFor, keeping_all};
 ghost use Rattle.nl_folder.specs.FolderView.{folder_view};
 
-use crate::change::{Change, change_log};
-use crate::log_fault::of_log_fault;
+use crate::change::Change;
+use crate::log_fault::{ToolResult, of_log_fault};
 use crate::look::look_for;
+use crate::seen::SeenLog;
 use nl_folder::Folder;
-use nl_session::Log;
 use nl_table::{NO_SECRET, Secret};
-use nl_tool_texts::ToolFault;
-use nl_versions::{LogVersion, Version, VersionFolder, VersionSeven, VersionSix};
+use nl_versions::LogVersion;
 use std::alloc::Global;
 
 /// Each folder is a place, whose log is changed as it is.
@@ -25,7 +24,7 @@ pub trait LogPlace: Sized {
 
     fn secret(&self) -> Secret;
 
-    fn change<C: Change>(self, alloc: Global, change: &C) -> (Self, Result<(), ToolFault>)
+    fn change<C: Change>(self, alloc: Global, change: &C) -> (Self, ToolResult)
         ensures call { changes (C.meaning change.now) result.1 self result.0 }
         ensures repairs { C.meaning change.now ≡ keeping_all → repairs result.1 self result.0 }
         ensures faults { IfErr result.1 (IsFaultBy (C.meaning change.now)) };
@@ -56,24 +55,8 @@ impl<F: Folder> LogPlace for F {
         NO_SECRET
     }
 
-    fn change<C: Change>(self, alloc: Global, change: &C) -> (F, Result<(), ToolFault>) {
-        change_on(alloc, NO_SECRET, self, change)
-    }
-}
-
-fn change_on<F: Folder, C: Change>(
-    alloc: Global,
-    secret: Secret,
-    folder: F,
-    change: &C,
-) -> (F, Result<(), ToolFault>)
-    ensures call { ChangesLog (C.meaning change.now) result.1 (folder_view F.Folder folder) (folder_view F.Folder result.0) }
-    ensures faults { IfErr result.1 (IsFaultBy (C.meaning change.now)) }
-{
-    let mut log = Log::with_secret(alloc, secret, folder);
-    match change_log(&mut log, change) {
-        Ok(()) => (log.into_folder(), Ok(())),
-        Err(fault) => (log.into_folder(), Err(of_log_fault(fault))),
+    fn change<C: Change>(self, alloc: Global, change: &C) -> (F, ToolResult) {
+        change_found(alloc, NO_SECRET, LogVersion::Five, self, change)
     }
 }
 
@@ -89,7 +72,7 @@ impl<F: Folder> LogPlace for FoundFolder<F> {
         self.secret
     }
 
-    fn change<C: Change>(self, alloc: Global, change: &C) -> (Self, Result<(), ToolFault>) {
+    fn change<C: Change>(self, alloc: Global, change: &C) -> (Self, ToolResult) {
         let (folder, result) = change_found(alloc, self.secret, self.version, self.folder, change);
         (FoundFolder { folder, ..self }, result)
     }
@@ -102,32 +85,18 @@ pub(crate) fn change_found<F: Folder, C: Change>(
     version: LogVersion,
     folder: F,
     change: &C,
-) -> (F, Result<(), ToolFault>)
+) -> (F, ToolResult)
     ensures call { IsFree (F.disk folder) version → ChangesLogAs version (C.meaning change.now)
         result.1 (folder_view F.Folder folder) (folder_view F.Folder result.0) }
     ensures faults { IfErr result.1 (IsFaultBy (C.meaning change.now)) }
 {
-    match version {
-        LogVersion::Five => change_on(alloc, secret, folder, change),
-        LogVersion::Six => change_seen(alloc, secret, VersionSix, folder, change),
-        LogVersion::Seven => change_seen(alloc, secret, VersionSeven, folder, change),
+    let mut log = SeenLog::new(alloc, secret, version, folder);
+    let result = log.change(change);
+    let (_, folder) = log.into_parts();
+    match result {
+        Ok(()) => (folder, Ok(())),
+        Err(fault) => (folder, Err(of_log_fault(fault))),
     }
-}
-
-// Through a folder that sees the log as one of version 5.
-fn change_seen<F: Folder, V: Version, C: Change>(
-    alloc: Global,
-    secret: Secret,
-    version: V,
-    folder: F,
-    change: &C,
-) -> (F, Result<(), ToolFault>)
-    ensures call { IsFree (F.disk folder) V.version → ChangesSeen V.version (C.meaning change.now)
-        result.1 (folder_view F.Folder folder) (folder_view F.Folder result.0) }
-    ensures faults { IfErr result.1 (IsFaultBy (C.meaning change.now)) }
-{
-    let (seen, result) = change_on(alloc, secret, VersionFolder::new(version, folder), change);
-    (seen.into_folder(), result)
 }
 
 impl<F: Folder> LogPlace for AskedFolder<F> {
@@ -140,7 +109,7 @@ impl<F: Folder> LogPlace for AskedFolder<F> {
         self.secret
     }
 
-    fn change<C: Change>(self, alloc: Global, change: &C) -> (Self, Result<(), ToolFault>) {
+    fn change<C: Change>(self, alloc: Global, change: &C) -> (Self, ToolResult) {
         let (folder, looked) = look_for(self.asked, self.folder);
         match looked {
             Ok(version) => {

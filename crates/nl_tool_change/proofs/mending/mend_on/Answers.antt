@@ -1,21 +1,32 @@
-use Rattle.std.proofs.Common.{subst}
-use Rattle.nl_tool_change.specs.Calls.{IsFree}
-use Rattle.nl_tool_change.proofs.MendLemmas.{mends_five, mends_other}
+use Rattle.std.proofs.Common.{Err, subst, sym}
+use Rattle.std.specs.Prelude.{Result}
+use Rattle.nl_session.specs.declared.fault.LogFault.{LogFault}
+use Rattle.nl_session.specs.Mending.{Mends}
+use Rattle.nl_tool_texts.specs.declared.fault.ToolFault.{ToolFault}
+use Rattle.nl_tool_change.specs.Mending.{MendsLog}
+use Rattle.nl_tool_change.specs.Seen.{seen_of}
+use Rattle.nl_tool_change.proofs.MendLemmas.{mended, mended_as, unmended}
 use Rattle.nl_tool_change.proofs.mending.mend_on.Goals as goal
 
-pub returns-in-Five : goal.returns-in-Five
-returns-in-Five g c = record { call = λ free. mends_five c.in-Five.is c.mend_log.ensures.call; faults = c.mend_log.ensures.faults }
+pub returns-in-Ok-clause-call : goal.returns-in-Ok-clause-call
+returns-in-Ok-clause-call g c = λ free.
+    let from = seen_of c.new-log.result in
+    let to = seen_of c.mend-result.new.self in
+    mended_as from to c.new-log.ensures.version c.mend-result.ensures.version c.new-log.ensures.begins c.into_parts-folder.ensures.hands free
+    (mended (subst (λ (r : Result (Unit {0}) LogFault). Mends c.args.names.now r from.view to.view) c.in-Ok.is c.mend-result.ensures.call))
 
-pub returns-in-Six : goal.returns-in-Six
-returns-in-Six g c = record {
-  call = λ free. mends_other c.in-Six.is (λ is. cc)
-      (c.mend_seen.ensures.call (subst (IsFree (g.F.Folder.disk c.args.place.folder)) c.in-Six.is free));
-  faults = c.mend_seen.ensures.faults;
-}
+pub of_log_fault-requires : goal.of_log_fault-requires
+of_log_fault-requires g c =
+    let from = seen_of c.new-log.result in
+    let to = seen_of c.mend-result.new.self in
+    (unmended c.in-Err.fault c.new-log.ensures.begins.closed
+    (subst (λ (r : Result (Unit {0}) LogFault). Mends c.args.names.now r from.view to.view) c.in-Err.is c.mend-result.ensures.call)).0
 
-pub returns-in-Seven : goal.returns-in-Seven
-returns-in-Seven g c = record {
-  call = λ free. mends_other c.in-Seven.is (λ is. cc)
-      (c.mend_seen-in-Seven.ensures.call (subst (IsFree (g.F.Folder.disk c.args.place.folder)) c.in-Seven.is free));
-  faults = c.mend_seen-in-Seven.ensures.faults;
-}
+pub returns-in-Err-clause-call : goal.returns-in-Err-clause-call
+returns-in-Err-clause-call g c = λ free.
+    let from = seen_of c.new-log.result in
+    let to = seen_of c.mend-result.new.self in
+    let left = unmended c.in-Err.fault c.new-log.ensures.begins.closed
+    (subst (λ (r : Result (Unit {0}) LogFault). Mends c.args.names.now r from.view to.view) c.in-Err.is c.mend-result.ensures.call) in
+    mended_as from to c.new-log.ensures.version c.mend-result.ensures.version c.new-log.ensures.begins c.into_parts-folder.ensures.hands free
+    (subst (λ (fault : ToolFault). MendsLog c.args.names.now (Err fault) from.view.folder to.view.folder) (sym c.of_log_fault.ensures.value) left.2)

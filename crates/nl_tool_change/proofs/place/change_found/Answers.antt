@@ -1,21 +1,27 @@
-use Rattle.std.proofs.Common.{subst}
-use Rattle.nl_tool_change.specs.Calls.{IsFree}
-use Rattle.nl_tool_change.proofs.SeenLemmas.{as_five, as_other}
+use Rattle.std.proofs.Common.{Err, subst, sym}
+use Rattle.std.specs.Prelude.{Result}
+use Rattle.nl_session.specs.declared.fault.LogFault.{LogFault}
+use Rattle.nl_tool_texts.specs.declared.fault.ToolFault.{ToolFault}
+use Rattle.nl_tool_change.specs.Calls.{ChangesLog}
+use Rattle.nl_tool_change.specs.Faults.{of_log_answer}
+use Rattle.nl_tool_change.specs.Seen.{seen_of}
+use Rattle.nl_tool_change.proofs.SeenLemmas.{changed_as}
 use Rattle.nl_tool_change.proofs.place.change_found.Goals as goal
 
-pub returns-in-Five : goal.returns-in-Five
-returns-in-Five g c = record { call = λ free. as_five c.in-Five.is c.change_on.ensures.call; faults = c.change_on.ensures.faults }
+pub returns-in-Ok-clause-call : goal.returns-in-Ok-clause-call
+returns-in-Ok-clause-call g c = λ free.
+    let from = seen_of c.new-log.result in
+    let to = seen_of c.change-result.new.self in
+    changed_as from to c.new-log.ensures.version c.change-result.ensures.version c.new-log.ensures.begins c.into_parts-folder.ensures.hands free
+    (subst (λ (r : Result (Unit {0}) LogFault). ChangesLog (g.C.Change.meaning c.args.change.now) (of_log_answer r) from.view.folder to.view.folder)
+    c.in-Ok.is c.change-result.ensures.call)
 
-pub returns-in-Six : goal.returns-in-Six
-returns-in-Six g c = record {
-  call = λ free. as_other c.in-Six.is (λ is. cc)
-      (c.change_seen.ensures.call (subst (IsFree (g.F.Folder.disk c.args.folder)) c.in-Six.is free));
-  faults = c.change_seen.ensures.faults;
-}
-
-pub returns-in-Seven : goal.returns-in-Seven
-returns-in-Seven g c = record {
-  call = λ free. as_other c.in-Seven.is (λ is. cc)
-      (c.change_seen-in-Seven.ensures.call (subst (IsFree (g.F.Folder.disk c.args.folder)) c.in-Seven.is free));
-  faults = c.change_seen-in-Seven.ensures.faults;
-}
+pub returns-in-Err-clause-call : goal.returns-in-Err-clause-call
+returns-in-Err-clause-call g c = λ free.
+    let from = seen_of c.new-log.result in
+    let to = seen_of c.change-result.new.self in
+    changed_as from to c.new-log.ensures.version c.change-result.ensures.version c.new-log.ensures.begins c.into_parts-folder.ensures.hands free
+    (subst (λ (fault : ToolFault). ChangesLog (g.C.Change.meaning c.args.change.now) (Err fault) from.view.folder to.view.folder)
+    (sym c.of_log_fault.ensures.value)
+    (subst (λ (r : Result (Unit {0}) LogFault). ChangesLog (g.C.Change.meaning c.args.change.now) (of_log_answer r) from.view.folder to.view.folder)
+    c.in-Err.is c.change-result.ensures.call))
