@@ -203,28 +203,21 @@ fn read_word(text: &[u8]) -> Option<Word>
     ensures accepts { (word : Word) → text.now ≡ text_of_word word → result ≡ Some word }
 {
     match str::from_utf8(text) {
-        Ok(name) => word_named(name),
+        Ok(name) => match name {
+            "writes" => Some(Word::Writes),
+            "fates" => Some(Word::Fates),
+            "tails" => Some(Word::Tails),
+            "fuse" => Some(Word::Fuse),
+            "open" => Some(Word::Open),
+            "recompact" => Some(Word::Recompact),
+            "record" => Some(Word::Record),
+            "restat" => Some(Word::Restat),
+            "sync" => Some(Word::Sync),
+            "stop" => Some(Word::Stop),
+            "crash" => Some(Word::Crash),
+            _ => None,
+        },
         Err(_) => None,
-    }
-}
-
-fn word_named(name: &str) -> Option<Word>
-    ensures value { IfSome result (λ word. name.now ≡ text_of_word word) }
-    ensures accepts { (word : Word) → name.now ≡ text_of_word word → result ≡ Some word }
-{
-    match name {
-        "writes" => Some(Word::Writes),
-        "fates" => Some(Word::Fates),
-        "tails" => Some(Word::Tails),
-        "fuse" => Some(Word::Fuse),
-        "open" => Some(Word::Open),
-        "recompact" => Some(Word::Recompact),
-        "record" => Some(Word::Record),
-        "restat" => Some(Word::Restat),
-        "sync" => Some(Word::Sync),
-        "stop" => Some(Word::Stop),
-        "crash" => Some(Word::Crash),
-        _ => None,
     }
 }
 
@@ -323,26 +316,19 @@ fn read_call(word: &[u8]) -> Option<Call>
     ensures accepts { (call : Call) → word.now ≡ word_of call → result ≡ Some call }
 {
     match str::from_utf8(word) {
-        Ok(name) => call_named(name),
+        Ok(name) => match name {
+            "read_log" => Some(Call::ReadLog),
+            "append_log" => Some(Call::AppendLog),
+            "cut_log" => Some(Call::CutLog),
+            "sync_log" => Some(Call::SyncLog),
+            "start_scratch" => Some(Call::StartScratch),
+            "append_scratch" => Some(Call::AppendScratch),
+            "sync_scratch" => Some(Call::SyncScratch),
+            "replace" => Some(Call::Replace),
+            "any" => Some(Call::Any),
+            _ => None,
+        },
         Err(_) => None,
-    }
-}
-
-fn call_named(name: &str) -> Option<Call>
-    ensures value { IfSome result (λ call. name.now ≡ word_of call) }
-    ensures accepts { (call : Call) → name.now ≡ word_of call → result ≡ Some call }
-{
-    match name {
-        "read_log" => Some(Call::ReadLog),
-        "append_log" => Some(Call::AppendLog),
-        "cut_log" => Some(Call::CutLog),
-        "sync_log" => Some(Call::SyncLog),
-        "start_scratch" => Some(Call::StartScratch),
-        "append_scratch" => Some(Call::AppendScratch),
-        "sync_scratch" => Some(Call::SyncScratch),
-        "replace" => Some(Call::Replace),
-        "any" => Some(Call::Any),
-        _ => None,
     }
 }
 
