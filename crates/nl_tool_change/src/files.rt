@@ -5,8 +5,8 @@ ghost use Rattle.nl_tool_change.specs.Faults.{IsBadLine, IsFileFault};
 ghost use Rattle.nl_tool_texts.specs.Files.{OfBytes};
 ghost use Rattle.nl_tool_change.specs.Files.{IfBadLine, IfSaid, Says, before_rule, keep_of, manifest_of, name_on, pair_on, target_on};
 
+use crate::change::ToolResult;
 use crate::line_fault::{LineFault, NumberFault, Told, number_fault};
-use crate::log_fault::ToolResult;
 use crate::parts::{Part, read_parts};
 use crate::script::split_tab;
 use nl_fields::{Name, NameFault, read_i64};

@@ -7,8 +7,8 @@ ghost use Rattle.nl_tool_texts.specs.Files.{OfBytes};
 ghost use Rattle.nl_tool_change.specs.Files.{IfBadLine, IfSaid, said_after, said_by, said_so_far};
 ghost use Rattle.nl_tool_texts.specs.declared.fault.ToolFault.{ToolFault};
 
+use crate::change::ToolResult;
 use crate::line_fault::{LineFault, Told};
-use crate::log_fault::ToolResult;
 use nl_lines::{Line, Lines, MAX_LINE, ReadSource, Source};
 use nl_tool_texts::AllocResult;
 use std::alloc::Global;

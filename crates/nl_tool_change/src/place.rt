@@ -4,11 +4,13 @@ ghost use Rattle.nl_versions.specs.VersionFolder.{seen_as_version};
 ghost use Rattle.nl_tool_texts.specs.declared.fault.ToolFault.{ToolFault};
 ghost use Rattle.nl_tool_change.specs.Calls.{ChangesLog, ChangesLogAs, ChangesLogFor, IsFaultBy, IsFree, Meaning, Repairs, RepairsFor, keeping_all};
 ghost use Rattle.nl_folder.specs.FolderView.{folder_view};
+ghost use Rattle.nl_tool_change.specs.Faults.{IsRecordFault};
+ghost use Rattle.nl_tool_change.specs.Mending.{MendsLogAs};
 
-use crate::change::Change;
-use crate::log_fault::{ToolResult, of_log_fault};
-use crate::look::look_for;
+use crate::change::{Change, ToolResult, of_log_fault};
+use crate::reading::look_for;
 use crate::seen::SeenLog;
+use nl_fields::Name;
 use nl_folder::Folder;
 use nl_table::{NO_SECRET, Secret};
 use nl_versions::LogVersion;
@@ -118,5 +120,21 @@ impl<F: Folder> LogPlace for AskedFolder<F> {
             }
             Err(fault) => (AskedFolder { folder, ..self }, Err(of_log_fault(fault))),
         }
+    }
+}
+
+/// It makes the intents over the entries of outputs that can't be trusted durable, by one change. Damaged lines are gone then, because the
+/// log is written anew.
+pub fn mend_on<F: Folder>(alloc: Global, place: FoundFolder<F>, names: &[Name]) -> (F, ToolResult)
+    ensures call { IsFree (F.disk place.folder) place.version → MendsLogAs place.version names.now
+        result.1 (folder_view F.Folder place.folder) (folder_view F.Folder result.0) }
+    ensures faults { IfErr result.1 IsRecordFault }
+{
+    let mut log = SeenLog::new(alloc, place.secret, place.version, place.folder);
+    let result = log.mend(names);
+    let (_, folder) = log.into_parts();
+    match result {
+        Ok(()) => (folder, Ok(())),
+        Err(fault) => (folder, Err(of_log_fault(fault))),
     }
 }

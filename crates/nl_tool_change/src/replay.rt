@@ -5,8 +5,8 @@ ghost use Rattle.nl_tool_change.specs.Faults.{IsBadLine, IsReplayFault};
 ghost use Rattle.nl_tool_texts.specs.Output.{Prints};
 ghost use Rattle.nl_tool_change.specs.Replay.{IsReplayOf, IsReplayText, printed, told_by};
 
+use crate::answers::append_reply;
 use crate::line_fault::Told;
-use crate::reply_line::append_reply;
 use crate::script::{Script, read_script};
 use nl_folder::MemFolder;
 use nl_session::{Event, Outcome, Reply, run_events};

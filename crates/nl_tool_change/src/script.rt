@@ -16,8 +16,8 @@ ghost use Rattle.nl_session.specs.declared.events.Event.{Event};
 ghost use Rattle.nl_tool_change.specs.Reading.{HoldsNames, IsLineOf, IsReadable, LacksMemory, SaysNames, SaysTimes, fields_of_event, word_of_event};
 ghost use Rattle.nl_tool_change.specs.Replay.{IsScript, KeepsSome, NamesSome, SaysMore, TakesScriptLine, behind_tab, event_line, keep_fields, name_field, text_of_word, time_fields, word_of};
 
+use crate::change::ToolResult;
 use crate::line_fault::{LineFault, Told};
-use crate::log_fault::ToolResult;
 use nl_fields::{Entry, Name, NameFault, read_entry, read_i64};
 use nl_folder::{Call, Fuse};
 use nl_lines::{Line, Lines, ReadSource};

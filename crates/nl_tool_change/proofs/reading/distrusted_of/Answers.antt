@@ -2,7 +2,7 @@ use Rattle.std.proofs.Common.{◌≡◌, ◌∙◌, ℕ, List, Option, ap, subst
 use Rattle.std.specs.Prelude.{IfSome}
 use Rattle.nl_versions.specs.LogAs.{log_for}
 use Rattle.nl_distrust.specs.Distrusted.{distrusted_in}
-use Rattle.nl_tool_change.proofs.distrusted.distrusted_of.Goals as goal
+use Rattle.nl_tool_change.proofs.reading.distrusted_of.Goals as goal
 
 pub returns-in_ok-distrusted-in-Ok-clause-found : goal.returns-in_ok-distrusted-in-Ok-clause-found
 returns-in_ok-distrusted-in-Ok-clause-found c =

@@ -6,7 +6,7 @@ use Rattle.nl_tool_texts.specs.declared.fault.ToolFault.{ToolFault}
 use Rattle.nl_tool_change.specs.Mending.{MendsLog}
 use Rattle.nl_tool_change.specs.Seen.{seen_of}
 use Rattle.nl_tool_change.proofs.MendLemmas.{mended, mended_as, unmended}
-use Rattle.nl_tool_change.proofs.mending.mend_on.Goals as goal
+use Rattle.nl_tool_change.proofs.place.mend_on.Goals as goal
 
 pub returns-in-Ok-clause-call : goal.returns-in-Ok-clause-call
 returns-in-Ok-clause-call g c = λ free.

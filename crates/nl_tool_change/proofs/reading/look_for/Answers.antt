@@ -5,7 +5,7 @@ use Rattle.nl_folder.specs.FolderView.{folder_view}
 use Rattle.nl_session.specs.declared.fault.LogFault.TheVariants.{OtherVersion}
 use Rattle.nl_tool_change.specs.Calls.{Looks}
 use Rattle.nl_tool_change.proofs.SeenLogLemmas.{looks_four, looks_named, looks_past}
-use Rattle.nl_tool_change.proofs.look.look_for.Goals as goal
+use Rattle.nl_tool_change.proofs.reading.look_for.Goals as goal
 
 pub returns-in-Ok-None : goal.returns-in-Ok-None
 returns-in-Ok-None g c =
