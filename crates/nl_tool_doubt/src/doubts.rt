@@ -114,7 +114,7 @@ fn name_all<F: OutputFiles>(
     Ok(Doubts {
         named,
         outputs: looked.len(),
-        there: there_in(looked.as_slice()),
+        there: looked.iter().filter(|it| it.file.is_there()).count(),
         copied,
     })
 }
@@ -154,12 +154,6 @@ fn moved_in(looked: &[Looked]) -> usize
     ensures value { result ≡ count_by is_moved looked.now }
 {
     looked.iter().filter(|it| it.file.was_moved()).count()
-}
-
-fn there_in(looked: &[Looked]) -> usize
-    ensures value { result ≡ count_by is_there looked.now }
-{
-    looked.iter().filter(|it| it.file.is_there()).count()
 }
 
 fn name_one(

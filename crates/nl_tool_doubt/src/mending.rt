@@ -81,8 +81,13 @@ fn mend_doubted<D: Folder, W: Write>(
     match said_of(alloc, log, doubts, how) {
         Ok(said) => {
             let (folder, answer) = mend_said(alloc, secret, folder, log, &said, writer);
+            let mended = Mended {
+                is_told: said.is_told,
+                outputs: doubts.outputs,
+                there: doubts.there,
+            };
             match answer {
-                Ok(()) => (folder, Ok(mended_of(&said, doubts))),
+                Ok(()) => (folder, Ok(mended)),
                 Err(fault) => (folder, Err(fault)),
             }
         }
@@ -94,17 +99,6 @@ fn is_elsewhere(doubts: &Doubts) -> bool
     ensures { result ≡ is_elsewhere doubts.now }
 {
     doubts.there == 0 && doubts.outputs != 0
-}
-
-fn mended_of(said: &Said, doubts: &Doubts) -> Mended
-    ensures told { result.is_told ≡ said.now.is_told }
-    ensures outputs { (result.outputs ≡ doubts.now.outputs) × (result.there ≡ doubts.now.there) }
-{
-    Mended {
-        is_told: said.is_told,
-        outputs: doubts.outputs,
-        there: doubts.there,
-    }
 }
 
 #[derive(Drop)]
