@@ -7,7 +7,7 @@ ghost use Rattle.nl_tool_print.specs.Output.{check_text_of, report, yes_or_no, I
 ghost use Rattle.nl_versions.specs.LogAs.{log_for};
 ghost use Rattle.nl_tool_print.specs.Versions.{IsReportFor};
 
-use crate::loading::load_read;
+use crate::show::load_read;
 use nl_table::{Loaded, NO_SECRET, Secret, is_due};
 use nl_tool_texts::{AllocResult, ToolFault, write_out};
 use nl_versions::LogVersion;

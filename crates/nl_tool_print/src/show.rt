@@ -1,5 +1,5 @@
-//! The command `show`.
-ghost use Rattle.std.specs.Prelude.{◌≡◌, ◌+◌, ◌≤◌, [], map, vec_len, vec_capacity, IfErr, OnErr, OnOk};
+//! The command `show`, and the load of a log.
+ghost use Rattle.std.specs.Prelude.{◌≡◌, ◌+◌, ◌≤◌, [], map, vec_len, vec_capacity, IfErr, IfOk, IsErrOf, OnErr, OnOk};
 ghost use Rattle.std.specs.Io.KnownBytes.{Appends};
 ghost use Rattle.nl_fields.specs.EntryLine.{line_of};
 ghost use Rattle.nl_lines.specs.Split.{joined};
@@ -7,15 +7,16 @@ ghost use Rattle.nl_table.specs.Log.{log_of};
 ghost use Rattle.nl_tool_print.specs.Faults.{IfNotALog, IfOtherVersion, IsLogFault};
 ghost use Rattle.nl_tool_texts.specs.Output.{AppendsPrefixOf, Prints};
 ghost use Rattle.nl_tool_print.specs.Output.{IsTextAsRead, HoldsAllBut, show_text_of};
+ghost use Rattle.nl_versions.specs.Loading.{IsLoadFor};
 ghost use Rattle.nl_versions.specs.LogAs.{log_for};
 ghost use Rattle.nl_tool_print.specs.Versions.{show_text_for};
 ghost use Rattle.nl_tool_texts.specs.declared.fault.ToolFault.{ToolFault};
 
-use crate::loading::load_read;
 use nl_fields::{MAX_ENTRY_LINE, append_entry};
-use nl_table::{NO_SECRET, Secret, Table};
+use nl_lines::ReadSource;
+use nl_table::{Loaded, NO_SECRET, Secret, Table};
 use nl_tool_texts::{ToolFault, write_out};
-use nl_versions::LogVersion;
+use nl_versions::{LogVersion, load_seen};
 use std::alloc::Global;
 use std::io::{Read, Write};
 
@@ -91,4 +92,21 @@ pub fn make_room<W: Write>(held: &mut Vec<u8>, writer: &mut W) -> Result<(), Too
     write_out(held.as_slice(), writer)?;
     held.clear();
     Ok(())
+}
+
+/// Loads the bytes that the reader has left as a log of the version that is asked for, or else of the one that their first line names.
+/// Names are hashed under the secret.
+pub fn load_read<R: Read + Drop>(
+    alloc: Global,
+    secret: Secret,
+    asked: Option<LogVersion>,
+    reader: R,
+) -> Result<(LogVersion, Loaded), ToolFault>
+    ensures loaded { IfOk result (λ both. IsLoadFor asked (R.remaining reader) both.0 both.1) }
+    ensures not_a_log { IfNotALog result (log_for asked) (R.remaining reader) }
+    ensures other_version { IfOtherVersion result (log_for asked) (R.remaining reader) }
+    ensures faults { IfErr result IsLogFault }
+    ensures write { IsErrOf result ToolFault.Write → ⊥ }
+{
+    Ok(load_seen(alloc, secret, asked, ReadSource::new(reader))?)
 }

@@ -1,6 +1,6 @@
 use Rattle.std.proofs.Common.{◌<◌, ◌≤◌, length}
 use Rattle.std.specs.Io.KnownBytes.{Consumes}
-use Rattle.nl_tool_print.proofs.hash_file.read_all.Given as goal
+use Rattle.nl_tool_print.proofs.hash.read_all.Given as goal
 
 -- what was read is held, and there is room to ask for more
 abbrev pub invariant-pieces : goal.invariant-pieces
