@@ -14,7 +14,7 @@ use Rattle.nl_session.specs.LogView.{LogView}
 use Rattle.nl_session.specs.Mending.{Mends}
 use Rattle.nl_tool_texts.specs.declared.fault.ToolFault.{ToolFault}
 use Rattle.nl_tool_change.specs.Calls.{IsFree}
-use Rattle.nl_tool_change.specs.Faults.{IsOpenOrChangeRefusal, IsRecordFault, of_log_fault}
+use Rattle.nl_tool_change.specs.Faults.{IsOpenOrChangeRefusal, IsRecordFault, of_log_answer, of_log_fault}
 use Rattle.nl_tool_change.specs.Mending.{MendsDisk, MendsLog, MendsLogAs, MendsSeen}
 use Rattle.nl_tool_change.specs.Seen.{Begins, HandsBack, Seen}
 use Rattle.nl_tool_change.proofs.ChangeLemmas.{ok_with}
@@ -190,3 +190,9 @@ module _ {names : List (List ℕ)} {r : Result (Unit {0}) ToolFault} {old new : 
         five = λ five. subst (λ (found : FolderView). MendsLog names r found new) (begins.five (is ∙ five))
             (subst (MendsLog names r from.view.folder) (sym (hands.five (late ∙ five))) call);
       }
+
+-- what a closed log answered to a mend, as the tool says it
+pub mended_so : {names : List (List ℕ)} {old new : LogView} (r : Result (Unit {0}) LogFault) → old.mode ≡ Closed → Mends names r old new
+    → MendsLog names (of_log_answer r) old.folder new.folder
+mended_so (Ok done) closed call = mended call
+mended_so (Err why) closed call = (unmended why closed call).2

@@ -1,6 +1,6 @@
 -- A change of a log that is seen as one of another version.
 use Rattle.std.proofs.Common.{◌≡◌, ◌∙◌, ◌<◌, ◌≤◌, true, refl, sym, ap, subst, inl, arith, Option, None, Some, Result, Ok, Err}
-use Rattle.std.specs.Prelude.{IsTrue}
+use Rattle.std.specs.Prelude.{IsErrAnd, IsTrue, MatchResult}
 use Rattle.std.proofs.lemmas.Bool.{cond-true, cond-false}
 use Rattle.nl_lines.specs.Source.{FailedBetween}
 use Rattle.nl_versions.specs.declared.version.LogVersion.{LogVersion}
@@ -18,7 +18,7 @@ use Rattle.nl_tool_texts.specs.declared.fault.ToolFault.TheVariants.{Folder, Oth
 use Rattle.nl_tool_change.specs.Calls.{ChangesDisk, ChangesLog, ChangesLogAs, ChangesLogFor, ChangesSeen, IsFaultBy, IsFree, IsReason}
 use Rattle.nl_folder.specs.FolderView.{FolderView, SameState}
 use Rattle.nl_tool_change.specs.Calls.{IsVersionFor, Looks, Meaning}
-use Rattle.nl_tool_change.specs.Faults.{IsOpenOrChangeRefusal, IsRecordFault, of_log_fault}
+use Rattle.nl_tool_change.specs.Faults.{IsOpenOrChangeRefusal, IsRecordFault, of_log_answer, of_log_fault}
 use Rattle.nl_tool_change.specs.Seen.{Begins, HandsBack, Seen}
 use Rattle.nl_tool_change.proofs.ChangeLemmas.{found_first, ok_with}
 
@@ -87,6 +87,13 @@ module _ {m : Meaning} {r : Result (Unit {0}) ToolFault} {old new : FolderView} 
         five = λ five. subst (λ (found : FolderView). ChangesLog m r found new) (begins.five (is ∙ five))
             (subst (ChangesLog m r from.view.folder) (sym (hands.five (late ∙ five))) call);
       }
+
+-- what a log answered, as the tool says it
+pub answered_so : (r : Result (Unit {0}) LogFault) (m : Result (Unit {0}) ToolFault)
+    → MatchResult r (λ done. m ≡ Ok done) (λ why. IsErrAnd m (λ fault. fault ≡ of_log_fault why)) → of_log_answer r ≡ m
+answered_so (Ok done) m is = sym is
+answered_so (Err why) (Ok done) is = absurd is
+answered_so (Err why) (Err fault) is = ap (λ (f : ToolFault). Err f) (sym is)
 
 -- a version for a folder, where none is asked for
 pub version_of_disk : Option Disk → LogVersion

@@ -93,12 +93,8 @@ pub(crate) fn change_found<F: Folder, C: Change>(
     ensures faults { IfErr result.1 (IsFaultBy (C.meaning change.now)) }
 {
     let mut log = SeenLog::new(alloc, secret, version, folder);
-    let result = log.change(change);
-    let (_, folder) = log.into_parts();
-    match result {
-        Ok(()) => (folder, Ok(())),
-        Err(fault) => (folder, Err(of_log_fault(fault))),
-    }
+    let result = log.change(change).map_err(of_log_fault);
+    (log.into_parts().1, result)
 }
 
 impl<F: Folder> LogPlace for AskedFolder<F> {
@@ -131,10 +127,6 @@ pub fn mend_on<F: Folder>(alloc: Global, place: FoundFolder<F>, names: &[Name]) 
     ensures faults { IfErr result.1 IsRecordFault }
 {
     let mut log = SeenLog::new(alloc, place.secret, place.version, place.folder);
-    let result = log.mend(names);
-    let (_, folder) = log.into_parts();
-    match result {
-        Ok(()) => (folder, Ok(())),
-        Err(fault) => (folder, Err(of_log_fault(fault))),
-    }
+    let result = log.mend(names).map_err(of_log_fault);
+    (log.into_parts().1, result)
 }

@@ -43,10 +43,7 @@ pub fn read_log<F: Folder>(alloc: Global, folder: F) -> (F, ToolResult<Vec<u8>>)
     ensures reads { ReadsWhole (folder_view F.Folder folder) (folder_view F.Folder result.0) result.1 }
 {
     let (folder, answer) = read_bytes(alloc, folder);
-    match answer {
-        Ok(bytes) => (folder, Ok(bytes)),
-        Err(why) => (folder, Err(of_log_fault(why))),
-    }
+    (folder, answer.map_err(of_log_fault))
 }
 
 fn read_bytes<F: Folder>(alloc: Global, folder: F) -> (F, LogResult<Vec<u8>>)
