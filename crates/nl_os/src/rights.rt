@@ -66,45 +66,16 @@ impl Mode {
         ensures joined_group { is_group_kept ≡ false → IsWithin result.group self.others }
         ensures old_owner { is_owner_kept ≡ false → IsWithin result.group self.owner × IsWithin result.others self.owner }
     {
-        let of_group = self.for_group(is_group_kept);
-        of_group.for_owner(is_owner_kept)
-    }
-
-    // Of a file of the same owner, and of this group or another.
-    fn for_group(self, is_kept: bool) -> Mode
-        ensures same { is_kept ≡ true → result ≡ self }
-        ensures owner { result.owner ≡ self.owner }
-        ensures group { IsWithin result.group self.group }
-        ensures others { IsWithin result.others self.others }
-        ensures left_group { is_kept ≡ false → IsWithin result.others self.group }
-        ensures joined_group { is_kept ≡ false → IsWithin result.group self.others }
-    {
-        if is_kept {
-            return self;
+        let mut mode = self;
+        if !is_group_kept {
+            mode.group = common(self.group, self.others);
+            mode.others = mode.group;
         }
-        let both = common(self.group, self.others);
-        Mode {
-            owner: self.owner,
-            group: both,
-            others: both,
+        if !is_owner_kept {
+            mode.group = common(mode.group, self.owner);
+            mode.others = common(mode.others, self.owner);
         }
-    }
-
-    fn for_owner(self, is_kept: bool) -> Mode
-        ensures same { is_kept ≡ true → result ≡ self }
-        ensures owner { result.owner ≡ self.owner }
-        ensures group { IsWithin result.group self.group }
-        ensures others { IsWithin result.others self.others }
-        ensures old_owner { is_kept ≡ false → IsWithin result.group self.owner × IsWithin result.others self.owner }
-    {
-        if is_kept {
-            return self;
-        }
-        Mode {
-            owner: self.owner,
-            group: common(self.group, self.owner),
-            others: common(self.others, self.owner),
-        }
+        mode
     }
 }
 
