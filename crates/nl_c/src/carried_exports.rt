@@ -16,7 +16,7 @@ use std::alloc::Global;
 
 // Gives the log that a handle carries to a call, and puts it back. Where there is none, nothing is changed.
 macro_rules! carried {
-    ($handle:ident, $alloc:ident, |$log:ident| $call:expr) => {{
+    ($handle:ident, $alloc:ident, $log:ident => $call:expr) => {{
         let Some(mut held) = $handle.take($alloc) else {
             return status::NO_HANDLE;
         };
@@ -56,14 +56,7 @@ pub extern "C" fn carried_new(handle: &mut Handle, alloc: Global, key0: u64, key
     ensures unchanged { result ≢ ok → handle.new.kept.log ≡ handle.old.kept.log }
 {
     let secret = Secret::of(key0, key1);
-    match Box::new(alloc, Held::Carried(CarriedLog::new(alloc, secret))) {
-        Ok(held) => {
-            drop(handle.take(alloc));
-            *handle = Handle::of(held);
-            status::OK
-        }
-        Err(_) => status::OUT_OF_MEMORY,
-    }
+    handle.put(alloc, Held::Carried(CarriedLog::new(alloc, secret)))
 }
 
 /// Opens what was loaded into another handle, and frees that one's log whatever the status. If a whole log is wanted, one with a line that is
@@ -84,11 +77,7 @@ pub extern "C" fn carried_open(
     let Some(log) = take_all(found, alloc) else {
         return status::NO_HANDLE;
     };
-    carried!(
-        handle,
-        alloc,
-        |carried| carried.open(alloc, log, wants_whole, change)
-    )
+    carried!(handle, alloc, carried => carried.open(alloc, log, wants_whole, change))
 }
 
 fn take_all(found: &mut Handle, alloc: Global) -> Option<LoadedLog>
@@ -109,7 +98,7 @@ pub extern "C" fn carried_record(
 ) -> u32
     ensures call { InCarried (Ends name.now (Recorded name.now stamp.now)) result handle.old.kept.log handle.new.kept.log }
 {
-    carried!(handle, alloc, |log| log.record(name, stamp))
+    carried!(handle, alloc, log => log.record(name, stamp))
 }
 
 /// Adds nothing if the name's entry is such an intent already.
@@ -123,7 +112,7 @@ pub extern "C" fn carried_begin(
 ) -> u32
     ensures call { InCarried (Ends name.now (Begun name.now moment_ms hash)) result handle.old.kept.log handle.new.kept.log }
 {
-    carried!(handle, alloc, |log| log.begin(alloc, name, moment_ms, hash))
+    carried!(handle, alloc, log => log.begin(alloc, name, moment_ms, hash))
 }
 
 /// Fills the stamp with the entry that the intent covers. A name without an entry gets an intent only where the caller wants one.
@@ -139,11 +128,7 @@ pub extern "C" fn carried_plan(
 ) -> u32
     ensures call { InCarried (Planned name.now (intent_stamp moment_ms hash) anew (before.old, before.new)) result handle.old.kept.log handle.new.kept.log }
 {
-    carried!(
-        handle,
-        alloc,
-        |log| log.plan(name, moment_ms, hash, anew, before)
-    )
+    carried!(handle, alloc, log => log.plan(name, moment_ms, hash, anew, before))
 }
 
 /// Adds nothing where the plan of the name has ended.
@@ -156,7 +141,7 @@ pub extern "C" fn carried_withdraw(
 ) -> u32
     ensures call { InCarried (Withdrawn name.now before.now) result handle.old.kept.log handle.new.kept.log }
 {
-    carried!(handle, alloc, |log| log.withdraw(name, before))
+    carried!(handle, alloc, log => log.withdraw(name, before))
 }
 
 /// Spells the line without adding it to the text: whoever writes it to the file gives it back later.
@@ -171,7 +156,7 @@ pub extern "C" fn carried_loose_line(
 ) -> u32
     ensures call { InCarried (LooseLine name.now stamp.now (bytes.old, bytes.new) (len.old, len.new)) result handle.old.kept.log handle.new.kept.log }
 {
-    carried!(handle, alloc, |log| log.loose_line(name, stamp, bytes, len))
+    carried!(handle, alloc, log => log.loose_line(name, stamp, bytes, len))
 }
 
 /// Call it after the file was written: no line waits then.
@@ -179,7 +164,7 @@ pub extern "C" fn carried_loose_line(
 pub extern "C" fn carried_written(handle: &mut Handle, alloc: Global, len: u64) -> u32
     ensures call { InCarried (CarriedWritten len) result handle.old.kept.log handle.new.kept.log }
 {
-    carried!(handle, alloc, |log| log.note_written(len))
+    carried!(handle, alloc, log => log.note_written(len))
 }
 
 /// Call it after the file was synced.
@@ -187,14 +172,14 @@ pub extern "C" fn carried_written(handle: &mut Handle, alloc: Global, len: u64) 
 pub extern "C" fn carried_sync(handle: &mut Handle, alloc: Global) -> u32
     ensures call { InCarried (Keeps Synced) result handle.old.kept.log handle.new.kept.log }
 {
-    carried!(handle, alloc, |log| log.written.sync())
+    carried!(handle, alloc, log => log.written.sync())
 }
 
 #[unsafe(no_mangle)]
 pub extern "C" fn carried_recompact(handle: &mut Handle, alloc: Global) -> u32
     ensures call { InCarried (Anew Recompacted) result handle.old.kept.log handle.new.kept.log }
 {
-    carried!(handle, alloc, |log| log.recompact(alloc))
+    carried!(handle, alloc, log => log.recompact(alloc))
 }
 
 /// If a marked mtime is negative, `place` tells which.
@@ -202,7 +187,7 @@ pub extern "C" fn carried_recompact(handle: &mut Handle, alloc: Global) -> u32
 pub extern "C" fn carried_restat(handle: &mut Handle, alloc: Global, place: &mut usize) -> u32
     ensures call { InCarried (Anew (Restatted (place.old, place.new))) result handle.old.kept.log handle.new.kept.log }
 {
-    carried!(handle, alloc, |log| log.restat(alloc, place))
+    carried!(handle, alloc, log => log.restat(alloc, place))
 }
 
 /// Frees the table and the lines that wait.
@@ -210,14 +195,14 @@ pub extern "C" fn carried_restat(handle: &mut Handle, alloc: Global, place: &mut
 pub extern "C" fn carried_close(handle: &mut Handle, alloc: Global) -> u32
     ensures call { InCarried (Anew Stopped) result handle.old.kept.log handle.new.kept.log }
 {
-    carried!(handle, alloc, |log| log.stop(alloc))
+    carried!(handle, alloc, log => log.stop(alloc))
 }
 
 #[unsafe(no_mangle)]
 pub extern "C" fn carried_mark_dead(handle: &mut Handle, alloc: Global, name: &[u8]) -> u32
     ensures call { InCarried (Keeps (DeadMarked name.now)) result handle.old.kept.log handle.new.kept.log }
 {
-    carried!(handle, alloc, |log| log.written.mark_dead(name))
+    carried!(handle, alloc, log => log.written.marks.add_dead(name))
 }
 
 #[unsafe(no_mangle)]
@@ -229,18 +214,14 @@ pub extern "C" fn carried_mark_time(
 ) -> u32
     ensures call { InCarried (Keeps (TimeMarked name.now mtime)) result handle.old.kept.log handle.new.kept.log }
 {
-    carried!(
-        handle,
-        alloc,
-        |log| log.written.mark_time(alloc, name, mtime)
-    )
+    carried!(handle, alloc, log => log.written.marks.add_time(alloc, name, mtime))
 }
 
 #[unsafe(no_mangle)]
 pub extern "C" fn carried_clear_marks(handle: &mut Handle, alloc: Global) -> u32
     ensures call { InCarried (Keeps Cleared) result handle.old.kept.log handle.new.kept.log }
 {
-    carried!(handle, alloc, |log| log.written.clear_marks(alloc))
+    carried!(handle, alloc, log => log.written.clear_marks(alloc))
 }
 
 /// Gives only bytes that weren't carried yet, and the length of the whole text.
@@ -254,14 +235,14 @@ pub extern "C" fn carried_text(
 ) -> u32
     ensures call { InCarried (CarriedText from (bytes.old, bytes.new) (len.old, len.new)) result handle.old.kept.log handle.new.kept.log }
 {
-    carried!(handle, alloc, |log| log.text(from, bytes, len))
+    carried!(handle, alloc, log => log.text(from, bytes, len))
 }
 
 #[unsafe(no_mangle)]
 pub extern "C" fn carried_header(handle: &mut Handle, alloc: Global, bytes: &mut [u8]) -> u32
     ensures call { InCarried (CarriedHeader (bytes.old, bytes.new)) result handle.old.kept.log handle.new.kept.log }
 {
-    carried!(handle, alloc, |log| log.header(bytes))
+    carried!(handle, alloc, log => log.header(bytes))
 }
 
 #[unsafe(no_mangle)]
@@ -274,5 +255,5 @@ pub extern "C" fn carried_line(
 ) -> u32
     ensures call { InCarried (CarriedLine place (bytes.old, bytes.new) (len.old, len.new)) result handle.old.kept.log handle.new.kept.log }
 {
-    carried!(handle, alloc, |log| log.entry_line(place, bytes, len))
+    carried!(handle, alloc, log => log.entry_line(place, bytes, len))
 }

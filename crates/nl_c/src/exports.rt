@@ -22,7 +22,7 @@ use std::alloc::Global;
 
 // Gives what a handle has to a call, and puts it back.
 macro_rules! lent {
-    ($handle:ident, $alloc:ident, $what:ident, |$it:ident| $call:expr) => {{
+    ($handle:ident, $alloc:ident, $what:ident, $it:ident => $call:expr) => {{
         let Some(held) = $handle.take($alloc) else {
             return status::NO_HANDLE;
         };
@@ -75,17 +75,9 @@ pub extern "C" fn nlog_load(
     ensures refusals { (result ≡ ok) ⊎ (result ≡ not_a_log) ⊎ (result ≡ other_version) ⊎ (result ≡ out_of_memory) }
     ensures unchanged { result ≢ ok → handle.new.kept.log ≡ handle.old.kept.log }
 {
-    let log = match LoadedLog::load(alloc, version, Secret::of(key0, key1), bytes) {
-        Ok(log) => log,
-        Err(fault) => return status::of_fault(fault),
-    };
-    match Box::new(alloc, Held::Loaded(log)) {
-        Ok(log) => {
-            drop(handle.take(alloc));
-            *handle = Handle::of(log);
-            status::OK
-        }
-        Err(_) => status::OUT_OF_MEMORY,
+    match LoadedLog::load(alloc, version, Secret::of(key0, key1), bytes) {
+        Ok(log) => handle.put(alloc, Held::Loaded(log)),
+        Err(fault) => status::of_fault(fault),
     }
 }
 
@@ -105,17 +97,9 @@ pub extern "C" fn nlog_load_distrusted(
     ensures refusals { (result ≡ ok) ⊎ (result ≡ not_a_log) ⊎ (result ≡ other_version) ⊎ (result ≡ out_of_memory) }
     ensures unchanged { result ≢ ok → handle.new.kept.log ≡ handle.old.kept.log }
 {
-    let log = match LoadedLog::load_distrusted(alloc, Secret::of(key0, key1), bytes) {
-        Ok(log) => log,
-        Err(refused) => return status::of_fault(refused),
-    };
-    match Box::new(alloc, Held::Loaded(log)) {
-        Ok(log) => {
-            drop(handle.take(alloc));
-            *handle = Handle::of(log);
-            status::OK
-        }
-        Err(_) => status::OUT_OF_MEMORY,
+    match LoadedLog::load_distrusted(alloc, Secret::of(key0, key1), bytes) {
+        Ok(log) => handle.put(alloc, Held::Loaded(log)),
+        Err(refused) => status::of_fault(refused),
     }
 }
 
@@ -133,7 +117,7 @@ pub extern "C" fn nlog_get_facts(handle: &mut Handle, alloc: Global, facts: &mut
     ensures same { handle.new.kept.log ≡ handle.old.kept.log }
     ensures value { (result, facts.new) ≡ answered_facts (loaded_in handle.old.kept.log) facts.old }
 {
-    lent!(handle, alloc, loaded, |log| {
+    lent!(handle, alloc, loaded, log => {
         *facts = log.facts();
         status::OK
     })
@@ -144,7 +128,7 @@ pub extern "C" fn nlog_count(handle: &mut Handle, alloc: Global, count: &mut usi
     ensures same { handle.new.kept.log ≡ handle.old.kept.log }
     ensures value { (result, count.new) ≡ answered_count (table_in handle.old.kept.log) count.old }
 {
-    lent!(handle, alloc, table, |table| {
+    lent!(handle, alloc, table, table => {
         *count = table.len();
         status::OK
     })
@@ -164,12 +148,7 @@ pub extern "C" fn nlog_at(
     ensures value { (result, record { stamp = stamp.new; name = name.new; len = name_len.new })
         ≡ answered_at (table_in handle.old.kept.log) place (record { stamp = stamp.old; name = name.old; len = name_len.old }) }
 {
-    lent!(
-        handle,
-        alloc,
-        table,
-        |table| look_up::at(table, place, stamp, name, name_len)
-    )
+    lent!(handle, alloc, table, table => look_up::fill(table.at(place), stamp, name, name_len))
 }
 
 #[unsafe(no_mangle)]
@@ -182,12 +161,7 @@ pub extern "C" fn nlog_find(
     ensures same { handle.new.kept.log ≡ handle.old.kept.log }
     ensures value { (result, stamp.new) ≡ answered_find (table_in handle.old.kept.log) name.now stamp.old }
 {
-    lent!(
-        handle,
-        alloc,
-        table,
-        |table| look_up::find(table, name, stamp)
-    )
+    lent!(handle, alloc, table, table => look_up::find(table, name, stamp))
 }
 
 /// The line is passed without its newline. A buffer that is too short for the name is left alone.

@@ -1,9 +1,11 @@
 //! The handle that a caller in C has: memory of zeros is a handle without a log.
-ghost use Rattle.std.specs.Prelude.{◌≡◌, ◌↔◌, IsSome, Some, None, option_map};
+ghost use Rattle.std.specs.Prelude.{◌≡◌, ◌≢◌, ◌↔◌, ◌⊎◌, IsSome, Some, None, option_map};
 ghost use Rattle.nl_c.specs.Kept.{made as made_mark};
+ghost use Rattle.nl_c.specs.Statuses.{ok, out_of_memory};
 
 use crate::held::Held;
 use crate::kept::Kept;
+use crate::status;
 use std::alloc::Global;
 use std::mem::replace;
 
@@ -19,15 +21,6 @@ pub struct Handle {
 }
 
 impl Handle {
-    pub(crate) fn empty() -> Handle
-        ensures { result.kept.log ≡ None }
-    {
-        Handle {
-            made: 0,
-            kept: Kept::empty(),
-        }
-    }
-
     pub(crate) fn of(log: Box<Held>) -> Handle
         ensures { result.kept.log ≡ Some log.value }
     {
@@ -37,10 +30,16 @@ impl Handle {
         }
     }
 
-    fn into_log(self, alloc: Global) -> Option<Box<Held>>
-        ensures { self.kept.log ≡ option_map (λ log. log.value) result }
+    /// The caller owns the log then.
+    pub(crate) fn take(&mut self, alloc: Global) -> Option<Box<Held>>
+        ensures held { self.old.kept.log ≡ option_map (λ log. log.value) result }
+        ensures empty { self.new.kept.log ≡ None }
     {
-        let Handle { made, kept } = self;
+        let empty = Handle {
+            made: 0,
+            kept: Kept::empty(),
+        };
+        let Handle { made, kept } = replace(self, empty);
         if made == MADE {
             Some(kept.into_box(alloc))
         } else {
@@ -48,11 +47,19 @@ impl Handle {
         }
     }
 
-    /// The caller owns the log then.
-    pub(crate) fn take(&mut self, alloc: Global) -> Option<Box<Held>>
-        ensures held { self.old.kept.log ≡ option_map (λ log. log.value) result }
-        ensures empty { self.new.kept.log ≡ None }
+    /// Frees the log that it had before. Without memory that log stays.
+    pub(crate) fn put(&mut self, alloc: Global, held: Held) -> u32
+        ensures ok { result ≡ ok → self.new.kept.log ≡ Some held }
+        ensures refusals { (result ≡ ok) ⊎ (result ≡ out_of_memory) }
+        ensures unchanged { result ≢ ok → self.new.kept.log ≡ self.old.kept.log }
     {
-        replace(self, Handle::empty()).into_log(alloc)
+        match Box::new(alloc, held) {
+            Ok(log) => {
+                drop(self.take(alloc));
+                *self = Handle::of(log);
+                status::OK
+            }
+            Err(_) => status::OUT_OF_MEMORY,
+        }
     }
 }

@@ -4,7 +4,7 @@ ghost use Rattle.nl_fields.specs.EntryLine.{line_of};
 ghost use Rattle.nl_lines.specs.Split.{with_newline};
 ghost use Rattle.nl_c.specs.CarriedLogs.{holds_line};
 ghost use Rattle.nl_c.specs.Statuses.{ok, no_room, out_of_memory};
-ghost use Rattle.nl_c.specs.Answers.{answer_at, answer_find, answer_line, entry_in};
+ghost use Rattle.nl_c.specs.Answers.{answer_find, answer_line, entry_in};
 
 use crate::loaded_log::CStamp;
 use crate::status;
@@ -23,7 +23,12 @@ pub(crate) fn find(table: &Table, name: &[u8], stamp: &mut CStamp) -> u32
     }
 }
 
-fn fill(found: Option<EntryRef>, stamp: &mut CStamp, name: &mut [u8], name_len: &mut usize) -> u32
+pub(crate) fn fill(
+    found: Option<EntryRef>,
+    stamp: &mut CStamp,
+    name: &mut [u8],
+    name_len: &mut usize,
+) -> u32
     ensures { (result, record { stamp = stamp.new; name = name.new; len = name_len.new })
         ≡ entry_in found.entry (record { stamp = stamp.old; name = name.old; len = name_len.old }) }
 {
@@ -38,19 +43,6 @@ fn fill(found: Option<EntryRef>, stamp: &mut CStamp, name: &mut [u8], name_len: 
     }
     name[..bytes.len()].copy_from_slice(bytes);
     status::OK
-}
-
-pub(crate) fn at(
-    table: &Table,
-    place: usize,
-    stamp: &mut CStamp,
-    name: &mut [u8],
-    name_len: &mut usize,
-) -> u32
-    ensures { (result, record { stamp = stamp.new; name = name.new; len = name_len.new }) ≡ answer_at table.now place
-        (record { stamp = stamp.old; name = name.old; len = name_len.old }) }
-{
-    fill(table.at(place), stamp, name, name_len)
 }
 
 /// The line is passed without its newline.
