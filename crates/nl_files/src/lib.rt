@@ -6,7 +6,6 @@ pub mod laws;
 mod log_calls;
 mod log_file;
 mod mem_inode;
-mod mem_inodes;
 mod mem_system;
 mod runs;
 mod scratch_calls;
