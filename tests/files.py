@@ -362,6 +362,10 @@ def main(words):
         rivals = Rivals(trials, os.path.abspath(words[0]), room)
         for number in range(count):
             rivals.case(f"case {number}", chance)
+        # What a case shows depends on when its files changed too, so more are tried where a fault wasn't seen.
+        while CASES <= count and rivals.unseen and number < 4 * count:
+            number += 1
+            rivals.case(f"case {number}", chance)
     for word, faults in FAULTS.items():
         for fault in faults if count >= CASES else []:
             trials.check(f"{word}, with the fault that {fault}, comes out otherwise", (word, fault) not in rivals.unseen)
