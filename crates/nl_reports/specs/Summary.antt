@@ -1,5 +1,5 @@
 -- The text of `summary` (docs/CLI.md, "summary").
-use Rattle.std.specs.Prelude.{ℕ, ◌+◌, ◌-◌, ◌/◌, ◌==◌, ◌*◌, ◌^◌, ◌≤◌, max, Bool, true, false, List, [], ◌∷◌, ◌++◌, length, Option, None, Some, option_and_then, codes, decimal, if◌then◌else◌}
+use Rattle.std.specs.Prelude.{◌≡◌, ℕ, ◌+◌, ◌-◌, ◌/◌, ◌==◌, ◌*◌, ◌^◌, ◌≤◌, max, Bool, true, false, List, [], ◌∷◌, ◌++◌, length, Option, None, Some, option_and_then, take, codes, decimal, if◌then◌else◌}
 use Rattle.std.specs.List.{sum_by}
 use Rattle.nl_builds.specs.Builds.{Told as BuildsTold}
 use Rattle.nl_builds.specs.declared.build.Build.{Build}
@@ -149,6 +149,10 @@ unfinished_line screen count = if count == 0 then [] else count_line screen (cod
 -- by time, and in a pipe also by weight
 abbrev pub both_lists : Lists → ℕ → Listed → List Told → List ℕ
 both_lists lists total listed ts = list_lines lists total listed Time ts ++ (if lists.screen then [] else list_lines lists total listed Weight ts)
+
+-- the same come first by time
+abbrev pub AreHighest : Lists → List Told → List Told → Type 0
+AreHighest lists us ts = take lists.most (falling (rank_told Time) us) ≡ take lists.most (falling (rank_told Time) ts)
 
 abbrev pub all_lists : Lists → List Told → List Told → List ℕ
 all_lists lists ts ks = both_lists lists (total_of ts) Commands ts ++ both_lists lists (total_of ts) Kinds ks

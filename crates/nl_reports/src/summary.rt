@@ -8,7 +8,7 @@ ghost use Rattle.nl_tool_texts.specs.Falling.{falling};
 ghost use Rattle.nl_reports.specs.Shares.{AreSharesOf};
 ghost use Rattle.nl_reports.specs.Spans.{IsEarly};
 ghost use Rattle.nl_reports.specs.declared.span.Span.{Span};
-ghost use Rattle.nl_reports.specs.Summary.{AreTotalsOf, again_in, again_line, both_lists, bound, chosen_text, count_line, few_text, first_of, lists_text, more_taken, most_taken, no_totals, number_lines, rows_from, slowest_line, slowest_time, summary_text, taken_in, title, total_of, totals_from, unfinished_line, with_build, with_numbers};
+ghost use Rattle.nl_reports.specs.Summary.{AreHighest, AreTotalsOf, again_in, again_line, both_lists, bound, chosen_text, count_line, few_text, first_of, lists_text, more_taken, most_taken, no_totals, number_lines, rows_from, slowest_line, slowest_time, summary_text, taken_in, title, total_of, totals_from, unfinished_line, with_build, with_numbers};
 ghost use Rattle.nl_reports.specs.declared.rows.Rank.TheVariants.{Time};
 
 use crate::choice::{Choice, Scope, chosen};
@@ -80,12 +80,14 @@ fn append_chosen(
     }
     let all = all_of(*lines.allocator(), from, choice.first, told)?;
     let rows = all.rows.as_slice();
+    let by_time = highest(*lines.allocator(), &Rank::Time, lists.most.max(1), rows)?;
+    let by_time = by_time.as_slice();
     append_title(lists.screen, scope, choice.first, from.builds.len(), lines)?;
-    append_totals(lists.screen, &all.totals, rows, lines)?;
-    append_slowest(lists.screen, rows, lines)?;
+    append_totals(lists.screen, &all.totals, by_time, rows, lines)?;
+    append_slowest(lists.screen, by_time, lines)?;
     append_again(lists.screen, again_in(scope, told), lines)?;
     append_unfinished(lists.screen, unfinished, lines)?;
-    append_lists(lists, rows, lines)
+    append_lists(lists, by_time, rows, lines)
 }
 
 fn append_title(
@@ -202,7 +204,15 @@ fn row_of<'a>(job: &Job<'_, 'a>, shares: &Shares, near: &mut Near) -> Row<'a>
     }
 }
 
-fn append_totals(screen: bool, totals: &Totals, rows: &[Row], lines: &mut Vec<u8>) -> AllocResult
+// `by_time` begins with the slowest.
+fn append_totals(
+    screen: bool,
+    totals: &Totals,
+    by_time: &[Row],
+    rows: &[Row],
+    lines: &mut Vec<u8>,
+) -> AllocResult
+    requires first { first_of (falling (rank_told Time) (map told_row by_time.now)) ≡ first_of (falling (rank_told Time) (map told_row rows.now)) }
     requires room { totals.now.wall < 2 ^ 120 }
     requires one { All IsOfOne rows.now }
     ensures items { OnOk result (lines.new.items ≡ lines.old.items ++ number_lines screen totals.now (map told_row rows.now)) }
@@ -212,7 +222,7 @@ fn append_totals(screen: bool, totals: &Totals, rows: &[Row], lines: &mut Vec<u8
     let total = total_of(rows);
     let parallel = ratio(alloc, total, totals.wall)?;
     if screen {
-        let slowest = slowest_time(alloc, rows)?;
+        let slowest = slowest_time(alloc, by_time)?;
         let best = bound(totals.most, total, slowest);
         let none = totals.wall.saturating_sub(totals.busy);
         let most = u128::from(totals.most);
@@ -359,7 +369,8 @@ fn append_count(
     append_line(&[Part::Text(key), Part::Number(count as u128)], lines)
 }
 
-fn append_lists(lists: Lists, rows: &[Row], lines: &mut Vec<u8>) -> AllocResult
+fn append_lists(lists: Lists, by_time: &[Row], rows: &[Row], lines: &mut Vec<u8>) -> AllocResult
+    requires highest { AreHighest lists (map told_row by_time.now) (map told_row rows.now) }
     requires one { All IsOfOne rows.now }
     ensures items { OnOk result (lines.new.items ≡ lines.old.items ++ lists_text lists (map told_row rows.now)) }
 {
@@ -368,21 +379,24 @@ fn append_lists(lists: Lists, rows: &[Row], lines: &mut Vec<u8>) -> AllocResult
     }
     let total = total_of(rows);
     let kinds = kinds_of(*lines.allocator(), lists.secret, lists.rule, rows)?;
-    append_both(lists, total, Listed::Commands, rows, lines)?;
-    append_both(lists, total, Listed::Kinds, kinds.as_slice(), lines)
+    let kinds = kinds.as_slice();
+    append_both(lists, total, Listed::Commands, by_time, rows, lines)?;
+    append_both(lists, total, Listed::Kinds, kinds, kinds, lines)
 }
 
-fn append_both(
+fn append_both<'a>(
     lists: Lists,
     total: u128,
     listed: Listed,
-    rows: &[Row],
+    by_time: &[Row<'a>],
+    rows: &[Row<'a>],
     lines: &mut Vec<u8>,
 ) -> AllocResult
+    requires highest { AreHighest lists (map told_row by_time.now) (map told_row rows.now) }
     requires room { total < 2 ^ 120 }
     ensures items { OnOk result (lines.new.items ≡ lines.old.items ++ both_lists lists total listed (map told_row rows.now)) }
 {
-    append_list(lists, total, listed, Rank::Time, rows, lines)?;
+    append_list(lists, total, listed, Rank::Time, by_time, lines)?;
     if lists.screen {
         return Ok(());
     }

@@ -1,4 +1,4 @@
-use Rattle.std.proofs.Common.{◌≡◌, ◌∙◌, ◌-◌, ◌++◌, List, ℕ, ap, map, sym}
+use Rattle.std.proofs.Common.{◌≡◌, ◌∙◌, ◌-◌, ◌++◌, List, ℕ, ap, arith, map, sym}
 use Rattle.std.proofs.lemmas.Result.{on_ok_weaker}
 use Rattle.std.proofs.Common.{true≢false}
 use Rattle.std.proofs.lemmas.Bool.{eq-eqb}
@@ -8,8 +8,19 @@ use Rattle.nl_reports.specs.Rows.{rank_told, told_row}
 use Rattle.nl_tool_texts.specs.Falling.{falling}
 use Rattle.nl_reports.specs.Summary.{again_line, builds_told, first_of, lists_text, number_lines, slowest_line, text_of, title, unfinished_line}
 use Rattle.nl_reports.specs.declared.rows.Rank.TheVariants.{Time}
-use Rattle.nl_reports.proofs.SummaryLemmas.{parts_in_order, some_told}
+use Rattle.nl_reports.proofs.SummaryLemmas.{first_kept, highest_kept, parts_in_order, some_told}
 use Rattle.nl_reports.proofs.summary.append_chosen.Goals as goal
+
+pub append_totals-requires-clause-first : goal.append_totals-requires-clause-first
+append_totals-requires-clause-first c =
+    let rows = c.as_slice-rows.result.now in
+    first_kept _ _ (highest_kept (rank_told Time) rows c.as_slice-by_time.result.now 1 c.max.result (omega (arith, c.max.ensures))
+    (c.as_slice-by_time.ensures.value ∙ c.in_ok-by_time.ensures.value))
+
+pub append_lists-requires-clause-highest : goal.append_lists-requires-clause-highest
+append_lists-requires-clause-highest c =
+    highest_kept (rank_told Time) c.as_slice-rows.result.now c.as_slice-by_time.result.now c.args.lists.most c.max.result (omega (arith, c.max.ensures))
+    (c.as_slice-by_time.ensures.value ∙ c.in_ok-by_time.ensures.value)
 
 pub returns : goal.returns
 returns c =
@@ -25,6 +36,8 @@ returns c =
     let head = title screen c.args.scope first c.len.result in
     let slow = slowest_line screen (first_of (falling (rank_told Time) us)) in
     let last = unfinished_line screen c.args.unfinished in
+    let slowest = first_kept _ _ (highest_kept (rank_told Time) c.as_slice-rows.result.now c.as_slice-by_time.result.now 1 c.max.result (omega (arith, c.max.ensures))
+    (c.as_slice-by_time.ensures.value ∙ c.in_ok-by_time.ensures.value)) in
     let chosen : bs ≡ between (first - 1) c.args.choice.last c.args.from.now.builds.items =
     c.between-told.ensures ∙ (λ i. between (c.saturating_sub-before.ensures i) c.args.choice.last (c.as_slice.ensures.value i)) in
     record {
@@ -33,7 +46,7 @@ returns c =
           h ∙ ap (λ (l : List ℕ). l ++ lists_text c.args.lists us)
           (c.in_ok-append_unfinished.ensures.items ∙ ap (λ (l : List ℕ). l ++ last)
           (c.in_ok-append_again.ensures.items ∙ ap (λ (l : List ℕ). l ++ again_line screen taken)
-          (c.in_ok-append_slowest.ensures.items ∙ ap (λ (l : List ℕ). l ++ slow)
+          (c.in_ok-append_slowest.ensures.items ∙ (λ i. c.append_totals.new.lines.items ++ slowest_line screen (slowest i)) ∙ ap (λ (l : List ℕ). l ++ slow)
           (c.in_ok-append_totals.ensures.items ∙ ap (λ (l : List ℕ). l ++ number_lines screen ts us) c.in_ok-append_title.ensures.items))))
           ∙ parts_in_order old head (number_lines screen ts us) slow (again_line screen taken) last (lists_text c.args.lists us) in
           whole
