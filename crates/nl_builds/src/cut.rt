@@ -5,6 +5,7 @@ ghost use Rattle.nl_table.specs.Table.{with_name};
 ghost use Rattle.nl_builds.specs.Builds.{new_names, whole_commands};
 
 use crate::command::Command;
+use crate::name_key::NameKey;
 use indexmap::IndexSet;
 use nl_fields::EntryRef;
 use nl_table::Secret;
@@ -30,11 +31,11 @@ pub(crate) fn new_names(
 }
 
 // Whether it is new.
-fn add<'a>(name: &'a [u8], names: &mut IndexSet<&'a [u8], Secret>) -> Result<bool, AllocError>
-    ensures names { OnOk result (map (λ n. n.now) names.new.keys ≡ with_name (map (λ n. n.now) names.old.keys) name.now) }
-    ensures is_new { IfOk result (λ is_new. is_new ≡ not (holds (map (λ n. n.now) names.old.keys) name.now)) }
+fn add<'a>(name: &'a [u8], names: &mut IndexSet<NameKey<'a>, Secret>) -> Result<bool, AllocError>
+    ensures names { OnOk result (map (λ n. n.bytes.now) names.new.keys ≡ with_name (map (λ n. n.bytes.now) names.old.keys) name.now) }
+    ensures is_new { IfOk result (λ is_new. is_new ≡ not (holds (map (λ n. n.bytes.now) names.old.keys) name.now)) }
 {
-    Ok(names.insert(name)?)
+    Ok(names.insert(NameKey { bytes: name })?)
 }
 
 /// How many commands are whole within so many entries.

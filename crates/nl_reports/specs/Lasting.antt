@@ -1,6 +1,5 @@
 -- Builds with the last entry of each output alone (docs/CLI.md, "summary").
 use Rattle.std.specs.Prelude.{⊤, ℕ, ◌-◌, ◌≤◌, Bool, bytes_eq, nat_lt, List, [], ◌∷◌, ◌++◌, drop, length, take, if◌then◌else◌}
-use Rattle.std.specs.Borrow.{Bor}
 use Rattle.std.specs.List.{filter, list_any}
 use Rattle.nl_fields.specs.declared.entry.Entry.{Entry}
 use Rattle.nl_table.specs.History.{holds}
@@ -10,6 +9,7 @@ use Rattle.nl_builds.specs.declared.build.Build.{Build}
 use Rattle.nl_builds.specs.declared.build.How.{How}
 use Rattle.nl_builds.specs.declared.build.How.TheVariants.{AsWritten, FoundAgain}
 use Rattle.nl_builds.specs.declared.command.Command.{Command}
+use Rattle.nl_builds.specs.declared.name_key.NameKey.{NameKey}
 use Rattle.nl_reports.specs.Jobs.{Job, between}
 use Rattle.nl_reports.specs.Spans.{span_of}
 
@@ -80,5 +80,5 @@ marked [] xs = []
 marked (b ∷ bs) [] = []
 marked (b ∷ bs) (x ∷ xs) = if b then x ∷ marked bs xs else marked bs xs
 
-abbrev pub is_held : List (Bor (List ℕ)) → List ℕ → Bool
-is_held keys name = list_any (λ k. bytes_eq name k.now) keys
+abbrev pub is_held : List NameKey → List ℕ → Bool
+is_held keys name = list_any (λ (k : NameKey). bytes_eq name k.bytes.now) keys

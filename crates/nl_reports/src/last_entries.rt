@@ -4,7 +4,7 @@ ghost use Rattle.nl_reports.specs.Jobs.{told};
 ghost use Rattle.nl_reports.specs.Lasting.{builds_left, commands_left, is_among, is_held, last_entries, lasting, whole};
 
 use indexmap::IndexSet;
-use nl_builds::{Build, Builds, Command, How};
+use nl_builds::{Build, Builds, Command, How, NameKey};
 use nl_fields::EntryRef;
 use nl_table::Secret;
 use nl_tool_texts::AllocResult;
@@ -58,7 +58,7 @@ fn last_entries<'a>(
 // An entry of which later ones are known: it is left if none has its name.
 fn take<'a>(
     entry: EntryRef<'a>,
-    later: &mut IndexSet<&'a [u8], Secret>,
+    later: &mut IndexSet<NameKey<'a>, Secret>,
     left: &mut Vec<EntryRef<'a>>,
     behind: &mut Vec<usize>,
 ) -> AllocResult
@@ -67,7 +67,9 @@ fn take<'a>(
         ≡ left.old.items ++ (if is_held later.old.keys entry.entry.name then [] else entry.entry ∷ [])) }
     ensures behind { OnOk result (behind.new.items ≡ behind.old.items ++ length left.new.items ∷ []) }
 {
-    if later.insert(entry.name())? {
+    if later.insert(NameKey {
+        bytes: entry.name(),
+    })? {
         left.push(entry)?;
     }
     behind.push(left.len())?;
@@ -79,12 +81,12 @@ pub(crate) fn names_of<'a>(
     alloc: Global,
     secret: Secret,
     names: &[&'a [u8]],
-) -> AllocResult<IndexSet<&'a [u8], Secret>>
+) -> AllocResult<IndexSet<NameKey<'a>, Secret>>
     ensures value { IfOk result (λ set. (name : List ℕ) → is_held set.keys name ≡ is_among name (map (λ n. n.now) names.now)) }
 {
     let mut set = IndexSet::with_hasher(alloc, secret);
     for name in names {
-        set.insert(*name)?;
+        set.insert(NameKey { bytes: *name })?;
     }
     Ok(set)
 }

@@ -10,7 +10,7 @@ use crate::job::{Job, jobs_from};
 use crate::last_entries::names_of;
 use crate::outputs::Outputs;
 use indexmap::IndexSet;
-use nl_builds::Builds;
+use nl_builds::{Builds, NameKey};
 use nl_table::Secret;
 use nl_tool_texts::{AllocResult, Ranking};
 use nl_versions::LogVersion;
@@ -43,7 +43,7 @@ pub struct ComparedRow<'a> {
 #[derive(Drop)]
 struct Held<'s, 'a> {
     jobs: Vec<Job<'s, 'a>>,
-    waiting: IndexSet<&'a [u8], Secret>,
+    waiting: IndexSet<NameKey<'a>, Secret>,
 }
 
 impl<'s, 'a> Held<'s, 'a> {
@@ -59,9 +59,9 @@ impl<'s, 'a> Held<'s, 'a> {
     fn waits(&self, job: &Job<'_, 'a>) -> bool
         ensures { result ≡ waits (held_side self.now) (seen job.now) }
     {
-        job.outputs
-            .iter()
-            .any(|entry| self.waiting.contains(entry.name()))
+        job.outputs.iter().any(|entry| self.waiting.contains(&NameKey {
+            bytes: entry.name(),
+        }))
     }
 
     // 0 if it didn't end.
