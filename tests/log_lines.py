@@ -346,7 +346,7 @@ OUTLINE = (
 def drawn(commands, lanes, said=None, path=None):
     """The picture of commands in their lanes, in tenths of a pixel: the build is 14,400 wide, from 1000 on. A command is its START, its END,
     anything, and its outputs. `said`: what is said of the build. `path`: those with an outline, by their first outputs."""
-    out, short, times = [], collections.Counter(), [0] * len(WORKS)
+    out, short, times = [], {}, [0] * len(WORKS)
     began, top = commands[0][0] if commands else 0, max(lanes, default=0)
     wall = max([max(it[:2]) for it in commands], default=0) - began
     for start, end, _, names in commands:
@@ -374,11 +374,19 @@ def drawn(commands, lanes, said=None, path=None):
         out.append('<path class="g" d="M%d 1000V%d"/><text class="m" x="%d" y="950" text-anchor="middle">%s</text>\n' % (x, foot, x, in_words(at)))
     out.append('<g class="t" font-size="110">\n')
     start_of = '<rect class="k%d" x="%d" y="%d" width="%d" height="%d"><title>'
+
+    def draw_short(lane):
+        place, pixel, count = short.pop(lane)
+        out.append((start_of + "%d short</title></rect>\n") % (place, pixel * 10, 1100 + pitch * lane, 10, high, count))
+
     for (start, end, _, names), lane in zip(commands, lanes):
         x, until = (1000 + (it - began) * 14400 // max(wall, 1) for it in (start, max(start, end)))
         place, width, y = work_of(names[0]), until - x, 1100 + pitch * lane
         if width < 5:
-            short[lane, x // 10, place] += 1
+            # (those of a lane come from left to right)
+            if lane in short and short[lane][1] != x // 10:
+                draw_short(lane)
+            short.setdefault(lane, [place, x // 10, 0])[2] += 1
             continue
         more = " and %d more" % (len(names) - 1) if len(names) > 1 else ""
         told = *divmod(max(0, end - start), 1000), *divmod(start - began, 1000)
@@ -387,8 +395,8 @@ def drawn(commands, lanes, said=None, path=None):
         room = min(22, max(0, width - 80) // 70)
         if room >= 4 and top < 64:
             out += ['<text x="%d" y="%d">' % (x + 40, y + 135), cut(names[0], room), "</text>\n"]
-    for (lane, pixel, place), count in sorted(short.items(), reverse=True):
-        out.append((start_of + "%d short</title></rect>\n") % (place, pixel * 10, 1100 + pitch * lane, 10, high, count))
+    for lane in sorted(short):
+        draw_short(lane)
     curve, starts, ends = "", [it[0] for it in commands], sorted(max(it[:2]) for it in commands)
     for at in range(480):
         moment = began + at * wall // 480

@@ -564,8 +564,8 @@ def try_many(trials, program, room):
     told = [re.fullmatch(r"(\d+) short", it[3]) for it in bars]
     trials.check(f"{number:,} commands: its size", len(out) <= 400 * number, len(out))
     trials.want(f"{number:,} commands: those in its bars", sum(int(it[1]) if it else 1 for it in told), number)
-    # By hand: 1,440 pixels in 8 lanes hold half as many bars again as pixels at most, of ten colours; each long one takes half a pixel or more.
-    return trials.check(f"{number:,} commands: its bars", len(bars) <= 8 * 1440 * (10 + 2), len(bars))
+    # By hand: a pixel of a lane has one bar of short commands, and two others at most, because each of these takes half a pixel or more.
+    return trials.check(f"{number:,} commands: its bars", len(bars) <= 8 * 1440 * (1 + 2), len(bars))
 
 
 def try_ninja(trials, program, room):

@@ -4,7 +4,7 @@ use Rattle.std.specs.List.{flat_map, zip}
 use Rattle.std.specs.Result.{IsErr}
 use Rattle.std.proofs.lemmas.List.{at_drop_all, at_drop_more}
 use Rattle.nl_tool_texts.specs.declared.fault.ToolFault.{ToolFault}
-use Rattle.nl_reports.specs.Bars.{bar, joined, joined_bars, marks, rank_of}
+use Rattle.nl_reports.specs.Bars.{bar, bars_from, opened, short_bar, short_bars}
 use Rattle.nl_reports.specs.Frame.{frame_of}
 use Rattle.nl_reports.specs.Jobs.{Job, seen}
 use Rattle.nl_reports.specs.Lanes.{lanes}
@@ -18,15 +18,15 @@ use Rattle.nl_tool_texts.specs.Falling.{falling}
 use Rattle.nl_reports.specs.Spans.{time_of}
 use Rattle.nl_tool_texts.specs.Writing.{HoldsAllBut, Writes}
 use Rattle.nl_reports.specs.declared.critical.Ran.{Ran as HeldRan}
-use Rattle.nl_reports.specs.declared.bars.Mark.{Mark}
+use Rattle.nl_reports.specs.declared.bars.Short.{Short}
 use Rattle.nl_reports.specs.declared.frame.Frame.{Frame}
 use Rattle.nl_reports.specs.declared.picture.Known.{Known}
 use Rattle.nl_reports.specs.declared.job.Job.{Job as HeldJob}
 use Rattle.nl_reports.specs.declared.span.Span.{Span}
 use Rattle.nl_tool_texts.proofs.FallingLemmas.{map-falling}
 use Rattle.nl_tool_texts.proofs.ListedLemmas.{map-take}
-use Rattle.nl_reports.proofs.PairLemmas.{pair_next, pairs_over}
-use Rattle.nl_tool_texts.proofs.WritingLemmas.{err_writes, more_held, none_written}
+use Rattle.nl_reports.proofs.PairLemmas.{pair_at, pairs_done}
+use Rattle.nl_tool_texts.proofs.WritingLemmas.{err_writes, none_written}
 
 pub end_some : (f : Frame) (ls : List ℕ) (path : Option (List Ran)) (cs : List Span) (js : List Job) → 0 < length (end f ls path cs js)
 end_some f ls path cs js = omega (
@@ -45,31 +45,32 @@ picture_some known path js = omega (
 
 -- ---- the bars of the commands from one on, and those of short commands
 
-abbrev pub left_bars : Frame → List Mark → List (Job × ℕ) → List ℕ
-left_bars f short pairs = flat_map (bar f) pairs ++ joined_bars f (short ++ flat_map (marks f) pairs)
-
 pub bars_held : (old mid : Option (List ℕ)) (whole held more : List ℕ) (f : Frame) (js : List HeldJob) (found : List ℕ)
-    (i lane : ℕ) (k : HeldJob) (short now : List Mark) → i < length js → i < length found → k ≡ get_or js i k → lane ≡ get_or found i lane
-    → more ≡ held ++ bar f (seen k, lane) → now ≡ short ++ marks f (seen k, lane)
-    → HoldsAllBut old mid whole (held ++ left_bars f short (drop i (zip (map seen js) found)))
-    → HoldsAllBut old mid whole (more ++ left_bars f now (drop (i + 1) (zip (map seen js) found)))
-bars_held old mid whole held more f js found i lane k short now there lane_there is lane_is told marked holds =
-    let after = flat_map (marks f) (drop (i + 1) (zip (map seen js) found)) in
-    let same : short ++ flat_map (marks f) (drop i (zip (map seen js) found)) ≡ now ++ after =
-    ap (λ (l : List Mark). short ++ l) (pair_next (marks f) js found i lane k there lane_there is lane_is)
-    ∙ sym (append_assoc short (marks f (seen k, lane)) after) ∙ ap (λ (l : List Mark). l ++ after) (sym marked) in
-    subst (λ (l : List Mark). HoldsAllBut old mid whole (more ++ (flat_map (bar f) (drop (i + 1) (zip (map seen js) found)) ++ joined_bars f l))) same
-    (more_held old mid whole held more (bar f (seen k, lane)) (flat_map (bar f) (drop i (zip (map seen js) found)))
-    (flat_map (bar f) (drop (i + 1) (zip (map seen js) found))) (joined_bars f (short ++ flat_map (marks f) (drop i (zip (map seen js) found))))
-    (pair_next (bar f) js found i lane k there lane_there is lane_is) told holds)
+    (i lane : ℕ) (k : HeldJob) (shorts now : List Short) → i < length js → i < length found → k ≡ get_or js i k → lane ≡ get_or found i lane
+    → more ≡ held ++ bar f shorts (seen k, lane) → now ≡ opened f shorts (seen k, lane)
+    → HoldsAllBut old mid whole (held ++ bars_from f shorts (drop i (zip (map seen js) found)))
+    → HoldsAllBut old mid whole (more ++ bars_from f now (drop (i + 1) (zip (map seen js) found)))
+bars_held old mid whole held more f js found i lane k shorts now there lane_there is lane_is told opens holds =
+    let after = drop (i + 1) (zip (map seen js) found) in
+    subst (λ (l : List ℕ). HoldsAllBut old mid whole l)
+    (pair_at (λ (l : List (Job × ℕ)). held ++ bars_from f shorts l) js found i lane k there lane_there is lane_is
+    ∙ sym (append_assoc held (bar f shorts (seen k, lane)) (bars_from f (opened f shorts (seen k, lane)) after))
+    ∙ (λ n. sym told n ++ bars_from f (sym opens n) after)) holds
 
-pub bars_over : (old mid : Option (List ℕ)) (whole held : List ℕ) (f : Frame) (js : List HeldJob) (found : List ℕ) (i : ℕ)
-    (short sorted : List Mark) → length js ≤ i → sorted ≡ falling rank_of short
-    → HoldsAllBut old mid whole (held ++ left_bars f short (drop i (zip (map seen js) found))) → HoldsAllBut old mid whole (held ++ joined f 0 sorted)
-bars_over old mid whole held f js found i short sorted all is holds =
-    subst (λ (l : List ℕ). HoldsAllBut old mid whole (held ++ l))
-    ((λ n. pairs_over (bar f) js found i all n ++ joined_bars f (short ++ pairs_over (marks f) js found i all n))
-    ∙ ap (joined_bars f) (append-nil short) ∙ ap (joined f 0) (sym is)) holds
+pub bars_over : (old mid : Option (List ℕ)) (whole held : List ℕ) (f : Frame) (js : List HeldJob) (found : List ℕ) (i : ℕ) (shorts now : List Short)
+    → length js ≤ i → now ≡ shorts → HoldsAllBut old mid whole (held ++ bars_from f shorts (drop i (zip (map seen js) found)))
+    → HoldsAllBut old mid whole (held ++ short_bars f 0 now)
+bars_over old mid whole held f js found i shorts now all is holds =
+    subst (λ (l : List ℕ). HoldsAllBut old mid whole (held ++ l)) (pairs_done (bars_from f shorts) js found i all ∙ ap (short_bars f 0) (sym is)) holds
+
+pub shorts_held : (old mid : Option (List ℕ)) (whole held more : List ℕ) (f : Frame) (shorts : List Short) (i : ℕ) (d : Short) → i < length shorts
+    → more ≡ held ++ short_bar f i (get_or shorts i d) → HoldsAllBut old mid whole (held ++ short_bars f i (drop i shorts))
+    → HoldsAllBut old mid whole (more ++ short_bars f (i + 1) (drop (i + 1) shorts))
+shorts_held old mid whole held more f shorts i d within told holds =
+    subst (λ (l : List ℕ). HoldsAllBut old mid whole l)
+    (at_drop_more (λ (l : List Short). held ++ short_bars f i l) shorts i d within
+    ∙ sym (append_assoc held (short_bar f i (get_or shorts i d)) (short_bars f (i + 1) (drop (i + 1) shorts)))
+    ∙ ap (λ (l : List ℕ). l ++ short_bars f (i + 1) (drop (i + 1) shorts)) (sym told)) holds
 
 -- ---- the whole
 

@@ -27,7 +27,6 @@ mod PathsLemmas
 mod ReachesLemmas
 mod CriticalLemmas
 mod PairLemmas
-mod MarkLemmas
 mod NameLemmas
 mod EventLemmas
 mod TraceLemmas

@@ -1,33 +1,33 @@
 -- How long the text of a bar is.
-use Rattle.std.proofs.Common.{ℕ, zero, suc, ◌+◌, ◌*◌, ◌-◌, ◌/◌, ◌%◌, ◌<◌, ◌≤◌, ◌^◌, ◌==◌, ◌≡◌, max, Bool, true, false, cond, List, [], ◌∷◌, ◌++◌, length, drop, take, Option, None, Some}
+use Rattle.std.proofs.Common.{ℕ, zero, suc, ◌+◌, ◌*◌, ◌-◌, ◌/◌, ◌%◌, ◌<◌, ◌≤◌, ◌^◌, ◌==◌, ◌≡◌, max, Bool, true, false, cond, List, [], ◌∷◌, ◌++◌, length, drop, take, Option, None, Some, replicate, set}
 use Rattle.std.proofs.Common.{arith, refl, subst, sym, inl, inr, codes, length-append}
 use Rattle.std.specs.Prelude.{decimal, nat_lt, slice_index}
 use Rattle.std.proofs.Math.Nat.{div-le_of_le-mul}
 use Rattle.std.proofs.lemmas.Nat.{mul-le}
 use Rattle.std.specs.Int.{is_in_range}
 use Rattle.std.specs.Option.{unwrap_or}
-use Rattle.std.specs.List.{All, flat_map, fold, sum_by, zip}
+use Rattle.std.specs.List.{All, fold, sum_by, zip}
 use Rattle.std.specs.Str.Lossy.{after_first_chunk, error_len_after_one, error_len_after_two, error_len_of_some, replacement_bytes, second_byte_max, second_byte_min, utf8_error_len, utf8_invalid_len, utf8_lossy, utf8_lossy_within, utf8_valid_len}
 use Rattle.std.proofs.lemmas.Bool.{cases_Bool}
 use Rattle.std.proofs.lemmas.Bool.Decides.{eqb_tells, leb_tells, nat_tests}
 use Rattle.std.proofs.lemmas.Fmt.{length-decimal-le_wide}
-use Rattle.std.proofs.lemmas.List.{length-drop, length-map, length-take, length-take-le}
-use Rattle.std.proofs.lemmas.List.Elements.{All-append, All-cons, All-head, All-nil, All-tail}
+use Rattle.std.proofs.lemmas.List.{length-drop, length-map, length-replicate, length-set, length-take, length-take-le}
+use Rattle.std.proofs.lemmas.List.Elements.{All-cons, All-head, All-nil, All-replicate, All-set, All-tail}
+use Rattle.std.proofs.lemmas.List.Folds.{sum_by-replicate}
 use Rattle.std.proofs.lemmas.List.Sums.{sum_by-append, sum_by-cons}
 use Rattle.std.proofs.lemmas.List.Sorted.{All-permutation, length_permutation}
 use Rattle.std.proofs.lemmas.Str.{utf8_valid_len_le}
 use Rattle.nl_reports.specs.Jobs.{Job, first_name}
-use Rattle.nl_reports.specs.Bars.{bar, base_of, drawn_width, is_last, is_short, joined, joined_bar, joined_bars, kind_of, mark_of, marks, more_outputs, name_text, named, rank_of, rect, room_of, times_text, title, width_of}
+use Rattle.nl_reports.specs.Bars.{bar, bar_before, bars_from, base_of, drawn_width, is_short, kind_of, long_bar, more_outputs, name_text, named, no_short, opened, pixel_of, rect, room_of, short_bar, short_bars, short_in, short_text, times_text, title, width_of, with_short}
 use Rattle.nl_tool_texts.specs.Escape.{cut_at, cut_name, cut_text, escaped, escaped_behind, label, piece, shown}
 use Rattle.nl_reports.specs.Frame.{frame_of, height, is_named, pitch, seconds, x_at, y_at}
 use Rattle.nl_reports.specs.declared.frame.Frame.{Frame}
 use Rattle.nl_reports.specs.Lanes.{lanes}
 use Rattle.nl_reports.specs.Picture.{bars_of}
 use Rattle.nl_reports.specs.Rows.{by_start, lead, spans}
-use Rattle.nl_tool_texts.specs.Falling.{falling}
 use Rattle.nl_reports.specs.Spans.{IsEarly, closed_of, time_of}
 use Rattle.nl_reports.specs.Work.{place, work_of}
-use Rattle.nl_reports.specs.declared.bars.Mark.{Mark}
+use Rattle.nl_reports.specs.declared.bars.Short.{Short}
 use Rattle.nl_reports.specs.declared.work.Work.{Work}
 use Rattle.nl_reports.specs.declared.work.Work.TheVariants.{Compile, Link, Archive, Generate, Test, Other}
 use Rattle.nl_tool_texts.proofs.FallingLemmas.{falling_moves}
@@ -243,13 +243,9 @@ name_thin : (t : Bool) (text : List ℕ) → length (cond t [] (cond false text 
 name_thin true text = omega arith
 name_thin false text = omega arith
 
-some_drawn : (t : Bool) (all : List ℕ) → length all ≤ 400 → length (cond t [] all) ≤ 400
-some_drawn true all long = omega arith
-some_drawn false all long = long
-
 -- the bar of a command, whatever its outputs are called
 pub bar_size : (f : Frame) (j : Job) (lane : ℕ) → IsEarly j.span → length j.outputs < 2 ^ 63 → lane ≤ f.top → f.top < 2 ^ 63
-    → length (bar f (j, lane)) ≤ 400
+    → length (long_bar f j lane) ≤ 400
 bar_size f j lane early few low top =
     let x = x_at f j.span.began in
     let width = drawn_width (width_of f j) in
@@ -260,7 +256,7 @@ bar_size f j lane early few low top =
     let text = (title_size f j early few).size in
     let whole = length-append (rect f lane x width (kind_of j) ++ title f j) (name_text f lane x (width_of f j) name) in
     let titled = length-append (rect f lane x width (kind_of j)) (title f j) in
-    some_drawn (is_short f j) _ (elim (cases_Bool (is_named f)) [
+    elim (cases_Bool (is_named f)) [
       | inl high ↦
           let y = y_named f lane high low in
           let bar = rect_size f lane x width (kind_of j) 5 (omega arith) (omega (arith, y)) (omega (arith, y)) near wide (kind_most name) in
@@ -272,84 +268,128 @@ bar_size f j lane early few low top =
           let none : length (name_text f lane x (width_of f j) name) ≤ 0 =
           subst (λ (u : Bool). length (cond (nat_lt room 4) [] (cond u (named f lane x room name) [])) ≤ 0) (sym thin) (name_thin (nat_lt room 4) (named f lane x room name)) in
           omega (arith, bar.size, text, none, whole, titled)
-    ])
+    ]
 
--- a mark is that of a command
-pub record MarkFits (f : Frame) (m : Mark) : Type 0 where
-  pub low : m.lane ≤ f.top
-  pub top : f.top < 2 ^ 63
-  pub near : m.pixel ≤ 1540
-  pub kind : m.kind ≤ 5
+-- what is known of short commands
+pub record ShortFits (s : Short) : Type 0 where
+  pub near : s.pixel ≤ 1540
+  pub kind : s.kind ≤ 5
+  pub few : s.count ≤ 18446744073709551615
 
--- the bar of short commands
-pub joined_bar_size : (f : Frame) (count : ℕ) (m : Mark) → count < 2 ^ 63 → MarkFits f m → length (joined_bar f count m) ≤ 400
-joined_bar_size f count m few fits =
-    let y = y_most f m.lane (omega (arith, fits.low, fits.top)) in
-    omega (
-      arith,
-      (join (join (rect_size f m.lane (m.pixel * 10) 10 m.kind 22 (omega arith) y (omega (arith, y)) (omega (arith, fits.near)) (omega arith) fits.kind)
-          (digits 19 count (omega arith) (omega (arith, few)) (omega (arith, few)))) (said (codes " short</title></rect>\n") 22 (omega arith))).size,
-    )
+none_fits : ShortFits no_short
+none_fits = record { near = omega arith; kind = omega arith; few = omega arith }
 
--- ---- all bars
+-- their bars: one at most
+abbrev pub some_in : Short → ℕ
+some_in s = cond (s.count == 0) 0 1
 
-pub joined_size : (f : Frame) (count : ℕ) (ms : List Mark) → All (MarkFits f) ms → count + length ms < 2 ^ 63
-    → length (joined f count ms) ≤ 400 * length ms
-joined_size f count [] fit few = omega arith
-joined_size f count (m ∷ ms) fit few =
-    let own = All-head (MarkFits f) m ms fit in
-    let rest = All-tail (MarkFits f) m ms fit in
-    step (is_last m ms) (joined_bar_size f (count + 1) m (omega (arith, few)) own)
-    (joined_size f 0 ms rest (omega (arith, few))) (joined_size f (count + 1) ms rest (omega (arith, few)))
+abbrev pub few_in : List Short → ℕ
+few_in shorts = sum_by some_in shorts
+
+some_most : (s : Short) → some_in s ≤ 1
+some_most s = most (s.count == 0)
   where
-    step : (t : Bool) → length (joined_bar f (count + 1) m) ≤ 400 → length (joined f 0 ms) ≤ 400 * length ms
-        → length (joined f (count + 1) ms) ≤ 400 * length ms
-        → length (cond t (joined_bar f (count + 1) m ++ joined f 0 ms) (joined f (count + 1) ms)) ≤ 400 * suc (length ms)
-    step true one last more = omega (arith, one, last, length-append (joined_bar f (count + 1) m) (joined f 0 ms))
-    step false one last more = omega (arith, more)
+    most : (t : Bool) → cond t 0 1 ≤ 1
+    most true = omega arith
+    most false = omega arith
+
+set_few : (shorts : List Short) (lane : ℕ) (s : Short) → few_in (set shorts lane s) + some_in (short_in shorts lane) ≤ few_in shorts + 1
+set_few [] lane s = omega arith
+set_few (o ∷ os) zero s = omega (arith, some_most s, sum_by-cons some_in s os, sum_by-cons some_in o os)
+set_few (o ∷ os) (suc lane) s = omega (arith, set_few os lane s, sum_by-cons some_in o (set os lane s), sum_by-cons some_in o os)
+
+in_fits : (shorts : List Short) (lane : ℕ) → All ShortFits shorts → ShortFits (short_in shorts lane)
+in_fits [] lane fit = none_fits
+in_fits (o ∷ os) zero fit = All-head ShortFits o os fit
+in_fits (o ∷ os) (suc lane) fit = in_fits os lane (All-tail ShortFits o os fit)
+
+with_fits : (f : Frame) (s : Short) (j : Job) → ShortFits s → ShortFits (with_short f s j)
+with_fits f s j fits =
+    elim (cases_Bool (s.pixel == pixel_of f j)) [
+      | inl same ↦ rw same (record { near = fits.near; kind = fits.kind; few = omega arith })
+      | inr apart ↦ rw apart (record { near = omega (arith, x_most f j.span.began); kind = kind_most (first_name j.outputs); few = omega arith })
+    ]
 
 module _ (f : Frame) (top : f.top < 2 ^ 63) where
-  -- a command has a bar or a mark
-  one_size : (j : Job) (lane : ℕ) → IsEarly j.span → length j.outputs < 2 ^ 63 → lane ≤ f.top
-      → length (bar f (j, lane)) + 400 * length (marks f (j, lane)) ≤ 400
-  one_size j lane early few low =
-      elim (cases_Bool (is_short f j)) [
-        | inl short ↦ rw short (omega arith)
-        | inr long ↦ let most = rw long at (bar_size f j lane early few low top) in rw long (omega (arith, most))
-      ]
+  short_size : (lane : ℕ) (s : Short) → lane ≤ f.top → ShortFits s → length (short_bar f lane s) ≤ 400 * some_in s
+  short_size lane s low fits =
+      let y = y_most f lane (omega (arith, low, top)) in
+      let all =
+      join (join (rect_size f lane (s.pixel * 10) 10 s.kind 22 (omega arith) y (omega (arith, y)) (omega (arith, fits.near)) (omega arith) fits.kind)
+      (digits 20 s.count (omega arith) (omega (arith, fits.few)) (omega (arith, fits.few)))) (said (codes " short</title></rect>\n") 22 (omega arith)) in
+      drawn (s.count == 0) (omega (arith, all.size))
+    where
+      drawn : (t : Bool) → length (short_text f lane s) ≤ 400 → length (cond t [] (short_text f lane s)) ≤ 400 * cond t 0 1
+      drawn true few = omega arith
+      drawn false few = omega (arith, few)
 
-  pub pairs_size : (js : List Job) (ls : List ℕ) → All (λ (j : Job). IsEarly j.span) js → All (λ (j : Job). length j.outputs < 2 ^ 63) js
-      → All (λ (l : ℕ). l ≤ f.top) ls
-      → length (flat_map (bar f) (zip js ls)) + 400 * length (flat_map (marks f) (zip js ls)) ≤ 400 * length js
-  pairs_size [] ls early small low = omega arith
-  pairs_size (j ∷ js) [] early small low = omega arith
-  pairs_size (j ∷ js) (l ∷ ls) early small low =
+  shorts_size : (lane : ℕ) (ss : List Short) → lane + length ss ≤ f.top + 1 → All ShortFits ss → length (short_bars f lane ss) ≤ 400 * few_in ss
+  shorts_size lane [] low fit = omega arith
+  shorts_size lane (s ∷ ss) low fit =
       omega (
         arith,
-        one_size j l (All-head (λ (i : Job). IsEarly i.span) j js early) (All-head (λ (i : Job). length i.outputs < 2 ^ 63) j js small)
-            (All-head (λ (i : ℕ). i ≤ f.top) l ls low),
-        pairs_size js ls (All-tail (λ (i : Job). IsEarly i.span) j js early) (All-tail (λ (i : Job). length i.outputs < 2 ^ 63) j js small)
-            (All-tail (λ (i : ℕ). i ≤ f.top) l ls low),
-        length-append (bar f (j, l)) (flat_map (bar f) (zip js ls)),
-        length-append (marks f (j, l)) (flat_map (marks f) (zip js ls)),
+        short_size lane s (omega (arith, low)) (All-head ShortFits s ss fit),
+        shorts_size (lane + 1) ss (omega (arith, low)) (All-tail ShortFits s ss fit),
+        sum_by-cons some_in s ss,
+        length-append (short_bar f lane s) (short_bars f (lane + 1) ss),
       )
 
-  pub marks_fit : (js : List Job) (ls : List ℕ) → All (λ (l : ℕ). l ≤ f.top) ls → All (MarkFits f) (flat_map (marks f) (zip js ls))
-  marks_fit [] ls low = All-nil (MarkFits f)
-  marks_fit (j ∷ js) [] low = All-nil (MarkFits f)
-  marks_fit (j ∷ js) (l ∷ ls) low =
-      let fits : MarkFits f (mark_of f (j, l)) = record {
-        low = All-head (λ (i : ℕ). i ≤ f.top) l ls low;
-        top = top;
-        near = omega (arith, x_most f j.span.began);
-        kind = kind_most (first_name j.outputs);
-      } in
-      All-append (MarkFits f) (marks f (j, l)) (flat_map (marks f) (zip js ls)) (here (is_short f j) (mark_of f (j, l)) fits)
-      (marks_fit js ls (All-tail (λ (i : ℕ). i ≤ f.top) l ls low))
+  -- a command has its bar, or that of those before it, or is put to these
+  one_size : (j : Job) (lane : ℕ) (shorts : List Short) → IsEarly j.span → length j.outputs < 2 ^ 63 → lane ≤ f.top → All ShortFits shorts
+      → length (bar f shorts (j, lane)) + 400 * few_in (opened f shorts (j, lane)) ≤ 400 + 400 * few_in shorts
+  one_size j lane shorts early small low fit =
+      elim (cases_Bool (is_short f j)) [
+        | inr long ↦ let most = bar_size f j lane early small low top in rw long (omega (arith, most))
+        | inl short ↦
+            let s = short_in shorts lane in
+            let few = set_few shorts lane (with_short f s j) in
+            let before = short_size lane s low (in_fits shorts lane fit) in
+            rw short (elim (cases_Bool (s.pixel == pixel_of f j)) [
+              | inl same ↦ let most : few_in (set shorts lane (with_short f s j)) ≤ few_in shorts + 1 = omega (arith, few) in bare same most
+              | inr apart ↦ drawn apart before few
+            ])
+      ]
     where
-      here : (t : Bool) (m : Mark) → MarkFits f m → All (MarkFits f) (cond t (m ∷ []) [])
-      here true m fits = All-cons (MarkFits f) m [] fits (All-nil (MarkFits f))
-      here false m fits = All-nil (MarkFits f)
+      bare : (short_in shorts lane).pixel == pixel_of f j ≡ true → few_in (set shorts lane (with_short f (short_in shorts lane) j)) ≤ few_in shorts + 1
+          → length (bar_before f (short_in shorts lane) j lane) + 400 * few_in (set shorts lane (with_short f (short_in shorts lane) j)) ≤ 400 + 400 * few_in shorts
+      bare same most = subst (λ (t : Bool). length (cond t [] (short_bar f lane (short_in shorts lane)))
+          + 400 * few_in (set shorts lane (with_short f (short_in shorts lane) j)) ≤ 400 + 400 * few_in shorts) (sym same) (omega (arith, most))
+
+      drawn : (short_in shorts lane).pixel == pixel_of f j ≡ false → length (short_bar f lane (short_in shorts lane)) ≤ 400 * some_in (short_in shorts lane)
+          → few_in (set shorts lane (with_short f (short_in shorts lane) j)) + some_in (short_in shorts lane) ≤ few_in shorts + 1
+          → length (bar_before f (short_in shorts lane) j lane) + 400 * few_in (set shorts lane (with_short f (short_in shorts lane) j)) ≤ 400 + 400 * few_in shorts
+      drawn apart before few = subst (λ (t : Bool). length (cond t [] (short_bar f lane (short_in shorts lane)))
+          + 400 * few_in (set shorts lane (with_short f (short_in shorts lane) j)) ≤ 400 + 400 * few_in shorts) (sym apart) (omega (arith, before, few))
+
+  open_fits : (j : Job) (lane : ℕ) (shorts : List Short) → All ShortFits shorts → All ShortFits (opened f shorts (j, lane))
+  open_fits j lane shorts fit =
+      elim (cases_Bool (is_short f j)) [
+        | inl short ↦ rw short (All-set ShortFits shorts lane (with_short f (short_in shorts lane) j) (with_fits f (short_in shorts lane) j (in_fits shorts lane fit)) fit)
+        | inr long ↦ rw long fit
+      ]
+
+  open_long : (j : Job) (lane : ℕ) (shorts : List Short) → length (opened f shorts (j, lane)) ≡ length shorts
+  open_long j lane shorts =
+      elim (cases_Bool (is_short f j)) [
+        | inl short ↦ rw short (length-set shorts lane (with_short f (short_in shorts lane) j))
+        | inr long ↦ rw long refl
+      ]
+
+  pub pairs_size : (js : List Job) (ls : List ℕ) (shorts : List Short) → All (λ (j : Job). IsEarly j.span) js
+      → All (λ (j : Job). length j.outputs < 2 ^ 63) js → All (λ (l : ℕ). l ≤ f.top) ls → length shorts ≤ f.top + 1 → All ShortFits shorts
+      → length (bars_from f shorts (zip js ls)) ≤ 400 * length js + 400 * few_in shorts
+  pairs_size [] ls shorts early small low long fit = omega (arith, shorts_size 0 shorts (omega (arith, long)) fit)
+  pairs_size (j ∷ js) [] shorts early small low long fit = omega (arith, shorts_size 0 shorts (omega (arith, long)) fit)
+  pairs_size (j ∷ js) (l ∷ ls) shorts early small low long fit =
+      omega (
+        arith,
+        one_size j l shorts (All-head (λ (i : Job). IsEarly i.span) j js early) (All-head (λ (i : Job). length i.outputs < 2 ^ 63) j js small)
+            (All-head (λ (i : ℕ). i ≤ f.top) l ls low) fit,
+        pairs_size js ls (opened f shorts (j, l)) (All-tail (λ (i : Job). IsEarly i.span) j js early)
+            (All-tail (λ (i : Job). length i.outputs < 2 ^ 63) j js small) (All-tail (λ (i : ℕ). i ≤ f.top) l ls low)
+            (omega (arith, long, open_long j l shorts)) (open_fits j l shorts fit),
+        length-append (bar f shorts (j, l)) (bars_from f (opened f shorts (j, l)) (zip js ls)),
+      )
 
 -- no lane is above the highest
 top_rises : (top : ℕ) (ls : List ℕ) → top ≤ fold (λ t lane. max t lane) top ls
@@ -374,13 +414,12 @@ bars_size js early small few =
     let f = frame_of (spans js) ls in
     let top = top_few 0 ls (omega arith) (lanes_few (spans js) (omega (arith, few, length-map js (λ (j : Job). j.span)))) in
     let low = below_top 0 ls in
-    let ms = flat_map (marks f) (zip js ls) in
-    let moved = falling_moves rank_of ms in
-    let count = length_permutation ms (falling rank_of ms) moved in
-    let all = pairs_size f top js ls early small low in
-    let short = joined_size f 0 (falling rank_of ms) (All-permutation (MarkFits f) ms (falling rank_of ms) moved (marks_fit f top js ls low))
-    (omega (arith, count, all, few)) in
-    omega (arith, all, short, count, length-append (flat_map (bar f) (zip js ls)) (joined_bars f ms))
+    let none = replicate (f.top + 1) no_short in
+    omega (
+      arith,
+      sum_by-replicate some_in (f.top + 1) no_short,
+      pairs_size f top js ls none early small low (omega (arith, length-replicate (f.top + 1) no_short)) (All-replicate ShortFits (f.top + 1) no_short none_fits),
+    )
 
 -- in whatever order they are given
 pub all_bars_size : (js : List Job) → All (λ (j : Job). IsEarly j.span) js → All (λ (j : Job). length j.outputs < 2 ^ 63) js → length js < 2 ^ 63

@@ -18,7 +18,7 @@ use Rattle.nl_tool_texts.specs.Writing.{Writes}
 use Rattle.nl_reports.specs.declared.events.BuildEvent.{BuildEvent}
 use Rattle.nl_reports.specs.declared.job.Job.{Job as HeldJob}
 use Rattle.nl_reports.specs.declared.span.Span.{Span}
-use Rattle.nl_reports.proofs.PairLemmas.{pair_next}
+use Rattle.nl_reports.proofs.PairLemmas.{pair_at}
 use Rattle.nl_tool_texts.proofs.WritingLemmas.{err_writes, none_written}
 
 commas : (ds : List Data) → items_text true (items_of ds) ≡ behind_commas ds ++ 93 ∷ []
@@ -63,7 +63,7 @@ pub told_next : (b : BuildEvent) (cs : List Span) (ks : List HeldJob) (found : L
     → behind_commas (flat_map (events_of b cs) (drop i (zip (map seen ks) found)))
     ≡ behind_commas (events_of b cs (seen k, lane)) ++ behind_commas (flat_map (events_of b cs) (drop (i + 1) (zip (map seen ks) found)))
 told_next b cs ks found i lane k there lane_there is lane_is =
-    ap behind_commas (pair_next (events_of b cs) ks found i lane k there lane_there is lane_is)
+    ap behind_commas (pair_at (flat_map (events_of b cs)) ks found i lane k there lane_there is lane_is)
     ∙ flat_map-append (λ (d : Data). 44 ∷ event_text d) (events_of b cs (seen k, lane))
     (flat_map (events_of b cs) (drop (i + 1) (zip (map seen ks) found)))
 

@@ -1,7 +1,6 @@
 -- The bars of commands.
-use Rattle.std.specs.Prelude.{ℕ, ◌+◌, ◌-◌, ◌*◌, ◌/◌, ◌==◌, ◌&&◌, Bool, min, not, true, nat_lt, List, [], ◌∷◌, ◌++◌, drop, length, codes, decimal, if◌then◌else◌}
+use Rattle.std.specs.Prelude.{ℕ, ◌+◌, ◌-◌, ◌*◌, ◌/◌, ◌==◌, Bool, min, nat_lt, List, [], ◌∷◌, ◌++◌, drop, get_or, length, set, codes, decimal, if◌then◌else◌}
 use Rattle.nl_reports.specs.Spans.{closed_of, time_of}
-use Rattle.nl_tool_texts.specs.Falling.{falling}
 use Rattle.nl_reports.specs.Jobs.{Job, first_name}
 use Rattle.nl_reports.specs.Kinds.{folder_of}
 use Rattle.nl_tool_texts.specs.Escape.{cut_name, label}
@@ -10,7 +9,7 @@ use Rattle.nl_reports.specs.Work.{place, work_of}
 use Rattle.nl_tool_texts.specs.Texts.{rest_text}
 use Rattle.nl_tool_texts.specs.Texts.{joined as parts}
 use Rattle.nl_reports.specs.declared.frame.Frame.{Frame}
-use Rattle.nl_reports.specs.declared.bars.Mark.{Mark}
+use Rattle.nl_reports.specs.declared.bars.Short.{Short}
 
 abbrev pub kind_of : Job → ℕ
 kind_of j = place (work_of (first_name j.outputs))
@@ -63,36 +62,43 @@ abbrev pub long_bar : Frame → Job → ℕ → List ℕ
 long_bar f j lane = rect f lane (x_at f j.span.began) (drawn_width (width_of f j)) (kind_of j) ++ title f j
     ++ name_text f lane (x_at f j.span.began) (width_of f j) (first_name j.outputs)
 
-abbrev pub bar : Frame → Job × ℕ → List ℕ
-bar f p = if is_short f p.0 then [] else long_bar f p.0 p.1
+-- the pixel at which a command begins
+abbrev pub pixel_of : Frame → Job → ℕ
+pixel_of f j = x_at f j.span.began / 10
 
--- where a command stands that is too short
-abbrev pub mark_of : Frame → Job × ℕ → Mark
-mark_of f p = record { lane = p.1; pixel = x_at f p.0.span.began / 10; kind = kind_of p.0 }
+-- short commands of a lane that begin at one pixel have one bar, a pixel wide, in the colour of the first of them
+abbrev pub short_text : Frame → ℕ → Short → List ℕ
+short_text f lane s = rect f lane (s.pixel * 10) 10 s.kind ++ decimal s.count ++ codes " short</title></rect>\n"
 
-abbrev pub marks : Frame → Job × ℕ → List Mark
-marks f p = if is_short f p.0 then mark_of f p ∷ [] else []
+abbrev pub short_bar : Frame → ℕ → Short → List ℕ
+short_bar f lane s = if s.count == 0 then [] else short_text f lane s
 
-abbrev pub is_alike : Mark → Mark → Bool
-is_alike m n = m.lane == n.lane && (m.pixel == n.pixel && m.kind == n.kind)
+abbrev pub no_short : Short
+no_short = record { pixel = 0; kind = 0; count = 0 }
 
--- one bar, a pixel wide, for so many short commands
-abbrev pub joined_bar : Frame → ℕ → Mark → List ℕ
-joined_bar f count m = rect f m.lane (m.pixel * 10) 10 m.kind ++ decimal count ++ codes " short</title></rect>\n"
+-- those of a lane that aren't drawn yet; and with one more
+abbrev pub short_in : List Short → ℕ → Short
+short_in shorts lane = get_or shorts lane no_short
 
--- no mark that is alike follows
-abbrev pub is_last : Mark → List Mark → Bool
-is_last m [] = true
-is_last m (n ∷ ms) = not (is_alike m n)
+abbrev pub with_short : Frame → Short → Job → Short
+with_short f s j = if s.pixel == pixel_of f j then record { pixel = s.pixel; kind = s.kind; count = min (s.count + 1) 18446744073709551615 }
+    else record { pixel = pixel_of f j; kind = kind_of j; count = 1 }
 
--- neighbours that are alike have one bar, of which so many stand before these
-abbrev pub joined : Frame → ℕ → List Mark → List ℕ
-joined f count [] = []
-joined f count (m ∷ ms) = if is_last m ms then joined_bar f (count + 1) m ++ joined f 0 ms else joined f (count + 1) ms
+-- as a short command comes, those of its lane that begin at another pixel are drawn
+abbrev pub bar_before : Frame → Short → Job → ℕ → List ℕ
+bar_before f s j lane = if s.pixel == pixel_of f j then [] else short_bar f lane s
 
--- marks stand by lane, pixel and kind
-abbrev pub rank_of : Mark → ℕ
-rank_of m = (m.lane * 2048 + m.pixel) * 16 + m.kind
+abbrev pub bar : Frame → List Short → Job × ℕ → List ℕ
+bar f shorts p = if is_short f p.0 then bar_before f (short_in shorts p.1) p.0 p.1 else long_bar f p.0 p.1
 
-abbrev pub joined_bars : Frame → List Mark → List ℕ
-joined_bars f ms = joined f 0 (falling rank_of ms)
+abbrev pub opened : Frame → List Short → Job × ℕ → List Short
+opened f shorts p = if is_short f p.0 then set shorts p.1 (with_short f (short_in shorts p.1) p.0) else shorts
+
+-- those of each lane, from this lane on
+abbrev pub short_bars : Frame → ℕ → List Short → List ℕ
+short_bars f lane [] = []
+short_bars f lane (s ∷ ss) = short_bar f lane s ++ short_bars f (lane + 1) ss
+
+abbrev pub bars_from : Frame → List Short → List (Job × ℕ) → List ℕ
+bars_from f shorts [] = short_bars f 0 shorts
+bars_from f shorts (p ∷ ps) = bar f shorts p ++ bars_from f (opened f shorts p) ps

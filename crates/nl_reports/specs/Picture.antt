@@ -1,8 +1,8 @@
 -- The text of `picture`: builds as SVG (docs/CLI.md, "picture").
-use Rattle.std.specs.Prelude.{◌≡◌, ℕ, ◌+◌, ◌-◌, ◌*◌, ◌/◌, ◌%◌, ◌==◌, max, min, List, [], ◌∷◌, ◌++◌, Option, None, Some, get_or, is_some, length, take, codes, decimal, if◌then◌else◌}
+use Rattle.std.specs.Prelude.{◌≡◌, ℕ, ◌+◌, ◌-◌, ◌*◌, ◌/◌, ◌%◌, ◌==◌, max, min, List, [], ◌∷◌, ◌++◌, Option, None, Some, get_or, is_some, length, replicate, take, codes, decimal, if◌then◌else◌}
 use Rattle.std.specs.List.{flat_map, zip}
 use Rattle.nl_builds.specs.Builds.{Told}
-use Rattle.nl_reports.specs.Bars.{bar, joined_bars, marks}
+use Rattle.nl_reports.specs.Bars.{bars_from, no_short}
 use Rattle.nl_reports.specs.Choice.{chosen}
 use Rattle.nl_reports.specs.Critical.{IsFoundPath, Ran}
 use Rattle.nl_reports.specs.Curve.{curve}
@@ -95,7 +95,7 @@ start f known js = start_with f known (times_of js) (length js)
 
 -- the bars: those of commands, and those of short ones together
 abbrev pub bars : Frame → List (Job × ℕ) → List ℕ
-bars f pairs = flat_map (bar f) pairs ++ joined_bars f (flat_map (marks f) pairs)
+bars f pairs = bars_from f (replicate (f.top + 1) no_short) pairs
 
 -- the ten commands that took the longest, each in a line, and the end
 abbrev pub long_start : ℕ → ℕ → List ℕ

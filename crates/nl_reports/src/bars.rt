@@ -1,6 +1,6 @@
 //! The bars of commands, and those of commands that are too short for one of their own.
-ghost use Rattle.std.specs.Prelude.{◌≡◌, ◌<◌, ◌≤◌, ◌+◌, ◌^◌, ◌++◌, ◌∷◌, map, IfOk, IsTrue, OnOk, All};
-ghost use Rattle.nl_reports.specs.Bars.{bar, base_of, drawn_width, is_alike, is_last, joined, kind_of, long_bar, marks, more_outputs, name_text, rank_of, rect, title, width_of};
+ghost use Rattle.std.specs.Prelude.{◌≡◌, ◌≤◌, ◌++◌, set, OnOk};
+ghost use Rattle.nl_reports.specs.Bars.{bar, bar_before, base_of, drawn_width, kind_of, long_bar, more_outputs, name_text, opened, rect, short_bar, short_in, title, width_of, with_short};
 ghost use Rattle.nl_reports.specs.Jobs.{seen};
 ghost use Rattle.nl_reports.specs.Spans.{IsEarly};
 
@@ -8,9 +8,7 @@ use crate::frame::{Frame, append_seconds};
 use crate::job::Job;
 use crate::kind::{KindRule, kind_of as kind_by};
 use crate::work::{place, work_of};
-use nl_tool_texts::{
-    AllocResult, Ranking, append, append_cut_name, append_label, append_with, put,
-};
+use nl_tool_texts::{AllocResult, append, append_cut_name, append_label, append_with, put};
 
 // A command whose bar would be narrower shares one with others.
 const NARROW: u64 = 5;
@@ -20,34 +18,103 @@ const LETTER: u64 = 70;
 
 const MOST: u64 = 22;
 
-/// Where a command stands that is too short for a bar: its lane, the pixel, and its kind. It takes 16 bytes, because small ones are quickly
-/// sorted.
-#[derive(Clone, Copy, Drop)]
-pub struct Mark {
-    pub lane: u64,
-    pub pixel: u32,
+/// Commands of one lane that begin at one pixel and are too short for a bar: the kind of the first, and how many there are.
+#[derive(Clone, Copy, Default, Drop)]
+pub struct Short {
+    pub pixel: u64,
     pub kind: u32,
+    pub count: u64,
 }
 
-/// Appends the bar of a command in its lane; if it is too short for one, adds where it stands.
+/// Appends the bar of a command in its lane. One that is too short for a bar is put to those of its lane that aren't drawn yet, or has these
+/// drawn if they begin at another pixel.
 pub(crate) fn append_bar(
     frame: &Frame,
     job: &Job,
     lane: u64,
-    short: &mut Vec<Mark>,
+    shorts: &mut Vec<Short>,
     out: &mut Vec<u8>,
 ) -> AllocResult
     requires early { IsEarly job.now.span }
-    ensures items { OnOk result (out.new.items ≡ out.old.items ++ bar frame.now (seen job.now, lane)) }
-    ensures short { OnOk result (short.new.items ≡ short.old.items ++ marks frame.now (seen job.now, lane)) }
+    ensures items { OnOk result (out.new.items ≡ out.old.items ++ bar frame.now shorts.old.items (seen job.now, lane)) }
+    ensures shorts { OnOk result (shorts.new.items ≡ opened frame.now shorts.old.items (seen job.now, lane)) }
 {
     if width_of(frame, job) < NARROW {
-        let pixel = (frame.x_at(job.span.began) / 10) as u32;
-        let kind = kind_of(job);
-        short.push(Mark { lane, pixel, kind })?;
-        return Ok(());
+        return join_bar(frame, job, lane, shorts, out);
     }
     append_long(frame, job, lane, out)
+}
+
+fn join_bar(
+    frame: &Frame,
+    job: &Job,
+    lane: u64,
+    shorts: &mut Vec<Short>,
+    out: &mut Vec<u8>,
+) -> AllocResult
+    requires early { IsEarly job.now.span }
+    ensures items { OnOk result (out.new.items ≡ out.old.items ++ bar_before frame.now (short_in shorts.old.items lane) (seen job.now) lane) }
+    ensures shorts { OnOk result (shorts.new.items ≡ set shorts.old.items lane (with_short frame.now (short_in shorts.old.items lane) (seen job.now))) }
+{
+    let pixel = frame.x_at(job.span.began) / 10;
+    let held = short_in(shorts.as_slice(), lane);
+    let mut short = Short {
+        count: held.count.saturating_add(1),
+        ..held
+    };
+    if held.pixel != pixel {
+        append_short(frame, lane, &held, out)?;
+        let kind = kind_of(job);
+        short = Short {
+            pixel,
+            kind,
+            count: 1,
+        };
+    }
+    put_short(shorts, lane, short);
+    Ok(())
+}
+
+fn short_in(shorts: &[Short], lane: u64) -> Short
+    ensures { result ≡ short_in shorts.now lane }
+{
+    shorts
+        .get(lane as usize)
+        .copied()
+        .unwrap_or(Short::default())
+}
+
+fn put_short(shorts: &mut Vec<Short>, lane: u64, short: Short)
+    ensures items { shorts.new.items ≡ set shorts.old.items lane short }
+{
+    let at = lane as usize;
+    if at < shorts.len() {
+        shorts[at] = short;
+    }
+}
+
+/// Appends the bar of short commands; none, if there are none.
+pub(crate) fn append_short(
+    frame: &Frame,
+    lane: u64,
+    short: &Short,
+    out: &mut Vec<u8>,
+) -> AllocResult
+    ensures items { OnOk result (out.new.items ≡ out.old.items ++ short_bar frame.now lane short.now) }
+{
+    if short.count == 0 {
+        return Ok(());
+    }
+    append_rect(
+        frame,
+        lane,
+        u128::from(short.pixel) * 10,
+        10,
+        short.kind,
+        out,
+    )?;
+    append_with(b"", short.count, out)?;
+    append(b" short</title></rect>\n", out)
 }
 
 fn append_long(frame: &Frame, job: &Job, lane: u64, out: &mut Vec<u8>) -> AllocResult
@@ -143,61 +210,4 @@ fn base_of(name: &[u8]) -> &[u8]
 {
     let folder = kind_by(KindRule::Folder, name);
     &name[folder.len().min(name.len())..]
-}
-
-fn rank_of(mark: &Mark) -> u128
-    ensures value { result ≡ rank_of mark.now }
-{
-    (u128::from(mark.lane) * 2048 + u128::from(mark.pixel)) * 16 + u128::from(mark.kind)
-}
-
-/// By lane, pixel and kind.
-pub(crate) struct ByPlace;
-
-impl Ranking<Mark> for ByPlace {
-    ghost rank = { λ by mark. rank_of mark };
-
-    fn rank(&self, mark: &Mark) -> u128 {
-        rank_of(mark)
-    }
-}
-
-/// How many that are alike stand before what follows a mark. If it is the last of these, this appends their bar.
-pub(crate) fn append_mark(
-    frame: &Frame,
-    count: u64,
-    mark: &Mark,
-    rest: &[Mark],
-    out: &mut Vec<u8>,
-) -> AllocResult<u64>
-    requires few { count < 2 ^ 63 }
-    ensures items { IfOk result (λ now. out.new.items ++ joined frame.now now rest.now
-        ≡ out.old.items ++ joined frame.now count (mark.now ∷ rest.now)) }
-    ensures few { IfOk result (λ now. now ≤ count + 1) }
-{
-    let all = count + 1;
-    if !is_last(mark, rest) {
-        return Ok(all);
-    }
-    let x = u128::from(mark.pixel) * 10;
-    append_rect(frame, mark.lane, x, 10, mark.kind, out)?;
-    append_with(b"", all, out)?;
-    append(b" short</title></rect>\n", out)?;
-    Ok(0)
-}
-
-fn is_last(mark: &Mark, rest: &[Mark]) -> bool
-    ensures { result ≡ is_last mark.now rest.now }
-{
-    match rest.first() {
-        Some(next) => !is_alike(mark, next),
-        None => true,
-    }
-}
-
-fn is_alike(a: &Mark, b: &Mark) -> bool
-    ensures value { result ≡ is_alike a.now b.now }
-    ensures same { IsTrue result → a.now ≡ b.now }
-{
-    a.lane == b.lane && a.pixel == b.pixel && a.kind == b.kind
 }

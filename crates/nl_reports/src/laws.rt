@@ -4,7 +4,7 @@ ghost use Rattle.serde_json.specs.Data.{Data, array};
 ghost use Rattle.serde_json.specs.Read.{read};
 ghost use Rattle.serde_json.specs.View.{items_of};
 ghost use Rattle.nl_builds.specs.Builds.{Told as BuildsTold};
-ghost use Rattle.nl_reports.specs.Bars.{bar, drawn_width, width_of};
+ghost use Rattle.nl_reports.specs.Bars.{drawn_width, long_bar, width_of};
 ghost use Rattle.nl_reports.specs.Compare.{Compared, Log, classes, compared, is_of, new_of, of_class, old_of, pairs, told_pair};
 ghost use Rattle.nl_reports.specs.Frame.{x_at};
 ghost use Rattle.nl_reports.specs.Jobs.{Job, first_name, jobs_from};
@@ -138,7 +138,7 @@ pub fn a_trace_reads_as_its_events()
 /// The bar of a command takes at most 400 bytes, its title and its name included, whatever its outputs are called.
 pub fn a_bar_takes_at_most_400_bytes()
     ensures { (f : Frame) (j : Job) (lane : ℕ) → IsEarly j.span → length j.outputs < 2 ^ 63 → lane ≤ f.top
-        → f.top < 2 ^ 63 → length (bar f (j, lane)) ≤ 400 }
+        → f.top < 2 ^ 63 → length (long_bar f j lane) ≤ 400 }
 {}
 
 /// A bar stands between where the build begins and where it ends.

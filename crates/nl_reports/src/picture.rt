@@ -1,6 +1,6 @@
 //! The text of `picture`: builds as SVG.
-ghost use Rattle.std.specs.Prelude.{◌≡◌, ◌<◌, ◌^◌, ◌++◌, List, Some, length, map, option_map, IfErr, OnOk, All, zip};
-ghost use Rattle.nl_reports.specs.Bars.{joined};
+ghost use Rattle.std.specs.Prelude.{◌≡◌, ◌<◌, ◌+◌, ◌^◌, ◌++◌, List, Some, length, map, option_map, replicate, IfErr, IfOk, OnOk, All, zip};
+ghost use Rattle.nl_reports.specs.Bars.{no_short, short_bars};
 ghost use Rattle.nl_reports.specs.Frame.{IsFrame};
 ghost use Rattle.nl_reports.specs.GraphText.{seen_graph};
 ghost use Rattle.nl_reports.specs.Jobs.{seen, told};
@@ -12,7 +12,7 @@ ghost use Rattle.nl_reports.specs.declared.span.Span.{Span};
 ghost use Rattle.nl_reports.specs.Times.{AreTimesOf};
 ghost use Rattle.nl_tool_texts.specs.Writing.{IsFoundFault, IsWriteFault, Moves, PrintsInPieces, Writes};
 
-use crate::bars::{ByPlace, Mark, append_bar, append_mark};
+use crate::bars::{Short, append_bar, append_short};
 use crate::choice::{Scope, chosen};
 use crate::critical::{FoundPath, Ran, critical_of};
 use crate::curve::append_curve;
@@ -30,7 +30,7 @@ use crate::work::{Work, place, word};
 use nl_builds::Builds;
 use nl_table::Secret;
 use nl_tool_texts::{
-    AllocResult, Part, Ranking, ToolFault, append, append_label, falling, highest, put, write_full,
+    AllocResult, Part, Ranking, ToolFault, append, append_label, highest, put, write_full,
     write_rest,
 };
 use std::alloc::Global;
@@ -65,7 +65,7 @@ pub enum Known {
 
 /// Writes a picture of builds, one after another on one clock: each command is a bar in a lane, in which no other runs as it does, with its
 /// name where there is room for it, and with its first output, how many more it has, and its time as a title. Commands that are too short
-/// for a bar have one together, by lane, pixel and kind. By a graph, the commands of the critical path have an outline. Above is the part
+/// for a bar have one together, by lane and pixel. By a graph, the commands of the critical path have an outline. Above is the part
 /// of each kind, below the curve of how many run, and the commands that took the longest. If a build was found again, a line of text says
 /// so. The text is written as it is made, so a part of it may stand where memory is refused. Names are hashed under a secret.
 pub fn draw_builds<W: Write>(
@@ -234,31 +234,40 @@ fn write_bars<W: Write>(
     ensures faults { IfErr result IsWriteFault }
 {
     let mut held = start;
-    let mut short = Vec::new(alloc);
+    let mut shorts = none_short(alloc, frame.top)?;
     for i in 0..jobs.len() {
-        append_bar(frame, &jobs[i], lanes[i], &mut short, &mut held)?;
+        append_bar(frame, &jobs[i], lanes[i], &mut shorts, &mut held)?;
         write_full(&mut held, writer)?;
     }
-    let marks = falling(&ByPlace, short)?;
-    write_marks(frame, marks.as_slice(), &mut held, writer)?;
+    write_shorts(frame, shorts.as_slice(), &mut held, writer)?;
     append(end, &mut held)?;
     write_rest(held, writer)
 }
 
-// Writes the bars of short commands, one for all of a lane, a pixel and a kind, which stand together.
-fn write_marks<W: Write>(
+fn none_short(alloc: Global, top: u64) -> AllocResult<Vec<Short>>
+    ensures value { IfOk result (λ shorts. shorts.items ≡ replicate (top + 1) no_short) }
+{
+    let mut shorts = Vec::new(alloc);
+    for _lane in 0..top {
+        shorts.push(Short::default())?;
+    }
+    shorts.push(Short::default())?;
+    Ok(shorts)
+}
+
+// Writes the bars of short commands that aren't drawn yet, lane by lane.
+fn write_shorts<W: Write>(
     frame: &Frame,
-    marks: &[Mark],
+    shorts: &[Short],
     held: &mut Vec<u8>,
     writer: &mut W,
 ) -> Result<(), ToolFault>
     ensures moves { Moves (W.contents writer.old) (W.contents writer.new)
-        (held.old.items ++ joined frame.now 0 marks.now) held.new.items result }
+        (held.old.items ++ short_bars frame.now 0 shorts.now) held.new.items result }
     ensures faults { IfErr result IsWriteFault }
 {
-    let mut count = 0;
-    for i in 0..marks.len() {
-        count = append_mark(frame, count, &marks[i], &marks[i + 1..], held)?;
+    for lane in 0..shorts.len() {
+        append_short(frame, lane as u64, &shorts[lane], held)?;
         write_full(held, writer)?;
     }
     Ok(())

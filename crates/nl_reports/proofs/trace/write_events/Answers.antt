@@ -1,4 +1,4 @@
-use Rattle.std.proofs.Common.{◌≡◌, ◌∙◌, ◌<◌, ◌≤◌, ◌++◌, ◌∷◌, [], ℕ, List, ap, arith, get_or, length, map, subst}
+use Rattle.std.proofs.Common.{◌≡◌, ◌∙◌, ◌<◌, ◌≤◌, ◌++◌, ◌∷◌, [], ℕ, List, ap, arith, flat_map, get_or, length, map, subst}
 use Rattle.std.proofs.lemmas.List.{get_or_default, length-map}
 use Rattle.nl_reports.specs.Events.{build_event, event_text}
 use Rattle.nl_reports.specs.Frame.{first_began}
@@ -11,7 +11,7 @@ use Rattle.nl_tool_texts.specs.Writing.{HoldsAllBut}
 use Rattle.nl_reports.specs.declared.events.BuildEvent.{BuildEvent}
 use Rattle.nl_reports.specs.declared.span.Span.{Span}
 use Rattle.nl_reports.proofs.LaneLemmas.{lane_below, lanes_length}
-use Rattle.nl_reports.proofs.PairLemmas.{pairs_over}
+use Rattle.nl_reports.proofs.PairLemmas.{pairs_done}
 use Rattle.nl_reports.proofs.TraceLemmas.{all_told, end_some, told_next}
 use Rattle.nl_tool_texts.proofs.WritingLemmas.{all_held, err_writes, is_part, more_held, part_on, rest_written, then_moved}
 use Rattle.nl_reports.proofs.trace.write_events.Goals as goal
@@ -99,7 +99,7 @@ returns-clause-writes g c =
     let js = map seen ks in
     let b : BuildEvent = record { number = c.args.number; began = c.first_began-began.result; how = c.args.how } in
     let all : length ks ≤ c.loop-i.i = omega (arith, c.loop-i-test.false) in
-    let over = ap behind_commas (pairs_over (events_of b (spans js)) ks c.in_ok-lanes.lanes.items c.loop-i.i all) in
+    let over = ap behind_commas (pairs_done (flat_map (events_of b (spans js))) ks c.in_ok-lanes.lanes.items c.loop-i.i all) in
     rest_written _ _ _ _ _ c.write_rest.result (rw c.in_ok-append.ensures.items (subst (λ (l : List ℕ). HoldsAllBut (g.W.Write.contents c.args.writer.now)
     (g.W.Write.contents c.loop-i.writer) (array_text (build_events c.args.number c.args.how js)) (c.loop-i.held.items ++ (l ++ 93 ∷ []))) over
     c.loop-i.invariant)) c.write_rest.ensures.writes
