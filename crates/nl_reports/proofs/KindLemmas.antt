@@ -1,14 +1,13 @@
 -- The kinds of commands.
-use Rattle.std.proofs.Common.{◌≡◌, ◌∙◌, ℕ, ◌+◌, ◌<◌, Bool, true, false, cond, Bor, Option, None, Some, List, [], ◌∷◌, ◌++◌, get_or, length, map, zero, suc, refl, sym, ap, arith, inl, inr}
+use Rattle.std.proofs.Common.{◌≡◌, ◌∙◌, ℕ, ◌+◌, ◌<◌, true, false, cond, Option, None, Some, List, [], ◌∷◌, ◌++◌, get_or, length, map, zero, suc, refl, sym, ap, arith}
 use Rattle.std.specs.Prelude.{bytes_eq, slice_get, take}
-use Rattle.std.specs.Cmp.Lexicographic.{bytes_decides}
 use Rattle.std.specs.Map.{lookup}
 use Rattle.std.specs.Option.{unwrap_or}
-use Rattle.std.proofs.lemmas.Bool.{cases_Bool}
 use Rattle.std.proofs.lemmas.List.{map-append, take_more}
 use Rattle.std.proofs.lemmas.List.Sums.{fold_push}
 use Rattle.std.proofs.lemmas.Option.{get_or_from_slice_get, slice_get_within}
 use Rattle.indexmap.specs.IndexMap.{insert_entry}
+use Rattle.nl_builds.specs.declared.name_key.NameKey.{NameKey}
 use Rattle.nl_reports.specs.Kinds.{AreSumsOf, IsOfOne, IsSumOf, added, counted, kind_of, kind_pair, kinds, no_sums, same_bytes, sums_in, with_sums}
 use Rattle.nl_reports.specs.Rows.{Told, told_row}
 use Rattle.nl_reports.specs.declared.kind.KindRule.{KindRule}
@@ -20,14 +19,14 @@ use Rattle.nl_reports.specs.declared.rows.Sums.{Sums}
 abbrev pub found_sums : Option Sums → Sums
 found_sums found = unwrap_or found no_sums
 
-pub counted-insert : (ps : List (Bor (List ℕ) × Sums)) (kind : Bor (List ℕ)) (t : Told)
-    → map kind_pair (insert_entry same_bytes ps kind (added (sums_in ps kind.now) t.sums)) ≡ counted kind.now (map kind_pair ps) t
+pub counted-insert : (ps : List (NameKey × Sums)) (kind : NameKey) (t : Told)
+    → map kind_pair (insert_entry same_bytes ps kind (added (sums_in ps kind.bytes.now) t.sums)) ≡ counted kind.bytes.now (map kind_pair ps) t
 counted-insert [] kind t = refl
 counted-insert (p ∷ ps) kind t =
     let rest = counted-insert ps kind t in
-    elim (bytes_eq kind.now p.0.now) as (λ b. map kind_pair (cond b ((p.0, added (found_sums (cond b (Some p.1) (lookup (λ k. bytes_eq kind.now k.now) ps))) t.sums) ∷ ps)
-    (p ∷ insert_entry same_bytes ps kind (added (found_sums (cond b (Some p.1) (lookup (λ k. bytes_eq kind.now k.now) ps))) t.sums)))
-    ≡ cond b (with_sums (kind_pair p) t.sums ∷ map kind_pair ps) (kind_pair p ∷ counted kind.now (map kind_pair ps) t)) [
+    elim (bytes_eq kind.bytes.now p.0.bytes.now) as (λ b. map kind_pair (cond b ((p.0, added (found_sums (cond b (Some p.1) (lookup (λ (k : NameKey). bytes_eq kind.bytes.now k.bytes.now) ps))) t.sums) ∷ ps)
+    (p ∷ insert_entry same_bytes ps kind (added (found_sums (cond b (Some p.1) (lookup (λ (k : NameKey). bytes_eq kind.bytes.now k.bytes.now) ps))) t.sums)))
+    ≡ cond b (with_sums (kind_pair p) t.sums ∷ map kind_pair ps) (kind_pair p ∷ counted kind.bytes.now (map kind_pair ps) t)) [
       | true ↦ refl
       | false ↦ ap (λ (l : List Told). kind_pair p ∷ l) rest
     ]
@@ -44,11 +43,11 @@ none_larger : (n : ℕ) (ks : List Told) → AreSumsOf n ks → AreSumsOf (n + 1
 none_larger n [] are = tt
 none_larger n (k ∷ ks) are = (no_larger n k.sums are.0, none_larger n ks are.1)
 
-pub found_within : (n : ℕ) (ps : List (Bor (List ℕ) × Sums)) (kind : List ℕ) → AreSumsOf n (map kind_pair ps) → IsSumOf n (sums_in ps kind)
+pub found_within : (n : ℕ) (ps : List (NameKey × Sums)) (kind : List ℕ) → AreSumsOf n (map kind_pair ps) → IsSumOf n (sums_in ps kind)
 found_within n [] kind are = record { commands = omega arith; time = omega arith; weight = omega arith }
 found_within n (p ∷ ps) kind are =
     let rest = found_within n ps kind are.1 in
-    elim (bytes_eq kind p.0.now) as (λ b. IsSumOf n (found_sums (cond b (Some p.1) (lookup (λ k. bytes_eq kind k.now) ps)))) [
+    elim (bytes_eq kind p.0.bytes.now) as (λ b. IsSumOf n (found_sums (cond b (Some p.1) (lookup (λ (k : NameKey). bytes_eq kind k.bytes.now) ps)))) [
       | true ↦ are.0
       | false ↦ rest
     ]
@@ -70,43 +69,6 @@ counted_within n (k ∷ ks) kind r one are =
       | false ↦ (no_larger n k.sums are.0, rest)
     ]
 
--- ---- the kind that was met last
-
-bytes_same : (bs : List ℕ) → bytes_eq bs bs ≡ true
-bytes_same bs = (bytes_decides bs bs).1 refl
-
--- it has the sums that were put there
-pub put_found : (ps : List (Bor (List ℕ) × Sums)) (k : Bor (List ℕ)) (s : Sums) → sums_in (insert_entry same_bytes ps k s) k.now ≡ s
-put_found [] k s = ap (λ b. found_sums (cond b (Some s) None)) (bytes_same k.now)
-put_found (p ∷ ps) k s =
-    let later = lookup (λ (key : Bor (List ℕ)). bytes_eq k.now key.now) in
-    let rest = insert_entry same_bytes ps k s in
-    elim (cases_Bool (bytes_eq k.now p.0.now)) [
-      | inl is ↦ ap (λ b. found_sums (later (cond b ((p.0, s) ∷ ps) (p ∷ rest)))) is ∙ ap (λ b. found_sums (cond b (Some s) (later ps))) is
-      | inr is ↦ ap (λ b. found_sums (later (cond b ((p.0, s) ∷ ps) (p ∷ rest)))) is ∙ ap (λ b. found_sums (cond b (Some p.1) (later rest))) is
-          ∙ put_found ps k s
-    ]
-
--- and what is put there again stands as if it weren't there before
-pub put_again : (ps : List (Bor (List ℕ) × Sums)) (k kind : Bor (List ℕ)) (s t : Sums) → k.now ≡ kind.now
-    → map kind_pair (insert_entry same_bytes ps kind t) ≡ map kind_pair (insert_entry same_bytes (insert_entry same_bytes ps k s) kind t)
-put_again [] k kind s t same =
-    (λ i. record { name = sym same i; sums = t } ∷ [])
-    ∙ ap (λ b. map kind_pair (cond b ((k, t) ∷ []) ((k, s) ∷ (kind, t) ∷ []))) (sym (ap (λ n. bytes_eq n k.now) (sym same) ∙ bytes_same k.now))
-put_again (p ∷ ps) k kind s t same =
-    let rest = insert_entry same_bytes ps k s in
-    let put = λ (b : Bool). map kind_pair (cond b ((p.0, t) ∷ ps) (p ∷ insert_entry same_bytes ps kind t)) in
-    let both = λ (b : Bool). map kind_pair (insert_entry same_bytes (cond b ((p.0, s) ∷ ps) (p ∷ rest)) kind t) in
-    elim (cases_Bool (bytes_eq k.now p.0.now)) [
-      | inl is ↦
-          let there = ap (λ n. bytes_eq n p.0.now) (sym same) ∙ is in
-          ap put there ∙ sym (ap both is ∙ ap (λ b. map kind_pair (cond b ((p.0, t) ∷ ps) ((p.0, s) ∷ insert_entry same_bytes ps kind t))) there)
-      | inr is ↦
-          let there = ap (λ n. bytes_eq n p.0.now) (sym same) ∙ is in
-          ap put there ∙ ap (λ (l : List Told). kind_pair p ∷ l) (put_again ps k kind s t same)
-          ∙ sym (ap both is ∙ ap (λ b. map kind_pair (cond b ((p.0, t) ∷ rest) (p ∷ insert_entry same_bytes rest kind t))) there)
-    ]
-
 -- the kinds of one command more
 pub kinds_more : (rule : KindRule) (rows : List Row) (i : ℕ) (d : Row) (old new : List Told) (kind : List ℕ) → i < length rows
     → kind ≡ kind_of rule (get_or rows i d).name.now → new ≡ counted kind old (told_row (get_or rows i d))
@@ -120,14 +82,14 @@ kinds_more rule rows i d old new kind within is after before =
 -- ---- the rows of the kinds
 
 -- a row more
-pub row_more : (ps : List (Bor (List ℕ) × Sums)) (rows new : List Row) (r : Row) (i : ℕ) (p : Bor (List ℕ) × Sums)
+pub row_more : (ps : List (NameKey × Sums)) (rows new : List Row) (r : Row) (i : ℕ) (p : NameKey × Sums)
     → slice_get ps i ≡ Some p → told_row r ≡ kind_pair p → new ≡ rows ++ r ∷ [] → map told_row rows ≡ map kind_pair (take i ps)
     → map told_row new ≡ map kind_pair (take (i + 1) ps)
 row_more ps rows new r i p there is pushed before =
     ap (map told_row) pushed ∙ map-append told_row rows (r ∷ []) ∙ (λ j. before j ++ is j ∷ [])
     ∙ sym (map-append kind_pair (take i ps) (p ∷ []))
     ∙ sym (ap (map kind_pair) (take_more ps i p (slice_get_within ps i p there)
-    ∙ ap (λ (x : Bor (List ℕ) × Sums). take i ps ++ x ∷ []) (get_or_from_slice_get ps i p p there)))
+    ∙ ap (λ (x : NameKey × Sums). take i ps ++ x ∷ []) (get_or_from_slice_get ps i p p there)))
 
 -- there is one at each place
 pub one_there : {A : Type 0} (xs : List A) (i : ℕ) → None ≡ slice_get xs i → i < length xs → ⊥

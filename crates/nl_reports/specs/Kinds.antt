@@ -1,10 +1,9 @@
 -- The commands of builds by kind (docs/CLI.md, "summary").
-use Rattle.std.specs.Prelude.{◌≡◌, ◌≤◌, ◌<◌, ◌*◌, ◌^◌, ⊤, ℕ, ◌+◌, ◌==◌, bytes_eq, position, Bool, List, [], ◌∷◌, Option, None, Some, take, if◌then◌else◌}
-use Rattle.std.specs.Borrow.{Bor}
+use Rattle.std.specs.Prelude.{◌≡◌, ◌≤◌, ◌<◌, ◌*◌, ◌^◌, ⊤, ℕ, ◌+◌, ◌==◌, bytes_eq, position, Bool, List, [], ◌∷◌, take, if◌then◌else◌}
 use Rattle.std.specs.List.{filter, fold}
 use Rattle.std.specs.Map.{lookup}
 use Rattle.std.specs.Option.{option_map_or, unwrap_or}
-use Rattle.indexmap.specs.IndexMap.{insert_entry}
+use Rattle.nl_builds.specs.declared.name_key.NameKey.{NameKey}
 use Rattle.nl_reports.specs.Rows.{Told}
 use Rattle.nl_reports.specs.declared.kind.KindRule.{KindRule}
 use Rattle.nl_reports.specs.Work.{extension_of, word, work_of}
@@ -57,20 +56,15 @@ named kind ks = filter (λ (k : Told). bytes_eq k.name kind) ks
 
 -- ---- as they are counted
 
-abbrev pub kind_pair : Bor (List ℕ) × Sums → Told
-kind_pair p = record { name = p.0.now; sums = p.1 }
+abbrev pub kind_pair : NameKey × Sums → Told
+kind_pair p = record { name = p.0.bytes.now; sums = p.1 }
 
 -- a kind that isn't there yet has no sums
-abbrev pub sums_in : List (Bor (List ℕ) × Sums) → List ℕ → Sums
-sums_in ps kind = unwrap_or (lookup (λ k. bytes_eq kind k.now) ps) no_sums
+abbrev pub sums_in : List (NameKey × Sums) → List ℕ → Sums
+sums_in ps kind = unwrap_or (lookup (λ (k : NameKey). bytes_eq kind k.bytes.now) ps) no_sums
 
-abbrev pub same_bytes : Bor (List ℕ) → Bor (List ℕ) → Bool
-same_bytes a b = bytes_eq a.now b.now
-
--- the kind that was met last is kept apart, with all its sums
-abbrev pub with_last : Option Row → List (Bor (List ℕ) × Sums) → List (Bor (List ℕ) × Sums)
-with_last None ps = ps
-with_last (Some last) ps = insert_entry same_bytes ps last.name last.sums
+abbrev pub same_bytes : NameKey → NameKey → Bool
+same_bytes a b = bytes_eq a.bytes.now b.bytes.now
 
 pub record IsOfOne (r : Row) : Type 0 where
   pub commands : r.sums.commands ≡ 1
