@@ -39,58 +39,27 @@ pub(crate) fn append_bar(
     ensures items { OnOk result (out.new.items ≡ out.old.items ++ bar frame.now shorts.old.items (seen job.now, lane)) }
     ensures shorts { OnOk result (shorts.new.items ≡ opened frame.now shorts.old.items (seen job.now, lane)) }
 {
-    if width_of(frame, job) < NARROW {
-        return join_bar(frame, job, lane, shorts, out);
+    if width_of(frame, job) >= NARROW {
+        return append_long(frame, job, lane, out);
     }
-    append_long(frame, job, lane, out)
-}
-
-fn join_bar(
-    frame: &Frame,
-    job: &Job,
-    lane: u64,
-    shorts: &mut Vec<Short>,
-    out: &mut Vec<u8>,
-) -> AllocResult
-    requires early { IsEarly job.now.span }
-    ensures items { OnOk result (out.new.items ≡ out.old.items ++ bar_before frame.now (short_in shorts.old.items lane) (seen job.now) lane) }
-    ensures shorts { OnOk result (shorts.new.items ≡ set shorts.old.items lane (with_short frame.now (short_in shorts.old.items lane) (seen job.now))) }
-{
     let pixel = frame.x_at(job.span.began) / 10;
-    let held = short_in(shorts.as_slice(), lane);
-    let mut short = Short {
-        count: held.count.saturating_add(1),
-        ..held
-    };
-    if held.pixel != pixel {
-        append_short(frame, lane, &held, out)?;
-        let kind = kind_of(job);
-        short = Short {
-            pixel,
-            kind,
-            count: 1,
-        };
-    }
-    put_short(shorts, lane, short);
-    Ok(())
-}
-
-fn short_in(shorts: &[Short], lane: u64) -> Short
-    ensures { result ≡ short_in shorts.now lane }
-{
-    shorts
-        .get(lane as usize)
-        .copied()
-        .unwrap_or(Short::default())
-}
-
-fn put_short(shorts: &mut Vec<Short>, lane: u64, short: Short)
-    ensures items { shorts.new.items ≡ set shorts.old.items lane short }
-{
     let at = lane as usize;
-    if at < shorts.len() {
-        shorts[at] = short;
+    if at >= shorts.len() {
+        return Ok(());
     }
+    let held = shorts[at];
+    if held.pixel == pixel {
+        shorts[at].count = held.count.saturating_add(1);
+        return Ok(());
+    }
+    append_short(frame, lane, &held, out)?;
+    let kind = kind_of(job);
+    shorts[at] = Short {
+        pixel,
+        kind,
+        count: 1,
+    };
+    Ok(())
 }
 
 /// Appends the bar of short commands; none, if there are none.

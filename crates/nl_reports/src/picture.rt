@@ -247,10 +247,7 @@ fn write_bars<W: Write>(
 fn none_short(alloc: Global, top: u64) -> AllocResult<Vec<Short>>
     ensures value { IfOk result (λ shorts. shorts.items ≡ replicate (top + 1) no_short) }
 {
-    let mut shorts = Vec::new(alloc);
-    for _lane in 0..top {
-        shorts.push(Short::default())?;
-    }
+    let mut shorts = vec![in alloc; Short::default(); top as usize]?;
     shorts.push(Short::default())?;
     Ok(shorts)
 }
