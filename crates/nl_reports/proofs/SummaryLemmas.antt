@@ -1,5 +1,5 @@
 -- The text of `summary`.
-use Rattle.std.proofs.Common.{◌≡◌, ◌∙◌, ℕ, List, [], ◌∷◌, ◌++◌, ap, append_assoc, length, map, option_map, refl, suc, sym, take, zero, ◌≤◌}
+use Rattle.std.proofs.Common.{◌≡◌, ◌∙◌, ℕ, List, [], ◌∷◌, ◌++◌, ap, append_assoc, length, map, option_map, refl, suc, sym, take, zero, ◌≤◌, ◌<◌, arith}
 use Rattle.std.specs.Prelude.{OnOk, Result, Ok, Err, slice_get}
 use Rattle.nl_builds.specs.Builds.{Told as BuildsTold}
 use Rattle.nl_builds.specs.declared.build.Build.{Build}
@@ -30,15 +30,16 @@ pub parts_in_order : (o h n s a u l : List ℕ) → (((((o ++ h) ++ n) ++ s) ++ 
 parts_in_order o h n s a u l = simp append_assoc
 
 -- the first of the rows that rank highest is told as the first of all
-pub first_told : (rank : Told → ℕ) (rows kept : List Row) → kept ≡ take 1 (falling (λ r. rank (told_row r)) rows)
+pub first_told : (rank : Told → ℕ) (rows kept : List Row) (n : ℕ) → 0 < n → kept ≡ take n (falling (λ r. rank (told_row r)) rows)
     → option_map told_row (slice_get kept 0) ≡ first_of (falling rank (map told_row rows))
-first_told rank rows kept is =
-    ap (λ (l : List Row). option_map told_row (slice_get l 0)) is ∙ first_taken (falling (λ r. rank (told_row r)) rows)
+first_told rank rows kept n some is =
+    ap (λ (l : List Row). option_map told_row (slice_get l 0)) is ∙ first_taken n (falling (λ r. rank (told_row r)) rows) some
     ∙ ap first_of (map-falling told_row rank rows)
   where
-    first_taken : (rs : List Row) → option_map told_row (slice_get (take 1 rs) 0) ≡ first_of (map told_row rs)
-    first_taken [] = refl
-    first_taken (r ∷ rs) = refl
+    first_taken : (n : ℕ) (rs : List Row) → 0 < n → option_map told_row (slice_get (take n rs) 0) ≡ first_of (map told_row rs)
+    first_taken zero rs some = absurd (omega (arith, some))
+    first_taken (suc n) [] some = refl
+    first_taken (suc n) (r ∷ rs) some = refl
 
 -- what falls is in order, and so are the first of it
 falls_same : {A : Type 0} (rank : A → ℕ) (xs : List A) → Falls rank xs → falling rank xs ≡ xs
@@ -66,10 +67,3 @@ highest_kept rank rows kept most n few is =
     ap (λ (l : List Told). take most (falling rank l)) same
     ∙ ap (take most) (falls_same rank (take n all) (take_falls rank n all (falling_falls rank (map told_row rows))))
     ∙ take-take most n all few
-
-pub first_kept : (us ts : List Told) → take 1 us ≡ take 1 ts → first_of us ≡ first_of ts
-first_kept us ts same = sym (one us) ∙ ap first_of same ∙ one ts
-  where
-    one : (vs : List Told) → first_of (take 1 vs) ≡ first_of vs
-    one [] = refl
-    one (v ∷ vs) = refl

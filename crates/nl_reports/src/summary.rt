@@ -1,5 +1,5 @@
 //! The text of `summary`.
-ghost use Rattle.std.specs.Prelude.{◌≡◌, ◌+◌, ◌++◌, ◌<◌, ◌^◌, ℕ, List, None, Some, map, option_map, IfOk, OnOk, All, Contains};
+ghost use Rattle.std.specs.Prelude.{◌≡◌, ◌+◌, ◌++◌, ◌<◌, ◌^◌, ℕ, List, None, Some, map, option_map, slice_get, IfOk, OnOk, All, Contains};
 ghost use Rattle.nl_reports.specs.Jobs.{build_jobs, seen, told};
 ghost use Rattle.nl_reports.specs.Kinds.{IsOfOne};
 ghost use Rattle.nl_reports.specs.Numbers.{IsSmall, spans_of};
@@ -212,7 +212,7 @@ fn append_totals(
     rows: &[Row],
     lines: &mut Vec<u8>,
 ) -> AllocResult
-    requires first { first_of (falling (rank_told Time) (map told_row by_time.now)) ≡ first_of (falling (rank_told Time) (map told_row rows.now)) }
+    requires first { option_map told_row (slice_get by_time.now 0) ≡ first_of (falling (rank_told Time) (map told_row rows.now)) }
     requires room { totals.now.wall < 2 ^ 120 }
     requires one { All IsOfOne rows.now }
     ensures items { OnOk result (lines.new.items ≡ lines.old.items ++ number_lines screen totals.now (map told_row rows.now)) }
@@ -222,8 +222,7 @@ fn append_totals(
     let total = total_of(rows);
     let parallel = ratio(alloc, total, totals.wall)?;
     if screen {
-        let slowest = slowest_time(alloc, by_time)?;
-        let best = bound(totals.most, total, slowest);
+        let best = bound(totals.most, total, slowest_time(by_time));
         let none = totals.wall.saturating_sub(totals.busy);
         let most = u128::from(totals.most);
         return put!(lines; [Part::Took(true, totals.wall)] b"\telapsed\n" [Part::Took(true, total)]
@@ -261,35 +260,24 @@ fn total_of(rows: &[Row]) -> u128
     total
 }
 
+fn slowest_time(by_time: &[Row]) -> u128
+    ensures { result ≡ slowest_time (option_map told_row (slice_get by_time.now 0)) }
+{
+    by_time.first().map_or(0, |row| row.sums.time)
+}
+
 // At a terminal it heads the list.
-fn append_slowest(screen: bool, rows: &[Row], lines: &mut Vec<u8>) -> AllocResult
-    ensures items { OnOk result
-        (lines.new.items ≡ lines.old.items ++ slowest_line screen (first_of (falling (rank_told Time) (map told_row rows.now)))) }
+fn append_slowest(screen: bool, by_time: &[Row], lines: &mut Vec<u8>) -> AllocResult
+    ensures items { OnOk result (lines.new.items ≡ lines.old.items ++ slowest_line screen (option_map told_row (slice_get by_time.now 0))) }
 {
     if screen {
         return Ok(());
     }
-    let Some(first) = slowest_of(*lines.allocator(), rows)? else {
+    let Some(first) = by_time.first() else {
         return Ok(());
     };
     let (time, name) = (Part::Number(first.sums.time), Part::Text(first.name));
     append_line(&[Part::Text(b"slowest"), time, name], lines)
-}
-
-fn slowest_time(alloc: Global, rows: &[Row]) -> AllocResult<u128>
-    ensures value { IfOk result (λ time. time ≡ slowest_time (first_of (falling (rank_told Time) (map told_row rows.now)))) }
-{
-    match slowest_of(alloc, rows)? {
-        Some(row) => Ok(row.sums.time),
-        None => Ok(0),
-    }
-}
-
-fn slowest_of<'a>(alloc: Global, rows: &[Row<'a>]) -> AllocResult<Option<Row<'a>>>
-    ensures value { IfOk result (λ row. option_map told_row row ≡ first_of (falling (rank_told Time) (map told_row rows.now))) }
-{
-    let kept = highest(alloc, &Rank::Time, 1, rows)?;
-    Ok(kept.first().copied())
 }
 
 // None for all builds, because what later ones took is told of there.

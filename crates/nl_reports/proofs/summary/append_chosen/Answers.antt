@@ -8,14 +8,13 @@ use Rattle.nl_reports.specs.Rows.{rank_told, told_row}
 use Rattle.nl_tool_texts.specs.Falling.{falling}
 use Rattle.nl_reports.specs.Summary.{again_line, builds_told, first_of, lists_text, number_lines, slowest_line, text_of, title, unfinished_line}
 use Rattle.nl_reports.specs.declared.rows.Rank.TheVariants.{Time}
-use Rattle.nl_reports.proofs.SummaryLemmas.{first_kept, highest_kept, parts_in_order, some_told}
+use Rattle.nl_reports.proofs.SummaryLemmas.{first_told, highest_kept, parts_in_order, some_told}
 use Rattle.nl_reports.proofs.summary.append_chosen.Goals as goal
 
 pub append_totals-requires-clause-first : goal.append_totals-requires-clause-first
 append_totals-requires-clause-first c =
-    let rows = c.as_slice-rows.result.now in
-    first_kept _ _ (highest_kept (rank_told Time) rows c.as_slice-by_time.result.now 1 c.max.result (omega (arith, c.max.ensures))
-    (c.as_slice-by_time.ensures.value ∙ c.in_ok-by_time.ensures.value))
+    first_told (rank_told Time) c.as_slice-rows.result.now c.as_slice-by_time.result.now c.max.result (omega (arith, c.max.ensures))
+    (c.as_slice-by_time.ensures.value ∙ c.in_ok-by_time.ensures.value)
 
 pub append_lists-requires-clause-highest : goal.append_lists-requires-clause-highest
 append_lists-requires-clause-highest c =
@@ -36,8 +35,8 @@ returns c =
     let head = title screen c.args.scope first c.len.result in
     let slow = slowest_line screen (first_of (falling (rank_told Time) us)) in
     let last = unfinished_line screen c.args.unfinished in
-    let slowest = first_kept _ _ (highest_kept (rank_told Time) c.as_slice-rows.result.now c.as_slice-by_time.result.now 1 c.max.result (omega (arith, c.max.ensures))
-    (c.as_slice-by_time.ensures.value ∙ c.in_ok-by_time.ensures.value)) in
+    let slowest = first_told (rank_told Time) c.as_slice-rows.result.now c.as_slice-by_time.result.now c.max.result (omega (arith, c.max.ensures))
+    (c.as_slice-by_time.ensures.value ∙ c.in_ok-by_time.ensures.value) in
     let chosen : bs ≡ between (first - 1) c.args.choice.last c.args.from.now.builds.items =
     c.between-told.ensures ∙ (λ i. between (c.saturating_sub-before.ensures i) c.args.choice.last (c.as_slice.ensures.value i)) in
     record {

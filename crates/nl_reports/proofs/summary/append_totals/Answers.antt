@@ -15,7 +15,7 @@ returns-then-screen c =
     let total = c.total_of-total.ensures.value in
     let count : length rows ≡ length (map told_row rows) = sym (length-map rows told_row) in
     let parallel = c.as_bytes.ensures.value ∙ c.in_ok-parallel.ensures.value ∙ ap (λ (n : ℕ). ratio n t.wall) total in
-    let best = c.bound-best.ensures.value ∙ (λ i. bound t.most (total i) ((c.in_ok-slowest.ensures.value ∙ ap slowest_time c.requires.first) i)) in
+    let best = c.bound-best.ensures.value ∙ (λ i. bound t.most (total i) ((c.slowest_time.ensures ∙ ap slowest_time c.requires.first) i)) in
     record {
       items = on_ok_weaker c.put.result (λ h. h
           ∙ (λ i. c.args.lines.now.items ++ facts (record t { most = c.from-most.ensures i }) (count i) (total i) (best i) (c.saturating_sub-none.ensures i) (parallel i))
