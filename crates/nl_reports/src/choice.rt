@@ -75,24 +75,13 @@ pub fn last_number(from: &Builds) -> usize
     let count = from.builds.as_slice().len();
     let mut number = count;
     'builds: while number > 0 {
-        if !is_manifest_alone(build_commands(from, number)) {
+        let first = commands_to(number.saturating_sub(1), from.builds.as_slice());
+        let end = commands_to(number, from.builds.as_slice());
+        let commands = between(first, end, from.commands.as_slice());
+        if commands.len() != 1 || !commands[0].is_manifest {
             return number;
         }
         number -= 1;
     }
     count
-}
-
-fn build_commands<'s>(from: &'s Builds, number: usize) -> &'s [Command]
-    ensures { result.now ≡ build_commands (told from.now) number }
-{
-    let first = commands_to(number.saturating_sub(1), from.builds.as_slice());
-    let end = commands_to(number, from.builds.as_slice());
-    between(first, end, from.commands.as_slice())
-}
-
-fn is_manifest_alone(commands: &[Command]) -> bool
-    ensures { result ≡ is_manifest_alone commands.now }
-{
-    commands.len() == 1 && commands[0].is_manifest
 }

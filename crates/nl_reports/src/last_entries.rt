@@ -129,7 +129,10 @@ fn builds_left(
     for build in builds {
         let to = number_at(before, build.to, commands);
         if from < to {
-            let how = whole(build.how);
+            let how = match build.how {
+                How::AsWritten => How::AsWritten,
+                How::FoundAgain { .. } => How::FoundAgain { taken: 0 },
+            };
             left.push(Build { to, how, ..*build })?;
         }
         from = to;
@@ -141,13 +144,4 @@ fn number_at(numbers: &[usize], place: usize, end: usize) -> usize
     ensures { result ≡ get_or numbers.now place end }
 {
     numbers.get(place).copied().unwrap_or(end)
-}
-
-fn whole(how: How) -> How
-    ensures { result ≡ whole how }
-{
-    match how {
-        How::AsWritten => How::AsWritten,
-        How::FoundAgain { .. } => How::FoundAgain { taken: 0 },
-    }
 }

@@ -1,6 +1,6 @@
 //! Commands and kinds of commands, the largest first.
 ghost use Rattle.std.specs.Prelude.{◌≡◌, ◌<◌, ◌^◌, ◌++◌, map, take, OnOk, flat_map};
-ghost use Rattle.nl_reports.specs.Rows.{heading, list_key, list_line, list_lines, rank_of, rank_told, screen_row, shown_name, told_row};
+ghost use Rattle.nl_reports.specs.Rows.{heading, list_key, list_line, list_lines, rank_of, rank_told, shown_name, told_row};
 ghost use Rattle.nl_tool_texts.specs.Falling.{falling};
 
 use crate::lists::Lists;
@@ -79,21 +79,6 @@ fn heading(screen: bool, listed: Listed) -> &'static [u8]
     }
 }
 
-fn append_screen_row(listed: Listed, total: u128, row: &Row, lines: &mut Vec<u8>) -> AllocResult
-    requires room { total < 2 ^ 120 }
-    ensures items { OnOk result (lines.new.items ≡ lines.old.items ++ screen_row listed total (told_row row.now)) }
-{
-    let time = Part::Took(true, row.sums.time);
-    let share = Part::Percent(percent(row.sums.time, total));
-    let name = Part::Text(shown_name(listed, row.name));
-    match listed {
-        Listed::Commands => append_line(&[time, share, name], lines),
-        Listed::Kinds => {
-            append_line(&[time, share, Part::Number(row.sums.commands), name], lines)
-        }
-    }
-}
-
 fn append_row(
     screen: bool,
     total: u128,
@@ -106,7 +91,15 @@ fn append_row(
     ensures items { OnOk result (lines.new.items ≡ lines.old.items ++ list_line screen total listed rank (told_row row.now)) }
 {
     if screen {
-        return append_screen_row(listed, total, row, lines);
+        let time = Part::Took(true, row.sums.time);
+        let share = Part::Percent(percent(row.sums.time, total));
+        let name = Part::Text(shown_name(listed, row.name));
+        return match listed {
+            Listed::Commands => append_line(&[time, share, name], lines),
+            Listed::Kinds => {
+                append_line(&[time, share, Part::Number(row.sums.commands), name], lines)
+            }
+        };
     }
     append_key(listed, rank, row.sums.commands, lines)?;
     let weighted = ratio(*lines.allocator(), row.sums.weight, u128::from(PARTS))?;
