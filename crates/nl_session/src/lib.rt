@@ -9,10 +9,8 @@ mod fault;
 mod intent;
 pub mod laws;
 mod log;
-mod mending;
 mod opening;
 mod repair;
-mod restat;
 mod rewrite;
 mod state;
 
@@ -20,6 +18,5 @@ pub use answers::reply_to_event;
 pub use events::{Event, Outcome, Reply, run_events};
 pub use fault::LogFault;
 pub use intent::{intent_hash, is_intent};
-pub use log::Log;
-pub use restat::first_negative;
+pub use log::{Log, first_negative};
 pub use state::LogState;
