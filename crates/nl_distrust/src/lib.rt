@@ -1,7 +1,6 @@
 //! Which outputs of a log can't be trusted, because a line that is no entry may be about them.
 #![tactic(auto)]
 
-mod fields;
 pub mod laws;
 mod plain;
 mod walk;
