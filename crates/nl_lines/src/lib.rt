@@ -5,13 +5,9 @@ pub mod laws;
 mod limits;
 mod lines;
 mod pieces;
-mod read_source;
-mod slice_source;
 mod source;
 mod window;
 
 pub use limits::{MAX_LINE, MAX_LOG};
 pub use lines::{Line, LineFault, Lines};
-pub use read_source::ReadSource;
-pub use slice_source::SliceSource;
-pub use source::{Source, SourceFault};
+pub use source::{ReadSource, SliceSource, Source, SourceFault};

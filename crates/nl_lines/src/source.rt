@@ -1,9 +1,10 @@
-//! Where bytes come from, a piece at a time.
-ghost use Rattle.std.specs.Prelude.{◌≡◌, ◌≤◌, List, ℕ, Option, OnOk, OnErr};
+//! Where bytes come from, a piece at a time: any source, a reader, and a slice.
+ghost use Rattle.std.specs.Prelude.{◌≡◌, ◌≤◌, List, ℕ, Option, Some, OnOk, OnErr};
 ghost use Rattle.std.specs.Io.{ReadsAtMost};
 ghost use Rattle.std.specs.Io.KnownBytes.{ReadConsumes};
-ghost use Rattle.nl_lines.specs.Source.{FailedBetween, IsCount};
+ghost use Rattle.nl_lines.specs.Source.{FailedBetween, IsCount, none_is_count};
 
+use std::io::Read;
 use thiserror::Error;
 
 #[derive(Clone, Copy, Debug, PartialEq, Eq, Drop, Error)]
@@ -37,4 +38,92 @@ pub trait Source {
     ghost keeps_same: { (s : Self) → keeps s s };
 
     ghost keeps_joined: { (s t u : Self) → keeps s t → keeps t u → keeps s u };
+}
+
+/// A reader. Each error of the reader is a failure, `Interrupted` too.
+#[derive(Drop)]
+pub struct ReadSource<R> {
+    reader: R,
+    failures: u64,
+    ghost is_count: { IsCount failures },
+}
+
+impl<R: Read> ReadSource<R> {
+    pub fn new(reader: R) -> Self
+        ensures ahead { ⟦<ReadSource<R> as Source>⟧.ahead result ≡ R.remaining reader }
+        ensures failures { ⟦<ReadSource<R> as Source>⟧.failures result ≡ 0 }
+    {
+        ReadSource {
+            reader,
+            failures: 0,
+        }
+    }
+}
+
+impl<R: Read> Source for ReadSource<R> {
+    ghost ahead = { λ s. R.remaining s.reader };
+
+    ghost failures = { λ s. s.failures };
+
+    ghost is_count = { λ s. s.is_count };
+
+    ghost keeps = { λ s t. Unit {0} };
+
+    ghost keeps_same = { λ s. tt };
+
+    ghost keeps_joined = { λ s t u first second. tt };
+
+    fn read_some(&mut self, buf: &mut [u8]) -> Result<usize, SourceFault> {
+        match self.reader.read(buf) {
+            Ok(count) => Ok(count),
+            Err(_) => {
+                self.failures = self.failures.saturating_add(1);
+                Err(SourceFault)
+            }
+        }
+    }
+
+    fn failures(&self) -> u64 {
+        self.failures
+    }
+}
+
+/// A slice. It never fails.
+#[derive(Drop)]
+pub struct SliceSource<'a> {
+    rest: &'a [u8],
+}
+
+impl<'a> SliceSource<'a> {
+    pub fn new(bytes: &'a [u8]) -> Self
+        ensures ahead { ⟦<SliceSource<'a> as Source>⟧.ahead result ≡ Some bytes.now }
+        ensures failures { ⟦<SliceSource<'a> as Source>⟧.failures result ≡ 0 }
+    {
+        SliceSource { rest: bytes }
+    }
+}
+
+impl Source for SliceSource<'_> {
+    ghost ahead = { λ s. Some s.rest.now };
+
+    ghost failures = { λ s. 0 };
+
+    ghost is_count = { λ s. none_is_count };
+
+    ghost keeps = { λ s t. Unit {0} };
+
+    ghost keeps_same = { λ s. tt };
+
+    ghost keeps_joined = { λ s t u first second. tt };
+
+    fn read_some(&mut self, buf: &mut [u8]) -> Result<usize, SourceFault> {
+        let taken = buf.len().min(self.rest.len());
+        buf[..taken].copy_from_slice(&self.rest[..taken]);
+        self.rest = &self.rest[taken..];
+        Ok(taken)
+    }
+
+    fn failures(&self) -> u64 {
+        0
+    }
 }
