@@ -5,7 +5,7 @@ ghost use Rattle.nl_reports.specs.GraphText.{IsGraphFault, seen_edge};
 ghost use Rattle.nl_reports.specs.Paths.{ClosesCycle};
 
 use crate::graph::Edge;
-use nl_tool_texts::{AllocResult, ToolFault};
+use nl_tool_texts::ToolFault;
 use std::alloc::{AllocError, Global};
 
 // No place.
@@ -33,7 +33,14 @@ pub(crate) fn order_of(alloc: Global, count: usize, edges: &[Edge]) -> Result<Ve
 {
     let mut marks = Vec::new(alloc);
     marks.resize(count, DONE)?;
-    let next = next_edges(alloc, edges, marks.as_mut_slice())?;
+    // For each edge the one from the same node that is looked at next. The marks name the first ones.
+    let mut next = Vec::new(alloc);
+    for place in 0..edges.len() {
+        let from = edges[place].from;
+        let first = mark_at(marks.as_slice(), from).first;
+        next.push(first).map_err(AllocError::from)?;
+        set_mark(marks.as_mut_slice(), from, place, false);
+    }
     let mut order = Vec::new(alloc);
     // The edges from a start to the node at which the walk is.
     let mut way = Vec::new(alloc);
@@ -67,17 +74,6 @@ pub(crate) fn order_of(alloc: Global, count: usize, edges: &[Edge]) -> Result<Ve
     }
     order.reverse();
     Ok(order)
-}
-
-// For each edge the one from the same node that is looked at next. The marks name the first ones.
-fn next_edges(alloc: Global, edges: &[Edge], marks: &mut [Mark]) -> AllocResult<Vec<usize>> {
-    let mut next = Vec::new(alloc);
-    for place in 0..edges.len() {
-        let from = edges[place].from;
-        next.push(mark_at(marks, from).first)?;
-        set_mark(marks, from, place, false);
-    }
-    Ok(next)
 }
 
 fn mark_at(marks: &[Mark], node: usize) -> Mark {
