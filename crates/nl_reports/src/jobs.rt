@@ -4,7 +4,7 @@ ghost use Rattle.nl_reports.specs.Found.{IsFound};
 ghost use Rattle.nl_reports.specs.GraphText.{seen_graph};
 ghost use Rattle.nl_reports.specs.Jobs.{Job as SeenJob, seen};
 ghost use Rattle.nl_reports.specs.Numbers.{total_time};
-ghost use Rattle.nl_reports.specs.Plans.{AreEstimates, HavePlan, AreBehind, IsToldBy, estimate_line, floor_of, heading, kept};
+ghost use Rattle.nl_reports.specs.Plans.{AreEstimates, HavePlan, IsToldBy, estimate_line, floor_of, heading, kept};
 ghost use Rattle.nl_reports.specs.Reaches.{AreOf};
 ghost use Rattle.nl_reports.specs.Sweep.{last_moment, running};
 ghost use Rattle.nl_reports.specs.declared.graph.NinjaGraph.{NinjaGraph as HeldGraph};
@@ -156,20 +156,14 @@ fn wall_of(
     ensures value { (g : HeldGraph) → AreOf g (map seen jobs.now) reaches.now
         → IfOk result (λ o. IfSome o (HavePlan (seen_graph g) (map seen jobs.now) count)) }
 {
-    let (began, there) = waiting.run(jobs, count)?;
-    let plan = planned_jobs(*began.allocator(), jobs, began.as_slice())?;
-    checked(reaches, plan.as_slice(), there.as_slice(), count)
-}
-
-fn checked(reaches: &Reaches, plan: &[Job], there: &[u64], count: usize) -> AllocResult<Option<u64>>
-    ensures value { (g : HeldGraph) (ks : List SeenJob) → AreOf g ks reaches.now → map kept (map seen plan.now) ≡ map kept ks
-        → IfOk result (λ o. IfSome o (HavePlan (seen_graph g) ks count)) }
-{
     let alloc = reaches.allocator();
+    let (began, there) = waiting.run(jobs, count)?;
+    let planned = planned_jobs(alloc, jobs, began.as_slice())?;
+    let plan = planned.as_slice();
     let spans = spans_of(alloc, plan)?;
     let few = are_few(alloc, spans.as_slice(), count)?;
     let wall = last_of(spans.as_slice());
-    let reaches = reaches.with_plan(plan, wall, there)?;
+    let reaches = reaches.with_plan(plan, wall, there.as_slice())?;
     let tight = reaches.are_tight();
     let begun = reaches.are_begun(wall);
     if few && tight && begun {
@@ -198,19 +192,13 @@ fn are_few(alloc: Global, plan: &[Span], count: usize) -> AllocResult<bool>
 {
     let starts = rising(plan.iter().map(|span| span.began).collect(alloc)?);
     let ends = rising(plan.iter().map(|span| span.closed()).collect(alloc)?);
-    Ok(are_behind(starts.as_slice(), ends.as_slice(), count))
-}
-
-fn are_behind(starts: &[u64], ends: &[u64], count: usize) -> bool
-    ensures value { IsTrue result → AreBehind count starts.now ends.now }
-{
     for place in 0..ends.len() {
         let at = place.saturating_add(count);
         if at < starts.len() && starts[at] < ends[place] {
-            return false;
+            return Ok(false);
         }
     }
-    true
+    Ok(true)
 }
 
 fn last_of(plan: &[Span]) -> u64

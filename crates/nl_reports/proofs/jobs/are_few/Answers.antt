@@ -9,8 +9,8 @@ use Rattle.nl_reports.proofs.jobs.are_few.Goals as goal
 pub returns : goal.returns
 returns c =
     let cs = c.args.plan.now in
-    let starts = c.as_slice.result.now in
-    let ends = c.as_slice-2.result.now in
+    let starts = c.rising-starts.result.items in
+    let ends = c.rising-ends.result.items in
     let p : IsPermutation (map began_of cs) starts = search rules in
     let q : IsPermutation (map closed_of cs) ends = search rules in
     let fits : length starts ≤ c.args.count + length ends = omega (
@@ -20,4 +20,4 @@ returns c =
       length-map cs began_of,
       length-map cs closed_of,
     ) in
-    record { value = λ is. few_by cs c.args.count starts ends p q fits (c.are_behind.ensures.value is) }
+    record { value = λ is. few_by cs c.args.count starts ends p q fits (λ k inside more. c.loop-place.invariant k (omega (arith, inside, c.loop-place-test.false, c.len-place-end.ensures)) more) }

@@ -1,11 +1,24 @@
-use Rattle.std.proofs.Common.{◌∙◌, List, ap, map}
+use Rattle.std.proofs.Common.{◌≡◌, ◌∙◌, ◌≤◌, List, ℕ, ap, map, refl, subst}
 use Rattle.nl_reports.specs.Jobs.{seen}
 use Rattle.nl_reports.specs.Plans.{kept}
+use Rattle.nl_reports.specs.Rows.{spans}
+use Rattle.nl_reports.specs.Sweep.{last_moment, running}
 use Rattle.nl_reports.specs.declared.job.Job.{Job}
+use Rattle.nl_reports.specs.declared.span.Span.{Span}
+use Rattle.nl_reports.proofs.ReachesLemmas.{have_plan}
 use Rattle.nl_reports.proofs.jobs.wall_of.Goals as goal
 
-pub returns : goal.returns
-returns c = record {
-  value = λ g there. c.checked.ensures.value g (map seen c.args.jobs.now) there
-      (ap (λ (l : List Job). map kept (map seen l)) c.as_slice-2.ensures.value ∙ c.in_ok-plan.ensures.value);
+pub returns-then-begun : goal.returns-then-begun
+returns-then-begun c = record {
+  value = λ g there.
+      let ks = map seen c.args.jobs.now in
+      let js = map seen c.as_slice-plan.result.now in
+      let same : map kept js ≡ map kept ks = ap (λ (l : List Job). map kept (map seen l)) c.as_slice-plan.ensures.value ∙ c.in_ok-planned.ensures.value in
+      let r = c.in_ok-reaches.reaches in
+      let are = c.in_ok-reaches.ensures.value g ks there same in
+      let ran : c.as_slice-2.result.now ≡ spans js = c.as_slice-2.ensures.value ∙ c.in_ok-spans.ensures.value in
+      let last : c.as_slice-3.result.now ≡ spans js = c.as_slice-3.ensures.value ∙ c.in_ok-spans.ensures.value in
+      have_plan g js ks c.args.count c.last_of-wall.result r are same
+      (subst (λ (cs : List Span). (t : ℕ) → running cs t ≤ c.args.count) ran (c.in_ok-few.ensures.value c.if-few.true))
+      (c.last_of-wall.ensures.value ∙ ap last_moment last) (c.if-tight.ensures.value refl) (c.if-begun.ensures.value refl);
 }
