@@ -1,5 +1,5 @@
 //! What `summary` tells of the critical path.
-ghost use Rattle.std.specs.Prelude.{◌≡◌, ◌<◌, ◌≤◌, ◌+◌, ◌^◌, ◌++◌, ℕ, List, Some, IfOk, IfSome, IsFalse, IsTrue, OnOk, get_or, length, map, option_and_then, option_map, All, sum_by};
+ghost use Rattle.std.specs.Prelude.{◌≡◌, ◌<◌, ◌≤◌, ◌+◌, ◌^◌, ◌++◌, ℕ, List, Some, IfOk, IfSome, IsTrue, OnOk, get_or, length, map, option_and_then, option_map, All, sum_by};
 ghost use Rattle.nl_reports.specs.Critical.{IsCritical, IsFoundPath, any_named, lacking, lacking_line, path_head, ran_line, told_path, took_time};
 ghost use Rattle.nl_reports.specs.Found.{AreFound, IsFound, in_plan};
 ghost use Rattle.nl_reports.specs.Gains.{half_ran, halved};
@@ -48,7 +48,7 @@ pub(crate) fn critical_of<'g, 'a>(
     ensures value { IfOk result (AreFound graph.now (map seen jobs.now)) }
 {
     let lacking = lacking_of(alloc, secret, graph, jobs)?;
-    if lacking.are_all(jobs.len()) {
+    if lacking.count == jobs.len() && !jobs.is_empty() {
         return Ok(None);
     }
     let reaches = Reaches::of(alloc, secret, graph, jobs)?;
@@ -79,15 +79,6 @@ pub(crate) fn critical_lines(screen: bool, found: &Critical, jobs: &[Job]) -> Al
 pub(crate) struct Lacking {
     count: usize,
     time: u128,
-}
-
-impl Lacking {
-    fn are_all(&self, commands: usize) -> bool
-        ensures some { IsTrue result → (0 < commands) × (self.now.count ≡ commands) }
-        ensures few { IsFalse result → self.now.count ≡ commands → commands ≡ 0 }
-    {
-        self.count == commands && commands > 0
-    }
 }
 
 fn lacking_of(
@@ -371,24 +362,15 @@ impl<'g, 'a> Reaches<'g, 'a> {
     pub(crate) fn are_begun(&self, wall: u64) -> bool
         ensures value { IsTrue result → (k : ℕ) → k < length self.now.ran.items → IsBegun self.now wall k }
     {
+        let end = u128::from(wall);
         for node in 0..self.ran.len() {
-            if !self.is_begun(wall, node) {
+            let far = self.far_at(node);
+            let ran = self.ran_at(node);
+            if far > end || !ran.is_none_or(|ran| far + u128::from(ran.span.began) == end) {
                 return false;
             }
         }
         true
-    }
-
-    fn is_begun(&self, wall: u64, node: usize) -> bool
-        ensures value { IsTrue result → IsBegun self.now wall node }
-    {
-        let wall = u128::from(wall);
-        let far = self.far_at(node);
-        if far > wall {
-            return false;
-        }
-        self.ran_at(node)
-            .is_none_or(|ran| far + u128::from(ran.span.began) == wall)
     }
 
     fn append_path(&self, start: usize, commands: &mut Vec<Ran<'a>>) -> AllocResult
