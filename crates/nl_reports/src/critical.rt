@@ -1,6 +1,6 @@
 //! What `summary` tells of the critical path.
 ghost use Rattle.std.specs.Prelude.{◌≡◌, ◌<◌, ◌≤◌, ◌+◌, ◌^◌, ◌++◌, ℕ, List, Some, IfOk, IfSome, IsTrue, OnOk, get_or, length, map, option_and_then, option_map, All, sum_by};
-ghost use Rattle.nl_reports.specs.Critical.{IsCritical, IsFoundPath, any_named, lacking, lacking_line, path_head, ran_line, told_path, took_time};
+ghost use Rattle.nl_reports.specs.Critical.{IsCritical, IsFoundPath, any_named, lacking, lacking_line, path_head, ran_line, took_time};
 ghost use Rattle.nl_reports.specs.Found.{AreFound, IsFound, in_plan};
 ghost use Rattle.nl_reports.specs.Gains.{half_ran, halved};
 ghost use Rattle.nl_reports.specs.GraphText.{HeldNode, seen_graph};
@@ -70,7 +70,13 @@ pub(crate) fn critical_lines(screen: bool, found: &Critical, jobs: &[Job]) -> Al
     if jobs.is_empty() {
         return Ok(Vec::new(alloc));
     }
-    let mut lines = path_lines(alloc, screen, &found.path)?;
+    let mut lines = Vec::new(alloc);
+    append_head(screen, found.path.length, &mut lines)?;
+    let mut before = BEGINNING;
+    for ran in found.path.commands.as_slice() {
+        append_ran(screen, before, ran, &mut lines)?;
+        before = ran.span.ended;
+    }
     append_lacking(screen, found.lacking, &mut lines)?;
     Ok(lines)
 }
@@ -151,19 +157,6 @@ fn ran_named<'a>(name: Option<&'a [u8]>, outputs: &Outputs, jobs: &[Job]) -> Opt
 pub(crate) struct FoundPath<'a> {
     pub(crate) length: u128,
     pub(crate) commands: Vec<Ran<'a>>,
-}
-
-fn path_lines(alloc: Global, screen: bool, found: &FoundPath) -> AllocResult<Vec<u8>>
-    ensures value { IfOk result (λ lines. lines.items ≡ told_path screen found.now.length (map ran_seen found.now.commands.items)) }
-{
-    let mut lines = Vec::new(alloc);
-    append_head(screen, found.length, &mut lines)?;
-    let mut before = BEGINNING;
-    for ran in found.commands.as_slice() {
-        append_ran(screen, before, ran, &mut lines)?;
-        before = ran.span.ended;
-    }
-    Ok(lines)
 }
 
 fn append_head(screen: bool, length: u128, lines: &mut Vec<u8>) -> AllocResult
@@ -273,18 +266,6 @@ impl<'g, 'a> Reaches<'g, 'a> {
         u128::from(time) + self.behind_at(node)
     }
 
-    fn farthest(&self) -> usize
-        ensures value { IsFarthest self.now result }
-    {
-        let mut best = 0;
-        for node in 0..self.ran.len() {
-            if self.far_at(node) > self.far_at(best) {
-                best = node;
-            }
-        }
-        best
-    }
-
     pub(crate) fn are_tight(&self) -> bool
         ensures value { IsTrue result → All (IsTight self.now) self.now.graph.now.edges.items }
     {
@@ -308,7 +289,13 @@ impl<'g, 'a> Reaches<'g, 'a> {
         if !self.are_tight() {
             return Err(AllocError);
         }
-        let start = self.farthest();
+        // From no node is it farther.
+        let mut start = 0;
+        for node in 0..self.ran.len() {
+            if self.far_at(node) > self.far_at(start) {
+                start = node;
+            }
+        }
         let mut commands = Vec::new(self.allocator());
         self.append_path(start, &mut commands)?;
         let length = self.far_at(start);
