@@ -1,18 +1,18 @@
 -- The text of a critical path, the names of a graph's nodes as a map holds them, and the commands that it lacks.
-use Rattle.std.proofs.Common.{◌≡◌, ◌<◌, ◌∙◌, ◌++◌, ℕ, true, false, List, [], ◌∷◌, Option, Some, append-nil, ap, cond, refl, sym, ◌+◌, ◌||◌, Bool, None, bytes_eq, drop, get_or, is_some, length, map, not, take}
+use Rattle.std.proofs.Common.{◌≡◌, ◌<◌, ◌∙◌, ◌++◌, ℕ, true, false, List, [], ◌∷◌, Option, Some, append-nil, ap, cond, refl, sym, ◌+◌, ◌||◌, Bool, None, bytes_eq, drop, get_or, length, map, not, take}
 use Rattle.std.proofs.lemmas.List.{at_drop_more, map-append, take_more}
 use Rattle.std.proofs.lemmas.List.Concat.{flat_map-append}
 use Rattle.std.specs.Global.{Vec}
-use Rattle.std.specs.Map.{lookup}
+use Rattle.std.specs.List.{list_any}
+use Rattle.nl_builds.specs.declared.name_key.NameKey.{NameKey}
 use Rattle.nl_fields.specs.declared.entry.Entry.{Entry}
-use Rattle.nl_reports.specs.Critical.{IsCritical, IsCriticalText, IsFoundPath, IsPathText, Ran, told_path, any_named, is_named, lacking}
+use Rattle.nl_reports.specs.Critical.{IsCritical, IsCriticalText, IsFoundPath, IsPathText, Ran, told_path, any_named, lacking}
 use Rattle.nl_reports.specs.GraphText.{HeldNode, node_of, nodes_of}
 use Rattle.nl_reports.specs.Jobs.{Job, seen}
-use Rattle.nl_reports.specs.Lasting.{is_among}
+use Rattle.nl_reports.specs.Lasting.{is_among, is_held}
 use Rattle.nl_reports.specs.Paths.{Graph, Node}
-use Rattle.nl_reports.specs.Reaches.{HoldNames}
 use Rattle.nl_reports.specs.declared.job.Job.{Job as HeldJob}
-use Rattle.nl_reports.proofs.GraphLemmas.{Name, same}
+use Rattle.nl_reports.proofs.GraphLemmas.{Name}
 
 -- of some commands
 pub critical_told : (screen : Bool) (g : Graph) (js : List Job) (text : Vec ℕ) → IsCriticalText screen g js text.items → IsCritical screen g js (Some text)
@@ -29,6 +29,9 @@ path_told screen g js length rans text found told = record {
 }
 
 -- ---- names
+
+abbrev pub HoldNames : List Node → List NameKey → Type 0
+HoldNames ns keys = (name : List ℕ) → is_held keys name ≡ is_among name (map (λ (n : Node). n.name) ns)
 
 nodes_more : (ps : List HeldNode) (i : ℕ) (p : HeldNode) → i < length ps
     → nodes_of (take (i + 1) ps) ≡ nodes_of (take i ps) ++ node_of (get_or ps i p).0.now (get_or ps i p).1
@@ -47,7 +50,7 @@ among-push name (m ∷ ns) n =
     ]
 
 -- a node more that has no name, and one that has
-module _ (ps : List HeldNode) (i : ℕ) (p : HeldNode) (inside : i < length ps) (es fs : List (Name × Unit {0}))
+module _ (ps : List HeldNode) (i : ℕ) (p : HeldNode) (inside : i < length ps) (es fs : List NameKey)
     (hold : HoldNames (nodes_of (take i ps)) es) where
   names_of_nodes : List Node → List (List ℕ)
   names_of_nodes ns = map (λ (n : Node). n.name) ns
@@ -59,15 +62,13 @@ module _ (ps : List HeldNode) (i : ℕ) (p : HeldNode) (inside : i < length ps) 
       ∙ ap (λ (o : Option Name). nodes_of (take i ps) ++ node_of (get_or ps i p).0.now o) (sym none) ∙ append-nil (nodes_of (take i ps))))
 
   pub hold_named : (n : Name) → Some n ≡ (get_or ps i p).1
-      → ((q : Name) → lookup (same q) fs ≡ cond (same n q) (Some (tt {0})) (lookup (same q) es)) → HoldNames (nodes_of (take (i + 1) ps)) fs
+      → ((q : List ℕ) → is_held fs q ≡ cond (bytes_eq n.now q) true (is_held es q)) → HoldNames (nodes_of (take (i + 1) ps)) fs
   unfolding names_of_nodes
   hold_named n is updates name =
       let node : Node = record { id = (get_or ps i p).0.now; name = n.now } in
       let more : nodes_of (take (i + 1) ps) ≡ nodes_of (take i ps) ++ node ∷ [] =
       nodes_more ps i p inside ∙ ap (λ (o : Option Name). nodes_of (take i ps) ++ node_of (get_or ps i p).0.now o) (sym is) in
-      ap is_some (updates (record n { now = name }))
-      ∙ elim (bytes_eq n.now name) as (λ b. is_some (cond b (Some (tt {0})) (lookup (λ (k : Name). bytes_eq name k.now) es))
-      ≡ cond b true (is_some (lookup (λ (k : Name). bytes_eq name k.now) es))) [ true ↦ refl | false ↦ refl ]
+      updates name
       ∙ ap (λ b. cond (bytes_eq n.now name) true b) (hold name)
       ∙ sym (ap (λ (l : List Node). is_among name (names_of_nodes l)) more
       ∙ ap (is_among name) (map-append (λ (m : Node). m.name) (nodes_of (take i ps)) (node ∷ []))
@@ -75,16 +76,10 @@ module _ (ps : List HeldNode) (i : ℕ) (p : HeldNode) (inside : i < length ps) 
 
 -- ---- the commands that are lacking
 
-module _ (g : Graph) (names : List (Name × Unit {0})) (hold : HoldNames g.nodes names) where
-  named_by : (n : Name) (e : Entry) (b : Bool) → n.now ≡ e.name → b ≡ is_some (lookup (same n) names) → is_named g e.name ≡ b
-  named_by n e b is found = ap (is_named g) (sym is) ∙ sym (hold n.now) ∙ sym found
-
-  pub any_more : (es : List Entry) (i : ℕ) (e : Entry) (n : Name) (b : Bool) → i < length es → e ≡ get_or es i e → n.now ≡ e.name
-      → b ≡ is_some (lookup (same n) names) → any_named g (drop i es) ≡ (b || any_named g (drop (i + 1) es))
-  any_more es i e n b inside is named found =
-      at_drop_more (any_named g) es i e inside
-      ∙ ap (λ (x : Entry). is_named g x.name || any_named g (drop (i + 1) es)) (sym is)
-      ∙ ap (λ a. a || any_named g (drop (i + 1) es)) (named_by n e b named found)
+pub any_held : (g : Graph) (names : List NameKey) → HoldNames g.nodes names → (es : List Entry)
+    → list_any (λ (e : Entry). is_held names e.name) es ≡ any_named g es
+any_held g names hold [] = refl
+any_held g names hold (e ∷ es) = λ i. hold e.name i || any_held g names hold es i
 
 pub lacking_more : (g : Graph) (jobs : List HeldJob) (i : ℕ) (j : HeldJob) (b : Bool) → i < length jobs → j ≡ get_or jobs i j
     → b ≡ any_named g j.outputs.now → lacking g (map seen (drop i jobs))

@@ -1,13 +1,12 @@
 -- How far it is from each node of a graph, as it is guessed, and what shows that a path is a longest one.
-use Rattle.std.specs.Prelude.{◌≡◌, ◌≤◌, ◌<◌, ◌+◌, ℕ, List, ◌++◌, Option, None, get_or, length, map, bytes_eq, is_some, option_and_then, option_map, IfSome}
+use Rattle.std.specs.Prelude.{◌≡◌, ◌≤◌, ◌<◌, ◌+◌, ℕ, List, ◌++◌, Option, None, get_or, length, map, bytes_eq, option_and_then, option_map, IfSome}
 use Rattle.std.specs.Borrow.{Bor}
 use Rattle.std.specs.List.{IsDistinct}
-use Rattle.std.specs.Map.{keys_of, lookup}
+use Rattle.std.specs.Map.{keys_of}
 use Rattle.nl_reports.specs.Critical.{Ran, path_rans, ran_at, ran_named, ran_time, weight}
 use Rattle.nl_reports.specs.GraphText.{ids_of, nodes_of}
 use Rattle.nl_reports.specs.Jobs.{Job}
-use Rattle.nl_reports.specs.Lasting.{is_among}
-use Rattle.nl_reports.specs.Paths.{Graph, IsPath, Node, length_of}
+use Rattle.nl_reports.specs.Paths.{Graph, IsPath, length_of}
 use Rattle.nl_reports.specs.declared.critical.FoundPath.{FoundPath}
 use Rattle.nl_reports.specs.declared.critical.Ran.{Ran as HeldRan}
 use Rattle.nl_reports.specs.declared.critical.Reaches.{Reaches}
@@ -28,10 +27,6 @@ rans_of path = option_map (λ (p : Bor FoundPath). map ran_seen p.now.commands.i
 -- the last command that has a name which a node may have
 abbrev pub ran_named_in : List Job → Option (Bor (List ℕ)) → Option Ran
 ran_named_in js name = option_and_then (λ (n : Bor (List ℕ)). ran_named js n.now) name
-
--- a map has the names of these nodes
-abbrev pub HoldNames : List Node → List (Bor (List ℕ) × Unit {0}) → Type 0
-HoldNames ns es = (name : List ℕ) → is_some (lookup (λ k. bytes_eq name k.now) es) ≡ is_among name (map (λ (n : Node). n.name) ns)
 
 -- what ran at a place, and how far it is behind it, and from it on
 abbrev pub ran_in : Reaches → ℕ → Option Ran

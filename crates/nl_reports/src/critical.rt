@@ -1,14 +1,15 @@
 //! What `summary` tells of the critical path.
 ghost use Rattle.std.specs.Prelude.{◌≡◌, ◌<◌, ◌≤◌, ◌+◌, ◌^◌, ◌++◌, ℕ, List, Some, IfOk, IfSome, IsTrue, OnOk, get_or, length, map, option_and_then, option_map, All, sum_by};
-ghost use Rattle.nl_reports.specs.Critical.{IsCritical, IsFoundPath, any_named, lacking, lacking_line, path_head, ran_line, took_time};
+ghost use Rattle.std.specs.List.{list_any};
+ghost use Rattle.nl_reports.specs.Critical.{IsCritical, IsFoundPath, lacking, lacking_line, path_head, ran_line, took_time};
 ghost use Rattle.nl_reports.specs.Found.{AreFound, IsFound, in_plan};
 ghost use Rattle.nl_reports.specs.Gains.{half_ran, halved};
 ghost use Rattle.nl_reports.specs.GraphText.{HeldNode, seen_graph};
 ghost use Rattle.nl_reports.specs.Jobs.{Job as SeenJob, seen};
-ghost use Rattle.nl_reports.specs.Paths.{Graph};
+ghost use Rattle.nl_reports.specs.Lasting.{is_held};
 ghost use Rattle.nl_reports.specs.Plans.{kept};
 ghost use Rattle.nl_reports.specs.Outputs.{HoldPlaces, places_of};
-ghost use Rattle.nl_reports.specs.Reaches.{AreOf, HoldNames, IsBegun, IsFarthest, IsFollowed, IsTight, behind_at, far_at, ran_in, ran_named_in, ran_seen};
+ghost use Rattle.nl_reports.specs.Reaches.{AreOf, IsBegun, IsFarthest, IsFollowed, IsTight, behind_at, far_at, ran_in, ran_named_in, ran_seen};
 ghost use Rattle.nl_reports.specs.Spans.{time_of};
 ghost use Rattle.nl_reports.specs.declared.graph.NinjaGraph.{NinjaGraph as HeldGraph};
 
@@ -16,7 +17,8 @@ use crate::graph::NinjaGraph;
 use crate::job::Job;
 use crate::outputs::Outputs;
 use crate::span::Span;
-use indexmap::IndexMap;
+use indexmap::IndexSet;
+use nl_builds::NameKey;
 use nl_fields::EntryRef;
 use nl_table::Secret;
 use nl_tool_texts::{AllocResult, BEGINNING, Part, append_line, put};
@@ -96,7 +98,12 @@ fn lacking_of(
     ensures count { IfOk result (λ l. l.count ≡ length (lacking (seen_graph graph.now) (map seen jobs.now))) }
     ensures time { IfOk result (λ l. l.time ≡ sum_by (λ (j : SeenJob). time_of j.span) (lacking (seen_graph graph.now) (map seen jobs.now))) }
 {
-    let names = names_in(alloc, secret, graph)?;
+    let mut names = IndexSet::with_hasher(alloc, secret);
+    for node in 0..graph.nodes.len() {
+        if let Some(name) = name_at(graph, node) {
+            names.insert(NameKey { bytes: name })?;
+        }
+    }
     let mut lacking = Lacking { count: 0, time: 0 };
     for job in jobs {
         if !any_named(&names, job.outputs) {
@@ -107,22 +114,6 @@ fn lacking_of(
     Ok(lacking)
 }
 
-fn names_in<'a>(
-    alloc: Global,
-    secret: Secret,
-    graph: &NinjaGraph<'a>,
-) -> AllocResult<IndexMap<&'a [u8], (), Secret>>
-    ensures value { IfOk result (λ names. HoldNames (seen_graph graph.now).nodes names.entries) }
-{
-    let mut names = IndexMap::with_hasher(alloc, secret);
-    for node in 0..graph.nodes.len() {
-        if let Some(name) = name_at(graph, node) {
-            names.insert(name, ())?;
-        }
-    }
-    Ok(names)
-}
-
 pub(crate) fn name_at<'a>(graph: &NinjaGraph<'a>, node: usize) -> Option<&'a [u8]>
     ensures value { (d : HeldNode) → node < length graph.now.nodes.entries → result ≡ (get_or graph.now.nodes.entries node d).1 }
 {
@@ -130,15 +121,12 @@ pub(crate) fn name_at<'a>(graph: &NinjaGraph<'a>, node: usize) -> Option<&'a [u8
     *name
 }
 
-fn any_named(names: &IndexMap<&[u8], (), Secret>, outputs: &[EntryRef]) -> bool
-    ensures value { (g : Graph) → HoldNames g.nodes names.now.entries → result ≡ any_named g outputs.now }
+fn any_named(names: &IndexSet<NameKey, Secret>, outputs: &[EntryRef]) -> bool
+    ensures { result ≡ list_any (λ e. is_held names.now.keys e.name) outputs.now }
 {
-    for entry in outputs {
-        if names.contains_key(entry.name()) {
-            return true;
-        }
-    }
-    false
+    outputs.iter().any(|entry| names.contains(&NameKey {
+        bytes: entry.name(),
+    }))
 }
 
 fn ran_named<'a>(name: Option<&'a [u8]>, outputs: &Outputs, jobs: &[Job]) -> Option<Ran<'a>>

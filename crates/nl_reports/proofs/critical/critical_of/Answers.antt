@@ -1,4 +1,4 @@
-use Rattle.std.proofs.Common.{◌∙◌, arith, map}
+use Rattle.std.proofs.Common.{arith, map}
 use Rattle.std.proofs.lemmas.List.{length-map}
 use Rattle.nl_reports.specs.Critical.{IsFoundPath}
 use Rattle.nl_reports.specs.GraphText.{seen_graph}
