@@ -6,7 +6,6 @@ use crate::class::{Class, class_text};
 use crate::sides::{ByCost, ComparedRow, Rules, Side, compared, new_time, of_class, old_time};
 use nl_table::Secret;
 use nl_tool_texts::{AllocResult, Part, append, append_line, highest, put};
-use nl_versions::LogVersion;
 use std::alloc::Global;
 
 // Each class; all but the last are listed.
@@ -36,20 +35,13 @@ pub fn compare_lines(
     ensures value { IfOk result (λ lines. lines.items
         ≡ compare_text screen most least (are_comparable old.now.version new.now.version) (side_of old.now) (side_of new.now)) }
 {
-    let hashes = are_comparable(old.version, new.version);
+    let hashes = old.version.is_rapid() == new.version.is_rapid();
     let rows = compared(alloc, secret, Rules { hashes, least }, old, new)?;
     let mut lines = Vec::new(alloc);
     append(head(screen, hashes), &mut lines)?;
     let all = CLASSES.as_slice();
     append_classes(screen, most, all, &all[..6], rows.as_slice(), &mut lines)?;
     Ok(lines)
-}
-
-// Whether logs of these versions have one hash of a command.
-fn are_comparable(old: LogVersion, new: LogVersion) -> bool
-    ensures { result ≡ are_comparable old new }
-{
-    old.is_rapid() == new.is_rapid()
 }
 
 fn head(screen: bool, hashes: bool) -> &'static [u8]
