@@ -2,7 +2,7 @@
 ghost use Rattle.std.specs.Prelude.{◌≡◌, ◌+◌, ◌<◌, ◌^◌, ℕ, length, map, All};
 ghost use Rattle.nl_reports.specs.Jobs.{seen};
 ghost use Rattle.nl_reports.specs.Spans.{IsEarly};
-ghost use Rattle.nl_reports.specs.Times.{AreTimesOf, share_of, time_in, times_of, total, with_time};
+ghost use Rattle.nl_reports.specs.Times.{AreTimesOf, share_of, times_of, total, with_time};
 
 use crate::job::Job;
 use crate::work::{Work, work_of};
@@ -48,19 +48,6 @@ impl Times {
         }
     }
 
-    fn time_in(&self, work: Work) -> u128
-        ensures { result ≡ time_in self.now work }
-    {
-        match work {
-            Work::Compile => self.compile,
-            Work::Link => self.link,
-            Work::Archive => self.archive,
-            Work::Generate => self.generate,
-            Work::Test => self.test,
-            Work::Other => self.other,
-        }
-    }
-
     pub(crate) fn total(&self) -> u128
         requires few { (n : ℕ) × ((n < 2 ^ 63) × AreTimesOf n self.now) }
         ensures value { result ≡ total self.now }
@@ -74,6 +61,14 @@ impl Times {
         requires few { (n : ℕ) × ((n < 2 ^ 63) × AreTimesOf n self.now) }
         ensures value { result ≡ share_of self.now work }
     {
-        self.time_in(work) * 100 / self.total().max(1)
+        let time = match work {
+            Work::Compile => self.compile,
+            Work::Link => self.link,
+            Work::Archive => self.archive,
+            Work::Generate => self.generate,
+            Work::Test => self.test,
+            Work::Other => self.other,
+        };
+        time * 100 / self.total().max(1)
     }
 }

@@ -4,7 +4,7 @@ ghost use Rattle.nl_reports.specs.Frame.{first_began};
 ghost use Rattle.nl_reports.specs.Jobs.{build_jobs, seen, told};
 ghost use Rattle.nl_reports.specs.Rows.{by_start, spans};
 ghost use Rattle.nl_reports.specs.Spans.{IsEarly};
-ghost use Rattle.nl_reports.specs.Turns.{clock_behind, jobs_in_turn, jobs_turned, turned, turned_job, turned_jobs};
+ghost use Rattle.nl_reports.specs.Turns.{clock_behind, jobs_in_turn, jobs_turned, turned, turned_jobs};
 
 use crate::choice::{Choice, Scope, chosen};
 use crate::job::{Job, JobsResult, between, jobs_by_start, jobs_of};
@@ -68,7 +68,13 @@ fn push_build<'s, 'a>(
     let began = began_of(jobs);
     let mut last = clock;
     for job in jobs {
-        let moved = turned_job(job, began, clock);
+        let moved = Job {
+            span: Span {
+                began: turned(job.span.began, began, clock),
+                ended: turned(job.span.ended, began, clock),
+            },
+            ..*job
+        };
         last = last.max(moved.span.closed());
         all.push(moved)?;
     }
@@ -79,21 +85,6 @@ fn began_of(jobs: &[Job]) -> u64
     ensures { result ≡ first_began (spans (map seen jobs.now)) }
 {
     jobs.first().map_or(0, |job| job.span.began)
-}
-
-fn turned_job<'s, 'a>(job: &Job<'s, 'a>, began: u64, clock: u64) -> Job<'s, 'a>
-    requires early { IsEarly job.now.span }
-    requires clock { clock < 2 ^ 32 }
-    ensures value { seen result ≡ turned_job began clock (seen job.now) }
-    ensures early { IsEarly result.span }
-{
-    Job {
-        span: Span {
-            began: turned(job.span.began, began, clock),
-            ended: turned(job.span.ended, began, clock),
-        },
-        ..*job
-    }
 }
 
 fn turned(at: u64, began: u64, clock: u64) -> u64
