@@ -42,17 +42,10 @@ pub(crate) fn append_ticks(frame: &Frame, out: &mut Vec<u8>) -> AllocResult
 {
     let step = step_of(frame.wall);
     for i in 0..frame.wall / step + 1 {
-        append_tick(frame, i * step, out)?;
+        let ms = i * step;
+        let x = u128::from(frame.x_of(ms));
+        put!(out; b"<path class=\"g\" d=\"M" {x} b" 1000V" {frame.foot()} b"\"/><text class=\"m\" x=\""
+            {x} b"\" y=\"950\" text-anchor=\"middle\">" [Part::Time(ms)] b"</text>\n")?;
     }
     Ok(())
-}
-
-fn append_tick(frame: &Frame, ms: u64, out: &mut Vec<u8>) -> AllocResult
-    requires early { IsFrame frame.now }
-    requires within { ms < 2 ^ 32 }
-    ensures items { OnOk result (out.new.items ≡ out.old.items ++ tick frame.now ms) }
-{
-    let x = u128::from(frame.x_of(ms));
-    put!(out; b"<path class=\"g\" d=\"M" {x} b" 1000V" {frame.foot()} b"\"/><text class=\"m\" x=\""
-        {x} b"\" y=\"950\" text-anchor=\"middle\">" [Part::Time(ms)] b"</text>\n")
 }
