@@ -1,6 +1,6 @@
 //! What `builds` tells at a terminal.
 ghost use Rattle.std.specs.Prelude.{◌≡◌, ◌<◌, ◌++◌, List, ℕ, IfOk, OnOk, length};
-ghost use Rattle.nl_reports.specs.BuildsTable.{AreRows, IsBegun, IsBuildsScreen, IsRow, IsShownBy, date_text, moment_of, row_text};
+ghost use Rattle.nl_reports.specs.BuildsTable.{AreRows, IsBegun, IsBuildsScreen, IsRow, date_text, row_text};
 ghost use Rattle.nl_reports.specs.Jobs.{told};
 
 use crate::builds_text::border_word;
@@ -89,17 +89,11 @@ fn began_text(alloc: Global, zone: &TimeZone, began: Option<u64>) -> AllocResult
         append(b"unknown", &mut text)?;
         return Ok(text);
     };
-    let shown = shown_at(zone, began);
+    let shown = zone.to_datetime(Timestamp {
+        nanosecond: i128::from(began) - ZERO,
+    });
     append_date(&shown, &mut text)?;
     Ok(text)
-}
-
-fn shown_at(zone: &TimeZone, began: u64) -> DateTime
-    ensures value { IsShownBy zone.now (moment_of began) result }
-{
-    zone.to_datetime(Timestamp {
-        nanosecond: i128::from(began) - ZERO,
-    })
 }
 
 fn append_date(shown: &DateTime, out: &mut Vec<u8>) -> AllocResult

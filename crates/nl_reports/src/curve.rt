@@ -27,18 +27,10 @@ fn append_points(frame: &Frame, moments: &Moments, out: &mut Vec<u8>) -> AllocRe
     ensures items { (cs : List Span) → AreMoments cs moments.now → OnOk result (out.new.items ≡ out.old.items ++ points frame.now cs 480) }
 {
     for i in 0..480_u64 {
-        append_point(frame, moments, i, out)?;
+        let count = moments.running(frame.began + i * frame.wall / 480);
+        put!(out; b"V" {height(frame, count)} b"H" {1030 + i * 30})?;
     }
     Ok(())
-}
-
-fn append_point(frame: &Frame, moments: &Moments, i: u64, out: &mut Vec<u8>) -> AllocResult
-    requires early { IsFrame frame.now }
-    requires within { i < 480 }
-    ensures items { (cs : List Span) → AreMoments cs moments.now → OnOk result (out.new.items ≡ out.old.items ++ point frame.now cs i) }
-{
-    let count = moments.running(frame.began + i * frame.wall / 480);
-    put!(out; b"V" {height(frame, count)} b"H" {1030 + i * 30})
 }
 
 fn height(frame: &Frame, count: u64) -> u128

@@ -1,7 +1,7 @@
 //! Where things stand in a picture, and how moments are told.
 ghost use Rattle.std.specs.Prelude.{◌≡◌, ◌<◌, ◌≤◌, ◌^◌, ◌++◌, OnOk, All};
 ghost use Rattle.nl_reports.specs.Spans.{IsEarly};
-ghost use Rattle.nl_reports.specs.Frame.{IsFrame, first_began, foot_of, frame_of, height, is_named, last_closed, line_at, pitch, seconds, top_of, x_at, x_of, y_at};
+ghost use Rattle.nl_reports.specs.Frame.{IsFrame, first_began, foot_of, frame_of, height, is_named, last_closed, line_at, pitch, seconds, x_at, x_of, y_at};
 
 use crate::span::Span;
 use nl_tool_texts::{AllocResult, append_with};
@@ -25,7 +25,7 @@ impl Frame {
         Frame {
             began,
             wall: last_closed(spans).saturating_sub(began),
-            top: top_of(lanes),
+            top: lanes.iter().fold(0, |top: u64, lane: &u64| top.max(*lane)),
         }
     }
 
@@ -113,12 +113,6 @@ fn last_closed(spans: &[Span]) -> u64
         last = last.max(span.closed());
     }
     last
-}
-
-fn top_of(lanes: &[u64]) -> u64
-    ensures value { result ≡ top_of lanes.now }
-{
-    lanes.iter().fold(0, |top: u64, lane: &u64| top.max(*lane))
 }
 
 pub(crate) fn append_seconds(ms: u64, out: &mut Vec<u8>) -> AllocResult

@@ -1,7 +1,7 @@
 //! The numbers of builds.
 ghost use Rattle.std.specs.Prelude.{◌≡◌, map, IfOk, All};
 ghost use Rattle.nl_reports.specs.Jobs.{build_jobs, seen, told};
-ghost use Rattle.nl_reports.specs.Numbers.{IsSmall, count_outputs, numbers_of, spans_of};
+ghost use Rattle.nl_reports.specs.Numbers.{IsSmall, numbers_of, spans_of};
 ghost use Rattle.nl_reports.specs.Spans.{IsEarly};
 
 use crate::job::{Job, commands_to, entries_to};
@@ -38,21 +38,15 @@ pub fn numbers_of(from: &Builds, number: usize, jobs: &[Job]) -> Numbers
         ended = ended.max(job.span.ended);
         total += u128::from(job.span.time());
     }
-    Numbers {
-        commands: jobs.len(),
-        outputs: count_outputs(from, number),
-        wall: ended.saturating_sub(began),
-        total,
-    }
-}
-
-fn count_outputs(from: &Builds, number: usize) -> usize
-    ensures { result ≡ count_outputs (told from.now) number }
-{
     let first = commands_to(number.saturating_sub(1), from.builds.as_slice());
     let end = commands_to(number, from.builds.as_slice());
     let start = entries_to(first, from.commands.as_slice());
-    entries_to(end, from.commands.as_slice()).saturating_sub(start)
+    Numbers {
+        commands: jobs.len(),
+        outputs: entries_to(end, from.commands.as_slice()).saturating_sub(start),
+        wall: ended.saturating_sub(began),
+        total,
+    }
 }
 
 pub fn spans_of(alloc: Global, jobs: &[Job]) -> AllocResult<Vec<Span>>

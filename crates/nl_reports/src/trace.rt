@@ -89,7 +89,16 @@ fn write_events<W: Write>(
     let mut near = NearBoth::default();
     for i in 0..jobs.len() {
         let lane = lane_at(lanes.as_slice(), i);
-        append_events(build, &moments, &mut near, lane, &jobs[i], &mut held)?;
+        let job = &jobs[i];
+        append_command(build, lane, job, &mut held)?;
+        append_running(build, &moments, &mut near.began, job.span.began, &mut held)?;
+        append_running(
+            build,
+            &moments,
+            &mut near.closed,
+            job.span.closed(),
+            &mut held,
+        )?;
         write_full(&mut held, writer)?;
     }
     append(b"]", &mut held)?;
@@ -101,22 +110,4 @@ fn write_events<W: Write>(
 struct NearBoth {
     began: Near,
     closed: Near,
-}
-
-fn append_events(
-    build: BuildEvent,
-    moments: &Moments,
-    near: &mut NearBoth,
-    lane: u64,
-    job: &Job,
-    out: &mut Vec<u8>,
-) -> AllocResult
-    requires early { IsEarly job.now.span }
-    requires lane { lane < 2 ^ 63 }
-    ensures items { (cs : List Span) → AreMoments cs moments.now → OnOk result
-        (out.new.items ≡ out.old.items ++ behind_commas (events_of build cs (seen job.now, lane))) }
-{
-    append_command(build, lane, job, out)?;
-    append_running(build, moments, &mut near.began, job.span.began, out)?;
-    append_running(build, moments, &mut near.closed, job.span.closed(), out)
 }

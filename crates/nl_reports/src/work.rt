@@ -1,6 +1,6 @@
 //! What a command does, by the extension of its first output.
 ghost use Rattle.std.specs.Prelude.{◌≡◌, map};
-ghost use Rattle.nl_reports.specs.Work.{is_in, later_work, place, word, work_of};
+ghost use Rattle.nl_reports.specs.Work.{is_in, place, word, work_of};
 
 use crate::kind::extension_of;
 
@@ -38,15 +38,7 @@ pub fn work_of(name: &[u8]) -> Work
         Work::Link
     } else if is_in(extension, ARCHIVED.as_slice()) {
         Work::Archive
-    } else {
-        later_work(extension)
-    }
-}
-
-fn later_work(extension: &[u8]) -> Work
-    ensures { result ≡ later_work extension.now }
-{
-    if is_in(extension, GENERATED.as_slice()) {
+    } else if is_in(extension, GENERATED.as_slice()) {
         Work::Generate
     } else if is_in(extension, TESTED.as_slice()) {
         Work::Test

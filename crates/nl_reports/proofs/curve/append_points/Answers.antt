@@ -1,5 +1,7 @@
-use Rattle.std.proofs.Common.{◌≡◌, ◌∙◌, ◌++◌, ℕ, ap, arith}
-use Rattle.nl_reports.specs.Curve.{points}
+use Rattle.std.proofs.Common.{◌≡◌, ◌∙◌, ◌+◌, ◌++◌, ◌*◌, ◌∷◌, [], ℕ, ap, arith, codes}
+use Rattle.std.specs.Prelude.{decimal}
+use Rattle.nl_reports.specs.Curve.{height_of, points}
+use Rattle.nl_tool_texts.specs.Texts.{joined}
 use Rattle.nl_reports.proofs.CurveLemmas.{no_points, one_more_point}
 use Rattle.nl_reports.proofs.curve.append_points.Goals as goal
 
@@ -8,7 +10,10 @@ loop-i-init c = λ cs are. no_points c.args.frame.now cs c.args.out.now.items
 
 pub loop-i-preserved : goal.loop-i-preserved
 loop-i-preserved c = λ cs are. one_more_point c.args.frame.now cs c.loop-i.i c.args.out.now.items c.loop-i.out.items
-    c.append_point.new.out.items (c.loop-i.invariant cs are) (c.in_ok-append_point.ensures.items cs are)
+    c.put.new.out.items (c.loop-i.invariant cs are)
+    (c.in_ok-put.ensures.items ∙ (λ k. c.loop-i.out.items ++ joined (codes "V"
+    ∷ decimal ((c.height.ensures.value ∙ ap (height_of c.args.frame.now) (c.running-count.ensures.value cs are)) k)
+    ∷ codes "H" ∷ decimal (1030 + c.loop-i.i * 30) ∷ [])))
 
 pub returns : goal.returns
 returns c =

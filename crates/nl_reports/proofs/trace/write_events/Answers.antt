@@ -12,7 +12,7 @@ use Rattle.nl_reports.specs.declared.events.BuildEvent.{BuildEvent}
 use Rattle.nl_reports.specs.declared.span.Span.{Span}
 use Rattle.nl_reports.proofs.LaneLemmas.{lane_below, lanes_length}
 use Rattle.nl_reports.proofs.PairLemmas.{pairs_done}
-use Rattle.nl_reports.proofs.TraceLemmas.{all_told, end_some, told_next}
+use Rattle.nl_reports.proofs.TraceLemmas.{all_told, end_some, three_more, told_next}
 use Rattle.nl_tool_texts.proofs.WritingLemmas.{all_held, err_writes, is_part, more_held, part_on, rest_written, then_moved}
 use Rattle.nl_reports.proofs.trace.write_events.Goals as goal
 
@@ -27,8 +27,8 @@ loop-i-init g c =
     (c.in_ok-lanes.ensures.value ∙ ap lanes (c.as_slice.ensures.value ∙ c.in_ok-spans.ensures.value))
     (c.in_ok-append_build.ensures.items ∙ ap (λ (l : List ℕ). l ++ event_text (build_event b)) c.in_ok-held.ensures.items)) (all_held _ told)
 
-pub append_events-requires-clause-lane : goal.append_events-requires-clause-lane
-append_events-requires-clause-lane g c =
+pub append_command-requires-clause-lane : goal.append_command-requires-clause-lane
+append_command-requires-clause-lane g c =
     let ran = spans (map seen c.args.jobs.now) in
     let is = c.as_slice-in-loop-i.ensures.value ∙ c.in_ok-lanes.ensures.value ∙ ap lanes (c.as_slice.ensures.value ∙ c.in_ok-spans.ensures.value) in
     let count : length ran ≡ length c.args.jobs.now =
@@ -56,13 +56,24 @@ loop-i-preserved g c =
     ) in
     let are : AreMoments ran c.in_ok-moments.moments = subst (λ (cs : List Span). AreMoments cs c.in_ok-moments.moments)
     (c.as_slice-2.ensures.value ∙ c.in_ok-spans.ensures.value) c.in_ok-moments.ensures.value in
+    let more : c.append_running-in-loop-i.new.out.items ≡ c.loop-i.held.items ++ behind_commas (events_of b ran (seen c.index-jobs-i.result, c.lane_at-lane.result)) =
+    three_more c.loop-i.held.items c.append_command.new.out.items c.append_running.new.out.items c.append_running-in-loop-i.new.out.items _ _ _
+    c.in_ok-append_command.ensures.items (c.in_ok-append_running.ensures.items ran are) (rw c.closed.ensures.value at (c.in_ok-append_running-2.ensures.items ran are)) in
     then_moved _ _ _ _ _ _ _ (more_held _ _ _ _ _ _ _ _ (93 ∷ []) (told_next b ran ks ls i c.lane_at-lane.result c.index-jobs-i.result within there
     c.index-jobs-i.is (c.lane_at-lane.ensures ∙ ap (λ (l : List ℕ). get_or l i 0) c.as_slice-in-loop-i.ensures.value
-    ∙ get_or_default ls i 0 c.lane_at-lane.result there)) (c.in_ok-append_events.ensures.items ran are) c.loop-i.invariant) c.in_ok-write_full.ensures.moved
+    ∙ get_or_default ls i 0 c.lane_at-lane.result there)) more c.loop-i.invariant) c.in_ok-write_full.ensures.moved
 
-pub returns-in_err-append_events-clause-writes : goal.returns-in_err-append_events-clause-writes
-returns-in_err-append_events-clause-writes g c =
-    err_writes _ _ _ _ c.from_residual-in_err-append_events.ensures.0 (is_part _ _ _ _ (end_some c.loop-i.held.items _) c.loop-i.invariant)
+pub returns-in_err-append_command-clause-writes : goal.returns-in_err-append_command-clause-writes
+returns-in_err-append_command-clause-writes g c =
+    err_writes _ _ _ _ c.from_residual-in_err-append_command.ensures.0 (is_part _ _ _ _ (end_some c.loop-i.held.items _) c.loop-i.invariant)
+
+pub returns-in_err-append_running-clause-writes : goal.returns-in_err-append_running-clause-writes
+returns-in_err-append_running-clause-writes g c =
+    err_writes _ _ _ _ c.from_residual-in_err-append_running.ensures.0 (is_part _ _ _ _ (end_some c.loop-i.held.items _) c.loop-i.invariant)
+
+pub returns-in_err-append_running-2-clause-writes : goal.returns-in_err-append_running-2-clause-writes
+returns-in_err-append_running-2-clause-writes g c =
+    err_writes _ _ _ _ c.from_residual-in_err-append_running-2.ensures.0 (is_part _ _ _ _ (end_some c.loop-i.held.items _) c.loop-i.invariant)
 
 pub returns-in_err-write_full-clause-writes : goal.returns-in_err-write_full-clause-writes
 returns-in_err-write_full-clause-writes g c =
@@ -84,9 +95,12 @@ returns-in_err-write_full-clause-writes g c =
     ) in
     let are : AreMoments ran c.in_ok-moments.moments = subst (λ (cs : List Span). AreMoments cs c.in_ok-moments.moments)
     (c.as_slice-2.ensures.value ∙ c.in_ok-spans.ensures.value) c.in_ok-moments.ensures.value in
+    let more : c.append_running-in-loop-i.new.out.items ≡ c.loop-i.held.items ++ behind_commas (events_of b ran (seen c.index-jobs-i.result, c.lane_at-lane.result)) =
+    three_more c.loop-i.held.items c.append_command.new.out.items c.append_running.new.out.items c.append_running-in-loop-i.new.out.items _ _ _
+    c.in_ok-append_command.ensures.items (c.in_ok-append_running.ensures.items ran are) (rw c.closed.ensures.value at (c.in_ok-append_running-2.ensures.items ran are)) in
     err_writes _ _ _ _ c.from_residual-in_err-write_full.ensures.0 (part_on _ _ _ _ _ _ (more_held _ _ _ _ _ _ _ _ (93 ∷ []) (told_next b ran ks ls i
     c.lane_at-lane.result c.index-jobs-i.result within there c.index-jobs-i.is (c.lane_at-lane.ensures ∙ ap (λ (l : List ℕ). get_or l i 0)
-    c.as_slice-in-loop-i.ensures.value ∙ get_or_default ls i 0 c.lane_at-lane.result there)) (c.in_ok-append_events.ensures.items ran are) c.loop-i.invariant)
+    c.as_slice-in-loop-i.ensures.value ∙ get_or_default ls i 0 c.lane_at-lane.result there)) more c.loop-i.invariant)
     c.in_err-write_full.ensures.prefix)
 
 pub returns-in_err-append-clause-writes : goal.returns-in_err-append-clause-writes
