@@ -1,7 +1,7 @@
 //! Where things stand in a picture, and how moments are told.
 ghost use Rattle.std.specs.Prelude.{◌≡◌, ◌<◌, ◌≤◌, ◌^◌, ◌++◌, OnOk, All};
 ghost use Rattle.nl_reports.specs.Spans.{IsEarly};
-ghost use Rattle.nl_reports.specs.Frame.{IsFrame, first_began, foot_of, frame_of, height, is_named, last_closed, line_at, pitch, seconds, x_at, x_of, y_at};
+ghost use Rattle.nl_reports.specs.Frame.{IsFrame, first_began, foot_of, frame_of, height, is_named, line_at, pitch, seconds, x_at, x_of, y_at};
 
 use crate::span::Span;
 use nl_tool_texts::{AllocResult, append_with};
@@ -22,9 +22,13 @@ impl Frame {
         ensures early { IsFrame result }
     {
         let began = first_began(spans);
+        let mut last = 0;
+        for span in spans {
+            last = last.max(span.closed());
+        }
         Frame {
             began,
-            wall: last_closed(spans).saturating_sub(began),
+            wall: last.saturating_sub(began),
             top: lanes.iter().fold(0, |top: u64, lane: &u64| top.max(*lane)),
         }
     }
@@ -101,18 +105,6 @@ pub(crate) fn first_began(spans: &[Span]) -> u64
     ensures bound { result < 2 ^ 32 }
 {
     spans.first().map_or(0, |first| first.began)
-}
-
-fn last_closed(spans: &[Span]) -> u64
-    requires early { All IsEarly spans.now }
-    ensures value { result ≡ last_closed spans.now }
-    ensures bound { result < 2 ^ 32 }
-{
-    let mut last = 0;
-    for span in spans {
-        last = last.max(span.closed());
-    }
-    last
 }
 
 pub(crate) fn append_seconds(ms: u64, out: &mut Vec<u8>) -> AllocResult

@@ -2,7 +2,7 @@ use Rattle.std.proofs.Common.{◌≡◌, ◌<◌, ◌^◌, drop, max}
 use Rattle.std.specs.List.{fold}
 use Rattle.nl_reports.specs.Spans.{closed_of}
 use Rattle.nl_reports.specs.Frame.{last_closed}
-use Rattle.nl_reports.proofs.frame.last_closed.Given as goal
+use Rattle.nl_reports.proofs.frame.Frame.of.Given as goal
 
 abbrev pub invariant-loop-span : goal.invariant-loop-span
 invariant-loop-span l = record {
