@@ -4,12 +4,12 @@ ghost use Rattle.nl_reports.specs.Frame.{first_began};
 ghost use Rattle.nl_reports.specs.Jobs.{build_jobs, seen, told};
 ghost use Rattle.nl_reports.specs.Rows.{by_start, spans};
 ghost use Rattle.nl_reports.specs.Spans.{IsEarly};
-ghost use Rattle.nl_reports.specs.Turns.{clock_behind, jobs_in_turn, jobs_turned, turned, turned_jobs};
+ghost use Rattle.nl_reports.specs.Turns.{clock_behind, jobs_in_turn, turned, turned_jobs};
 
 use crate::choice::{Choice, Scope, chosen};
 use crate::job::{Job, JobsResult, between, jobs_by_start, jobs_of};
 use crate::span::Span;
-use nl_builds::{Build, Builds};
+use nl_builds::Builds;
 use nl_tool_texts::AllocResult;
 use std::alloc::Global;
 
@@ -22,26 +22,11 @@ pub fn jobs_in_turn<'s, 'a>(alloc: Global, scope: Scope, from: &'s Builds<'a>) -
     ensures value { IfOk result (λ jobs. map seen jobs.items ≡ jobs_in_turn scope (told from.now)) }
     ensures early { IfOk result (λ jobs. All (λ j. IsEarly j.span) jobs.items) }
 {
-    match chosen(scope, from) {
-        Some(Choice { first, last }) => {
-            let builds = between(first.saturating_sub(1), last, from.builds.as_slice());
-            jobs_turned(alloc, from, first, builds)
-        }
-        None => Ok(Vec::new(alloc)),
-    }
-}
-
-fn jobs_turned<'s, 'a>(
-    alloc: Global,
-    from: &'s Builds<'a>,
-    first: usize,
-    builds: &[Build],
-) -> JobsResult<'s, 'a>
-    requires small { first < 2 ^ 63 }
-    ensures value { IfOk result (λ jobs. map seen jobs.items ≡ jobs_turned 0 (told from.now) first builds.now) }
-    ensures early { IfOk result (λ jobs. All (λ j. IsEarly j.span) jobs.items) }
-{
     let mut all = Vec::new(alloc);
+    let Some(Choice { first, last }) = chosen(scope, from) else {
+        return Ok(all);
+    };
+    let builds = between(first.saturating_sub(1), last, from.builds.as_slice());
     let mut clock = 0;
     let mut number = first;
     for _build in builds {
