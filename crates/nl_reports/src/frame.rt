@@ -1,10 +1,15 @@
-//! Where things stand in a picture, and how moments are told.
-ghost use Rattle.std.specs.Prelude.{◌≡◌, ◌<◌, ◌≤◌, ◌^◌, ◌++◌, OnOk, All};
-ghost use Rattle.nl_reports.specs.Spans.{IsEarly};
+//! Where things stand in a picture, its axis of time and its curve, and how moments are told.
+ghost use Rattle.std.specs.Prelude.{◌≡◌, ◌<◌, ◌≤◌, ◌^◌, ◌++◌, List, OnOk, All};
+ghost use Rattle.nl_reports.specs.Curve.{curve};
 ghost use Rattle.nl_reports.specs.Frame.{IsFrame, first_began, foot_of, frame_of, height, is_named, line_at, pitch, seconds, x_at, x_of, y_at};
+ghost use Rattle.nl_reports.specs.Moments.{AreMoments};
+ghost use Rattle.nl_reports.specs.Spans.{IsEarly};
+ghost use Rattle.nl_reports.specs.Ticks.{IsStep, step_in, step_of, ticks};
+ghost use Rattle.nl_reports.specs.declared.span.Span.{Span};
 
+use crate::moments::Moments;
 use crate::span::Span;
-use nl_tool_texts::{AllocResult, append_with};
+use nl_tool_texts::{AllocResult, Part, append_with, put};
 
 /// `wall` is in milliseconds, and `top` is the highest lane.
 #[derive(Clone, Copy, Drop)]
@@ -114,4 +119,66 @@ pub(crate) fn append_seconds(ms: u64, out: &mut Vec<u8>) -> AllocResult
     append_with(b".", ms % 1000 / 100, out)?;
     append_with(b"", ms % 100 / 10, out)?;
     append_with(b"", ms % 10, out)
+}
+
+// In milliseconds; a build has at most twelve steps.
+const STEPS: [u64; 26] = [
+    1, 2, 5, 10, 20, 50, 100, 200, 500, 1000, 2000, 5000, 10_000, 15_000, 30_000, 60_000, 120_000,
+    300_000, 900_000, 1_800_000, 3_600_000, 7_200_000, 18_000_000, 36_000_000, 72_000_000,
+    180000000,
+];
+
+const LONGEST: u64 = 360_000_000;
+
+/// The distance of two lines, in milliseconds.
+pub fn step_of(wall: u64) -> u64
+    ensures value { result ≡ step_of wall }
+    ensures some { 0 < result }
+{
+    step_in(wall, STEPS.as_slice())
+}
+
+fn step_in(wall: u64, steps: &[u64]) -> u64
+    requires small { All IsStep steps.now }
+    ensures value { result ≡ step_in wall steps.now }
+    ensures some { 0 < result }
+{
+    for step in steps {
+        if wall <= *step * 12 {
+            return *step;
+        }
+    }
+    LONGEST
+}
+
+pub(crate) fn append_ticks(frame: &Frame, out: &mut Vec<u8>) -> AllocResult
+    requires early { IsFrame frame.now }
+    ensures items { OnOk result (out.new.items ≡ out.old.items ++ ticks frame.now) }
+{
+    let step = step_of(frame.wall);
+    for i in 0..frame.wall / step + 1 {
+        let ms = i * step;
+        let x = u128::from(frame.x_of(ms));
+        put!(out; b"<path class=\"g\" d=\"M" {x} b" 1000V" {frame.foot()} b"\"/><text class=\"m\" x=\""
+            {x} b"\" y=\"950\" text-anchor=\"middle\">" [Part::Time(ms)] b"</text>\n")?;
+    }
+    Ok(())
+}
+
+pub(crate) fn append_curve(frame: &Frame, moments: &Moments, out: &mut Vec<u8>) -> AllocResult
+    requires early { IsFrame frame.now }
+    ensures items { (cs : List Span) → AreMoments cs moments.now → OnOk result (out.new.items ≡ out.old.items ++ curve frame.now cs) }
+{
+    let foot = frame.foot();
+    let most = u128::from(frame.top) + 1;
+    put!(out; b"<path class=\"q\" d=\"M1000 " {foot})?;
+    for i in 0..480_u64 {
+        let count = moments.running(frame.began + i * frame.wall / 480);
+        let high = u128::from(count) * 800 / most;
+        put!(out; b"V" {foot.saturating_sub(high)} b"H" {1030 + i * 30})?;
+    }
+    put!(out; b"V" {foot} b"z\"/>\n<text class=\"m\" x=\"950\" y=\"" {foot.saturating_sub(720)}
+        b"\" text-anchor=\"end\">" {most}
+        b" at a time</text>\n<text class=\"m\" x=\"950\" y=\"" {foot}
+        b"\" text-anchor=\"end\">0</text>\n")
 }

@@ -15,15 +15,13 @@ ghost use Rattle.nl_tool_texts.specs.Writing.{IsFoundFault, IsWriteFault, Moves,
 use crate::bars::{Short, append_bar, append_short};
 use crate::choice::{Scope, chosen};
 use crate::critical::{FoundPath, Ran, critical_of};
-use crate::curve::append_curve;
-use crate::frame::Frame;
+use crate::frame::{Frame, append_curve, append_ticks};
 use crate::graph::NinjaGraph;
 use crate::job::Job;
 use crate::lanes::{lane_at, lanes_of};
 use crate::moments::Moments;
 use crate::numbers::spans_of;
 use crate::summary::taken_in;
-use crate::ticks::append_ticks;
 use crate::times::Times;
 use crate::turns::jobs_in_turn;
 use crate::work::{Work, place, word};

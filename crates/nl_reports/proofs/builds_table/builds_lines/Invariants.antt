@@ -1,7 +1,7 @@
 use Rattle.std.proofs.Common.{◌≡◌, ◌+◌, ◌++◌, drop}
 use Rattle.nl_reports.specs.BuildsText.{builds_text, lines_from}
 use Rattle.nl_reports.specs.Jobs.{told}
-use Rattle.nl_reports.proofs.builds_text.builds_lines.Given as goal
+use Rattle.nl_reports.proofs.builds_table.builds_lines.Given as goal
 
 -- the lines so far, and those of what is left
 abbrev pub invariant-loop-build : goal.invariant-loop-build

@@ -6,7 +6,7 @@ use Rattle.nl_reports.specs.BuildsText.{border_word, numbers_line, told_line, ta
 use Rattle.nl_reports.specs.Jobs.{seen}
 use Rattle.nl_reports.specs.declared.numbers.Numbers.{Numbers}
 use Rattle.nl_tool_texts.specs.Texts.{joined}
-use Rattle.nl_reports.proofs.builds_text.append_build.Goals as goal
+use Rattle.nl_reports.proofs.builds_table.append_build.Goals as goal
 
 -- the fields up to the word
 abbrev fields : ℕ → ℕ → ℕ → ℕ → ℕ → List ℕ → List ℕ

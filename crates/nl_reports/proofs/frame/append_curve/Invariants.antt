@@ -2,7 +2,7 @@ use Rattle.std.proofs.Common.{◌≡◌, ◌++◌, List}
 use Rattle.nl_reports.specs.declared.span.Span.{Span}
 use Rattle.nl_reports.specs.Moments.{AreMoments}
 use Rattle.nl_reports.specs.Curve.{points}
-use Rattle.nl_reports.proofs.curve.append_points.Given as goal
+use Rattle.nl_reports.proofs.frame.append_curve.Given as goal
 
 -- the points before this one
 abbrev pub invariant-loop-i : goal.invariant-loop-i

@@ -1,6 +1,6 @@
 use Rattle.std.proofs.Common.{◌≡◌, ◌++◌}
 use Rattle.nl_reports.specs.Ticks.{ticks_of}
-use Rattle.nl_reports.proofs.ticks.append_ticks.Given as goal
+use Rattle.nl_reports.proofs.frame.append_ticks.Given as goal
 
 -- the lines before this one
 abbrev pub invariant-loop-i : goal.invariant-loop-i

@@ -2,7 +2,7 @@ use Rattle.std.proofs.Common.{◌∙◌, ◌++◌, ◌*◌, ◌∷◌, [], codes
 use Rattle.std.specs.Prelude.{decimal}
 use Rattle.nl_tool_texts.specs.Texts.{joined, time_text}
 use Rattle.nl_reports.proofs.CurveLemmas.{no_ticks, one_more_tick}
-use Rattle.nl_reports.proofs.ticks.append_ticks.Goals as goal
+use Rattle.nl_reports.proofs.frame.append_ticks.Goals as goal
 
 pub loop-i-init : goal.loop-i-init
 loop-i-init c = no_ticks c.args.frame.now c.step_of-step.result c.args.out.now.items
