@@ -1,5 +1,5 @@
 -- The text of `summary`.
-use Rattle.std.proofs.Common.{◌≡◌, ◌∙◌, ℕ, List, [], ◌∷◌, ◌++◌, ap, append_assoc, length, map, option_map, refl, suc, sym, take, zero, ◌≤◌, ◌<◌, arith}
+use Rattle.std.proofs.Common.{◌≡◌, ◌∙◌, ℕ, List, [], ◌∷◌, ◌++◌, ap, append_assoc, length, map, option_map, refl, suc, take, zero, ◌≤◌, ◌<◌, arith}
 use Rattle.std.specs.Prelude.{OnOk, Result, Ok, Err, slice_get}
 use Rattle.nl_builds.specs.Builds.{Told as BuildsTold}
 use Rattle.nl_builds.specs.declared.build.Build.{Build}
