@@ -1,9 +1,8 @@
 //! The command line of `nlog`: its words and their values, read by `clap`.
 #![tactic(auto)]
 
-mod changing;
 mod command_line;
-mod looking;
+mod rows;
 mod shape;
 mod values;
 mod version;

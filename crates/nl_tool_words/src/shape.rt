@@ -4,8 +4,7 @@ ghost use Rattle.clap.specs.Words.{app_of, new_app, rule_of};
 ghost use Rattle.clap.specs.declared.builder.command.Command.TheViews.{out-Command};
 ghost use Rattle.nl_tool_words.specs.Rows.{app_by, nlog, rule_by, with_rules, with_words, word_by};
 
-use crate::changing::CHANGING;
-use crate::looking::LOOKING;
+use crate::rows::WORDS;
 use crate::values::value;
 use clap::{Arg, ArgAction, Command};
 use std::alloc::{AllocError, Global};
@@ -15,7 +14,7 @@ use std::alloc::{AllocError, Global};
 pub struct WordRow {
     pub name: &'static str,
     pub about: &'static str,
-    /// What stands after the options, if anything does.
+    /// What stands after the options: nothing, if it is empty.
     pub after: &'static str,
     /// All but the flag for the reason of a refusal, which each word takes.
     pub takes: &'static [Value],
@@ -76,21 +75,11 @@ with `--verbose`, after the command); 2 wrong words; 3 `mend`, `damage`, `doubt`
 pub fn nlog_command<'a>(alloc: Global) -> Result<Command<'a>, AllocError>
     ensures { IfOk result (λ c. app_of c ≡ nlog) }
 {
-    let nlog = Command::new(alloc, "nlog")
+    let mut nlog = Command::new(alloc, "nlog")
         .version(VERSION)
         .about("Reads, checks and changes build logs of Ninja, versions 4 to 7")
         .after_help(AFTER);
-    with_words(alloc, with_words(alloc, nlog, &LOOKING)?, &CHANGING)
-}
-
-fn with_words<'a>(
-    alloc: Global,
-    mut nlog: Command<'a>,
-    rows: &[WordRow],
-) -> Result<Command<'a>, AllocError>
-    ensures { IfOk result (λ c. app_of c ≡ with_words (app_of nlog.entry) (map word_by rows.now)) }
-{
-    let mut rest = rows;
+    let mut rest: &[WordRow] = &WORDS;
     'rows: while let Some((row, later)) = rest.split_first() {
         nlog = nlog.subcommand(command_of(alloc, row)?)?;
         rest = later;
@@ -102,35 +91,15 @@ fn command_of<'a>(alloc: Global, row: &WordRow) -> Result<Command<'a>, AllocErro
     ensures shape { IfOk result (λ c. app_of c ≡ app_by (word_by row.now)) }
     ensures local { IfOk result (λ c. (out-Command c).has_globals ≡ false) }
 {
-    let command = with_values(alloc, begun_command(alloc, row), row.takes)?;
-    command.arg(arg_of(alloc, &value!(VERBOSE)))
-}
-
-fn begun_command<'a>(alloc: Global, row: &WordRow) -> Command<'a>
-    ensures shape { app_of result ≡ new_app row.now.name.now }
-    ensures local { (out-Command result).has_globals ≡ false }
-{
-    let command = Command::new(alloc, row.name).about(row.about);
-    if row.after.is_empty() {
-        return command;
-    }
-    command.after_help(row.after)
-}
-
-fn with_values<'a>(
-    alloc: Global,
-    mut command: Command<'a>,
-    values: &[Value],
-) -> Result<Command<'a>, AllocError>
-    ensures shape { IfOk result (λ c. app_of c ≡ with_rules (app_of command.entry) (map rule_by values.now)) }
-    ensures local { IfOk result (λ c. (out-Command c).has_globals ≡ (out-Command command.entry).has_globals) }
-{
-    let mut rest = values;
+    let mut command = Command::new(alloc, row.name)
+        .about(row.about)
+        .after_help(row.after);
+    let mut rest = row.takes;
     'values: while let Some((value, later)) = rest.split_first() {
         command = command.arg(arg_of(alloc, value))?;
         rest = later;
     }
-    Ok(command)
+    command.arg(arg_of(alloc, &value!(VERBOSE)))
 }
 
 fn arg_of<'a>(alloc: Global, value: &Value) -> Arg<'a>
