@@ -12,7 +12,7 @@ use Rattle.nl_tool_words.proofs.DefinitionLemmas.{nlog_is_free, nlog_is_simple}
 use Rattle.nl_tool_words.proofs.ValueLemmas.{entered_is}
 use Rattle.nl_tool_words.specs.CommandLine.{IsAsked, IsGiven, entered_of, given_in, is_version_for, version_fault, version_id, version_text}
 use Rattle.nl_tool_words.specs.Rows.{nlog}
-use Rattle.nl_tool_words.specs.declared.version.AskedVersion.{AskedVersion}
+use Rattle.nl_tool_words.specs.declared.command_line.AskedVersion.{AskedVersion}
 
 -- the option's value in the command that was entered
 pub asked_from : (m : ArgMatches) (name : Text) (rows : List Row) (text : Option (Bor Text)) → Some name ≡ subcommand_name_of m

@@ -9,8 +9,8 @@ use Rattle.clap.specs.Words.{Kinds, Row, Rule, Text, fault_of, first_of, subcomm
 use Rattle.clap.specs.Kinds.{or_else}
 use Rattle.clap.specs.declared.error.kind.ErrorKind.TheVariants.{ArgumentConflict, InvalidValue, MissingRequiredArgument}
 use Rattle.nl_tool_words.specs.Rows.{nlog, word_rows}
-use Rattle.nl_tool_words.specs.declared.version.AskedVersion.{AskedVersion}
-use Rattle.nl_tool_words.specs.declared.version.AskedVersion.TheVariants.{Auto, Five, Six, Seven}
+use Rattle.nl_tool_words.specs.declared.command_line.AskedVersion.{AskedVersion}
+use Rattle.nl_tool_words.specs.declared.command_line.AskedVersion.TheVariants.{Auto, Five, Six, Seven}
 use Rattle.nl_tool_words.specs.declared.words.Changing.{Changing}
 use Rattle.nl_tool_words.specs.declared.words.Changing.TheVariants.{Prune, Retime, Repair, Apply}
 use Rattle.nl_tool_words.specs.declared.words.Choices.{Choices}

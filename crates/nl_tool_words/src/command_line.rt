@@ -1,12 +1,11 @@
 //! What a command line says, read by `clap`.
-ghost use Rattle.std.specs.Prelude.{◌≡◌, codes, map, option_map, string_bytes, IfErr, IfOk};
+ghost use Rattle.std.specs.Prelude.{◌≡◌, codes, is_some, map, option_map, string_bytes, IfErr, IfOk, IfSome};
 ghost use Rattle.clap.specs.Kinds.{or_else};
 ghost use Rattle.clap.specs.Words.{kind_of, subcommand_rows_of, FailsBy};
-ghost use Rattle.nl_tool_words.specs.CommandLine.{IsAsked, IsSaid, choice_fault, entered_of, fault_in, given_in, input_fault, is_flagged, jobs_fault, path_in_place, version_fault, version_id};
+ghost use Rattle.nl_tool_words.specs.CommandLine.{IsAsked, IsSaid, choice_fault, entered_of, fault_in, given_in, input_fault, is_flagged, is_version_for, jobs_fault, path_in_place, tells_version, version_fault, version_id, version_text};
 
 use crate::shape::nlog_command;
-use crate::version::{AskedVersion, tells_version, version_for};
-use crate::words::{Words, optional, words_in};
+use crate::words::{Words, optional, reading_of, words_in};
 use clap::error::ErrorKind;
 use clap::{ArgMatches, Error};
 use std::alloc::Global;
@@ -23,6 +22,17 @@ pub struct CommandLine<'a> {
     pub missing_ok: bool,
     /// Whether tabs stand between fields at a terminal too.
     pub tabs: bool,
+}
+
+/// The version of logs that the option `--log-version` names.
+#[derive(Clone, Copy, Debug, PartialEq, Eq)]
+pub enum AskedVersion {
+    /// Version 5, and 4 beside it.
+    Five,
+    Six,
+    Seven,
+    /// The one that the log's first line names: 5 where there is none.
+    Auto,
 }
 
 /// Reads a command line, of which the first word is the program's name.
@@ -84,10 +94,40 @@ fn version_in<'a>(alloc: Global, matches: &ArgMatches<'a>) -> Result<Option<Aske
     let Some(text) = optional(inner, "log-version") else {
         return Ok(None);
     };
-    match version_for(name, text) {
-        Some(version) => Ok(Some(version)),
-        None => Err(no_version(alloc, name, text)?),
+    if let Some(version) = version_for(name, text) {
+        return Ok(Some(version));
     }
+    let those = if tells_version(name) {
+        "auto"
+    } else {
+        "5, 6, 7 or auto"
+    };
+    let message = format!(in alloc;
+        "invalid value '{text}' for '--log-version <VERSION>': it is {those}"
+    )?;
+    Err(refusal(alloc, ErrorKind::InvalidValue, message.as_str())?)
+}
+
+// The version that is written so, where the command of this name takes it.
+fn version_for(command: &str, text: &str) -> Option<AskedVersion>
+    ensures value { IfSome result (λ version. text.now ≡ version_text version) }
+    ensures accepts { is_some result ≡ is_version_for command.now text.now }
+{
+    match text {
+        "auto" => Some(AskedVersion::Auto),
+        _ if tells_version(command) => None,
+        "5" => Some(AskedVersion::Five),
+        "6" => Some(AskedVersion::Six),
+        "7" => Some(AskedVersion::Seven),
+        _ => None,
+    }
+}
+
+// Whether the command of this name has no version but the one that its log names.
+fn tells_version(command: &str) -> bool
+    ensures value { result ≡ tells_version command.now }
+{
+    reading_of(command).is_some() || command == "compare"
 }
 
 // Refuses choices that can't be met: both a build and all of them, and a rule for kinds that there isn't.
@@ -124,22 +164,6 @@ fn known_input(alloc: Global, matches: &ArgMatches<'_>) -> Result<(), Error>
         return Err(refusal(alloc, ErrorKind::MissingRequiredArgument, message)?);
     }
     Ok(())
-}
-
-// What is said of a version that the command of this name doesn't take.
-fn no_version(alloc: Global, command: &str, text: &str) -> Result<Error, Error>
-    ensures value { IfOk result (λ e. kind_of e ≡ ErrorKind.InvalidValue) }
-    ensures memory { IfErr result (λ e. kind_of e ≡ ErrorKind.OutOfMemory) }
-{
-    let those = if tells_version(command) {
-        "auto"
-    } else {
-        "5, 6, 7 or auto"
-    };
-    let message = format!(in alloc;
-        "invalid value '{text}' for '--log-version <VERSION>': it is {those}"
-    )?;
-    refusal(alloc, ErrorKind::InvalidValue, message.as_str())
 }
 
 fn refusal(alloc: Global, kind: ErrorKind, message: &str) -> Result<Error, Error>

@@ -5,9 +5,7 @@ mod command_line;
 mod rows;
 mod shape;
 mod values;
-mod version;
 mod words;
 
-pub use command_line::{CommandLine, path_in_place, read_words};
-pub use version::AskedVersion;
+pub use command_line::{AskedVersion, CommandLine, path_in_place, read_words};
 pub use words::{Changing, Choices, Reading, Words};

@@ -1,7 +1,14 @@
 //! The words of the program, a row each, in the order of the help: those that look and change nothing, those that change a log, and
 //! `replay`.
-use crate::shape::{Given, Value, WordRow, rows};
+use crate::shape::{Given, Value, WordRow};
 use crate::values::value;
+
+// Rows of words: the name, what it takes, and the texts of its help.
+macro_rules! rows {
+    ($($name:literal [$($takes:ident)*] => $about:literal, $after:literal;)+) => {
+        [$(WordRow { name: $name, about: $about, after: $after, takes: &[$(value!($takes)),*] }),+]
+    };
+}
 
 pub const WORDS: [WordRow; 21] = rows! {
     "show" [OPTIONAL_LOG VERSION] =>

@@ -20,15 +20,6 @@ pub struct WordRow {
     pub takes: &'static [Value],
 }
 
-// Rows of words: the name, what it takes, and the texts of its help.
-macro_rules! rows {
-    ($($name:literal [$($takes:ident)*] => $about:literal, $after:literal;)+) => {
-        [$(WordRow { name: $name, about: $about, after: $after, takes: &[$(value!($takes)),*] }),+]
-    };
-}
-
-pub(crate) use rows;
-
 /// A value, an option or a flag, with its text of the help.
 #[derive(Clone, Copy, Drop)]
 pub struct Value {

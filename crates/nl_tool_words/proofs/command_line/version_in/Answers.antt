@@ -34,11 +34,11 @@ returns-in-Some-version_for-clause-accepts c =
     let is = given_text rows _ _ c.optional.ensures c.in-Some-optional.is in
     some_right _ met.name.now rows c.in-Some-optional.text.now e is c.in-Some-version_for.ensures.accepts
 
-pub returns-in_ok-no_version-in-None-clause-accepts : goal.returns-in_ok-no_version-in-None-clause-accepts
-returns-in_ok-no_version-in-None-clause-accepts c =
+pub returns-clause-accepts : goal.returns-clause-accepts
+returns-clause-accepts c =
     let met = c.in-Some in
     let rows = rows_of (found_of met.inner.now) in
     let e = entered_is c.args.matches.now met.name.now rows met.ensures.name met.ensures.rows in
     let is = given_text rows _ _ c.optional.ensures c.in-Some-optional.is in
-    some_wrong _ met.name.now rows c.in-Some-optional.text.now c.in_ok-no_version-in-None.field-0 e is c.in-None.ensures.accepts
-    c.in_ok-no_version-in-None.ensures.value
+    some_wrong _ met.name.now rows c.in-Some-optional.text.now c.in_ok-refusal.field-0 e is c.in_default-version_for.ensures.accepts
+    c.in_ok-refusal.ensures.value
