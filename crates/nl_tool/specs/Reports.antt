@@ -13,6 +13,7 @@ use Rattle.nl_builds.specs.Stamps.{stamps_of}
 use Rattle.nl_builds.specs.declared.log.LogBuilds.{LogBuilds}
 use Rattle.nl_tool_texts.specs.Output.{Prints}
 use Rattle.nl_tool_change.specs.RecordWords.{IsToldOf}
+use Rattle.nl_tool_change.specs.declared.line_fault.NumberOf.{NumberOf}
 use Rattle.nl_tool_change.specs.declared.line_fault.NumberOf.TheVariants.{Lines, Build, Jobs, Least}
 use Rattle.nl_tool_change.specs.declared.line_fault.WrongNumber.{WrongNumber}
 use Rattle.nl_tool_texts.specs.declared.fault.ToolFault.{ToolFault}
@@ -43,15 +44,18 @@ use Rattle.nl_tool.specs.declared.reporting.Report.TheVariants.{Builds, Picture,
 
 -- ---- what is asked for
 
--- how many lines a list has at most: so many as is given, and ten where nothing is
-abbrev pub IsMost : Option (Bor (List ℕ)) → ℕ → Type 0
-IsMost None most = most ≡ 10
-IsMost (Some text) most = (most < 2 ^ 63) × IsDecimal (pos most) text.now
+-- how many there are: so many as is given, and as usual where nothing is
+abbrev pub IsCount : ℕ → Option (Bor (List ℕ)) → ℕ → Type 0
+IsCount usual None n = n ≡ usual
+IsCount usual (Some text) n = (n < 2 ^ 63) × IsDecimal (pos n) text.now
 
--- how many milliseconds a difference has at the least: so many as is given, and none where nothing is
+-- how many lines a list has at most: ten where nothing is given
+abbrev pub IsMost : Option (Bor (List ℕ)) → ℕ → Type 0
+IsMost lines most = IsCount 10 lines most
+
+-- how many milliseconds a difference has at the least: none where nothing is given
 abbrev pub IsLeast : Option (Bor (List ℕ)) → ℕ → Type 0
-IsLeast None least = least ≡ 0
-IsLeast (Some text) least = (least < 2 ^ 63) × IsDecimal (pos least) text.now
+IsLeast least ms = IsCount 0 least ms
 
 -- which build is told of: the one of a number, from 1, or the last one where none is given
 abbrev pub IsBuild : Option (Bor (List ℕ)) → Scope → Type 0
@@ -88,12 +92,16 @@ AreCounts (Some text) ns = ArePositive (slice_split (λ b. b == 44) text.now) ns
 
 -- ---- what is refused, and told
 
--- a value is no number of lines, or of milliseconds
+-- a value is no number of these
+abbrev pub IsNoCount : NumberOf → ℕ → Option (Bor (List ℕ)) → Option WrongNumber → ToolFault → Type 0
+IsNoCount which usual text told fault = IsToldOf which told fault × ((n : ℕ) → IsCount usual text n → ⊥)
+
+-- one is no number of lines, or of milliseconds
 abbrev pub IsNoMost : Option (Bor (List ℕ)) → Option WrongNumber → ToolFault → Type 0
-IsNoMost lines told fault = IsToldOf Lines told fault × ((most : ℕ) → IsMost lines most → ⊥)
+IsNoMost lines told fault = IsNoCount Lines 10 lines told fault
 
 abbrev pub IsNoLeast : Option (Bor (List ℕ)) → Option WrongNumber → ToolFault → Type 0
-IsNoLeast least told fault = IsToldOf Least told fault × ((ms : ℕ) → IsLeast least ms → ⊥)
+IsNoLeast least told fault = IsNoCount Least 0 least told fault
 
 -- one is no number of a build
 abbrev pub IsNoScope : Bool → Option (Bor (List ℕ)) → Option WrongNumber → ToolFault → Type 0

@@ -12,10 +12,11 @@ ghost use Rattle.nl_tool.specs.Reports.{IsLastOf, IsLeast, IsMost, laid_out, sid
 
 use crate::desk::{Desk, Means};
 use crate::notes::NotedWriter;
-use crate::numbers::{least_of, most_of};
+use crate::numbers::count_of;
 use crate::reporting::write_lines;
 use nl_builds::{Builds, read_builds};
 use nl_reports::{Side, compare_lines, lasting};
+use nl_tool_change::NumberOf;
 use nl_tool_texts::ToolFault;
 use nl_versions::{LogVersion, version_of};
 use std::io::{self, Write};
@@ -33,8 +34,8 @@ impl<R: Runtime> Desk<'_, R> {
         ensures least { OnOk result ((ms : ℕ) × IsLeast least.entry ms) }
         ensures faults { IfErr result (IsCompareFault lines.entry least.entry self.new.notes.told.number) }
     {
-        let most = most_of(lines, &mut self.notes.told)?;
-        let ms = least_of(least, &mut self.notes.told)?;
+        let most = count_of(lines, 10, NumberOf::Lines, &mut self.notes.told)?;
+        let ms = count_of(least, 0, NumberOf::Least, &mut self.notes.told)?;
         self.compare_logs(most, ms, old, new)
     }
 

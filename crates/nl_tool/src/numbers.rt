@@ -6,44 +6,29 @@ ghost use Rattle.nl_reports.specs.declared.choice.Scope.{Scope};
 ghost use Rattle.nl_tool_change.specs.RecordWords.{IsToldOf};
 ghost use Rattle.nl_tool_change.specs.declared.line_fault.NumberOf.{NumberOf};
 ghost use Rattle.nl_tool_texts.specs.declared.fault.ToolFault.{ToolFault};
-ghost use Rattle.nl_tool.specs.Reports.{ArePositive, IsBuild, IsLeast, IsMost, IsNoCounts, IsNoLeast, IsNoMost, IsNoScope, IsNotPositive, AreCounts, IsScope};
+ghost use Rattle.nl_tool.specs.Reports.{ArePositive, AreCounts, IsCount, IsNoCount, IsNoCounts, IsNoScope, IsNotPositive, IsScope};
 
 use nl_fields::read_i64;
 use nl_reports::Scope;
 use nl_tool_change::{NumberOf, Told, WrongNumber, build_fault, count_fault};
 use nl_tool_texts::ToolFault;
-use std::alloc::{AllocError, Global};
+use std::alloc::Global;
 
-pub fn most_of(lines: Option<&str>, told: &mut Told) -> Result<usize, ToolFault>
-    ensures value { IfOk result (IsMost lines.entry) }
-    ensures accepts { (most : ℕ) → IsMost lines.entry most → result ≡ Ok most }
-    ensures faults { IfErr result (IsNoMost lines.entry told.new.number) }
+pub fn count_of(
+    text: Option<&str>,
+    usual: usize,
+    which: NumberOf,
+    told: &mut Told,
+) -> Result<usize, ToolFault>
+    ensures value { IfOk result (IsCount usual text.entry) }
+    ensures accepts { (n : ℕ) → IsCount usual text.entry n → result ≡ Ok n }
+    ensures faults { IfErr result (IsNoCount which usual text.entry told.new.number) }
 {
-    match lines {
-        None => Ok(10),
-        Some(text) => count_for(text, NumberOf::Lines, told),
-    }
-}
-
-pub fn least_of(least: Option<&str>, told: &mut Told) -> Result<usize, ToolFault>
-    ensures value { IfOk result (IsLeast least.entry) }
-    ensures accepts { (ms : ℕ) → IsLeast least.entry ms → result ≡ Ok ms }
-    ensures faults { IfErr result (IsNoLeast least.entry told.new.number) }
-{
-    match least {
-        None => Ok(0),
-        Some(text) => count_for(text, NumberOf::Least, told),
-    }
-}
-
-fn count_for(text: &str, which: NumberOf, told: &mut Told) -> Result<usize, ToolFault>
-    ensures value { IfOk result (λ n. (n < 2 ^ 63) × IsDecimal (pos n) text.now) }
-    ensures accepts { (n : ℕ) → n < 2 ^ 63 → IsDecimal (pos n) text.now → result ≡ Ok n }
-    ensures faults { IfErr result (IsToldOf which told.new.number) }
-{
-    let text = text.as_bytes();
-    let Some(count) = count_in(text) else {
-        let (nth, why) = (None, count_fault(text));
+    let Some(text) = text else {
+        return Ok(usual);
+    };
+    let Some(count) = count_in(text.as_bytes()) else {
+        let (nth, why) = (None, count_fault(text.as_bytes()));
         return Err(told.refuse_number(WrongNumber { which, nth, why }));
     };
     Ok(count)
@@ -57,29 +42,11 @@ pub fn scope_of(all: bool, build: Option<&str>, told: &mut Told) -> Result<Scope
     if all {
         return Ok(Scope::All);
     }
-    build_of(build, told)
-}
-
-fn build_of(build: Option<&str>, told: &mut Told) -> Result<Scope, ToolFault>
-    ensures value { IfOk result (IsBuild build.entry) }
-    ensures accepts { (scope : Scope) → IsBuild build.entry scope → result ≡ Ok scope }
-    ensures faults { IfErr result (IsToldOf NumberOf.Build told.new.number) }
-{
-    match build {
-        None => Ok(Scope::Last),
-        Some(text) => numbered_by(text, told),
-    }
-}
-
-// The build of a number of 1 up to 2^63 - 1, in its one spelling.
-fn numbered_by(text: &str, told: &mut Told) -> Result<Scope, ToolFault>
-    ensures value { IfOk result (IsBuild (Some text.entry)) }
-    ensures accepts { (scope : Scope) → IsBuild (Some text.entry) scope → result ≡ Ok scope }
-    ensures faults { IfErr result (IsToldOf NumberOf.Build told.new.number) }
-{
-    let text = text.as_bytes();
-    let Some(number) = positive_of(text) else {
-        let (which, nth, why) = (NumberOf::Build, None, build_fault(text));
+    let Some(text) = build else {
+        return Ok(Scope::Last);
+    };
+    let Some(number) = positive_of(text.as_bytes()) else {
+        let (which, nth, why) = (NumberOf::Build, None, build_fault(text.as_bytes()));
         return Err(told.refuse_number(WrongNumber { which, nth, why }));
     };
     Ok(Scope::Numbered(number as u64))
@@ -101,19 +68,11 @@ pub fn counts_of(
     ensures value { IfOk result (λ counts. AreCounts jobs.entry counts.items) }
     ensures faults { IfErr result (IsNoCounts jobs.entry told.new.number) }
 {
-    match jobs {
-        None => Ok(Vec::new(alloc)),
-        Some(text) => {
-            let texts = texts_in(alloc, text.as_bytes())?;
-            positive_in(alloc, texts.as_slice(), told)
-        }
-    }
-}
-
-fn texts_in(alloc: Global, text: &[u8]) -> Result<Vec<&[u8]>, AllocError>
-    ensures value { IfOk result (λ texts. map (λ text. text.now) texts.items ≡ slice_split (λ b. b == 44) text.now) }
-{
-    text.split(|b| *b == b',').collect(alloc)
+    let Some(jobs) = jobs else {
+        return Ok(Vec::new(alloc));
+    };
+    let texts: Vec<&[u8]> = jobs.as_bytes().split(|b| *b == b',').collect(alloc)?;
+    positive_in(alloc, texts.as_slice(), told)
 }
 
 // Numbers of 1 up to 2^63 - 1, each in its one spelling.
@@ -123,18 +82,16 @@ fn positive_in(alloc: Global, texts: &[&[u8]], told: &mut Told) -> Result<Vec<us
 {
     let mut counts = Vec::new(alloc);
     for text in texts {
-        match positive_of(text) {
-            Some(count) => match counts.push(count) {
-                Ok(()) => {}
-                Err(_) => return Err(ToolFault::Memory),
-            },
-            None => {
-                return Err(told.refuse_number(WrongNumber {
-                    which: NumberOf::Jobs,
-                    nth: Some(counts.len().saturating_add(1)),
-                    why: build_fault(text),
-                }));
-            }
+        let Some(count) = positive_of(text) else {
+            return Err(told.refuse_number(WrongNumber {
+                which: NumberOf::Jobs,
+                nth: Some(counts.len().saturating_add(1)),
+                why: build_fault(text),
+            }));
+        };
+        match counts.push(count) {
+            Ok(()) => {}
+            Err(_) => return Err(ToolFault::Memory),
         }
     }
     Ok(counts)

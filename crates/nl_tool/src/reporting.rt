@@ -14,7 +14,7 @@ ghost use Rattle.nl_tool.specs.Reports.{AreBuilds, AreCounts, IsFound, IsLaidOut
 
 use crate::desk::{Desk, Means};
 use crate::notes::NotedWriter;
-use crate::numbers::{counts_of, most_of, scope_of};
+use crate::numbers::{count_of, counts_of, scope_of};
 use jiff_tz::{SystemTimeZone, TimeZone, TimeZoneDatabase};
 use nl_builds::{Builds, LogBuilds, Stamps, read_builds};
 use nl_reports::{
@@ -22,6 +22,7 @@ use nl_reports::{
     chosen_jobs, draw_builds, graph_lines, lasting, read_graph, summary_lines, taken_in,
     trace_builds,
 };
+use nl_tool_change::NumberOf;
 use nl_tool_texts::{ToolFault, in_columns, write_out};
 use nl_tool_words::Choices;
 use std::alloc::{AllocError, Global};
@@ -48,7 +49,7 @@ impl<R: Runtime> Desk<'_, R> {
         ensures counts { OnOk result ((counts : List ℕ) × AreCounts choices.entry.jobs counts) }
         ensures faults { IfErr result (IsSummaryFault choices.entry self.new.notes.told.number) }
     {
-        let most = most_of(choices.lines, &mut self.notes.told)?;
+        let most = count_of(choices.lines, 10, NumberOf::Lines, &mut self.notes.told)?;
         let scope = scope_of(choices.all, choices.build, &mut self.notes.told)?;
         let counts = counts_of(self.alloc, choices.jobs, &mut self.notes.told)?;
         let lists = Lists {

@@ -25,16 +25,16 @@ loop-text-preserved c =
           (subst (λ (k : ℕ). IsFirstWrong (map (λ text. text.now) (drop k texts)) (suc m)) next wrong)));
     }
 
-pub returns-in-None-clause-faults : goal.returns-in-None-clause-faults
-returns-in-None-clause-faults c = inr (
+pub returns-in_default-clause-faults : goal.returns-in_default-clause-faults
+returns-in_default-clause-faults c = inr (
   (c.refuse_number.ensures.value, rw c.refuse_number.ensures.why refl),
   rw c.refuse_number.ensures.why
       (subst (IsFirstWrong (map (λ text. text.now) c.args.texts.now)) (omega (arith, c.saturating_add.ensures, c.len.ensures, c.loop-text.counts.small))
       (c.loop-text.invariant.first 0 (wrong_here c.args.texts.now c.loop-text.text-index _ c.loop-text-test.true
-      (λ n is. none-some _ (c.in-None.ensures.accepts n is.0 is.1 is.2))))),
+      (λ n is. none-some _ (c.in_default.ensures.accepts n is.0 is.1 is.2))))),
   λ counts are.
       let there = positive_at c.args.texts.now counts c.loop-text.text-index _ c.loop-text-test.true are in
-      absurd (none-some _ (c.in-None.ensures.accepts there.0 there.1 there.2 there.3)),
+      absurd (none-some _ (c.in_default.ensures.accepts there.0 there.1 there.2 there.3)),
 )
 
 pub returns-clause-value : goal.returns-clause-value
