@@ -6,7 +6,6 @@ mod comparing;
 mod desk;
 mod doubting;
 mod ending;
-mod files;
 pub mod laws;
 mod looks;
 mod mending;
