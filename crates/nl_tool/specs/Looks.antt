@@ -2,8 +2,8 @@
 use Rattle.std.specs.Prelude.{ℕ, Bool, ◌&&◌, ◌||◌, ◌==◌, not, nat_lt, nat_eq, List, [], ◌∷◌, length, min, take, Option, None, Some, codes, if◌then◌else◌}
 use Rattle.std.specs.List.{ends_with, flat_map, starts_with}
 use Rattle.nl_tool_texts.specs.Columns.{by_number}
-use Rattle.nl_tool.specs.declared.looks.Look.{Look}
-use Rattle.nl_tool.specs.declared.looks.Look.TheVariants.{Gzip, Mark, Dependencies, Return}
+use Rattle.nl_tool.specs.declared.notes.Look.{Look}
+use Rattle.nl_tool.specs.declared.notes.Look.TheVariants.{Gzip, Mark, Dependencies, Return}
 
 -- the marks of UTF-8, and of UTF-16 in both orders
 abbrev pub has_mark : List ℕ → Bool

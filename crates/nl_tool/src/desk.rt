@@ -1,23 +1,52 @@
-//! What a command is done with.
+//! What a command is done with, and the screen before which it is done.
 ghost use Rattle.std.specs.Prelude.{◌≡◌, ◌&&◌, not, is_some, IfErr, IfOk};
 ghost use Rattle.nl_files.specs.FileFolder.{system_of};
 ghost use Rattle.nl_os.specs.OsSystem.{is_masked, paths_of, unsynced_of};
 ghost use Rattle.nl_os.specs.Paths.{ArePathsOf};
-ghost use Rattle.nl_tool.specs.VersionChoice.{asked_in};
+ghost use Rattle.nl_tool.specs.VersionChoice.{asked_in, number_of};
 ghost use Rattle.nl_tool_texts.specs.declared.fault.ToolFault.{ToolFault};
 
 use crate::notes::Notes;
-use crate::screen::width_of;
-use crate::version_choice::asked_in;
+use crate::numbers::positive_of;
 use crate::waiting::Waiting;
 use nl_os::{DiskFolder, SystemFile};
 use nl_table::Secret;
 use nl_tool_change::AskedFolder;
 use nl_tool_texts::ToolFault;
-use nl_tool_words::CommandLine;
+use nl_tool_words::{AskedVersion, CommandLine, Words};
 use nl_versions::LogVersion;
 use std::alloc::Global;
+use std::env;
 use std::rt::{Clock, Files, Runtime};
+
+// How many characters a line of a terminal has where nothing tells.
+const USUAL: usize = 80;
+
+/// Which of the standard streams are terminals.
+#[derive(Clone, Copy, Debug, PartialEq, Eq, Drop)]
+pub struct Screen {
+    /// Standard input is: a person types there, if anyone does.
+    pub input: bool,
+    /// Standard output is: a report is for a person.
+    pub output: bool,
+    /// Standard error is: it is told why something was refused, and how far a log is read, where that takes long.
+    pub errors: bool,
+}
+
+/// None is a terminal.
+pub const NO_SCREEN: Screen = Screen {
+    input: false,
+    output: false,
+    errors: false,
+};
+
+/// How many characters a line of the terminal has: as many as COLUMNS says.
+pub fn width_of<R: Runtime>(rt: &R) -> usize {
+    let Ok(text) = env::var(rt, "COLUMNS") else {
+        return USUAL;
+    };
+    positive_of(text.as_bytes()).unwrap_or(USUAL)
+}
 
 #[derive(Drop)]
 pub struct Desk<'r, R> {
@@ -57,14 +86,31 @@ impl<'r, R: Runtime> Desk<'r, R> {
         ensures notes { result.notes ≡ notes }
     {
         let is_read = notes.screen.output && !line.tabs;
+        let columns = is_read.then(|| width_of(rt));
+        let asked = match (line.words, line.version) {
+            (_, Some(asked)) => number_of(asked),
+            (Words::Change { .. }, None) => None,
+            (_, None) => Some(LogVersion::Five),
+        };
         Desk {
             rt,
             alloc,
-            asked: asked_in(line),
+            asked,
             missing_ok: line.missing_ok,
-            columns: is_read.then(|| width_of(rt)),
+            columns,
             notes,
         }
+    }
+}
+
+pub fn number_of(asked: AskedVersion) -> Option<LogVersion>
+    ensures { result ≡ number_of asked }
+{
+    match asked {
+        AskedVersion::Five => Some(LogVersion::Five),
+        AskedVersion::Six => Some(LogVersion::Six),
+        AskedVersion::Seven => Some(LogVersion::Seven),
+        AskedVersion::Auto => None,
     }
 }
 

@@ -8,13 +8,12 @@ ghost use Rattle.nl_tool.specs.Faults.{CanFind};
 ghost use Rattle.nl_tool.specs.Meant.{meant};
 ghost use Rattle.nl_tool_words.specs.CommandLine.{entered_of, fault_in};
 
-use crate::desk::Desk;
+use crate::desk::{Desk, Screen};
 use crate::notes::Notes;
 use crate::program::{Verdict, run_at};
 use crate::reason::{
     Refusal, Why, again_note, masked_note, note_of, reads_input, refusal_of, unsynced_note,
 };
-use crate::screen::Screen;
 use clap::Error;
 use clap::error::ErrorKind;
 use nl_os::SystemFile;

@@ -7,7 +7,6 @@ mod desk;
 mod doubting;
 mod ending;
 pub mod laws;
-mod looks;
 mod mending;
 mod notes;
 mod numbers;
@@ -17,14 +16,11 @@ mod progress;
 mod reading;
 mod reason;
 mod reporting;
-mod screen;
 mod settling;
-mod version_choice;
 mod waiting;
 
-pub use desk::{Desk, LogAt};
+pub use desk::{Desk, LogAt, NO_SCREEN, Screen, number_of};
 pub use ending::{run_line, run_program};
-pub use looks::{Look, look_of, start_of};
 pub use nl_os::DiskFolder;
 pub use nl_tool_change::{
     AskedFolder, FoundFolder, LineFault, LogPlace, Nobody, NumberFault, NumberOf, Told, UNTOLD,
@@ -39,10 +35,8 @@ pub use nl_tool_print::{
 pub use nl_tool_texts::{ToolFault, status_of};
 pub use nl_tool_words::{AskedVersion, Changing, Choices, CommandLine, Reading, Words, read_words};
 pub use nl_versions::{FirstLine, LogVersion, command_hash_in, first_line_in, version_of};
-pub use notes::{Beginning, Heard, NotedReader, NotedWriter, Notes};
+pub use notes::{Beginning, Heard, Look, NotedReader, NotedWriter, Notes, look_of, start_of};
 pub use program::{Verdict, run, run_at};
 pub use progress::Telling;
 pub use reason::{Place, Reason, Refusal, Why, note_of, refusal_of};
-pub use screen::{NO_SCREEN, Screen};
-pub use version_choice::number_of;
 pub use waiting::Waiting;

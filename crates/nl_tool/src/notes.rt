@@ -1,16 +1,19 @@
-//! What the system said of the calls that failed, and the first line of the log that is read: kept while a command is done, for
-//! whoever asks why it was refused.
-ghost use Rattle.std.specs.Prelude.{◌≡◌, None, Some, IfErr, false, true};
+//! What the system said of the calls that failed, and the first line of the log that is read, with what it looks like: kept while a
+//! command is done, for whoever asks why it was refused.
+ghost use Rattle.std.specs.Prelude.{◌≡◌, None, Some, IfErr, IfSome, false, true, string_bytes, flat_map};
 ghost use Rattle.std.specs.Io.{ReadsAtMost, WritesAtMost};
 ghost use Rattle.std.specs.Io.KnownBytes.{Keeps, ReadConsumes, WriteAppends};
+ghost use Rattle.nl_tool.specs.Looks.{escaped, look_of, look_text, start_text};
 
-use crate::screen::Screen;
+use crate::desk::Screen;
 use nl_folder::Folder;
 use nl_lines::MAX_LINE;
 use nl_os::Failure;
 use nl_table::Secret;
 use nl_tool_change::{Told, UNTOLD};
+use nl_tool_texts::append_number;
 use std::alloc::Global;
+use std::fmt;
 use std::io::{self, Read, Write};
 
 // How many bytes of a log's folder are read at a time.
@@ -210,9 +213,7 @@ impl<W: Write> Write for NotedWriter<W> {
         ensures noted { IfErr result (λ error. self.new.failure ≡ Some error) }
     {
         let answer = self.writer.write(buf);
-        if let Err(error) = answer {
-            self.failure = Some(error);
-        }
+        self.failure = answer.err().or(self.failure);
         answer
     }
 
@@ -221,9 +222,76 @@ impl<W: Write> Write for NotedWriter<W> {
         ensures noted { IfErr result (λ error. self.new.failure ≡ Some error) }
     {
         let answer = self.writer.flush();
-        if let Err(error) = answer {
-            self.failure = Some(error);
-        }
+        self.failure = answer.err().or(self.failure);
         answer
     }
+}
+
+// How many bytes are told of a file that looks like nothing that is known.
+const START: usize = 20;
+
+/// What a file is mistaken for a log that is none.
+#[derive(Clone, Copy, Debug, PartialEq, Eq, Drop)]
+pub enum Look {
+    Gzip,
+    /// It begins with a byte order mark, of UTF-8 or UTF-16.
+    Mark,
+    /// Ninja's log of dependencies.
+    Dependencies,
+    /// A carriage return stands before its first newline.
+    Return,
+}
+
+impl fmt::Display for Look {
+    ghost output = { λ look. Some (look_text look) };
+
+    fn fmt<W: fmt::Write>(&self, f: &mut fmt::Formatter<W>) -> fmt::Result {
+        match self {
+            Look::Gzip => write!(f, "it is gzip: unpack it first"),
+            Look::Mark => write!(f, "it begins with a byte order mark"),
+            Look::Dependencies => write!(f, "it is Ninja's log of dependencies, .ninja_deps"),
+            Look::Return => write!(f, "its first line ends in a carriage return"),
+        }
+    }
+}
+
+/// What a file looks like that begins with these bytes, up to its first newline.
+pub fn look_of(bytes: &[u8]) -> Option<Look>
+    ensures value { result ≡ look_of bytes.now }
+{
+    if bytes.starts_with(b"\x1f\x8b") {
+        return Some(Look::Gzip);
+    }
+    if bytes.starts_with(b"\xef\xbb\xbf")
+        || bytes.starts_with(b"\xff\xfe")
+        || bytes.starts_with(b"\xfe\xff")
+    {
+        return Some(Look::Mark);
+    }
+    if bytes.starts_with(b"# ninjadeps") {
+        return Some(Look::Dependencies);
+    }
+    bytes.ends_with(b"\r\n").then_some(Look::Return)
+}
+
+/// The first bytes of a file, as they are said.
+pub fn start_of(alloc: Global, bytes: &[u8]) -> Option<String>
+    ensures value { IfSome result (λ text. string_bytes text ≡ start_text bytes.now) }
+{
+    escaped_of(alloc, &bytes[..bytes.len().min(START)])
+}
+
+/// Bytes as they are said, each of them.
+pub fn escaped_of(alloc: Global, bytes: &[u8]) -> Option<String>
+    ensures value { IfSome result (λ text. string_bytes text ≡ flat_map escaped bytes.now) }
+{
+    let mut text = Vec::new(alloc);
+    for byte in bytes {
+        if 31 < *byte && *byte < 127 && *byte != b'"' && *byte != b'\\' {
+            text.push(*byte).ok()?;
+        } else {
+            append_number(*byte, &mut text).ok()?;
+        }
+    }
+    String::from_utf8(text).ok()
 }

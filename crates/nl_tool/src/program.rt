@@ -3,10 +3,9 @@ ghost use Rattle.std.specs.Prelude.{◌≡◌, Option, IfErr, IfOk, OnOk};
 ghost use Rattle.nl_tool_change.specs.declared.line_fault.WrongNumber.{WrongNumber};
 ghost use Rattle.nl_tool.specs.Faults.{CanBeDone, CanBeRead, CanFind, FindsBy, IsChangeFault, IsFaultOf, IsReadFault, StopsAtDamage};
 
-use crate::desk::Desk;
+use crate::desk::{Desk, NO_SCREEN};
 use crate::notes::Notes;
 use crate::printing::{Printing, Streaming};
-use crate::screen::NO_SCREEN;
 use nl_os::SystemFile;
 use nl_table::NO_SECRET;
 use nl_tool_doubt::How;
