@@ -12,7 +12,6 @@ mod notes;
 mod numbers;
 mod printing;
 mod program;
-mod progress;
 mod reading;
 mod reason;
 mod reporting;
@@ -37,6 +36,5 @@ pub use nl_tool_words::{AskedVersion, Changing, Choices, CommandLine, Reading, W
 pub use nl_versions::{FirstLine, LogVersion, command_hash_in, first_line_in, version_of};
 pub use notes::{Beginning, Heard, Look, NotedReader, NotedWriter, Notes, look_of, start_of};
 pub use program::{Verdict, run, run_at};
-pub use progress::Telling;
 pub use reason::{Place, Reason, Refusal, Why, note_of, refusal_of};
-pub use waiting::Waiting;
+pub use waiting::{Telling, Waiting};

@@ -15,7 +15,7 @@ ghost use Rattle.nl_tool.specs.Faults.{IsPrintingFault, IsReadingFault};
 use crate::desk::Desk;
 use crate::notes::{NotedReader, NotedWriter};
 use crate::program::Verdict;
-use crate::progress::Telling;
+use crate::waiting::Telling;
 use nl_table::Secret;
 use nl_tool_change::{Told, replay_to};
 use nl_tool_print::{check_log, damage_to, entries_to, hash_for, hash_read, show_log};

@@ -8,7 +8,7 @@ ghost use Rattle.nl_versions.specs.VersionOf.{as_five};
 
 use crate::desk::Desk;
 use crate::notes::NotedReader;
-use crate::progress::Telling;
+use crate::waiting::Telling;
 use nl_builds::may_be_log;
 use nl_tool_texts::ToolFault;
 use std::alloc::Global;

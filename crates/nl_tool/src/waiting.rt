@@ -1,13 +1,96 @@
-//! The files and the clock of a runtime, by which it is said once that a log is locked, and waited for.
+//! What is said on standard error while a command lasts: how much of a log is read, if that takes long, and that a log is locked and
+//! waited for.
+ghost use Rattle.std.specs.Prelude.{◌≡◌};
+ghost use Rattle.std.specs.Io.{ReadsAtMost};
+ghost use Rattle.std.specs.Io.KnownBytes.{ReadConsumes};
+
 use std::alloc::Allocator;
 use std::cell::Cell;
 use std::fs::{Metadata, OpenOptions};
-use std::io;
+use std::io::{self, Read};
 use std::rt::{Clock, Files};
 use std::time::Duration;
 
+// Milliseconds before the first line, and from one line to the next.
+const PATIENCE: u128 = 2_000;
+
+const PAUSE: u128 = 500;
+
+const MEGABYTE: u64 = 1_000_000;
+
+/// A reader that tells on standard error how much it has read, from the third second on. What is written next goes over the line,
+/// which is blanked when all is read. If the clock fails, nothing is told.
+#[derive(Drop)]
+pub struct Telling<'r, P, R> {
+    rt: &'r P,
+    reader: R,
+    tells: bool,
+    // The time of the first read, and how many milliseconds after it the next line is due.
+    began: Option<u128>,
+    due: u128,
+    read: u64,
+    // Whether a line is on the screen.
+    told: bool,
+}
+
+impl<'r, P: Clock + Eprint, R: Read> Telling<'r, P, R> {
+    pub fn new(rt: &'r P, tells: bool, reader: R) -> Self
+        ensures remaining { ⟦<Telling<'r, P, R> as Read>⟧.remaining result ≡ R.remaining reader }
+    {
+        Telling {
+            rt,
+            reader,
+            tells,
+            began: None,
+            due: PATIENCE,
+            read: 0,
+            told: false,
+        }
+    }
+
+    fn note(&mut self, count: usize)
+        ensures same { self.new.reader ≡ self.old.reader }
+    {
+        self.read = self.read.saturating_add(count as u64);
+        let Ok(time) = self.rt.monotonic() else {
+            return;
+        };
+        let now = time.as_millis();
+        let passed = now.saturating_sub(*self.began.get_or_insert(now));
+        if passed < self.due {
+            return;
+        }
+        self.due = passed.saturating_add(PAUSE);
+        self.told = true;
+        let read = self.read / MEGABYTE;
+        let _ = eprint!(self.rt; "nlog: {read} MB read\r");
+    }
+}
+
+impl<P: Clock + Eprint, R: Read> Read for Telling<'_, P, R> {
+    ghost remaining = { λ r. R.remaining r.reader };
+
+    fn read(&mut self, buf: &mut [u8]) -> io::Result<usize>
+        ensures bound { ReadsAtMost result buf.new }
+        ensures bytes { ReadConsumes (R.remaining self.old.reader) (R.remaining self.new.reader) result buf.new }
+    {
+        let answer = self.reader.read(buf);
+        if self.tells {
+            match answer {
+                Ok(count) if count > 0 => self.note(count),
+                _ if self.told => {
+                    self.told = false;
+                    let _ = eprint!(self.rt; "                              \r");
+                }
+                _ => {}
+            }
+        }
+        answer
+    }
+}
+
 // How long is waited before it is said, in seconds.
-const PATIENCE: u64 = 1;
+const LOCK_PATIENCE: u64 = 1;
 
 /// A runtime for the folder of the log at this path. Nothing in a folder sleeps but the wait for a lock.
 #[derive(Drop)]
@@ -44,7 +127,7 @@ impl<R: Clock + Eprint> Clock for Waiting<'_, R> {
         if let Ok(now) = self.rt.monotonic() {
             let began = self.began.get().unwrap_or(now);
             self.began.set(Some(began));
-            if self.tells.get() && now.saturating_sub(began).as_secs() >= PATIENCE {
+            if self.tells.get() && now.saturating_sub(began).as_secs() >= LOCK_PATIENCE {
                 self.tells.set(false);
                 let log = self.log;
                 let _ = eprintln!(self.rt;
