@@ -1,24 +1,39 @@
-//! `doubt`, over LOG or standard input, and the files of the outputs, with standard output for its text.
+//! `doubt`, over LOG or standard input, and `mend`, over the folder of the real file LOG, and the files of the outputs, with standard
+//! output for their text.
+//!
+//! `mend` takes three steps, and holds the lock on LOG from the first one on:
+//!
+//! 1. All of LOG is read, and the file of each output is asked.
+//! 2. LOG is written anew with an intent over the entry of each output that can't be trusted, in one change (`mend_on`). If
+//!    there is no such output, and no line is damaged, LOG stays as it is.
+//! 3. The outputs are printed.
 ghost use Rattle.std.specs.Prelude.{◌≡◌, ◌<◌, ◌↔◌, None, IfErr, IfOk, IsErrOf, length, flat_map};
 ghost use Rattle.std.specs.Io.KnownBytes.{Appends};
 ghost use Rattle.nl_tool_doubt.specs.Doubts.{IsDoubts, doubt_line, undamaged};
+ghost use Rattle.nl_tool_doubt.specs.Mending.{IsMendFault, MendsFolder};
 ghost use Rattle.nl_tool_doubt.specs.declared.doubts.Doubts.{Doubts};
+ghost use Rattle.nl_folder.specs.FolderView.{FolderView, folder_view};
 ghost use Rattle.nl_tool_print.specs.Faults.{IsLogFault};
 ghost use Rattle.nl_versions.specs.VersionOf.{as_five};
 ghost use Rattle.nl_table.specs.Log.{NotALog, OtherVersion, log_of};
 ghost use Rattle.nl_tool_texts.specs.declared.fault.ToolFault.{ToolFault};
 ghost use Rattle.nl_tool.specs.declared.program.Verdict.{Verdict};
 
-use crate::desk::Desk;
-use crate::notes::NotedWriter;
+use crate::desk::{Desk, close};
+use crate::notes::{NotedWriter, Notes};
 use crate::program::Verdict;
+use nl_folder::Folder;
+use nl_os::{DiskFolder, Failure, FileRole, SystemFile};
 use nl_table::Secret;
-use nl_tool_doubt::{FileState, FileTimes, OutputFiles, doubts_of, write_doubts};
+use nl_tool_change::AskedFolder;
+use nl_tool_doubt::{
+    FileState, FileTimes, How, Mended, OutputFiles, doubts_of, mend_to, write_doubts,
+};
 use nl_tool_texts::ToolFault;
 use std::alloc::Global;
 use std::io::{self, ErrorKind, Write};
 use std::os::unix::fs::MetadataExt;
-use std::rt::{Files, Runtime};
+use std::rt::{Clock, Files, Runtime};
 use std::{fs, str};
 
 const NANOSECONDS: i64 = 1_000_000_000;
@@ -61,21 +76,6 @@ fn time_of(seconds: i64, nanoseconds: i64) -> i64 {
     }
 }
 
-impl<R: Runtime> Desk<'_, R> {
-    pub fn doubt_in(&mut self, log: Option<&str>) -> Result<Verdict, ToolFault>
-        ensures faults { IfErr result IsLogFault }
-    {
-        let bytes = self.log_bytes(log, false)?;
-        let Desk { rt, alloc, .. } = *self;
-        let mut out = NotedWriter::new(io::writer(rt));
-        let files = SystemFiles { rt };
-        let secret = self.notes.secret;
-        let answer = tell_doubts(alloc, secret, bytes.as_slice(), &files, &mut out);
-        self.notes.written = out.failure;
-        answer
-    }
-}
-
 fn tell_doubts<F: OutputFiles, W: Write>(
     alloc: Global,
     secret: Secret,
@@ -97,4 +97,126 @@ fn tell_doubts<F: OutputFiles, W: Write>(
         Ok(false) => Ok(Verdict::Done),
         Err(fault) => Err(fault),
     }
+}
+
+// If fewer than one output in this many has a file, that is said.
+const FEW: usize = 10;
+
+// A name that doesn't begin with `/` is a path from the build's folder.
+#[derive(Drop)]
+struct BuildFiles<'r, R> {
+    files: SystemFiles<'r, R>,
+    folder: Option<&'r str>,
+    alloc: Global,
+}
+
+impl<R: Files> OutputFiles for BuildFiles<'_, R> {
+    ghost states = { λ _. None };
+
+    fn look(&self, name: &[u8]) -> FileState {
+        let Some(folder) = self.folder.filter(|_| !name.starts_with(b"/")) else {
+            return self.files.look(name);
+        };
+        let Ok(name) = str::from_utf8(name) else {
+            return FileState::Unknown;
+        };
+        match format!(in self.alloc; "{folder}/{name}") {
+            Ok(path) => self.files.look(path.as_bytes()),
+            Err(_) => FileState::Unknown,
+        }
+    }
+}
+
+impl<R: Runtime> Desk<'_, R>
+where
+    R::File: SystemFile,
+{
+    pub fn doubt_in(&mut self, log: Option<&str>) -> Result<Verdict, ToolFault>
+        ensures faults { IfErr result IsLogFault }
+    {
+        let bytes = self.log_bytes(log, false)?;
+        let Desk { rt, alloc, .. } = *self;
+        let mut out = NotedWriter::new(io::writer(rt));
+        let files = SystemFiles { rt };
+        let secret = self.notes.secret;
+        let answer = tell_doubts(alloc, secret, bytes.as_slice(), &files, &mut out);
+        self.notes.written = out.failure;
+        answer
+    }
+
+    /// Without a path, LOG is the `.ninja_log` of the build's folder.
+    pub fn mend_in(
+        &mut self,
+        log: Option<&str>,
+        folder: Option<&str>,
+        how: How,
+    ) -> Result<Verdict, ToolFault>
+        ensures faults { IfErr result IsMendFault }
+    {
+        // It refuses a missing folder, because the log that is missing with it would be taken for a whole one.
+        if let Some(path) = folder {
+            if let Err(error) = fs::metadata(self.rt, path) {
+                let file = FileRole::Folder;
+                self.notes.folder = Some(Failure { file, error });
+                return Err(ToolFault::Read);
+            }
+        }
+        match (log, folder) {
+            (Some(path), _) => self.mend_log(path, folder, how),
+            (None, Some(folder)) => {
+                let path = format!(in self.alloc; "{folder}/.ninja_log")?;
+                self.mend_log(path.as_str(), Some(folder), how)
+            }
+            (None, None) => self.mend_log(".ninja_log", None, how),
+        }
+    }
+
+    // A missing log needs no mending.
+    fn mend_log(&mut self, log: &str, folder: Option<&str>, how: How) -> Result<Verdict, ToolFault>
+        ensures faults { IfErr result IsMendFault }
+    {
+        self.look_there(log, true)?;
+        if self.notes.is_missing {
+            return Ok(Verdict::Done);
+        }
+        let Desk { rt, alloc, .. } = *self;
+        let files = BuildFiles {
+            files: SystemFiles { rt },
+            folder,
+            alloc,
+        };
+        let place = self.log_at(log)?;
+        let mut out = NotedWriter::new(io::writer(rt));
+        let answer = mend_at(alloc, place, &files, how, &mut out, &mut self.notes);
+        self.notes.written = out.failure;
+        let mended = answer?;
+        // If few outputs have a file, the folder may be that of another build.
+        let Mended { outputs, there, .. } = mended;
+        if there < outputs / FEW {
+            let _ = eprintln!(rt; "nlog: LOG {log}: {there} of {outputs} outputs are here");
+        }
+        if mended.is_told {
+            return Ok(Verdict::Found);
+        }
+        Ok(Verdict::Done)
+    }
+}
+
+fn mend_at<D: Files + Clock + Drop, O: OutputFiles, W: Write>(
+    alloc: Global,
+    place: AskedFolder<DiskFolder<D>>,
+    files: &O,
+    how: How,
+    writer: &mut W,
+    notes: &mut Notes,
+) -> Result<Mended, ToolFault>
+where
+    D::File: SystemFile,
+    ensures call { (left : FolderView) × MendsFolder (O.states files.now) how
+        (W.contents writer.old) (W.contents writer.new) result (folder_view ⟦<DiskFolder<D> as Folder>⟧ place.folder) left }
+    ensures faults { IfErr result IsMendFault }
+{
+    let AskedFolder { secret, folder, .. } = place;
+    let (left, answer) = mend_to(alloc, secret, folder, files, how, writer);
+    close(left, answer, notes)
 }

@@ -7,7 +7,6 @@ mod desk;
 mod doubting;
 mod ending;
 pub mod laws;
-mod mending;
 mod notes;
 mod numbers;
 mod printing;
