@@ -36,19 +36,7 @@ impl<R: Runtime> Desk<'_, R> {
     {
         let most = count_of(lines, 10, NumberOf::Lines, &mut self.notes.told)?;
         let ms = count_of(least, 0, NumberOf::Least, &mut self.notes.told)?;
-        self.compare_logs(most, ms, old, new)
-    }
-
-    // Each log is closed before anything else is done.
-    fn compare_logs(
-        &mut self,
-        most: usize,
-        least: usize,
-        old: &str,
-        new: &str,
-    ) -> Result<(), ToolFault>
-        ensures faults { IfErr result IsLogFault }
-    {
+        // Each log is closed before anything else is done.
         let means = self.means();
         let old_text = self.log_bytes(Some(old), self.missing_ok)?;
         let old = last_of(means, old_text.as_slice())?;
@@ -61,7 +49,7 @@ impl<R: Runtime> Desk<'_, R> {
             self.notes.is_second = false;
         }
         let mut out = NotedWriter::new(io::writer(self.rt));
-        let answer = compare_to(means, most, least as u64, &old, &new, &mut out);
+        let answer = compare_to(means, most, ms as u64, &old, &new, &mut out);
         self.notes.written = out.failure;
         answer
     }

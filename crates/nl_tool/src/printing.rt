@@ -72,10 +72,9 @@ impl<R: Runtime> Desk<'_, R> {
         let mut out = NotedWriter::new(io::writer(self.rt));
         let reader = NotedReader::new(reader, &mut self.notes.heard);
         let answer = match streaming {
-            Streaming::Entries => match entries_to(self.alloc, reader, &mut out) {
-                Ok(()) => Ok(Verdict::Done),
-                Err(fault) => Err(fault),
-            },
+            Streaming::Entries => {
+                entries_to(self.alloc, reader, &mut out).and(Ok(Verdict::Done))
+            }
             Streaming::Damage => tell_damage(self.alloc, reader, &mut out),
         };
         self.notes.written = out.failure;

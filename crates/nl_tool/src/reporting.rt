@@ -176,17 +176,8 @@ fn tell<W: Write>(
         Report::Summary(scope, lists, graph) => {
             let asked = asked_builds(means, scope, names, told)?;
             *again = taken_in(scope, &asked).is_some();
-            let priority = priority_in(stamps);
-            tell_summary(
-                means,
-                scope,
-                lists,
-                graph,
-                priority,
-                names.len(),
-                &asked,
-                writer,
-            )
+            let count = names.len();
+            tell_summary(means, scope, lists, graph, stamps, count, &asked, writer)
         }
         Report::Trace(scope) => {
             let asked = asked_builds(means, scope, names, told)?;
@@ -219,7 +210,7 @@ fn tell_summary<W: Write>(
     scope: Scope,
     lists: Lists,
     graph: Option<ByGraph<'_, '_>>,
-    priority: Priority,
+    stamps: Stamps,
     unfinished: usize,
     from: &Builds,
     writer: &mut W,
@@ -228,11 +219,23 @@ fn tell_summary<W: Write>(
         (W.contents writer.old) (W.contents writer.new) result }
     ensures faults { IfErr result (IsFoundFault graph.entry) }
 {
-    let lines = summary_of(means.alloc, scope, lists, graph, priority, unfinished, from)?;
-    match lines {
-        Some(lines) => write_lines(means, lines, writer),
-        None => Err(ToolFault::OtherGraph),
-    }
+    // The order in which Ninja takes commands: from the version on that tells when they started, it goes by the critical path.
+    let priority = match stamps {
+        Stamps::OfStart => Priority::Critical,
+        Stamps::OfEnd | Stamps::Unknown => Priority::Graph,
+    };
+    let alloc = means.alloc;
+    let mut lines = summary_lines(alloc, scope, lists, unfinished, from)?;
+    let Some(by) = graph else {
+        return write_lines(means, lines, writer);
+    };
+    let jobs = chosen_jobs(alloc, scope, from)?;
+    let told = graph_lines(alloc, lists.secret, &by, priority, jobs.as_slice())?;
+    let Some(told) = told else {
+        return Err(ToolFault::OtherGraph);
+    };
+    lines.extend_from_slice(told.as_slice())?;
+    write_lines(means, lines, writer)
 }
 
 fn asked_builds<'a>(
@@ -247,38 +250,6 @@ fn asked_builds<'a>(
         Scope::All => lasting(means.alloc, means.secret, names, from),
         Scope::Last | Scope::Numbered(_) => Ok(from),
     }
-}
-
-// The order in which Ninja takes commands: from the version on that tells when they started, it goes by the critical path.
-fn priority_in(stamps: Stamps) -> Priority {
-    match stamps {
-        Stamps::OfStart => Priority::Critical,
-        Stamps::OfEnd | Stamps::Unknown => Priority::Graph,
-    }
-}
-
-fn summary_of(
-    alloc: Global,
-    scope: Scope,
-    lists: Lists,
-    graph: Option<ByGraph<'_, '_>>,
-    priority: Priority,
-    unfinished: usize,
-    from: &Builds,
-) -> Result<Option<Vec<u8>>, AllocError>
-    ensures value { IfOk result (IsFound scope lists graph.entry unfinished (told from.now)) }
-{
-    let mut lines = summary_lines(alloc, scope, lists, unfinished, from)?;
-    let Some(by) = graph else {
-        return Ok(Some(lines));
-    };
-    let jobs = chosen_jobs(alloc, scope, from)?;
-    let told = graph_lines(alloc, lists.secret, &by, priority, jobs.as_slice())?;
-    let Some(told) = told else {
-        return Ok(None);
-    };
-    lines.extend_from_slice(told.as_slice())?;
-    Ok(Some(lines))
 }
 
 pub fn write_lines<W: Write>(means: Means, lines: Vec<u8>, writer: &mut W) -> Result<(), ToolFault>

@@ -4,6 +4,7 @@ use Rattle.nl_tool_change.specs.declared.line_fault.WrongNumber.{WrongNumber}
 use Rattle.nl_tool_print.specs.Faults.{IsLogFault}
 use Rattle.nl_tool_texts.specs.declared.fault.ToolFault.{ToolFault}
 use Rattle.nl_tool.specs.Faults.{IsCompareFault}
+use Rattle.nl_tool.proofs.ReportLemmas.{as_log_by}
 use Rattle.nl_tool.proofs.desk.Desk.compare_in.Goals as goal
 
 whatever : (r : Result (Unit {0}) ToolFault) (P : Type 0) → P → OnOk r P
@@ -17,7 +18,7 @@ as_compare (Err e) lines least told h = inl h
 
 pub returns : goal.returns
 returns g c = record {
-  accepts = whatever c.compare_logs.result _ (c.in_ok-most.most, c.in_ok-most.ensures.value);
-  least = whatever c.compare_logs.result _ (c.in_ok-ms.ms, c.in_ok-ms.ensures.value);
-  faults = as_compare c.compare_logs.result c.args.lines c.args.least _ c.compare_logs.ensures.faults;
+  accepts = whatever c.compare_to-answer.result _ (c.in_ok-most.most, c.in_ok-most.ensures.value);
+  least = whatever c.compare_to-answer.result _ (c.in_ok-ms.ms, c.in_ok-ms.ensures.value);
+  faults = as_compare c.compare_to-answer.result c.args.lines c.args.least _ (as_log_by c.compare_to-answer.result c.compare_to-answer.ensures.faults);
 }
