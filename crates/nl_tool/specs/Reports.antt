@@ -38,7 +38,7 @@ use Rattle.nl_reports.specs.declared.jobs.ByGraph.{ByGraph}
 use Rattle.nl_reports.specs.declared.kind.KindRule.{KindRule}
 use Rattle.nl_reports.specs.declared.kind.KindRule.TheVariants.{Extension, Folder, Top, Work}
 use Rattle.nl_reports.specs.declared.lists.Lists.{Lists}
-use Rattle.nl_tool.specs.declared.comparing.Last.{Last as LastHeld}
+use Rattle.nl_tool.specs.declared.reporting.Last.{Last as LastHeld}
 use Rattle.nl_tool.specs.declared.reporting.Report.{Report}
 use Rattle.nl_tool.specs.declared.reporting.Report.TheVariants.{Builds, Picture, Summary, Trace}
 

@@ -2,7 +2,6 @@
 #![tactic(auto)]
 
 mod changing;
-mod comparing;
 mod desk;
 mod doubting;
 mod ending;

@@ -1,16 +1,19 @@
-//! The words that tell what the builds of a log did, over LOG or standard input, with standard output for their text.
-ghost use Rattle.std.specs.Prelude.{◌≡◌, ℕ, List, map, Some, IfErr, IfOk, OnOk};
+//! The words that tell what the builds of a log did, over LOG or standard input, and `compare`, over two logs, with standard output for
+//! their text.
+ghost use Rattle.std.specs.Prelude.{◌≡◌, ℕ, List, map, Some, IfErr, IfOk, IsErrOf, OnOk, is_some};
 ghost use Rattle.nl_builds.specs.declared.log.LogBuilds.{LogBuilds};
 ghost use Rattle.nl_tool_texts.specs.Output.{Prints};
 ghost use Rattle.nl_versions.specs.VersionOf.{as_five};
-ghost use Rattle.nl_table.specs.Log.{log_of};
+ghost use Rattle.nl_table.specs.Log.{NotALog, OtherVersion, log_of};
+ghost use Rattle.nl_reports.specs.Compare.{are_comparable, compare_text, side_of};
+ghost use Rattle.nl_tool_texts.specs.declared.fault.ToolFault.{ToolFault};
 ghost use Rattle.nl_reports.specs.Jobs.{told};
 ghost use Rattle.nl_tool_texts.specs.Writing.{IsFoundFault, IsWriteFault};
 ghost use Rattle.nl_reports.specs.declared.choice.Scope.{Scope};
 ghost use Rattle.nl_tool.specs.Answers.{RefusesLog};
-ghost use Rattle.nl_tool.specs.Faults.{IsBuildFault, IsPathFault, IsPictureFault, IsReportFault, IsSummaryFault, IsToldFault};
+ghost use Rattle.nl_tool.specs.Faults.{IsBuildFault, IsCompareFault, IsPathFault, IsPictureFault, IsReportFault, IsSummaryFault, IsToldFault};
 ghost use Rattle.nl_tool_print.specs.Faults.{IsLogFault};
-ghost use Rattle.nl_tool.specs.Reports.{AreBuilds, AreCounts, IsFound, IsLaidOut, IsMost, IsReport, IsReportOf, IsScope, IsSummary, PrintsReport, asked_told, laid_out, rule_of, waiting};
+ghost use Rattle.nl_tool.specs.Reports.{AreBuilds, AreCounts, IsLaidOut, IsLastOf, IsLeast, IsMost, IsReport, IsReportOf, IsScope, IsSummary, PrintsReport, asked_told, laid_out, rule_of, side_in, waiting};
 
 use crate::desk::{Desk, Means};
 use crate::notes::NotedWriter;
@@ -18,13 +21,14 @@ use crate::numbers::{count_of, counts_of, scope_of};
 use jiff_tz::{SystemTimeZone, TimeZone, TimeZoneDatabase};
 use nl_builds::{Builds, LogBuilds, Stamps, read_builds};
 use nl_reports::{
-    ByGraph, KindRule, Lists, NinjaGraph, Priority, Scope, builds_lines, builds_screen,
-    chosen_jobs, draw_builds, graph_lines, lasting, read_graph, summary_lines, taken_in,
-    trace_builds,
+    ByGraph, KindRule, Lists, NinjaGraph, Priority, Scope, Side, builds_lines, builds_screen,
+    chosen_jobs, compare_lines, draw_builds, graph_lines, lasting, read_graph, summary_lines,
+    taken_in, trace_builds,
 };
 use nl_tool_change::NumberOf;
 use nl_tool_texts::{ToolFault, in_columns, write_out};
 use nl_tool_words::Choices;
+use nl_versions::{LogVersion, version_of};
 use std::alloc::{AllocError, Global};
 use std::io::{self, Write};
 use std::rt::Runtime;
@@ -110,6 +114,37 @@ impl<R: Runtime> Desk<'_, R> {
         let graph = read_graph(self.alloc, self.notes.secret, text.as_slice())?;
         self.notes.begin(false);
         self.report_in(Report::Picture(scope, Some(&graph)), log)
+    }
+
+    pub fn compare_in(
+        &mut self,
+        old: &str,
+        new: &str,
+        lines: Option<&str>,
+        least: Option<&str>,
+    ) -> Result<(), ToolFault>
+        ensures accepts { OnOk result ((most : ℕ) × IsMost lines.entry most) }
+        ensures least { OnOk result ((ms : ℕ) × IsLeast least.entry ms) }
+        ensures faults { IfErr result (IsCompareFault lines.entry least.entry self.new.notes.told.number) }
+    {
+        let most = count_of(lines, 10, NumberOf::Lines, &mut self.notes.told)?;
+        let ms = count_of(least, 0, NumberOf::Least, &mut self.notes.told)?;
+        // Each log is closed before anything else is done.
+        let means = self.means();
+        let old_text = self.log_bytes(Some(old), self.missing_ok)?;
+        let old = last_of(means, old_text.as_slice())?;
+        let is_missing = self.notes.is_missing;
+        self.notes.begin(true);
+        let new_text = self.log_bytes(Some(new), self.missing_ok)?;
+        let new = last_of(means, new_text.as_slice())?;
+        if is_missing && !self.notes.is_missing {
+            self.notes.is_missing = true;
+            self.notes.is_second = false;
+        }
+        let mut out = NotedWriter::new(io::writer(self.rt));
+        let answer = compare_to(means, most, ms as u64, &old, &new, &mut out);
+        self.notes.written = out.failure;
+        answer
     }
 
     pub fn report_in(&mut self, report: Report<'_, '_>, log: Option<&str>) -> Result<(), ToolFault>
@@ -252,7 +287,7 @@ fn asked_builds<'a>(
     }
 }
 
-pub fn write_lines<W: Write>(means: Means, lines: Vec<u8>, writer: &mut W) -> Result<(), ToolFault>
+fn write_lines<W: Write>(means: Means, lines: Vec<u8>, writer: &mut W) -> Result<(), ToolFault>
     ensures prints { Prints (λ text. text ≡ laid_out means.columns lines.items) (W.contents writer.old) (W.contents writer.new) result }
     ensures faults { IfErr result IsWriteFault }
 {
@@ -261,4 +296,58 @@ pub fn write_lines<W: Write>(means: Means, lines: Vec<u8>, writer: &mut W) -> Re
     };
     let laid = in_columns(means.alloc, most, lines.as_slice())?;
     write_out(laid.as_slice(), writer)
+}
+
+// `told` has only the last entry of each output.
+#[derive(Drop)]
+pub struct Last<'a> {
+    pub version: LogVersion,
+    pub told: Builds<'a>,
+    pub waiting: Vec<&'a [u8]>,
+}
+
+fn last_of(means: Means, text: &[u8]) -> Result<Last<'_>, ToolFault>
+    ensures value { IfOk result (IsLastOf text.now) }
+    ensures not_a_log { IsErrOf result ToolFault.NotALog → log_of (as_five text.now) ≡ NotALog }
+    ensures other_version { IsErrOf result ToolFault.OtherVersion → log_of (as_five text.now) ≡ OtherVersion }
+    ensures faults { IfErr result IsLogFault }
+{
+    let log = read_builds(means.alloc, means.secret, text)?;
+    let waiting = log.unfinished;
+    Ok(Last {
+        version: version_of(text),
+        told: lasting(means.alloc, means.secret, waiting.as_slice(), log.told)?,
+        waiting,
+    })
+}
+
+fn compare_to<W: Write>(
+    means: Means,
+    most: usize,
+    least: u64,
+    old: &Last<'_>,
+    new: &Last<'_>,
+    writer: &mut W,
+) -> Result<(), ToolFault>
+    ensures prints { Prints (λ text. text ≡ laid_out means.columns
+        (compare_text (is_some means.columns) most least (are_comparable old.now.version new.now.version) (side_in old.now) (side_in new.now)))
+        (W.contents writer.old) (W.contents writer.new) result }
+    ensures faults { IfErr result IsWriteFault }
+{
+    let Means { alloc, secret, .. } = means;
+    let (old, new) = (side_of(old), side_of(new));
+    let screen = means.columns.is_some();
+    let lines = compare_lines(alloc, secret, screen, most, least, &old, &new)?;
+    write_lines(means, lines, writer)
+}
+
+fn side_of<'s, 'a>(last: &'s Last<'a>) -> Side<'s, 'a>
+    ensures version { result.version ≡ last.now.version }
+    ensures value { side_of result ≡ side_in last.now }
+{
+    Side {
+        version: last.version,
+        told: &last.told,
+        waiting: last.waiting.as_slice(),
+    }
 }

@@ -1,5 +1,5 @@
 use Rattle.nl_tool.proofs.ReportLemmas.{compared_so, printed_so}
-use Rattle.nl_tool.proofs.comparing.compare_to.Goals as goal
+use Rattle.nl_tool.proofs.reporting.compare_to.Goals as goal
 
 pub returns-clause-prints : goal.returns-clause-prints
 returns-clause-prints g c =

@@ -1,7 +1,7 @@
 use Rattle.std.proofs.Common.{◌∙◌, ap, ap₂, map}
 use Rattle.nl_reports.specs.Lasting.{lasting}
 use Rattle.nl_tool.proofs.ReportLemmas.{told_is}
-use Rattle.nl_tool.proofs.comparing.last_of.Goals as goal
+use Rattle.nl_tool.proofs.reporting.last_of.Goals as goal
 
 pub returns-clause-value : goal.returns-clause-value
 returns-clause-value c =
