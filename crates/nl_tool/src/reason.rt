@@ -279,19 +279,10 @@ pub fn refusal_of<'a>(
         let why = bad_number(&line.words, notes);
         return Refusal { fault, why };
     }
-    let words = words_for(fault, &line.words, notes.is_second);
+    let is_second = notes.is_second || matches!(fault, ToolFault::OtherGraph);
+    let words = words_heard(&line.words, is_second);
     let why = why_of(alloc, &words, fault, notes);
     Refusal { fault, why }
-}
-
-fn words_for<'a>(fault: ToolFault, words: &Words<'a>, is_second: bool) -> Words<'a>
-    ensures { result ≡ words_for fault words.now is_second }
-{
-    match fault {
-        ToolFault::BadNumber => *words,
-        ToolFault::OtherGraph => words_heard(words, true),
-        _ => words_heard(words, is_second),
-    }
 }
 
 // With two logs, the words that read the second of them, or the first; with a log and a graph, the words that read the log, or a file;
@@ -331,19 +322,38 @@ fn why_of<'a>(alloc: Global, words: &Words<'a>, fault: ToolFault, notes: &Notes)
         ToolFault::Write => said_of(alloc, Some(Place::Output), notes.written?),
         ToolFault::Folder => {
             let Failure { file, error } = notes.folder?;
-            Why::at(log_place(words, file), folder_reason(alloc, error)?)
+            let text = format!(in alloc; "{error}").ok()?;
+            let reason = match error.kind() {
+                _ if error.raw_os_error() == Some(FULL) => Reason::Full(text),
+                io::ErrorKind::WouldBlock => Reason::Locked(text),
+                _ => Reason::System(text),
+            };
+            Why::at(log_place(words, file), reason)
         }
         ToolFault::BadLine(number) => {
             Why::at(read_place(words), Reason::Line(number, notes.told.why))
         }
-        ToolFault::NegativeTime(_) => negative_why(alloc, words, notes),
+        ToolFault::NegativeTime(_) => {
+            let reason = match *words {
+                Words::Change {
+                    what: Changing::Retime,
+                    ..
+                } => early_reason(alloc, notes.early.as_slice())?,
+                _ => Reason::Negative(notes.told.negative?),
+            };
+            Why::at(read_place(words), reason)
+        }
         ToolFault::OtherVersion => {
             let digits = named_version(notes.heard.beginning.bytes())?;
             let version = String::from_str(alloc, str::from_utf8(digits).ok()?).ok()?;
             Why::at(log_place(words, FileRole::Log), Reason::Version(version))
         }
         ToolFault::NotALog => {
-            let reason = look_reason(alloc, notes.heard.beginning.bytes())?;
+            let bytes = notes.heard.beginning.bytes();
+            let reason = match look_of(bytes) {
+                Some(look) => Reason::Looks(look),
+                None => Reason::Begins(start_of(alloc, bytes)?),
+            };
             Why::at(log_place(words, FileRole::Log), reason)
         }
         ToolFault::EmptyName => Why::at(Some(Place::Name), Reason::NoBytes),
@@ -365,19 +375,6 @@ fn why_of<'a>(alloc: Global, words: &Words<'a>, fault: ToolFault, notes: &Notes)
     }
 }
 
-fn negative_why<'a>(alloc: Global, words: &Words<'a>, notes: &Notes) -> Option<Why<'a>>
-    ensures { IfSome result (λ why. (read_place words.now ≡ Some why.place) × IsNegative why.reason) }
-{
-    let reason = match *words {
-        Words::Change {
-            what: Changing::Retime,
-            ..
-        } => early_reason(alloc, notes.early.as_slice())?,
-        _ => Reason::Negative(notes.told.negative?),
-    };
-    Why::at(read_place(words), reason)
-}
-
 fn early_reason(alloc: Global, name: &[u8]) -> Option<Reason>
     ensures value { IfSome result (IsEarly name.now) }
 {
@@ -385,28 +382,6 @@ fn early_reason(alloc: Global, name: &[u8]) -> Option<Reason>
         return None;
     }
     Some(Reason::Early(escaped_of(alloc, name)?))
-}
-
-fn folder_reason(alloc: Global, error: io::Error) -> Option<Reason>
-    ensures { IfSome result IsSystem }
-{
-    let text = format!(in alloc; "{error}").ok()?;
-    if error.raw_os_error() == Some(FULL) {
-        return Some(Reason::Full(text));
-    }
-    match error.kind() {
-        io::ErrorKind::WouldBlock => Some(Reason::Locked(text)),
-        _ => Some(Reason::System(text)),
-    }
-}
-
-fn look_reason(alloc: Global, bytes: &[u8]) -> Option<Reason>
-    ensures { IfSome result (IsLookAt bytes.now) }
-{
-    match look_of(bytes) {
-        Some(look) => Some(Reason::Looks(look)),
-        None => Some(Reason::Begins(start_of(alloc, bytes)?)),
-    }
 }
 
 fn bad_number<'a>(words: &Words<'a>, notes: &Notes) -> Option<Why<'a>>
@@ -452,15 +427,11 @@ fn read_place<'a>(words: &Words<'a>) -> Option<Place<'a>>
     ensures { result ≡ read_place words.now }
 {
     match *words {
-        Words::Show(Some(log)) | Words::Check(Some(log)) | Words::Read { log: Some(log), .. } =>
-            Some(Place::Log(log)),
-        Words::HashFile(Some(file)) => Some(Place::Command(file)),
-        Words::Replay(Some(script)) => Some(Place::Script(script)),
-        Words::Show(None)
-        | Words::Check(None)
-        | Words::Read { log: None, .. }
-        | Words::HashFile(None)
-        | Words::Replay(None) => Some(Place::Input),
+        Words::Show(log) | Words::Check(log) | Words::Read { log, .. } => {
+            Some(log.map_or(Place::Input, Place::Log))
+        }
+        Words::HashFile(file) => Some(file.map_or(Place::Input, Place::Command)),
+        Words::Replay(script) => Some(script.map_or(Place::Input, Place::Script)),
         Words::Recompact { log: _, keep } => Some(Place::Keep(keep)),
         Words::Restat { log: _, times } => Some(Place::Times(times)),
         Words::Change { what, log, file } => Some(change_place(what, log, file)),
@@ -472,11 +443,10 @@ fn read_place<'a>(words: &Words<'a>) -> Option<Place<'a>>
 fn change_place<'a>(what: Changing, log: &'a str, file: Option<&'a str>) -> Place<'a>
     ensures { result ≡ change_place what log.entry file.entry }
 {
-    match (what, file) {
-        (Changing::Retime | Changing::Repair, _) => Place::Log(log),
-        (Changing::Prune, Some(path)) => Place::Targets(path),
-        (Changing::Apply, Some(path)) => Place::Script(path),
-        (Changing::Prune | Changing::Apply, None) => Place::Input,
+    match what {
+        Changing::Retime | Changing::Repair => Place::Log(log),
+        Changing::Prune => file.map_or(Place::Input, Place::Targets),
+        Changing::Apply => file.map_or(Place::Input, Place::Script),
     }
 }
 
