@@ -1,5 +1,5 @@
-//! The words that change a log, over the folder of the real file LOG.
-ghost use Rattle.std.specs.Prelude.{◌⊎◌, ℕ, List, Option, IfErr, IsErrAnd, OnOk};
+//! The words that change a log, over the folder of the real file LOG: `prune` and `retime` by what a build has.
+ghost use Rattle.std.specs.Prelude.{◌≡◌, ◌<◌, ◌⊎◌, ℕ, ℤ, [], List, Option, Err, IfErr, IsErr, IsErrAnd, IsSomeAnd, OnOk, length, slice_get};
 ghost use Rattle.nl_folder.specs.FolderView.{FolderView, folder_view};
 ghost use Rattle.nl_tool_change.specs.Applying.{IsApplied};
 ghost use Rattle.nl_tool_change.specs.Calls.{ChangesLogFor, adding, hashed, keeping, keeping_all, touching};
@@ -7,19 +7,33 @@ ghost use Rattle.nl_tool_change.specs.Faults.{IsApplyFault, IsEntryFault, IsFile
 ghost use Rattle.nl_tool_change.specs.Files.{keep_of, times_of};
 ghost use Rattle.nl_tool_change.specs.RecordWords.{GiveEntry};
 ghost use Rattle.nl_tool_change.specs.Updates.{AsSaid};
-ghost use Rattle.nl_tool.specs.Faults.{IsRepairFault};
+ghost use Rattle.nl_tool_doubt.specs.There.{AddsFor, KeepsMost, pair_by};
+ghost use Rattle.nl_tool_print.specs.Faults.{IsLogFault};
+ghost use Rattle.nl_tool_print.specs.Versions.{IsReportFor};
+ghost use Rattle.nl_versions.specs.LogAs.{log_for};
+ghost use Rattle.nl_tool.specs.Answers.{RefusesLog};
+ghost use Rattle.nl_tool.specs.Faults.{IsPruneFault, IsRepairFault, IsSettlingFault, IsTargetsFault};
+ghost use Rattle.nl_tool_texts.specs.declared.fault.ToolFault.{ToolFault};
 
 use crate::desk::{Desk, close};
+use crate::doubting::SystemFiles;
 use crate::notes::{NotedReader, NotedWriter, Notes};
+use crate::printing::Streaming;
+use crate::program::Verdict;
 use crate::reason::{Place, Reason, Why};
-use nl_fields::EntryRef;
+use nl_fields::{EntryRef, Name};
 use nl_folder::Folder;
-use nl_os::{DiskFolder, SystemFile};
+use nl_os::{DiskFolder, Failure, FileRole, SystemFile};
+use nl_session::first_negative;
+use nl_table::Secret;
 use nl_tool_change::{
-    AskedFolder, Hears, LineFault, apply_on, entry_of, recompact_on, record_command, repair_on,
-    restat_on,
+    AskedFolder, Hears, LineFault, LogPlace, apply_on, entry_of, read_manifest, recompact_on,
+    record_command, repair_on, restat_on, retime_on,
 };
+use nl_tool_doubt::{OutputFiles, names_there, times_there};
+use nl_tool_print::check_log;
 use nl_tool_texts::ToolFault;
+use nl_versions::LogVersion;
 use std::alloc::Global;
 use std::io::{self, Read};
 use std::rt::{Clock, Files, Runtime};
@@ -84,6 +98,79 @@ where
         self.look_there(log, self.missing_ok)?;
         let place = self.log_at(log)?;
         repair_at(self.alloc, place, &mut self.notes)
+    }
+
+    // It reads all targets before it asks anything of LOG.
+    pub fn prune_in(&mut self, log: &str, path: Option<&str>) -> Result<Verdict, ToolFault>
+        ensures faults { IfErr result IsPruneFault }
+    {
+        let targets = match path {
+            None => self.targets_from(self.rt.reader())?,
+            Some(path) => {
+                let file = self.open(path)?;
+                self.targets_from(file)?
+            }
+        };
+        let answer = self.prune_log(log, targets);
+        // The targets were read, so it is LOG that couldn't be.
+        if let Some(error) = self.notes.heard.failure {
+            self.notes.heard.failure = None;
+            let file = FileRole::Log;
+            self.notes.folder = Some(Failure { file, error });
+        }
+        answer
+    }
+
+    // Notes of the targets are kept only if these are refused, because LOG is read next.
+    fn targets_from<S: Read + Drop>(&mut self, reader: S) -> Result<Vec<Name>, ToolFault>
+        ensures faults { IfErr result IsTargetsFault }
+    {
+        let notes = &mut self.notes;
+        let mut own = Notes::new(self.alloc, notes.looks, notes.screen, notes.secret);
+        let targets = NotedReader::new(reader, &mut own.heard);
+        let answer = read_manifest(self.alloc, targets, &mut notes.told);
+        if answer.is_err() {
+            notes.heard = own.heard;
+        }
+        answer
+    }
+
+    fn prune_log(&mut self, log: &str, targets: Vec<Name>) -> Result<Verdict, ToolFault>
+        ensures faults { IfErr result IsPruneFault }
+    {
+        if let Verdict::Found = self.damage_in(log)? {
+            return Ok(Verdict::Found);
+        }
+        let file = self.open(log)?;
+        let files = SystemFiles { rt: self.rt };
+        let place = self.log_at(log)?;
+        prune_at(self.alloc, place, targets, file, &files, &mut self.notes)?;
+        Ok(Verdict::Done)
+    }
+
+    // Tells of the damage of a log. One of another version than that which is asked for is refused before.
+    fn damage_in(&mut self, log: &str) -> Result<Verdict, ToolFault>
+        ensures faults { IfErr result IsSettlingFault }
+    {
+        if self.asked.is_some() {
+            let file = self.open(log)?;
+            let file = NotedReader::new(file, &mut self.notes.heard);
+            check_version(self.alloc, self.notes.secret, self.asked, file)?;
+        }
+        self.stream_log(Streaming::Damage, Some(log), false)
+    }
+
+    pub fn retime_in(&mut self, log: &str) -> Result<Verdict, ToolFault>
+        ensures faults { IfErr result IsSettlingFault }
+    {
+        if let Verdict::Found = self.damage_in(log)? {
+            return Ok(Verdict::Found);
+        }
+        let file = self.open(log)?;
+        let files = SystemFiles { rt: self.rt };
+        let place = self.log_at(log)?;
+        retime_at(self.alloc, place, file, &files, &mut self.notes)?;
+        Ok(Verdict::Done)
     }
 }
 
@@ -195,4 +282,98 @@ where
 {
     let (left, answer) = repair_on(alloc, place);
     close(left.folder, answer, notes)
+}
+
+fn prune_at<D: Files + Clock + Drop, R: Read + Drop, O: OutputFiles>(
+    alloc: Global,
+    place: AskedFolder<DiskFolder<D>>,
+    targets: Vec<Name>,
+    log: R,
+    files: &O,
+    notes: &mut Notes,
+) -> Result<(), ToolFault>
+where
+    D::File: SystemFile,
+    ensures call { IsErr result ⊎ ((kept : List (List ℕ)) × (left : FolderView)
+        × KeepsMost (R.remaining log) (O.states files.now) targets.items kept
+        × ChangesLogFor place.asked (λ _. keeping kept) result (folder_view ⟦<DiskFolder<D> as Folder>⟧ place.folder) left) }
+    ensures faults { IfErr result IsPruneFault }
+{
+    let log = NotedReader::new(log, &mut notes.heard);
+    let (left, answer) = match names_there(alloc, place.secret(), log, files, targets) {
+        Ok(set) => place.change(alloc, &set),
+        Err(fault) => (place, Err(fault)),
+    };
+    close(left.folder, answer, notes)
+}
+
+fn check_version<R: Read + Drop>(
+    alloc: Global,
+    secret: Secret,
+    asked: Option<LogVersion>,
+    log: R,
+) -> Result<(), ToolFault>
+    ensures ok { OnOk result ((text : List ℕ) × IsReportFor asked (R.remaining log) text) }
+    ensures bytes { RefusesLog (log_for asked) (R.remaining log) result }
+    ensures faults { IfErr result IsLogFault }
+{
+    let mut report = Vec::new(alloc);
+    match check_log(alloc, secret, asked, log, &mut report) {
+        Ok(()) => Ok(()),
+        // The writer is memory, so a write that fails found no room there.
+        Err(ToolFault::Write) => Err(ToolFault::Memory),
+        Err(fault) => Err(fault),
+    }
+}
+
+fn retime_at<D: Files + Clock + Drop, R: Read + Drop, O: OutputFiles>(
+    alloc: Global,
+    place: AskedFolder<DiskFolder<D>>,
+    log: R,
+    files: &O,
+    notes: &mut Notes,
+) -> Result<(), ToolFault>
+where
+    D::File: SystemFile,
+    ensures call { IsErr result ⊎ ((times : List (List ℕ × ℤ)) × (left : FolderView)
+        × AddsFor pair_by (R.remaining log) (O.states files.now) [] times
+        × ChangesLogFor place.asked (λ _. touching times) result (folder_view ⟦<DiskFolder<D> as Folder>⟧ place.folder) left) }
+    ensures faults { IfErr result IsSettlingFault }
+{
+    let log = NotedReader::new(log, &mut notes.heard);
+    let (left, answer) = retime_there(alloc, place, log, files, &mut notes.early);
+    close(left.folder, answer, notes)
+}
+
+fn retime_there<P: LogPlace, R: Read + Drop, F: OutputFiles>(
+    alloc: Global,
+    place: P,
+    log: R,
+    files: &F,
+    early: &mut Vec<u8>,
+) -> (P, Result<(), ToolFault>)
+    ensures call { (IsErr result.1 × (result.0 ≡ place)) ⊎ ((times : List (List ℕ × ℤ))
+        × AddsFor pair_by (R.remaining log) (F.states files.now) [] times × P.changes (touching times) result.1 place result.0) }
+    ensures negative_time { (i : ℕ) → result.1 ≡ Err (ToolFault.NegativeTime i) → result.0 ≡ place }
+    ensures faults { IfErr result.1 IsSettlingFault }
+{
+    match times_there(alloc, place.secret(), log, files) {
+        Ok(times) => match first_negative(times.as_slice()) {
+            Some(at) => {
+                note_early(times.as_slice(), at, early);
+                (place, Err(ToolFault::NegativeTime(at)))
+            }
+            None => retime_on(alloc, place, &times),
+        },
+        Err(fault) => (place, Err(fault)),
+    }
+}
+
+fn note_early(times: &[(Name, i64)], at: usize, early: &mut Vec<u8>)
+    requires there { at < length times.now }
+    ensures named { (early.new.items ≡ []) ⊎ IsSomeAnd (slice_get times.now at) (λ pair. early.new.items ≡ pair.0) }
+{
+    early.clear();
+    let (name, _) = &times[at];
+    let _ = early.extend_from_slice(name.bytes());
 }

@@ -13,7 +13,6 @@ mod program;
 mod reading;
 mod reason;
 mod reporting;
-mod settling;
 mod waiting;
 
 pub use desk::{Desk, LogAt, NO_SCREEN, Screen, number_of};

@@ -1,7 +1,7 @@
 use Rattle.std.proofs.Common.{◌∙◌, ◌<◌, List, [], ◌∷◌, ℕ, ℤ, zero, suc, arith, length, subst, sym}
 use Rattle.nl_session.proofs.StepLemmas.{none_first}
 use Rattle.nl_session.specs.Machine.{IsFirstNegative, NoneNegative}
-use Rattle.nl_tool.proofs.settling.retime_there.Goals as goal
+use Rattle.nl_tool.proofs.changing.retime_there.Goals as goal
 
 first_within : (pairs : List (List ℕ × ℤ)) (i : ℕ) → IsFirstNegative pairs i → i < length pairs
 first_within [] i first = absurd first
