@@ -1,14 +1,20 @@
-//! What a command is done with, and the screen before which it is done.
-ghost use Rattle.std.specs.Prelude.{◌≡◌, ◌&&◌, not, is_some, IfErr, IfOk};
+//! What a command is done with, the screen before which it is done, and the files that it reads: of a log or of a graph that is told of,
+//! all bytes are read before.
+ghost use Rattle.std.specs.Prelude.{◌≡◌, ◌&&◌, false, not, is_some, IfErr, IfOk, IfSome, IsErr, IsErrOf, IsSome};
 ghost use Rattle.nl_files.specs.FileFolder.{system_of};
 ghost use Rattle.nl_os.specs.OsSystem.{is_masked, paths_of, unsynced_of};
 ghost use Rattle.nl_os.specs.Paths.{ArePathsOf};
+ghost use Rattle.nl_table.specs.Log.{NotALog, log_of};
+ghost use Rattle.nl_tool_print.specs.Faults.{IsLogFault};
+ghost use Rattle.nl_tool_texts.specs.Files.{OfBytes};
+ghost use Rattle.nl_versions.specs.VersionOf.{as_five};
 ghost use Rattle.nl_tool.specs.VersionChoice.{asked_in, number_of};
 ghost use Rattle.nl_tool_texts.specs.declared.fault.ToolFault.{ToolFault};
 
-use crate::notes::Notes;
+use crate::notes::{NotedReader, Notes};
 use crate::numbers::positive_of;
-use crate::waiting::Waiting;
+use crate::waiting::{Telling, Waiting};
+use nl_builds::may_be_log;
 use nl_os::{DiskFolder, SystemFile};
 use nl_table::Secret;
 use nl_tool_change::AskedFolder;
@@ -16,10 +22,11 @@ use nl_tool_texts::ToolFault;
 use nl_tool_words::{AskedVersion, CommandLine, Words};
 use nl_versions::LogVersion;
 use std::alloc::Global;
-use std::env;
+use std::io::{ErrorKind, Read};
 use std::rt::{Clock, Files, Runtime};
+use std::{env, fs};
 
-// How many characters a line of a terminal has where nothing tells.
+// How many characters a line of a terminal has where COLUMNS doesn't tell.
 const USUAL: usize = 80;
 
 /// Which of the standard streams are terminals.
@@ -39,14 +46,6 @@ pub const NO_SCREEN: Screen = Screen {
     output: false,
     errors: false,
 };
-
-/// How many characters a line of the terminal has: as many as COLUMNS says.
-pub fn width_of<R: Runtime>(rt: &R) -> usize {
-    let Ok(text) = env::var(rt, "COLUMNS") else {
-        return USUAL;
-    };
-    positive_of(text.as_bytes()).unwrap_or(USUAL)
-}
 
 #[derive(Drop)]
 pub struct Desk<'r, R> {
@@ -86,7 +85,10 @@ impl<'r, R: Runtime> Desk<'r, R> {
         ensures notes { result.notes ≡ notes }
     {
         let is_read = notes.screen.output && !line.tabs;
-        let columns = is_read.then(|| width_of(rt));
+        let columns = is_read.then(|| match env::var(rt, "COLUMNS") {
+            Ok(text) => positive_of(text.as_bytes()).unwrap_or(USUAL),
+            Err(_) => USUAL,
+        });
         let asked = match (line.words, line.version) {
             (_, Some(asked)) => number_of(asked),
             (Words::Change { .. }, None) => None,
@@ -100,6 +102,88 @@ impl<'r, R: Runtime> Desk<'r, R> {
             columns,
             notes,
         }
+    }
+
+    pub fn open_log(&mut self, path: &str, missing_ok: bool) -> Result<Option<R::File>, ToolFault>
+        ensures there { missing_ok ≡ false → IfOk result (λ file. IsSome file) }
+        ensures faults { IfErr result (λ e. e ≡ ToolFault.Read) }
+        ensures noted { IsErr result → IsSome self.new.notes.heard.failure }
+    {
+        match fs::open(self.rt, path) {
+            Ok(file) => Ok(Some(file)),
+            Err(error) if missing_ok && error.kind() == ErrorKind::NotFound => {
+                self.notes.is_missing = true;
+                Ok(None)
+            }
+            Err(error) => {
+                self.notes.heard.failure = Some(error);
+                Err(ToolFault::Read)
+            }
+        }
+    }
+
+    // It tells only whether the log is missing. Every other failure comes when the log is opened.
+    pub fn look_there(&mut self, path: &str, missing_ok: bool) -> Result<(), ToolFault>
+        ensures faults { IfErr result (λ e. e ≡ ToolFault.Read) }
+        ensures noted { IsErr result → IsSome self.new.notes.heard.failure }
+    {
+        if let Err(error) = fs::metadata(self.rt, path) {
+            if error.kind() == ErrorKind::NotFound {
+                if !missing_ok {
+                    self.notes.heard.failure = Some(error);
+                    return Err(ToolFault::Read);
+                }
+                self.notes.is_missing = true;
+            }
+        }
+        Ok(())
+    }
+
+    pub fn note_missing(&mut self, path: &str) {
+        if self.notes.looks {
+            let _ = self.look_there(path, true);
+        }
+    }
+
+    pub fn open(&mut self, path: &str) -> Result<R::File, ToolFault>
+        ensures faults { IfErr result (λ e. e ≡ ToolFault.Read) }
+        ensures noted { IsErr result → IsSome self.new.notes.heard.failure }
+    {
+        Ok(self.open_log(path, false)?.unwrap())
+    }
+
+    pub fn log_bytes(&mut self, log: Option<&str>, missing_ok: bool) -> Result<Vec<u8>, ToolFault>
+        ensures faults { IfErr result IsLogFault }
+    {
+        let Some(path) = log else {
+            return self.bytes_from(true, self.rt.reader());
+        };
+        match self.open_log(path, missing_ok)? {
+            Some(file) => self.bytes_from(true, file),
+            None => Ok(Vec::new(self.alloc)),
+        }
+    }
+
+    // It says how far a log is read, where that takes long.
+    fn bytes_from<S: Read + Drop>(&mut self, is_log: bool, reader: S) -> Result<Vec<u8>, ToolFault>
+        ensures value { IfOk result (λ all. OfBytes (S.remaining reader) (λ bytes. bytes ≡ all.items)) }
+        ensures faults { IfErr result IsLogFault }
+    {
+        let reader = Telling::new(self.rt, is_log && self.notes.screen.errors, reader);
+        let reader = NotedReader::new(reader, &mut self.notes.heard);
+        read_bytes(self.alloc, is_log, reader)
+    }
+
+    // It is the second file, and read before the log.
+    pub fn graph_bytes(&mut self, path: &str) -> Result<Vec<u8>, ToolFault>
+        ensures faults { IfErr result IsLogFault }
+    {
+        self.notes.begin(true);
+        if path == "-" {
+            return self.bytes_from(false, self.rt.reader());
+        }
+        let file = self.open(path)?;
+        self.bytes_from(false, file)
     }
 }
 
@@ -134,6 +218,32 @@ where
             folder: DiskFolder::new(waiting, self.alloc, log)?,
         })
     }
+}
+
+// Bytes of one read.
+const PIECE: usize = 65_536;
+
+// It refuses a log as soon as the first bytes begin none. A read that was interrupted has failed.
+fn read_bytes<R: Read + Drop>(alloc: Global, is_log: bool, reader: R) -> Result<Vec<u8>, ToolFault>
+    ensures value { IfOk result (λ all. OfBytes (R.remaining reader) (λ bytes. bytes ≡ all.items)) }
+    ensures not_a_log { IsErrOf result ToolFault.NotALog → IfSome (R.remaining reader) (λ bs. log_of (as_five bs) ≡ NotALog) }
+    ensures faults { IfErr result IsLogFault }
+{
+    let mut reader = reader;
+    let mut piece = Vec::new(alloc);
+    piece.resize(PIECE, 0)?;
+    let mut all = Vec::new(alloc);
+    for _ in 0..u64::MAX {
+        if is_log && !may_be_log(all.as_slice()) {
+            return Err(ToolFault::NotALog);
+        }
+        match reader.read(piece.as_mut_slice()) {
+            Ok(0) => return Ok(all),
+            Ok(n) => all.extend_from_slice(&piece[..n])?,
+            Err(_) => return Err(ToolFault::Read),
+        }
+    }
+    Err(ToolFault::Read)
 }
 
 /// Keeps why calls of a folder failed. If the file isn't taken for a log, its beginning is kept too, because the reason names it.

@@ -4,19 +4,16 @@
 mod changing;
 mod desk;
 mod doubting;
-mod ending;
 pub mod laws;
 mod notes;
 mod numbers;
 mod printing;
 mod program;
-mod reading;
 mod reason;
 mod reporting;
 mod waiting;
 
 pub use desk::{Desk, LogAt, NO_SCREEN, Screen, number_of};
-pub use ending::{run_line, run_program};
 pub use nl_os::DiskFolder;
 pub use nl_tool_change::{
     AskedFolder, FoundFolder, LineFault, LogPlace, Nobody, NumberFault, NumberOf, Told, UNTOLD,
@@ -32,6 +29,6 @@ pub use nl_tool_texts::{ToolFault, status_of};
 pub use nl_tool_words::{AskedVersion, Changing, Choices, CommandLine, Reading, Words, read_words};
 pub use nl_versions::{FirstLine, LogVersion, command_hash_in, first_line_in, version_of};
 pub use notes::{Beginning, Heard, Look, NotedReader, NotedWriter, Notes, look_of, start_of};
-pub use program::{Verdict, run, run_at};
+pub use program::{Verdict, run, run_at, run_line, run_program};
 pub use reason::{Place, Reason, Refusal, Why, note_of, refusal_of};
 pub use waiting::{Telling, Waiting};

@@ -1,19 +1,40 @@
-//! What the program does once its words are read.
-ghost use Rattle.std.specs.Prelude.{◌≡◌, Option, IfErr, IfOk, OnOk};
+//! The program: what it does once its words are read; and how it ends, what it says of an answer, on which stream, and with which status.
+ghost use Rattle.std.specs.Prelude.{◌≡◌, ◌≢◌, ◌≤◌, Option, map, string_bytes, IfErr, IfOk, OnOk};
+ghost use Rattle.std.specs.IoError.{error_kind};
+ghost use Rattle.std.specs.declared.io.ErrorKind.TheVariants.{OutOfMemory};
+ghost use Rattle.clap.specs.Words.{kind_of};
 ghost use Rattle.nl_tool_change.specs.declared.line_fault.WrongNumber.{WrongNumber};
+ghost use Rattle.nl_tool.specs.Ending.{status_after, IsStatusBy, IsStatusOfKind};
 ghost use Rattle.nl_tool.specs.Faults.{CanBeDone, CanBeRead, CanFind, FindsBy, IsChangeFault, IsFaultOf, IsReadFault, StopsAtDamage};
+ghost use Rattle.nl_tool.specs.Meant.{meant};
+ghost use Rattle.nl_tool_words.specs.CommandLine.{entered_of, fault_in};
 
-use crate::desk::{Desk, NO_SCREEN};
+use crate::desk::{Desk, NO_SCREEN, Screen};
 use crate::notes::Notes;
 use crate::printing::{Printing, Streaming};
+use crate::reason::{
+    Refusal, Why, again_note, masked_note, note_of, reads_input, refusal_of, unsynced_note,
+};
+use clap::Error;
+use clap::error::ErrorKind;
 use nl_os::SystemFile;
-use nl_table::NO_SECRET;
+use nl_table::{NO_SECRET, Secret};
 use nl_tool_doubt::How;
-use nl_tool_texts::ToolFault;
-use nl_tool_words::{Changing, Choices, CommandLine, Reading, Words};
+use nl_tool_texts::{ToolFault, status_of};
+use nl_tool_words::{Changing, Choices, CommandLine, Reading, Words, path_in_place, read_words};
 use std::alloc::Global;
-use std::io;
+use std::random::RandomSource;
 use std::rt::Runtime;
+use std::{env, io};
+
+const DONE: u8 = 0;
+
+const WRONG_WORDS: u8 = 2;
+
+const FOUND: u8 = 3;
+
+// The log of a build, in its folder: it is meant where standard input is a terminal.
+const HERE: &str = ".ninja_log";
 
 /// How a command ended that was done.
 #[derive(Clone, Copy, Debug, PartialEq, Eq, Drop)]
@@ -21,6 +42,53 @@ pub enum Verdict {
     Done,
     /// `damage` found some, or `doubt` or `mend` an output; or `prune` or `retime` damage.
     Found,
+}
+
+/// The whole program: reads the words that it was given, does what they say, and answers the status to end with.
+pub fn run_program<R: Runtime + AllocGlobal + RandomSource>(rt: &R, screen: Screen) -> u8
+where
+    R::File: SystemFile,
+    ensures status { result ≤ 3 }
+{
+    match given_words(rt) {
+        Ok(line) => { run_line(rt, rt.alloc(), line.as_slice(), screen, secret_of(rt)) },
+        Err(error) => refuse_line(rt, &error),
+    }
+}
+
+/// Does what a command line says, of which the first word is the program's name, and answers the status to end with. Names
+/// are hashed under a secret.
+///
+/// The text of a command, help and the version go to standard output; why something was refused goes to standard error.
+pub fn run_line<R: Runtime>(
+    rt: &R,
+    alloc: Global,
+    line: &[String],
+    screen: Screen,
+    secret: Secret,
+) -> u8
+where
+    R::File: SystemFile,
+    ensures status { IsStatusBy (fault_in (map string_bytes line.now)) (entered_of (map string_bytes line.now)) result }
+    ensures bound { result ≤ 3 }
+{
+    match read_words(alloc, line) {
+        Ok(said) => {
+            let line = CommandLine {
+                words: meant(said.words, screen.input.then_some(HERE)),
+                ..said
+            };
+            if screen.input && screen.errors && reads_input(&line.words) {
+                let _ = eprintln!(rt; "nlog: it reads standard input, up to Ctrl-D");
+            }
+            let looks = line.verbose || screen.errors;
+            let notes = Notes::new(alloc, looks, screen, secret);
+            let mut desk = Desk::of(rt, alloc, &line, notes);
+            let answer = run_at(&mut desk, &line);
+            end(rt, alloc, &line, answer, &desk.notes)
+        }
+        Err(error) => explain(rt, line, &error),
+    }
 }
 
 /// Does what a command line says, with standard output for its text. LOG, FILE or SCRIPT is read, or standard input where it is
@@ -142,5 +210,115 @@ where
         };
         done?;
         Ok(Verdict::Done)
+    }
+}
+
+// The words with this log, where they tell of one and name none. `show` and `check` read standard input all the same.
+fn meant<'a>(words: Words<'a>, here: Option<&'a str>) -> Words<'a>
+    ensures value { result ≡ meant words.entry here.entry }
+    ensures can_find { CanFind result → CanFind words.entry }
+{
+    match words {
+        Words::Read { what, log, choices } => Words::Read {
+            what,
+            log: log.or(here),
+            choices,
+        },
+        other => other,
+    }
+}
+
+// A secret of random bytes, or none where there are none to be had: a log is read all the same.
+fn secret_of(source: &impl RandomSource) -> Secret {
+    let mut bytes = [0; 16];
+    if source.fill_bytes(&mut bytes).is_err() {
+        return NO_SECRET;
+    }
+    let keys = u128::from_le_bytes(bytes);
+    Secret::of((keys & 0xFFFF_FFFF_FFFF_FFFF) as u64, (keys >> 64) as u64)
+}
+
+fn given_words<R: Runtime + AllocGlobal>(rt: &R) -> io::Result<Vec<String>> {
+    Ok(env::args(rt)?.collect(rt.alloc())?)
+}
+
+// Of a command that was done it says that its log was missing, that its folder can't be synced, and that an access control list may be
+// gone, where that is asked for; and that the log was written anew by whose builds it went.
+fn end(
+    rt: &impl Eprint,
+    alloc: Global,
+    line: &CommandLine<'_>,
+    answer: Result<Verdict, ToolFault>,
+    notes: &Notes,
+) -> u8
+    ensures status { result ≡ status_after answer }
+    ensures bound { result ≤ 3 }
+{
+    match answer {
+        Ok(Verdict::Done) => {
+            say_note(rt, again_note(line, notes));
+            say_note(rt, note_of(line, notes));
+            say_note(rt, unsynced_note(alloc, line, notes));
+            say_note(rt, masked_note(line, notes));
+            DONE
+        }
+        Ok(Verdict::Found) => FOUND,
+        Err(fault) => say(rt, &refusal_of(alloc, line, fault, notes)),
+    }
+}
+
+fn say_note(rt: &impl Eprint, note: Option<Why<'_>>) {
+    if let Some(why) = note {
+        let _ = eprintln!(rt; "nlog: {why}");
+    }
+}
+
+fn refuse(rt: &impl Eprint, fault: ToolFault) -> u8
+    ensures { result ≡ 1 }
+{
+    say(rt, &Refusal { fault, why: None })
+}
+
+fn say(rt: &impl Eprint, refusal: &Refusal<'_>) -> u8
+    ensures { result ≡ 1 }
+{
+    let _ = eprintln!(rt; "nlog: {refusal}");
+    status_of(&refusal.fault)
+}
+
+// Says why the words could not be taken, as where they are no UTF-8.
+fn refuse_line(rt: &impl Eprint, error: &io::Error) -> u8
+    ensures memory { error_kind error.now ≡ OutOfMemory → result ≡ 1 }
+    ensures status { error_kind error.now ≢ OutOfMemory → result ≡ 2 }
+    ensures bound { result ≤ 2 }
+{
+    match error.kind() {
+        io::ErrorKind::OutOfMemory => refuse(rt, ToolFault::Memory),
+        _ => {
+            let _ = eprintln!(rt; "nlog: cannot read the words: {error}");
+            WRONG_WORDS
+        }
+    }
+}
+
+// Prints help or the version on standard output, and what is wrong with the words on standard error, with a hint where a path stands in
+// the place of a command.
+fn explain(rt: &(impl Print + Eprint), line: &[String], error: &Error) -> u8
+    ensures status { IsStatusOfKind (kind_of error.now) result }
+    ensures bound { result ≤ 2 }
+{
+    match error.kind() {
+        ErrorKind::OutOfMemory => refuse(rt, ToolFault::Memory),
+        ErrorKind::DisplayHelp | ErrorKind::DisplayVersion => match error.print(rt) {
+            Ok(()) => DONE,
+            Err(_) => refuse(rt, ToolFault::Write),
+        },
+        _ => {
+            let _ = error.print(rt);
+            if let Some(path) = path_in_place(line) {
+                let _ = eprintln!(rt; "nlog: a command comes first: nlog show {path}");
+            }
+            WRONG_WORDS
+        }
     }
 }

@@ -2,7 +2,7 @@ use Rattle.std.proofs.Common.{arith, map, string_bytes}
 use Rattle.std.proofs.lemmas.Result.{IfOk-weaker}
 use Rattle.nl_tool_words.specs.CommandLine.{entered_of, fault_in}
 use Rattle.nl_tool.proofs.EndingLemmas.{IsStatusBy_kind, command_ended}
-use Rattle.nl_tool.proofs.ending.run_line.Goals as goal
+use Rattle.nl_tool.proofs.program.run_line.Goals as goal
 
 pub returns-after-line-clause-status : goal.returns-after-line-clause-status
 returns-after-line-clause-status g c =

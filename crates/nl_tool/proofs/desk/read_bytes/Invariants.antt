@@ -1,6 +1,6 @@
 use Rattle.std.proofs.Common.{◌<◌, length}
 use Rattle.std.specs.Io.KnownBytes.{Consumes}
-use Rattle.nl_tool.proofs.reading.read_bytes.Given as goal
+use Rattle.nl_tool.proofs.desk.read_bytes.Given as goal
 
 -- what was read is held, and there is room to ask for more
 abbrev pub invariant-loop : goal.invariant-loop

@@ -2,7 +2,7 @@ use Rattle.std.proofs.Common.{subst, ◌≡◌, ◌++◌, List, ℕ}
 use Rattle.nl_table.specs.Log.{NotALog, log_of}
 use Rattle.nl_versions.specs.VersionOf.{as_five}
 use Rattle.nl_tool.proofs.ReportLemmas.{refused_by}
-use Rattle.nl_tool.proofs.reading.read_bytes.Goals as goal
+use Rattle.nl_tool.proofs.desk.read_bytes.Goals as goal
 
 pub returns-then-not-may_be_log-clause-not_a_log : goal.returns-then-not-may_be_log-clause-not_a_log
 returns-then-not-may_be_log-clause-not_a_log g c is =
