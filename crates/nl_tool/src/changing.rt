@@ -142,9 +142,10 @@ where
             return Ok(Verdict::Found);
         }
         let file = self.open(log)?;
-        let files = SystemFiles { rt: self.rt };
+        let (rt, alloc, folder) = (self.rt, self.alloc, None);
+        let files = SystemFiles { rt, alloc, folder };
         let place = self.log_at(log)?;
-        prune_at(self.alloc, place, targets, file, &files, &mut self.notes)?;
+        prune_at(alloc, place, targets, file, &files, &mut self.notes)?;
         Ok(Verdict::Done)
     }
 
@@ -167,9 +168,10 @@ where
             return Ok(Verdict::Found);
         }
         let file = self.open(log)?;
-        let files = SystemFiles { rt: self.rt };
+        let (rt, alloc, folder) = (self.rt, self.alloc, None);
+        let files = SystemFiles { rt, alloc, folder };
         let place = self.log_at(log)?;
-        retime_at(self.alloc, place, file, &files, &mut self.notes)?;
+        retime_at(alloc, place, file, &files, &mut self.notes)?;
         Ok(Verdict::Done)
     }
 }

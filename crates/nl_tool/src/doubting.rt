@@ -38,10 +38,12 @@ use std::{fs, str};
 
 const NANOSECONDS: i64 = 1_000_000_000;
 
-// A name is a path from the folder in which the program runs.
+// A name that doesn't begin with `/` is a path from the build's folder, or from the one in which the program runs.
 #[derive(Drop)]
 pub struct SystemFiles<'r, R> {
     pub rt: &'r R,
+    pub alloc: Global,
+    pub folder: Option<&'r str>,
 }
 
 impl<R: Files> OutputFiles for SystemFiles<'_, R> {
@@ -49,10 +51,19 @@ impl<R: Files> OutputFiles for SystemFiles<'_, R> {
 
     // The call of the system takes no name that isn't UTF-8.
     fn look(&self, name: &[u8]) -> FileState {
-        let Ok(path) = str::from_utf8(name) else {
+        let Ok(name) = str::from_utf8(name) else {
             return FileState::Unknown;
         };
-        match fs::metadata(self.rt, path) {
+        let found = match self.folder {
+            Some(folder) if !name.starts_with('/') => {
+                match format!(in self.alloc; "{folder}/{name}") {
+                    Ok(path) => fs::metadata(self.rt, path.as_str()),
+                    Err(_) => return FileState::Unknown,
+                }
+            }
+            _ => fs::metadata(self.rt, name),
+        };
+        match found {
             Ok(metadata) if metadata.is_dir() => FileState::Directory,
             Ok(metadata) => FileState::Written(FileTimes {
                 written: time_of(metadata.mtime(), metadata.mtime_nsec()),
@@ -102,31 +113,6 @@ fn tell_doubts<F: OutputFiles, W: Write>(
 // If fewer than one output in this many has a file, that is said.
 const FEW: usize = 10;
 
-// A name that doesn't begin with `/` is a path from the build's folder.
-#[derive(Drop)]
-struct BuildFiles<'r, R> {
-    files: SystemFiles<'r, R>,
-    folder: Option<&'r str>,
-    alloc: Global,
-}
-
-impl<R: Files> OutputFiles for BuildFiles<'_, R> {
-    ghost states = { λ _. None };
-
-    fn look(&self, name: &[u8]) -> FileState {
-        let Some(folder) = self.folder.filter(|_| !name.starts_with(b"/")) else {
-            return self.files.look(name);
-        };
-        let Ok(name) = str::from_utf8(name) else {
-            return FileState::Unknown;
-        };
-        match format!(in self.alloc; "{folder}/{name}") {
-            Ok(path) => self.files.look(path.as_bytes()),
-            Err(_) => FileState::Unknown,
-        }
-    }
-}
-
 impl<R: Runtime> Desk<'_, R>
 where
     R::File: SystemFile,
@@ -137,7 +123,8 @@ where
         let bytes = self.log_bytes(log, false)?;
         let Desk { rt, alloc, .. } = *self;
         let mut out = NotedWriter::new(io::writer(rt));
-        let files = SystemFiles { rt };
+        let folder = None;
+        let files = SystemFiles { rt, alloc, folder };
         let secret = self.notes.secret;
         let answer = tell_doubts(alloc, secret, bytes.as_slice(), &files, &mut out);
         self.notes.written = out.failure;
@@ -180,11 +167,7 @@ where
             return Ok(Verdict::Done);
         }
         let Desk { rt, alloc, .. } = *self;
-        let files = BuildFiles {
-            files: SystemFiles { rt },
-            folder,
-            alloc,
-        };
+        let files = SystemFiles { rt, alloc, folder };
         let place = self.log_at(log)?;
         let mut out = NotedWriter::new(io::writer(rt));
         let answer = mend_at(alloc, place, &files, how, &mut out, &mut self.notes);
