@@ -1,11 +1,7 @@
 //! The numbers of a command line. Each is read once, and a reader that refuses one tells which it is, and why.
-ghost use Rattle.std.specs.Prelude.{◌≡◌, ◌⊎◌, ◌==◌, ◌<◌, ◌^◌, ℕ, List, map, pos, Ok, Some, IfErr, IfOk, IfSome};
-ghost use Rattle.std.specs.List.{slice_split};
+ghost use Rattle.std.specs.Prelude.{◌≡◌, ◌<◌, ◌^◌, ℕ, map, pos, Ok, Some, IfErr, IfOk, IfSome};
 ghost use Rattle.nl_fields.specs.Digits.{IsDecimal};
 ghost use Rattle.nl_reports.specs.declared.choice.Scope.{Scope};
-ghost use Rattle.nl_tool_change.specs.RecordWords.{IsToldOf};
-ghost use Rattle.nl_tool_change.specs.declared.line_fault.NumberOf.{NumberOf};
-ghost use Rattle.nl_tool_texts.specs.declared.fault.ToolFault.{ToolFault};
 ghost use Rattle.nl_tool.specs.Reports.{ArePositive, AreCounts, IsCount, IsNoCount, IsNoCounts, IsNoScope, IsNotPositive, IsScope};
 
 use nl_fields::read_i64;

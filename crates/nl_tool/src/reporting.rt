@@ -11,7 +11,7 @@ ghost use Rattle.nl_reports.specs.Jobs.{told};
 ghost use Rattle.nl_tool_texts.specs.Writing.{IsFoundFault, IsWriteFault};
 ghost use Rattle.nl_reports.specs.declared.choice.Scope.{Scope};
 ghost use Rattle.nl_tool.specs.Answers.{RefusesLog};
-ghost use Rattle.nl_tool.specs.Faults.{IsBuildFault, IsCompareFault, IsPathFault, IsPictureFault, IsReportFault, IsSummaryFault, IsToldFault};
+ghost use Rattle.nl_tool.specs.Faults.{IsBuildFault, IsCompareFault, IsPictureFault, IsReportFault, IsSummaryFault, IsToldFault};
 ghost use Rattle.nl_tool_print.specs.Faults.{IsLogFault};
 ghost use Rattle.nl_tool.specs.Reports.{AreBuilds, AreCounts, IsLaidOut, IsLastOf, IsLeast, IsMost, IsReport, IsReportOf, IsScope, IsSummary, PrintsReport, asked_told, laid_out, rule_of, side_in, waiting};
 

@@ -1,8 +1,8 @@
 //! What a row says of a word, and the command of `clap` that it makes.
-ghost use Rattle.std.specs.Prelude.{◌≡◌, IfOk, false, map};
-ghost use Rattle.clap.specs.Words.{app_of, new_app, rule_of};
+ghost use Rattle.std.specs.Prelude.{◌≡◌, IfOk, false};
+ghost use Rattle.clap.specs.Words.{app_of, rule_of};
 ghost use Rattle.clap.specs.declared.builder.command.Command.TheViews.{out-Command};
-ghost use Rattle.nl_tool_words.specs.Rows.{app_by, nlog, rule_by, with_rules, with_words, word_by};
+ghost use Rattle.nl_tool_words.specs.Rows.{app_by, nlog, rule_by, word_by};
 
 use crate::rows::WORDS;
 use crate::values::value;
