@@ -1,7 +1,7 @@
-//! Which call of the operating system failed, on which file, and why.
+//! Which call of the operating system failed, on which file, and why, and what that tells of a folder's call.
 ghost use Rattle.std.specs.Prelude.{◌≡◌, ◌<◌, is_some, true};
 
-use std::io::ErrorKind;
+use std::io::{self, ErrorKind};
 
 #[derive(Clone, Copy, Debug, PartialEq, Eq, Drop)]
 pub enum SystemCall {
@@ -43,4 +43,11 @@ pub struct Failures {
     pub last: Option<FailedCall>,
     pub count: u64,
     ghost is_kept: { 0 < count → is_some last ≡ true },
+}
+
+/// Which file a folder's call was of, and the system's error.
+#[derive(Clone, Copy)]
+pub struct Failure {
+    pub file: FileRole,
+    pub error: io::Error,
 }

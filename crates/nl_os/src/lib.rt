@@ -3,7 +3,6 @@
 
 mod disk_folder;
 mod failed_call;
-mod failure;
 mod file_id;
 mod os_system;
 mod paths;
@@ -13,8 +12,7 @@ mod system_file;
 mod wait;
 
 pub use disk_folder::DiskFolder;
-pub use failed_call::{FailedCall, FileRole, SystemCall};
-pub use failure::Failure;
+pub use failed_call::{FailedCall, Failure, FileRole, SystemCall};
 pub use os_system::OsSystem;
 pub use paths::folder_part;
 pub use system_file::SystemFile;
