@@ -1,21 +1,17 @@
 //! A build log that is kept open over a folder.
 #![tactic(auto)]
 
-mod answers;
 mod append;
-mod edge;
 mod events;
 mod fault;
 mod intent;
 pub mod laws;
 mod log;
 mod opening;
-mod repair;
 mod rewrite;
 mod state;
 
-pub use answers::reply_to_event;
-pub use events::{Event, Outcome, Reply, run_events};
+pub use events::{Event, Outcome, Reply, reply_to_event, run_events};
 pub use fault::LogFault;
 pub use intent::{intent_hash, is_intent};
 pub use log::{Log, first_negative};
