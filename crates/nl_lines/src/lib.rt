@@ -4,7 +4,6 @@
 pub mod laws;
 mod limits;
 mod lines;
-mod pieces;
 mod source;
 mod window;
 
