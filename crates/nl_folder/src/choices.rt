@@ -2,7 +2,6 @@
 ghost use Rattle.std.specs.Prelude.{◌≡◌, ◌≤◌, List, ℕ, length, drop, slice_get};
 ghost use Rattle.nl_folder.specs.Amounts.{amount_of, kept_len, tail_len};
 
-use crate::fuse::burn;
 use crate::{Call, Fuse};
 use std::marker::Model;
 
@@ -31,11 +30,7 @@ impl Numbers {
     pub fn first(&self) -> Option<u64>
         ensures { result ≡ slice_get self.now 0 }
     {
-        if self.next < self.all.len() {
-            Some(self.all[self.next])
-        } else {
-            None
-        }
+        self.all.get(self.next).copied()
     }
 
     /// Where one is left.
@@ -68,7 +63,14 @@ impl Choices {
         ensures fails { result ≡ fails_at self.old.fuse call }
         ensures counted { self.new ≡ counted call self.old }
     {
-        burn(&mut self.fuse, call)
+        let Some(fuse) = &mut self.fuse else {
+            return false;
+        };
+        if fuse.nth == 0 || (fuse.call != Call::Any && fuse.call != call) {
+            return false;
+        }
+        fuse.nth -= 1;
+        fuse.nth == 0
     }
 }
 

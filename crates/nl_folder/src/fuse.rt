@@ -1,6 +1,4 @@
 //! Which call of a folder in memory fails.
-ghost use Rattle.std.specs.Prelude.{◌≡◌, Option};
-ghost use Rattle.nl_folder.specs.Fuse.{fails_at, fuse_after};
 
 /// A kind of call, and `Any` for all of them together.
 #[derive(Clone, Copy, Debug, PartialEq, Eq, Drop)]
@@ -21,19 +19,4 @@ pub enum Call {
 pub struct Fuse {
     pub call: Call,
     pub nth: u64,
-}
-
-/// Answers whether the call fails.
-pub fn burn(fuse: &mut Option<Fuse>, call: Call) -> bool
-    ensures fails { result ≡ fails_at fuse.old call }
-    ensures counted { fuse.new ≡ fuse_after fuse.old call }
-{
-    let Some(fuse) = fuse else {
-        return false;
-    };
-    if fuse.nth == 0 || (fuse.call != Call::Any && fuse.call != call) {
-        return false;
-    }
-    fuse.nth -= 1;
-    fuse.nth == 0
 }
