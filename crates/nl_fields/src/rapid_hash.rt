@@ -114,16 +114,6 @@ fn over_bytes(hash: u64, bytes: &[u8]) -> u64
     }
 }
 
-fn of_three(bytes: &[u8]) -> u64
-    requires { 0 < length bytes.now }
-    ensures { result ≡ of_three bytes.now }
-{
-    let first = u64::from(bytes[0]);
-    let middle = u64::from(bytes[bytes.len() / 2]);
-    let last = u64::from(bytes[bytes.len() - 1]);
-    first * (1 << 56) + middle * (1 << 32) + last
-}
-
 fn end_first(bytes: &[u8]) -> u64
     ensures { result ≡ end_first bytes.now }
 {
@@ -132,7 +122,10 @@ fn end_first(bytes: &[u8]) -> u64
     } else if bytes.len() > 3 {
         narrow_pair(bytes, 0, bytes.len() - 4)
     } else if bytes.len() > 0 {
-        of_three(bytes)
+        let first = u64::from(bytes[0]);
+        let middle = u64::from(bytes[bytes.len() / 2]);
+        let last = u64::from(bytes[bytes.len() - 1]);
+        first * (1 << 56) + middle * (1 << 32) + last
     } else {
         0
     }
@@ -152,28 +145,14 @@ fn end_last(bytes: &[u8]) -> u64
     }
 }
 
-fn finished(len: u64, hash: u64, first: u64, last: u64) -> u64
-    ensures { result ≡ finished len hash first last }
-{
-    let (low, high) = halves(joined(first, SECRET_1), joined(last, hash));
-    folded(joined(joined(low, SECRET_0), len), joined(high, SECRET_1))
-}
-
-fn begun(len: u64) -> u64
-    ensures { result ≡ begun len }
-{
-    joined(joined(SEED, folded(joined(SEED, SECRET_0), SECRET_1)), len)
-}
-
 /// The hash of a command in logs of version 7: rapidhash, in its first version, with its own seed and secret.
 pub fn command_hash_v7(command: &[u8]) -> u64
     ensures value { result ≡ rapid_hash_of command.now }
 {
     let len = command.len() as u64;
-    finished(
-        len,
-        over_bytes(begun(len), command),
-        end_first(command),
-        end_last(command),
-    )
+    let begun = joined(joined(SEED, folded(joined(SEED, SECRET_0), SECRET_1)), len);
+    let hash = over_bytes(begun, command);
+    let (first, last) = (end_first(command), end_last(command));
+    let (low, high) = halves(joined(first, SECRET_1), joined(last, hash));
+    folded(joined(joined(low, SECRET_0), len), joined(high, SECRET_1))
 }

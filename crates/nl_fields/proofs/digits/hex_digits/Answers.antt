@@ -2,7 +2,7 @@ use Rattle.std.proofs.Common.{arith, rules, length-set, refl}
 use Rattle.nl_fields.proofs.HexLemmas.{Completes-first, Completes-more, room_left, written_more}
 use Rattle.nl_fields.proofs.DigitLemmas.{same_spelling}
 use Rattle.nl_fields.proofs.NumberLemmas.{IsDigits-digits_of}
-use Rattle.nl_fields.proofs.hex.hex_digits.Goals as goal
+use Rattle.nl_fields.proofs.digits.hex_digits.Goals as goal
 
 pub loop-left-init : goal.loop-left-init
 loop-left-init c = (refl, omega arith, omega arith, Completes-first c.args.number _ c.hex_digit.ensures)
