@@ -2,14 +2,13 @@
 #![tactic(auto)]
 
 mod file_folder;
+mod held_files;
 pub mod laws;
 mod log_calls;
-mod log_file;
 mod mem_inode;
 mod mem_system;
 mod runs;
 mod scratch_calls;
-mod scratch_file;
 mod sync_fault;
 mod system;
 
