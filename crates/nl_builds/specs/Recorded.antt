@@ -1,5 +1,6 @@
 -- Entries that stand for outputs while their command runs (docs/FORMAT.md, "Intents"), and those that stand again when it doesn't.
 use Rattle.std.specs.Prelude.{ℕ, pos, ◌==◌, ◌&&◌, ◌||◌, Bool, false, List, [], ◌∷◌, ◌++◌, Option, None, Some, filter, if◌then◌else◌}
+use Rattle.std.specs.List.{list_any}
 use Rattle.std.specs.Ordering.{int_eq}
 use Rattle.nl_fields.specs.declared.entry.Entry.{Entry}
 use Rattle.nl_table.specs.Table.{all_entered_table, entered_table, entry_named, entry_names}
@@ -9,8 +10,7 @@ abbrev pub is_intent : Entry → Bool
 is_intent e = int_eq e.start_ms e.end_ms && int_eq e.mtime (pos 0)
 
 abbrev pub any_intent : List Entry → Bool
-any_intent [] = false
-any_intent (e ∷ es) = is_intent e || any_intent es
+any_intent es = list_any is_intent es
 
 -- their last entry is an intent, because their command didn't end; in the order of the table of last entries
 abbrev pub unfinished : List Entry → List (List ℕ)

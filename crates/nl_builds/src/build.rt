@@ -1,4 +1,16 @@
-//! A build of a log.
+//! The builds of a log's entries.
+ghost use Rattle.std.specs.Prelude.{◌≡◌, [], drop, take, ◌<◌, false, map, IfOk};
+ghost use Rattle.nl_builds.specs.Builds.{again, builds_of, entries_of, falls_at, found_build, IsTold, new_names, whole_commands, written_builds};
+ghost use Rattle.nl_builds.specs.Sorted.{by_moment, moment_rank, span_rank};
+
+use crate::command::{Command, commands_of, latest, moment, with_rows, with_waits};
+use crate::name_key::NameKey;
+use crate::seen::{Order, Seen, first_back, walk};
+use crate::stamps::Stamps;
+use indexmap::IndexSet;
+use nl_fields::EntryRef;
+use nl_table::Secret;
+use std::alloc::{AllocError, Global};
 
 /// How a build is known.
 #[derive(Clone, Copy, Debug, PartialEq, Eq, Drop)]
@@ -18,4 +30,223 @@ pub struct Build {
     pub how: How,
     /// Whether these are surely the commands of one build, and all that the log has of it.
     pub is_sure: bool,
+}
+
+/// The builds of a log, their commands, and the entries of these. Each has the place behind its last part: the commands of a build are
+/// those from the place of the build before, and the entries of a command likewise.
+#[derive(Drop)]
+pub struct Builds<'a> {
+    pub entries: Vec<EntryRef<'a>>,
+    pub commands: Vec<Command>,
+    pub builds: Vec<Build>,
+}
+
+/// It takes time in proportion to the entries, and if the log was written anew also that of sorting them. Only then it hashes names, under
+/// the secret.
+pub fn builds_of<'a>(
+    alloc: Global,
+    secret: Secret,
+    stamps: Stamps,
+    entries: Vec<EntryRef<'a>>,
+) -> Result<Builds<'a>, AllocError>
+    ensures value { IfOk result (λ told. IsTold (builds_of stamps entries.entry.items) told.entries.items told.commands.items told.builds.items) }
+{
+    let commands = with_rows(with_waits(alloc, commands_of(alloc, entries.as_slice())?)?);
+    let seen = walk(alloc, Order::Written, stamps, 0, true, commands.as_slice())?;
+    let back = first_back(stamps, seen.as_slice());
+    let count = if back.is_some() || stamps.is_end() {
+        whole_commands(
+            new_names(alloc, secret, entries.as_slice())?,
+            commands.as_slice(),
+        )
+    } else {
+        0
+    };
+    if back.is_some_and(|place| place < count) {
+        return again(alloc, stamps, count, entries, commands);
+    }
+    let builds = written_builds(alloc, stamps, count, 0, seen.as_slice())?;
+    Ok(Builds {
+        entries,
+        commands,
+        builds,
+    })
+}
+
+// How many entries stand before the first whose name came before: a log that was written anew has no name twice.
+fn new_names(alloc: Global, secret: Secret, entries: &[EntryRef]) -> Result<usize, AllocError>
+    ensures value { IfOk result (λ count. count ≡ new_names [] entries.now) }
+{
+    let mut names = IndexSet::with_capacity_and_hasher(alloc, entries.len(), secret)?;
+    let mut count = 0;
+    for entry in entries {
+        if !names.insert(NameKey {
+            bytes: entry.name(),
+        })? {
+            return Ok(count);
+        }
+        count += 1;
+    }
+    Ok(count)
+}
+
+// How many commands are whole within so many entries.
+fn whole_commands(count: usize, commands: &[Command]) -> usize
+    ensures { result ≡ whole_commands count commands.now }
+{
+    let mut whole = 0;
+    for command in commands {
+        if command.to > count {
+            return whole;
+        }
+        whole += 1;
+    }
+    whole
+}
+
+// The entries of so many commands were written anew.
+fn again<'a>(
+    alloc: Global,
+    stamps: Stamps,
+    count: usize,
+    entries: Vec<EntryRef<'a>>,
+    commands: Vec<Command>,
+) -> Result<Builds<'a>, AllocError>
+    ensures value { IfOk result (λ told. IsTold (again stamps count entries.entry.items commands.items) told.entries.items told.commands.items told.builds.items) }
+{
+    let k = entries_of(count, commands.as_slice());
+    let (front, mut rest) = split(alloc, k, entries)?;
+    let mut moved = by_moment(stamps, front)?;
+    let mut found = commands_of(alloc, moved.as_slice())?;
+    let before = walk(alloc, Order::ByMoment, stamps, 0, true, found.as_slice())?;
+    let is_sure = falls_at(count, commands.as_slice());
+    let later = commands_from(count, commands.as_slice());
+    let behind = walk(alloc, Order::Written, stamps, found.len(), is_sure, later)?;
+    let mut builds = found_builds(alloc, k, before.as_slice())?;
+    let mut written = written_builds(alloc, stamps, 0, found.len(), behind.as_slice())?;
+    found.extend_from_slice(later)?;
+    builds.append(&mut written)?;
+    moved.append(&mut rest)?;
+    Ok(Builds {
+        entries: moved,
+        commands: found,
+        builds,
+    })
+}
+
+fn split<'a>(
+    alloc: Global,
+    place: usize,
+    entries: Vec<EntryRef<'a>>,
+) -> Result<(Vec<EntryRef<'a>>, Vec<EntryRef<'a>>), AllocError>
+    ensures front { IfOk result (λ both. both.0.items ≡ take place entries.entry.items) }
+    ensures rest { IfOk result (λ both. both.1.items ≡ drop place entries.entry.items) }
+{
+    if place >= entries.len() {
+        return Ok((entries, Vec::new(alloc)));
+    }
+    let mut front = entries;
+    let rest = front.split_off(place)?;
+    Ok((front, rest))
+}
+
+fn entries_of(count: usize, commands: &[Command]) -> usize
+    ensures { result ≡ entries_of count commands.now }
+{
+    commands.get(count.saturating_sub(1)).map_or(0, |it| it.to)
+}
+
+fn commands_from(count: usize, commands: &[Command]) -> &[Command]
+    ensures { result.now ≡ drop count commands.now }
+{
+    &commands[count.min(commands.len())..]
+}
+
+fn falls_at(place: usize, commands: &[Command]) -> bool
+    ensures { result ≡ falls_at place commands.now }
+{
+    match (commands.get(place.saturating_sub(1)), commands.get(place)) {
+        (Some(a), Some(b)) => a.falls(b),
+        _ => false,
+    }
+}
+
+fn found_builds(alloc: Global, count: usize, seen: &[Seen]) -> Result<Vec<Build>, AllocError>
+    ensures value { IfOk result (λ builds. builds.items ≡ map (found_build count) seen.now) }
+{
+    let mut builds = Vec::with_capacity(alloc, seen.len())?;
+    for build in seen {
+        let taken = count.saturating_sub(build.last.to);
+        builds.push(Build {
+            to: build.to,
+            began: build.began,
+            how: How::FoundAgain { taken },
+            is_sure: false,
+        })?;
+    }
+    Ok(builds)
+}
+
+// By the moments at which their builds began; those of one moment by END and hash.
+fn by_moment(stamps: Stamps, entries: Vec<EntryRef>) -> Result<Vec<EntryRef>, AllocError>
+    ensures value { IfOk result (λ sorted. sorted.items ≡ by_moment stamps entries.entry.items) }
+{
+    let mut sorted = entries;
+    sorted.sort_by(|a, b| span_rank(b).cmp(&span_rank(a)))?;
+    sorted.sort_by(|a, b| moment_rank(stamps, b).cmp(&moment_rank(stamps, a)))?;
+    Ok(sorted)
+}
+
+fn span_rank(entry: &EntryRef) -> u128
+    ensures { result ≡ span_rank entry.now }
+{
+    let ended = u128::from(moment(entry.end_ms)) * 0x1_0000_0000_0000_0000;
+    u128::MAX - (ended + u128::from(entry.hash))
+}
+
+fn moment_rank(stamps: Stamps, entry: &EntryRef) -> u64
+    ensures { result ≡ moment_rank stamps entry.now }
+{
+    let ms = match stamps {
+        Stamps::OfEnd => u32::MAX,
+        Stamps::Unknown | Stamps::OfStart => moment(entry.start_ms),
+    };
+    u64::MAX - latest(entry.mtime, ms).unwrap_or(0)
+}
+
+// The builds stand behind a place. So many commands are of new names.
+fn written_builds(
+    alloc: Global,
+    stamps: Stamps,
+    new: usize,
+    place: usize,
+    seen: &[Seen],
+) -> Result<Vec<Build>, AllocError>
+    ensures value { IfOk result (λ builds. builds.items ≡ written_builds stamps new place false seen.now) }
+{
+    let mut builds = Vec::with_capacity(alloc, seen.len())?;
+    let mut from = place;
+    let mut beside = false;
+    let mut rest = seen;
+    'builds: while let Some((build, later)) = rest.split_first() {
+        let doubts = build.doubts(stamps, from < new);
+        // If MTIME is of the end, what hides beside a build counts only where the log may have been written anew.
+        let counts = stamps.is_start() || from < new;
+        let next = later.first();
+        builds.push(Build {
+            to: build.to,
+            began: build.began,
+            how: How::AsWritten,
+            is_sure: (stamps.is_start() || stamps.is_end())
+                && build.is_sure
+                && next.is_none_or(|it| it.is_sure)
+                && !(doubts
+                    || counts
+                        && (beside || next.is_some_and(|it| it.doubts(stamps, build.to < new)))),
+        })?;
+        beside = doubts;
+        from = build.to;
+        rest = later;
+    }
+    Ok(builds)
 }

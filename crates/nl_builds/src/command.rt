@@ -1,9 +1,14 @@
-//! A command of a log, as the entries of its outputs tell it.
-ghost use Rattle.std.specs.Prelude.{◌≡◌};
-ghost use Rattle.nl_builds.specs.Commands.{falls, is_more, is_same, latest, longer, moment, one, tells, with_next, with_wait};
+//! The commands of a log, as the entries of their outputs tell them.
+ghost use Rattle.std.specs.Prelude.{◌≡◌, [], nat_lt, false, IfOk};
+ghost use Rattle.std.specs.List.{list_any};
+ghost use Rattle.std.specs.List.Sorted.{IsNonDecreasing};
+ghost use Rattle.nl_builds.specs.Commands.{commands, falls, is_more, is_same, latest, longer, moment, one, row_to, tells, waited, with_next, with_rows, with_wait, with_waits};
+ghost use Rattle.nl_builds.specs.Moments.{least};
 
-use crate::moment::{NANOS, least};
 use nl_fields::EntryRef;
+use std::alloc::{AllocError, Global};
+
+pub(crate) const NANOS: u64 = 1_000_000;
 
 // Ninja begins anew once it made the manifest.
 const MANIFEST: &[u8; 11] = b"build.ninja";
@@ -31,7 +36,7 @@ pub struct Command {
 
 impl Command {
     // The entry stands before place `to`.
-    pub(crate) fn one(to: usize, entry: &EntryRef) -> Command
+    fn one(to: usize, entry: &EntryRef) -> Command
         ensures value { result ≡ one to entry.now }
     {
         let began = moment(entry.start_ms);
@@ -49,7 +54,7 @@ impl Command {
     }
 
     // `first` and `last` are the names of its first output and of its last.
-    pub(crate) fn is_more(&self, first: &[u8], last: &[u8], entry: &EntryRef) -> bool
+    fn is_more(&self, first: &[u8], last: &[u8], entry: &EntryRef) -> bool
         ensures { result ≡ is_more self.now first.now last.now entry.now }
     {
         self.began == moment(entry.start_ms)
@@ -59,14 +64,11 @@ impl Command {
     }
 
     // The entry stands before place `to`.
-    pub(crate) fn longer(self, to: usize, entry: &EntryRef) -> Command
+    fn longer(self, to: usize, entry: &EntryRef) -> Command
         ensures value { result ≡ longer self to entry.now }
     {
-        let mtime = if self.mtime == entry.mtime {
-            self.mtime
-        } else {
-            0
-        };
+        let agrees = self.mtime == entry.mtime;
+        let mtime = if agrees { self.mtime } else { 0 };
         Command {
             mtime,
             to,
@@ -77,7 +79,7 @@ impl Command {
     }
 
     // With its START, if it waited.
-    pub(crate) fn with_wait(self, wait: Option<u64>) -> Command
+    fn with_wait(self, wait: Option<u64>) -> Command
         ensures value { result ≡ with_wait self wait }
     {
         Command {
@@ -88,7 +90,7 @@ impl Command {
     }
 
     // The next one has what it and those behind it in its row tell.
-    pub(crate) fn with_next(self, next: Option<Command>) -> Command
+    fn with_next(self, next: Option<Command>) -> Command
         ensures value { result ≡ with_next self next }
     {
         match next {
@@ -151,4 +153,97 @@ pub(crate) fn latest(mtime: i64, ms: u32) -> Option<u64>
         return None;
     }
     Some(mtime.unsigned_abs() + ((1 << 32) - u64::from(ms)) * NANOS)
+}
+
+/// The one that is known, if only one is.
+pub(crate) fn least(a: Option<u64>, b: Option<u64>) -> Option<u64>
+    ensures { result ≡ least a b }
+{
+    a.zip(b).map_or(a.or(b), |(x, y)| Some(x.min(y)))
+}
+
+pub fn commands_of(alloc: Global, entries: &[EntryRef]) -> Result<Vec<Command>, AllocError>
+    ensures value { IfOk result (λ found. found.items ≡ commands entries.now) }
+{
+    let mut found = Vec::with_capacity(alloc, entries.len())?;
+    let Some((start, later)) = entries.split_first() else {
+        return Ok(found);
+    };
+    let mut place = 1;
+    let mut current = Command::one(1, start);
+    let mut first = start.name();
+    let mut last = first;
+    for entry in later {
+        place += 1;
+        if current.is_more(first, last, entry) {
+            current = current.longer(place, entry);
+        } else {
+            found.push(current)?;
+            current = Command::one(place, entry);
+            first = entry.name();
+        }
+        last = entry.name();
+    }
+    found.push(current)?;
+    Ok(found)
+}
+
+/// Each with its START, if it waited for one before it in its row.
+pub(crate) fn with_waits(alloc: Global, commands: Vec<Command>) -> Result<Vec<Command>, AllocError>
+    ensures value { IfOk result (λ found. found.items ≡ with_waits [] commands.items) }
+{
+    let mut found = commands;
+    let mut row = Vec::new(alloc);
+    for i in 0..found.len() {
+        let command = found[i];
+        cut_row(&mut row, command.ended);
+        let wait = waited(row.as_slice(), &command);
+        found[i] = command.with_wait(wait);
+        row.push(command.ended)?;
+    }
+    Ok(found)
+}
+
+// A row ends where END falls.
+fn cut_row(row: &mut Vec<u32>, ended: u32)
+    requires { IsNonDecreasing row.old.items }
+    ensures row { row.new.items ≡ row_to row.old.items ended }
+    ensures none_behind { list_any (nat_lt ended) row.new.items ≡ false }
+{
+    if row.is_empty() {
+        return;
+    }
+    if row[row.len() - 1] <= ended {
+        return;
+    }
+    row.clear();
+}
+
+// START, if it waited for one of the row. ENDs in a row rise.
+fn waited(row: &[u32], command: &Command) -> Option<u64>
+    requires { IsNonDecreasing row.now }
+    ensures value { result ≡ waited row.now command.now }
+{
+    let began = u64::from(command.began);
+    let at = row.partition_point(|ended| u64::from(*ended) + 1 < began);
+    if at == row.len() || row[at] > command.began {
+        return None;
+    }
+    Some(began)
+}
+
+/// Each with what it and those behind it in its row tell.
+pub(crate) fn with_rows(commands: Vec<Command>) -> Vec<Command>
+    ensures value { result.items ≡ with_rows commands.items }
+{
+    let mut found = commands;
+    let mut next = None;
+    let mut at = found.len();
+    'commands: while at > 0 {
+        at -= 1;
+        let told = found[at].with_next(next);
+        found[at] = told;
+        next = Some(told);
+    }
+    found
 }

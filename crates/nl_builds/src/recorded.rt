@@ -1,7 +1,7 @@
 //! Which entries are of commands: not those that stand for outputs while their command runs, nor those that stand again when it doesn't.
-ghost use Rattle.std.specs.Prelude.{◌≡◌, ◌++◌, ◌∷◌, [], filter, map, if◌then◌else◌, IfOk, OnOk};
+ghost use Rattle.std.specs.Prelude.{◌≡◌, ◌++◌, ◌∷◌, [], map, if◌then◌else◌, IfOk, OnOk};
 ghost use Rattle.nl_table.specs.Table.{entered_table, entry_named};
-ghost use Rattle.nl_builds.specs.Recorded.{any_intent, is_intent, is_of_none, is_some_equal, is_some_intent, name_of_new, recorded, stood_with, unfinished};
+ghost use Rattle.nl_builds.specs.Recorded.{is_intent, is_of_none, is_some_equal, is_some_intent, name_of_new, recorded, stood_with, unfinished};
 
 use nl_fields::EntryRef;
 use nl_table::{Secret, Table};
@@ -25,7 +25,7 @@ pub fn keep_recorded<'a>(
     ensures unfinished { IfOk result (λ kept. map (λ n. n.now) kept.unfinished.items ≡ unfinished entries.entry.items) }
 {
     let mut names = Vec::new(alloc);
-    if !any_intent(entries.as_slice()) {
+    if !entries.iter().any(is_intent) {
         return Ok(Recorded {
             entries,
             unfinished: names,
@@ -37,7 +37,7 @@ pub fn keep_recorded<'a>(
     for entry in entries {
         take(entry, &mut last, &mut stood, &mut names, &mut kept)?;
     }
-    keep_waiting(&last, &mut names);
+    names.retain(|name| is_some_intent(&last.get(name)));
     Ok(Recorded {
         entries: kept,
         unfinished: names,
@@ -76,13 +76,6 @@ fn take<'a>(
     Ok(())
 }
 
-// Those whose last entry is an intent.
-fn keep_waiting(last: &Table, names: &mut Vec<&[u8]>)
-    ensures items { names.new.items ≡ filter (λ n. is_some_intent (entry_named last.now n.now)) names.old.items }
-{
-    names.retain(|name| is_some_intent(&last.get(name)));
-}
-
 fn is_some_intent(entry: &Option<EntryRef>) -> bool
     ensures { result ≡ is_some_intent entry.now }
 {
@@ -103,18 +96,7 @@ fn is_some_equal(old: &Option<EntryRef>, entry: &EntryRef) -> bool
     }
 }
 
-fn any_intent(entries: &[EntryRef]) -> bool
-    ensures { result ≡ any_intent entries.now }
-{
-    for entry in entries {
-        if is_intent(entry) {
-            return true;
-        }
-    }
-    false
-}
-
-pub(crate) fn is_intent(entry: &EntryRef) -> bool
+fn is_intent(entry: &EntryRef) -> bool
     ensures { result ≡ is_intent entry.now }
 {
     entry.start_ms == entry.end_ms && entry.mtime == 0

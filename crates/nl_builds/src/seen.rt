@@ -1,10 +1,23 @@
 //! What is known of a build so far, and where another begins.
-ghost use Rattle.std.specs.Prelude.{◌≡◌};
+ghost use Rattle.std.specs.Prelude.{◌≡◌, ◌+◌, ◌<◌, ◌^◌, length, IfOk, None};
+ghost use Rattle.nl_builds.specs.Builds.{first_back, walk};
+ghost use Rattle.nl_builds.specs.Moments.{greatest, is_past, reaches};
 ghost use Rattle.nl_builds.specs.Seen.{begun, differs_by, doubts, is_after, is_back, is_behind, is_moment_of, is_tied, mark, only, past_by, told, with_command};
 
-use crate::command::Command;
-use crate::moment::{AGREEMENT, ONE_MOMENT, SLACK, greatest, is_past, least, reaches};
+use crate::command::{Command, NANOS, least};
 use crate::stamps::Stamps;
+use std::alloc::{AllocError, Global};
+
+// Nanoseconds by which the clocks of a file system and of a build may differ (docs/BUILDS.md).
+const SLACK: u64 = 20_000_000;
+
+// Nanoseconds by which two moments may differ that are one, by START and by END.
+const AGREEMENT: u64 = 6_000_000;
+
+const ONE_MOMENT: u64 = 10_000_000;
+
+// START and END count from so many nanoseconds before the build began, so that none is negative.
+const ZERO: u64 = (1 << 31) * NANOS;
 
 // END of a build that took 10 ms.
 const LASTED: u32 = (1 << 31) + 10;
@@ -228,12 +241,9 @@ fn is_after(end: Option<Past>, moment: Option<u64>) -> bool
 fn is_moment_of(end: Option<Past>, moment: Option<u64>) -> bool
     ensures { result ≡ is_moment_of end moment }
 {
-    match (end, moment) {
-        (Some(past), Some(at)) => past.ended >= LASTED
-            && !is_past(ONE_MOMENT, past.began, at)
-            && !is_past(ONE_MOMENT, at, past.began),
-        _ => false,
-    }
+    end.zip(moment).is_some_and(|(past, at)| past.ended >= LASTED
+        && !is_past(ONE_MOMENT, past.began, at)
+        && !is_past(ONE_MOMENT, at, past.began))
 }
 
 // When its build began, as borders go by it.
@@ -245,4 +255,79 @@ fn told(stamps: Stamps, past: Option<Past>, command: &Command) -> Option<u64>
         Stamps::OfEnd if is_after(past, command.latest()) => command.earliest(),
         _ => None,
     }
+}
+
+/// `to` is behind `from` by more than `much`.
+fn is_past(much: u64, from: u64, to: u64) -> bool
+    ensures { result ≡ is_past much from to }
+{
+    u128::from(from) + u128::from(much) < u128::from(to)
+}
+
+/// Whether a moment and the slack reach the END of a build that began at another.
+fn reaches(began: u64, ended: u32, moment: u64) -> bool
+    ensures { result ≡ reaches began ended moment }
+{
+    u128::from(began) + u128::from(ended) * u128::from(NANOS)
+        < u128::from(moment) + u128::from(ZERO + SLACK)
+}
+
+/// The one that is known, if only one is.
+fn greatest(a: Option<u64>, b: Option<u64>) -> Option<u64>
+    ensures { result ≡ greatest a b }
+{
+    a.zip(b).map_or(a.or(b), |(x, y)| Some(x.max(y)))
+}
+
+/// The builds of commands, one behind another. The first command stands behind `place`, and `is_sure` is whether the border before it is.
+pub(crate) fn walk(
+    alloc: Global,
+    order: Order,
+    stamps: Stamps,
+    place: usize,
+    is_sure: bool,
+    commands: &[Command],
+) -> Result<Vec<Seen>, AllocError>
+    requires room { place + length commands.now < 2 ^ 64 }
+    ensures value { IfOk result (λ found. found.items ≡ walk order stamps place is_sure commands.now) }
+{
+    let mut found = Vec::new(alloc);
+    let Some((start, later)) = commands.split_first() else {
+        return Ok(found);
+    };
+    let mut to = place + 1;
+    let mut current = Seen::begun(stamps, to, is_sure, None, start);
+    for command in later {
+        to += 1;
+        let mark = current.mark(order, stamps, command);
+        if matches!(mark, Mark::Unsure | Mark::Sure) {
+            found.push(current)?;
+            // It tells of the next build only if they stand as Ninja wrote them.
+            let past = match order {
+                Order::Written => current.end(current.began, current.past),
+                Order::ByMoment => None,
+            };
+            current = Seen::begun(stamps, to, matches!(mark, Mark::Sure), past, command);
+        } else {
+            current = current.with_command(stamps, to, matches!(mark, Mark::Doubtful), command);
+        }
+    }
+    found.push(current)?;
+    Ok(found)
+}
+
+/// The place before the first build that can't stand behind the one before it.
+pub(crate) fn first_back(stamps: Stamps, builds: &[Seen]) -> Option<usize>
+    ensures { result ≡ first_back stamps None 0 builds.now }
+{
+    let mut before = None;
+    let mut place = 0;
+    for build in builds {
+        if build.is_back(stamps, before) {
+            return Some(place);
+        }
+        before = build.end(build.earliest, None);
+        place = build.to;
+    }
+    None
 }

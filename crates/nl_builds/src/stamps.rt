@@ -1,8 +1,6 @@
 //! What MTIME is in a log.
 ghost use Rattle.std.specs.Prelude.{◌≡◌};
-ghost use Rattle.nl_builds.specs.Stamps.{is_end, is_start, stamps_by};
-
-use nl_versions::FirstLine;
+ghost use Rattle.nl_builds.specs.Stamps.{is_end, is_start};
 
 #[derive(Clone, Copy, Drop)]
 pub enum Stamps {
@@ -15,18 +13,6 @@ pub enum Stamps {
 }
 
 impl Stamps {
-    pub fn of(first: FirstLine) -> Stamps
-        ensures value { result ≡ stamps_by first.is_four first.version }
-    {
-        if first.is_four {
-            Stamps::Unknown
-        } else if first.version.has_starts() {
-            Stamps::OfStart
-        } else {
-            Stamps::OfEnd
-        }
-    }
-
     pub(crate) fn is_start(self) -> bool
         ensures { result ≡ is_start self }
     {

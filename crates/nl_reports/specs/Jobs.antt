@@ -3,7 +3,7 @@ use Rattle.std.specs.Prelude.{ℕ, zero, suc, ◌-◌, ◌==◌, Bool, false, Li
 use Rattle.nl_fields.specs.declared.entry.Entry.{Entry}
 use Rattle.nl_builds.specs.Builds.{Told}
 use Rattle.nl_builds.specs.declared.build.Build.{Build}
-use Rattle.nl_builds.specs.declared.builds.Builds.{Builds}
+use Rattle.nl_builds.specs.declared.build.Builds.{Builds}
 use Rattle.nl_builds.specs.declared.command.Command.{Command}
 use Rattle.nl_reports.specs.Spans.{span_of}
 use Rattle.nl_reports.specs.declared.job.Job.{Job as HeldJob}

@@ -10,7 +10,7 @@ use Rattle.nl_table.specs.declared.loader.LoadFault.TheVariants as load
 use Rattle.nl_versions.specs.VersionOf.{as_five}
 use Rattle.nl_builds.specs.Builds.{IsTold, Told}
 use Rattle.nl_builds.specs.declared.build.Build.{Build}
-use Rattle.nl_builds.specs.declared.builds.Builds.{Builds as Held}
+use Rattle.nl_builds.specs.declared.build.Builds.{Builds as Held}
 use Rattle.nl_builds.specs.declared.command.Command.{Command}
 use Rattle.nl_fields.specs.declared.entry.Entry.{Entry}
 use Rattle.nl_tool_print.specs.Faults.{IsLogFault}

@@ -7,10 +7,10 @@ use Rattle.nl_builds.proofs.log.read_builds.Goals as goal
 
 pub returns-clause-value : goal.returns-clause-value
 returns-clause-value c =
-    let read = c.in_ok-stamps.ensures in
-    let log = c.in_ok-stamps.field-0 in
+    let read = c.in_ok-log.ensures in
+    let log = c.in_ok-log.log in
     let told = c.in_ok-told.told in
-    let kept = c.in_ok-entries.ensures in (
+    let kept = c.in_ok-kept.ensures in (
       read.value.0,
       log.entries.items,
       read.value.1,

@@ -1,10 +1,13 @@
-use Rattle.std.proofs.Common.{◌∙◌, [], List, ap, map, sym}
+use Rattle.std.proofs.Common.{◌∙◌, [], ◌≡◌, List, ap, map, rules, sym, tests}
+use Rattle.std.proofs.lemmas.Fn.{filter_same}
+use Rattle.std.proofs.lemmas.Iterator.{YieldsList-from_slice}
 use Rattle.std.proofs.lemmas.Iterator.Adapters.{YieldsList-from_vec}
 use Rattle.std.proofs.lemmas.Iterator.Consumers.{YieldsList-end}
+use Rattle.std.proofs.lemmas.Iterator.Search.{any_from_yields_List}
 use Rattle.std.proofs.lemmas.List.{map-id}
 use Rattle.nl_fields.specs.declared.entry.Entry.{Entry}
 use Rattle.nl_table.specs.Table.{all_entered_table}
-use Rattle.nl_builds.specs.Recorded.{any_intent}
+use Rattle.nl_builds.specs.Recorded.{any_intent, is_intent}
 use Rattle.nl_builds.proofs.RecordedLemmas.{entered_more, kept_all, kept_more, names_more, none_unfinished, recorded_plain, unfinished_of}
 use Rattle.nl_builds.proofs.recorded.keep_recorded.Goals as goal
 
@@ -34,14 +37,16 @@ returns-clause-unfinished c =
     let from = YieldsList-from_vec {s = iterator.result} c.args.entries.items gives.0 (gives.1 ∙ c.args.entries.ok.0) in
     let end = YieldsList-end from c.loop-entry.yielded c.loop-entry.entry-iterator c.loop-entry.yielded_by _ c.next.new.self c.in-None.is c.next.ensures.steps in
     unfinished_of _ _ c.loop-entry.last c.args.entries.items c.loop-entry.invariant.names
-    (c.loop-entry.invariant.last ∙ ap (λ (l : List Entry). all_entered_table l []) (sym (map-id c.loop-entry.yielded) ∙ end.0)) c.keep_waiting.ensures.items
+    (c.loop-entry.invariant.last ∙ ap (λ (l : List Entry). all_entered_table l []) (sym (map-id c.loop-entry.yielded) ∙ end.0)) (filter_same _ _ _ (λ x b f' k. search rules) _ _ c.retain.ensures.filtered)
 
-pub returns-then-not-any_intent-clause-entries : goal.returns-then-not-any_intent-clause-entries
-returns-then-not-any_intent-clause-entries c =
-    let none = ap any_intent (sym c.as_slice.ensures.value) ∙ sym c.any_intent.ensures ∙ c.if-not-any_intent.true in
-    sym (recorded_plain c.args.entries.items none)
+pub returns-then-not-any-clause-entries : goal.returns-then-not-any-clause-entries
+returns-then-not-any-clause-entries c =
+    let any : c.any.result ≡ any_intent c.args.entries.items =
+    any_from_yields_List is_intent _ _ c.any.result c.any.ensures.ran (YieldsList-from_slice c.args.entries.items (cc)) (λ x b q k. search (rules, tests)) in
+    sym (recorded_plain c.args.entries.items (sym any ∙ c.if-not-any.true))
 
-pub returns-then-not-any_intent-clause-unfinished : goal.returns-then-not-any_intent-clause-unfinished
-returns-then-not-any_intent-clause-unfinished c =
-    let none = ap any_intent (sym c.as_slice.ensures.value) ∙ sym c.any_intent.ensures ∙ c.if-not-any_intent.true in
-    ap (map (λ n. n.now)) c.new-names.ensures.items ∙ sym (none_unfinished c.args.entries.items none)
+pub returns-then-not-any-clause-unfinished : goal.returns-then-not-any-clause-unfinished
+returns-then-not-any-clause-unfinished c =
+    let any : c.any.result ≡ any_intent c.args.entries.items =
+    any_from_yields_List is_intent _ _ c.any.result c.any.ensures.ran (YieldsList-from_slice c.args.entries.items (cc)) (λ x b q k. search (rules, tests)) in
+    ap (map (λ n. n.now)) c.new-names.ensures.items ∙ sym (none_unfinished c.args.entries.items (sym any ∙ c.if-not-any.true))
