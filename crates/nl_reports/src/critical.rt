@@ -15,6 +15,7 @@ ghost use Rattle.nl_reports.specs.declared.graph.NinjaGraph.{NinjaGraph as HeldG
 
 use crate::graph::NinjaGraph;
 use crate::job::Job;
+use crate::last_entries::any_named;
 use crate::outputs::Outputs;
 use crate::span::Span;
 use indexmap::IndexSet;
@@ -119,14 +120,6 @@ pub(crate) fn name_at<'a>(graph: &NinjaGraph<'a>, node: usize) -> Option<&'a [u8
 {
     let (_, name) = graph.nodes.get_index(node)?;
     *name
-}
-
-fn any_named(names: &IndexSet<NameKey, Secret>, outputs: &[EntryRef]) -> bool
-    ensures { result ≡ list_any (λ e. is_held names.now.keys e.name) outputs.now }
-{
-    outputs.iter().any(|entry| names.contains(&NameKey {
-        bytes: entry.name(),
-    }))
 }
 
 fn ran_named<'a>(name: Option<&'a [u8]>, outputs: &Outputs, jobs: &[Job]) -> Option<Ran<'a>>
@@ -305,11 +298,8 @@ impl<'g, 'a> Reaches<'g, 'a> {
     /// It counts the commands on the way: each takes one millisecond.
     pub(crate) fn in_commands(&self) -> AllocResult<Reaches<'g, 'a>> {
         let span = Span { began: 0, ended: 1 };
-        let mut ran = Vec::with_capacity(self.allocator(), self.ran.len())?;
-        for node in 0..self.ran.len() {
-            ran.push(self.ran_at(node).map(|ran| Ran { span, ..ran }))?;
-        }
-        Reaches::by_ran(self.graph, ran)
+        let ran = self.ran.iter().map(|it| it.map(|ran| Ran { span, ..ran }));
+        Reaches::by_ran(self.graph, ran.collect(self.allocator())?)
     }
 
     /// The same in a plan that takes so long, in which nodes are there from these moments on.

@@ -1,5 +1,6 @@
 //! Builds without what later ones made again.
-ghost use Rattle.std.specs.Prelude.{◌≡◌, ◌-◌, ◌++◌, ◌∷◌, ◌||◌, [], ℕ, List, bytes_eq, drop, get_or, if◌then◌else◌, length, map, take, IfOk, OnOk};
+ghost use Rattle.std.specs.Prelude.{◌≡◌, ◌-◌, ℕ, List, drop, get_or, length, map, take, IfOk};
+ghost use Rattle.std.specs.List.{list_any};
 ghost use Rattle.nl_reports.specs.Jobs.{told};
 ghost use Rattle.nl_reports.specs.Lasting.{builds_left, commands_left, is_among, is_held, last_entries, lasting, whole};
 
@@ -48,32 +49,17 @@ fn last_entries<'a>(
     let mut behind = Vec::with_capacity(alloc, entries.len())?;
     let mut rest = entries;
     'entries: while let Some(entry) = rest.pop() {
-        take(entry, &mut later, &mut left, &mut behind)?;
+        // It is left if no later one has its name.
+        if later.insert(NameKey {
+            bytes: entry.name(),
+        })? {
+            left.push(entry)?;
+        }
+        behind.push(left.len())?;
     }
     left.reverse();
     behind.reverse();
     Ok((left, behind))
-}
-
-// An entry of which later ones are known: it is left if none has its name.
-fn take<'a>(
-    entry: EntryRef<'a>,
-    later: &mut IndexSet<NameKey<'a>, Secret>,
-    left: &mut Vec<EntryRef<'a>>,
-    behind: &mut Vec<usize>,
-) -> AllocResult
-    ensures later { (name : List ℕ) → OnOk result (is_held later.new.keys name ≡ (bytes_eq entry.entry.name name || is_held later.old.keys name)) }
-    ensures left { OnOk result (left.new.items
-        ≡ left.old.items ++ (if is_held later.old.keys entry.entry.name then [] else entry.entry ∷ [])) }
-    ensures behind { OnOk result (behind.new.items ≡ behind.old.items ++ length left.new.items ∷ []) }
-{
-    if later.insert(NameKey {
-        bytes: entry.name(),
-    })? {
-        left.push(entry)?;
-    }
-    behind.push(left.len())?;
-    Ok(())
 }
 
 /// Names are hashed under a secret.
@@ -89,6 +75,15 @@ pub(crate) fn names_of<'a>(
         set.insert(NameKey { bytes: *name })?;
     }
     Ok(set)
+}
+
+/// Whether one of these has one of the names.
+pub(crate) fn any_named(names: &IndexSet<NameKey, Secret>, outputs: &[EntryRef]) -> bool
+    ensures { result ≡ list_any (λ e. is_held names.now.keys e.name) outputs.now }
+{
+    outputs.iter().any(|entry| names.contains(&NameKey {
+        bytes: entry.name(),
+    }))
 }
 
 // `entries` counts the entries that are left, and `behind` those of them that don't stand before each place.

@@ -1,7 +1,7 @@
 //! Which command has an output.
-ghost use Rattle.std.specs.Prelude.{◌≡◌, ◌++◌, ◌∷◌, [], ℕ, List, map, IfOk, OnOk};
+ghost use Rattle.std.specs.Prelude.{◌≡◌, ℕ, List, map, IfOk};
 ghost use Rattle.nl_reports.specs.Jobs.{seen};
-ghost use Rattle.nl_reports.specs.Outputs.{HoldPlaces, last_at, places_from, places_of};
+ghost use Rattle.nl_reports.specs.Outputs.{HoldPlaces, last_at, places_of};
 
 use crate::job::Job;
 use indexmap::IndexMap;
@@ -22,7 +22,10 @@ impl<'a> Outputs<'a> {
     {
         let mut places = IndexMap::with_hasher(alloc, secret);
         for place in 0..jobs.len() {
-            put_outputs(&jobs[place], place, &mut places)?;
+            let job = &jobs[place];
+            for entry in job.outputs {
+                places.insert(entry.name(), place)?;
+            }
         }
         Ok(Outputs { places })
     }
@@ -32,18 +35,4 @@ impl<'a> Outputs<'a> {
     {
         self.places.get(name).copied()
     }
-}
-
-fn put_outputs<'a>(
-    job: &Job<'_, 'a>,
-    place: usize,
-    places: &mut IndexMap<&'a [u8], usize, Secret>,
-) -> AllocResult
-    ensures ok { (ps : List (List ℕ × ℕ)) → HoldPlaces ps places.old.entries
-        → OnOk result (HoldPlaces (ps ++ places_from place (seen job.now ∷ [])) places.new.entries) }
-{
-    for entry in job.outputs {
-        places.insert(entry.name(), place)?;
-    }
-    Ok(())
 }

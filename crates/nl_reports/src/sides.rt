@@ -7,7 +7,7 @@ ghost use Rattle.nl_reports.specs.Outputs.{HoldPlaces, places_of};
 
 use crate::class::{Class, class_by_time, class_number};
 use crate::job::{Job, jobs_from};
-use crate::last_entries::names_of;
+use crate::last_entries::{any_named, names_of};
 use crate::outputs::Outputs;
 use indexmap::IndexSet;
 use nl_builds::{Builds, NameKey};
@@ -59,9 +59,7 @@ impl<'s, 'a> Held<'s, 'a> {
     fn waits(&self, job: &Job<'_, 'a>) -> bool
         ensures { result ≡ waits (held_side self.now) (seen job.now) }
     {
-        job.outputs.iter().any(|entry| self.waiting.contains(&NameKey {
-            bytes: entry.name(),
-        }))
+        any_named(&self.waiting, job.outputs)
     }
 
     // 0 if it didn't end.
