@@ -16,7 +16,8 @@ use Rattle.nl_reports.specs.Reaches.{ran_seen}
 use Rattle.nl_reports.specs.Rows.{spans}
 use Rattle.nl_tool_texts.specs.Falling.{falling}
 use Rattle.nl_reports.specs.Spans.{time_of}
-use Rattle.nl_tool_texts.specs.Writing.{HoldsAllBut, Writes}
+use Rattle.nl_tool_texts.specs.Writing.{AppendsSomeOf, HoldsAllBut, Writes}
+use Rattle.nl_tool_texts.specs.Output.{AppendsPrefixOf}
 use Rattle.nl_reports.specs.declared.critical.Ran.{Ran as HeldRan}
 use Rattle.nl_reports.specs.declared.bars.Short.{Short}
 use Rattle.nl_reports.specs.declared.frame.Frame.{Frame}
@@ -26,7 +27,7 @@ use Rattle.nl_reports.specs.declared.span.Span.{Span}
 use Rattle.nl_tool_texts.proofs.FallingLemmas.{map-falling}
 use Rattle.nl_tool_texts.proofs.ListedLemmas.{map-take}
 use Rattle.nl_reports.proofs.PairLemmas.{pair_at, pairs_done}
-use Rattle.nl_tool_texts.proofs.WritingLemmas.{err_writes, none_written}
+use Rattle.nl_tool_texts.proofs.WritingLemmas.{end_missing, err_writes, held_more, none_written}
 
 pub end_some : (f : Frame) (ls : List ℕ) (path : Option (List Ran)) (cs : List Span) (js : List Job) → 0 < length (end f ls path cs js)
 end_some f ls path cs js = omega (
@@ -87,6 +88,17 @@ pub none_drawn : (bytes : Option (List ℕ)) (known : Known) (path : Option (Lis
     → Writes bytes bytes (picture known path js) r
 none_drawn bytes known path js r is =
     err_writes bytes bytes (picture known path js) r is (none_written bytes (picture known path js) (picture_some known path js))
+
+-- ---- the end, which is held apart
+
+pub end_absent : (old new : Option (List ℕ)) (text end whole : List ℕ) → 0 < length end → text ++ end ≡ whole → AppendsSomeOf old new text
+    → AppendsPrefixOf old new whole
+end_absent old new text end whole some is part = subst (λ (l : List ℕ). AppendsPrefixOf old new l) is (end_missing old new text end some part)
+
+pub end_held : (old new : Option (List ℕ)) (text end whole held last : List ℕ) → text ++ end ≡ whole → last ≡ held ++ end
+    → HoldsAllBut old new text held → HoldsAllBut old new whole last
+end_held old new text end whole held last is more holds =
+    subst (λ (l : List ℕ). HoldsAllBut old new l last) is (rw more (held_more old new text held end holds))
 
 -- ---- the lines of the longest commands
 

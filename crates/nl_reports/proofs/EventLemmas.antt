@@ -11,7 +11,7 @@ use Rattle.nl_reports.specs.Events.{args_of, build_event, build_name, command_ev
 use Rattle.nl_reports.specs.Jobs.{Job, first_name}
 use Rattle.nl_reports.specs.Spans.{time_of}
 use Rattle.nl_reports.specs.Sweep.{running}
-use Rattle.nl_reports.specs.declared.events.BuildEvent.{BuildEvent}
+use Rattle.nl_reports.specs.declared.trace.BuildEvent.{BuildEvent}
 use Rattle.nl_reports.specs.declared.span.Span.{Span}
 
 -- digits stand in a text as they are

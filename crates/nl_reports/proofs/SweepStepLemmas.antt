@@ -8,8 +8,8 @@ use Rattle.std.proofs.lemmas.List.{map_more}
 use Rattle.std.proofs.lemmas.List.Sums.{sum_by-cons}
 use Rattle.nl_reports.specs.Sweep.{before, share_of, any_of, alone_of}
 use Rattle.nl_reports.specs.SweepSteps.{AreSums, IsLow, IsSwept, Rises, running_by, shares_before}
-use Rattle.nl_reports.specs.declared.sweep.Sums.{Sums}
-use Rattle.nl_reports.specs.declared.sweep.Sweeping.{Sweeping}
+use Rattle.nl_reports.specs.declared.shares.Sums.{Sums}
+use Rattle.nl_reports.specs.declared.shares.Sweeping.{Sweeping}
 use Rattle.nl_reports.proofs.SweepLemmas.{before-constant}
 
 -- the sums at a moment up to which so many run

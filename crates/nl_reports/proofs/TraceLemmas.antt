@@ -15,7 +15,7 @@ use Rattle.nl_reports.specs.Lanes.{lanes}
 use Rattle.nl_reports.specs.Rows.{spans}
 use Rattle.nl_reports.specs.Trace.{array_text, behind_commas, build_events, events_of}
 use Rattle.nl_tool_texts.specs.Writing.{Writes}
-use Rattle.nl_reports.specs.declared.events.BuildEvent.{BuildEvent}
+use Rattle.nl_reports.specs.declared.trace.BuildEvent.{BuildEvent}
 use Rattle.nl_reports.specs.declared.job.Job.{Job as HeldJob}
 use Rattle.nl_reports.specs.declared.span.Span.{Span}
 use Rattle.nl_reports.proofs.PairLemmas.{pair_at}

@@ -11,7 +11,7 @@ use Rattle.nl_fields.specs.Digits.{digits_of}
 use Rattle.nl_reports.specs.Jobs.{Job, first_name}
 use Rattle.nl_reports.specs.Spans.{time_of}
 use Rattle.nl_reports.specs.Sweep.{running}
-use Rattle.nl_reports.specs.declared.events.BuildEvent.{BuildEvent}
+use Rattle.nl_reports.specs.declared.trace.BuildEvent.{BuildEvent}
 use Rattle.nl_reports.specs.declared.span.Span.{Span}
 
 -- a name as text, with U+FFFD for what isn't UTF-8

@@ -7,7 +7,7 @@ use Rattle.nl_reports.specs.Events.{build_event, command_event, micros, running_
 use Rattle.nl_reports.specs.Jobs.{Job}
 use Rattle.nl_reports.specs.Spans.{time_of}
 use Rattle.nl_reports.specs.Sweep.{running}
-use Rattle.nl_reports.specs.declared.events.BuildEvent.{BuildEvent}
+use Rattle.nl_reports.specs.declared.trace.BuildEvent.{BuildEvent}
 use Rattle.nl_reports.specs.declared.span.Span.{Span}
 
 -- the count of outputs that later builds may have taken from a build has 64 bits

@@ -4,7 +4,7 @@ use Rattle.std.specs.List.{fold}
 use Rattle.nl_reports.specs.Jobs.{Job, first_name}
 use Rattle.nl_reports.specs.Spans.{time_of}
 use Rattle.nl_reports.specs.Work.{work_of}
-use Rattle.nl_reports.specs.declared.times.Times.{Times}
+use Rattle.nl_reports.specs.declared.work.Times.{Times}
 use Rattle.nl_reports.specs.declared.work.Work.{Work}
 use Rattle.nl_reports.specs.declared.work.Work.TheVariants.{Compile, Link, Archive, Generate, Test, Other}
 

@@ -53,10 +53,9 @@ pub(crate) fn append_bar(
         return Ok(());
     }
     append_short(frame, lane, &held, out)?;
-    let kind = kind_of(job);
     shorts[at] = Short {
         pixel,
-        kind,
+        kind: kind_of(job),
         count: 1,
     };
     Ok(())
@@ -74,16 +73,9 @@ pub(crate) fn append_short(
     if short.count == 0 {
         return Ok(());
     }
-    append_rect(
-        frame,
-        lane,
-        u128::from(short.pixel) * 10,
-        10,
-        short.kind,
-        out,
-    )?;
-    append_with(b"", short.count, out)?;
-    append(b" short</title></rect>\n", out)
+    put!(out; b"<rect class=\"k" {short.kind} b"\" x=\"" {u128::from(short.pixel) * 10} b"\" y=\""
+        {frame.y_at(lane)} b"\" width=\"" {10} b"\" height=\"" {frame.height()} b"\"><title>" {short.count}
+        b" short</title></rect>\n")
 }
 
 fn append_long(frame: &Frame, job: &Job, lane: u64, out: &mut Vec<u8>) -> AllocResult
@@ -92,8 +84,8 @@ fn append_long(frame: &Frame, job: &Job, lane: u64, out: &mut Vec<u8>) -> AllocR
 {
     let x = frame.x_at(job.span.began);
     let width = width_of(frame, job);
-    let drawn = drawn_width(width);
-    append_rect(frame, lane, u128::from(x), drawn, kind_of(job), out)?;
+    put!(out; b"<rect class=\"k" {kind_of(job)} b"\" x=\"" {x} b"\" y=\"" {frame.y_at(lane)} b"\" width=\""
+        {drawn_width(width)} b"\" height=\"" {frame.height()} b"\"><title>")?;
     append_title(frame, job, out)?;
     append_name(frame, lane, x, width, job.name(), out)
 }
@@ -117,20 +109,6 @@ fn drawn_width(width: u64) -> u64
     ensures { result ≡ drawn_width width }
 {
     if width < 20 { width } else { width - 6 }
-}
-
-fn append_rect(
-    frame: &Frame,
-    lane: u64,
-    x: u128,
-    width: u64,
-    kind: u32,
-    out: &mut Vec<u8>,
-) -> AllocResult
-    ensures items { OnOk result (out.new.items ≡ out.old.items ++ rect frame.now lane x width kind) }
-{
-    put!(out; b"<rect class=\"k" {kind} b"\" x=\"" {x} b"\" y=\"" {frame.y_at(lane)} b"\" width=\""
-        {width} b"\" height=\"" {frame.height()} b"\"><title>")
 }
 
 fn append_title(frame: &Frame, job: &Job, out: &mut Vec<u8>) -> AllocResult
@@ -166,7 +144,7 @@ fn append_name(
     ensures items { OnOk result (out.new.items ≡ out.old.items ++ name_text frame.now lane x width name.now) }
 {
     let room = (width.saturating_sub(80) / LETTER).min(MOST);
-    if room < 4 || !frame.is_named() {
+    if room < 4 || frame.top >= 64 {
         return Ok(());
     }
     put!(out; b"<text x=\"" {x + 40} b"\" y=\"" {frame.y_at(lane) + 135} b"\">")?;

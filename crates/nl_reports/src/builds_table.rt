@@ -22,7 +22,6 @@ pub fn builds_screen(alloc: Global, zone: &TimeZone, from: &Builds) -> AllocResu
     ensures value { IfOk result (λ lines. IsBuildsScreen zone.now (told from.now) lines.items) }
 {
     let rows = rows_of(alloc, zone, from)?;
-    let mut lines = Vec::new(alloc);
     let heading: &[u8] = match zone {
         TimeZone::UTC | TimeZone::Unknown => {
             b"Build\tBegan (UTC)\tElapsed\tCommands\tOutputs\tKnown\n"
@@ -31,7 +30,7 @@ pub fn builds_screen(alloc: Global, zone: &TimeZone, from: &Builds) -> AllocResu
             b"Build\tBegan\tElapsed\tCommands\tOutputs\tKnown\n"
         }
     };
-    lines.extend_from_slice(heading)?;
+    let mut lines = Vec::from_slice(alloc, heading)?;
     lines.extend_from_slice(rows.as_slice())?;
     Ok(lines)
 }

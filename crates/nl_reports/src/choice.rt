@@ -1,11 +1,16 @@
-//! Which builds are told of.
-ghost use Rattle.std.specs.Prelude.{◌≡◌, ◌<◌, ◌^◌, map, IfOk, IfSome, All};
-ghost use Rattle.nl_reports.specs.Jobs.{build_commands, is_manifest_alone, last_number, seen, told};
+//! Which builds are told of, and their commands, one build after another on one clock.
+ghost use Rattle.std.specs.Prelude.{◌≡◌, ◌<◌, ◌^◌, map, IfOk, IfSome, All, ◌++◌};
+ghost use Rattle.nl_reports.specs.Jobs.{build_commands, is_manifest_alone, last_number, seen, told, build_jobs};
 ghost use Rattle.nl_reports.specs.Choice.{chosen, chosen_jobs};
 ghost use Rattle.nl_reports.specs.Spans.{IsEarly};
+ghost use Rattle.nl_reports.specs.Frame.{first_began};
+ghost use Rattle.nl_reports.specs.Rows.{by_start, spans};
+ghost use Rattle.nl_reports.specs.Turns.{clock_behind, jobs_in_turn, turned, turned_jobs};
 
-use crate::job::{Job, JobsResult, between, commands_to, jobs_by_start, jobs_in};
+use crate::job::{Job, JobsResult, between, commands_to, jobs_by_start, jobs_in, jobs_of};
+use crate::span::Span;
 use nl_builds::{Builds, Command};
+use nl_tool_texts::AllocResult;
 use std::alloc::Global;
 
 /// Which builds a report tells of.
@@ -31,29 +36,18 @@ pub fn chosen(scope: Scope, from: &Builds) -> Option<Choice>
     ensures value { result ≡ chosen scope (told from.now) }
     ensures small { IfSome result (λ c. c.first < 2 ^ 63) }
 {
-    match scope {
-        Scope::Last => {
-            let last = last_number(from);
-            Some(Choice {
-                first: last.max(1),
-                last,
-            })
-        }
-        Scope::Numbered(number) => {
-            if number > from.builds.len() as u64 {
-                return None;
-            }
-            let last = number as usize;
-            Some(Choice {
-                first: last.max(1),
-                last,
-            })
-        }
-        Scope::All => {
-            let last = from.builds.len();
-            Some(Choice { first: 1, last })
-        }
-    }
+    let count = from.builds.len();
+    let last = match scope {
+        Scope::Last => last_number(from),
+        Scope::Numbered(number) if number > count as u64 => return None,
+        Scope::Numbered(number) => number as usize,
+        Scope::All => count,
+    };
+    let first = match scope {
+        Scope::Last | Scope::Numbered(_) => last.max(1),
+        Scope::All => 1,
+    };
+    Some(Choice { first, last })
 }
 
 /// The commands of these builds in the order of START; none, where there aren't so many.
@@ -84,4 +78,72 @@ pub fn last_number(from: &Builds) -> usize
         number -= 1;
     }
     count
+}
+
+// The last moment of the clock.
+pub(crate) const LAST: u64 = 4_294_967_295;
+
+/// The commands of these builds, on a clock on which each build begins as the one before it has ended, the first at 0; those of each in the
+/// order of START.
+pub fn jobs_in_turn<'s, 'a>(alloc: Global, scope: Scope, from: &'s Builds<'a>) -> JobsResult<'s, 'a>
+    ensures value { IfOk result (λ jobs. map seen jobs.items ≡ jobs_in_turn scope (told from.now)) }
+    ensures early { IfOk result (λ jobs. All (λ j. IsEarly j.span) jobs.items) }
+{
+    let mut all = Vec::new(alloc);
+    let Some(Choice { first, last }) = chosen(scope, from) else {
+        return Ok(all);
+    };
+    let builds = between(first.saturating_sub(1), last, from.builds.as_slice());
+    let mut clock = 0;
+    let mut number = first;
+    for _build in builds {
+        let jobs = jobs_by_start(jobs_of(alloc, from, number)?)?;
+        clock = push_build(jobs.as_slice(), clock, &mut all)?;
+        number += 1;
+    }
+    Ok(all)
+}
+
+fn push_build<'s, 'a>(
+    jobs: &[Job<'s, 'a>],
+    clock: u64,
+    all: &mut Vec<Job<'s, 'a>>,
+) -> AllocResult<u64>
+    requires jobs { All (λ j. IsEarly j.span) jobs.now }
+    requires clock { clock < 2 ^ 32 }
+    requires early { All (λ j. IsEarly j.span) all.old.items }
+    ensures jobs { IfOk result (λ last. map seen all.new.items ≡ map seen all.old.items ++ turned_jobs clock (map seen jobs.now)) }
+    ensures clock { IfOk result (λ last. last ≡ clock_behind clock (turned_jobs clock (map seen jobs.now))) }
+    ensures bound { IfOk result (λ last. last < 2 ^ 32) }
+    ensures early { IfOk result (λ last. All (λ j. IsEarly j.span) all.new.items) }
+{
+    let began = began_of(jobs);
+    let mut last = clock;
+    for job in jobs {
+        let moved = Job {
+            span: Span {
+                began: turned(job.span.began, began, clock),
+                ended: turned(job.span.ended, began, clock),
+            },
+            ..*job
+        };
+        last = last.max(moved.span.closed());
+        all.push(moved)?;
+    }
+    Ok(last)
+}
+
+fn began_of(jobs: &[Job]) -> u64
+    ensures { result ≡ first_began (spans (map seen jobs.now)) }
+{
+    jobs.first().map_or(0, |job| job.span.began)
+}
+
+fn turned(at: u64, began: u64, clock: u64) -> u64
+    requires early { at < 2 ^ 32 }
+    requires clock { clock < 2 ^ 32 }
+    ensures value { result ≡ turned began clock at }
+    ensures bound { result < 2 ^ 32 }
+{
+    (at.saturating_sub(began) + clock).min(LAST)
 }

@@ -1,7 +1,7 @@
 //! Where things stand in a picture, its axis of time and its curve, and how moments are told.
 ghost use Rattle.std.specs.Prelude.{◌≡◌, ◌<◌, ◌≤◌, ◌^◌, ◌++◌, List, OnOk, All};
 ghost use Rattle.nl_reports.specs.Curve.{curve};
-ghost use Rattle.nl_reports.specs.Frame.{IsFrame, first_began, foot_of, frame_of, height, is_named, line_at, pitch, seconds, x_at, x_of, y_at};
+ghost use Rattle.nl_reports.specs.Frame.{IsFrame, first_began, foot_of, frame_of, height, line_at, pitch, seconds, x_at, x_of, y_at};
 ghost use Rattle.nl_reports.specs.Moments.{AreMoments};
 ghost use Rattle.nl_reports.specs.Spans.{IsEarly};
 ghost use Rattle.nl_reports.specs.Ticks.{IsStep, step_in, step_of, ticks};
@@ -55,19 +55,12 @@ impl Frame {
         self.x_of(at.saturating_sub(self.began))
     }
 
-    /// The lanes are high enough for names.
-    pub(crate) fn is_named(&self) -> bool
-        ensures { result ≡ is_named self.now }
-    {
-        self.top < 64
-    }
-
-    // The distance of two lanes: many lanes are as high together as a screen.
+    // The distance of two lanes: up to 64 are high enough for names, and more are as high together as a screen.
     fn pitch(&self) -> u128
         ensures value { result ≡ pitch self.now }
         ensures bound { result ≤ 220 }
     {
-        if self.is_named() {
+        if self.top < 64 {
             return 220;
         }
         (8000 / (u128::from(self.top) + 1)).max(1)
@@ -115,10 +108,7 @@ pub(crate) fn first_began(spans: &[Span]) -> u64
 pub(crate) fn append_seconds(ms: u64, out: &mut Vec<u8>) -> AllocResult
     ensures items { OnOk result (out.new.items ≡ out.old.items ++ seconds ms) }
 {
-    append_with(b"", ms / 1000, out)?;
-    append_with(b".", ms % 1000 / 100, out)?;
-    append_with(b"", ms % 100 / 10, out)?;
-    append_with(b"", ms % 10, out)
+    put!(out; {ms / 1000} b"." {ms % 1000 / 100} {ms % 100 / 10} {ms % 10})
 }
 
 // In milliseconds; a build has at most twelve steps.

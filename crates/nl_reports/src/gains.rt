@@ -1,7 +1,7 @@
 //! What a build gains if a command of its critical path took half as long.
 ghost use Rattle.std.specs.Prelude.{◌≡◌, List, IfOk, OnOk};
 ghost use Rattle.nl_reports.specs.Found.{IsFound};
-ghost use Rattle.nl_reports.specs.Gains.{AreGainsOf, IsGain, IsHalfPath, heading};
+ghost use Rattle.nl_reports.specs.Gains.{AreGainsOf, IsGain, IsHalfPath};
 ghost use Rattle.nl_reports.specs.GraphText.{seen_graph};
 ghost use Rattle.nl_reports.specs.Jobs.{Job as SeenJob};
 ghost use Rattle.nl_reports.specs.Reaches.{AreOf, ran_seen};
@@ -19,40 +19,24 @@ pub(crate) fn gain_lines(screen: bool, most: usize, found: &Critical) -> AllocRe
     let commands = &found.path.commands;
     let longest = highest(*commands.allocator(), &ByTime, most, commands.as_slice())?;
     let mut lines = Vec::new(*commands.allocator());
-    append(heading(screen, most), &mut lines)?;
-    for i in 0..longest.len() {
-        append_gain(
-            screen,
-            &found.reaches,
-            found.path.length,
-            &longest[i],
+    if screen && most > 0 {
+        append(
+            b"\nSaved if a command took half\nSaved\tOutput\n",
             &mut lines,
         )?;
+    }
+    for i in 0..longest.len() {
+        append_gain(screen, found, &longest[i], &mut lines)?;
     }
     Ok(lines)
 }
 
-fn heading(screen: bool, most: usize) -> &'static [u8]
-    ensures { result.now ≡ heading screen most }
+fn append_gain(screen: bool, found: &Critical, ran: &Ran, lines: &mut Vec<u8>) -> AllocResult
+    ensures ok { (js : List SeenJob) → AreOf found.now.reaches.graph.now js found.now.reaches → OnOk result
+        (IsGain screen (seen_graph found.now.reaches.graph.now) js found.now.path.length (ran_seen ran.now) lines.old.items lines.new.items) }
 {
-    if screen && most > 0 {
-        return b"\nSaved if a command took half\nSaved\tOutput\n";
-    }
-    b""
-}
-
-fn append_gain(
-    screen: bool,
-    reaches: &Reaches,
-    length: u128,
-    ran: &Ran,
-    lines: &mut Vec<u8>,
-) -> AllocResult
-    ensures ok { (js : List SeenJob) → AreOf reaches.now.graph.now js reaches.now → OnOk result
-        (IsGain screen (seen_graph reaches.now.graph.now) js length (ran_seen ran.now) lines.old.items lines.new.items) }
-{
-    let half = half_length(reaches, ran)?;
-    let gain = Part::Took(screen, length.saturating_sub(half));
+    let half = half_length(&found.reaches, ran)?;
+    let gain = Part::Took(screen, found.path.length.saturating_sub(half));
     let name = Part::Text(ran.name);
     if screen {
         return append_line(&[gain, name], lines);

@@ -1,6 +1,5 @@
 //! Lanes of commands: no two commands of a lane run at one time.
 ghost use Rattle.std.specs.Prelude.{◌≡◌, ◌++◌, ◌∷◌, [], ◌+◌, ◌*◌, ◌<◌, ◌≤◌, ℕ, get_or, length, slice_index, IfOk, IfSome, IsNone, OnOk};
-ghost use Rattle.nl_reports.specs.Spans.{closed_of};
 ghost use Rattle.nl_reports.specs.Lanes.{AreBusy, AreLow, first_free, given, lanes};
 
 use crate::span::Span;
@@ -25,24 +24,14 @@ pub fn lanes_of(alloc: Global, commands: &[Span]) -> AllocResult<Vec<u64>>
     let mut open = Lanes { ends, least };
     let mut found = Vec::with_capacity(alloc, commands.len())?;
     for command in commands {
-        let lane = open.take(command)?;
+        let lane = open.first_free(command.began);
+        open.give(lane, command.closed())?;
         found.push(lane as u64)?;
     }
     Ok(found)
 }
 
 impl Lanes {
-    fn take(&mut self, command: &Span) -> AllocResult<usize>
-        requires low { AreLow self.old }
-        ensures lane { IfOk result (λ lane. lane ≡ first_free command.now.began self.old.ends.items) }
-        ensures ends { IfOk result (λ lane. self.new.ends.items ≡ given lane (closed_of command.now) self.old.ends.items) }
-        ensures low { OnOk result (AreLow self.new) }
-    {
-        let lane = self.first_free(command.began);
-        self.give(lane, command.closed())?;
-        Ok(lane)
-    }
-
     // A block in which no lane is free has its least end anew, so it isn't looked through again before that.
     fn first_free(&mut self, at: u64) -> usize
         requires low { AreLow self.old }

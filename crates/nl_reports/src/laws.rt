@@ -27,7 +27,7 @@ ghost use Rattle.nl_reports.specs.Times.{job_work, share_of, time_in, times_of, 
 ghost use Rattle.nl_reports.specs.Trace.{array_text, how_in, number_in, scoped_text, trace_events};
 ghost use Rattle.nl_reports.specs.Turns.{jobs_in_turn};
 ghost use Rattle.nl_reports.specs.Work.{is_same};
-ghost use Rattle.nl_reports.specs.declared.times.Times.{Times};
+ghost use Rattle.nl_reports.specs.declared.work.Times.{Times};
 ghost use Rattle.nl_reports.specs.declared.work.Work.{Work};
 ghost use Rattle.nl_reports.specs.declared.work.Work.TheVariants.{Archive, Compile, Generate, Link, Other, Test};
 ghost use Rattle.nl_reports.specs.declared.choice.Scope.{Scope};

@@ -61,24 +61,18 @@ pub(crate) fn rising(moments: Vec<u64>) -> Vec<u64>
     ensures order { All (λ m. m ≤ 2 ^ 32) moments.items → Rises result.items }
 {
     let mut sorted = moments;
-    settle(&mut sorted);
-    sorted.sort_unstable();
-    sorted
-}
-
-// Moves each moment to before those next to it that are later. What is nearly in order is then in order, and to sort it takes little.
-fn settle(moments: &mut Vec<u64>)
-    ensures items { IsPermutation moments.old.items moments.new.items }
-{
-    let mut moves = moments.len().saturating_mul(MOVES);
-    for i in 1..moments.len() {
+    // Each moment moves to before those next to it that are later. What is nearly in order is then in order, and to sort it takes little.
+    let mut moves = sorted.len().saturating_mul(MOVES);
+    for i in 1..sorted.len() {
         let mut at = i;
-        'moves: while at > 0 && moves > 0 && moments[at - 1] > moments[at] {
-            moments.swap(at - 1, at);
+        'moves: while at > 0 && moves > 0 && sorted[at - 1] > sorted[at] {
+            sorted.swap(at - 1, at);
             at -= 1;
             moves -= 1;
         }
     }
+    sorted.sort_unstable();
+    sorted
 }
 
 /// How many moments are at this one or before. `near` is where to look first.

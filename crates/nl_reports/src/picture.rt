@@ -1,19 +1,17 @@
 //! The text of `picture`: builds as SVG.
-ghost use Rattle.std.specs.Prelude.{◌≡◌, ◌<◌, ◌+◌, ◌^◌, ◌++◌, List, Some, length, map, option_map, replicate, IfErr, IfOk, OnOk, All, zip};
-ghost use Rattle.nl_reports.specs.Bars.{no_short, short_bars};
+ghost use Rattle.std.specs.Prelude.{◌≡◌, ℕ, ◌<◌, ◌+◌, ◌^◌, ◌++◌, Some, map, option_map, replicate, IfErr, IfOk, OnOk, All};
+ghost use Rattle.nl_reports.specs.Bars.{no_short};
 ghost use Rattle.nl_reports.specs.Frame.{IsFrame};
 ghost use Rattle.nl_reports.specs.GraphText.{seen_graph};
 ghost use Rattle.nl_reports.specs.Jobs.{seen, told};
-ghost use Rattle.nl_reports.specs.Moments.{AreMoments};
-ghost use Rattle.nl_reports.specs.Picture.{IsOutlined, IsPicture, bars, end, head, known_in, known_line, legend, legend_kind, long_line, longest, name, outline, outlined, picture, start};
+ghost use Rattle.nl_reports.specs.Picture.{IsPicture, bars, end, known_in, known_line, legend_kind, longest, name, outline, outlined, picture, start};
 ghost use Rattle.nl_reports.specs.Reaches.{ran_seen, rans_of};
 ghost use Rattle.nl_reports.specs.Spans.{IsEarly, time_of};
-ghost use Rattle.nl_reports.specs.declared.span.Span.{Span};
 ghost use Rattle.nl_reports.specs.Times.{AreTimesOf};
-ghost use Rattle.nl_tool_texts.specs.Writing.{IsFoundFault, IsWriteFault, Moves, PrintsInPieces, Writes};
+ghost use Rattle.nl_tool_texts.specs.Writing.{IsFoundFault, IsWriteFault, PrintsInPieces, Writes};
 
 use crate::bars::{Short, append_bar, append_short};
-use crate::choice::{Scope, chosen};
+use crate::choice::{LAST, Scope, chosen, jobs_in_turn};
 use crate::critical::{FoundPath, Ran, critical_of};
 use crate::frame::{Frame, append_curve, append_ticks};
 use crate::graph::NinjaGraph;
@@ -22,9 +20,7 @@ use crate::lanes::{lane_at, lanes_of};
 use crate::moments::Moments;
 use crate::numbers::spans_of;
 use crate::summary::taken_in;
-use crate::times::Times;
-use crate::turns::jobs_in_turn;
-use crate::work::{Work, place, word};
+use crate::work::{Times, Work, place, word};
 use nl_builds::Builds;
 use nl_table::Secret;
 use nl_tool_texts::{
@@ -35,9 +31,6 @@ use std::alloc::Global;
 use std::io::Write;
 
 const LISTED: u64 = 10;
-
-// The last moment of a picture's clock.
-const LATEST: u64 = 4_294_967_295;
 
 const ROOT: &[u8] =
     b"\" role=\"img\" aria-labelledby=\"t\" font-family=\"sans-serif\" font-size=\"120\">\n<title id=\"t\">";
@@ -81,24 +74,9 @@ pub fn draw_builds<W: Write>(
     let known = known_in(scope, from);
     let jobs = jobs_in_turn(alloc, scope, from)?;
     let jobs = jobs.as_slice();
-    match graph {
-        Some(graph) => write_outlined(alloc, secret, graph, known, jobs, writer),
-        None => write_jobs(alloc, known, None, jobs, writer),
-    }
-}
-
-fn write_outlined<W: Write>(
-    alloc: Global,
-    secret: Secret,
-    graph: &NinjaGraph,
-    known: Known,
-    jobs: &[Job],
-    writer: &mut W,
-) -> Result<(), ToolFault>
-    requires early { All (λ j. IsEarly j.span) jobs.now }
-    ensures prints { PrintsInPieces (IsOutlined (seen_graph graph.now) known (map seen jobs.now)) (W.contents writer.old) (W.contents writer.new) result }
-    ensures faults { IfErr result (IsFoundFault (Some graph)) }
-{
+    let Some(graph) = graph else {
+        return write_jobs(alloc, known, None, jobs, writer);
+    };
     let Some(found) = critical_of(alloc, secret, graph, jobs)? else {
         return Err(ToolFault::OtherGraph);
     };
@@ -108,15 +86,12 @@ fn write_outlined<W: Write>(
 fn known_in(scope: Scope, from: &Builds) -> Known
     ensures { result ≡ known_in scope (told from.now) }
 {
-    if chosen(scope, from).is_none() {
-        return Known::Missing {
-            builds: from.builds.len(),
-        };
-    }
-    match (scope, taken_in(scope, from)) {
-        (_, None) => Known::AsWritten,
-        (Scope::All, Some(_)) => Known::SomeAgain,
-        (Scope::Last | Scope::Numbered(_), Some(taken)) => Known::FoundAgain { taken },
+    let builds = from.builds.len();
+    match (scope, chosen(scope, from), taken_in(scope, from)) {
+        (_, None, _) => Known::Missing { builds },
+        (_, Some(_), None) => Known::AsWritten,
+        (Scope::All, Some(_), Some(_)) => Known::SomeAgain,
+        (Scope::Last | Scope::Numbered(_), Some(_), Some(taken)) => Known::FoundAgain { taken },
     }
 }
 
@@ -136,19 +111,27 @@ fn write_jobs<W: Write>(
     let lanes = lanes_of(alloc, spans.as_slice())?;
     let moments = Moments::of(alloc, spans.as_slice())?;
     let frame = Frame::of(spans.as_slice(), lanes.as_slice());
-    let mut start = Vec::new(alloc);
-    append_start(&frame, known, jobs, &mut start)?;
+    let lanes = lanes.as_slice();
+    let mut held = Vec::new(alloc);
+    append_start(&frame, known, jobs, &mut held)?;
     let mut end = Vec::new(alloc);
-    append_end(&frame, &moments, path, lanes.as_slice(), jobs, &mut end)?;
-    write_bars(
-        alloc,
-        &frame,
-        jobs,
-        lanes.as_slice(),
-        start,
-        end.as_slice(),
-        writer,
-    )
+    append(b"</g>\n", &mut end)?;
+    append_curve(&frame, &moments, &mut end)?;
+    append_outlined(&frame, lanes, path, &mut end)?;
+    append_longest(&frame, jobs, &mut end)?;
+    let mut shorts = none_short(alloc, frame.top)?;
+    for i in 0..jobs.len() {
+        append_bar(&frame, &jobs[i], lanes[i], &mut shorts, &mut held)?;
+        write_full(&mut held, writer)?;
+    }
+    // The bars of short commands that aren't drawn yet, lane by lane.
+    let shorts = shorts.as_slice();
+    for lane in 0..shorts.len() {
+        append_short(&frame, lane as u64, &shorts[lane], &mut held)?;
+        write_full(&mut held, writer)?;
+    }
+    append(end.as_slice(), &mut held)?;
+    write_rest(held, writer)
 }
 
 fn append_start(frame: &Frame, known: Known, jobs: &[Job], out: &mut Vec<u8>) -> AllocResult
@@ -158,29 +141,22 @@ fn append_start(frame: &Frame, known: Known, jobs: &[Job], out: &mut Vec<u8>) ->
 {
     let times = Times::of(jobs);
     let commands = jobs.len() as u64;
-    append_head(frame, &times, commands, known, out)?;
-    append_legend(&times, commands, out)?;
+    let height = frame.line_at(commands.min(LISTED) + 1);
+    put!(out; b"<svg xmlns=\"http://www.w3.org/2000/svg\" width=\"1600\" height=\"" {height / 10}
+        b"\" viewBox=\"0 0 16000 " {height} [Part::Text(ROOT)])?;
+    append_name(frame, &times, commands, out)?;
+    append(STYLE, out)?;
+    append_name(frame, &times, commands, out)?;
+    append(b"</text>\n", out)?;
+    append_known(known, out)?;
+    append_kind(&times, Work::Compile, out)?;
+    append_kind(&times, Work::Link, out)?;
+    append_kind(&times, Work::Archive, out)?;
+    append_kind(&times, Work::Generate, out)?;
+    append_kind(&times, Work::Test, out)?;
+    append_kind(&times, Work::Other, out)?;
     append_ticks(frame, out)?;
     append(b"<g class=\"t\" font-size=\"110\">\n", out)
-}
-
-fn append_end(
-    frame: &Frame,
-    moments: &Moments,
-    path: Option<&FoundPath>,
-    lanes: &[u64],
-    jobs: &[Job],
-    out: &mut Vec<u8>,
-) -> AllocResult
-    requires early { All (λ j. IsEarly j.span) jobs.now }
-    requires frame { IsFrame frame.now }
-    ensures items { (cs : List Span) → AreMoments cs moments.now
-        → OnOk result (out.new.items ≡ out.old.items ++ end frame.now lanes.now (rans_of path.entry) cs (map seen jobs.now)) }
-{
-    append(b"</g>\n", out)?;
-    append_curve(frame, moments, out)?;
-    append_outlined(frame, lanes, path, out)?;
-    append_longest(frame, jobs, out)
 }
 
 fn append_outlined(
@@ -205,41 +181,11 @@ fn append_outlined(
 fn append_outline(frame: &Frame, lanes: &[u64], ran: &Ran, out: &mut Vec<u8>) -> AllocResult
     ensures items { OnOk result (out.new.items ≡ out.old.items ++ outline frame.now lanes.now (ran_seen ran.now)) }
 {
-    let x = frame.x_at(ran.span.began.min(LATEST));
-    let width = frame
-        .x_at(ran.span.closed().min(LATEST))
-        .saturating_sub(x)
-        .max(10);
+    let x = frame.x_at(ran.span.began.min(LAST));
+    let end = frame.x_at(ran.span.closed().min(LAST));
     let y = frame.y_at(lane_at(lanes, ran.place));
-    put!(out; b"<rect class=\"c\" x=\"" {x} b"\" y=\"" {y} b"\" width=\"" {width}
-        b"\" height=\"" {frame.height()} b"\"/>\n")
-}
-
-fn write_bars<W: Write>(
-    alloc: Global,
-    frame: &Frame,
-    jobs: &[Job],
-    lanes: &[u64],
-    start: Vec<u8>,
-    end: &[u8],
-    writer: &mut W,
-) -> Result<(), ToolFault>
-    requires early { All (λ j. IsEarly j.span) jobs.now }
-    requires lanes { length lanes.now ≡ length jobs.now }
-    requires some { 0 < length end.now }
-    ensures writes { Writes (W.contents writer.old) (W.contents writer.new) (start.items
-        ++ bars frame.now (zip (map seen jobs.now) lanes.now) ++ end.now) result }
-    ensures faults { IfErr result IsWriteFault }
-{
-    let mut held = start;
-    let mut shorts = none_short(alloc, frame.top)?;
-    for i in 0..jobs.len() {
-        append_bar(frame, &jobs[i], lanes[i], &mut shorts, &mut held)?;
-        write_full(&mut held, writer)?;
-    }
-    write_shorts(frame, shorts.as_slice(), &mut held, writer)?;
-    append(end, &mut held)?;
-    write_rest(held, writer)
+    put!(out; b"<rect class=\"c\" x=\"" {x} b"\" y=\"" {y} b"\" width=\""
+        {end.saturating_sub(x).max(10)} b"\" height=\"" {frame.height()} b"\"/>\n")
 }
 
 fn none_short(alloc: Global, top: u64) -> AllocResult<Vec<Short>>
@@ -248,45 +194,6 @@ fn none_short(alloc: Global, top: u64) -> AllocResult<Vec<Short>>
     let mut shorts = vec![in alloc; Short::default(); top as usize]?;
     shorts.push(Short::default())?;
     Ok(shorts)
-}
-
-// Writes the bars of short commands that aren't drawn yet, lane by lane.
-fn write_shorts<W: Write>(
-    frame: &Frame,
-    shorts: &[Short],
-    held: &mut Vec<u8>,
-    writer: &mut W,
-) -> Result<(), ToolFault>
-    ensures moves { Moves (W.contents writer.old) (W.contents writer.new)
-        (held.old.items ++ short_bars frame.now 0 shorts.now) held.new.items result }
-    ensures faults { IfErr result IsWriteFault }
-{
-    for lane in 0..shorts.len() {
-        append_short(frame, lane as u64, &shorts[lane], held)?;
-        write_full(held, writer)?;
-    }
-    Ok(())
-}
-
-fn append_head(
-    frame: &Frame,
-    times: &Times,
-    commands: u64,
-    known: Known,
-    out: &mut Vec<u8>,
-) -> AllocResult
-    requires few { AreTimesOf commands times.now }
-    requires small { commands < 2 ^ 63 }
-    ensures items { OnOk result (out.new.items ≡ out.old.items ++ head frame.now times.now commands known) }
-{
-    let height = frame.line_at(commands.min(LISTED) + 1);
-    put!(out; b"<svg xmlns=\"http://www.w3.org/2000/svg\" width=\"1600\" height=\"" {height / 10}
-        b"\" viewBox=\"0 0 16000 " {height} [Part::Text(ROOT)])?;
-    append_name(frame, times, commands, out)?;
-    append(STYLE, out)?;
-    append_name(frame, times, commands, out)?;
-    append(b"</text>\n", out)?;
-    append_known(known, out)
 }
 
 fn append_name(frame: &Frame, times: &Times, commands: u64, out: &mut Vec<u8>) -> AllocResult
@@ -322,22 +229,8 @@ fn append_known(known: Known, out: &mut Vec<u8>) -> AllocResult
     }
 }
 
-fn append_legend(times: &Times, commands: u64, out: &mut Vec<u8>) -> AllocResult
-    requires few { AreTimesOf commands times.now }
-    requires small { commands < 2 ^ 63 }
-    ensures items { OnOk result (out.new.items ≡ out.old.items ++ legend times.now) }
-{
-    append_kind(times, commands, Work::Compile, out)?;
-    append_kind(times, commands, Work::Link, out)?;
-    append_kind(times, commands, Work::Archive, out)?;
-    append_kind(times, commands, Work::Generate, out)?;
-    append_kind(times, commands, Work::Test, out)?;
-    append_kind(times, commands, Work::Other, out)
-}
-
-fn append_kind(times: &Times, commands: u64, work: Work, out: &mut Vec<u8>) -> AllocResult
-    requires few { AreTimesOf commands times.now }
-    requires small { commands < 2 ^ 63 }
+fn append_kind(times: &Times, work: Work, out: &mut Vec<u8>) -> AllocResult
+    requires few { (n : ℕ) × ((n < 2 ^ 63) × AreTimesOf n times.now) }
     ensures items { OnOk result (out.new.items ≡ out.old.items ++ legend_kind times.now work) }
 {
     let kind = u128::from(place(work));
@@ -355,19 +248,14 @@ fn append_longest(frame: &Frame, jobs: &[Job], out: &mut Vec<u8>) -> AllocResult
     put!(out; b"<text x=\"1000\" y=\"" {frame.line_at(0)}
         b"\">The commands that took the longest:</text>\n")?;
     for i in 0..kept.len() {
-        append_long(frame, i as u64 + 1, &kept[i], out)?;
+        let job = &kept[i];
+        let y = frame.line_at(i as u64 + 1);
+        put!(out; b"<text x=\"1900\" y=\"" {y} b"\" text-anchor=\"end\">" [Part::Time(job.span.time())]
+            b"</text><text x=\"2050\" y=\"" {y} b"\">")?;
+        append_label(*out.allocator(), job.name(), out)?;
+        append(b"</text>\n", out)?;
     }
     append(b"</svg>\n", out)
-}
-
-fn append_long(frame: &Frame, line: u64, job: &Job, out: &mut Vec<u8>) -> AllocResult
-    ensures items { OnOk result (out.new.items ≡ out.old.items ++ long_line frame.now line (seen job.now)) }
-{
-    let y = frame.line_at(line);
-    put!(out; b"<text x=\"1900\" y=\"" {y} b"\" text-anchor=\"end\">" [Part::Time(job.span.time())]
-        b"</text><text x=\"2050\" y=\"" {y} b"\">")?;
-    append_label(*out.allocator(), job.name(), out)?;
-    append(b"</text>\n", out)
 }
 
 struct ByTime;

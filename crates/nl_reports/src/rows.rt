@@ -4,7 +4,7 @@ ghost use Rattle.nl_reports.specs.Rows.{heading, list_key, list_line, list_lines
 ghost use Rattle.nl_tool_texts.specs.Falling.{falling};
 
 use crate::lists::Lists;
-use crate::sweep::PARTS;
+use crate::shares::PARTS;
 use nl_tool_texts::{
     AllocResult, Part, Ranking, append, append_line, highest, percent, put, ratio,
 };

@@ -35,10 +35,10 @@ impl Waiting {
         let alloc = reaches.allocator();
         let chains = reaches.in_commands()?;
         let nodes = reaches.graph.nodes.len();
-        let mut keys = Vec::with_capacity(alloc, jobs.len())?;
-        for command in 0..jobs.len() {
-            keys.push((u128::MAX, NONE, command))?;
-        }
+        let commands = 0..jobs.len();
+        let mut keys = commands
+            .map(|command| (u128::MAX, NONE, command))
+            .collect::<Vec<_>>(alloc)?;
         let mut parts = Vec::with_capacity(alloc, nodes)?;
         for node in 0..nodes {
             let command = reaches.ran_at(node).map_or(NONE, |ran| ran.place);
@@ -95,9 +95,22 @@ impl Waiting {
                 if !is_there {
                     let key = self.keys.get(part).copied().unwrap_or((0, 0, part));
                     ready.push(Reverse(key)).map_err(AllocError::from)?;
-                } else if part < there.len() {
+                    continue;
+                }
+                if part < there.len() {
                     there[part] = now;
-                    self.pass(part, &mut waits, &mut met)?;
+                }
+                // The parts that wait for this one wait for one less.
+                let edges = self.edges.as_slice();
+                let first = edges.partition_point(|edge| edge.0 < part);
+                let end = edges.partition_point(|edge| edge.0 <= part);
+                for (_, to) in between(first, end, edges) {
+                    if *to < waits.len() {
+                        waits[*to] = waits[*to].saturating_sub(1);
+                        if waits[*to] == 0 {
+                            met.push((*to, *to >= self.keys.len()))?;
+                        }
+                    }
                 }
                 continue;
             }
@@ -118,27 +131,10 @@ impl Waiting {
                 break;
             }
         }
-        let mut nodes = Vec::with_capacity(alloc, self.parts.len())?;
-        for part in &self.parts {
-            nodes.push(there.get(*part).copied().unwrap_or(0))?;
-        }
-        Ok((began, nodes))
-    }
-
-    // The parts that wait for one wait for one less.
-    fn pass(&self, part: usize, waits: &mut [usize], met: &mut Vec<(usize, bool)>) -> AllocResult {
-        let edges = self.edges.as_slice();
-        let first = edges.partition_point(|edge| edge.0 < part);
-        let end = edges.partition_point(|edge| edge.0 <= part);
-        for edge in between(first, end, edges) {
-            let to = edge.1;
-            if to < waits.len() {
-                waits[to] = waits[to].saturating_sub(1);
-                if waits[to] == 0 {
-                    met.push((to, to >= self.keys.len()))?;
-                }
-            }
-        }
-        Ok(())
+        let nodes = self
+            .parts
+            .iter()
+            .map(|part| there.get(*part).copied().unwrap_or(0));
+        Ok((began, nodes.collect(alloc)?))
     }
 }

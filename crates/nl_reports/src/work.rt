@@ -1,7 +1,11 @@
-//! What a command does, by the extension of its first output.
-ghost use Rattle.std.specs.Prelude.{◌≡◌, map};
+//! What a command does, by the extension of its first output, and how long commands took by it.
+ghost use Rattle.std.specs.Prelude.{◌≡◌, map, ◌+◌, ◌<◌, ◌^◌, ℕ, length, All};
 ghost use Rattle.nl_reports.specs.Work.{is_in, place, word, work_of};
+ghost use Rattle.nl_reports.specs.Jobs.{seen};
+ghost use Rattle.nl_reports.specs.Spans.{IsEarly};
+ghost use Rattle.nl_reports.specs.Times.{AreTimesOf, share_of, times_of, total};
 
+use crate::job::Job;
 use crate::kind::extension_of;
 
 #[derive(Clone, Copy, Drop)]
@@ -75,12 +79,62 @@ pub(crate) fn word(work: Work) -> &'static [u8]
 pub(crate) fn place(work: Work) -> u32
     ensures value { result ≡ place work }
 {
-    match work {
-        Work::Compile => 0,
-        Work::Link => 1,
-        Work::Archive => 2,
-        Work::Generate => 3,
-        Work::Test => 4,
-        Work::Other => 5,
+    work as u32
+}
+
+/// In milliseconds.
+#[derive(Clone, Copy, Default, Drop)]
+pub struct Times {
+    pub compile: u128,
+    pub link: u128,
+    pub archive: u128,
+    pub generate: u128,
+    pub test: u128,
+    pub other: u128,
+}
+
+impl Times {
+    pub(crate) fn of(jobs: &[Job]) -> Times
+        requires early { All (λ j. IsEarly j.span) jobs.now }
+        ensures value { result ≡ times_of (map seen jobs.now) }
+        ensures few { AreTimesOf (length jobs.now) result }
+    {
+        let mut times = Times::default();
+        for job in jobs {
+            let more = u128::from(job.span.time());
+            match work_of(job.name()) {
+                Work::Compile => times.compile += more,
+                Work::Link => times.link += more,
+                Work::Archive => times.archive += more,
+                Work::Generate => times.generate += more,
+                Work::Test => times.test += more,
+                Work::Other => times.other += more,
+            }
+        }
+        times
+    }
+
+    pub(crate) fn total(&self) -> u128
+        requires few { (n : ℕ) × ((n < 2 ^ 63) × AreTimesOf n self.now) }
+        ensures value { result ≡ total self.now }
+        ensures bound { result < 2 ^ 120 }
+    {
+        self.compile + self.link + self.archive + self.generate + self.test + self.other
+    }
+
+    /// In parts of a hundred, rounded down.
+    pub(crate) fn share_of(&self, work: Work) -> u128
+        requires few { (n : ℕ) × ((n < 2 ^ 63) × AreTimesOf n self.now) }
+        ensures value { result ≡ share_of self.now work }
+    {
+        let time = match work {
+            Work::Compile => self.compile,
+            Work::Link => self.link,
+            Work::Archive => self.archive,
+            Work::Generate => self.generate,
+            Work::Test => self.test,
+            Work::Other => self.other,
+        };
+        time * 100 / self.total().max(1)
     }
 }

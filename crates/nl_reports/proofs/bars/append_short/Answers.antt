@@ -1,20 +1,29 @@
-use Rattle.std.proofs.Common.{◌≡◌, ◌∙◌, ◌==◌, ◌++◌, ◌*◌, codes, false, inl, inr}
+use Rattle.std.proofs.Common.{◌≡◌, ◌∙◌, ◌==◌, ◌++◌, ◌*◌, ◌∷◌, [], ℕ, List, ap, append-nil, append_assoc, codes, false, inl, inr}
 use Rattle.std.specs.Prelude.{decimal}
 use Rattle.std.proofs.lemmas.Bool.Decides.{eqb_tells}
 use Rattle.std.proofs.lemmas.Result.{on_ok_weaker}
-use Rattle.nl_reports.specs.Bars.{rect}
-use Rattle.nl_tool_texts.proofs.TextLemmas.{three_parts}
+use Rattle.nl_reports.specs.Bars.{short_text}
+use Rattle.nl_tool_texts.specs.Texts.{joined}
 use Rattle.nl_reports.proofs.bars.append_short.Goals as goal
+
+abbrev told : ℕ → ℕ → ℕ → ℕ → ℕ → List ℕ
+told kind x y height count = joined (codes "<rect class=\"k" ∷ decimal kind ∷ codes "\" x=\"" ∷ decimal x ∷ codes "\" y=\"" ∷ decimal y
+    ∷ codes "\" width=\"" ∷ decimal 10 ∷ codes "\" height=\"" ∷ decimal height ∷ codes "\"><title>" ∷ decimal count ∷ codes " short</title></rect>\n" ∷ [])
+
+abbrev split : ℕ → ℕ → ℕ → ℕ → ℕ → List ℕ
+split kind x y height count = joined (codes "<rect class=\"k" ∷ decimal kind ∷ codes "\" x=\"" ∷ decimal x ∷ codes "\" y=\"" ∷ decimal y
+    ∷ codes "\" width=\"" ∷ decimal 10 ∷ codes "\" height=\"" ∷ decimal height ∷ codes "\"><title>" ∷ []) ++ decimal count ++ codes " short</title></rect>\n"
+
+same : (kind x y height count : ℕ) → told kind x y height count ≡ split kind x y height count
+same kind x y height count = simp (append_assoc, append-nil)
 
 pub returns : goal.returns
 returns c =
     let old = c.args.out.now.items in
     let s = c.args.short.now in
-    let lane = c.args.lane in
     let some : (s.count == 0) ≡ false = elim (eqb_tells s.count 0) [ inl h ↦ absurd (c.if-short-eq0.false h.1) | inr h ↦ h.0 ] in
     record {
-      items = on_ok_weaker c.append.result (λ h. rw some (three_parts old c.append_rect.new.out.items c.append_with.new.out.items
-          c.append.new.out.items (rect c.args.frame.now lane (s.pixel * 10) 10 s.kind) (decimal s.count) (codes " short</title></rect>\n")
-          (c.in_ok-append_rect.ensures.items ∙ (λ i. old ++ rect c.args.frame.now lane (c.from.ensures i * 10) 10 s.kind))
-          c.in_ok-append_with.ensures.items h)) c.append.ensures.items;
+      items = on_ok_weaker c.put.result (λ h. rw some (h
+          ∙ (λ i. old ++ told s.kind (c.from.ensures i * 10) (c.y_at.ensures.value i) (c.height.ensures.value i) s.count)
+          ∙ ap (λ (l : List ℕ). old ++ l) (same s.kind (s.pixel * 10) _ _ s.count))) c.put.ensures.items;
     }

@@ -18,7 +18,7 @@ returns-then-screen c = record {
       record {
         half = c.in_ok-half.half;
         is_half = c.in_ok-half.ensures.value js are;
-        is = told ∙ ap (λ (k : ℕ). old ++ shown k) c.saturating_sub.ensures ∙ ap (λ (l : List ℕ). old ++ l) (same (c.args.length - c.in_ok-half.half));
+        is = told ∙ ap (λ (k : ℕ). old ++ shown k) c.saturating_sub.ensures ∙ ap (λ (l : List ℕ). old ++ l) (same (c.args.found.now.path.length - c.in_ok-half.half));
       }) c.append_line.ensures.items;
 }
 
@@ -34,6 +34,6 @@ returns c = record {
       record {
         half = c.in_ok-half.half;
         is_half = c.in_ok-half.ensures.value js are;
-        is = told ∙ ap (λ (k : ℕ). old ++ piped k) c.saturating_sub.ensures ∙ ap (λ (l : List ℕ). old ++ l) (same (c.args.length - c.in_ok-half.half));
+        is = told ∙ ap (λ (k : ℕ). old ++ piped k) c.saturating_sub.ensures ∙ ap (λ (l : List ℕ). old ++ l) (same (c.args.found.now.path.length - c.in_ok-half.half));
       }) c.append_line-2.ensures.items;
 }

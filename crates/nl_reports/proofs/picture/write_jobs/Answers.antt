@@ -1,58 +1,165 @@
-use Rattle.std.proofs.Common.{◌≡◌, ◌∙◌, ◌++◌, ℕ, List, [], ap, arith, length, map, subst, sym}
-use Rattle.std.proofs.lemmas.List.{length-map}
+use Rattle.std.proofs.Common.{◌≡◌, ◌∙◌, ◌<◌, ◌≤◌, ◌++◌, ℕ, List, [], ap, append-nil, arith, codes, get_or, length, map, subst, sym}
+use Rattle.std.proofs.lemmas.List.{at_drop_all, get_or_default, length-map}
+use Rattle.std.specs.List.{zip}
+use Rattle.nl_reports.specs.Bars.{short_bars}
+use Rattle.nl_reports.specs.Curve.{curve}
 use Rattle.nl_reports.specs.Frame.{frame_of}
 use Rattle.nl_reports.specs.Jobs.{seen}
 use Rattle.nl_reports.specs.Lanes.{lanes}
-use Rattle.nl_reports.specs.Picture.{end, start}
+use Rattle.nl_reports.specs.Picture.{bars, end, longest, outlined, start}
 use Rattle.nl_reports.specs.Reaches.{rans_of}
-use Rattle.nl_tool_texts.specs.Writing.{Writes}
-use Rattle.nl_reports.proofs.DrawLemmas.{end_some, none_drawn, picture_is}
+use Rattle.nl_tool_texts.specs.Writing.{HoldsAllBut}
+use Rattle.nl_reports.proofs.DrawLemmas.{bars_held, bars_over, end_absent, end_held, end_some, none_drawn, picture_is, shorts_held}
 use Rattle.nl_reports.proofs.LaneLemmas.{lanes_length}
+use Rattle.nl_tool_texts.proofs.TextLemmas.{two_parts}
+use Rattle.nl_tool_texts.proofs.WritingLemmas.{all_held, err_writes, part_on, rest_written, some_of, then_moved}
 use Rattle.nl_reports.proofs.picture.write_jobs.Goals as goal
 
-pub write_bars-requires-clause-lanes : goal.write_bars-requires-clause-lanes
-write_bars-requires-clause-lanes g c =
-    omega (
-      arith,
-      ap length c.as_slice-6.ensures.value,
-      ap length c.in_ok-lanes.ensures.value,
-      lanes_length c.as_slice.result.now [],
-      ap length c.as_slice.ensures.value,
-      ap length c.in_ok-spans.ensures.value,
-      length-map c.args.jobs.now seen,
-      length-map (map seen c.args.jobs.now) (λ j. j.span),
-    )
-
-pub write_bars-requires-clause-some : goal.write_bars-requires-clause-some
-write_bars-requires-clause-some g c =
-    let f = c.of-frame.result in
-    let cs = c.as_slice-2.result.now in
-    let js = map seen c.args.jobs.now in
-    let ls = c.as_slice-5.result.now in
-    let path = rans_of c.args.path in
-    let last : c.append_end.new.out.items ≡ end f ls path cs js = c.in_ok-append_end.ensures.items cs c.in_ok-moments.ensures.value
-    ∙ ap (λ (l : List ℕ). l ++ end f ls path cs js) c.new-end.ensures.items in
-    omega (arith, ap length (c.as_slice-7.ensures.value ∙ last), end_some f ls path cs js)
+pub returns-in_err-spans-clause-writes : goal.returns-in_err-spans-clause-writes
+returns-in_err-spans-clause-writes g c = none_drawn _ c.args.known (rans_of c.args.path) (map seen c.args.jobs.now) _ c.from_residual.ensures.0
 
 pub returns-in_err-append_start-clause-writes : goal.returns-in_err-append_start-clause-writes
 returns-in_err-append_start-clause-writes g c = none_drawn _ c.args.known (rans_of c.args.path) (map seen c.args.jobs.now) _ c.from_residual-in_err-append_start.ensures.0
 
-pub returns-in_err-append_end-clause-writes : goal.returns-in_err-append_end-clause-writes
-returns-in_err-append_end-clause-writes g c = none_drawn _ c.args.known (rans_of c.args.path) (map seen c.args.jobs.now) _ c.from_residual-in_err-append_end.ensures.0
+pub returns-in_err-append-clause-writes : goal.returns-in_err-append-clause-writes
+returns-in_err-append-clause-writes g c = none_drawn _ c.args.known (rans_of c.args.path) (map seen c.args.jobs.now) _ c.from_residual-in_err-append.ensures.0
 
-pub returns-clause-writes : goal.returns-clause-writes
-returns-clause-writes g c =
+pub returns-in_err-append_curve-clause-writes : goal.returns-in_err-append_curve-clause-writes
+returns-in_err-append_curve-clause-writes g c = none_drawn _ c.args.known (rans_of c.args.path) (map seen c.args.jobs.now) _ c.from_residual-in_err-append_curve.ensures.0
+
+pub returns-in_err-append_outlined-clause-writes : goal.returns-in_err-append_outlined-clause-writes
+returns-in_err-append_outlined-clause-writes g c = none_drawn _ c.args.known (rans_of c.args.path) (map seen c.args.jobs.now) _ c.from_residual-in_err-append_outlined.ensures.0
+
+pub returns-in_err-append_longest-clause-writes : goal.returns-in_err-append_longest-clause-writes
+returns-in_err-append_longest-clause-writes g c = none_drawn _ c.args.known (rans_of c.args.path) (map seen c.args.jobs.now) _ c.from_residual-in_err-append_longest.ensures.0
+
+pub returns-in_err-shorts-clause-writes : goal.returns-in_err-shorts-clause-writes
+returns-in_err-shorts-clause-writes g c = none_drawn _ c.args.known (rans_of c.args.path) (map seen c.args.jobs.now) _ c.from_residual-in_err-shorts.ensures.0
+
+pub loop-i-init : goal.loop-i-init
+loop-i-init g c =
     let js = map seen c.args.jobs.now in
     let f = c.of-frame.result in
     let cs = c.as_slice-2.result.now in
-    let ls = c.as_slice-6.result.now in
+    let ls = c.as_slice-lanes.result.now in
     let path = rans_of c.args.path in
-    let last : c.append_end.new.out.items ≡ end f ls path cs js = c.in_ok-append_end.ensures.items cs c.in_ok-moments.ensures.value
-    ∙ (λ i. c.new-end.ensures.items i ++ end f ((c.as_slice-5.ensures.value ∙ sym c.as_slice-6.ensures.value) i) path cs js) in
-    let whole = picture_is js c.args.known path cs ls f c.append_start.new.out.items c.as_slice-7.result.now
-    (c.as_slice-2.ensures.value ∙ c.in_ok-spans.ensures.value)
-    (c.as_slice-6.ensures.value ∙ c.in_ok-lanes.ensures.value ∙ ap lanes (c.as_slice.ensures.value ∙ sym c.as_slice-2.ensures.value))
-    (c.of-frame.ensures.value ∙ (λ i. frame_of ((c.as_slice-3.ensures.value ∙ sym c.as_slice-2.ensures.value) i) ((c.as_slice-4.ensures.value ∙ sym c.as_slice-6.ensures.value) i)))
-    (c.in_ok-append_start.ensures.items ∙ ap (λ (l : List ℕ). l ++ start f c.args.known js) c.new-start.ensures.items) (c.as_slice-7.ensures.value ∙ last) in
-    subst (λ (l : List ℕ). Writes (g.W.Write.contents c.args.writer.now) (g.W.Write.contents c.write_bars.new.writer) l c.write_bars.result) whole
-    c.write_bars.ensures.writes
+    let old = c.new-end.result.items in
+    let curved = two_parts old _ _ (codes "</g>\n") (curve f cs) c.in_ok-append.ensures.items (c.in_ok-append_curve.ensures.items cs c.in_ok-moments.ensures.value) in
+    let lined = two_parts old _ _ _ (outlined f ls path) curved c.in_ok-append_outlined.ensures.items in
+    let last : c.append_longest.new.out.items ≡ end f ls path cs js = two_parts old _ _ _ (longest f js) lined c.in_ok-append_longest.ensures.items
+    ∙ ap (λ (l : List ℕ). l ++ end f ls path cs js) c.new-end.ensures.items in
+    let first : c.append_start.new.out.items ≡ start f c.args.known js =
+    c.in_ok-append_start.ensures.items ∙ ap (λ (l : List ℕ). l ++ start f c.args.known js) c.new-held.ensures.items in
+    record {
+      text = c.append_start.new.out.items ++ bars f (zip js ls);
+      holds = rw c.in_ok-shorts.ensures.value (all_held _ _);
+      is = picture_is js c.args.known path cs ls f c.append_start.new.out.items c.append_longest.new.out.items
+          (c.as_slice-2.ensures.value ∙ c.in_ok-spans.ensures.value)
+          (c.as_slice-lanes.ensures.value ∙ c.in_ok-lanes.ensures.value ∙ ap lanes (c.as_slice.ensures.value ∙ sym c.as_slice-2.ensures.value))
+          (c.of-frame.ensures.value ∙ (λ i. frame_of ((c.as_slice-3.ensures.value ∙ sym c.as_slice-2.ensures.value) i)
+          ((c.as_slice-4.ensures.value ∙ sym c.as_slice-lanes.ensures.value) i))) first last;
+      some = omega (arith, ap length last, end_some f ls path cs js);
+      lanes = omega (
+        arith,
+        ap length c.as_slice-lanes.ensures.value,
+        ap length c.in_ok-lanes.ensures.value,
+        lanes_length c.as_slice.result.now [],
+        ap length c.as_slice.ensures.value,
+        ap length c.in_ok-spans.ensures.value,
+        length-map c.args.jobs.now seen,
+        length-map (map seen c.args.jobs.now) (λ j. j.span),
+      );
+    }
+
+pub loop-i-preserved : goal.loop-i-preserved
+loop-i-preserved g c =
+    let inv = c.loop-i.invariant in
+    let i = c.loop-i.i in
+    let js = c.args.jobs.now in
+    let ls = c.as_slice-lanes.result.now in
+    let within : i < length js = omega (arith, c.loop-i-test.true) in
+    let there : i < length ls = omega (arith, within, inv.lanes) in
+    record {
+      text = inv.text;
+      holds = then_moved _ _ _ _ _ _ _ (bars_held _ _ _ _ _ c.of-frame.result js ls i (get_or ls i 0) c.index-jobs-i.result _ _ within there
+          c.index-jobs-i.is (get_or_default ls i 0 (get_or ls i 0) there) c.in_ok-append_bar.ensures.items c.in_ok-append_bar.ensures.shorts
+          inv.holds)
+          c.in_ok-write_full.ensures.moved;
+      is = inv.is;
+      some = inv.some;
+      lanes = inv.lanes;
+    }
+
+pub returns-in_err-append_bar-clause-writes : goal.returns-in_err-append_bar-clause-writes
+returns-in_err-append_bar-clause-writes g c =
+    let inv = c.loop-i.invariant in
+    err_writes _ _ _ _ c.from_residual-in_err-append_bar.ensures.0 (end_absent _ _ _ _ _ inv.some inv.is (_, inv.holds))
+
+pub returns-in_err-write_full-clause-writes : goal.returns-in_err-write_full-clause-writes
+returns-in_err-write_full-clause-writes g c =
+    let inv = c.loop-i.invariant in
+    let i = c.loop-i.i in
+    let js = c.args.jobs.now in
+    let ls = c.as_slice-lanes.result.now in
+    let within : i < length js = omega (arith, c.loop-i-test.true) in
+    let there : i < length ls = omega (arith, within, inv.lanes) in
+    err_writes _ _ _ _ c.from_residual-in_err-write_full.ensures.0 (end_absent _ _ _ _ _ inv.some inv.is (some_of _ _ _ (part_on _ _ _ _ _ _
+    (bars_held _ _ _ _ _ c.of-frame.result js ls i (get_or ls i 0) c.index-jobs-i.result _ _ within there
+    c.index-jobs-i.is (get_or_default ls i 0 (get_or ls i 0) there) c.in_ok-append_bar.ensures.items c.in_ok-append_bar.ensures.shorts
+    inv.holds) c.in_err-write_full.ensures.prefix)))
+
+pub loop-lane-init : goal.loop-lane-init
+loop-lane-init g c =
+    let inv = c.loop-i.invariant in
+    let all : length c.args.jobs.now ≤ c.loop-i.i = omega (arith, c.loop-i-test.false) in
+    record {
+      text = inv.text;
+      holds = bars_over _ _ _ _ c.of-frame.result c.args.jobs.now c.as_slice-lanes.result.now c.loop-i.i c.loop-i.shorts.items c.as_slice-shorts.result.now all
+          c.as_slice-shorts.ensures.value inv.holds;
+      is = inv.is;
+      some = inv.some;
+    }
+
+pub loop-lane-preserved : goal.loop-lane-preserved
+loop-lane-preserved g c =
+    let inv = c.loop-lane.invariant in
+    let shorts = c.as_slice-shorts.result.now in
+    let within : c.loop-lane.lane < length shorts = omega (arith, c.loop-lane-test.true) in
+    record {
+      text = inv.text;
+      holds = then_moved _ _ _ _ _ _ _ (shorts_held _ _ _ _ _ c.of-frame.result shorts c.loop-lane.lane _ within c.in_ok-append_short.ensures.items inv.holds)
+          c.in_ok-write_full-2.ensures.moved;
+      is = inv.is;
+      some = inv.some;
+    }
+
+pub returns-in_err-append_short-clause-writes : goal.returns-in_err-append_short-clause-writes
+returns-in_err-append_short-clause-writes g c =
+    let inv = c.loop-lane.invariant in
+    err_writes _ _ _ _ c.from_residual-in_err-append_short.ensures.0 (end_absent _ _ _ _ _ inv.some inv.is (_, inv.holds))
+
+pub returns-in_err-write_full-2-clause-writes : goal.returns-in_err-write_full-2-clause-writes
+returns-in_err-write_full-2-clause-writes g c =
+    let inv = c.loop-lane.invariant in
+    let shorts = c.as_slice-shorts.result.now in
+    let within : c.loop-lane.lane < length shorts = omega (arith, c.loop-lane-test.true) in
+    err_writes _ _ _ _ c.from_residual-in_err-write_full-2.ensures.0 (end_absent _ _ _ _ _ inv.some inv.is (some_of _ _ _ (part_on _ _ _ _ _ _
+    (shorts_held _ _ _ _ _ c.of-frame.result shorts c.loop-lane.lane _ within c.in_ok-append_short.ensures.items inv.holds) c.in_err-write_full-2.ensures.prefix)))
+
+pub returns-in_err-append-2-clause-writes : goal.returns-in_err-append-2-clause-writes
+returns-in_err-append-2-clause-writes g c =
+    let inv = c.loop-lane.invariant in
+    err_writes _ _ _ _ c.from_residual-in_err-append-2.ensures.0 (end_absent _ _ _ _ _ inv.some inv.is (_, inv.holds))
+
+pub returns-clause-writes : goal.returns-clause-writes
+returns-clause-writes g c =
+    let inv = c.loop-lane.invariant in
+    let f = c.of-frame.result in
+    let shorts = c.as_slice-shorts.result.now in
+    let held = c.loop-lane.held.items in
+    let lane = c.loop-lane.lane in
+    let all : length shorts ≤ lane = omega (arith, c.loop-lane-test.false) in
+    let over = subst (λ (l : List ℕ). HoldsAllBut (g.W.Write.contents c.args.writer.now) (g.W.Write.contents c.loop-lane.writer) inv.text l)
+    (ap (λ (l : List ℕ). held ++ l) (at_drop_all (short_bars f lane) shorts lane all) ∙ append-nil held) inv.holds in
+    rest_written _ _ _ _ _ c.write_rest.result (end_held _ _ _ _ _ _ _ inv.is (c.in_ok-append-2.ensures.items
+    ∙ ap (λ (l : List ℕ). held ++ l) c.as_slice-5.ensures.value) over) c.write_rest.ensures.writes
