@@ -78,20 +78,12 @@ impl Lanes {
         ensures ends { OnOk result (self.new.ends.items ≡ given lane end self.old.ends.items) }
         ensures low { OnOk result (AreLow self.new) }
     {
-        if lane == self.ends.len() {
-            return self.open(end);
+        if lane < self.ends.len() {
+            let block = lane / BLOCK;
+            self.ends[lane] = end;
+            self.least[block] = self.least[block].min(end);
+            return Ok(());
         }
-        let block = lane / BLOCK;
-        self.ends[lane] = end;
-        self.least[block] = self.least[block].min(end);
-        Ok(())
-    }
-
-    fn open(&mut self, end: u64) -> AllocResult
-        requires low { AreLow self.old }
-        ensures ends { OnOk result (self.new.ends.items ≡ self.old.ends.items ++ end ∷ []) }
-        ensures low { OnOk result (AreLow self.new) }
-    {
         let block = self.ends.len() / BLOCK;
         if block < self.least.len() {
             self.least[block] = self.least[block].min(end);

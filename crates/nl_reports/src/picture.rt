@@ -32,9 +32,6 @@ use std::io::Write;
 
 const LISTED: u64 = 10;
 
-const ROOT: &[u8] =
-    b"\" role=\"img\" aria-labelledby=\"t\" font-family=\"sans-serif\" font-size=\"120\">\n<title id=\"t\">";
-
 const STYLE: &[u8] =
     b"</title>\n<style>svg{fill:#222;background:#fff}.p{fill:#fff}.m{fill:#666}.g{stroke:#ddd;stroke-width:10}.q{fill:#cfd8e3}.t{fill:#111}.t text{pointer-events:none}.k0{fill:#56b4e9}.k1{fill:#e69f00}.k2{fill:#f0e442}.k3{fill:#009e73}.k4{fill:#cc79a7}.k5{fill:#bbb}@media(prefers-color-scheme:dark){svg{fill:#eee;background:#1b1b1b}.p{fill:#1b1b1b}.m{fill:#aaa}.g{stroke:#444}.q{fill:#3b4656}}</style>\n<rect class=\"p\" width=\"100%\" height=\"100%\"/>\n<text x=\"1000\" y=\"380\" font-size=\"220\">";
 
@@ -143,7 +140,8 @@ fn append_start(frame: &Frame, known: Known, jobs: &[Job], out: &mut Vec<u8>) ->
     let commands = jobs.len() as u64;
     let height = frame.line_at(commands.min(LISTED) + 1);
     put!(out; b"<svg xmlns=\"http://www.w3.org/2000/svg\" width=\"1600\" height=\"" {height / 10}
-        b"\" viewBox=\"0 0 16000 " {height} [Part::Text(ROOT)])?;
+        b"\" viewBox=\"0 0 16000 " {height}
+        b"\" role=\"img\" aria-labelledby=\"t\" font-family=\"sans-serif\" font-size=\"120\">\n<title id=\"t\">")?;
     append_name(frame, &times, commands, out)?;
     append(STYLE, out)?;
     append_name(frame, &times, commands, out)?;
