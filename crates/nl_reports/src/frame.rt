@@ -125,15 +125,7 @@ pub fn step_of(wall: u64) -> u64
     ensures value { result ≡ step_of wall }
     ensures some { 0 < result }
 {
-    step_in(wall, STEPS.as_slice())
-}
-
-fn step_in(wall: u64, steps: &[u64]) -> u64
-    requires small { All IsStep steps.now }
-    ensures value { result ≡ step_in wall steps.now }
-    ensures some { 0 < result }
-{
-    for step in steps {
+    for step in STEPS.as_slice() {
         if wall <= *step * 12 {
             return *step;
         }

@@ -1,6 +1,6 @@
 //! How much of the time of a build each command counts for, by a sweep over the moments at which commands begin and end.
 ghost use Rattle.std.specs.Prelude.{◌≡◌, ◌-◌, List, get_or, max, IfOk, All, Contains, ◌⊎◌, ◌+◌, ◌*◌, ◌<◌, ◌≤◌, ◌^◌, ℕ, [], map, length, slice_index, EachIndex, IsTrue, MatchBool, OnOk};
-ghost use Rattle.nl_reports.specs.Sweep.{alone_time, busy_time, most_at_once, weight, share_of, any_of, alone_of, parts};
+ghost use Rattle.nl_reports.specs.Sweep.{alone_time, busy_time, most_at_once, weight, share_of, parts};
 ghost use Rattle.nl_reports.specs.Spans.{IsEarly};
 ghost use Rattle.nl_reports.specs.declared.span.Span.{Span};
 ghost use Rattle.nl_reports.specs.Shares.{AreSharesOf};
@@ -112,10 +112,14 @@ impl Sums {
         ensures at { self.new.at ≡ next }
     {
         let len = next - self.at;
-        self.shares += len * share_of(running);
-        self.busy += len * any_of(running);
-        self.alone += len * alone_of(running);
         self.at = next;
+        self.shares += len * share_of(running);
+        if running > 0 {
+            self.busy += len;
+        }
+        if running == 1 {
+            self.alone += len;
+        }
     }
 }
 
@@ -124,20 +128,6 @@ fn share_of(running: u64) -> u64
     ensures bound { result ≤ parts }
 {
     if running == 0 { 0 } else { PARTS / running }
-}
-
-fn any_of(running: u64) -> u64
-    ensures value { result ≡ any_of running }
-    ensures bound { result ≤ 1 }
-{
-    if running == 0 { 0 } else { 1 }
-}
-
-fn alone_of(running: u64) -> u64
-    ensures value { result ≡ alone_of running }
-    ensures bound { result ≤ 1 }
-{
-    if running == 1 { 1 } else { 0 }
 }
 
 #[derive(Drop)]
@@ -159,26 +149,6 @@ fn is_start_next(starts: &[u64], begun: usize, ends: &[u64], ended: usize) -> bo
     begun < starts.len() && (ended >= ends.len() || starts[begun] <= ends[ended])
 }
 
-fn step(starts: &[u64], ends: &[u64], so_far: &mut Sweeping) -> AllocResult
-    requires order { Rises starts.now × Rises ends.now }
-    requires swept { IsSwept starts.now ends.now so_far.old }
-    requires more { (so_far.old.begun < length starts.now) ⊎ (so_far.old.ended < length ends.now) }
-    ensures swept { OnOk result (IsSwept starts.now ends.now so_far.new) }
-    ensures count { OnOk result (so_far.new.begun + so_far.new.ended ≡ so_far.old.begun + so_far.old.ended + 1) }
-{
-    let running = (so_far.begun as u64).saturating_sub(so_far.ended as u64);
-    if is_start_next(starts, so_far.begun, ends, so_far.ended) {
-        so_far.sums.advance(starts[so_far.begun], running);
-        so_far.at_starts.push(so_far.sums.shares)?;
-        so_far.begun += 1;
-        return Ok(());
-    }
-    so_far.sums.advance(ends[so_far.ended], running);
-    so_far.at_ends.push(so_far.sums.shares)?;
-    so_far.ended += 1;
-    Ok(())
-}
-
 pub fn sweep(alloc: Global, starts: &[u64], ends: &[u64]) -> AllocResult<Sweeping>
     requires order { Rises starts.now × Rises ends.now }
     ensures swept { IfOk result (λ swept. IsSwept starts.now ends.now swept
@@ -192,7 +162,16 @@ pub fn sweep(alloc: Global, starts: &[u64], ends: &[u64]) -> AllocResult<Sweepin
         at_ends: Vec::with_capacity(alloc, ends.len())?,
     };
     'events: while so_far.begun < starts.len() || so_far.ended < ends.len() {
-        step(starts, ends, &mut so_far)?;
+        let running = (so_far.begun as u64).saturating_sub(so_far.ended as u64);
+        if is_start_next(starts, so_far.begun, ends, so_far.ended) {
+            so_far.sums.advance(starts[so_far.begun], running);
+            so_far.at_starts.push(so_far.sums.shares)?;
+            so_far.begun += 1;
+            continue;
+        }
+        so_far.sums.advance(ends[so_far.ended], running);
+        so_far.at_ends.push(so_far.sums.shares)?;
+        so_far.ended += 1;
     }
     Ok(so_far)
 }
