@@ -4,7 +4,7 @@ ghost use Rattle.nl_reports.specs.Curve.{curve};
 ghost use Rattle.nl_reports.specs.Frame.{IsFrame, first_began, foot_of, frame_of, height, line_at, pitch, seconds, x_at, x_of, y_at};
 ghost use Rattle.nl_reports.specs.Moments.{AreMoments};
 ghost use Rattle.nl_reports.specs.Spans.{IsEarly};
-ghost use Rattle.nl_reports.specs.Ticks.{IsStep, step_in, step_of, ticks};
+ghost use Rattle.nl_reports.specs.Ticks.{step_of, ticks};
 ghost use Rattle.nl_reports.specs.declared.span.Span.{Span};
 
 use crate::moments::Moments;

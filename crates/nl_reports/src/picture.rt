@@ -4,15 +4,15 @@ ghost use Rattle.nl_reports.specs.Bars.{no_short};
 ghost use Rattle.nl_reports.specs.Frame.{IsFrame};
 ghost use Rattle.nl_reports.specs.GraphText.{seen_graph};
 ghost use Rattle.nl_reports.specs.Jobs.{seen, told};
-ghost use Rattle.nl_reports.specs.Picture.{IsPicture, bars, end, known_in, known_line, legend_kind, longest, name, outline, outlined, picture, start};
-ghost use Rattle.nl_reports.specs.Reaches.{ran_seen, rans_of};
+ghost use Rattle.nl_reports.specs.Picture.{IsPicture, bars, end, known_in, known_line, legend_kind, longest, name, outlined, picture, start};
+ghost use Rattle.nl_reports.specs.Reaches.{rans_of};
 ghost use Rattle.nl_reports.specs.Spans.{IsEarly, time_of};
 ghost use Rattle.nl_reports.specs.Times.{AreTimesOf};
 ghost use Rattle.nl_tool_texts.specs.Writing.{IsFoundFault, IsWriteFault, PrintsInPieces, Writes};
 
 use crate::bars::{Short, append_bar, append_short};
 use crate::choice::{LAST, Scope, chosen, jobs_in_turn};
-use crate::critical::{FoundPath, Ran, critical_of};
+use crate::critical::{FoundPath, critical_of};
 use crate::frame::{Frame, append_curve, append_ticks};
 use crate::graph::NinjaGraph;
 use crate::job::Job;
@@ -171,19 +171,14 @@ fn append_outlined(
     let commands = found.commands.as_slice();
     append(OUTLINED, out)?;
     for i in 0..commands.len() {
-        append_outline(frame, lanes, &commands[i], out)?;
+        let ran = &commands[i];
+        let x = frame.x_at(ran.span.began.min(LAST));
+        let end = frame.x_at(ran.span.closed().min(LAST));
+        let y = frame.y_at(lane_at(lanes, ran.place));
+        put!(out; b"<rect class=\"c\" x=\"" {x} b"\" y=\"" {y} b"\" width=\""
+            {end.saturating_sub(x).max(10)} b"\" height=\"" {frame.height()} b"\"/>\n")?;
     }
     Ok(())
-}
-
-fn append_outline(frame: &Frame, lanes: &[u64], ran: &Ran, out: &mut Vec<u8>) -> AllocResult
-    ensures items { OnOk result (out.new.items ≡ out.old.items ++ outline frame.now lanes.now (ran_seen ran.now)) }
-{
-    let x = frame.x_at(ran.span.began.min(LAST));
-    let end = frame.x_at(ran.span.closed().min(LAST));
-    let y = frame.y_at(lane_at(lanes, ran.place));
-    put!(out; b"<rect class=\"c\" x=\"" {x} b"\" y=\"" {y} b"\" width=\""
-        {end.saturating_sub(x).max(10)} b"\" height=\"" {frame.height()} b"\"/>\n")
 }
 
 fn none_short(alloc: Global, top: u64) -> AllocResult<Vec<Short>>

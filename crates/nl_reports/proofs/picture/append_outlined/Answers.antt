@@ -1,4 +1,7 @@
-use Rattle.std.proofs.Common.{◌∙◌, ◌<◌, ◌≤◌, ◌++◌, ℕ, List, Option, Some, ap, append-nil, append_assoc, arith, length, map, sym}
+use Rattle.std.proofs.Common.{◌≡◌, ◌∙◌, ◌-◌, ◌∷◌, [], ◌<◌, ◌≤◌, ◌++◌, ℕ, List, Option, Some, ap, append-nil, append_assoc, arith, codes, length, map, max, min, sym}
+use Rattle.std.specs.Prelude.{decimal}
+use Rattle.nl_reports.specs.Frame.{x_at, y_at}
+use Rattle.nl_tool_texts.specs.Texts.{joined}
 use Rattle.std.proofs.lemmas.List.{drop_all}
 use Rattle.std.specs.Borrow.{Bor}
 use Rattle.std.specs.List.{flat_map}
@@ -9,6 +12,9 @@ use Rattle.nl_reports.specs.declared.critical.Ran.{Ran}
 use Rattle.nl_reports.proofs.DrawLemmas.{outlines_next}
 use Rattle.nl_reports.proofs.picture.append_outlined.Goals as goal
 
+max_swap : (n : ℕ) → max n 10 ≡ max 10 n
+max_swap n = omega arith
+
 pub loop-i-init : goal.loop-i-init
 loop-i-init c =
     let rest = flat_map (outline c.args.frame.now c.args.lanes.now) (map ran_seen c.as_slice-commands.result.now) in
@@ -18,7 +24,14 @@ pub loop-i-preserved : goal.loop-i-preserved
 loop-i-preserved c =
     let commands = c.as_slice-commands.result.now in
     let within : c.loop-i.i < length commands = omega (arith, c.loop-i-test.true) in
-    outlines_next c.args.frame.now c.args.lanes.now commands c.loop-i.i _ _ _ _ within c.in_ok-append_outline.ensures.items c.loop-i.invariant
+    let f = c.args.frame.now in
+    let x = c.x_at-x.ensures.value ∙ ap (x_at f) c.min.ensures in
+    let until = c.x_at-end.ensures.value ∙ ap (x_at f) (c.min-in-loop-i.ensures ∙ ap (λ (n : ℕ). min n 4294967295) c.closed.ensures.value) in
+    let y = c.y_at-y.ensures.value ∙ ap (y_at f) c.lane_at.ensures in
+    let wide = c.max.ensures ∙ ap (λ (n : ℕ). max n 10) c.saturating_sub.ensures ∙ max_swap (c.x_at-end.result - c.x_at-x.result) ∙ (λ k. max 10 (until k - x k)) in
+    outlines_next f c.args.lanes.now commands c.loop-i.i _ _ _ _ within (c.in_ok-put.ensures.items ∙ (λ k. c.loop-i.out.items
+    ++ joined (codes "<rect class=\"c\" x=\"" ∷ decimal (x k) ∷ codes "\" y=\"" ∷ decimal (y k) ∷ codes "\" width=\"" ∷ decimal (wide k)
+    ∷ codes "\" height=\"" ∷ decimal (c.height.ensures.value k) ∷ codes "\"/>\n" ∷ []))) c.loop-i.invariant
 
 pub returns : goal.returns
 returns c =
