@@ -2,7 +2,6 @@ use Rattle.std.proofs.Common.{◌≡◌, ◌∙◌, ◌==◌, ◌++◌, ◌*◌,
 use Rattle.std.specs.Prelude.{decimal}
 use Rattle.std.proofs.lemmas.Bool.Decides.{eqb_tells}
 use Rattle.std.proofs.lemmas.Result.{on_ok_weaker}
-use Rattle.nl_reports.specs.Bars.{short_text}
 use Rattle.nl_tool_texts.specs.Texts.{joined}
 use Rattle.nl_reports.proofs.bars.append_short.Goals as goal
 
