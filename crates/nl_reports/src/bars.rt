@@ -1,6 +1,6 @@
 //! The bars of commands, and those of commands that are too short for one of their own.
 ghost use Rattle.std.specs.Prelude.{◌≡◌, ◌≤◌, ◌++◌, set, OnOk};
-ghost use Rattle.nl_reports.specs.Bars.{bar, bar_before, base_of, drawn_width, kind_of, long_bar, more_outputs, name_text, opened, rect, short_bar, short_in, title, width_of, with_short};
+ghost use Rattle.nl_reports.specs.Bars.{bar, bar_before, base_of, drawn_width, kind_of, long_bar, name_text, opened, short_bar, short_in, title, width_of, with_short};
 ghost use Rattle.nl_reports.specs.Jobs.{seen};
 ghost use Rattle.nl_reports.specs.Spans.{IsEarly};
 
@@ -8,7 +8,7 @@ use crate::frame::{Frame, append_seconds};
 use crate::job::Job;
 use crate::kind::{KindRule, kind_of as kind_by};
 use crate::work::{place, work_of};
-use nl_tool_texts::{AllocResult, append, append_cut_name, append_label, append_with, put};
+use nl_tool_texts::{AllocResult, append, append_cut_name, append_label, put};
 
 // A command whose bar would be narrower shares one with others.
 const NARROW: u64 = 5;
@@ -115,21 +115,15 @@ fn append_title(frame: &Frame, job: &Job, out: &mut Vec<u8>) -> AllocResult
     ensures items { OnOk result (out.new.items ≡ out.old.items ++ title frame.now (seen job.now)) }
 {
     append_label(*out.allocator(), job.name(), out)?;
-    append_more(job.outputs.len().saturating_sub(1), out)?;
+    let more = job.outputs.len().saturating_sub(1);
+    if more > 0 {
+        put!(out; b" and " {more} b" more")?;
+    }
     append(b"\n", out)?;
     append_seconds(job.span.time(), out)?;
     append(b" s from ", out)?;
     append_seconds(job.span.began.saturating_sub(frame.began), out)?;
     append(b" s</title></rect>\n", out)
-}
-
-fn append_more(count: usize, out: &mut Vec<u8>) -> AllocResult
-    ensures items { OnOk result (out.new.items ≡ out.old.items ++ more_outputs count) }
-{
-    if count == 0 {
-        return Ok(());
-    }
-    put!(out; b" and " {count} b" more")
 }
 
 fn append_name(

@@ -9,7 +9,7 @@ ghost use Rattle.nl_reports.specs.Turns.{clock_behind, jobs_in_turn, turned, tur
 
 use crate::job::{Job, JobsResult, between, commands_to, jobs_by_start, jobs_in, jobs_of};
 use crate::span::Span;
-use nl_builds::{Builds, Command};
+use nl_builds::Builds;
 use nl_tool_texts::AllocResult;
 use std::alloc::Global;
 

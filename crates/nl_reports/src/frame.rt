@@ -9,7 +9,7 @@ ghost use Rattle.nl_reports.specs.declared.span.Span.{Span};
 
 use crate::moments::Moments;
 use crate::span::Span;
-use nl_tool_texts::{AllocResult, Part, append_with, put};
+use nl_tool_texts::{AllocResult, Part, put};
 
 /// `wall` is in milliseconds, and `top` is the highest lane.
 #[derive(Clone, Copy, Drop)]
