@@ -3,17 +3,21 @@
 use crate::shape::{Given, Value, WordRow};
 use crate::values::value;
 
-// Rows of words: the name, what it takes, and the texts of its help.
+// Rows of words: the name, what it takes, and the texts of its help, the last of which WAITS ends.
 macro_rules! rows {
-    ($($name:literal [$($takes:ident)*] => $about:literal, $after:literal;)+) => {
-        [$(WordRow { name: $name, about: $about, after: $after, takes: &[$(value!($takes)),*] }),+]
+    ($($name:literal [$($takes:ident)*] => $about:literal, $after:literal $($waits:ident)?;)+) => {
+        [$(WordRow { name: $name, about: $about, after: after!($after $($waits)?), takes: &[$(value!($takes)),*] }),+]
     };
+}
+
+macro_rules! after {
+    ($text:literal) => { $text };
+    ($text:literal WAITS) => { concat!($text, "\n\nNo build by Ninja may change LOG meanwhile; another nlog waits.") };
 }
 
 pub const WORDS: [WordRow; 21] = rows! {
     "show" [OPTIONAL_LOG VERSION] =>
-        "Prints the last entry of each output, in the order in which the outputs first appear",
-        "\
+        "Prints the last entry of each output, in the order in which the outputs first appear", "\
 One line for each output: START, END, MTIME, NAME and HASH with a tab between neighbours.
 
 START  when its command began, in milliseconds since the build began
@@ -23,8 +27,7 @@ MTIME  the time stamp that the build recorded, in the unit of its file system: N
 NAME   the output
 HASH   the hash of the command, in hexadecimal";
     "check" [OPTIONAL_LOG VERSION] =>
-        "Prints what a log holds: version, total, unique, skipped, torn, due",
-        "\
+        "Prints what a log holds: version, total, unique, skipped, torn, due", "\
 version  the log's version: 4 or 5; 6 or 7 with `--log-version`
 total    how many of its lines are entries
 unique   how many outputs these entries have
@@ -32,19 +35,16 @@ skipped  how many whole lines after the first are no entries
 torn     how many bytes stand after the last newline
 due      `yes` where a build would recompact the log, else `no`";
     "hash" [COMMAND HASH_VERSION] =>
-        "Prints the hash of a command as a log holds it, in hexadecimal",
-        "";
+        "Prints the hash of a command as a log holds it, in hexadecimal", "";
     "entries" [OPTIONAL_ANY_LOG AUTO_VERSION MISSING_OK] =>
-        "Prints each entry, older ones included, in the order of the file",
-        "\
+        "Prints each entry, older ones included, in the order of the file", "\
 The lines are those of `show`, which has the last entry of each output alone. They are printed while
 LOG is read, so where a read fails, or LOG is larger than a log may be, the first ones were printed.
 The entry that was written last is printed by
 
   nlog entries .ninja_log | tail -n 1";
     "damage" [OPTIONAL_ANY_LOG AUTO_VERSION MISSING_OK] =>
-        "Prints a line for each line that is no entry; status 3 where there is one",
-        "\
+        "Prints a line for each line that is no entry; status 3 where there is one", "\
 One line for each: LINE, WHAT, LENGTH, OUTPUT and FIRST with a tab between neighbours.
 
 LINE    its number; 1 is the first line of LOG, which is told only where it is torn
@@ -59,8 +59,7 @@ FIRST   the output that Ninja takes the line for an entry of, between the third 
 Status: 0 where nothing is printed, 3 where there is damage. `nlog mend` repairs LOG, and has Ninja make
 again each output that a damaged line may be about.";
     "doubt" [OPTIONAL_ANY_LOG AUTO_VERSION] =>
-        "Prints the outputs whose files aren't as a log says; status 3 where there is one",
-        "\
+        "Prints the outputs whose files aren't as a log says; status 3 where there is one", "\
 Run it in the folder of the build: it looks at the file of each output. A crash can take the line of a
 command and leave its file, and then an older entry passes for it. One line for each output, by its
 last entry: WHAT and NAME with a tab between them.
@@ -75,8 +74,7 @@ NAME  the output
 
 Status: 0 where nothing is printed, 3 where something is. A LOG that is missing is refused.";
     "builds" [OPTIONAL_ANY_LOG AUTO_VERSION MISSING_OK TABS] =>
-        "Prints a line for each build that a log tells of: what it ran, and how long",
-        "\
+        "Prints a line for each build that a log tells of: what it ran, and how long", "\
 One line for each, the oldest first: NUMBER, COMMANDS, OUTPUTS, WALL, TOTAL, BORDERS, and after
 `again` TAKEN, with a tab between neighbours.
 
@@ -94,8 +92,7 @@ The last build is printed by
 
   nlog builds .ninja_log | tail -n 1";
     "summary" [OPTIONAL_ANY_LOG AUTO_VERSION MISSING_OK BUILD ALL KIND LINES GRAPH JOBS TABS] =>
-        "Prints how long a build took, how much ran at a time, and its slowest commands",
-        "\
+        "Prints how long a build took, how much ran at a time, and its slowest commands", "\
 A line for each of these, with a tab after its name:
 
 commands    how many commands ended in it
@@ -129,8 +126,7 @@ estimate       of each N of `--jobs`: N, how long the build would take with N co
 
 If LOG has fewer builds than BUILD, a line `builds` tells how many it has.";
     "compare" [OLD NEW AUTO_VERSION MISSING_OK LINES AT_LEAST TABS] =>
-        "Prints which commands are new, gone, changed, slower and faster in another log",
-        "\
+        "Prints which commands are new, gone, changed, slower and faster in another log", "\
 It compares the last entry of each output, by command. `hashes` tells whether hashes were compared, and
 seven lines `total` have CLASS, COUNT, DIFFERENCE, BEFORE and AFTER. The commands of each class but `same`
 follow, the largest differences first: CLASS, DIFFERENCE, BEFORE, AFTER and OUTPUT.
@@ -145,8 +141,7 @@ OUTPUT      the first output of the command
 
 Logs of version 7 have other hashes than older ones: between these nothing is `changed`.";
     "trace" [OPTIONAL_ANY_LOG AUTO_VERSION MISSING_OK BUILD ALL] =>
-        "Prints a build as JSON for a trace viewer: a lane for what ran beside others",
-        "\
+        "Prints a build as JSON for a trace viewer: a lane for what ran beside others", "\
 A JSON array of events in Chrome's format, which https://ui.perfetto.dev and chrome://tracing open:
 
   nlog trace .ninja_log > trace.json
@@ -160,8 +155,7 @@ A JSON array of events in Chrome's format, which https://ui.perfetto.dev and chr
 No lane has two commands at one time. With `--all` each build begins as the one before it has ended. A
 byte that isn't UTF-8 is shown as U+FFFD. If LOG has no entry, the array is empty.";
     "picture" [OPTIONAL_ANY_LOG AUTO_VERSION MISSING_OK BUILD ALL DRAWN_GRAPH] =>
-        "Draws a build as SVG: a bar for each command, and how many ran at a time",
-        "\
+        "Draws a build as SVG: a bar for each command, and how many ran at a time", "\
 One SVG file, which each browser shows:
 
   nlog picture .ninja_log > build.svg
@@ -176,14 +170,12 @@ build begins as the one before it has ended.
 Neighbours in a lane that are narrower than half a pixel share a bar. A byte that isn't UTF-8, or that XML
 can't have, is shown as U+FFFD.";
     "hash-file" [OPTIONAL_FILE HASH_VERSION] =>
-        "Prints the hash of a command that stands in a file: of each of its bytes",
-        "\
+        "Prints the hash of a command that stands in a file: of each of its bytes", "\
 A newline at the end of FILE is a byte of it, so a command that has none is hashed by
 
   printf %s \"$command\" | nlog hash-file";
     "mend" [MENDED_LOG FOLDER DRY_RUN UNSURE_TOO] =>
-        "Has Ninja make each output anew that a log can't vouch for; run it after a crash",
-        "\
+        "Has Ninja make each output anew that a log can't vouch for; run it after a crash", "\
 It looks at LOG and at the files of its outputs, repairs LOG, and changes the entries of the outputs
 that can't be trusted, so that no command passes for them. It removes no file, and changes none but
 LOG, in one step. One line for each of these outputs, WHY and NAME with a tab between them:
@@ -197,70 +189,48 @@ Status: 0 where LOG was well or is missing, 3 where a line is printed. Before a 
   nlog mend || test $? = 3
 
 If LOG has entries, and none of its outputs is there, it is refused: run it in the folder of the
-build, or name that by `-C`.
-
-No build by Ninja may change LOG meanwhile; another nlog waits.";
+build, or name that by `-C`." WAITS;
     "record" [LOG START END MTIME NAME RECORDED_COMMAND VERSION] =>
-        "Adds one entry to a log; prints nothing",
-        "\
+        "Adds one entry to a log; prints nothing", "\
 The log is made where it is missing: one of version 5, or of 6 for Ninja 1.12 or 7 for 1.13 where
 `--log-version` has that number. START and END are from -2147483648 to 2147483647, MTIME is a 64-bit
 number. A value that begins with `-` stands after `--`, as in
 
-  nlog record -- .ninja_log -1 2 3 out 'cc out.c'
-
-No build by Ninja may change LOG meanwhile; another nlog waits.";
+  nlog record -- .ninja_log -1 2 3 out 'cc out.c'" WAITS;
     "recompact" [LOG KEEP VERSION] =>
-        "Rewrites a log with the last entry of each output that KEEP names; prints nothing",
-        "\
+        "Rewrites a log with the last entry of each output that KEEP names; prints nothing", "\
 An empty line of KEEP says nothing, and an empty KEEP drops every entry; `nlog prune` keeps what a
-build by Ninja has. The new log is written to LOG.recompact, and renamed over LOG.
-
-No build by Ninja may change LOG meanwhile; another nlog waits.";
+build by Ninja has. The new log is written to LOG.recompact, and renamed over LOG." WAITS;
     "restat" [LOG TIMES VERSION] =>
-        "Rewrites a log with the time stamps that TIMES gives; prints nothing",
-        "\
+        "Rewrites a log with the time stamps that TIMES gives; prints nothing", "\
 An empty line of TIMES says nothing. The last line of a name counts, and names that the log lacks are
 passed over; `nlog retime` takes the time stamps of the outputs' files. The new log is written to
-LOG.recompact, and renamed over LOG.
-
-No build by Ninja may change LOG meanwhile; another nlog waits.";
+LOG.recompact, and renamed over LOG." WAITS;
     "prune" [ANY_LOG TARGETS OWN_VERSION] =>
-        "Rewrites a log with the last entry of each output that a build has; prints nothing",
-        "\
+        "Rewrites a log with the last entry of each output that a build has; prints nothing", "\
 It keeps the targets that TARGETS names, and each output whose file is there, as Ninja does. TARGETS is
 read first; the names are those of the folder in which you run it. If LOG is damaged, it prints what
 `damage` prints, ends with status 3 and changes nothing. TARGETS without a target is refused, since
 Ninja failed then.
 
-  ninja -t targets all > targets && nlog prune .ninja_log targets
-
-No build by Ninja may change LOG meanwhile; another nlog waits.";
+  ninja -t targets all > targets && nlog prune .ninja_log targets" WAITS;
     "retime" [ANY_LOG OWN_VERSION] =>
-        "Rewrites a log with the time stamps that the outputs' files have; prints nothing",
-        "\
+        "Rewrites a log with the time stamps that the outputs' files have; prints nothing", "\
 An output without a file keeps its time stamp, and so does a directory. So does an output whose command
 didn't end: with another time stamp, Ninja would take it for done. The names are those of the folder in
 which you run it. If LOG is damaged, it prints what `damage` prints, ends with status 3 and
-changes nothing.
-
-No build by Ninja may change LOG meanwhile; another nlog waits.";
+changes nothing." WAITS;
     "repair" [ANY_LOG OWN_VERSION MISSING_OK] =>
-        "Rewrites a log with the last entry of each output; prints nothing",
-        "\
+        "Rewrites a log with the last entry of each output; prints nothing", "\
 What is torn, skipped or stale is gone after it, version 4 is 5, and what a device forgot is written
 anew. The new log is written to LOG.recompact, and renamed over LOG. With `--missing-ok` a LOG that is
 missing is made: one of version 5, or of 6 for Ninja 1.12 or 7 for 1.13 where `--log-version` has that
 number. An output whose entry was damaged has an older entry then, or none, and Ninja may take a stale file
-for good: `nlog mend` repairs LOG, too, and has Ninja make such outputs again.
-
-No build by Ninja may change LOG meanwhile; another nlog waits.";
+for good: `nlog mend` repairs LOG, too, and has Ninja make such outputs again." WAITS;
     "replay" [OPTIONAL_SCRIPT] =>
-        "Runs the events of a script on a log in memory, and prints the replies and that log",
-        "";
+        "Runs the events of a script on a log in memory, and prints the replies and that log", "";
     "apply" [ANY_LOG LINES_SCRIPT OWN_VERSION] =>
-        "Answers lines that ask for changes and entries, one after another, on one open log",
-        "\
+        "Answers lines that ask for changes and entries, one after another, on one open log", "\
 Each line is answered before the next is read. There is a tab before each value:
 
 open [NAME ..]                    opens LOG, which is made where it is missing; where it is due it
@@ -282,7 +252,5 @@ The others are answered `ok`, or why they were not done, as `S8 Fault`; any othe
 A LOG that is missing is made one of version 5, or of 6 for Ninja 1.12 or 7 for 1.13 where
 `--log-version` has that number. The last entry of an output is asked for by
 
-  printf 'open\\nget\\tapp.o\\n' | nlog apply .ninja_log
-
-No build by Ninja may change LOG meanwhile; another nlog waits.";
+  printf 'open\\nget\\tapp.o\\n' | nlog apply .ninja_log" WAITS;
 };
