@@ -1,9 +1,9 @@
 //! The columns of a text at a terminal.
 ghost use Rattle.std.specs.Prelude.{◌≡◌, ◌++◌, length, map, IfOk, OnOk};
-ghost use Rattle.nl_tool_texts.specs.Columns.{begins_one, cell, cells, end_of, field_at, fields_of, fitted, in_columns, last_cell, lines_of, newline_before, row_of, rows_up_to, spaces, widest, width, widths};
+ghost use Rattle.nl_tool_texts.specs.Columns.{begins_one, cell, cells, end_of, field_at, fields_of, in_columns, last_cell, lines_of, newline_before, row_of, rows_up_to, spaces, widest, width, widths};
 
 use crate::shown::shown;
-use crate::text::AllocResult;
+use crate::text::{AllocResult, append};
 use std::alloc::Global;
 
 /// The text with its fields in columns, and its control characters by their numbers. Tabs part the fields of a line. Lines with as many fields
@@ -109,32 +109,19 @@ fn append_cell(wide: usize, field: &[u8], out: &mut Vec<u8>) -> AllocResult
     ensures items { OnOk result (out.new.items ≡ out.old.items ++ cell wide field.now) }
 {
     append_spaces(wide.saturating_sub(width(field)), out)?;
-    out.extend_from_slice(field)?;
+    append(field, out)?;
     append_spaces(2, out)
 }
 
-// Adds the last field, before which so many stand.
+// Adds the last field, before which so many stand: whole, or an ellipsis and its end.
 fn append_last(before: usize, room: usize, field: &[u8], out: &mut Vec<u8>) -> AllocResult
     ensures items { OnOk result (out.new.items ≡ out.old.items ++ last_cell before room field.now) }
 {
-    if before == 0 {
-        out.extend_from_slice(field)?;
-        return Ok(());
+    if before == 0 || width(field) <= room {
+        return append(field, out);
     }
-    append_fitted(room, field, out)
-}
-
-// Adds a field whole, or an ellipsis and its end.
-fn append_fitted(room: usize, field: &[u8], out: &mut Vec<u8>) -> AllocResult
-    ensures items { OnOk result (out.new.items ≡ out.old.items ++ fitted room field.now) }
-{
-    if width(field) <= room {
-        out.extend_from_slice(field)?;
-        return Ok(());
-    }
-    out.extend_from_slice(b"\xe2\x80\xa6")?;
-    out.extend_from_slice(end_of(room.saturating_sub(1), field))?;
-    Ok(())
+    append(b"\xe2\x80\xa6", out)?;
+    append(end_of(room.saturating_sub(1), field), out)
 }
 
 // The longest end of a field that has so many characters at most, and begins with one.

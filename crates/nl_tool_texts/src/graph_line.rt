@@ -1,6 +1,6 @@
 //! A line of the text that `ninja -t graph` prints.
 ghost use Rattle.std.specs.Prelude.{◌≡◌, codes, option_map};
-ghost use Rattle.nl_tool_texts.specs.GraphLine.{are_attributes, before, behind, both_now, graph_line, is_setting, labelled, line_in, line_seen, quoted, said_of, to_quote};
+ghost use Rattle.nl_tool_texts.specs.GraphLine.{are_attributes, behind, both_now, is_setting, line_in, line_seen, quoted, said_of, to_quote};
 
 use memchr::memchr;
 
@@ -24,38 +24,26 @@ pub fn line_in(ended: bool, number: u64, line: &[u8]) -> Option<Line<'_>>
     } else if line == b"}".as_slice() {
         true
     } else {
-        return read_line(line);
+        return match quoted(line) {
+            Some((id, rest)) => read_behind(id, rest),
+            None => is_setting(line).then_some(Line::Passed),
+        };
     };
     is_passed.then_some(Line::Passed)
-}
-
-fn read_line(line: &[u8]) -> Option<Line<'_>>
-    ensures value { option_map line_seen result ≡ graph_line line.now }
-{
-    match quoted(line) {
-        Some((id, rest)) => read_behind(id, rest),
-        None => is_setting(line).then_some(Line::Passed),
-    }
 }
 
 fn read_behind<'a>(id: &'a [u8], rest: &'a [u8]) -> Option<Line<'a>>
     ensures value { option_map line_seen result ≡ said_of id.now rest.now (behind (codes " [label=\"") rest.now) }
 {
     if let Some(tail) = rest.strip_prefix(b" [label=\"") {
-        return read_label(id, tail);
+        if let Some(name) = tail.strip_suffix(b"\"]") {
+            return Some(Line::Labelled { id, name });
+        }
+        tail.strip_suffix(b"\", shape=ellipse]")?;
+        return Some(Line::Passed);
     }
     let (to, more) = quoted(rest.strip_prefix(b" -> ")?)?;
     are_attributes(more).then_some(Line::Joined { from: id, to })
-}
-
-fn read_label<'a>(id: &'a [u8], tail: &'a [u8]) -> Option<Line<'a>>
-    ensures value { option_map line_seen result ≡ labelled id.now tail.now (before (codes "\"]") tail.now) }
-{
-    if let Some(name) = tail.strip_suffix(b"\"]") {
-        return Some(Line::Labelled { id, name });
-    }
-    tail.strip_suffix(b"\", shape=ellipse]")?;
-    Some(Line::Passed)
 }
 
 fn are_attributes(bytes: &[u8]) -> bool

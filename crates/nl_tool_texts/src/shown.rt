@@ -3,7 +3,7 @@ ghost use Rattle.std.specs.Prelude.{◌≡◌, ◌<◌, ◌++◌, IfOk, OnOk};
 ghost use Rattle.nl_fields.specs.Digits.{digit_of};
 ghost use Rattle.nl_tool_texts.specs.Columns.{by_number, is_control, shown, shown_byte};
 
-use crate::text::AllocResult;
+use crate::text::{AllocResult, append};
 use std::alloc::Global;
 
 pub fn shown(alloc: Global, text: &[u8]) -> AllocResult<Vec<u8>>
@@ -21,22 +21,18 @@ pub fn shown(alloc: Global, text: &[u8]) -> AllocResult<Vec<u8>>
 fn append_shown(before: u8, byte: u8, out: &mut Vec<u8>) -> AllocResult
     ensures items { OnOk result (out.new.items ≡ out.old.items ++ shown_byte before byte) }
 {
-    if !is_control(before, byte) {
-        out.push(byte)?;
-        return Ok(());
+    if is_control(before, byte) {
+        return append_number(byte, out);
     }
-    append_number(byte, out)
+    append(&[byte], out)
 }
 
 /// The number is hexadecimal, as in `\x1b`.
 pub fn append_number(byte: u8, out: &mut Vec<u8>) -> AllocResult
     ensures { OnOk result (out.new.items ≡ out.old.items ++ by_number byte) }
 {
-    out.push(b'\\')?;
-    out.push(b'x')?;
-    out.push(hex_digit(byte / 16))?;
-    out.push(hex_digit(byte % 16))?;
-    Ok(())
+    append(b"\\x", out)?;
+    append(&[hex_digit(byte / 16), hex_digit(byte % 16)], out)
 }
 
 fn is_control(before: u8, byte: u8) -> bool

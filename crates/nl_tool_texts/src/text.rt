@@ -1,7 +1,7 @@
 //! Texts that are appended part by part.
 ghost use Rattle.std.specs.Prelude.{◌≡◌, ◌++◌, IsTrue, OnOk, map, All};
 ghost use Rattle.nl_tool_texts.specs.Escape.{IsBare};
-ghost use Rattle.nl_tool_texts.specs.Texts.{change_text, line, part_text, parts_text, rest_text, sign, time_text, told_moment, took_text, two_text};
+ghost use Rattle.nl_tool_texts.specs.Texts.{change_text, line, part_text, parts_text, rest_text, sign, time_text, took_text, two_text};
 
 use itoa::{Buffer, Integer};
 use std::alloc::AllocError;
@@ -78,18 +78,12 @@ fn append_part(part: &Part<'_>, out: &mut Vec<u8>) -> AllocResult
             append(sign(*words, *old, *new), out)?;
             append_took(*words, old.abs_diff(*new), out)
         }
-        Part::Moment(words, at) => append_moment(*words, *at, out),
+        Part::Moment(words, at) if *at < BEGINNING => {
+            append(b"-", out)?;
+            append_took(*words, u128::from(BEGINNING - *at), out)
+        }
+        Part::Moment(words, at) => append_took(*words, u128::from(*at - BEGINNING), out),
     }
-}
-
-fn append_moment(words: bool, at: u64, out: &mut Vec<u8>) -> AllocResult
-    ensures items { OnOk result (out.new.items ≡ out.old.items ++ told_moment words at) }
-{
-    if at < BEGINNING {
-        append(b"-", out)?;
-        return append_took(words, u128::from(BEGINNING - at), out);
-    }
-    append_took(words, u128::from(at - BEGINNING), out)
 }
 
 /// Appends a line of these fields, which tabs part.
