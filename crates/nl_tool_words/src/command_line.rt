@@ -97,11 +97,8 @@ fn version_in<'a>(alloc: Global, matches: &ArgMatches<'a>) -> Result<Option<Aske
     if let Some(version) = version_for(name, text) {
         return Ok(Some(version));
     }
-    let those = if tells_version(name) {
-        "auto"
-    } else {
-        "5, 6, 7 or auto"
-    };
+    let is_told = tells_version(name);
+    let those = if is_told { "auto" } else { "5, 6, 7 or auto" };
     let message = format!(in alloc;
         "invalid value '{text}' for '--log-version <VERSION>': it is {those}"
     )?;
