@@ -7,19 +7,15 @@ ghost use Rattle.nl_tool_print.specs.Output.{check_text_of, report, yes_or_no, I
 ghost use Rattle.nl_versions.specs.LogAs.{log_for};
 ghost use Rattle.nl_tool_print.specs.Versions.{IsReportFor};
 
-use crate::show::load_read;
+use crate::show::{ToolResult, load_read};
 use nl_table::{Loaded, NO_SECRET, Secret, is_due};
-use nl_tool_texts::{AllocResult, ToolFault, write_out};
+use nl_tool_texts::{AllocResult, write_out};
 use nl_versions::LogVersion;
 use std::alloc::Global;
 use std::io::{Read, Write};
 
 /// Writes six lines: the log's version, its counts of entry lines, outputs, skipped lines and torn bytes, and whether it is due.
-pub fn check_to<R: Read + Drop, W: Write>(
-    alloc: Global,
-    reader: R,
-    writer: &mut W,
-) -> Result<(), ToolFault>
+pub fn check_to<R: Read + Drop, W: Write>(alloc: Global, reader: R, writer: &mut W) -> ToolResult
     ensures prints { Prints (IsTextAsRead check_text_of (R.remaining reader)) (W.contents writer.old) (W.contents writer.new) result }
     ensures not_a_log { IfNotALog result log_of (R.remaining reader) }
     ensures other_version { IfOtherVersion result log_of (R.remaining reader) }
@@ -36,7 +32,7 @@ pub fn check_log<R: Read + Drop, W: Write>(
     asked: Option<LogVersion>,
     reader: R,
     writer: &mut W,
-) -> Result<(), ToolFault>
+) -> ToolResult
     ensures prints { Prints (IsReportFor asked (R.remaining reader)) (W.contents writer.old) (W.contents writer.new) result }
     ensures not_a_log { IfNotALog result (log_for asked) (R.remaining reader) }
     ensures other_version { IfOtherVersion result (log_for asked) (R.remaining reader) }

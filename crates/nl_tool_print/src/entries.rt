@@ -5,10 +5,11 @@ ghost use Rattle.nl_tool_print.specs.Faults.{IfNotALog, IfOtherVersion, IsLogFau
 ghost use Rattle.nl_tool_print.specs.Streams.{IsFirstLine, Streams, entry_text, entries_text_of};
 ghost use Rattle.nl_versions.specs.VersionOf.{as_five};
 
+use crate::show::ToolResult;
 use crate::stream::{LineText, Piece, UNSEEN, append_field, stream_named};
 use nl_fields::append_entry;
 use nl_table::{OLDEST_VERSION, read_line};
-use nl_tool_texts::{AllocResult, ToolFault};
+use nl_tool_texts::AllocResult;
 use nl_versions::FirstLine;
 use std::alloc::Global;
 use std::io::{Read, Write};
@@ -38,11 +39,7 @@ impl LineText for EntryLines {
 }
 
 /// Writes the line of each entry, older ones included, in the order of the file.
-pub fn entries_to<R: Read + Drop, W: Write>(
-    alloc: Global,
-    reader: R,
-    writer: &mut W,
-) -> Result<(), ToolFault>
+pub fn entries_to<R: Read + Drop, W: Write>(alloc: Global, reader: R, writer: &mut W) -> ToolResult
     ensures streams { Streams (λ bs. entries_text_of (as_five bs)) (R.remaining reader)
         (W.contents writer.old) (W.contents writer.new) result }
     ensures not_a_log { IfNotALog result (λ bs. log_of (as_five bs)) (R.remaining reader) }
@@ -59,7 +56,7 @@ pub fn entries_named<R: Read + Drop, W: Write>(
     reader: R,
     writer: &mut W,
     first: &mut FirstLine,
-) -> Result<(), ToolFault>
+) -> ToolResult
     ensures streams { Streams (λ bs. entries_text_of (as_five bs)) (R.remaining reader)
         (W.contents writer.old) (W.contents writer.new) result }
     ensures version { OnOk result (IsFirstLine (R.remaining reader) first.new) }

@@ -7,10 +7,11 @@ ghost use Rattle.nl_tool_texts.specs.Output.{Prints};
 ghost use Rattle.nl_tool_print.specs.Output.{IsHashText};
 ghost use Rattle.nl_tool_print.specs.Versions.{IsFileHashAs, hash_text_as};
 
+use crate::show::ToolResult;
 use nl_fields::append_hex64;
 use nl_lines::{ReadSource, Source};
 use nl_table::LoadFault;
-use nl_tool_texts::{ToolFault, append, write_out};
+use nl_tool_texts::{append, write_out};
 use nl_versions::{LogVersion, command_hash_in};
 use std::alloc::Global;
 use std::io::{Read, Write};
@@ -19,7 +20,7 @@ use std::io::{Read, Write};
 const PIECE: usize = 65_536;
 
 /// It writes the hash as a log spells it, and a newline.
-pub fn hash_to<W: Write>(alloc: Global, command: &[u8], writer: &mut W) -> Result<(), ToolFault>
+pub fn hash_to<W: Write>(alloc: Global, command: &[u8], writer: &mut W) -> ToolResult
     ensures prints { Prints (IsHashText command.now) (W.contents writer.old) (W.contents writer.new) result }
     ensures faults { IfErr result IsHashFault }
 {
@@ -32,7 +33,7 @@ pub fn hash_for<W: Write>(
     version: LogVersion,
     command: &[u8],
     writer: &mut W,
-) -> Result<(), ToolFault>
+) -> ToolResult
     ensures prints { Prints (λ text. text ≡ hash_text_as version command.now) (W.contents writer.old) (W.contents writer.new) result }
     ensures faults { IfErr result IsHashFault }
 {
@@ -48,7 +49,7 @@ pub fn hash_read<R: Read + Drop, W: Write>(
     version: LogVersion,
     reader: R,
     writer: &mut W,
-) -> Result<(), ToolFault>
+) -> ToolResult
     ensures prints { Prints (IsFileHashAs version (R.remaining reader)) (W.contents writer.old) (W.contents writer.new) result }
     ensures faults { IfErr result IsHashFileFault }
 {

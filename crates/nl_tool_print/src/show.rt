@@ -20,15 +20,14 @@ use nl_versions::{LogVersion, load_seen};
 use std::alloc::Global;
 use std::io::{Read, Write};
 
+/// What a command answers.
+pub type ToolResult<T = ()> = Result<T, ToolFault>;
+
 // More than the longest line, so that lines are held before they are written.
 pub const PIECE: usize = 262_144;
 
 /// A line for the last entry of each output.
-pub fn show_to<R: Read + Drop, W: Write>(
-    alloc: Global,
-    reader: R,
-    writer: &mut W,
-) -> Result<(), ToolFault>
+pub fn show_to<R: Read + Drop, W: Write>(alloc: Global, reader: R, writer: &mut W) -> ToolResult
     ensures prints { Prints (IsTextAsRead show_text_of (R.remaining reader)) (W.contents writer.old) (W.contents writer.new) result }
     ensures not_a_log { IfNotALog result log_of (R.remaining reader) }
     ensures other_version { IfOtherVersion result log_of (R.remaining reader) }
@@ -44,7 +43,7 @@ pub fn show_log<R: Read + Drop, W: Write>(
     asked: Option<LogVersion>,
     reader: R,
     writer: &mut W,
-) -> Result<(), ToolFault>
+) -> ToolResult
     ensures prints { Prints (IsTextAsRead (show_text_for asked) (R.remaining reader))
         (W.contents writer.old) (W.contents writer.new) result }
     ensures not_a_log { IfNotALog result (log_for asked) (R.remaining reader) }
@@ -57,11 +56,7 @@ pub fn show_log<R: Read + Drop, W: Write>(
     write_lines(&loaded.table, &mut piece, writer)
 }
 
-pub fn write_lines<W: Write>(
-    table: &Table,
-    piece: &mut Vec<u8>,
-    writer: &mut W,
-) -> Result<(), ToolFault>
+pub fn write_lines<W: Write>(table: &Table, piece: &mut Vec<u8>, writer: &mut W) -> ToolResult
     requires empty { piece.old.items ≡ [] }
     requires room { MAX_ENTRY_LINE ≤ vec_capacity piece.old }
     ensures capacity { vec_capacity piece.old ≤ vec_capacity piece.new }
@@ -78,7 +73,7 @@ pub fn write_lines<W: Write>(
     write_out(piece.as_slice(), writer)
 }
 
-pub fn make_room<W: Write>(held: &mut Vec<u8>, writer: &mut W) -> Result<(), ToolFault>
+pub fn make_room<W: Write>(held: &mut Vec<u8>, writer: &mut W) -> ToolResult
     requires { MAX_ENTRY_LINE ≤ vec_capacity held.old }
     ensures room { OnOk result (vec_len held.new + MAX_ENTRY_LINE ≤ vec_capacity held.new) }
     ensures capacity { vec_capacity held.old ≤ vec_capacity held.new }
@@ -101,7 +96,7 @@ pub fn load_read<R: Read + Drop>(
     secret: Secret,
     asked: Option<LogVersion>,
     reader: R,
-) -> Result<(LogVersion, Loaded), ToolFault>
+) -> ToolResult<(LogVersion, Loaded)>
     ensures loaded { IfOk result (λ both. IsLoadFor asked (R.remaining reader) both.0 both.1) }
     ensures not_a_log { IfNotALog result (log_for asked) (R.remaining reader) }
     ensures other_version { IfOtherVersion result (log_for asked) (R.remaining reader) }
