@@ -18,12 +18,6 @@ pub fn append_label(alloc: Global, name: &[u8], out: &mut Vec<u8>) -> AllocResul
     if name.len() <= WHOLE && is_bare(name) {
         return append(name, out);
     }
-    append_cut(alloc, name, out)
-}
-
-fn append_cut(alloc: Global, name: &[u8], out: &mut Vec<u8>) -> AllocResult
-    ensures items { OnOk result (out.new.items ≡ out.old.items ++ label name.now) }
-{
     let whole = shown(alloc, name)?;
     if whole.len() <= WHOLE {
         return append(whole.as_slice(), out);

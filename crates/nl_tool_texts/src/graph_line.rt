@@ -64,14 +64,7 @@ fn is_setting(line: &[u8]) -> bool
 fn quoted(bytes: &[u8]) -> Option<(&[u8], &[u8])>
     ensures value { option_map both_now result ≡ quoted bytes.now }
 {
-    to_quote(bytes.strip_prefix(b"\"")?)
-}
-
-fn to_quote(tail: &[u8]) -> Option<(&[u8], &[u8])>
-    ensures value { option_map both_now result ≡ to_quote tail.now }
-{
-    match memchr(b'"', tail) {
-        Some(at) => Some((&tail[..at], &tail[at + 1..])),
-        None => None,
-    }
+    let tail = bytes.strip_prefix(b"\"")?;
+    let at = memchr(b'"', tail)?;
+    Some((&tail[..at], &tail[at + 1..]))
 }

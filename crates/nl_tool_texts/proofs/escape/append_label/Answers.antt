@@ -1,7 +1,8 @@
-use Rattle.std.proofs.Common.{◌∙◌, ◌++◌, ℕ, List, ap, arith, refl}
+use Rattle.std.proofs.Common.{◌≡◌, ◌∙◌, ◌<◌, ◌++◌, ℕ, List, ap, arith, codes, length, refl, take}
 use Rattle.std.proofs.lemmas.Result.{on_ok_weaker}
 use Rattle.nl_tool_texts.proofs.BareLemmas.{bare_shown}
-use Rattle.nl_tool_texts.proofs.TextLemmas.{label_whole}
+use Rattle.nl_tool_texts.proofs.TextLemmas.{begins, label_cut, label_whole, two_parts}
+use Rattle.nl_tool_texts.specs.Escape.{shown}
 use Rattle.nl_tool_texts.proofs.escape.append_label.Goals as goal
 
 pub returns-then-is_bare : goal.returns-then-is_bare
@@ -9,3 +10,16 @@ returns-then-is_bare c =
     let name = c.args.name.now in
     let whole = label_whole name name (bare_shown name (c.if-is_bare.ensures.bare refl)) (omega (arith, c.if-name-le-WHOLE.true)) in
     record { items = on_ok_weaker c.append.result (λ h. h ∙ ap (λ (l : List ℕ). c.args.out.now.items ++ l) whole) c.append.ensures.items }
+
+pub returns : goal.returns
+returns c =
+    let old = c.args.out.now.items in
+    let name = c.args.name.now in
+    let start : c.as_slice-2.result.now ≡ shown (take 20 name) =
+    c.as_slice-2.ensures.value ∙ c.in_ok-start.ensures.value ∙ ap shown (begins name c.min.result (omega (arith, c.min.ensures))) in
+    let long : 100 < length c.in_ok-whole.whole.items = omega (arith, c.if-len-le-WHOLE.false, c.len.ensures) in
+    record {
+      items = on_ok_weaker c.append-3.result (λ h. two_parts old c.append-2.new.out.items c.append-3.new.out.items (shown (take 20 name)) (codes "..")
+          (c.in_ok-append.ensures.items ∙ ap (λ (l : List ℕ). old ++ l) start) h
+          ∙ ap (λ (l : List ℕ). old ++ l) (label_cut name c.in_ok-whole.whole.items _ c.in_ok-whole.ensures.value long refl)) c.append-3.ensures.items;
+    }
