@@ -1,6 +1,5 @@
 -- What is said after a refusal where `--verbose` asks for it: docs/CLI.md, "Why something was refused".
-use Rattle.std.specs.List.{flat_map}
-use Rattle.std.specs.Prelude.{⊤, ◌≡◌, ◌≢◌, ◌⊎◌, ◌++◌, IsSome, IsSomeAnd, [], List, ℕ, Option, None, Some, IfSome, codes, decimal, string_bytes, ◌||◌, Bool, true, false, bytes_eq, length, if◌then◌else◌}
+use Rattle.std.specs.Prelude.{⊤, ◌≡◌, ◌⊎◌, ◌++◌, IsSome, IsSomeAnd, [], List, ℕ, Option, None, Some, IfSome, codes, decimal, string_bytes, ◌||◌, Bool, true, false, bytes_eq, length, if◌then◌else◌}
 use Rattle.std.specs.Borrow.{Bor}
 use Rattle.nl_os.specs.Paths.{folder_path_of}
 use Rattle.nl_os.specs.declared.failed_call.FileRole.{FileRole}
@@ -18,7 +17,7 @@ use Rattle.nl_tool.specs.declared.reason.Place.TheVariants as at
 use Rattle.nl_tool.specs.declared.reason.Reason.{Reason}
 use Rattle.nl_tool.specs.declared.reason.Reason.TheVariants.{System, Full, Locked, Unsynced, Masked, Missing, Again, Line, Negative, Early, Version, Looks, Begins, Number, OtherBuild, NoBytes, Tab, Newline, Long}
 use Rattle.nl_tool.specs.declared.notes.Notes.{Notes}
-use Rattle.nl_tool.specs.Looks.{escaped, look_of, look_text, start_text}
+use Rattle.nl_tool.specs.Looks.{look_of, look_text, start_text}
 use Rattle.nl_tool_change.specs.LineFaults.{line_fault_text, number_fault_text, number_name}
 use Rattle.nl_tool_change.specs.declared.line_fault.NumberOf.{NumberOf}
 use Rattle.nl_tool_change.specs.declared.line_fault.NumberOf.TheVariants as numbered
@@ -30,9 +29,9 @@ use Rattle.nl_tool.specs.declared.reason.Refusal.{Refusal}
 
 -- a file by its name on the page and its path, or a stream
 abbrev pub place_text : Place → List ℕ
-place_text (at.Log path) = codes "LOG " ++ path.now
-place_text (at.Scratch log) = codes "scratch " ++ (log.now ++ codes ".recompact")
-place_text (at.Folder log) = codes "folder " ++ folder_path_of log.now
+place_text (at.OfLog file.Log path) = codes "LOG " ++ path.now
+place_text (at.OfLog file.Scratch log) = codes "scratch " ++ (log.now ++ codes ".recompact")
+place_text (at.OfLog file.Folder log) = codes "folder " ++ folder_path_of log.now
 place_text (at.OfBuild None file.Log) = codes "LOG .ninja_log"
 place_text (at.OfBuild None file.Scratch) = codes "scratch .ninja_log.recompact"
 place_text (at.OfBuild None file.Folder) = codes "folder ."
@@ -87,15 +86,9 @@ refusal_text refusal = fault_text refusal.fault ++ behind refusal.why
 
 -- ---- which file a reason is of
 
--- a file of the log at a path
-abbrev pub file_place : Bor (List ℕ) → FileRole → Place
-file_place log file.Log = at.Log log
-file_place log file.Scratch = at.Scratch log
-file_place log file.Folder = at.Folder log
-
 -- a file of the log that is mended: the one that is named, or else that of the build in the folder
 abbrev pub mended_place : Option (Bor (List ℕ)) → Option (Bor (List ℕ)) → FileRole → Place
-mended_place (Some log) folder role = file_place log role
+mended_place (Some log) folder role = at.OfLog role log
 mended_place None folder role = at.OfBuild folder role
 
 -- the file that the words have read or looked for, or standard input
@@ -105,17 +98,17 @@ given_or_input place (Some path) = place path
 
 -- the file beside the log that a word changes, or that log
 abbrev pub change_place : Changing → Bor (List ℕ) → Option (Bor (List ℕ)) → Place
-change_place Prune log file = given_or_input at.Targets file
-change_place Apply log file = given_or_input at.Script file
-change_place Retime log file = at.Log log
-change_place Repair log file = at.Log log
+change_place Prune log beside = given_or_input at.Targets beside
+change_place Apply log beside = given_or_input at.Script beside
+change_place Retime log beside = at.OfLog file.Log log
+change_place Repair log beside = at.OfLog file.Log log
 
 abbrev pub read_place : Words → Option Place
-read_place (Show log) = Some (given_or_input at.Log log)
-read_place (Check log) = Some (given_or_input at.Log log)
+read_place (Show log) = Some (given_or_input (at.OfLog file.Log) log)
+read_place (Check log) = Some (given_or_input (at.OfLog file.Log) log)
 read_place (Hash command) = None
 read_place (HashFile file) = Some (given_or_input at.Command file)
-read_place (Read what log choices) = Some (given_or_input at.Log log)
+read_place (Read what log choices) = Some (given_or_input (at.OfLog file.Log) log)
 read_place (Compare old new lines least) = None
 read_place (Record log start end mtime name command) = None
 read_place (Recompact log keep) = Some (at.Keep keep)
@@ -132,10 +125,10 @@ log_place (Hash command) file = None
 log_place (HashFile path) file = None
 log_place (Read what log choices) file = read_place (Read what log choices)
 log_place (Compare old new lines least) file = None
-log_place (Record log start end mtime name command) file = Some (file_place log file)
-log_place (Recompact log keep) file = Some (file_place log file)
-log_place (Restat log times) file = Some (file_place log file)
-log_place (Change what log beside) file = Some (file_place log file)
+log_place (Record log start end mtime name command) file = Some (at.OfLog file log)
+log_place (Recompact log keep) file = Some (at.OfLog file log)
+log_place (Restat log times) file = Some (at.OfLog file log)
+log_place (Change what log beside) file = Some (at.OfLog file log)
 log_place (Mend log folder dry_run all) file = Some (mended_place log folder file)
 log_place (Replay script) file = None
 
@@ -191,7 +184,7 @@ IsVersion _ = ⊥
 
 -- how the file begins that was read last
 abbrev pub heard_of : Notes → List ℕ
-heard_of notes = notes.heard.beginning.bytes.items
+heard_of notes = notes.heard.beginning.items
 
 -- the reason is what a file looks like that begins so, or else its first bytes
 abbrev pub IsLookAt : List ℕ → Reason → Type 0
@@ -234,11 +227,6 @@ IsLongNameOf _ why = ⊥
 abbrev pub IsLine : ℕ → Reason → Type 0
 IsLine number (Line at fault) = at ≡ number
 IsLine number _ = ⊥
-
--- the reason names the file of this output, which has a name
-abbrev pub IsEarly : List ℕ → Reason → Type 0
-IsEarly name (Early text) = (name ≢ []) × (string_bytes text ≡ flat_map escaped name)
-IsEarly name _ = ⊥
 
 abbrev pub IsNegative : Reason → Type 0
 IsNegative (Negative number) = ⊤

@@ -9,13 +9,12 @@ ghost use Rattle.nl_tool_change.specs.RecordWords.{GiveEntry};
 ghost use Rattle.nl_tool_change.specs.Updates.{AsSaid};
 ghost use Rattle.nl_tool_doubt.specs.There.{AddsFor, KeepsMost, pair_by};
 ghost use Rattle.nl_tool_print.specs.Faults.{IsLogFault};
-ghost use Rattle.nl_tool_print.specs.Versions.{IsReportFor};
 ghost use Rattle.nl_versions.specs.LogAs.{log_for};
 ghost use Rattle.nl_tool.specs.Answers.{RefusesLog};
 ghost use Rattle.nl_tool.specs.Faults.{IsPruneFault, IsRepairFault, IsSettlingFault, IsTargetsFault};
 ghost use Rattle.nl_tool_texts.specs.declared.fault.ToolFault.{ToolFault};
 
-use crate::desk::{Desk, close};
+use crate::desk::{Desk, ToolResult, close};
 use crate::doubting::SystemFiles;
 use crate::notes::{NotedReader, NotedWriter, Notes};
 use crate::printing::Streaming;
@@ -31,7 +30,7 @@ use nl_tool_change::{
     record_command, repair_on, restat_on, retime_on,
 };
 use nl_tool_doubt::{OutputFiles, names_there, times_there};
-use nl_tool_print::check_log;
+use nl_tool_print::load_read;
 use nl_tool_texts::ToolFault;
 use nl_versions::LogVersion;
 use std::alloc::Global;
@@ -51,7 +50,7 @@ where
         mtime: &str,
         name: &str,
         command: &str,
-    ) -> Result<(), ToolFault>
+    ) -> ToolResult
         ensures accepts { OnOk result (GiveEntry start.now end.now mtime.now name.now) }
         ensures faults { IfErr result (IsEntryFault start.now end.now mtime.now name.now self.new.notes.told.number) }
     {
@@ -61,7 +60,7 @@ where
         record_at(self.alloc, place, entry, command, &mut self.notes)
     }
 
-    pub fn recompact_in(&mut self, log: &str, keep: &str) -> Result<(), ToolFault>
+    pub fn recompact_in(&mut self, log: &str, keep: &str) -> ToolResult
         ensures faults { IfErr result IsRecompactFault }
     {
         let names = self.open(keep)?;
@@ -70,7 +69,7 @@ where
         recompact_at(self.alloc, place, names, &mut self.notes)
     }
 
-    pub fn restat_in(&mut self, log: &str, times: &str) -> Result<(), ToolFault>
+    pub fn restat_in(&mut self, log: &str, times: &str) -> ToolResult
         ensures faults { IfErr result IsRestatFault }
     {
         let pairs = self.open(times)?;
@@ -79,7 +78,7 @@ where
         restat_at(self.alloc, place, pairs, &mut self.notes)
     }
 
-    pub fn apply_in(&mut self, log: &str, script: Option<&str>) -> Result<(), ToolFault>
+    pub fn apply_in(&mut self, log: &str, script: Option<&str>) -> ToolResult
         ensures faults { IfErr result IsApplyFault }
     {
         let Desk { rt, alloc, .. } = *self;
@@ -92,7 +91,7 @@ where
         apply_at(rt, alloc, place, lines, script, &mut self.notes)
     }
 
-    pub fn repair_in(&mut self, log: &str) -> Result<(), ToolFault>
+    pub fn repair_in(&mut self, log: &str) -> ToolResult
         ensures faults { IfErr result IsRepairFault }
     {
         self.look_there(log, self.missing_ok)?;
@@ -101,7 +100,7 @@ where
     }
 
     // It reads all targets before it asks anything of LOG.
-    pub fn prune_in(&mut self, log: &str, path: Option<&str>) -> Result<Verdict, ToolFault>
+    pub fn prune_in(&mut self, log: &str, path: Option<&str>) -> ToolResult<Verdict>
         ensures faults { IfErr result IsPruneFault }
     {
         let targets = match path {
@@ -111,7 +110,7 @@ where
                 self.targets_from(file)?
             }
         };
-        let answer = self.prune_log(log, targets);
+        let answer = self.settle_in(log, Some(targets));
         // The targets were read, so it is LOG that couldn't be.
         if let Some(error) = self.notes.heard.failure {
             self.notes.heard.failure = None;
@@ -122,7 +121,7 @@ where
     }
 
     // Notes of the targets are kept only if these are refused, because LOG is read next.
-    fn targets_from<S: Read + Drop>(&mut self, reader: S) -> Result<Vec<Name>, ToolFault>
+    fn targets_from<S: Read + Drop>(&mut self, reader: S) -> ToolResult<Vec<Name>>
         ensures faults { IfErr result IsTargetsFault }
     {
         let notes = &mut self.notes;
@@ -135,43 +134,29 @@ where
         answer
     }
 
-    fn prune_log(&mut self, log: &str, targets: Vec<Name>) -> Result<Verdict, ToolFault>
+    // Changes a log by the files of its outputs, and `prune` by its targets, too; `retime` has none. If the log is damaged, that is told,
+    // and nothing else is done.
+    pub fn settle_in(&mut self, log: &str, targets: Option<Vec<Name>>) -> ToolResult<Verdict>
+        ensures retimes { targets ≡ None → IfErr result IsSettlingFault }
         ensures faults { IfErr result IsPruneFault }
     {
-        if let Verdict::Found = self.damage_in(log)? {
-            return Ok(Verdict::Found);
-        }
-        let file = self.open(log)?;
-        let (rt, alloc, folder) = (self.rt, self.alloc, None);
-        let files = SystemFiles { rt, alloc, folder };
-        let place = self.log_at(log)?;
-        prune_at(alloc, place, targets, file, &files, &mut self.notes)?;
-        Ok(Verdict::Done)
-    }
-
-    // Tells of the damage of a log. One of another version than that which is asked for is refused before.
-    fn damage_in(&mut self, log: &str) -> Result<Verdict, ToolFault>
-        ensures faults { IfErr result IsSettlingFault }
-    {
+        // One of another version than that which is asked for is refused, and its damage isn't told.
         if self.asked.is_some() {
             let file = self.open(log)?;
             let file = NotedReader::new(file, &mut self.notes.heard);
             check_version(self.alloc, self.notes.secret, self.asked, file)?;
         }
-        self.stream_log(Streaming::Damage, Some(log), false)
-    }
-
-    pub fn retime_in(&mut self, log: &str) -> Result<Verdict, ToolFault>
-        ensures faults { IfErr result IsSettlingFault }
-    {
-        if let Verdict::Found = self.damage_in(log)? {
+        if let Verdict::Found = self.stream_log(Streaming::Damage, Some(log))? {
             return Ok(Verdict::Found);
         }
         let file = self.open(log)?;
         let (rt, alloc, folder) = (self.rt, self.alloc, None);
         let files = SystemFiles { rt, alloc, folder };
         let place = self.log_at(log)?;
-        retime_at(alloc, place, file, &files, &mut self.notes)?;
+        match targets {
+            Some(targets) => prune_at(alloc, place, targets, file, &files, &mut self.notes)?,
+            None => retime_at(alloc, place, file, &files, &mut self.notes)?,
+        }
         Ok(Verdict::Done)
     }
 }
@@ -182,7 +167,7 @@ fn record_at<D: Files + Clock + Drop>(
     entry: EntryRef<'_>,
     command: &str,
     notes: &mut Notes,
-) -> Result<(), ToolFault>
+) -> ToolResult
 where
     D::File: SystemFile,
     ensures call { (left : FolderView) × ChangesLogFor place.asked (λ version. adding (hashed entry.entry command.now version)) result
@@ -199,7 +184,7 @@ fn recompact_at<D: Files + Clock + Drop, R: Read + Drop>(
     place: AskedFolder<DiskFolder<D>>,
     names: R,
     notes: &mut Notes,
-) -> Result<(), ToolFault>
+) -> ToolResult
 where
     D::File: SystemFile,
     ensures call { IsErrAnd result IsFileFault ⊎ ((left : FolderView) × AsSaid keep_of (R.remaining names)
@@ -216,7 +201,7 @@ fn restat_at<D: Files + Clock + Drop, R: Read + Drop>(
     place: AskedFolder<DiskFolder<D>>,
     pairs: R,
     notes: &mut Notes,
-) -> Result<(), ToolFault>
+) -> ToolResult
 where
     D::File: SystemFile,
     ensures call { IsErrAnd result IsFileFault ⊎ ((left : FolderView) × AsSaid times_of (R.remaining pairs)
@@ -254,7 +239,7 @@ fn apply_at<P: Print + Eprint, D: Files + Clock + Drop, R: Read + Drop>(
     reader: R,
     lines: Place<'_>,
     notes: &mut Notes,
-) -> Result<(), ToolFault>
+) -> ToolResult
 where
     D::File: SystemFile,
     ensures call { (left : FolderView) × (before : Option (List ℕ)) × (after : Option (List ℕ))
@@ -275,7 +260,7 @@ fn repair_at<D: Files + Clock + Drop>(
     alloc: Global,
     place: AskedFolder<DiskFolder<D>>,
     notes: &mut Notes,
-) -> Result<(), ToolFault>
+) -> ToolResult
 where
     D::File: SystemFile,
     ensures call { (left : FolderView) × ChangesLogFor place.asked (λ _. keeping_all) result
@@ -293,7 +278,7 @@ fn prune_at<D: Files + Clock + Drop, R: Read + Drop, O: OutputFiles>(
     log: R,
     files: &O,
     notes: &mut Notes,
-) -> Result<(), ToolFault>
+) -> ToolResult
 where
     D::File: SystemFile,
     ensures call { IsErr result ⊎ ((kept : List (List ℕ)) × (left : FolderView)
@@ -314,18 +299,12 @@ fn check_version<R: Read + Drop>(
     secret: Secret,
     asked: Option<LogVersion>,
     log: R,
-) -> Result<(), ToolFault>
-    ensures ok { OnOk result ((text : List ℕ) × IsReportFor asked (R.remaining log) text) }
+) -> ToolResult
     ensures bytes { RefusesLog (log_for asked) (R.remaining log) result }
     ensures faults { IfErr result IsLogFault }
 {
-    let mut report = Vec::new(alloc);
-    match check_log(alloc, secret, asked, log, &mut report) {
-        Ok(()) => Ok(()),
-        // The writer is memory, so a write that fails found no room there.
-        Err(ToolFault::Write) => Err(ToolFault::Memory),
-        Err(fault) => Err(fault),
-    }
+    load_read(alloc, secret, asked, log)?;
+    Ok(())
 }
 
 fn retime_at<D: Files + Clock + Drop, R: Read + Drop, O: OutputFiles>(
@@ -334,7 +313,7 @@ fn retime_at<D: Files + Clock + Drop, R: Read + Drop, O: OutputFiles>(
     log: R,
     files: &O,
     notes: &mut Notes,
-) -> Result<(), ToolFault>
+) -> ToolResult
 where
     D::File: SystemFile,
     ensures call { IsErr result ⊎ ((times : List (List ℕ × ℤ)) × (left : FolderView)
@@ -353,7 +332,7 @@ fn retime_there<P: LogPlace, R: Read + Drop, F: OutputFiles>(
     log: R,
     files: &F,
     early: &mut Vec<u8>,
-) -> (P, Result<(), ToolFault>)
+) -> (P, ToolResult)
     ensures call { (IsErr result.1 × (result.0 ≡ place)) ⊎ ((times : List (List ℕ × ℤ))
         × AddsFor pair_by (R.remaining log) (F.states files.now) [] times × P.changes (touching times) result.1 place result.0) }
     ensures negative_time { (i : ℕ) → result.1 ≡ Err (ToolFault.NegativeTime i) → result.0 ≡ place }

@@ -26,6 +26,9 @@ use std::io::{ErrorKind, Read};
 use std::rt::{Clock, Files, Runtime};
 use std::{env, fs};
 
+/// What a command answers.
+pub type ToolResult<T = ()> = Result<T, ToolFault>;
+
 // How many characters a line of a terminal has where COLUMNS doesn't tell.
 const USUAL: usize = 80;
 
@@ -104,7 +107,7 @@ impl<'r, R: Runtime> Desk<'r, R> {
         }
     }
 
-    pub fn open_log(&mut self, path: &str, missing_ok: bool) -> Result<Option<R::File>, ToolFault>
+    pub fn open_log(&mut self, path: &str, missing_ok: bool) -> ToolResult<Option<R::File>>
         ensures there { missing_ok ≡ false → IfOk result (λ file. IsSome file) }
         ensures faults { IfErr result (λ e. e ≡ ToolFault.Read) }
         ensures noted { IsErr result → IsSome self.new.notes.heard.failure }
@@ -123,7 +126,7 @@ impl<'r, R: Runtime> Desk<'r, R> {
     }
 
     // It tells only whether the log is missing. Every other failure comes when the log is opened.
-    pub fn look_there(&mut self, path: &str, missing_ok: bool) -> Result<(), ToolFault>
+    pub fn look_there(&mut self, path: &str, missing_ok: bool) -> ToolResult
         ensures faults { IfErr result (λ e. e ≡ ToolFault.Read) }
         ensures noted { IsErr result → IsSome self.new.notes.heard.failure }
     {
@@ -145,14 +148,14 @@ impl<'r, R: Runtime> Desk<'r, R> {
         }
     }
 
-    pub fn open(&mut self, path: &str) -> Result<R::File, ToolFault>
+    pub fn open(&mut self, path: &str) -> ToolResult<R::File>
         ensures faults { IfErr result (λ e. e ≡ ToolFault.Read) }
         ensures noted { IsErr result → IsSome self.new.notes.heard.failure }
     {
         Ok(self.open_log(path, false)?.unwrap())
     }
 
-    pub fn log_bytes(&mut self, log: Option<&str>, missing_ok: bool) -> Result<Vec<u8>, ToolFault>
+    pub fn log_bytes(&mut self, log: Option<&str>, missing_ok: bool) -> ToolResult<Vec<u8>>
         ensures faults { IfErr result IsLogFault }
     {
         let Some(path) = log else {
@@ -165,7 +168,7 @@ impl<'r, R: Runtime> Desk<'r, R> {
     }
 
     // It says how far a log is read, where that takes long.
-    fn bytes_from<S: Read + Drop>(&mut self, is_log: bool, reader: S) -> Result<Vec<u8>, ToolFault>
+    fn bytes_from<S: Read + Drop>(&mut self, is_log: bool, reader: S) -> ToolResult<Vec<u8>>
         ensures value { IfOk result (λ all. OfBytes (S.remaining reader) (λ bytes. bytes ≡ all.items)) }
         ensures faults { IfErr result IsLogFault }
     {
@@ -175,7 +178,7 @@ impl<'r, R: Runtime> Desk<'r, R> {
     }
 
     // It is the second file, and read before the log.
-    pub fn graph_bytes(&mut self, path: &str) -> Result<Vec<u8>, ToolFault>
+    pub fn graph_bytes(&mut self, path: &str) -> ToolResult<Vec<u8>>
         ensures faults { IfErr result IsLogFault }
     {
         self.notes.begin(true);
@@ -206,7 +209,7 @@ where
     R::File: SystemFile,
 {
     /// Where the log at this path stands. No file is touched.
-    pub fn log_at(&self, log: &'r str) -> Result<LogAt<'r, R>, ToolFault>
+    pub fn log_at(&self, log: &'r str) -> ToolResult<LogAt<'r, R>>
         ensures folder { IfOk result (λ at. ArePathsOf log.entry.now (paths_of (system_of at.folder.folder))) }
         ensures asked { IfOk result (λ at. at.asked ≡ self.entry.now.asked) }
         ensures faults { IfErr result (λ e. e ≡ ToolFault.Memory) }
@@ -224,7 +227,7 @@ where
 const PIECE: usize = 65_536;
 
 // It refuses a log as soon as the first bytes begin none. A read that was interrupted has failed.
-fn read_bytes<R: Read + Drop>(alloc: Global, is_log: bool, reader: R) -> Result<Vec<u8>, ToolFault>
+fn read_bytes<R: Read + Drop>(alloc: Global, is_log: bool, reader: R) -> ToolResult<Vec<u8>>
     ensures value { IfOk result (λ all. OfBytes (R.remaining reader) (λ bytes. bytes ≡ all.items)) }
     ensures not_a_log { IsErrOf result ToolFault.NotALog → IfSome (R.remaining reader) (λ bs. log_of (as_five bs) ≡ NotALog) }
     ensures faults { IfErr result IsLogFault }
@@ -249,9 +252,9 @@ fn read_bytes<R: Read + Drop>(alloc: Global, is_log: bool, reader: R) -> Result<
 /// Keeps why calls of a folder failed. If the file isn't taken for a log, its beginning is kept too, because the reason names it.
 pub fn close<R: Files + Clock + Drop, T: Drop>(
     mut folder: DiskFolder<R>,
-    answer: Result<T, ToolFault>,
+    answer: ToolResult<T>,
     notes: &mut Notes,
-) -> Result<T, ToolFault>
+) -> ToolResult<T>
 where
     R::File: SystemFile,
     ensures same { result ≡ answer }
@@ -263,7 +266,7 @@ where
     notes.unsynced = folder.unsynced_folder();
     notes.is_masked = folder.is_masked();
     if notes.looks && matches!(answer, Err(ToolFault::OtherVersion | ToolFault::NotALog)) {
-        notes.look_at(&mut folder);
+        notes.heard.look_at(&mut folder);
     }
     answer
 }

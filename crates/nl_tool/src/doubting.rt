@@ -19,7 +19,7 @@ ghost use Rattle.nl_table.specs.Log.{NotALog, OtherVersion, log_of};
 ghost use Rattle.nl_tool_texts.specs.declared.fault.ToolFault.{ToolFault};
 ghost use Rattle.nl_tool.specs.declared.program.Verdict.{Verdict};
 
-use crate::desk::{Desk, close};
+use crate::desk::{Desk, ToolResult, close};
 use crate::notes::{NotedWriter, Notes};
 use crate::program::Verdict;
 use nl_folder::Folder;
@@ -93,7 +93,7 @@ fn tell_doubts<F: OutputFiles, W: Write>(
     log: &[u8],
     files: &F,
     writer: &mut W,
-) -> Result<Verdict, ToolFault>
+) -> ToolResult<Verdict>
     ensures found { IfOk result
         (λ outcome. (doubts : Doubts) × IsDoubts undamaged log.now (F.states files.now) doubts
         × Appends (W.contents writer.old) (W.contents writer.new) (flat_map doubt_line doubts.named.items)
@@ -117,7 +117,7 @@ impl<R: Runtime> Desk<'_, R>
 where
     R::File: SystemFile,
 {
-    pub fn doubt_in(&mut self, log: Option<&str>) -> Result<Verdict, ToolFault>
+    pub fn doubt_in(&mut self, log: Option<&str>) -> ToolResult<Verdict>
         ensures faults { IfErr result IsLogFault }
     {
         let bytes = self.log_bytes(log, false)?;
@@ -137,7 +137,7 @@ where
         log: Option<&str>,
         folder: Option<&str>,
         how: How,
-    ) -> Result<Verdict, ToolFault>
+    ) -> ToolResult<Verdict>
         ensures faults { IfErr result IsMendFault }
     {
         // It refuses a missing folder, because the log that is missing with it would be taken for a whole one.
@@ -148,20 +148,12 @@ where
                 return Err(ToolFault::Read);
             }
         }
-        match (log, folder) {
-            (Some(path), _) => self.mend_log(path, folder, how),
-            (None, Some(folder)) => {
-                let path = format!(in self.alloc; "{folder}/.ninja_log")?;
-                self.mend_log(path.as_str(), Some(folder), how)
-            }
-            (None, None) => self.mend_log(".ninja_log", None, how),
-        }
-    }
-
-    // A missing log needs no mending.
-    fn mend_log(&mut self, log: &str, folder: Option<&str>, how: How) -> Result<Verdict, ToolFault>
-        ensures faults { IfErr result IsMendFault }
-    {
+        let own = match folder {
+            Some(folder) => format!(in self.alloc; "{folder}/.ninja_log")?,
+            None => String::from_str(self.alloc, ".ninja_log")?,
+        };
+        let log = log.unwrap_or(own.as_str());
+        // A missing log needs no mending.
         self.look_there(log, true)?;
         if self.notes.is_missing {
             return Ok(Verdict::Done);
@@ -192,7 +184,7 @@ fn mend_at<D: Files + Clock + Drop, O: OutputFiles, W: Write>(
     how: How,
     writer: &mut W,
     notes: &mut Notes,
-) -> Result<Mended, ToolFault>
+) -> ToolResult<Mended>
 where
     D::File: SystemFile,
     ensures call { (left : FolderView) × MendsFolder (O.states files.now) how

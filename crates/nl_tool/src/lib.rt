@@ -28,7 +28,7 @@ pub use nl_tool_print::{
 pub use nl_tool_texts::{ToolFault, status_of};
 pub use nl_tool_words::{AskedVersion, Changing, Choices, CommandLine, Reading, Words, read_words};
 pub use nl_versions::{FirstLine, LogVersion, command_hash_in, first_line_in, version_of};
-pub use notes::{Beginning, Heard, Look, NotedReader, NotedWriter, Notes, look_of, start_of};
+pub use notes::{Heard, Look, NotedReader, NotedWriter, Notes, look_of};
 pub use program::{Verdict, run, run_at, run_line, run_program};
 pub use reason::{Place, Reason, Refusal, Why, note_of, refusal_of};
 pub use waiting::{Telling, Waiting};

@@ -3,7 +3,7 @@
 ghost use Rattle.std.specs.Prelude.{◌≡◌, None, Some, IfErr, IfSome, false, true, string_bytes, flat_map};
 ghost use Rattle.std.specs.Io.{ReadsAtMost, WritesAtMost};
 ghost use Rattle.std.specs.Io.KnownBytes.{Keeps, ReadConsumes, WriteAppends};
-ghost use Rattle.nl_tool.specs.Looks.{escaped, look_of, look_text, start_text};
+ghost use Rattle.nl_tool.specs.Looks.{escaped, look_of, look_text};
 
 use crate::desk::Screen;
 use nl_folder::Folder;
@@ -61,10 +61,8 @@ impl Notes {
         Notes {
             heard: Heard {
                 failure: None,
-                beginning: Beginning {
-                    bytes: Vec::new(alloc),
-                    goes_on: looks,
-                },
+                beginning: Vec::new(alloc),
+                goes_on: looks,
             },
             told: UNTOLD,
             written: None,
@@ -89,17 +87,8 @@ impl Notes {
     {
         self.is_second = is_second;
         self.is_missing = false;
-        self.heard.beginning.bytes.clear();
-        self.heard.beginning.goes_on = self.looks;
-    }
-
-    /// Keeps the first line of the log of a folder, in the place of what was read before.
-    pub fn look_at<F: Folder>(&mut self, folder: &mut F)
-        ensures kept { self.new.folder ≡ self.old.folder }
-        ensures unsynced { self.new.unsynced ≡ self.old.unsynced }
-        ensures masked { self.new.is_masked ≡ self.old.is_masked }
-    {
-        self.heard.beginning.look_at(folder);
+        self.heard.beginning.clear();
+        self.heard.goes_on = self.looks;
     }
 }
 
@@ -108,47 +97,37 @@ impl Notes {
 pub struct Heard {
     /// The error by which it was last not opened, or not read.
     pub failure: Option<io::Error>,
-    pub beginning: Beginning,
-}
-
-/// The first line of a file, as far as it was read, and there was memory for it.
-#[derive(Drop)]
-pub struct Beginning {
-    bytes: Vec<u8>,
-    // Whether what is read next belongs to it.
+    /// Its first line, as far as it was read, and there was memory for it.
+    pub beginning: Vec<u8>,
+    // Whether what is read next belongs to that line.
     goes_on: bool,
 }
 
-impl Beginning {
-    fn look_at<F: Folder>(&mut self, folder: &mut F) {
-        self.bytes.clear();
+impl Heard {
+    /// Keeps the first line of the log of a folder, in the place of what was read before.
+    pub fn look_at<F: Folder>(&mut self, folder: &mut F) {
+        self.beginning.clear();
         self.goes_on = true;
         let mut piece = [0; PIECE];
         for _ in 0..=MAX_LINE {
             if !self.goes_on {
                 return;
             }
-            match folder.read_log(self.bytes.len() as u64, &mut piece) {
+            match folder.read_log(self.beginning.len() as u64, &mut piece) {
                 Ok(0) | Err(_) => return,
                 Ok(count) => self.note(&piece[..count]),
             }
         }
     }
 
-    pub fn bytes(&self) -> &[u8]
-        ensures value { result.now ≡ self.now.bytes.items }
-    {
-        self.bytes.as_slice()
-    }
-
-    /// Keeps the bytes that were read next, up to the end of the first line. One that is too long is of no log.
-    pub fn note(&mut self, bytes: &[u8]) {
+    // Keeps the bytes that were read next, up to the end of the first line. One that is too long is of no log.
+    fn note(&mut self, bytes: &[u8]) {
         for byte in bytes {
             if !self.goes_on {
                 return;
             }
-            let is_kept = self.bytes.push(*byte).is_ok();
-            self.goes_on = is_kept && *byte != b'\n' && self.bytes.len() <= MAX_LINE;
+            let is_kept = self.beginning.push(*byte).is_ok();
+            self.goes_on = is_kept && *byte != b'\n' && self.beginning.len() <= MAX_LINE;
         }
     }
 }
@@ -178,7 +157,7 @@ impl<R: Read> Read for NotedReader<'_, R> {
     {
         let answer = self.reader.read(buf);
         match answer {
-            Ok(count) => self.heard.beginning.note(&buf[..count]),
+            Ok(count) => self.heard.note(&buf[..count]),
             Err(error) => self.heard.failure = Some(error),
         }
         answer
@@ -227,9 +206,6 @@ impl<W: Write> Write for NotedWriter<W> {
     }
 }
 
-// How many bytes are told of a file that looks like nothing that is known.
-const START: usize = 20;
-
 /// What a file is mistaken for a log that is none.
 #[derive(Clone, Copy, Debug, PartialEq, Eq, Drop)]
 pub enum Look {
@@ -272,13 +248,6 @@ pub fn look_of(bytes: &[u8]) -> Option<Look>
         return Some(Look::Dependencies);
     }
     bytes.ends_with(b"\r\n").then_some(Look::Return)
-}
-
-/// The first bytes of a file, as they are said.
-pub fn start_of(alloc: Global, bytes: &[u8]) -> Option<String>
-    ensures value { IfSome result (λ text. string_bytes text ≡ start_text bytes.now) }
-{
-    escaped_of(alloc, &bytes[..bytes.len().min(START)])
 }
 
 /// Bytes as they are said, each of them.

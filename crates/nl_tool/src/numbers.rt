@@ -4,6 +4,7 @@ ghost use Rattle.nl_fields.specs.Digits.{IsDecimal};
 ghost use Rattle.nl_reports.specs.declared.choice.Scope.{Scope};
 ghost use Rattle.nl_tool.specs.Reports.{ArePositive, AreCounts, IsCount, IsNoCount, IsNoCounts, IsNoScope, IsNotPositive, IsScope};
 
+use crate::desk::ToolResult;
 use nl_fields::read_i64;
 use nl_reports::Scope;
 use nl_tool_change::{NumberOf, Told, WrongNumber, build_fault, count_fault};
@@ -15,7 +16,7 @@ pub fn count_of(
     usual: usize,
     which: NumberOf,
     told: &mut Told,
-) -> Result<usize, ToolFault>
+) -> ToolResult<usize>
     ensures value { IfOk result (IsCount usual text.entry) }
     ensures accepts { (n : ℕ) → IsCount usual text.entry n → result ≡ Ok n }
     ensures faults { IfErr result (IsNoCount which usual text.entry told.new.number) }
@@ -30,7 +31,7 @@ pub fn count_of(
     Ok(count)
 }
 
-pub fn scope_of(all: bool, build: Option<&str>, told: &mut Told) -> Result<Scope, ToolFault>
+pub fn scope_of(all: bool, build: Option<&str>, told: &mut Told) -> ToolResult<Scope>
     ensures value { IfOk result (IsScope all build.entry) }
     ensures accepts { (scope : Scope) → IsScope all build.entry scope → result ≡ Ok scope }
     ensures faults { IfErr result (IsNoScope all build.entry told.new.number) }
@@ -56,11 +57,7 @@ fn count_in(text: &[u8]) -> Option<usize>
     usize::try_from(read_i64(text)?).ok()
 }
 
-pub fn counts_of(
-    alloc: Global,
-    jobs: Option<&str>,
-    told: &mut Told,
-) -> Result<Vec<usize>, ToolFault>
+pub fn counts_of(alloc: Global, jobs: Option<&str>, told: &mut Told) -> ToolResult<Vec<usize>>
     ensures value { IfOk result (λ counts. AreCounts jobs.entry counts.items) }
     ensures faults { IfErr result (IsNoCounts jobs.entry told.new.number) }
 {
@@ -72,7 +69,7 @@ pub fn counts_of(
 }
 
 // Numbers of 1 up to 2^63 - 1, each in its one spelling.
-fn positive_in(alloc: Global, texts: &[&[u8]], told: &mut Told) -> Result<Vec<usize>, ToolFault>
+fn positive_in(alloc: Global, texts: &[&[u8]], told: &mut Told) -> ToolResult<Vec<usize>>
     ensures value { IfOk result (λ counts. ArePositive (map (λ text. text.now) texts.now) counts.items) }
     ensures faults { IfErr result (IsNotPositive (map (λ text. text.now) texts.now) told.new.number) }
 {

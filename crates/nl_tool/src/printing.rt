@@ -12,7 +12,7 @@ ghost use Rattle.nl_tool_texts.specs.declared.fault.ToolFault.{ToolFault};
 ghost use Rattle.nl_tool.specs.Answers.{IsAnswer, RefusesLog};
 ghost use Rattle.nl_tool.specs.Faults.{IsPrintingFault, IsReadingFault};
 
-use crate::desk::Desk;
+use crate::desk::{Desk, ToolResult};
 use crate::notes::{NotedReader, NotedWriter};
 use crate::program::Verdict;
 use crate::waiting::Telling;
@@ -43,19 +43,14 @@ pub enum Streaming {
 }
 
 impl<R: Runtime> Desk<'_, R> {
-    pub fn stream_log(
-        &mut self,
-        streaming: Streaming,
-        log: Option<&str>,
-        missing_ok: bool,
-    ) -> Result<Verdict, ToolFault>
+    pub fn stream_log(&mut self, streaming: Streaming, log: Option<&str>) -> ToolResult<Verdict>
         ensures faults { IfErr result IsLogFault }
         ensures outcome { IfOk result (λ outcome. outcome ≡ Verdict.Found → streaming ≡ Streaming.Damage) }
     {
         let Some(path) = log else {
             return self.stream_from(streaming, self.rt.reader());
         };
-        match self.open_log(path, missing_ok)? {
+        match self.open_log(path, self.missing_ok)? {
             Some(file) => self.stream_from(streaming, file),
             None => self.stream_from(streaming, io::empty()),
         }
@@ -65,7 +60,7 @@ impl<R: Runtime> Desk<'_, R> {
         &mut self,
         streaming: Streaming,
         reader: S,
-    ) -> Result<Verdict, ToolFault>
+    ) -> ToolResult<Verdict>
         ensures faults { IfErr result IsLogFault }
         ensures outcome { IfOk result (λ outcome. outcome ≡ Verdict.Found → streaming ≡ Streaming.Damage) }
     {
@@ -81,28 +76,21 @@ impl<R: Runtime> Desk<'_, R> {
         answer
     }
 
-    pub fn print_in(
-        &mut self,
-        printing: Printing<'_>,
-        path: Option<&str>,
-        missing_ok: bool,
-    ) -> Result<(), ToolFault>
+    pub fn print_in(&mut self, printing: Printing<'_>, path: Option<&str>) -> ToolResult
         ensures faults { IfErr result (IsReadingFault printing.entry) }
     {
         let Some(path) = path else {
             return self.print_from(printing, self.rt.reader());
         };
+        // These take a log that is missing for an empty one.
+        let missing_ok = matches!(printing, Printing::Show | Printing::Check);
         match self.open_log(path, missing_ok)? {
             Some(file) => self.print_from(printing, file),
             None => self.print_from(printing, io::empty()),
         }
     }
 
-    pub fn print_from<S: Read + Drop>(
-        &mut self,
-        printing: Printing<'_>,
-        reader: S,
-    ) -> Result<(), ToolFault>
+    pub fn print_from<S: Read + Drop>(&mut self, printing: Printing<'_>, reader: S) -> ToolResult
         ensures bytes { RefusesLog (log_for self.old.asked) (S.remaining reader) result }
         ensures faults { IfErr result (IsPrintingFault printing.entry) }
     {
@@ -122,7 +110,7 @@ fn tell_damage<R: Read + Drop, W: Write>(
     alloc: Global,
     reader: R,
     writer: &mut W,
-) -> Result<Verdict, ToolFault>
+) -> ToolResult<Verdict>
     ensures found { MatchResult result
         (λ outcome. (text : List ℕ) × IsTextAsRead (λ bs. damage_text_of (as_five bs)) (R.remaining reader) text
         × Appends (W.contents writer.old) (W.contents writer.new) text
@@ -148,7 +136,7 @@ fn print_to<R: Read + Drop, W: Write>(
     reader: R,
     writer: &mut W,
     told: &mut Told,
-) -> Result<(), ToolFault>
+) -> ToolResult
     ensures prints { Prints (IsAnswer asked printing.entry (R.remaining reader)) (W.contents writer.old) (W.contents writer.new) result }
     ensures bytes { RefusesLog (log_for asked) (R.remaining reader) result }
     ensures faults { IfErr result (IsPrintingFault printing.entry) }

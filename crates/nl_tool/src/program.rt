@@ -1,15 +1,13 @@
 //! The program: what it does once its words are read; and how it ends, what it says of an answer, on which stream, and with which status.
-ghost use Rattle.std.specs.Prelude.{◌≡◌, ◌≢◌, ◌≤◌, Option, map, string_bytes, IfErr, IfOk, OnOk};
-ghost use Rattle.std.specs.IoError.{error_kind};
-ghost use Rattle.std.specs.declared.io.ErrorKind.TheVariants.{OutOfMemory};
+ghost use Rattle.std.specs.Prelude.{◌≡◌, ◌≤◌, Option, map, string_bytes, IfErr, IfOk, OnOk};
 ghost use Rattle.clap.specs.Words.{kind_of};
 ghost use Rattle.nl_tool_change.specs.declared.line_fault.WrongNumber.{WrongNumber};
 ghost use Rattle.nl_tool.specs.Ending.{status_after, IsStatusBy, IsStatusOfKind};
-ghost use Rattle.nl_tool.specs.Faults.{CanBeDone, CanBeRead, CanFind, FindsBy, IsChangeFault, IsFaultOf, IsReadFault, StopsAtDamage};
+ghost use Rattle.nl_tool.specs.Faults.{CanBeDone, CanFind, IsFaultOf};
 ghost use Rattle.nl_tool.specs.Meant.{meant};
 ghost use Rattle.nl_tool_words.specs.CommandLine.{entered_of, fault_in};
 
-use crate::desk::{Desk, NO_SCREEN, Screen};
+use crate::desk::{Desk, NO_SCREEN, Screen, ToolResult};
 use crate::notes::Notes;
 use crate::printing::{Printing, Streaming};
 use crate::reason::{
@@ -21,7 +19,7 @@ use nl_os::SystemFile;
 use nl_table::{NO_SECRET, Secret};
 use nl_tool_doubt::How;
 use nl_tool_texts::{ToolFault, status_of};
-use nl_tool_words::{Changing, Choices, CommandLine, Reading, Words, path_in_place, read_words};
+use nl_tool_words::{Changing, CommandLine, Reading, Words, path_in_place, read_words};
 use std::alloc::Global;
 use std::random::RandomSource;
 use std::rt::Runtime;
@@ -52,7 +50,12 @@ where
 {
     match given_words(rt) {
         Ok(line) => { run_line(rt, rt.alloc(), line.as_slice(), screen, secret_of(rt)) },
-        Err(error) => refuse_line(rt, &error),
+        Err(error) if error.kind() == io::ErrorKind::OutOfMemory => refuse(rt, ToolFault::Memory),
+        // As where they are no UTF-8.
+        Err(error) => {
+            let _ = eprintln!(rt; "nlog: cannot read the words: {error}");
+            WRONG_WORDS
+        }
     }
 }
 
@@ -94,7 +97,7 @@ where
 /// Does what a command line says, with standard output for its text. LOG, FILE or SCRIPT is read, or standard input where it is
 /// left out. A log that is missing is read as one without bytes by the words that make or show it, and by the others where
 /// `--missing-ok` is given.
-pub fn run<R: Runtime>(rt: &R, alloc: Global, line: &CommandLine<'_>) -> Result<Verdict, ToolFault>
+pub fn run<R: Runtime>(rt: &R, alloc: Global, line: &CommandLine<'_>) -> ToolResult<Verdict>
 where
     R::File: SystemFile,
     ensures accepts { OnOk result (CanBeDone line.now.words) }
@@ -106,10 +109,7 @@ where
 }
 
 /// Does what a command line says, as `run`, at a desk of it, and notes why what failed has failed.
-pub fn run_at<R: Runtime>(
-    desk: &mut Desk<'_, R>,
-    line: &CommandLine<'_>,
-) -> Result<Verdict, ToolFault>
+pub fn run_at<R: Runtime>(desk: &mut Desk<'_, R>, line: &CommandLine<'_>) -> ToolResult<Verdict>
 where
     R::File: SystemFile,
     ensures accepts { OnOk result (CanBeDone line.now.words) }
@@ -117,13 +117,20 @@ where
     ensures faults { IfErr result (IsFaultOf line.now.words desk.new.notes.told.number) }
 {
     let done = match line.words {
-        // These take a log that is missing for an empty one.
-        Words::Show(log) => desk.print_in(Printing::Show, log, true),
-        Words::Check(log) => desk.print_in(Printing::Check, log, true),
+        Words::Show(log) => desk.print_in(Printing::Show, log),
+        Words::Check(log) => desk.print_in(Printing::Check, log),
         Words::Hash(command) => desk.print_from(Printing::Hash(command), io::empty()),
-        Words::HashFile(file) => desk.print_in(Printing::HashFile, file, false),
-        Words::Replay(script) => desk.print_in(Printing::Replay, script, false),
-        Words::Read { what, log, choices } => return desk.read_in(what, log, choices),
+        Words::HashFile(file) => desk.print_in(Printing::HashFile, file),
+        Words::Replay(script) => desk.print_in(Printing::Replay, script),
+        Words::Read { what, log, choices } => match what {
+            Reading::Entries => return desk.stream_log(Streaming::Entries, log),
+            Reading::Damage => return desk.stream_log(Streaming::Damage, log),
+            Reading::Doubt => return desk.doubt_in(log),
+            Reading::Builds => desk.builds_in(log),
+            Reading::Summary => desk.summary_in(log, choices),
+            Reading::Trace => desk.trace_in(log, choices),
+            Reading::Picture => desk.picture_in(log, choices),
+        },
         Words::Compare {
             old,
             new,
@@ -146,7 +153,12 @@ where
         }
         Words::Recompact { log, keep } => desk.recompact_in(log, keep),
         Words::Restat { log, times } => desk.restat_in(log, times),
-        Words::Change { what, log, file } => return desk.change_in(what, log, file),
+        Words::Change { what, log, file } => match what {
+            Changing::Prune => return desk.prune_in(log, file),
+            Changing::Retime => return desk.settle_in(log, None),
+            Changing::Repair => desk.repair_in(log),
+            Changing::Apply => desk.apply_in(log, file),
+        },
         Words::Mend {
             log,
             folder,
@@ -163,54 +175,6 @@ where
     };
     done?;
     Ok(Verdict::Done)
-}
-
-impl<R: Runtime> Desk<'_, R>
-where
-    R::File: SystemFile,
-{
-    fn read_in(
-        &mut self,
-        what: Reading,
-        log: Option<&str>,
-        choices: Choices<'_>,
-    ) -> Result<Verdict, ToolFault>
-        ensures accepts { OnOk result (CanBeRead what choices.entry) }
-        ensures outcome { IfOk result (λ outcome. outcome ≡ Verdict.Found → FindsBy what) }
-        ensures faults { IfErr result (IsReadFault what choices.entry self.new.notes.told.number) }
-    {
-        let missing_ok = self.missing_ok;
-        let done = match what {
-            Reading::Entries => return self.stream_log(Streaming::Entries, log, missing_ok),
-            Reading::Damage => return self.stream_log(Streaming::Damage, log, missing_ok),
-            Reading::Doubt => return self.doubt_in(log),
-            Reading::Builds => self.builds_in(log),
-            Reading::Summary => self.summary_in(log, choices),
-            Reading::Trace => self.trace_in(log, choices),
-            Reading::Picture => self.picture_in(log, choices),
-        };
-        done?;
-        Ok(Verdict::Done)
-    }
-
-    fn change_in(
-        &mut self,
-        what: Changing,
-        log: &str,
-        file: Option<&str>,
-    ) -> Result<Verdict, ToolFault>
-        ensures outcome { IfOk result (λ outcome. outcome ≡ Verdict.Found → StopsAtDamage what) }
-        ensures faults { IfErr result (IsChangeFault what) }
-    {
-        let done = match what {
-            Changing::Prune => return self.prune_in(log, file),
-            Changing::Retime => return self.retime_in(log),
-            Changing::Repair => self.repair_in(log),
-            Changing::Apply => self.apply_in(log, file),
-        };
-        done?;
-        Ok(Verdict::Done)
-    }
 }
 
 // The words with this log, where they tell of one and name none. `show` and `check` read standard input all the same.
@@ -248,7 +212,7 @@ fn end(
     rt: &impl Eprint,
     alloc: Global,
     line: &CommandLine<'_>,
-    answer: Result<Verdict, ToolFault>,
+    answer: ToolResult<Verdict>,
     notes: &Notes,
 ) -> u8
     ensures status { result ≡ status_after answer }
@@ -284,21 +248,6 @@ fn say(rt: &impl Eprint, refusal: &Refusal<'_>) -> u8
 {
     let _ = eprintln!(rt; "nlog: {refusal}");
     status_of(&refusal.fault)
-}
-
-// Says why the words could not be taken, as where they are no UTF-8.
-fn refuse_line(rt: &impl Eprint, error: &io::Error) -> u8
-    ensures memory { error_kind error.now ≡ OutOfMemory → result ≡ 1 }
-    ensures status { error_kind error.now ≢ OutOfMemory → result ≡ 2 }
-    ensures bound { result ≤ 2 }
-{
-    match error.kind() {
-        io::ErrorKind::OutOfMemory => refuse(rt, ToolFault::Memory),
-        _ => {
-            let _ = eprintln!(rt; "nlog: cannot read the words: {error}");
-            WRONG_WORDS
-        }
-    }
 }
 
 // Prints help or the version on standard output, and what is wrong with the words on standard error, with a hint where a path stands in

@@ -4,9 +4,9 @@ ghost use Rattle.nl_os.specs.declared.failed_call.FileRole.{FileRole};
 ghost use Rattle.nl_tool_texts.specs.declared.fault.ToolFault.{ToolFault};
 ghost use Rattle.nl_tool.specs.declared.reason.Place.{Place};
 ghost use Rattle.nl_tool.specs.declared.reason.Reason.{Reason};
-ghost use Rattle.nl_tool.specs.Reasons.{change_place, HasText, IsEarly, IsMasked, IsNoteFor, IsReasonFor, IsSystem, IsUnsynced, file_place, log_place, mended_place, number_text, place_text, read_place, reads_input, reason_text, refusal_text, why_text, words_for, words_heard};
+ghost use Rattle.nl_tool.specs.Reasons.{change_place, given_or_input, HasText, IsMasked, IsNoteFor, IsReasonFor, IsSystem, IsUnsynced, log_place, mended_place, number_text, place_text, read_place, reads_input, reason_text, refusal_text, why_text, words_for, words_heard};
 
-use crate::notes::{Look, Notes, escaped_of, look_of, start_of};
+use crate::notes::{Look, Notes, escaped_of, look_of};
 use nl_os::{Failure, FileRole, folder_part};
 use nl_tool_change::{LineFault, NumberFault, NumberOf, WrongNumber};
 use nl_tool_texts::ToolFault;
@@ -18,12 +18,9 @@ use std::{fmt, io, str};
 /// A file that a command names, or a standard stream.
 #[derive(Clone, Copy, Debug, PartialEq, Eq, Drop)]
 pub enum Place<'a> {
-    Log(&'a str),
-    /// The scratch of the log at this path.
-    Scratch(&'a str),
-    /// The folder of the log at this path.
-    Folder(&'a str),
-    /// A file of the log of the build in this folder, or in the one in which the program runs.
+    /// A file of the log at this path.
+    OfLog(FileRole, &'a str),
+    /// The same of the log of the build in this folder, or in the one in which the program runs.
     OfBuild(Option<&'a str>, FileRole),
     Keep(&'a str),
     Times(&'a str),
@@ -43,9 +40,9 @@ impl fmt::Display for Place<'_> {
 
     fn fmt<W: fmt::Write>(&self, f: &mut fmt::Formatter<W>) -> fmt::Result {
         match *self {
-            Place::Log(path) => write!(f, "LOG {path}"),
-            Place::Scratch(log) => write!(f, "scratch {log}.recompact"),
-            Place::Folder(log) => {
+            Place::OfLog(FileRole::Log, path) => write!(f, "LOG {path}"),
+            Place::OfLog(FileRole::Scratch, log) => write!(f, "scratch {log}.recompact"),
+            Place::OfLog(FileRole::Folder, log) => {
                 let folder = folder_part(log);
                 write!(f, "folder {folder}")
             }
@@ -69,6 +66,9 @@ impl fmt::Display for Place<'_> {
         }
     }
 }
+
+// How many bytes are told of a file that looks like nothing that is known.
+const START: usize = 20;
 
 // The number of the error of a disk that has no room.
 const FULL: i32 = 28;
@@ -334,25 +334,23 @@ fn why_of<'a>(alloc: Global, words: &Words<'a>, fault: ToolFault, notes: &Notes)
             Why::at(read_place(words), Reason::Line(number, notes.told.why))
         }
         ToolFault::NegativeTime(_) => {
-            let reason = match *words {
-                Words::Change {
-                    what: Changing::Retime,
-                    ..
-                } => early_reason(alloc, notes.early.as_slice())?,
-                _ => Reason::Negative(notes.told.negative?),
+            let reason = if notes.early.is_empty() {
+                Reason::Negative(notes.told.negative?)
+            } else {
+                Reason::Early(escaped_of(alloc, notes.early.as_slice())?)
             };
             Why::at(read_place(words), reason)
         }
         ToolFault::OtherVersion => {
-            let digits = named_version(notes.heard.beginning.bytes())?;
+            let digits = named_version(notes.heard.beginning.as_slice())?;
             let version = String::from_str(alloc, str::from_utf8(digits).ok()?).ok()?;
             Why::at(log_place(words, FileRole::Log), Reason::Version(version))
         }
         ToolFault::NotALog => {
-            let bytes = notes.heard.beginning.bytes();
+            let bytes = notes.heard.beginning.as_slice();
             let reason = match look_of(bytes) {
                 Some(look) => Reason::Looks(look),
-                None => Reason::Begins(start_of(alloc, bytes)?),
+                None => Reason::Begins(escaped_of(alloc, &bytes[..bytes.len().min(START)])?),
             };
             Why::at(log_place(words, FileRole::Log), reason)
         }
@@ -373,15 +371,6 @@ fn why_of<'a>(alloc: Global, words: &Words<'a>, fault: ToolFault, notes: &Notes)
         ToolFault::OtherGraph => Why::at(read_place(words), Reason::OtherBuild),
         ToolFault::BadNumber | ToolFault::Memory | ToolFault::Elsewhere => None,
     }
-}
-
-fn early_reason(alloc: Global, name: &[u8]) -> Option<Reason>
-    ensures value { IfSome result (IsEarly name.now) }
-{
-    if name.is_empty() {
-        return None;
-    }
-    Some(Reason::Early(escaped_of(alloc, name)?))
 }
 
 fn bad_number<'a>(words: &Words<'a>, notes: &Notes) -> Option<Why<'a>>
@@ -427,9 +416,7 @@ fn read_place<'a>(words: &Words<'a>) -> Option<Place<'a>>
     ensures { result ≡ read_place words.now }
 {
     match *words {
-        Words::Show(log) | Words::Check(log) | Words::Read { log, .. } => {
-            Some(log.map_or(Place::Input, Place::Log))
-        }
+        Words::Show(log) | Words::Check(log) | Words::Read { log, .. } => Some(log_or_input(log)),
         Words::HashFile(file) => Some(file.map_or(Place::Input, Place::Command)),
         Words::Replay(script) => Some(script.map_or(Place::Input, Place::Script)),
         Words::Recompact { log: _, keep } => Some(Place::Keep(keep)),
@@ -440,11 +427,17 @@ fn read_place<'a>(words: &Words<'a>) -> Option<Place<'a>>
     }
 }
 
+fn log_or_input(log: Option<&str>) -> Place<'_>
+    ensures { result ≡ given_or_input (Place.OfLog FileRole.Log) log.entry }
+{
+    log.map_or(Place::Input, |log| Place::OfLog(FileRole::Log, log))
+}
+
 fn change_place<'a>(what: Changing, log: &'a str, file: Option<&'a str>) -> Place<'a>
     ensures { result ≡ change_place what log.entry file.entry }
 {
     match what {
-        Changing::Retime | Changing::Repair => Place::Log(log),
+        Changing::Retime | Changing::Repair => Place::OfLog(FileRole::Log, log),
         Changing::Prune => file.map_or(Place::Input, Place::Targets),
         Changing::Apply => file.map_or(Place::Input, Place::Script),
     }
@@ -457,7 +450,7 @@ fn log_place<'a>(words: &Words<'a>, file: FileRole) -> Option<Place<'a>>
         Words::Record { log, .. }
         | Words::Recompact { log, keep: _ }
         | Words::Restat { log, times: _ }
-        | Words::Change { log, .. } => Some(file_place(log, file)),
+        | Words::Change { log, .. } => Some(Place::OfLog(file, log)),
         Words::Mend { log, folder, .. } => Some(mended_place(log, folder, file)),
         Words::Show(_) | Words::Check(_) | Words::Read { .. } => read_place(words),
         Words::Hash(_) | Words::HashFile(_) | Words::Replay(_) | Words::Compare { .. } => None,
@@ -467,15 +460,5 @@ fn log_place<'a>(words: &Words<'a>, file: FileRole) -> Option<Place<'a>>
 fn mended_place<'a>(log: Option<&'a str>, folder: Option<&'a str>, file: FileRole) -> Place<'a>
     ensures { result ≡ mended_place log.entry folder.entry file }
 {
-    log.map_or(Place::OfBuild(folder, file), |log| file_place(log, file))
-}
-
-fn file_place(log: &str, file: FileRole) -> Place<'_>
-    ensures { result ≡ file_place log.entry file }
-{
-    match file {
-        FileRole::Log => Place::Log(log),
-        FileRole::Scratch => Place::Scratch(log),
-        FileRole::Folder => Place::Folder(log),
-    }
+    log.map_or(Place::OfBuild(folder, file), |log| Place::OfLog(file, log))
 }

@@ -15,7 +15,7 @@ ghost use Rattle.nl_tool.specs.Faults.{IsBuildFault, IsCompareFault, IsPictureFa
 ghost use Rattle.nl_tool_print.specs.Faults.{IsLogFault};
 ghost use Rattle.nl_tool.specs.Reports.{AreBuilds, AreCounts, IsLaidOut, IsLastOf, IsLeast, IsMost, IsReport, IsReportOf, IsScope, IsSummary, PrintsReport, asked_told, laid_out, rule_of, side_in, waiting};
 
-use crate::desk::{Desk, Means};
+use crate::desk::{Desk, Means, ToolResult};
 use crate::notes::NotedWriter;
 use crate::numbers::{count_of, counts_of, scope_of};
 use jiff_tz::{SystemTimeZone, TimeZone, TimeZoneDatabase};
@@ -26,10 +26,10 @@ use nl_reports::{
     taken_in, trace_builds,
 };
 use nl_tool_change::NumberOf;
-use nl_tool_texts::{ToolFault, in_columns, write_out};
+use nl_tool_texts::{AllocResult, ToolFault, in_columns, write_out};
 use nl_tool_words::Choices;
 use nl_versions::{LogVersion, version_of};
-use std::alloc::{AllocError, Global};
+use std::alloc::Global;
 use std::io::{self, Write};
 use std::rt::Runtime;
 
@@ -47,7 +47,7 @@ pub enum Report<'g, 't> {
 }
 
 impl<R: Runtime> Desk<'_, R> {
-    pub fn summary_in(&mut self, log: Option<&str>, choices: Choices<'_>) -> Result<(), ToolFault>
+    pub fn summary_in(&mut self, log: Option<&str>, choices: Choices<'_>) -> ToolResult
         ensures scope { OnOk result ((scope : Scope) × IsScope choices.entry.all choices.entry.build scope) }
         ensures accepts { OnOk result ((most : ℕ) × IsMost choices.entry.lines most) }
         ensures counts { OnOk result ((counts : List ℕ) × AreCounts choices.entry.jobs counts) }
@@ -78,7 +78,7 @@ impl<R: Runtime> Desk<'_, R> {
     }
 
     /// By the time zone of the system, or else by UTC.
-    pub fn builds_in(&mut self, log: Option<&str>) -> Result<(), ToolFault>
+    pub fn builds_in(&mut self, log: Option<&str>) -> ToolResult
         ensures faults { IfErr result IsLogFault }
     {
         let (rt, alloc, columns) = (self.rt, self.alloc, self.columns);
@@ -94,7 +94,7 @@ impl<R: Runtime> Desk<'_, R> {
         self.report_in(Report::Builds(zone), log)
     }
 
-    pub fn trace_in(&mut self, log: Option<&str>, choices: Choices<'_>) -> Result<(), ToolFault>
+    pub fn trace_in(&mut self, log: Option<&str>, choices: Choices<'_>) -> ToolResult
         ensures scope { OnOk result ((scope : Scope) × IsScope choices.entry.all choices.entry.build scope) }
         ensures faults { IfErr result (IsBuildFault choices.entry self.new.notes.told.number) }
     {
@@ -102,7 +102,7 @@ impl<R: Runtime> Desk<'_, R> {
         self.report_in(Report::Trace(scope), log)
     }
 
-    pub fn picture_in(&mut self, log: Option<&str>, choices: Choices<'_>) -> Result<(), ToolFault>
+    pub fn picture_in(&mut self, log: Option<&str>, choices: Choices<'_>) -> ToolResult
         ensures scope { OnOk result ((scope : Scope) × IsScope choices.entry.all choices.entry.build scope) }
         ensures faults { IfErr result (IsPictureFault choices.entry self.new.notes.told.number) }
     {
@@ -122,7 +122,7 @@ impl<R: Runtime> Desk<'_, R> {
         new: &str,
         lines: Option<&str>,
         least: Option<&str>,
-    ) -> Result<(), ToolFault>
+    ) -> ToolResult
         ensures accepts { OnOk result ((most : ℕ) × IsMost lines.entry most) }
         ensures least { OnOk result ((ms : ℕ) × IsLeast least.entry ms) }
         ensures faults { IfErr result (IsCompareFault lines.entry least.entry self.new.notes.told.number) }
@@ -147,7 +147,7 @@ impl<R: Runtime> Desk<'_, R> {
         answer
     }
 
-    pub fn report_in(&mut self, report: Report<'_, '_>, log: Option<&str>) -> Result<(), ToolFault>
+    pub fn report_in(&mut self, report: Report<'_, '_>, log: Option<&str>) -> ToolResult
         ensures faults { IfErr result (IsReportFault report.entry) }
     {
         let text = self.log_bytes(log, self.missing_ok)?;
@@ -179,7 +179,7 @@ fn report_to<W: Write>(
     text: &[u8],
     writer: &mut W,
     again: &mut bool,
-) -> Result<(), ToolFault>
+) -> ToolResult
     ensures prints { PrintsReport means.columns report.entry (IsReportOf report.entry text.now)
         (W.contents writer.old) (W.contents writer.new) result }
     ensures bytes { RefusesLog (λ bs. log_of (as_five bs)) (Some text.now) result }
@@ -195,7 +195,7 @@ fn tell<W: Write>(
     log: LogBuilds<'_>,
     writer: &mut W,
     again: &mut bool,
-) -> Result<(), ToolFault>
+) -> ToolResult
     ensures prints { PrintsReport means.columns report.entry (IsReport report.entry (waiting log.entry) (told log.entry.told))
         (W.contents writer.old) (W.contents writer.new) result }
     ensures faults { IfErr result (IsToldFault report.entry) }
@@ -227,11 +227,7 @@ fn tell<W: Write>(
     }
 }
 
-fn lines_of_builds(
-    alloc: Global,
-    zone: Option<TimeZone<'_>>,
-    from: &Builds,
-) -> Result<Vec<u8>, AllocError>
+fn lines_of_builds(alloc: Global, zone: Option<TimeZone<'_>>, from: &Builds) -> AllocResult<Vec<u8>>
     ensures value { IfOk result (λ lines. AreBuilds zone.entry (told from.now) lines.items) }
 {
     match zone {
@@ -249,7 +245,7 @@ fn tell_summary<W: Write>(
     unfinished: usize,
     from: &Builds,
     writer: &mut W,
-) -> Result<(), ToolFault>
+) -> ToolResult
     ensures prints { Prints (IsLaidOut means.columns (IsSummary scope lists graph.entry unfinished (told from.now)))
         (W.contents writer.old) (W.contents writer.new) result }
     ensures faults { IfErr result (IsFoundFault graph.entry) }
@@ -278,7 +274,7 @@ fn asked_builds<'a>(
     scope: Scope,
     names: &[&'a [u8]],
     from: Builds<'a>,
-) -> Result<Builds<'a>, AllocError>
+) -> AllocResult<Builds<'a>>
     ensures value { IfOk result (λ asked. told asked ≡ asked_told scope (map (λ n. n.now) names.now) (told from.entry)) }
 {
     match scope {
@@ -287,7 +283,7 @@ fn asked_builds<'a>(
     }
 }
 
-fn write_lines<W: Write>(means: Means, lines: Vec<u8>, writer: &mut W) -> Result<(), ToolFault>
+fn write_lines<W: Write>(means: Means, lines: Vec<u8>, writer: &mut W) -> ToolResult
     ensures prints { Prints (λ text. text ≡ laid_out means.columns lines.items) (W.contents writer.old) (W.contents writer.new) result }
     ensures faults { IfErr result IsWriteFault }
 {
@@ -306,7 +302,7 @@ pub struct Last<'a> {
     pub waiting: Vec<&'a [u8]>,
 }
 
-fn last_of(means: Means, text: &[u8]) -> Result<Last<'_>, ToolFault>
+fn last_of(means: Means, text: &[u8]) -> ToolResult<Last<'_>>
     ensures value { IfOk result (IsLastOf text.now) }
     ensures not_a_log { IsErrOf result ToolFault.NotALog → log_of (as_five text.now) ≡ NotALog }
     ensures other_version { IsErrOf result ToolFault.OtherVersion → log_of (as_five text.now) ≡ OtherVersion }
@@ -328,7 +324,7 @@ fn compare_to<W: Write>(
     old: &Last<'_>,
     new: &Last<'_>,
     writer: &mut W,
-) -> Result<(), ToolFault>
+) -> ToolResult
     ensures prints { Prints (λ text. text ≡ laid_out means.columns
         (compare_text (is_some means.columns) most least (are_comparable old.now.version new.now.version) (side_in old.now) (side_in new.now)))
         (W.contents writer.old) (W.contents writer.new) result }
