@@ -13,7 +13,7 @@ ghost use Rattle.nl_reports.specs.declared.choice.Scope.{Scope};
 ghost use Rattle.nl_tool.specs.Answers.{RefusesLog};
 ghost use Rattle.nl_tool.specs.Faults.{IsBuildFault, IsCompareFault, IsPictureFault, IsReportFault, IsSummaryFault, IsToldFault};
 ghost use Rattle.nl_tool_print.specs.Faults.{IsLogFault};
-ghost use Rattle.nl_tool.specs.Reports.{AreBuilds, AreCounts, IsLaidOut, IsLastOf, IsLeast, IsMost, IsReport, IsReportOf, IsScope, IsSummary, PrintsReport, asked_told, laid_out, rule_of, side_in, waiting};
+ghost use Rattle.nl_tool.specs.Reports.{AreCounts, IsLaidOut, IsLastOf, IsLeast, IsMost, IsReport, IsReportOf, IsScope, IsSummary, PrintsReport, asked_told, laid_out, rule_of, side_in, waiting};
 
 use crate::desk::{Desk, Means, ToolResult};
 use crate::notes::NotedWriter;
@@ -29,7 +29,6 @@ use nl_tool_change::NumberOf;
 use nl_tool_texts::{AllocResult, ToolFault, in_columns, write_out};
 use nl_tool_words::Choices;
 use nl_versions::{LogVersion, version_of};
-use std::alloc::Global;
 use std::io::{self, Write};
 use std::rt::Runtime;
 
@@ -205,7 +204,10 @@ fn tell<W: Write>(
     match report {
         Report::Builds(zone) => {
             *again = taken_in(Scope::All, &told).is_some();
-            let lines = lines_of_builds(means.alloc, zone, &told)?;
+            let lines = match zone {
+                Some(zone) => builds_screen(means.alloc, &zone, &told)?,
+                None => builds_lines(means.alloc, &told)?,
+            };
             write_lines(means, lines, writer)
         }
         Report::Summary(scope, lists, graph) => {
@@ -224,15 +226,6 @@ fn tell<W: Write>(
             *again = taken_in(scope, &asked).is_some();
             draw_builds(means.alloc, means.secret, scope, graph, &asked, writer)
         }
-    }
-}
-
-fn lines_of_builds(alloc: Global, zone: Option<TimeZone<'_>>, from: &Builds) -> AllocResult<Vec<u8>>
-    ensures value { IfOk result (λ lines. AreBuilds zone.entry (told from.now) lines.items) }
-{
-    match zone {
-        Some(zone) => builds_screen(alloc, &zone, from),
-        None => builds_lines(alloc, from),
     }
 }
 
