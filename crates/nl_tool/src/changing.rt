@@ -112,8 +112,7 @@ where
         };
         let answer = self.settle_in(log, Some(targets));
         // The targets were read, so it is LOG that couldn't be.
-        if let Some(error) = self.notes.heard.failure {
-            self.notes.heard.failure = None;
+        if let Some(error) = self.notes.heard.failure.take() {
             let file = FileRole::Log;
             self.notes.folder = Some(Failure { file, error });
         }

@@ -141,12 +141,10 @@ where
         ensures faults { IfErr result IsMendFault }
     {
         // It refuses a missing folder, because the log that is missing with it would be taken for a whole one.
-        if let Some(path) = folder {
-            if let Err(error) = fs::metadata(self.rt, path) {
-                let file = FileRole::Folder;
-                self.notes.folder = Some(Failure { file, error });
-                return Err(ToolFault::Read);
-            }
+        if let Some(Err(error)) = folder.map(|path| fs::metadata(self.rt, path)) {
+            let file = FileRole::Folder;
+            self.notes.folder = Some(Failure { file, error });
+            return Err(ToolFault::Read);
         }
         let own = match folder {
             Some(folder) => format!(in self.alloc; "{folder}/.ninja_log")?,

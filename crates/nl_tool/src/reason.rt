@@ -4,7 +4,7 @@ ghost use Rattle.nl_os.specs.declared.failed_call.FileRole.{FileRole};
 ghost use Rattle.nl_tool_texts.specs.declared.fault.ToolFault.{ToolFault};
 ghost use Rattle.nl_tool.specs.declared.reason.Place.{Place};
 ghost use Rattle.nl_tool.specs.declared.reason.Reason.{Reason};
-ghost use Rattle.nl_tool.specs.Reasons.{change_place, given_or_input, HasText, IsMasked, IsNoteFor, IsReasonFor, IsSystem, IsUnsynced, log_place, mended_place, number_text, place_text, read_place, reads_input, reason_text, refusal_text, why_text, words_for, words_heard};
+ghost use Rattle.nl_tool.specs.Reasons.{given_or_input, HasText, IsMasked, IsNoteFor, IsReasonFor, IsSystem, IsUnsynced, log_place, mended_place, number_text, place_text, read_place, reads_input, reason_text, refusal_text, why_text, words_for, words_heard};
 
 use crate::notes::{Look, Notes, escaped_of, look_of};
 use nl_os::{Failure, FileRole, folder_part};
@@ -421,7 +421,11 @@ fn read_place<'a>(words: &Words<'a>) -> Option<Place<'a>>
         Words::Replay(script) => Some(script.map_or(Place::Input, Place::Script)),
         Words::Recompact { log: _, keep } => Some(Place::Keep(keep)),
         Words::Restat { log: _, times } => Some(Place::Times(times)),
-        Words::Change { what, log, file } => Some(change_place(what, log, file)),
+        Words::Change { what, log, file } => match what {
+            Changing::Retime | Changing::Repair => Some(Place::OfLog(FileRole::Log, log)),
+            Changing::Prune => Some(file.map_or(Place::Input, Place::Targets)),
+            Changing::Apply => Some(file.map_or(Place::Input, Place::Script)),
+        },
         Words::Mend { log, folder, .. } => Some(mended_place(log, folder, FileRole::Log)),
         Words::Hash(_) | Words::Record { .. } | Words::Compare { .. } => None,
     }
@@ -431,16 +435,6 @@ fn log_or_input(log: Option<&str>) -> Place<'_>
     ensures { result ≡ given_or_input (Place.OfLog FileRole.Log) log.entry }
 {
     log.map_or(Place::Input, |log| Place::OfLog(FileRole::Log, log))
-}
-
-fn change_place<'a>(what: Changing, log: &'a str, file: Option<&'a str>) -> Place<'a>
-    ensures { result ≡ change_place what log.entry file.entry }
-{
-    match what {
-        Changing::Retime | Changing::Repair => Place::OfLog(FileRole::Log, log),
-        Changing::Prune => file.map_or(Place::Input, Place::Targets),
-        Changing::Apply => file.map_or(Place::Input, Place::Script),
-    }
 }
 
 fn log_place<'a>(words: &Words<'a>, file: FileRole) -> Option<Place<'a>>
