@@ -164,11 +164,10 @@ pub fn rule_of(kind: Option<&str>, screen: bool) -> KindRule
 {
     match kind {
         None if screen => KindRule::Work,
-        None => KindRule::Extension,
         Some("folder") => KindRule::Folder,
         Some("top") => KindRule::Top,
         Some("work") => KindRule::Work,
-        Some(_) => KindRule::Extension,
+        _ => KindRule::Extension,
     }
 }
 
