@@ -72,6 +72,10 @@ abbrev pub status_of_answer : Result (Unit {0}) LogFault → ℕ
 status_of_answer (Ok done) = ok
 status_of_answer (Err why) = status_of_fault why
 
+abbrev pub if_room : {E : Type 0} → Result (Unit {0}) E → ℕ
+if_room (Ok done) = ok
+if_room (Err why) = out_of_memory
+
 -- the place of a pair that was refused, and else the one before
 abbrev pub place_of : LogFault → ℕ → ℕ
 place_of (log_fault.NegativeTime place) old = place

@@ -9,7 +9,8 @@ ghost use Rattle.nl_c.specs.Statuses.{ok, no_handle, out_of_memory};
 use crate::carried_log::CarriedLog;
 use crate::handle::Handle;
 use crate::held::Held;
-use crate::loaded_log::{CStamp, LoadedLog};
+use crate::loaded_log::CStamp;
+use crate::marks::Marks;
 use crate::status;
 use nl_table::Secret;
 use std::alloc::Global;
@@ -74,18 +75,13 @@ pub extern "C" fn carried_open(
     ensures other { option_and_then all_of found.old.kept.log ≡ None → (result ≡ no_handle) × (handle.new.kept.log ≡ handle.old.kept.log) }
     ensures used { found.new.kept.log ≡ None }
 {
-    let Some(log) = take_all(found, alloc) else {
+    let Some(held) = found.take(alloc) else {
+        return status::NO_HANDLE;
+    };
+    let Some(log) = Box::into_inner(held).into_all() else {
         return status::NO_HANDLE;
     };
     carried!(handle, alloc, carried => carried.open(alloc, log, wants_whole, change))
-}
-
-fn take_all(found: &mut Handle, alloc: Global) -> Option<LoadedLog>
-    ensures value { result ≡ option_and_then all_of found.old.kept.log }
-    ensures used { found.new.kept.log ≡ None }
-{
-    let held = found.take(alloc)?;
-    Box::into_inner(held).into_all()
 }
 
 /// The line waits until the caller carries it.
@@ -172,7 +168,7 @@ pub extern "C" fn carried_written(handle: &mut Handle, alloc: Global, len: u64) 
 pub extern "C" fn carried_sync(handle: &mut Handle, alloc: Global) -> u32
     ensures call { InCarried (Keeps Synced) result handle.old.kept.log handle.new.kept.log }
 {
-    carried!(handle, alloc, log => log.written.sync())
+    carried!(handle, alloc, log => status::of_answer(log.written.log.sync()))
 }
 
 #[unsafe(no_mangle)]
@@ -221,7 +217,10 @@ pub extern "C" fn carried_mark_time(
 pub extern "C" fn carried_clear_marks(handle: &mut Handle, alloc: Global) -> u32
     ensures call { InCarried (Keeps Cleared) result handle.old.kept.log handle.new.kept.log }
 {
-    carried!(handle, alloc, log => log.written.clear_marks(alloc))
+    carried!(handle, alloc, log => {
+        log.written.marks = Marks::new(alloc, log.written.marks.secret());
+        status::OK
+    })
 }
 
 /// Gives only bytes that weren't carried yet, and the length of the whole text.

@@ -16,8 +16,8 @@ use crate::handle::Handle;
 use crate::held::Held;
 use crate::loaded_log::{CStamp, Facts, LoadedLog};
 use crate::{look_up, status};
-use nl_fields::{command_hash, command_hash_v7, name_fault};
-use nl_table::Secret;
+use nl_fields::{MAX_LINE, command_hash, command_hash_v7, name_fault, read_entry, read_entry_v4};
+use nl_table::{OLDEST_VERSION, Secret, is_due};
 use std::alloc::Global;
 
 // Gives what a handle has to a call, and puts it back.
@@ -118,7 +118,16 @@ pub extern "C" fn nlog_get_facts(handle: &mut Handle, alloc: Global, facts: &mut
     ensures value { (result, facts.new) ≡ answered_facts (loaded_in handle.old.kept.log) facts.old }
 {
     lent!(handle, alloc, loaded, log => {
-        *facts = log.facts();
+        let unique = log.loaded.table.len() as u64;
+        *facts = Facts {
+            version: log.version.number(log.loaded.version) as u32,
+            is_due: is_due(log.loaded.version, log.loaded.total, unique),
+            total: log.loaded.total,
+            unique,
+            skipped: log.loaded.skipped,
+            whole: log.loaded.whole,
+            torn: log.loaded.torn,
+        };
         status::OK
     })
 }
@@ -176,7 +185,15 @@ pub extern "C" fn nlog_read_line(
     ensures { (result, record { stamp = stamp.new; name = name.new; len = name_len.new }) ≡ answer_line version line.now
         (record { stamp = stamp.old; name = name.old; len = name_len.old }) }
 {
-    look_up::line(version, line, stamp, name, name_len)
+    if line.len() > MAX_LINE {
+        return status::NOT_FOUND;
+    }
+    let entry = if version == OLDEST_VERSION as u32 {
+        read_entry_v4(line)
+    } else {
+        read_entry(line)
+    };
+    look_up::fill(entry, stamp, name, name_len)
 }
 
 #[unsafe(no_mangle)]

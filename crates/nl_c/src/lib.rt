@@ -5,7 +5,6 @@ mod carried_exports;
 mod carried_folder;
 mod carried_log;
 mod disk_record;
-mod ends;
 mod exports;
 mod handle;
 mod held;

@@ -4,12 +4,12 @@ ghost use Rattle.nl_fields.specs.EntryLine.{line_of};
 ghost use Rattle.nl_lines.specs.Split.{with_newline};
 ghost use Rattle.nl_c.specs.CarriedLogs.{holds_line};
 ghost use Rattle.nl_c.specs.Statuses.{ok, no_room, out_of_memory};
-ghost use Rattle.nl_c.specs.Answers.{answer_find, answer_line, entry_in};
+ghost use Rattle.nl_c.specs.Answers.{answer_find, entry_in};
 
 use crate::loaded_log::CStamp;
 use crate::status;
-use nl_fields::{EntryRef, MAX_LINE, append_entry, read_entry, read_entry_v4};
-use nl_table::{OLDEST_VERSION, Table};
+use nl_fields::{EntryRef, append_entry};
+use nl_table::Table;
 
 pub(crate) fn find(table: &Table, name: &[u8], stamp: &mut CStamp) -> u32
     ensures { (result, stamp.new) ≡ answer_find table.now name.now stamp.old }
@@ -43,28 +43,6 @@ pub(crate) fn fill(
     }
     name[..bytes.len()].copy_from_slice(bytes);
     status::OK
-}
-
-/// The line is passed without its newline.
-pub(crate) fn line(
-    version: u32,
-    line: &[u8],
-    stamp: &mut CStamp,
-    name: &mut [u8],
-    name_len: &mut usize,
-) -> u32
-    ensures { (result, record { stamp = stamp.new; name = name.new; len = name_len.new }) ≡ answer_line version line.now
-        (record { stamp = stamp.old; name = name.old; len = name_len.old }) }
-{
-    if line.len() > MAX_LINE {
-        return status::NOT_FOUND;
-    }
-    let entry = if version == OLDEST_VERSION as u32 {
-        read_entry_v4(line)
-    } else {
-        read_entry(line)
-    };
-    fill(entry, stamp, name, name_len)
 }
 
 /// `line` is memory that this overwrites.

@@ -34,10 +34,7 @@ impl Plans {
     pub(crate) fn stands(&self, name: &[u8]) -> bool
         ensures { result ≡ is_planned self.now.names name.now }
     {
-        match self.names.get(name) {
-            Some(entry) => entry.hash == 1,
-            None => false,
-        }
+        self.names.get(name).is_some_and(|entry| entry.hash == 1)
     }
 
     pub(crate) fn begin(&mut self, name: &[u8]) -> u32
@@ -66,9 +63,6 @@ impl Plans {
         let Ok(entry) = EntryRef::new(0, 0, 0, name, 0) else {
             return;
         };
-        match self.names.enter(&entry) {
-            Ok(()) => {}
-            Err(_) => {}
-        }
+        self.names.enter(&entry).unwrap();
     }
 }

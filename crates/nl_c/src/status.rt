@@ -1,6 +1,6 @@
 //! Statuses as numbers, since no enum crosses to C.
 ghost use Rattle.std.specs.Prelude.{◌≡◌, ◌≢◌, ◌∷◌, [], ◌++◌, drop, length, take};
-ghost use Rattle.nl_c.specs.Statuses.{status_of, status_of_answer, status_of_fault, status_text};
+ghost use Rattle.nl_c.specs.Statuses.{status_of, status_of_answer, status_of_fault, status_text, if_room};
 
 use nl_session::LogFault;
 use nl_table::LoadFault;
@@ -69,6 +69,15 @@ pub(crate) fn of_answer(answer: Result<(), LogFault>) -> u32
     match answer {
         Ok(()) => OK,
         Err(fault) => of_log_fault(fault),
+    }
+}
+
+pub(crate) fn of_room<E: Drop>(answer: Result<(), E>) -> u32
+    ensures { result ≡ if_room answer }
+{
+    match answer {
+        Ok(()) => OK,
+        Err(_) => OUT_OF_MEMORY,
     }
 }
 

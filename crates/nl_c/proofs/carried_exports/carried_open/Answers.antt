@@ -21,8 +21,8 @@ taken (Some (Loaded it)) log is = elim (cases_Bool it.is_all) [
 pub returns-clause-call : goal.returns-clause-call
 returns-clause-call c asked bytes is =
     let kept = c.args.found.now.kept.log in
-    let there : loaded_in kept ≡ Some c.in-Some.log = taken kept c.in-Some.log (search rules) in
-    let loaded : IsLoadedAs asked bytes c.in-Some.log = subst (λ (o : Option LoadedLog). IsSomeAnd o (IsLoadedAs asked bytes)) there is in
+    let there : loaded_in kept ≡ Some c.in-Some-into_all.log = taken kept c.in-Some-into_all.log (search rules) in
+    let loaded : IsLoadedAs asked bytes c.in-Some-into_all.log = subst (λ (o : Option LoadedLog). IsSomeAnd o (IsLoadedAs asked bytes)) there is in
     elim c.match-deref_mut.branch [
       | in-Loaded w ↦ search rules
       | in-Carried w ↦ search (rules, w.open-answer.ensures asked bytes loaded)

@@ -1,6 +1,0 @@
--- The record that is noted.
-use Rattle.nl_folder.specs.Calls.{scratch_synced}
-use Rattle.nl_c.proofs.disk_record.DiskRecord.scratch_synced.Given as goal
-
-abbrev pub ghost-note : goal.ghost-note
-ghost-note a = scratch_synced a.x.now.now.disk
