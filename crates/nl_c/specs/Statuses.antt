@@ -2,8 +2,6 @@
 use Rattle.std.specs.Prelude.{ℕ, ◌+◌, ◌-◌, Result, Ok, Err, List, ◌∷◌, ◌++◌, ◌==◌, if◌then◌else◌, codes, drop, length, min, take}
 use Rattle.nl_session.specs.declared.fault.LogFault.{LogFault}
 use Rattle.nl_session.specs.declared.fault.LogFault.TheVariants as log_fault
-use Rattle.nl_table.specs.declared.loader.LoadFault.{LoadFault}
-use Rattle.nl_table.specs.declared.loader.LoadFault.TheVariants as refusal
 
 abbrev pub ok : ℕ
 ok = 0
@@ -50,13 +48,6 @@ locked = 13
 
 abbrev pub forked : ℕ
 forked = 14
-
--- a load from memory meets no failed read
-abbrev pub status_of : LoadFault → ℕ
-status_of refusal.NotALog = not_a_log
-status_of refusal.OtherVersion = other_version
-status_of refusal.Read = out_of_memory
-status_of refusal.OutOfMemory = out_of_memory
 
 abbrev pub status_of_fault : LogFault → ℕ
 status_of_fault log_fault.NotOpen = not_open

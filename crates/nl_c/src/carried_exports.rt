@@ -42,11 +42,14 @@ pub extern "C" fn carried_more(handle: &mut Handle, alloc: Global, bytes: &[u8])
     let Some(mut held) = handle.take(alloc) else {
         return status::NO_HANDLE;
     };
-    let answer = held.load_more(bytes);
-    if answer == status::OK {
-        *handle = Handle::of(held);
+    let Held::Loaded(log) = &mut *held else {
+        return status::NO_HANDLE;
+    };
+    if log.load_more(bytes).is_err() {
+        return status::OUT_OF_MEMORY;
     }
-    answer
+    *handle = Handle::of(held);
+    status::OK
 }
 
 /// Frees what the handle held, unless memory is lacking.

@@ -77,7 +77,7 @@ pub extern "C" fn nlog_load(
 {
     match LoadedLog::load(alloc, version, Secret::of(key0, key1), bytes) {
         Ok(log) => handle.put(alloc, Held::Loaded(log)),
-        Err(fault) => status::of_fault(fault),
+        Err(fault) => status::of_log_fault(fault.into()),
     }
 }
 
@@ -99,7 +99,7 @@ pub extern "C" fn nlog_load_distrusted(
 {
     match LoadedLog::load_distrusted(alloc, Secret::of(key0, key1), bytes) {
         Ok(log) => handle.put(alloc, Held::Loaded(log)),
-        Err(refused) => status::of_fault(refused),
+        Err(refused) => status::of_log_fault(refused.into()),
     }
 }
 

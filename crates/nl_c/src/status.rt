@@ -1,9 +1,8 @@
 //! Statuses as numbers, since no enum crosses to C.
 ghost use Rattle.std.specs.Prelude.{◌≡◌, ◌≢◌, ◌∷◌, [], ◌++◌, drop, length, take};
-ghost use Rattle.nl_c.specs.Statuses.{status_of, status_of_answer, status_of_fault, status_text, if_room};
+ghost use Rattle.nl_c.specs.Statuses.{status_of_answer, status_of_fault, status_text, if_room};
 
 use nl_session::LogFault;
-use nl_table::LoadFault;
 
 pub(crate) const OK: u32 = 0;
 
@@ -35,18 +34,6 @@ pub(crate) const BAD_NAME: u32 = 12;
 const LOCKED: u32 = 13;
 
 const FORKED: u32 = 14;
-
-/// A load from memory meets no other fault.
-pub(crate) fn of_fault(fault: LoadFault) -> u32
-    requires { fault ≢ LoadFault.Read }
-    ensures { result ≡ status_of fault }
-{
-    match fault {
-        LoadFault::NotALog => NOT_A_LOG,
-        LoadFault::OtherVersion => OTHER_VERSION,
-        LoadFault::OutOfMemory | LoadFault::Read => OUT_OF_MEMORY,
-    }
-}
 
 pub(crate) fn of_log_fault(fault: LogFault) -> u32
     ensures { result ≡ status_of_fault fault }
