@@ -14,14 +14,12 @@ use Rattle.nl_tool_texts.specs.Output.{AppendsPrefixOf}
 use Rattle.nl_tool_texts.specs.declared.fault.ToolFault.{ToolFault}
 use Rattle.nl_tool_texts.specs.declared.fault.ToolFault.TheVariants.{NotALog, OtherVersion, Read, Memory, Write, Folder, Elsewhere}
 use Rattle.nl_tool_change.specs.Mending.{MendsLogAs, ReadsWhole}
-use Rattle.nl_tool_doubt.specs.Doubts.{IsDoubts, damaged_in}
+use Rattle.nl_tool_doubt.specs.Doubts.{IsDoubts, damaged_in, word_of}
 use Rattle.nl_tool_doubt.specs.declared.files.FileState.{FileState}
 use Rattle.nl_tool_doubt.specs.declared.judge.Doubt.{Doubt}
 use Rattle.nl_tool_doubt.specs.declared.judge.Doubt.TheVariants as doubt
 use Rattle.nl_tool_doubt.specs.declared.doubts.Doubted.{Doubted}
 use Rattle.nl_tool_doubt.specs.declared.doubts.Doubts.{Doubts}
-use Rattle.nl_tool_doubt.specs.declared.mending.Cause.{Cause}
-use Rattle.nl_tool_doubt.specs.declared.mending.Cause.TheVariants.{Damaged, Newer, Unsure}
 use Rattle.nl_tool_doubt.specs.declared.mending.How.{How}
 use Rattle.nl_tool_doubt.specs.declared.mending.Mended.{Mended}
 use Rattle.nl_tool_doubt.specs.declared.mending.Said.{Said}
@@ -29,25 +27,24 @@ use Rattle.nl_tool_doubt.specs.declared.mending.Said.{Said}
 -- ---- which outputs are told of, and which are made anew
 
 -- an output whose file is missing isn't told of
-abbrev pub cause_by : Doubt → Option Cause
-cause_by doubt.Damaged = Some Damaged
-cause_by doubt.Newer = Some Newer
-cause_by doubt.Unsure = Some Unsure
-cause_by doubt.Folder = Some Unsure
-cause_by doubt.NoTime = Some Unsure
-cause_by doubt.Untold = Some Unsure
+abbrev pub cause_by : Doubt → Option Doubt
+cause_by doubt.Damaged = Some doubt.Damaged
+cause_by doubt.Newer = Some doubt.Newer
+cause_by doubt.Unsure = Some doubt.Unsure
+cause_by doubt.Folder = Some doubt.Unsure
+cause_by doubt.NoTime = Some doubt.Unsure
+cause_by doubt.Untold = Some doubt.Unsure
 cause_by doubt.Gone = None
 
 -- an output whose entry has the form of an intent isn't told of, because no command passes for that
-abbrev pub cause_of : Doubted → Option Cause
+abbrev pub cause_of : Doubted → Option Doubt
 cause_of d = if is_intent d.entry then None else cause_by d.why
 
 -- outputs that can't be trusted are made anew, and with `--all` also those of which that isn't sure
-abbrev pub is_taken : Bool → Option Cause → Bool
-is_taken all (Some Damaged) = true
-is_taken all (Some Newer) = true
-is_taken all (Some Unsure) = all
+abbrev pub is_taken : Bool → Option Doubt → Bool
 is_taken all None = false
+is_taken all (Some doubt.Unsure) = all
+is_taken all (Some cause) = true
 
 abbrev pub taken_by : Bool → Doubted → List (List ℕ)
 taken_by all d = if is_taken all (cause_of d) then d.entry.name ∷ [] else []
@@ -57,12 +54,7 @@ taken all ds = flat_map (taken_by all) ds
 
 -- ---- the text
 
-abbrev pub word_of : Cause → List ℕ
-word_of Damaged = codes "damaged"
-word_of Newer = codes "newer"
-word_of Unsure = codes "unsure"
-
-abbrev pub line_for : List ℕ → Option Cause → List ℕ
+abbrev pub line_for : List ℕ → Option Doubt → List ℕ
 line_for name None = []
 line_for name (Some cause) = word_of cause ++ codes "\t" ++ name ++ codes "\n"
 

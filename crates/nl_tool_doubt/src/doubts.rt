@@ -131,8 +131,15 @@ fn name_looked(
 {
     let mut named = Vec::new(alloc);
     for it in looked {
-        let doubt = doubt_of(counts, stamps, moments, it);
-        name_one(alloc, &it.entry, doubt, damaged, &mut named)?;
+        let why = if damaged.get(it.entry.name()).is_some() {
+            Some(Doubt::Damaged)
+        } else {
+            doubt_of(counts, stamps, moments, it)
+        };
+        if let Some(why) = why {
+            let entry = Entry::of(alloc, &it.entry)?;
+            named.push(Doubted { why, entry })?;
+        }
     }
     Ok(named)
 }
@@ -141,40 +148,9 @@ fn name_looked(
 fn is_copied(looked: &[Looked]) -> bool
     ensures { result ≡ is_copied looked.now }
 {
-    files_in(looked) / 2 < moved_in(looked)
-}
-
-fn files_in(looked: &[Looked]) -> usize
-    ensures value { result ≡ count_by is_file looked.now }
-{
-    looked.iter().filter(|it| it.file.is_written()).count()
-}
-
-fn moved_in(looked: &[Looked]) -> usize
-    ensures value { result ≡ count_by is_moved looked.now }
-{
-    looked.iter().filter(|it| it.file.was_moved()).count()
-}
-
-fn name_one(
-    alloc: Global,
-    entry: &EntryRef,
-    doubt: Option<Doubt>,
-    damaged: &Table,
-    named: &mut Vec<Doubted>,
-) -> AllocResult
-    ensures items { OnOk result (named.new.items ≡ named.old.items ++ doubted entry.now (why damaged.now doubt entry.now)) }
-{
-    let why = if damaged.get(entry.name()).is_some() {
-        Some(Doubt::Damaged)
-    } else {
-        doubt
-    };
-    if let Some(why) = why {
-        let entry = Entry::of(alloc, entry)?;
-        named.push(Doubted { why, entry })?;
-    }
-    Ok(())
+    let files = looked.iter().filter(|it| it.file.is_written()).count();
+    let moved = looked.iter().filter(|it| it.file.was_moved()).count();
+    files / 2 < moved
 }
 
 /// It writes a line for each output, and answers whether there is any.
@@ -207,7 +183,8 @@ fn text_of(alloc: Global, named: &[Doubted]) -> AllocResult<Vec<u8>>
     Ok(text)
 }
 
-fn word_of(why: Doubt) -> &'static str
+/// How a line of it begins.
+pub(crate) fn word_of(why: Doubt) -> &'static str
     ensures value { result.now ≡ word_of why }
 {
     match why {

@@ -1,6 +1,6 @@
 //! What the file of an output says against its entry.
-ghost use Rattle.std.specs.Prelude.{◌≡◌, ◌<◌, ◌≤◌, ◌^◌};
-ghost use Rattle.nl_tool_doubt.specs.Judging.{doubt_by, doubt_from, doubt_of, ended, is_early, is_newer, last_of, written};
+ghost use Rattle.std.specs.Prelude.{◌≡◌};
+ghost use Rattle.nl_tool_doubt.specs.Judging.{doubt_from, doubt_of, last_of};
 
 use crate::files::{FileState, FileTimes, Looked};
 use crate::moments::{Moments, NANOSECONDS, NONE, length_of, moment, tells};
@@ -31,13 +31,20 @@ pub fn doubt_of(counts: bool, stamps: Stamps, moments: &Moments, looked: &Looked
         FileState::Missing => Some(Doubt::Gone),
         FileState::Directory => Some(Doubt::Folder),
         FileState::Unknown => Some(Doubt::Untold),
-        FileState::Written(times) => doubt_by(
-            stamps,
-            moments,
-            &looked.entry,
-            times.written,
-            last_of(counts, stamps, times),
-        ),
+        FileState::Written(times) => {
+            let entry = &looked.entry;
+            let last = last_of(counts, stamps, times);
+            if entry.mtime == 0 {
+                return Some(Doubt::NoTime);
+            }
+            if last <= entry.mtime {
+                return None;
+            }
+            match stamps {
+                Stamps::OfStart if tells(entry) => doubt_from(moments, entry, times.written, last),
+                _ => Some(Doubt::Newer),
+            }
+        }
     }
 }
 
@@ -51,70 +58,19 @@ fn last_of(counts: bool, stamps: Stamps, times: FileTimes) -> i64
 }
 
 // `last` is the file's last time that counts.
-fn doubt_by(
-    stamps: Stamps,
-    moments: &Moments,
-    entry: &EntryRef,
-    time: i64,
-    last: i64,
-) -> Option<Doubt>
-    ensures value { result ≡ doubt_by stamps moments.now entry.now time last }
-{
-    if entry.mtime == 0 {
-        return Some(Doubt::NoTime);
-    }
-    if last <= entry.mtime {
-        return None;
-    }
-    match stamps {
-        Stamps::OfStart if tells(entry) => doubt_from(moments, entry, time, last),
-        _ => Some(Doubt::Newer),
-    }
-}
-
 fn doubt_from(moments: &Moments, entry: &EntryRef, time: i64, last: i64) -> Option<Doubt>
     ensures value { result ≡ doubt_from moments.now entry.now time last }
 {
+    let tick = moments.tick();
     let begun = moments.begun(entry);
-    let ended = ended(begun, entry);
-    let written = written(last);
-    if is_newer(moments.tick(), ended, written) {
+    let ended = begun + u64::from(moment(entry.end_ms));
+    let written = last.unsigned_abs() / NANOSECONDS + NONE;
+    if ended + 8 + tick <= written {
         return Some(Doubt::Newer);
     }
-    if entry.mtime < time
-        && is_early(moments.tick(), length_of(entry), ended, written)
-        && !moments.is_sure(begun)
-    {
+    let is_early = written + (length_of(entry) / 4).max(20) + tick < ended;
+    if entry.mtime < time && is_early && !moments.is_sure(begun) {
         return Some(Doubt::Unsure);
     }
     None
-}
-
-fn ended(begun: u64, entry: &EntryRef) -> u64
-    requires small { begun < 2 ^ 45 }
-    ensures value { result ≡ ended begun entry.now }
-    ensures bound { result < 2 ^ 46 }
-{
-    begun + u64::from(moment(entry.end_ms))
-}
-
-fn written(time: i64) -> u64
-    ensures value { result ≡ written time }
-    ensures bound { result < 2 ^ 46 }
-{
-    time.unsigned_abs() / NANOSECONDS + NONE
-}
-
-fn is_newer(tick: u64, ended: u64, written: u64) -> bool
-    requires small { (tick ≤ 1000) × (ended < 2 ^ 46) }
-    ensures { result ≡ is_newer tick ended written }
-{
-    ended + 8 + tick <= written
-}
-
-fn is_early(tick: u64, length: u64, ended: u64, written: u64) -> bool
-    requires small { (tick ≤ 1000) × (length < 2 ^ 32) × (written < 2 ^ 46) }
-    ensures { result ≡ is_early tick length ended written }
-{
-    written + (length / 4).max(20) + tick < ended
 }

@@ -4,9 +4,9 @@ ghost use Rattle.nl_folder.specs.FolderView.{folder_view};
 ghost use Rattle.nl_tool_change.specs.Faults.{IsRecordFault};
 ghost use Rattle.nl_tool_change.specs.Mending.{MendsLogAs};
 ghost use Rattle.nl_versions.specs.VersionOf.{version_of};
-ghost use Rattle.nl_tool_doubt.specs.Mending.{EndsBy, IsIn, IsMendFault, IsSaid, Mends, MendsFolder, MendsSaid, cause_of, is_due, is_elsewhere, is_taken, mend_lines, taken, word_of};
+ghost use Rattle.nl_tool_doubt.specs.Mending.{EndsBy, IsIn, IsMendFault, IsSaid, Mends, MendsFolder, MendsSaid, cause_of, is_elsewhere};
 
-use crate::doubts::{Doubted, Doubts, untrusted_of};
+use crate::doubts::{Doubted, Doubts, untrusted_of, word_of};
 use crate::files::OutputFiles;
 use crate::judge::Doubt;
 use nl_distrust::is_whole;
@@ -86,10 +86,7 @@ fn mend_doubted<D: Folder, W: Write>(
                 outputs: doubts.outputs,
                 there: doubts.there,
             };
-            match answer {
-                Ok(()) => (folder, Ok(mended)),
-                Err(fault) => (folder, Err(fault)),
-            }
+            (folder, answer.map(|()| mended))
         }
         Err(_) => (folder, Err(ToolFault::Memory)),
     }
@@ -113,11 +110,24 @@ struct Said {
 fn said_of(alloc: Global, log: &[u8], doubts: &Doubts, how: How) -> AllocResult<Said>
     ensures value { IfOk result (IsSaid how log.now doubts.now.named.items) }
 {
-    let mut text = lines_of(alloc, doubts.named.as_slice())?;
-    let names = names_of(alloc, doubts.named.as_slice(), how.all)?;
+    let mut text = Vec::new(alloc);
+    let mut names = Vec::new(alloc);
+    let named = doubts.named.as_slice();
+    for it in named {
+        let Some(cause) = cause_of(it) else {
+            continue;
+        };
+        text.extend_from_slice(word_of(cause).as_bytes())?;
+        text.push(b'\t')?;
+        text.extend_from_slice(it.entry.name.bytes())?;
+        text.push(b'\n')?;
+        if how.all || !matches!(cause, Doubt::Unsure) {
+            names.push(it.entry.name.copy(alloc)?)?;
+        }
+    }
     let is_told = !text.is_empty();
-    let is_due = is_due(how.dry_run, log, names.as_slice());
-    append_end(alloc, how, is_told, names.len(), is_due, &mut text)?;
+    let is_due = !how.dry_run && (!names.is_empty() || !is_whole(lines_version(log), log));
+    append_end(how, is_told, names.len(), is_due, &mut text)?;
     Ok(Said {
         text,
         is_told,
@@ -126,84 +136,22 @@ fn said_of(alloc: Global, log: &[u8], doubts: &Doubts, how: How) -> AllocResult<
     })
 }
 
-fn lines_of(alloc: Global, named: &[Doubted]) -> AllocResult<Vec<u8>>
-    ensures value { IfOk result (λ text. text.items ≡ mend_lines named.now) }
-{
-    let mut text = Vec::new(alloc);
-    for it in named {
-        if let Some(cause) = cause_of(it) {
-            text.extend_from_slice(word_of(cause).as_bytes())?;
-            text.push(b'\t')?;
-            text.extend_from_slice(it.entry.name.bytes())?;
-            text.push(b'\n')?;
-        }
-    }
-    Ok(text)
-}
-
-fn names_of(alloc: Global, named: &[Doubted], all: bool) -> AllocResult<Vec<Name>>
-    ensures value { IfOk result (λ names. names.items ≡ taken all named.now) }
-{
-    let mut names = Vec::new(alloc);
-    for it in named {
-        if is_taken(all, cause_of(it)) {
-            names.push(it.entry.name.copy(alloc)?)?;
-        }
-    }
-    Ok(names)
-}
-
-#[derive(Clone, Copy)]
-enum Cause {
-    Damaged,
-    Newer,
-    Unsure,
-}
-
 // No command passes for an entry that has the form of an intent, and no file is trusted that is missing.
-fn cause_of(it: &Doubted) -> Option<Cause>
+fn cause_of(it: &Doubted) -> Option<Doubt>
     ensures { result ≡ cause_of it.now }
 {
     if is_intent(&it.entry.view()) {
         return None;
     }
     match it.why {
-        Doubt::Damaged => Some(Cause::Damaged),
-        Doubt::Newer => Some(Cause::Newer),
-        Doubt::Unsure | Doubt::Folder | Doubt::NoTime | Doubt::Untold => Some(Cause::Unsure),
+        Doubt::Damaged | Doubt::Newer => Some(it.why),
+        Doubt::Unsure | Doubt::Folder | Doubt::NoTime | Doubt::Untold => Some(Doubt::Unsure),
         Doubt::Gone => None,
     }
 }
 
-fn is_taken(all: bool, cause: Option<Cause>) -> bool
-    ensures { result ≡ is_taken all cause }
-{
-    match cause {
-        Some(Cause::Damaged | Cause::Newer) => true,
-        Some(Cause::Unsure) => all,
-        None => false,
-    }
-}
-
-fn word_of(cause: Cause) -> &'static str
-    ensures { result.now ≡ word_of cause }
-{
-    match cause {
-        Cause::Damaged => "damaged",
-        Cause::Newer => "newer",
-        Cause::Unsure => "unsure",
-    }
-}
-
-fn is_due(dry_run: bool, log: &[u8], names: &[Name]) -> bool
-    ensures { result ≡ is_due dry_run log.now names.now }
-{
-    !dry_run && (!names.is_empty() || !is_whole(lines_version(log), log))
-}
-
 // A terminal is told what was done, unless nothing was told of or done.
 fn append_end(
-    alloc: Global,
     how: How,
     is_told: bool,
     taken: usize,
@@ -222,7 +170,9 @@ fn append_end(
     } else {
         "is as it was"
     };
-    let line = format!(in alloc; "{taken} {outputs} {will} be built again; LOG {done}\n")?;
+    let line = format!(in *text.allocator();
+        "{taken} {outputs} {will} be built again; LOG {done}\n"
+    )?;
     text.extend_from_slice(line.as_bytes())?;
     Ok(())
 }

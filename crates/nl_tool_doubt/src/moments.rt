@@ -161,12 +161,8 @@ fn lines_of<'e, 'a>(stamps: Stamps, entries: &'e [EntryRef<'a>]) -> &'e [EntryRe
 fn are_whole(lines: &[EntryRef]) -> bool
     ensures { result ≡ list_all is_whole (filter tells lines.now) }
 {
-    for line in lines {
-        if tells(line) && line.mtime.unsigned_abs() % SECOND != 0 {
-            return false;
-        }
-    }
-    true
+    let mut telling = lines.iter().filter(|line| tells(line));
+    telling.all(|line| line.mtime.unsigned_abs() % SECOND == 0)
 }
 
 fn add_spans(lines: &[EntryRef], ends: &mut Vec<Span>, starts: &mut Vec<Span>) -> AllocResult

@@ -7,7 +7,7 @@ ghost use Rattle.nl_versions.specs.VersionOf.{as_five};
 ghost use Rattle.nl_tool_doubt.specs.There.{AddsFor, KeepsMost, LosesMost, is_kept, learned, name_by, pair_by};
 
 use crate::files::{FileState, Looked, OutputFiles, look_all};
-use nl_fields::{Entry, EntryRef, Name};
+use nl_fields::{Entry, Name};
 use nl_session::is_intent;
 use nl_table::{NameSet, Secret};
 use nl_tool_print::load_read;
@@ -73,7 +73,7 @@ fn add_names(alloc: Global, looked: &[Looked], names: &mut Vec<Name>) -> AllocRe
 {
     for it in looked {
         if !matches!(it.file, FileState::Missing) {
-            names.push(name_of(alloc, &it.entry)?)?;
+            names.push(Entry::of(alloc, &it.entry)?.name)?;
         }
     }
     Ok(())
@@ -88,14 +88,8 @@ fn times_of(alloc: Global, looked: &[Looked]) -> AllocResult<Vec<(Name, i64)>>
             continue;
         };
         if !is_intent(&it.entry) {
-            times.push((name_of(alloc, &it.entry)?, at.written))?;
+            times.push((Entry::of(alloc, &it.entry)?.name, at.written))?;
         }
     }
     Ok(times)
-}
-
-fn name_of(alloc: Global, entry: &EntryRef<'_>) -> AllocResult<Name>
-    ensures value { IfOk result (λ name. name ≡ entry.now.name) }
-{
-    Ok(Entry::of(alloc, entry)?.name)
 }

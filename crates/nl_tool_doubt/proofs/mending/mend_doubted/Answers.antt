@@ -8,7 +8,7 @@ returns-then-is_elsewhere-clause-call g c = λ here.
     let yes = sym c.is_elsewhere.ensures ∙ c.if-is_elsewhere.true in
     not_mended Elsewhere (λ is. absurd (cc is)) ((λ _. yes), (λ _. refl))
 
-pub returns-clause-call : goal.returns-clause-call
-returns-clause-call g c = λ here.
+pub returns-in-Err-clause-call : goal.returns-in-Err-clause-call
+returns-in-Err-clause-call g c = λ here.
     let no = sym c.is_elsewhere.ensures ∙ c.if-is_elsewhere.false in
     not_mended Memory (λ is. absurd (cc is)) ((λ is. absurd (cc is)), (λ yes. absurd (cc (yes, no))))
