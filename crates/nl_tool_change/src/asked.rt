@@ -55,9 +55,16 @@ fn read_other(alloc: Global, secret: Secret, line: &[u8]) -> Asked<'_>
 {
     match line {
         b"table" => Asked::Lists,
-        [b'g', b'e', b't', b'\t', name @ ..] => gets(name),
+        [b'g', b'e', b't', b'\t', name @ ..] => match name_fault(name) {
+            None => Asked::Gets(name),
+            Some(fault) => Asked::Bad(why_no_name(name, fault)),
+        },
         [b'h', b'a', b's', b'h', b'\t', command @ ..] => Asked::Hashes(command),
-        [b'b', b'e', b'g', b'i', b'n', b'\t', fields @ ..] => begins(alloc, fields),
+        [b'b', b'e', b'g', b'i', b'n', b'\t', fields @ ..] => match read_begin(alloc, fields) {
+            Ok(begin) => Asked::Begins(begin),
+            Err(LineRefusal::OutOfMemory) => Asked::Unread,
+            Err(LineRefusal::NoEvent | LineRefusal::BadLine) => Asked::Bad(LineFault::Fields),
+        },
         _ => match read_event_line(alloc, line) {
             Ok(Event::Crash) => Asked::Bad(LineFault::NoEvent),
             Ok(event) => does(alloc, secret, event),
@@ -93,27 +100,6 @@ fn does(alloc: Global, secret: Secret, event: Event) -> Asked<'static>
     match Deed::of(alloc, secret, event) {
         Ok(deed) => Asked::Does(deed),
         Err(_) => Asked::Unread,
-    }
-}
-
-// `name` may be no name.
-fn gets(name: &[u8]) -> Asked<'_>
-    ensures asks { Asks (codes "get" ++ 9 ∷ name.now) result }
-{
-    match name_fault(name) {
-        None => Asked::Gets(name),
-        Some(fault) => Asked::Bad(why_no_name(name, fault)),
-    }
-}
-
-// `fields` may be no moment, hash and names.
-fn begins(alloc: Global, fields: &[u8]) -> Asked<'_>
-    ensures asks { Asks (codes "begin" ++ 9 ∷ fields.now) result }
-{
-    match read_begin(alloc, fields) {
-        Ok(begin) => Asked::Begins(begin),
-        Err(LineRefusal::OutOfMemory) => Asked::Unread,
-        Err(LineRefusal::NoEvent | LineRefusal::BadLine) => Asked::Bad(LineFault::Fields),
     }
 }
 

@@ -97,10 +97,7 @@ impl Part for Target {
         let Some(target) = before_rule(line) else {
             return Ok(Err(LineFault::NoRule));
         };
-        match <Name as Part>::read(alloc, target)? {
-            Ok(name) => Ok(Ok(Target { name })),
-            Err(why) => Ok(Err(why)),
-        }
+        Ok(<Name as Part>::read(alloc, target)?.map(|name| Target { name }))
     }
 }
 

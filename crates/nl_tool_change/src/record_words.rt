@@ -22,7 +22,15 @@ pub fn entry_of<'a>(
 {
     let start_ms = time_of(start, NumberOf::Start, told)?;
     let end_ms = time_of(end, NumberOf::End, told)?;
-    let mtime = mtime_of(mtime, told)?;
+    let text = mtime.as_bytes();
+    let Some(mtime) = read_i64(text) else {
+        let why = number_fault(text, NumberFault::Past64);
+        return Err(told.refuse_number(WrongNumber {
+            which: NumberOf::Mtime,
+            nth: None,
+            why,
+        }));
+    };
     match EntryRef::new(start_ms, end_ms, mtime, name.as_bytes(), 0) {
         Ok(entry) => Ok(entry),
         Err(fault) => Err(of_name_fault(fault)),
@@ -40,21 +48,6 @@ fn time_of(text: &str, which: NumberOf, told: &mut Told) -> Result<i32, ToolFaul
             which,
             nth: None,
             why: number_fault(text, NumberFault::Past32),
-        })),
-    }
-}
-
-fn mtime_of(text: &str, told: &mut Told) -> Result<i64, ToolFault>
-    ensures value { IfOk result (λ n. IsDecimal n text.now) }
-    ensures faults { IfErr result (IsNoNumber w64 text.now NumberOf.Mtime told.new.number) }
-{
-    let text = text.as_bytes();
-    match read_i64(text) {
-        Some(number) => Ok(number),
-        None => Err(told.refuse_number(WrongNumber {
-            which: NumberOf::Mtime,
-            nth: None,
-            why: number_fault(text, NumberFault::Past64),
         })),
     }
 }

@@ -97,7 +97,13 @@ pub fn read_script<R: Read + Drop>(alloc: Global, reader: R, told: &mut Told) ->
 {
     let mut source = ReadSource::new(reader);
     let mut lines = Lines::new(alloc)?;
-    let mut script = Script::new(alloc);
+    let mut script = Script {
+        writes: Vec::new(alloc),
+        fates: Vec::new(alloc),
+        tails: Vec::new(alloc),
+        fuse: None,
+        events: Vec::new(alloc),
+    };
     let mut number = 1;
     'lines: loop {
         match lines.next(&mut source)? {
@@ -118,18 +124,6 @@ pub fn read_script<R: Read + Drop>(alloc: Global, reader: R, told: &mut Told) ->
 }
 
 impl Script {
-    fn new(alloc: Global) -> Script
-        ensures { result.events.items ≡ [] }
-    {
-        Script {
-            writes: Vec::new(alloc),
-            fates: Vec::new(alloc),
-            tails: Vec::new(alloc),
-            fuse: None,
-            events: Vec::new(alloc),
-        }
-    }
-
     fn take_line(&mut self, alloc: Global, line: &[u8], number: u64, told: &mut Told) -> ToolResult
         ensures ok { OnOk result (TakesScriptLine self.old.events.items self.new.events.items line.now) }
         ensures why { IsErrAnd result IsBadLine → IsSome told.new.why }

@@ -8,7 +8,7 @@ use Rattle.nl_tool_change.proofs.script.read_script.Goals as goal
 pub lines-init : goal.lines-init
 lines-init g c = record {
   scripted = rw c.in_ok-lines.ensures.value
-      (Scripted_none (g.R.Read.remaining c.new-source.result.reader) c.new-script.result.events.items c.new-script.ensures);
+      (Scripted_none (g.R.Read.remaining c.new-source.result.reader) c.new-5.result.items c.new-5.ensures.items);
   reading = rw c.in_ok-lines.ensures.value refl;
   from_one = omega arith;
   counted = omega arith;
