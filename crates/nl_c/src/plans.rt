@@ -24,13 +24,6 @@ impl Plans {
         }
     }
 
-    /// Frees the memory of all names.
-    pub(crate) fn clear(&mut self, alloc: Global)
-        ensures none { (name : List ℕ) → is_planned self.new.names name ≡ false }
-    {
-        self.names = Table::with_secret(alloc, self.names.secret());
-    }
-
     pub(crate) fn stands(&self, name: &[u8]) -> bool
         ensures { result ≡ is_planned self.now.names name.now }
     {
