@@ -221,7 +221,7 @@ pub extern "C" fn carried_clear_marks(handle: &mut Handle, alloc: Global) -> u32
     ensures call { InCarried (Keeps Cleared) result handle.old.kept.log handle.new.kept.log }
 {
     carried!(handle, alloc, log => {
-        log.written.marks = Marks::new(alloc, log.written.marks.secret());
+        log.written.marks = Marks::new(alloc, log.written.marks.dead.secret());
         status::OK
     })
 }
