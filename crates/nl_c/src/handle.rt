@@ -1,13 +1,15 @@
 //! The handle that a caller in C has: memory of zeros is a handle without a log.
-ghost use Rattle.std.specs.Prelude.{◌≡◌, ◌≢◌, ◌↔◌, ◌⊎◌, IsSome, Some, None, option_map};
-ghost use Rattle.nl_c.specs.Kept.{made as made_mark};
+ghost use Rattle.std.specs.Prelude.{◌≡◌, ◌≢◌, ◌↔◌, ◌⊎◌, Option, IsSome, Some, None, option_map};
+ghost use Rattle.nl_c.specs.Kept.{made as made_mark, owned_if};
+ghost use Rattle.nl_c.specs.declared.held.Held.{Held};
 ghost use Rattle.nl_c.specs.Statuses.{ok, out_of_memory};
 
 use crate::held::Held;
-use crate::kept::Kept;
 use crate::status;
 use std::alloc::Global;
+use std::marker::Model;
 use std::mem::replace;
+use std::ptr::null_mut;
 
 // Memory that was never a handle doesn't hold this number by chance.
 const MADE: u64 = 0x6e6c_6f67_6861_6e64;
@@ -61,5 +63,39 @@ impl Handle {
             }
             Err(_) => status::OUT_OF_MEMORY,
         }
+    }
+}
+
+/// One pointer: to what it holds on the heap, which it owns, or to none.
+#[repr(C)]
+#[derive(Drop)]
+pub struct Kept {
+    at: *mut u8,
+    ghost log: { Option Held },
+}
+
+impl Model for Kept {
+    ghost also_owns = { λ k. owned_if k.at k.log };
+}
+
+impl Kept {
+    pub(crate) fn empty() -> Kept
+        ensures { result.log ≡ None }
+    {
+        Kept { at: null_mut() }
+    }
+
+    pub(crate) fn of(log: Box<Held>) -> Kept
+        ensures { result.log ≡ Some log.value }
+    {
+        let (at, _) = Box::into_raw_with_allocator(log);
+        Kept { at: at as *mut u8 }
+    }
+
+    pub(crate) fn into_box(self, alloc: Global) -> Box<Held>
+        requires { IsSome self.log }
+        ensures { self.log ≡ Some result.value }
+    {
+        unsafe { Box::from_raw(alloc, self.at as *mut Held) }
     }
 }

@@ -8,7 +8,6 @@ mod disk_record;
 mod exports;
 mod handle;
 mod held;
-mod kept;
 mod laws;
 mod loaded_log;
 mod look_up;

@@ -42,10 +42,10 @@ use Rattle.nl_c.specs.Kept.{owned_if}
 use Rattle.nl_c.proofs.KeptValues.{slot_at, some_of, kept_val, kept_told}
 use Rattle.nl_c.proofs.BoxedLog.{Log, Heap, log_laws, heap_laws, log_lasts, heap_lasts, no_drop, boxed, TheBox, held_at, freed_at}
 use Rattle.nl_c.specs.declared.held.Held.{Held}
-use Rattle.nl_c.specs.contracts.kept.Kept.into_box.{ended, clauses}
-use Rattle.nl_c.specs.contracts.kept.Kept.into_box.Key.{name as #self}
-use Rattle.nl_c.proofs.kept.Kept.into_box.Statement.{statement}
-use Rattle.nl_c.proofs.kept.Kept.into_box.Code as compiled
+use Rattle.nl_c.specs.contracts.handle.Kept.into_box.{ended, clauses}
+use Rattle.nl_c.specs.contracts.handle.Kept.into_box.Key.{name as #self}
+use Rattle.nl_c.proofs.handle.Kept.into_box.Statement.{statement}
+use Rattle.nl_c.proofs.handle.Kept.into_box.Code as compiled
 
 pub into_box_spec : {M : Type 1} → statement M
 unfolding Rattle.nl_c.proofs.Destruct++none.drop.Code.code

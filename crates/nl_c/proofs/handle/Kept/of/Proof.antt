@@ -40,11 +40,11 @@ use Rattle.std.proofs.impls.GlobalAllocator.TheImpl.Met.{passed}
 use Rattle.nl_c.proofs.KeptValues.{slot_at, kept_val, kept_own, kept_made}
 use Rattle.nl_c.proofs.BoxedLog.{Log, Heap, log_laws, heap_laws, log_lasts, heap_lasts, no_drop, log_drop, boxed, held_at, freed_at}
 use Rattle.nl_c.proofs.LogDrop.{log_dropped}
-use Rattle.nl_c.specs.contracts.kept.Kept as kept_handle
-use Rattle.nl_c.specs.contracts.kept.Kept.of.{ended, clauses}
-use Rattle.nl_c.specs.contracts.kept.Kept.of.Key.{name as #self}
-use Rattle.nl_c.proofs.kept.Kept.of.Statement.{statement}
-use Rattle.nl_c.proofs.kept.Kept.of.Code as compiled
+use Rattle.nl_c.specs.contracts.handle.Kept as kept_handle
+use Rattle.nl_c.specs.contracts.handle.Kept.of.{ended, clauses}
+use Rattle.nl_c.specs.contracts.handle.Kept.of.Key.{name as #self}
+use Rattle.nl_c.proofs.handle.Kept.of.Statement.{statement}
+use Rattle.nl_c.proofs.handle.Kept.of.Code as compiled
 
 pub of_spec : {M : Type 1} → statement M
 unfolding Rattle.nl_c.proofs.Destruct++none.drop.Code.code

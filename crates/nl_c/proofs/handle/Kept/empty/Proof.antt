@@ -19,11 +19,11 @@ use denote.Triple.Entry.{alive}
 use denote.Triple.Walked.{Stays, walk_of}
 use Rattle.std.proofs.raw_atomic.Walks.{proved_at, leaves}
 use Rattle.nl_c.proofs.KeptValues.{kept_val, kept_own, kept_made}
-use Rattle.nl_c.specs.contracts.kept.Kept as kept_handle
-use Rattle.nl_c.specs.contracts.kept.Kept.empty.{ended, clauses}
-use Rattle.nl_c.specs.contracts.kept.Kept.empty.Key.{name as #self}
-use Rattle.nl_c.proofs.kept.Kept.empty.Statement.{statement}
-use Rattle.nl_c.proofs.kept.Kept.empty.Code as compiled
+use Rattle.nl_c.specs.contracts.handle.Kept as kept_handle
+use Rattle.nl_c.specs.contracts.handle.Kept.empty.{ended, clauses}
+use Rattle.nl_c.specs.contracts.handle.Kept.empty.Key.{name as #self}
+use Rattle.nl_c.proofs.handle.Kept.empty.Statement.{statement}
+use Rattle.nl_c.proofs.handle.Kept.empty.Code as compiled
 
 pub empty_spec : {M : Type 1} → statement M
 empty_spec 𝓤 𝓛 𝓜 𝓡 wired =
