@@ -19,9 +19,9 @@ use Rattle.std.specs.contracts.alloc.Global as heap
 use Rattle.std.specs.contracts.impls.GlobalAllocator.TheImpl as global
 use Rattle.std.proofs.alloc.Global.TheLaws as of_heap
 use Rattle.nl_c.specs.Kept.{heap as the_heap}
-use Rattle.nl_c.specs.declared.held.Held.{Held}
-use Rattle.nl_c.specs.contracts.held.Held as log
-use Rattle.nl_c.proofs.held.Held.TheLaws as of_log
+use Rattle.nl_c.specs.declared.handle.Held.{Held}
+use Rattle.nl_c.specs.contracts.handle.Held as log
+use Rattle.nl_c.proofs.handle.Held.TheLaws as of_log
 
 abbrev log_ty : Ty
 log_ty = raw (layout log.the_row)
@@ -52,7 +52,7 @@ abbrev pub no_drop : Dict
 no_drop = impl ("nl_c::Destruct++none::drop" ∷ []) (tcons heap_ty tnil) dnil
 
 abbrev pub log_drop : Dict
-log_drop = impl ("nl_c::nl_c++held++Held+Destruct::drop" ∷ []) tnil dnil
+log_drop = impl ("nl_c::nl_c++handle++Held+Destruct::drop" ∷ []) tnil dnil
 
 abbrev pub boxed : Bx
 boxed =

@@ -17,10 +17,10 @@ use prog.Wired.{Wired}
 use seplogic.Ra.Ura.{Ura}
 use types.Logic.{Logic}
 use Rattle.nl_c.proofs.BoxedLog.{Log, log_laws, log_drop}
-use Rattle.nl_c.proofs.nl_c++held++Held+Destruct.drop.Kinds.{ps, r}
-use Rattle.nl_c.proofs.nl_c++held++Held+Destruct.drop.Met as dropped
-use Rattle.nl_c.proofs.nl_c++held++Held+Destruct.drop.Reads as reads
-use Rattle.nl_c.proofs.nl_c++held++Held+Destruct.drop.Symbol as symbol
+use Rattle.nl_c.proofs.nl_c++handle++Held+Destruct.drop.Kinds.{ps, r}
+use Rattle.nl_c.proofs.nl_c++handle++Held+Destruct.drop.Met as dropped
+use Rattle.nl_c.proofs.nl_c++handle++Held+Destruct.drop.Reads as reads
+use Rattle.nl_c.proofs.nl_c++handle++Held+Destruct.drop.Symbol as symbol
 
 abbrev key : Callee
 key = method log_drop 0 (layouts [] tt)

@@ -5,8 +5,8 @@ use denote.RawPtr.{Ptr}
 use Rattle.std.specs.declared.alloc.Global.{Global}
 use Rattle.std.specs.contracts.impls.GlobalAllocator.TheImpl as global
 use Rattle.std_alloc.specs.Box.Ownership.{box_owns}
-use Rattle.nl_c.specs.declared.held.Held.{Held}
-use Rattle.nl_c.specs.contracts.held.Held.{the_row}
+use Rattle.nl_c.specs.declared.handle.Held.{Held}
+use Rattle.nl_c.specs.contracts.handle.Held.{the_row}
 
 -- the number that stands in a handle with a log
 abbrev pub made : ℕ

@@ -7,8 +7,7 @@ ghost use Rattle.nl_c.specs.Written.{Recorded, Begun, Synced, Stopped, Recompact
 ghost use Rattle.nl_c.specs.Statuses.{ok, no_handle, out_of_memory};
 
 use crate::carried_log::CarriedLog;
-use crate::handle::Handle;
-use crate::held::Held;
+use crate::handle::{Handle, Held};
 use crate::loaded_log::CStamp;
 use crate::marks::Marks;
 use crate::status;

@@ -12,8 +12,7 @@ ghost use Rattle.nl_c.specs.Written.{version_for};
 ghost use Rattle.nl_fields.specs.Name.{IsName};
 ghost use Rattle.nl_c.specs.Statuses.{ok, bad_name, not_a_log, other_version, out_of_memory, text_in, status_text};
 
-use crate::handle::Handle;
-use crate::held::Held;
+use crate::handle::{Handle, Held};
 use crate::loaded_log::{CStamp, Facts, LoadedLog};
 use crate::{look_up, status};
 use nl_fields::{MAX_LINE, command_hash, command_hash_v7, name_fault, read_entry, read_entry_v4};

@@ -1,11 +1,14 @@
 //! The handle that a caller in C has: memory of zeros is a handle without a log.
 ghost use Rattle.std.specs.Prelude.{◌≡◌, ◌≢◌, ◌↔◌, ◌⊎◌, Option, IsSome, Some, None, option_map};
 ghost use Rattle.nl_c.specs.Kept.{made as made_mark, owned_if};
-ghost use Rattle.nl_c.specs.declared.held.Held.{Held};
+ghost use Rattle.nl_c.specs.Held.{all_of, loaded_of, table_of};
+ghost use Rattle.nl_c.specs.declared.handle.Held.{Held};
 ghost use Rattle.nl_c.specs.Statuses.{ok, out_of_memory};
 
-use crate::held::Held;
+use crate::carried_log::CarriedLog;
+use crate::loaded_log::LoadedLog;
 use crate::status;
+use nl_table::Table;
 use std::alloc::Global;
 use std::marker::Model;
 use std::mem::replace;
@@ -97,5 +100,41 @@ impl Kept {
         ensures { self.log ≡ Some result.value }
     {
         unsafe { Box::from_raw(alloc, self.at as *mut Held) }
+    }
+}
+
+/// What a handle holds: a log that was loaded, or one that is carried.
+#[derive(Drop)]
+pub enum Held {
+    Loaded(LoadedLog),
+    Carried(CarriedLog),
+}
+
+impl Held {
+    pub(crate) fn table(&self) -> Option<&Table>
+        ensures { option_map (λ t. t.now) result ≡ table_of self.now }
+    {
+        match self {
+            Held::Loaded(log) => Some(&log.loaded.table),
+            Held::Carried(log) => log.written.log.table(),
+        }
+    }
+
+    pub(crate) fn loaded(&self) -> Option<&LoadedLog>
+        ensures { option_map (λ l. l.now) result ≡ loaded_of self.now }
+    {
+        match self {
+            Held::Loaded(log) => Some(log),
+            Held::Carried(_) => None,
+        }
+    }
+
+    pub(crate) fn into_all(self) -> Option<LoadedLog>
+        ensures { result ≡ all_of self }
+    {
+        match self {
+            Held::Loaded(log) => { if log.is_all { Some(log) } else { None } }
+            Held::Carried(_) => None,
+        }
     }
 }

@@ -7,7 +7,6 @@ mod carried_log;
 mod disk_record;
 mod exports;
 mod handle;
-mod held;
 mod laws;
 mod loaded_log;
 mod look_up;

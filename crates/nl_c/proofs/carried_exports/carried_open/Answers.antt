@@ -4,8 +4,8 @@ use Rattle.std.specs.Prelude.{Option, None, Some, IsSomeAnd, option_and_then}
 use Rattle.std.proofs.lemmas.Bool.{cases_Bool, cond-false, cond-true}
 use Rattle.nl_c.specs.Held.{all_of, loaded_in}
 use Rattle.nl_c.specs.LoadedLogs.{IsLoadedAs}
-use Rattle.nl_c.specs.declared.held.Held.{Held}
-use Rattle.nl_c.specs.declared.held.Held.TheVariants.{Loaded, Carried}
+use Rattle.nl_c.specs.declared.handle.Held.{Held}
+use Rattle.nl_c.specs.declared.handle.Held.TheVariants.{Loaded, Carried}
 use Rattle.nl_c.specs.declared.loaded_log.LoadedLog.{LoadedLog}
 use Rattle.nl_c.proofs.carried_exports.carried_open.Goals.{in-Loaded, in-Carried}
 use Rattle.nl_c.proofs.carried_exports.carried_open.Goals as goal

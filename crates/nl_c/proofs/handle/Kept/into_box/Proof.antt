@@ -41,7 +41,7 @@ use Rattle.std.proofs.impls.GlobalAllocator.TheImpl.Met.{passed}
 use Rattle.nl_c.specs.Kept.{owned_if}
 use Rattle.nl_c.proofs.KeptValues.{slot_at, some_of, kept_val, kept_told}
 use Rattle.nl_c.proofs.BoxedLog.{Log, Heap, log_laws, heap_laws, log_lasts, heap_lasts, no_drop, boxed, TheBox, held_at, freed_at}
-use Rattle.nl_c.specs.declared.held.Held.{Held}
+use Rattle.nl_c.specs.declared.handle.Held.{Held}
 use Rattle.nl_c.specs.contracts.handle.Kept.into_box.{ended, clauses}
 use Rattle.nl_c.specs.contracts.handle.Kept.into_box.Key.{name as #self}
 use Rattle.nl_c.proofs.handle.Kept.into_box.Statement.{statement}

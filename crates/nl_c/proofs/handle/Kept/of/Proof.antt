@@ -63,7 +63,7 @@ of_spec {M} 𝓤 𝓛 𝓜 𝓡 wired =
     (compiled.calls-std_heap::GlobalAllocator::deallocate 𝓡.env wired) (compiled.calls-std_heap::GlobalAllocator::grow 𝓡.env wired)
     (compiled.calls-std_heap::GlobalAllocator::shrink 𝓡.env wired) M 𝓤 𝓛 𝓜 𝓡)
     (glues "nl_c::Destruct++none::drop" 𝓡.env (compiled.calls-nl_c::Destruct++none::drop 𝓡.env wired) Heap heap_laws M 𝓤 𝓛 𝓜 𝓡)
-    (log_dropped 𝓤 𝓛 𝓜 𝓡 (compiled.calls-nl_c::nl_c++held++Held+Destruct::drop 𝓡.env wired)) in
+    (log_dropped 𝓤 𝓛 𝓜 𝓡 (compiled.calls-nl_c::nl_c++handle++Held+Destruct::drop 𝓡.env wired)) in
     let Pair : RattleType = Tuple (RawPtr ∷ param 1 Heap ∷ []) in
     proved_at 𝓛 ended stays c 𝓜 𝓡 (Goes-blank 𝓛 0 (slot_at 0 ended.signature.params) ended.kept.0 (λ κs x f. tt), tt) #self fn
     (compiled.unfolded 𝓤 H 𝓜 𝓡 wired) (λ z are.
