@@ -5,6 +5,7 @@ mod SweepStepLemmas
 mod SharesLemmas
 mod LeftOverLemmas
 mod LastByteLemmas
+mod JobLemmas
 mod KindLemmas
 mod SummaryLemmas
 mod BuildsTableLemmas

@@ -25,14 +25,17 @@ abbrev pub told_row : Row → Told
 told_row r = record { name = r.name.now; sums = r.sums }
 
 -- milliseconds, and weighted ones in parts of a millisecond
-abbrev pub sums_of : List Span → Span → Sums
-sums_of cs s = record { commands = 1; time = time_of s; weight = weight cs s }
+abbrev pub weighed : ℕ → Job → Told
+weighed w j = record { name = first_name j.outputs; sums = record { commands = 1; time = time_of j.span; weight = w } }
+
+abbrev pub weights_of : List Span → List ℕ
+weights_of cs = map (weight cs) cs
 
 abbrev pub spans : List Job → List Span
 spans js = map (λ (j : Job). j.span) js
 
 abbrev pub told_job : List Span → Job → Told
-told_job cs j = record { name = first_name j.outputs; sums = sums_of cs j.span }
+told_job cs j = weighed (weight cs j.span) j
 
 abbrev pub told_jobs : List Job → List Told
 told_jobs js = map (told_job (spans js)) js

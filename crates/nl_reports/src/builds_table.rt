@@ -4,7 +4,6 @@ ghost use Rattle.nl_reports.specs.BuildsTable.{AreRows, IsBegun, IsBuildsScreen,
 ghost use Rattle.nl_reports.specs.BuildsText.{border_word, build_line, builds_text};
 ghost use Rattle.nl_reports.specs.Jobs.{told};
 
-use crate::job::jobs_of;
 use crate::numbers::{Numbers, numbers_of};
 use jiff_core::Timestamp;
 use jiff_core::civil::DateTime;
@@ -53,9 +52,13 @@ fn append_row(zone: &TimeZone, from: &Builds, place: usize, rows: &mut Vec<u8>) 
     let build = from.builds[place];
     let number = place + 1;
     let began = began_text(alloc, zone, build.began)?;
-    let jobs = jobs_of(alloc, from, number)?;
-    let numbers = numbers_of(from, number, jobs.as_slice());
-    append_fields(number, began.as_slice(), &numbers, &build, rows)
+    append_fields(
+        number,
+        began.as_slice(),
+        &numbers_of(from, number),
+        &build,
+        rows,
+    )
 }
 
 fn append_fields(
@@ -122,8 +125,7 @@ pub fn builds_lines(alloc: Global, from: &Builds) -> AllocResult<Vec<u8>>
 fn append_build(from: &Builds, number: usize, build: &Build, out: &mut Vec<u8>) -> AllocResult
     ensures items { OnOk result (out.new.items ≡ out.old.items ++ build_line (told from.now) number build.now) }
 {
-    let jobs = jobs_of(*out.allocator(), from, number)?;
-    let numbers = numbers_of(from, number, jobs.as_slice());
+    let numbers = numbers_of(from, number);
     put!(out; {number} b"\t" {numbers.commands} b"\t" {numbers.outputs} b"\t" {numbers.wall} b"\t"
         {numbers.total} b"\t" [Part::Text(border_word(build))])?;
     match build.how {

@@ -7,7 +7,7 @@ ghost use Rattle.nl_reports.specs.Frame.{first_began};
 ghost use Rattle.nl_reports.specs.Rows.{by_start, spans};
 ghost use Rattle.nl_reports.specs.Turns.{clock_behind, jobs_in_turn, turned, turned_jobs};
 
-use crate::job::{Job, JobsResult, between, commands_to, jobs_by_start, jobs_in, jobs_of};
+use crate::job::{Job, JobsResult, between, commands_between, jobs_by_start, jobs_in, jobs_of};
 use crate::span::Span;
 use nl_builds::Builds;
 use nl_tool_texts::AllocResult;
@@ -69,9 +69,7 @@ pub fn last_number(from: &Builds) -> usize
     let count = from.builds.as_slice().len();
     let mut number = count;
     'builds: while number > 0 {
-        let first = commands_to(number.saturating_sub(1), from.builds.as_slice());
-        let end = commands_to(number, from.builds.as_slice());
-        let commands = between(first, end, from.commands.as_slice());
+        let commands = commands_between(from, number, number);
         if commands.len() != 1 || !commands[0].is_manifest {
             return number;
         }

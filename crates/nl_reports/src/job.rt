@@ -1,6 +1,6 @@
 //! The commands of a build, with the entries of their outputs.
 ghost use Rattle.std.specs.Prelude.{◌≡◌, map, IfOk, All};
-ghost use Rattle.nl_reports.specs.Jobs.{between, build_jobs, commands_to, entries_to, first_name, jobs_between, jobs_from, seen, told};
+ghost use Rattle.nl_reports.specs.Jobs.{between, build_jobs, commands_between, commands_to, entries_to, first_name, job_of, jobs_between, jobs_from, seen, told};
 ghost use Rattle.nl_reports.specs.Rows.{by_start};
 ghost use Rattle.nl_reports.specs.Spans.{IsEarly};
 
@@ -50,10 +50,17 @@ pub(crate) fn jobs_in<'s, 'a>(
     ensures early { IfOk result (λ jobs. All (λ j. IsEarly j.span) jobs.items) }
 {
     let start = commands_to(first.saturating_sub(1), from.builds.as_slice());
-    let end = commands_to(last, from.builds.as_slice());
     let place = entries_to(start, from.commands.as_slice());
-    let commands = between(start, end, from.commands.as_slice());
+    let commands = commands_between(from, first, last);
     jobs_from(alloc, place, commands, from.entries.as_slice())
+}
+
+pub(crate) fn commands_between<'s>(from: &'s Builds, first: usize, last: usize) -> &'s [Command]
+    ensures { result.now ≡ commands_between (told from.now) first last }
+{
+    let start = commands_to(first.saturating_sub(1), from.builds.as_slice());
+    let end = commands_to(last, from.builds.as_slice());
+    between(start, end, from.commands.as_slice())
 }
 
 /// The first command has the entries from `place` on.
@@ -69,14 +76,26 @@ pub(crate) fn jobs_from<'s, 'a>(
     let mut jobs = Vec::with_capacity(alloc, commands.len())?;
     let mut start = place;
     for command in commands {
-        jobs.push(Job {
-            span: Span::of(command),
-            hash: command.hash,
-            outputs: between(start, command.to, entries),
-        })?;
+        jobs.push(job_of(start, command, entries))?;
         start = command.to;
     }
     Ok(jobs)
+}
+
+/// The command has the entries from `place` on.
+pub(crate) fn job_of<'s, 'a>(
+    place: usize,
+    command: &Command,
+    entries: &'s [EntryRef<'a>],
+) -> Job<'s, 'a>
+    ensures value { seen result ≡ job_of entries.now place command.now }
+    ensures early { IsEarly result.span }
+{
+    Job {
+        span: Span::of(command),
+        hash: command.hash,
+        outputs: between(place, command.to, entries),
+    }
 }
 
 pub(crate) fn commands_to(count: usize, builds: &[Build]) -> usize

@@ -4,7 +4,7 @@ ghost use Rattle.nl_reports.specs.Found.{IsFound};
 ghost use Rattle.nl_reports.specs.GraphText.{seen_graph};
 ghost use Rattle.nl_reports.specs.Jobs.{Job as SeenJob, seen};
 ghost use Rattle.nl_reports.specs.Numbers.{total_time};
-ghost use Rattle.nl_reports.specs.Plans.{AreEstimates, HavePlan, IsToldBy, estimate_line, floor_of, heading, kept};
+ghost use Rattle.nl_reports.specs.Plans.{AreEstimates, HavePlan, IsToldBy, estimate_line, floor_of, kept};
 ghost use Rattle.nl_reports.specs.Reaches.{AreOf};
 ghost use Rattle.nl_reports.specs.Sweep.{last_moment, running};
 ghost use Rattle.nl_reports.specs.declared.graph.NinjaGraph.{NinjaGraph as HeldGraph};
@@ -72,7 +72,9 @@ fn estimate_lines(
     let waiting = Waiting::of(&found.reaches, jobs, priority)?;
     let total = total_of(jobs);
     let mut lines = Vec::new(found.reaches.allocator());
-    append(heading(screen, by.counts), &mut lines)?;
+    if by.counts.len() > 0 && screen {
+        append(b"\nEstimates\nJobs\tElapsed\tAt least\n", &mut lines)?;
+    }
     for count in by.counts {
         let wall = wall_of(&found.reaches, &waiting, jobs, *count)?;
         let Some(wall) = wall else {
@@ -117,15 +119,6 @@ fn floor_of(path: u128, total: u128, count: usize) -> u128
     }
     let count = count as u128;
     path.max((total + (count - 1)) / count)
-}
-
-fn heading(screen: bool, counts: &[usize]) -> &'static [u8]
-    ensures { result.now ≡ heading screen counts.now }
-{
-    if counts.len() > 0 && screen {
-        return b"\nEstimates\nJobs\tElapsed\tAt least\n";
-    }
-    b""
 }
 
 fn append_estimate(

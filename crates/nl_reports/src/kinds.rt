@@ -1,6 +1,6 @@
 //! The commands of builds by kind.
 ghost use Rattle.std.specs.Prelude.{◌≡◌, ◌<◌, ◌^◌, ℕ, map, IfOk, OnOk, All};
-ghost use Rattle.nl_reports.specs.Kinds.{AreSumsOf, IsOfOne, counted, kind_pair, kinds, sums_in};
+ghost use Rattle.nl_reports.specs.Kinds.{AreSumsOf, IsOfOne, counted, kind_pair, kinds};
 ghost use Rattle.nl_reports.specs.Rows.{told_row};
 
 use crate::kind::{KindRule, kind_of};
@@ -38,7 +38,7 @@ fn count_row<'a>(
     ensures value { OnOk result (map kind_pair sums.new.entries ≡ counted kind.now (map kind_pair sums.old.entries) (told_row row.now)) }
 {
     let key = NameKey { bytes: kind };
-    let before = sums_at(&key, sums);
+    let before = sums.get(&key).copied().unwrap_or(Sums::default());
     let now = Sums {
         commands: before.commands + row.sums.commands,
         time: before.time + row.sums.time,
@@ -46,12 +46,6 @@ fn count_row<'a>(
     };
     sums.insert(key, now)?;
     Ok(())
-}
-
-fn sums_at(kind: &NameKey, sums: &IndexMap<NameKey, Sums, Secret>) -> Sums
-    ensures value { result ≡ sums_in sums.now.entries kind.now.bytes.now }
-{
-    sums.get(kind).copied().unwrap_or(Sums::default())
 }
 
 fn rows_in<'a>(

@@ -1,12 +1,12 @@
 //! The numbers of builds.
 ghost use Rattle.std.specs.Prelude.{◌≡◌, map, IfOk, All};
-ghost use Rattle.nl_reports.specs.Jobs.{build_jobs, seen, told};
+ghost use Rattle.nl_reports.specs.Jobs.{seen, told};
 ghost use Rattle.nl_reports.specs.Numbers.{IsSmall, numbers_of, spans_of};
-ghost use Rattle.nl_reports.specs.Spans.{IsEarly};
+ghost use Rattle.nl_reports.specs.Spans.{IsEarly, span_of};
 
-use crate::job::{Job, commands_to, entries_to};
+use crate::job::{Job, commands_between, commands_to, entries_to};
 use crate::span::Span;
-use nl_builds::Builds;
+use nl_builds::{Builds, Command};
 use nl_tool_texts::AllocResult;
 use std::alloc::Global;
 
@@ -24,25 +24,25 @@ pub struct Numbers {
 // Later than each moment.
 const NO_MOMENT: u64 = 1 << 32;
 
-/// `jobs` are the commands of the build of this number.
-pub fn numbers_of(from: &Builds, number: usize, jobs: &[Job]) -> Numbers
-    requires early { All (λ j. IsEarly j.span) jobs.now }
-    ensures value { map seen jobs.now ≡ build_jobs (told from.now) number → result ≡ numbers_of (told from.now) number }
+pub fn numbers_of(from: &Builds, number: usize) -> Numbers
+    ensures value { result ≡ numbers_of (told from.now) number }
     ensures small { IsSmall result }
 {
     let mut began = NO_MOMENT;
     let mut ended = 0;
     let mut total: u128 = 0;
-    for job in jobs {
-        began = began.min(job.span.began);
-        ended = ended.max(job.span.ended);
-        total += u128::from(job.span.time());
+    let commands = commands_between(from, number, number);
+    for command in commands {
+        let span = Span::of(command);
+        began = began.min(span.began);
+        ended = ended.max(span.ended);
+        total += u128::from(span.time());
     }
     let first = commands_to(number.saturating_sub(1), from.builds.as_slice());
     let end = commands_to(number, from.builds.as_slice());
     let start = entries_to(first, from.commands.as_slice());
     Numbers {
-        commands: jobs.len(),
+        commands: commands.len(),
         outputs: entries_to(end, from.commands.as_slice()).saturating_sub(start),
         wall: ended.saturating_sub(began),
         total,
@@ -56,6 +56,17 @@ pub fn spans_of(alloc: Global, jobs: &[Job]) -> AllocResult<Vec<Span>>
     let mut spans = Vec::with_capacity(alloc, jobs.len())?;
     for job in jobs {
         spans.push(job.span)?;
+    }
+    Ok(spans)
+}
+
+pub(crate) fn spans_in(alloc: Global, commands: &[Command]) -> AllocResult<Vec<Span>>
+    ensures value { IfOk result (λ spans. spans.items ≡ map span_of commands.now) }
+    ensures early { IfOk result (λ spans. All IsEarly spans.items) }
+{
+    let mut spans = Vec::with_capacity(alloc, commands.len())?;
+    for command in commands {
+        spans.push(Span::of(command))?;
     }
     Ok(spans)
 }

@@ -1,24 +1,25 @@
 //! The text of `summary`.
-ghost use Rattle.std.specs.Prelude.{◌≡◌, ◌+◌, ◌++◌, ◌<◌, ◌^◌, ℕ, List, None, Some, map, option_map, slice_get, IfOk, OnOk, All, Contains};
+ghost use Rattle.std.specs.Prelude.{◌≡◌, ◌+◌, ◌++◌, ◌<◌, ◌^◌, ℕ, List, None, Some, map, option_map, slice_get, IfOk, OnOk, All};
 ghost use Rattle.nl_reports.specs.Jobs.{build_jobs, seen, told};
 ghost use Rattle.nl_reports.specs.Kinds.{IsOfOne};
 ghost use Rattle.nl_reports.specs.Numbers.{IsSmall, spans_of};
-ghost use Rattle.nl_reports.specs.Rows.{rank_told, told_job, told_jobs, told_row};
+ghost use Rattle.nl_reports.specs.Rows.{rank_told, told_jobs, told_row, weighed, weights_of};
 ghost use Rattle.nl_tool_texts.specs.Falling.{falling};
 ghost use Rattle.nl_reports.specs.Shares.{AreSharesOf};
 ghost use Rattle.nl_reports.specs.Spans.{IsEarly};
 ghost use Rattle.nl_reports.specs.declared.span.Span.{Span};
-ghost use Rattle.nl_reports.specs.Summary.{AreHighest, AreTotalsOf, again_in, again_line, both_lists, bound, chosen_text, count_line, few_text, first_of, lists_text, more_taken, most_taken, no_totals, number_lines, rows_from, slowest_line, slowest_time, summary_text, taken_in, title, total_of, totals_from, unfinished_line, with_build, with_numbers};
+ghost use Rattle.nl_reports.specs.Summary.{AreHighest, AreTotalsOf, again_in, again_line, both_lists, bound, chosen_text, count_line, few_text, first_of, lists_text, most_taken, no_totals, number_lines, rows_from, slowest_line, slowest_time, summary_text, taken_in, title, total_of, totals_from, unfinished_line, with_build, with_numbers};
 ghost use Rattle.nl_reports.specs.declared.rows.Rank.TheVariants.{Time};
 
 use crate::choice::{Choice, Scope, chosen};
-use crate::job::{Job, between, jobs_of};
+use crate::job::{Job, between, commands_between, commands_to, entries_to, job_of};
 use crate::kinds::kinds_of;
 use crate::lists::Lists;
 use crate::moments::Near;
-use crate::numbers::{Numbers, numbers_of, spans_of};
+use crate::numbers::{Numbers, numbers_of, spans_in};
 use crate::rows::{Listed, Rank, Row, Sums, append_list};
 use crate::shares::Shares;
+use crate::span::Span;
 use nl_builds::{Build, Builds, How};
 use nl_tool_texts::{AllocResult, Part, append_line, highest, put, ratio};
 use std::alloc::Global;
@@ -133,31 +134,41 @@ fn all_of<'a>(
     };
     let mut number = first;
     for _build in builds {
-        add_build(alloc, from, number, &mut all)?;
+        let weights = add_numbers(alloc, from, number, &mut all.totals)?;
+        push_rows(from, number, weights.as_slice(), &mut all.rows)?;
         number += 1;
     }
     Ok(all)
 }
 
-fn add_build<'a>(
+// The weights of the commands of a build, whose numbers are added.
+fn add_numbers(
     alloc: Global,
-    from: &Builds<'a>,
+    from: &Builds,
     number: usize,
-    all: &mut Summed<'a>,
-) -> AllocResult
-    requires few { (n : ℕ) × ((n < 2 ^ 63) × AreTotalsOf n all.old.totals) }
-    requires one { All IsOfOne all.old.rows.items }
-    ensures totals { OnOk result (all.new.totals ≡ with_build all.old.totals (told from.now) number) }
-    ensures rows { OnOk result (map told_row all.new.rows.items
-        ≡ map told_row all.old.rows.items ++ told_jobs (build_jobs (told from.now) number)) }
-    ensures few { (n : ℕ) → AreTotalsOf n all.old.totals → OnOk result (AreTotalsOf (n + 1) all.new.totals) }
-    ensures one { OnOk result (All IsOfOne all.new.rows.items) }
+    totals: &mut Totals,
+) -> AllocResult<Vec<u64>>
+    requires few { (n : ℕ) × ((n < 2 ^ 63) × AreTotalsOf n totals.old) }
+    ensures totals { OnOk result (totals.new ≡ with_build totals.old (told from.now) number) }
+    ensures few { (n : ℕ) → AreTotalsOf n totals.old → OnOk result (AreTotalsOf (n + 1) totals.new) }
+    ensures weights { IfOk result (λ found. found.items ≡ weights_of (spans_of (build_jobs (told from.now) number))) }
 {
-    let jobs = jobs_of(alloc, from, number)?;
-    let shares = Shares::of(alloc, spans_of(alloc, jobs.as_slice())?.as_slice())?;
-    let numbers = numbers_of(from, number, jobs.as_slice());
-    all.totals = with_numbers(&all.totals, &numbers, &shares);
-    push_rows(jobs.as_slice(), &shares, &mut all.rows)
+    let spans = spans_in(alloc, commands_between(from, number, number))?;
+    let shares = Shares::of(alloc, spans.as_slice())?;
+    *totals = with_numbers(totals, &numbers_of(from, number), &shares);
+    weights_of(alloc, &shares, spans.as_slice())
+}
+
+fn weights_of(alloc: Global, shares: &Shares, spans: &[Span]) -> AllocResult<Vec<u64>>
+    requires shares { AreSharesOf spans.now shares.now }
+    ensures weights { IfOk result (λ found. found.items ≡ weights_of spans.now) }
+{
+    let mut near = Near { begun: 0, ended: 0 };
+    let mut weights = Vec::with_capacity(alloc, spans.len())?;
+    for span in spans {
+        weights.push(shares.weight_near(&mut near, span))?;
+    }
+    Ok(weights)
 }
 
 fn with_numbers(totals: &Totals, numbers: &Numbers, shares: &Shares) -> Totals
@@ -175,23 +186,31 @@ fn with_numbers(totals: &Totals, numbers: &Numbers, shares: &Shares) -> Totals
     }
 }
 
-fn push_rows<'a>(jobs: &[Job<'_, 'a>], shares: &Shares, rows: &mut Vec<Row<'a>>) -> AllocResult
-    requires shares { AreSharesOf (spans_of (map seen jobs.now)) shares.now }
-    requires early { All (λ j. IsEarly j.span) jobs.now }
+fn push_rows<'a>(
+    from: &Builds<'a>,
+    number: usize,
+    weights: &[u64],
+    rows: &mut Vec<Row<'a>>,
+) -> AllocResult
+    requires weights { weights.now ≡ weights_of (spans_of (build_jobs (told from.now) number)) }
     requires one { All IsOfOne rows.old.items }
-    ensures rows { OnOk result (map told_row rows.new.items ≡ map told_row rows.old.items ++ told_jobs (map seen jobs.now)) }
+    ensures rows { OnOk result (map told_row rows.new.items ≡ map told_row rows.old.items ++ told_jobs (build_jobs (told from.now) number)) }
     ensures one { OnOk result (All IsOfOne rows.new.items) }
 {
-    rows.reserve(jobs.len())?;
-    let mut near = Near { begun: 0, ended: 0 };
-    for job in jobs {
-        rows.push(row_of(job, shares, &mut near))?;
+    let first = commands_to(number.saturating_sub(1), from.builds.as_slice());
+    let mut start = entries_to(first, from.commands.as_slice());
+    let commands = commands_between(from, number, number);
+    rows.reserve(commands.len())?;
+    for place in 0..commands.len() {
+        let job = job_of(start, &commands[place], from.entries.as_slice());
+        rows.push(row_of(&job, weights.get(place).copied().unwrap_or(0)))?;
+        start = commands[place].to;
     }
     Ok(())
 }
 
-fn row_of<'a>(job: &Job<'_, 'a>, shares: &Shares, near: &mut Near) -> Row<'a>
-    ensures value { (cs : List Span) → AreSharesOf cs shares.now → Contains cs job.now.span → told_row result ≡ told_job cs (seen job.now) }
+fn row_of<'a>(job: &Job<'_, 'a>, weight: u64) -> Row<'a>
+    ensures value { told_row result ≡ weighed weight (seen job.now) }
     ensures one { IsEarly job.now.span → IsOfOne result }
 {
     Row {
@@ -199,7 +218,7 @@ fn row_of<'a>(job: &Job<'_, 'a>, shares: &Shares, near: &mut Near) -> Row<'a>
         sums: Sums {
             commands: 1,
             time: u128::from(job.span.time()),
-            weight: u128::from(shares.weight_near(near, &job.span)),
+            weight: u128::from(weight),
         },
     }
 }
@@ -270,10 +289,7 @@ fn slowest_time(by_time: &[Row]) -> u128
 fn append_slowest(screen: bool, by_time: &[Row], lines: &mut Vec<u8>) -> AllocResult
     ensures items { OnOk result (lines.new.items ≡ lines.old.items ++ slowest_line screen (option_map told_row (slice_get by_time.now 0))) }
 {
-    if screen {
-        return Ok(());
-    }
-    let Some(first) = by_time.first() else {
+    let (false, Some(first)) = (screen, by_time.first()) else {
         return Ok(());
     };
     let (time, name) = (Part::Number(first.sums.time), Part::Text(first.name));
@@ -303,33 +319,25 @@ pub fn taken_in(scope: Scope, from: &Builds) -> Option<usize>
 pub(crate) fn most_taken(builds: &[Build]) -> Option<usize>
     ensures { result ≡ most_taken None builds.now }
 {
-    let mut most = None;
+    let mut most: Option<usize> = None;
     for build in builds {
-        most = more_taken(most, build.how);
+        most = match (most, build.how) {
+            (Some(before), How::FoundAgain { taken }) => Some(before.max(taken)),
+            (None, How::FoundAgain { taken }) => Some(taken),
+            (before, How::AsWritten) => before,
+        };
     }
     most
-}
-
-fn more_taken(most: Option<usize>, how: How) -> Option<usize>
-    ensures { result ≡ more_taken most how }
-{
-    match (most, how) {
-        (Some(before), How::FoundAgain { taken }) => Some(before.max(taken)),
-        (None, How::FoundAgain { taken }) => Some(taken),
-        (before, How::AsWritten) => before,
-    }
 }
 
 fn append_again(screen: bool, taken: Option<usize>, lines: &mut Vec<u8>) -> AllocResult
     ensures items { OnOk result (lines.new.items ≡ lines.old.items ++ again_line screen taken) }
 {
-    match taken {
-        Some(count) => {
-            let words = b"outputs lost to later builds";
-            append_count(screen, b"again", words, count, lines)
-        }
-        None => Ok(()),
-    }
+    let Some(count) = taken else {
+        return Ok(());
+    };
+    let words = b"outputs lost to later builds";
+    append_count(screen, b"again", words, count, lines)
 }
 
 fn append_unfinished(screen: bool, count: usize, lines: &mut Vec<u8>) -> AllocResult

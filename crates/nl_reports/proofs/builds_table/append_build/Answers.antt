@@ -1,9 +1,8 @@
-use Rattle.std.proofs.Common.{◌≡◌, ◌∙◌, ◌++◌, [], ◌∷◌, List, ℕ, ap, append-nil, append_assoc, codes, map, sym}
+use Rattle.std.proofs.Common.{◌≡◌, ◌∙◌, ◌++◌, [], ◌∷◌, List, ℕ, ap, append-nil, append_assoc, codes, sym}
 use Rattle.std.proofs.lemmas.Result.{on_ok_weaker}
 use Rattle.std.specs.Prelude.{decimal}
 use Rattle.nl_builds.specs.declared.build.How.{How}
 use Rattle.nl_reports.specs.BuildsText.{border_word, numbers_line, told_line, taken_text}
-use Rattle.nl_reports.specs.Jobs.{seen}
 use Rattle.nl_reports.specs.declared.numbers.Numbers.{Numbers}
 use Rattle.nl_tool_texts.specs.Texts.{joined}
 use Rattle.nl_reports.proofs.builds_table.append_build.Goals as goal
@@ -30,11 +29,11 @@ returns-in-FoundAgain c =
           ∙ ap (λ (l : List ℕ). l ++ (taken ++ codes "\n")) (c.in_ok-put.ensures.items ∙ (λ i. old ++ fields number n.commands n.outputs n.wall n.total (c.border_word.ensures i)))
           ∙ whole number n.commands n.outputs n.wall n.total old word taken
           ∙ ap (λ (how : How). old ++ told_line number n.commands n.outputs n.wall n.total word (taken_text how)) (sym c.in-FoundAgain.is)
-          ∙ ap (λ (m : Numbers). old ++ numbers_line number m b) (c.numbers_of-numbers.ensures.value (ap (map seen) c.as_slice.ensures.value ∙ c.in_ok-jobs.ensures.value))) c.put-in-FoundAgain.ensures.items;
+          ∙ ap (λ (m : Numbers). old ++ numbers_line number m b) c.numbers_of-numbers.ensures.value) c.put-in-FoundAgain.ensures.items;
     }
 
-pub returns : goal.returns
-returns c =
+pub returns-in-AsWritten : goal.returns-in-AsWritten
+returns-in-AsWritten c =
     let old = c.args.out.now.items in
     let n = c.numbers_of-numbers.result in
     let number = c.args.number in
@@ -46,5 +45,5 @@ returns c =
           ∙ ap (λ (l : List ℕ). l ++ (taken ++ codes "\n")) (c.in_ok-put.ensures.items ∙ (λ i. old ++ fields number n.commands n.outputs n.wall n.total (c.border_word.ensures i)))
           ∙ whole number n.commands n.outputs n.wall n.total old word taken
           ∙ ap (λ (how : How). old ++ told_line number n.commands n.outputs n.wall n.total word (taken_text how)) (sym c.in-AsWritten.is)
-          ∙ ap (λ (m : Numbers). old ++ numbers_line number m b) (c.numbers_of-numbers.ensures.value (ap (map seen) c.as_slice.ensures.value ∙ c.in_ok-jobs.ensures.value))) c.append.ensures.items;
+          ∙ ap (λ (m : Numbers). old ++ numbers_line number m b) c.numbers_of-numbers.ensures.value) c.append.ensures.items;
     }

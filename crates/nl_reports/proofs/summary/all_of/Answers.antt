@@ -18,14 +18,14 @@ loop-build-preserved c =
     let old = map told_row c.loop-build.all.rows.items in
     let rest = drop (i + 1) bs in
     record {
-      totals = ap (λ (s : Totals). totals_from s t (n + 1) rest) c.in_ok-add_build.ensures.totals
+      totals = ap (λ (s : Totals). totals_from s t (n + 1) rest) c.in_ok-weights.ensures.totals
           ∙ sym (at_drop_more (λ (l : List Build). totals_from c.loop-build.all.totals t n l) bs i no c.loop-build-test.true)
           ∙ c.loop-build.invariant.totals;
-      rows = ap (λ (l : List Told). l ++ rows_from t (n + 1) rest) c.in_ok-add_build.ensures.rows
+      rows = ap (λ (l : List Told). l ++ rows_from t (n + 1) rest) c.in_ok-push_rows.ensures.rows
           ∙ append_assoc old (told_jobs (build_jobs t n)) (rows_from t (n + 1) rest)
           ∙ ap (λ (l : List Told). old ++ l) (sym (at_drop_more (λ (l : List Build). rows_from t n l) bs i no c.loop-build-test.true))
           ∙ c.loop-build.invariant.rows;
-      one = c.in_ok-add_build.ensures.one;
+      one = c.in_ok-push_rows.ensures.one;
       number = omega (arith, c.loop-build.invariant.number);
-      few = c.in_ok-add_build.ensures.few i c.loop-build.invariant.few;
+      few = c.in_ok-weights.ensures.few i c.loop-build.invariant.few;
     }

@@ -1,34 +1,46 @@
-use Rattle.std.proofs.Common.{◌∙◌, ◌+◌, ◌++◌, ◌∷◌, [], List, ap, append_assoc, drop, map, subst, sym}
-use Rattle.std.specs.List.{All, Contains}
-use Rattle.std.proofs.lemmas.List.{at_drop_more, map-append}
-use Rattle.std.proofs.lemmas.List.Elements.{All-contains, All-push}
-use Rattle.nl_reports.specs.Jobs.{Job, seen}
+use Rattle.std.proofs.Common.{◌≡◌, ◌∙◌, ◌+◌, ◌-◌, ◌<◌, ◌++◌, ◌∷◌, [], List, None, ap, append_assoc, arith, drop, false, get_or, length, map, pos, rules, subst, sym}
+use Rattle.std.specs.List.{All}
+use Rattle.std.proofs.lemmas.List.{at_drop_more, get_or-map, length-map, map-append}
+use Rattle.std.proofs.lemmas.List.Elements.{All-push}
+use Rattle.nl_builds.specs.declared.command.Command.{Command}
+use Rattle.nl_fields.specs.declared.entry.Entry.{Entry}
+use Rattle.nl_reports.specs.Jobs.{Job, build_commands, build_jobs, commands_to, entries_to, job_of, jobs_from, seen, told}
 use Rattle.nl_reports.specs.Kinds.{IsOfOne}
 use Rattle.nl_reports.specs.Numbers.{spans_of}
-use Rattle.nl_reports.specs.Rows.{Told, told_job, told_row}
-use Rattle.nl_reports.specs.Spans.{IsEarly}
-use Rattle.nl_reports.specs.declared.job.Job.{Job as HeldJob}
+use Rattle.nl_reports.specs.Rows.{Told, told_job, told_row, weighed}
+use Rattle.nl_reports.specs.Spans.{span_of}
+use Rattle.nl_reports.specs.Sweep.{weight}
 use Rattle.nl_reports.specs.declared.rows.Row.{Row}
-use Rattle.nl_reports.proofs.SharesLemmas.{contains_map}
+use Rattle.nl_reports.proofs.JobLemmas.{spans_from}
 use Rattle.nl_reports.proofs.summary.push_rows.Goals as goal
 
-pub loop-job-preserved : goal.loop-job-preserved
-loop-job-preserved c =
-    let ks = c.args.jobs.now in
-    let cs = spans_of (map seen ks) in
-    let i = c.loop-job.job-index in
-    let k = c.job-item.result in
+pub loop-place-preserved : goal.loop-place-preserved
+loop-place-preserved c =
+    let t = told c.args.from.now in
+    let n = c.args.number in
+    let cs = spans_of (build_jobs t n) in
+    let ds = c.commands_between-commands.result.now in
+    let i = c.loop-place.place in
+    let no : Command = record { began = 0; ended = 0; mtime = pos 0; hash = 0; to = 0; up = None; wait = None; has_waited = false; is_manifest = false } in
+    let d = get_or ds i no in
+    let within : i < length ds = omega (arith, c.loop-place-test.true, c.loop-place.auto.place-end) in
+    let start = c.loop-place.start in
     let r = c.row_of.result in
-    let old = c.loop-job.rows.items in
-    let rest = map (told_job cs) (map seen (drop (i + 1) ks)) in
-    let among : Contains ks k = (i, c.loop-job-test.true, sym c.job-item.is) in
-    let early : IsEarly k.span = All-contains (λ (j : HeldJob). IsEarly j.span) ks k c.requires.early among in
-    let told = c.row_of.ensures.value cs c.requires.shares (contains_map (λ (j : Job). j.span) (map seen ks) (seen k) (contains_map seen ks k among)) in
+    let old = c.loop-place.rows.items in
+    let rest = map (told_job cs) (jobs_from t.entries d.to (drop (i + 1) ds)) in
+    let same : cs ≡ map span_of ds =
+    spans_from t.entries (entries_to (commands_to (n - 1) t.builds) t.commands) (build_commands t n) ∙ ap (map span_of) (sym c.commands_between-commands.ensures) in
+    let found : c.unwrap_or.result ≡ get_or c.args.weights.now i 0 = search rules in
+    let own : c.unwrap_or.result ≡ weight cs (span_of d) =
+    found ∙ ap (λ (ws : List _). get_or ws i 0) (c.requires.weights ∙ ap (map (weight cs)) same)
+    ∙ get_or-map (weight cs) (map span_of ds) i (span_of no) 0 (rw length-map within) ∙ ap (weight cs) (get_or-map span_of ds i no (span_of no) within) in
+    let job : seen c.job_of-job.result ≡ job_of t.entries start d =
+    c.job_of-job.ensures.value ∙ ap (λ (es : List Entry). job_of es start d) c.as_slice-in-loop-place.ensures.value in
+    let told : told_row r ≡ told_job cs (job_of t.entries start d) = c.row_of.ensures.value ∙ (λ k. weighed (own k) (job k)) in
     record {
       rows = ap (λ (l : List Row). map told_row l ++ rest) c.in_ok-push.ensures.items ∙ ap (λ (l : List Told). l ++ rest) (map-append told_row old (r ∷ []))
-          ∙ append_assoc (map told_row old) (told_row r ∷ []) rest ∙ ap (λ (t : Told). map told_row old ++ (t ∷ rest)) told
-          ∙ ap (λ (j : HeldJob). map told_row old ++ (told_job cs (seen j) ∷ rest)) c.job-item.is
-          ∙ ap (λ (l : List Told). map told_row old ++ l) (sym (at_drop_more (λ (l : List HeldJob). map (told_job cs) (map seen l)) ks i k c.loop-job-test.true))
-          ∙ c.loop-job.invariant.rows;
-      one = subst (All IsOfOne) (sym c.in_ok-push.ensures.items) (All-push IsOfOne old r c.loop-job.invariant.one (c.row_of.ensures.one early));
+          ∙ append_assoc (map told_row old) (told_row r ∷ []) rest ∙ ap (λ (u : Told). map told_row old ++ (u ∷ rest)) told
+          ∙ ap (λ (l : List Told). map told_row old ++ l) (sym (at_drop_more (λ (l : List Command). map (told_job cs) (jobs_from t.entries start l)) ds i no within))
+          ∙ c.loop-place.invariant.rows;
+      one = subst (All IsOfOne) (sym c.in_ok-push.ensures.items) (All-push IsOfOne old r c.loop-place.invariant.one (c.row_of.ensures.one c.job_of-job.ensures.early));
     }
