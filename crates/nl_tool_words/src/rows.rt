@@ -167,8 +167,8 @@ legend tells each kind's part of the time. Below are the curve of how many comma
 took the longest. With `--graph` the commands of the critical path have an outline. With `--all` each
 build begins as the one before it has ended.
 
-Neighbours in a lane that are narrower than half a pixel share a bar. A byte that isn't UTF-8, or that XML
-can't have, is shown as U+FFFD.";
+Neighbours in a lane that are narrower than half a pixel share a bar, in the colour of the first. A byte
+that isn't UTF-8, or that XML can't have, is shown as U+FFFD.";
     "hash-file" [OPTIONAL_FILE HASH_VERSION] =>
         "Prints the hash of a command that stands in a file: of each of its bytes", "\
 A newline at the end of FILE is a byte of it, so a command that has none is hashed by
