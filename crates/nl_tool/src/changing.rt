@@ -302,8 +302,7 @@ fn check_version<R: Read + Drop>(
     ensures bytes { RefusesLog (log_for asked) (R.remaining log) result }
     ensures faults { IfErr result IsLogFault }
 {
-    load_read(alloc, secret, asked, log)?;
-    Ok(())
+    load_read(alloc, secret, asked, log).and(Ok(()))
 }
 
 fn retime_at<D: Files + Clock + Drop, R: Read + Drop, O: OutputFiles>(

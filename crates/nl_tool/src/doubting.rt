@@ -79,11 +79,9 @@ impl<R: Files> OutputFiles for SystemFiles<'_, R> {
 
 // A time as Ninja counts it: in nanoseconds, and 1 for the first second of 1970, because 0 stands for none.
 fn time_of(seconds: i64, nanoseconds: i64) -> i64 {
-    match seconds {
+    match seconds.saturating_mul(NANOSECONDS) {
         0 => 1,
-        _ => seconds
-            .saturating_mul(NANOSECONDS)
-            .saturating_add(nanoseconds),
+        whole => whole.saturating_add(nanoseconds),
     }
 }
 
@@ -103,11 +101,8 @@ fn tell_doubts<F: OutputFiles, W: Write>(
     ensures faults { IfErr result IsLogFault }
 {
     let doubts = doubts_of(alloc, secret, log, files)?;
-    match write_doubts(alloc, doubts.named.as_slice(), writer) {
-        Ok(true) => Ok(Verdict::Found),
-        Ok(false) => Ok(Verdict::Done),
-        Err(fault) => Err(fault),
-    }
+    let found = write_doubts(alloc, doubts.named.as_slice(), writer)?;
+    Ok(if found { Verdict::Found } else { Verdict::Done })
 }
 
 // If fewer than one output in this many has a file, that is said.
@@ -121,9 +116,8 @@ where
         ensures faults { IfErr result IsLogFault }
     {
         let bytes = self.log_bytes(log, false)?;
-        let Desk { rt, alloc, .. } = *self;
+        let (rt, alloc, folder) = (self.rt, self.alloc, None);
         let mut out = NotedWriter::new(io::writer(rt));
-        let folder = None;
         let files = SystemFiles { rt, alloc, folder };
         let secret = self.notes.secret;
         let answer = tell_doubts(alloc, secret, bytes.as_slice(), &files, &mut out);
@@ -168,10 +162,8 @@ where
         if there < outputs / FEW {
             let _ = eprintln!(rt; "nlog: LOG {log}: {there} of {outputs} outputs are here");
         }
-        if mended.is_told {
-            return Ok(Verdict::Found);
-        }
-        Ok(Verdict::Done)
+        let told = mended.is_told;
+        Ok(if told { Verdict::Found } else { Verdict::Done })
     }
 }
 

@@ -235,19 +235,13 @@ impl fmt::Display for Look {
 pub fn look_of(bytes: &[u8]) -> Option<Look>
     ensures value { result ≡ look_of bytes.now }
 {
-    if bytes.starts_with(b"\x1f\x8b") {
-        return Some(Look::Gzip);
+    match bytes {
+        _ if bytes.starts_with(b"\x1f\x8b") => Some(Look::Gzip),
+        _ if bytes.starts_with(b"\xef\xbb\xbf") => Some(Look::Mark),
+        _ if bytes.starts_with(b"\xff\xfe") || bytes.starts_with(b"\xfe\xff") => Some(Look::Mark),
+        _ if bytes.starts_with(b"# ninjadeps") => Some(Look::Dependencies),
+        _ => bytes.ends_with(b"\r\n").then_some(Look::Return),
     }
-    if bytes.starts_with(b"\xef\xbb\xbf")
-        || bytes.starts_with(b"\xff\xfe")
-        || bytes.starts_with(b"\xfe\xff")
-    {
-        return Some(Look::Mark);
-    }
-    if bytes.starts_with(b"# ninjadeps") {
-        return Some(Look::Dependencies);
-    }
-    bytes.ends_with(b"\r\n").then_some(Look::Return)
 }
 
 /// Bytes as they are said, each of them.

@@ -56,16 +56,12 @@ impl<R: Runtime> Desk<'_, R> {
         }
     }
 
-    fn stream_from<S: Read + Drop>(
-        &mut self,
-        streaming: Streaming,
-        reader: S,
-    ) -> ToolResult<Verdict>
+    fn stream_from<S: Read + Drop>(&mut self, streaming: Streaming, from: S) -> ToolResult<Verdict>
         ensures faults { IfErr result IsLogFault }
         ensures outcome { IfOk result (λ outcome. outcome ≡ Verdict.Found → streaming ≡ Streaming.Damage) }
     {
         let mut out = NotedWriter::new(io::writer(self.rt));
-        let reader = NotedReader::new(reader, &mut self.notes.heard);
+        let reader = NotedReader::new(from, &mut self.notes.heard);
         let answer = match streaming {
             Streaming::Entries => {
                 entries_to(self.alloc, reader, &mut out).and(Ok(Verdict::Done))
@@ -120,11 +116,8 @@ fn tell_damage<R: Read + Drop, W: Write>(
     ensures other_version { IsErrOf result ToolFault.OtherVersion → IfSome (R.remaining reader) (λ bs. log_of (as_five bs) ≡ OtherVersion) }
     ensures faults { IfErr result IsLogFault }
 {
-    match damage_to(alloc, reader, writer) {
-        Ok(true) => Ok(Verdict::Found),
-        Ok(false) => Ok(Verdict::Done),
-        Err(fault) => Err(fault),
-    }
+    let found = damage_to(alloc, reader, writer)?;
+    Ok(if found { Verdict::Found } else { Verdict::Done })
 }
 
 // A command has no first line that names a version, so its hash is that of version 5 if none is asked for.

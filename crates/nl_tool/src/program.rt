@@ -9,10 +9,12 @@ ghost use Rattle.nl_tool_words.specs.CommandLine.{entered_of, fault_in};
 
 use crate::desk::{Desk, NO_SCREEN, Screen, ToolResult};
 use crate::notes::Notes;
+use crate::numbers::scope_of;
 use crate::printing::{Printing, Streaming};
 use crate::reason::{
-    Refusal, Why, again_note, masked_note, note_of, reads_input, refusal_of, unsynced_note,
+    Refusal, again_note, masked_note, note_of, reads_input, refusal_of, unsynced_note,
 };
+use crate::reporting::Report;
 use clap::Error;
 use clap::error::ErrorKind;
 use nl_os::SystemFile;
@@ -88,7 +90,7 @@ where
             let notes = Notes::new(alloc, looks, screen, secret);
             let mut desk = Desk::of(rt, alloc, &line, notes);
             let answer = run_at(&mut desk, &line);
-            end(rt, alloc, &line, answer, &desk.notes)
+            end(rt, &line, answer, &desk.notes)
         }
         Err(error) => explain(rt, line, &error),
     }
@@ -128,7 +130,10 @@ where
             Reading::Doubt => return desk.doubt_in(log),
             Reading::Builds => desk.builds_in(log),
             Reading::Summary => desk.summary_in(log, choices),
-            Reading::Trace => desk.trace_in(log, choices),
+            Reading::Trace => {
+                let scope = scope_of(choices.all, choices.build, &mut desk.notes.told)?;
+                desk.report_in(Report::Trace(scope), log)
+            }
             Reading::Picture => desk.picture_in(log, choices),
         },
         Words::Compare {
@@ -208,32 +213,21 @@ fn given_words<R: Runtime + AllocGlobal>(rt: &R) -> io::Result<Vec<String>> {
 
 // Of a command that was done it says that its log was missing, that its folder can't be synced, and that an access control list may be
 // gone, where that is asked for; and that the log was written anew by whose builds it went.
-fn end(
-    rt: &impl Eprint,
-    alloc: Global,
-    line: &CommandLine<'_>,
-    answer: ToolResult<Verdict>,
-    notes: &Notes,
-) -> u8
+fn end(rt: &impl Eprint, line: &CommandLine<'_>, answer: ToolResult<Verdict>, notes: &Notes) -> u8
     ensures status { result ≡ status_after answer }
     ensures bound { result ≤ 3 }
 {
     match answer {
         Ok(Verdict::Done) => {
-            say_note(rt, again_note(line, notes));
-            say_note(rt, note_of(line, notes));
-            say_note(rt, unsynced_note(alloc, line, notes));
-            say_note(rt, masked_note(line, notes));
+            let (again, missing) = (again_note(line, notes), note_of(line, notes));
+            let (unsynced, masked) = (unsynced_note(line, notes), masked_note(line, notes));
+            for why in [again, missing, unsynced, masked].into_iter().flatten() {
+                let _ = eprintln!(rt; "nlog: {why}");
+            }
             DONE
         }
         Ok(Verdict::Found) => FOUND,
-        Err(fault) => say(rt, &refusal_of(alloc, line, fault, notes)),
-    }
-}
-
-fn say_note(rt: &impl Eprint, note: Option<Why<'_>>) {
-    if let Some(why) = note {
-        let _ = eprintln!(rt; "nlog: {why}");
+        Err(fault) => say(rt, &refusal_of(line, fault, notes)),
     }
 }
 

@@ -4,7 +4,7 @@ ghost use Rattle.nl_os.specs.declared.failed_call.FileRole.{FileRole};
 ghost use Rattle.nl_tool_texts.specs.declared.fault.ToolFault.{ToolFault};
 ghost use Rattle.nl_tool.specs.declared.reason.Place.{Place};
 ghost use Rattle.nl_tool.specs.declared.reason.Reason.{Reason};
-ghost use Rattle.nl_tool.specs.Reasons.{given_or_input, HasText, IsMasked, IsNoteFor, IsReasonFor, IsSystem, IsUnsynced, log_place, mended_place, number_text, place_text, read_place, reads_input, reason_text, refusal_text, why_text, words_for, words_heard};
+ghost use Rattle.nl_tool.specs.Reasons.{HasText, IsMasked, IsNoteFor, IsReasonFor, IsSystem, IsUnsynced, log_place, mended_place, number_text, place_text, read_place, reads_input, reason_text, refusal_text, why_text, words_for, words_heard};
 
 use crate::notes::{Look, Notes, escaped_of, look_of};
 use nl_os::{Failure, FileRole, folder_part};
@@ -170,8 +170,7 @@ impl<'a> Why<'a> {
         ensures value { IfSome result (λ why. (place.entry ≡ Some why.place) × (why.reason ≡ reason)) }
         ensures whenever { IsSome place.entry → IsSome result }
     {
-        let place = place?;
-        Some(Why { place, reason })
+        place.map(|place| Why { place, reason })
     }
 }
 
@@ -230,7 +229,7 @@ pub fn again_note<'a>(line: &CommandLine<'a>, notes: &Notes) -> Option<Why<'a>>
 }
 
 /// What is said of a command that was done in a folder which can't be synced, where the command line asks for more.
-pub fn unsynced_note<'a>(alloc: Global, line: &CommandLine<'a>, notes: &Notes) -> Option<Why<'a>>
+pub fn unsynced_note<'a>(line: &CommandLine<'a>, notes: &Notes) -> Option<Why<'a>>
     ensures quiet { line.now.verbose ≡ false → result ≡ None }
     ensures none { notes.now.unsynced ≡ None → result ≡ None }
     ensures note { IfSome result (λ why. (log_place line.now.words FileRole.Folder ≡ Some why.place) × IsUnsynced why.reason) }
@@ -239,9 +238,11 @@ pub fn unsynced_note<'a>(alloc: Global, line: &CommandLine<'a>, notes: &Notes) -
         return None;
     }
     let error = notes.unsynced?;
-    let text = format!(in alloc; "{error}").ok()?;
-    let place = log_place(&line.words, FileRole::Folder);
-    Why::at(place, Reason::Unsynced(text))
+    let text = format!(in *notes.early.allocator(); "{error}").ok()?;
+    Why::at(
+        log_place(&line.words, FileRole::Folder),
+        Reason::Unsynced(text),
+    )
 }
 
 /// What is said of a command that was done: that the log's access control list is gone, if it had one, where the command line asks for
@@ -260,12 +261,7 @@ pub fn masked_note<'a>(line: &CommandLine<'a>, notes: &Notes) -> Option<Why<'a>>
 }
 
 /// What is said of a fault of a command: its reason, where it is known, if the command line asks for it, or a person reads it.
-pub fn refusal_of<'a>(
-    alloc: Global,
-    line: &CommandLine<'a>,
-    fault: ToolFault,
-    notes: &Notes,
-) -> Refusal<'a>
+pub fn refusal_of<'a>(line: &CommandLine<'a>, fault: ToolFault, notes: &Notes) -> Refusal<'a>
     ensures fault { result.fault ≡ fault }
     ensures quiet { line.now.verbose ≡ false → notes.now.screen.errors ≡ false → result.why ≡ None }
     ensures why { IfSome result.why (IsReasonFor (words_for fault line.now.words notes.now.is_second) fault notes.now) }
@@ -275,13 +271,12 @@ pub fn refusal_of<'a>(
     if !line.verbose && !notes.screen.errors {
         return Refusal { fault, why: None };
     }
-    if let ToolFault::BadNumber = fault {
-        let why = bad_number(&line.words, notes);
-        return Refusal { fault, why };
-    }
-    let is_second = notes.is_second || matches!(fault, ToolFault::OtherGraph);
-    let words = words_heard(&line.words, is_second);
-    let why = why_of(alloc, &words, fault, notes);
+    let words = match fault {
+        ToolFault::BadNumber => line.words,
+        ToolFault::OtherGraph => words_heard(&line.words, true),
+        _ => words_heard(&line.words, notes.is_second),
+    };
+    let why = why_of(&words, fault, notes);
     Refusal { fault, why }
 }
 
@@ -308,9 +303,11 @@ pub fn reads_input(words: &Words<'_>) -> bool
         || matches!(read_place(&words_heard(words, true)), Some(Place::Input))
 }
 
-fn why_of<'a>(alloc: Global, words: &Words<'a>, fault: ToolFault, notes: &Notes) -> Option<Why<'a>>
-    ensures { IfSome result (IsReasonFor words.now fault notes.now) }
+fn why_of<'a>(words: &Words<'a>, fault: ToolFault, notes: &Notes) -> Option<Why<'a>>
+    ensures why { IfSome result (IsReasonFor words.now fault notes.now) }
+    ensures whenever { fault ≡ ToolFault.BadNumber → HasText words.now notes.now.told.number → IsSome result }
 {
+    let alloc = *notes.early.allocator();
     match fault {
         ToolFault::Read => match notes.heard.failure {
             Some(error) => said_of(alloc, read_place(words), error),
@@ -369,17 +366,13 @@ fn why_of<'a>(alloc: Global, words: &Words<'a>, fault: ToolFault, notes: &Notes)
             _ => None,
         },
         ToolFault::OtherGraph => Why::at(read_place(words), Reason::OtherBuild),
-        ToolFault::BadNumber | ToolFault::Memory | ToolFault::Elsewhere => None,
+        ToolFault::BadNumber => {
+            let WrongNumber { which, nth, why } = notes.told.number?;
+            let text = number_text(words, which)?;
+            Why::at(Some(Place::Number(which, text)), Reason::Number(nth, why))
+        }
+        ToolFault::Memory | ToolFault::Elsewhere => None,
     }
-}
-
-fn bad_number<'a>(words: &Words<'a>, notes: &Notes) -> Option<Why<'a>>
-    ensures why { IfSome result (IsReasonFor words.now ToolFault.BadNumber notes.now) }
-    ensures whenever { HasText words.now notes.now.told.number → IsSome result }
-{
-    let WrongNumber { which, nth, why } = notes.told.number?;
-    let text = number_text(words, which)?;
-    Why::at(Some(Place::Number(which, text)), Reason::Number(nth, why))
 }
 
 fn number_text<'a>(words: &Words<'a>, which: NumberOf) -> Option<&'a str>
@@ -416,7 +409,12 @@ fn read_place<'a>(words: &Words<'a>) -> Option<Place<'a>>
     ensures { result ≡ read_place words.now }
 {
     match *words {
-        Words::Show(log) | Words::Check(log) | Words::Read { log, .. } => Some(log_or_input(log)),
+        Words::Show(None) | Words::Check(None) | Words::Read { log: None, .. } => {
+            Some(Place::Input)
+        }
+        Words::Show(Some(log)) | Words::Check(Some(log)) | Words::Read { log: Some(log), .. } => {
+            Some(Place::OfLog(FileRole::Log, log))
+        }
         Words::HashFile(file) => Some(file.map_or(Place::Input, Place::Command)),
         Words::Replay(script) => Some(script.map_or(Place::Input, Place::Script)),
         Words::Recompact { log: _, keep } => Some(Place::Keep(keep)),
@@ -429,12 +427,6 @@ fn read_place<'a>(words: &Words<'a>) -> Option<Place<'a>>
         Words::Mend { log, folder, .. } => Some(mended_place(log, folder, FileRole::Log)),
         Words::Hash(_) | Words::Record { .. } | Words::Compare { .. } => None,
     }
-}
-
-fn log_or_input(log: Option<&str>) -> Place<'_>
-    ensures { result ≡ given_or_input (Place.OfLog FileRole.Log) log.entry }
-{
-    log.map_or(Place::Input, |log| Place::OfLog(FileRole::Log, log))
 }
 
 fn log_place<'a>(words: &Words<'a>, file: FileRole) -> Option<Place<'a>>

@@ -11,7 +11,7 @@ ghost use Rattle.nl_reports.specs.Jobs.{told};
 ghost use Rattle.nl_tool_texts.specs.Writing.{IsFoundFault, IsWriteFault};
 ghost use Rattle.nl_reports.specs.declared.choice.Scope.{Scope};
 ghost use Rattle.nl_tool.specs.Answers.{RefusesLog};
-ghost use Rattle.nl_tool.specs.Faults.{IsBuildFault, IsCompareFault, IsPictureFault, IsReportFault, IsSummaryFault, IsToldFault};
+ghost use Rattle.nl_tool.specs.Faults.{IsCompareFault, IsPictureFault, IsReportFault, IsSummaryFault, IsToldFault};
 ghost use Rattle.nl_tool_print.specs.Faults.{IsLogFault};
 ghost use Rattle.nl_tool.specs.Reports.{AreCounts, IsLaidOut, IsLastOf, IsLeast, IsMost, IsReport, IsReportOf, IsScope, IsSummary, PrintsReport, asked_told, laid_out, rule_of, side_in, waiting};
 
@@ -91,14 +91,6 @@ impl<R: Runtime> Desk<'_, R> {
         }
         let zone = columns.map(|_| TimeZone::UTC);
         self.report_in(Report::Builds(zone), log)
-    }
-
-    pub fn trace_in(&mut self, log: Option<&str>, choices: Choices<'_>) -> ToolResult
-        ensures scope { OnOk result ((scope : Scope) × IsScope choices.entry.all choices.entry.build scope) }
-        ensures faults { IfErr result (IsBuildFault choices.entry self.new.notes.told.number) }
-    {
-        let scope = scope_of(choices.all, choices.build, &mut self.notes.told)?;
-        self.report_in(Report::Trace(scope), log)
     }
 
     pub fn picture_in(&mut self, log: Option<&str>, choices: Choices<'_>) -> ToolResult
