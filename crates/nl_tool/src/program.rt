@@ -50,7 +50,7 @@ where
     R::File: SystemFile,
     ensures status { result ≤ 3 }
 {
-    match given_words(rt) {
+    match env::args(rt).and_then(|words| Ok(words.collect::<Vec<String>>(rt.alloc())?)) {
         Ok(line) => { run_line(rt, rt.alloc(), line.as_slice(), screen, secret_of(rt)) },
         Err(error) if error.kind() == io::ErrorKind::OutOfMemory => refuse(rt, ToolFault::Memory),
         // As where they are no UTF-8.
@@ -205,10 +205,6 @@ fn secret_of(source: &impl RandomSource) -> Secret {
     }
     let keys = u128::from_le_bytes(bytes);
     Secret::of((keys & 0xFFFF_FFFF_FFFF_FFFF) as u64, (keys >> 64) as u64)
-}
-
-fn given_words<R: Runtime + AllocGlobal>(rt: &R) -> io::Result<Vec<String>> {
-    Ok(env::args(rt)?.collect(rt.alloc())?)
 }
 
 // Of a command that was done it says that its log was missing, that its folder can't be synced, and that an access control list may be

@@ -239,10 +239,8 @@ pub fn unsynced_note<'a>(line: &CommandLine<'a>, notes: &Notes) -> Option<Why<'a
     }
     let error = notes.unsynced?;
     let text = format!(in *notes.early.allocator(); "{error}").ok()?;
-    Why::at(
-        log_place(&line.words, FileRole::Folder),
-        Reason::Unsynced(text),
-    )
+    let place = log_place(&line.words, FileRole::Folder);
+    Why::at(place, Reason::Unsynced(text))
 }
 
 /// What is said of a command that was done: that the log's access control list is gone, if it had one, where the command line asks for
