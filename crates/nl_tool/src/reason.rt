@@ -350,15 +350,13 @@ fn why_of<'a>(words: &Words<'a>, fault: ToolFault, notes: &Notes) -> Option<Why<
             Why::at(log_place(words, FileRole::Log), reason)
         }
         ToolFault::EmptyName => Why::at(Some(Place::Name), Reason::NoBytes),
-        ToolFault::BadByte(at) => {
-            let Words::Record { name, .. } = *words else {
-                return None;
-            };
-            match name.as_bytes().get(at)? {
+        ToolFault::BadByte(at) => match *words {
+            Words::Record { name, .. } => match name.as_bytes().get(at)? {
                 b'\n' => Why::at(Some(Place::Name), Reason::Newline(at)),
                 _ => Why::at(Some(Place::Name), Reason::Tab(at)),
-            }
-        }
+            },
+            _ => None,
+        },
         ToolFault::LongName => match *words {
             Words::Record { name, .. } => Why::at(Some(Place::Name), Reason::Long(name.len())),
             _ => None,
