@@ -1,5 +1,5 @@
 //! The words that change a log, over the folder of the real file LOG: `prune` and `retime` by what a build has.
-ghost use Rattle.std.specs.Prelude.{◌≡◌, ◌⊎◌, ℕ, ℤ, [], List, Option, Err, IfErr, IsErr, IsErrAnd, OnOk};
+ghost use Rattle.std.specs.Prelude.{◌≡◌, ◌<◌, ◌⊎◌, ℕ, ℤ, [], List, Option, Err, IfErr, IsErr, IsErrAnd, IsSomeAnd, OnOk, length, slice_get};
 ghost use Rattle.nl_folder.specs.FolderView.{FolderView, folder_view};
 ghost use Rattle.nl_tool_change.specs.Applying.{IsApplied};
 ghost use Rattle.nl_tool_change.specs.Calls.{ChangesLogFor, adding, hashed, keeping, keeping_all, touching};
@@ -339,14 +339,20 @@ fn retime_there<P: LogPlace, R: Read + Drop, F: OutputFiles>(
     match times_there(alloc, place.secret(), log, files) {
         Ok(times) => match first_negative(times.as_slice()) {
             Some(at) => {
-                early.clear();
-                if let Some((name, _)) = times.as_slice().get(at) {
-                    let _ = early.extend_from_slice(name.bytes());
-                }
+                note_early(times.as_slice(), at, early);
                 (place, Err(ToolFault::NegativeTime(at)))
             }
             None => retime_on(alloc, place, &times),
         },
         Err(fault) => (place, Err(fault)),
     }
+}
+
+fn note_early(times: &[(Name, i64)], at: usize, early: &mut Vec<u8>)
+    requires there { at < length times.now }
+    ensures named { (early.new.items ≡ []) ⊎ IsSomeAnd (slice_get times.now at) (λ pair. early.new.items ≡ pair.0) }
+{
+    early.clear();
+    let (name, _) = &times[at];
+    let _ = early.extend_from_slice(name.bytes());
 }

@@ -1,5 +1,7 @@
 //! The program: what it does once its words are read; and how it ends, what it says of an answer, on which stream, and with which status.
-ghost use Rattle.std.specs.Prelude.{◌≡◌, ◌≤◌, Option, map, string_bytes, IfErr, IfOk, OnOk};
+ghost use Rattle.std.specs.Prelude.{◌≡◌, ◌≢◌, ◌≤◌, Option, map, string_bytes, IfErr, IfOk, OnOk};
+ghost use Rattle.std.specs.IoError.{error_kind};
+ghost use Rattle.std.specs.declared.io.ErrorKind.TheVariants.{OutOfMemory};
 ghost use Rattle.clap.specs.Words.{kind_of};
 ghost use Rattle.nl_tool_change.specs.declared.line_fault.WrongNumber.{WrongNumber};
 ghost use Rattle.nl_tool.specs.Ending.{status_after, IsStatusBy, IsStatusOfKind};
@@ -52,12 +54,7 @@ where
 {
     match env::args(rt).and_then(|words| Ok(words.collect::<Vec<String>>(rt.alloc())?)) {
         Ok(line) => { run_line(rt, rt.alloc(), line.as_slice(), screen, secret_of(rt)) },
-        Err(error) if error.kind() == io::ErrorKind::OutOfMemory => refuse(rt, ToolFault::Memory),
-        // As where they are no UTF-8.
-        Err(error) => {
-            let _ = eprintln!(rt; "nlog: cannot read the words: {error}");
-            WRONG_WORDS
-        }
+        Err(error) => refuse_line(rt, &error),
     }
 }
 
@@ -238,6 +235,18 @@ fn say(rt: &impl Eprint, refusal: &Refusal<'_>) -> u8
 {
     let _ = eprintln!(rt; "nlog: {refusal}");
     status_of(&refusal.fault)
+}
+
+// Says why the words could not be taken, as where they are no UTF-8.
+fn refuse_line(rt: &impl Eprint, error: &io::Error) -> u8
+    ensures memory { error_kind error.now ≡ OutOfMemory → result ≡ 1 }
+    ensures status { error_kind error.now ≢ OutOfMemory → result ≡ 2 }
+{
+    if error.kind() == io::ErrorKind::OutOfMemory {
+        return refuse(rt, ToolFault::Memory);
+    }
+    let _ = eprintln!(rt; "nlog: cannot read the words: {error}");
+    WRONG_WORDS
 }
 
 // Prints help or the version on standard output, and what is wrong with the words on standard error, with a hint where a path stands in
