@@ -1,7 +1,6 @@
 //! The builds of a log's entries.
 ghost use Rattle.std.specs.Prelude.{◌≡◌, [], drop, take, ◌<◌, false, map, IfOk};
-ghost use Rattle.nl_builds.specs.Builds.{again, builds_of, entries_of, falls_at, found_build, IsTold, new_names, whole_commands, written_builds};
-ghost use Rattle.nl_builds.specs.Sorted.{by_moment, moment_rank, span_rank};
+ghost use Rattle.nl_builds.specs.{Builds.{again, builds_of, entries_of, falls_at, found_build, IsTold, new_names, whole_commands, written_builds}, Sorted.{by_moment, moment_rank, span_rank}};
 
 use crate::command::{Command, commands_of, latest, moment, with_rows, with_waits};
 use crate::name_key::NameKey;

@@ -1,9 +1,6 @@
 //! The commands of a log, as the entries of their outputs tell them.
-ghost use Rattle.std.specs.Prelude.{◌≡◌, [], nat_lt, false, IfOk};
-ghost use Rattle.std.specs.List.{list_any};
-ghost use Rattle.std.specs.List.Sorted.{IsNonDecreasing};
-ghost use Rattle.nl_builds.specs.Commands.{commands, falls, is_more, is_same, latest, longer, moment, one, row_to, tells, waited, with_next, with_rows, with_wait, with_waits};
-ghost use Rattle.nl_builds.specs.Moments.{least};
+ghost use Rattle.std.specs.{Prelude.{◌≡◌, [], nat_lt, false, IfOk}, List.{list_any}, List.Sorted.{IsNonDecreasing}};
+ghost use Rattle.nl_builds.specs.{Commands.{commands, falls, is_more, is_same, latest, longer, moment, one, row_to, tells, waited, with_next, with_rows, with_wait, with_waits}, Moments.{least}};
 
 use nl_fields::EntryRef;
 use std::alloc::{AllocError, Global};

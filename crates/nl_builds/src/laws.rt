@@ -1,16 +1,7 @@
 //! Laws of commands and builds. Each is the contract of a function that does nothing.
 ghost use Rattle.std.specs.Prelude.{◌≡◌, ◌+◌, ℕ, Bool, List, false, length, true, IsPermutation};
 ghost use Rattle.nl_fields.specs.declared.entry.Entry.{Entry};
-ghost use Rattle.nl_builds.specs.Builds.{builds_of, next_is_sure, walk, written_build};
-ghost use Rattle.nl_builds.specs.Commands.{falls, is_same, row_commands};
-ghost use Rattle.nl_builds.specs.Laws.{AreModest, PlacesRise, ShareCommands, ShareEntries};
-ghost use Rattle.nl_builds.specs.Recorded.{any_intent, recorded};
-ghost use Rattle.nl_builds.specs.Seen.{mark_written};
-ghost use Rattle.nl_builds.specs.declared.command.Command.{Command};
-ghost use Rattle.nl_builds.specs.declared.seen.Mark.TheVariants.{Sure};
-ghost use Rattle.nl_builds.specs.declared.seen.Order.{Order};
-ghost use Rattle.nl_builds.specs.declared.seen.Seen.{Seen};
-ghost use Rattle.nl_builds.specs.declared.stamps.Stamps.{Stamps};
+ghost use Rattle.nl_builds.specs.{Builds.{builds_of, next_is_sure, walk, written_build}, Commands.{falls, is_same, row_commands}, Laws.{AreModest, PlacesRise, ShareCommands, ShareEntries}, Recorded.{any_intent, recorded}, Seen.{mark_written}, declared.command.Command.{Command}, declared.seen.Mark.TheVariants.{Sure}, declared.seen.Order.{Order}, declared.seen.Seen.{Seen}, declared.stamps.Stamps.{Stamps}};
 
 /// The first commands have the first entries, and so on to the last.
 pub fn each_entry_is_of_one_command()

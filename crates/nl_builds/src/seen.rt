@@ -1,8 +1,6 @@
 //! What is known of a build so far, and where another begins.
 ghost use Rattle.std.specs.Prelude.{◌≡◌, ◌+◌, ◌<◌, ◌^◌, length, IfOk, None};
-ghost use Rattle.nl_builds.specs.Builds.{first_back, walk};
-ghost use Rattle.nl_builds.specs.Moments.{greatest, is_past, reaches};
-ghost use Rattle.nl_builds.specs.Seen.{begun, differs_by, doubts, is_after, is_back, is_behind, is_moment_of, is_tied, mark, only, past_by, told, with_command};
+ghost use Rattle.nl_builds.specs.{Builds.{first_back, walk}, Moments.{greatest, is_past, reaches}, Seen.{begun, differs_by, doubts, is_after, is_back, is_behind, is_moment_of, is_tied, mark, only, past_by, told, with_command}};
 
 use crate::command::{Command, NANOS, least};
 use crate::stamps::Stamps;

@@ -1,10 +1,6 @@
 //! The calls that only the library's own C makes: they load a log in pieces, or serve a log that its caller carries to a file.
 ghost use Rattle.std.specs.Prelude.{◌≡◌, ◌≢◌, ◌⊎◌, ◌++◌, ℕ, List, None, IsSomeAnd, option_and_then};
-ghost use Rattle.nl_c.specs.LoadedLogs.{IsLoadedAs};
-ghost use Rattle.nl_c.specs.CarriedLogs.{IsNewCarried, CarriedOpened, Keeps, Anew, CarriedWritten, CarriedText, CarriedHeader, CarriedLine, Ends, Planned, Withdrawn, LooseLine, intent_stamp};
-ghost use Rattle.nl_c.specs.Held.{InCarried, IsCarriedAnd, all_of, loaded_in, loaded_of};
-ghost use Rattle.nl_c.specs.Written.{Recorded, Begun, Synced, Stopped, Recompacted, Restatted, DeadMarked, TimeMarked, Cleared};
-ghost use Rattle.nl_c.specs.Statuses.{ok, no_handle, out_of_memory};
+ghost use Rattle.nl_c.specs.{LoadedLogs.{IsLoadedAs}, CarriedLogs.{IsNewCarried, CarriedOpened, Keeps, Anew, CarriedWritten, CarriedText, CarriedHeader, CarriedLine, Ends, Planned, Withdrawn, LooseLine, intent_stamp}, Held.{InCarried, IsCarriedAnd, all_of, loaded_in, loaded_of}, Written.{Recorded, Begun, Synced, Stopped, Recompacted, Restatted, DeadMarked, TimeMarked, Cleared}, Statuses.{ok, no_handle, out_of_memory}};
 
 use crate::carried_log::CarriedLog;
 use crate::handle::{Handle, Held};

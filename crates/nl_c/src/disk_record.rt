@@ -1,6 +1,5 @@
 //! The record of a disk, which clauses alone read: it takes no memory.
-ghost use Rattle.std.specs.Prelude.{◌≡◌};
-ghost use Rattle.std.specs.Borrow.{ftrue};
+ghost use Rattle.std.specs.{Prelude.{◌≡◌}, Borrow.{ftrue}};
 ghost use Rattle.nl_folder.specs.DiskState.{Disk};
 
 use std::marker::{Model, PhantomData};

@@ -1,16 +1,9 @@
 //! The exported calls: each takes the log out of its handle and puts it back, and one that makes a log is given a secret to hash names under.
 ghost use Rattle.std.specs.Prelude.{◌≡◌, ◌≢◌, ◌↔◌, ◌⊎◌, None, IsSomeAnd};
-ghost use Rattle.nl_fields.specs.CommandHash.{IsHash, hash_of};
-ghost use Rattle.nl_fields.specs.RapidHash.{rapid_hash_of};
+ghost use Rattle.nl_fields.specs.{CommandHash.{IsHash, hash_of}, RapidHash.{rapid_hash_of}, Name.{IsName}};
 ghost use Rattle.nl_table.specs.Log.{NotALog, OtherVersion, log_of};
-ghost use Rattle.nl_versions.specs.Version.{as_version};
-ghost use Rattle.nl_versions.specs.VersionOf.{as_five};
-ghost use Rattle.nl_c.specs.LoadedLogs.{IsDistrustedFrom, IsLoadedAs};
-ghost use Rattle.nl_c.specs.Answers.{answered_at, answered_count, answered_facts, answered_find, answer_line};
-ghost use Rattle.nl_c.specs.Held.{loaded_in, loaded_of, table_in};
-ghost use Rattle.nl_c.specs.Written.{version_for};
-ghost use Rattle.nl_fields.specs.Name.{IsName};
-ghost use Rattle.nl_c.specs.Statuses.{ok, bad_name, not_a_log, other_version, out_of_memory, text_in, status_text};
+ghost use Rattle.nl_versions.specs.{Version.{as_version}, VersionOf.{as_five}};
+ghost use Rattle.nl_c.specs.{LoadedLogs.{IsDistrustedFrom, IsLoadedAs}, Answers.{answered_at, answered_count, answered_facts, answered_find, answer_line}, Held.{loaded_in, loaded_of, table_in}, Written.{version_for}, Statuses.{ok, bad_name, not_a_log, other_version, out_of_memory, text_in, status_text}};
 
 use crate::handle::{Handle, Held};
 use crate::loaded_log::{CStamp, Facts, LoadedLog};

@@ -1,9 +1,6 @@
 //! The handle that a caller in C has: memory of zeros is a handle without a log.
 ghost use Rattle.std.specs.Prelude.{◌≡◌, ◌≢◌, ◌↔◌, ◌⊎◌, Option, IsSome, Some, None, option_map};
-ghost use Rattle.nl_c.specs.Kept.{made as made_mark, owned_if};
-ghost use Rattle.nl_c.specs.Held.{all_of, loaded_of, table_of};
-ghost use Rattle.nl_c.specs.declared.handle.Held.{Held};
-ghost use Rattle.nl_c.specs.Statuses.{ok, out_of_memory};
+ghost use Rattle.nl_c.specs.{Kept.{made as made_mark, owned_if}, Held.{all_of, loaded_of, table_of}, declared.handle.Held.{Held}, Statuses.{ok, out_of_memory}};
 
 use crate::carried_log::CarriedLog;
 use crate::loaded_log::LoadedLog;

@@ -1,18 +1,11 @@
 //! Laws of a log that is written, each the contract of a function that does nothing.
 ghost use Rattle.std.specs.Prelude.{◌≡◌, ◌≤◌, ◌⊎◌, ◌++◌, ℕ, Bool, false, List, All, IsSomeAnd, length};
-ghost use Rattle.nl_fields.specs.EntryLine.{IsEntry};
-ghost use Rattle.nl_fields.specs.declared.entry.Entry.{Entry};
+ghost use Rattle.nl_fields.specs.{EntryLine.{IsEntry}, declared.entry.Entry.{Entry}};
 ghost use Rattle.nl_lines.specs.Lines.{max_log};
-ghost use Rattle.nl_table.specs.Due.{is_history_due};
-ghost use Rattle.nl_table.specs.Log.{history_of};
-ghost use Rattle.nl_table.specs.LogText.{lines_of_entries};
-ghost use Rattle.nl_table.specs.Table.{all_entered_table};
+ghost use Rattle.nl_table.specs.{Due.{is_history_due}, Log.{history_of}, LogText.{lines_of_entries}, Table.{all_entered_table}};
 ghost use Rattle.nl_session.specs.Opened.{opened_bytes, IsTableOf};
-ghost use Rattle.nl_folder.specs.CrashImages.{IsDisk, IsImage};
-ghost use Rattle.nl_folder.specs.DiskState.{Disk};
-ghost use Rattle.nl_c.specs.Changes.{Ending, IsOpenText, StepsLeave, exit_of, replace, steps_of};
-ghost use Rattle.nl_c.specs.Faults.{CarriedFaults};
-ghost use Rattle.nl_c.specs.PlanLaws.{PlansStand, WithdrawalsGiveBack};
+ghost use Rattle.nl_folder.specs.{CrashImages.{IsDisk, IsImage}, DiskState.{Disk}};
+ghost use Rattle.nl_c.specs.{Changes.{Ending, IsOpenText, StepsLeave, exit_of, replace, steps_of}, Faults.{CarriedFaults}, PlanLaws.{PlansStand, WithdrawalsGiveBack}};
 
 /// Wherever a rewriting stops, even if the power then fails, the log is what could be found before, or is the new text.
 pub fn a_rewriting_leaves_the_old_or_the_new()

@@ -2,9 +2,7 @@
 ghost use Rattle.std.specs.Prelude.{◌≡◌, ◌≢◌, ◌<◌, ◌⊎◌, length};
 ghost use Rattle.nl_fields.specs.EntryLine.{line_of};
 ghost use Rattle.nl_lines.specs.Split.{with_newline};
-ghost use Rattle.nl_c.specs.CarriedLogs.{holds_line};
-ghost use Rattle.nl_c.specs.Statuses.{ok, no_room, out_of_memory};
-ghost use Rattle.nl_c.specs.Answers.{answer_find, entry_in};
+ghost use Rattle.nl_c.specs.{CarriedLogs.{holds_line}, Statuses.{ok, no_room, out_of_memory}, Answers.{answer_find, entry_in}};
 
 use crate::loaded_log::CStamp;
 use crate::status;

@@ -1,8 +1,7 @@
 //! The names that were planned, and whether the last line of each is the one that its plan left.
 ghost use Rattle.std.specs.Prelude.{◌≡◌, ◌≢◌, ◌⊎◌, ◌↔◌, ℕ, List, true, false};
 ghost use Rattle.nl_fields.specs.Name.{IsName};
-ghost use Rattle.nl_c.specs.Plans.{PlanSet, is_planned};
-ghost use Rattle.nl_c.specs.Statuses.{ok, bad_name, out_of_memory};
+ghost use Rattle.nl_c.specs.{Plans.{PlanSet, is_planned}, Statuses.{ok, bad_name, out_of_memory}};
 
 use crate::status;
 use nl_fields::EntryRef;

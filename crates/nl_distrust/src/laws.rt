@@ -1,16 +1,9 @@
 //! Laws of what can't be trusted. Each is the contract of a function that does nothing.
 ghost use Rattle.std.specs.Prelude.{◌≡◌, ◌==◌, ◌&&◌, ◌++◌, ℕ, true, false, None, Some, List, [], All, IsSome, IsSomeAnd, drop, if◌then◌else◌};
-ghost use Rattle.nl_fields.specs.declared.entry.Entry.{Entry};
-ghost use Rattle.nl_fields.specs.Name.{IsName};
-ghost use Rattle.nl_fields.specs.EntryLine.{IsSpelled, IsTold, Texts, line_with};
+ghost use Rattle.nl_fields.specs.{declared.entry.Entry.{Entry}, Name.{IsName}, EntryLine.{IsSpelled, IsTold, Texts, line_with}};
 ghost use Rattle.nl_lines.specs.Split.{lines_of, rest_of, torn_len};
-ghost use Rattle.nl_table.specs.History.{holds};
-ghost use Rattle.nl_table.specs.Log.{Log, entry_on, log_of, skipped_count};
-ghost use Rattle.nl_table.specs.Table.{entry_named};
-ghost use Rattle.nl_table.specs.Versions.{current_version, oldest_version};
-ghost use Rattle.nl_distrust.specs.Distrusted.{distrusted_in, is_whole, mentioned_in, mentioned_on};
-ghost use Rattle.nl_distrust.specs.Named.{named_in, torn_behind_name};
-ghost use Rattle.nl_distrust.specs.Plain.{entry_last, plain_last, plain_texts};
+ghost use Rattle.nl_table.specs.{History.{holds}, Log.{Log, entry_on, log_of, skipped_count}, Table.{entry_named}, Versions.{current_version, oldest_version}};
+ghost use Rattle.nl_distrust.specs.{Distrusted.{distrusted_in, is_whole, mentioned_in, mentioned_on}, Named.{named_in, torn_behind_name}, Plain.{entry_last, plain_last, plain_texts}};
 
 /// The last line that plain Ninja takes for an entry of a name is its last entry, unless the log mentions the name.
 pub fn trusted_lines_are_read_alike()

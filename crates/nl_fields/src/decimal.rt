@@ -1,8 +1,6 @@
 //! Numbers in their one decimal spelling.
-ghost use Rattle.std.specs.Prelude.{◌≡◌, ℕ, ◌<◌, ◌≤◌, ◌^◌, List, length, take, IsSome, IfSome, Some, SomeIff, ℤ, pos, FitsSigned};
-ghost use Rattle.std.specs.Int.{w32, w64};
-ghost use Rattle.nl_fields.specs.Digits.{IsDigit, IsDigits, IsDecimal};
-ghost use Rattle.nl_fields.specs.Fields.{BeginsWith};
+ghost use Rattle.std.specs.{Prelude.{◌≡◌, ℕ, ◌<◌, ◌≤◌, ◌^◌, List, length, take, IsSome, IfSome, Some, SomeIff, ℤ, pos, FitsSigned}, Int.{w32, w64}};
+ghost use Rattle.nl_fields.specs.{Digits.{IsDigit, IsDigits, IsDecimal}, Fields.{BeginsWith}};
 
 use crate::digits::read_digits;
 

@@ -1,14 +1,6 @@
 //! What the definitions promise: each contract is a law, and each body is empty.
-ghost use Rattle.std.specs.Prelude.{◌≡◌, ◌≢◌, ◌↔◌, ℕ, ℤ, ◌+◌, ◌<◌, ◌≤◌, ◌^◌, List, [], length, All, Some, FitsSigned, codes};
-ghost use Rattle.std.specs.Int.{w64};
-ghost use Rattle.nl_fields.specs.declared.entry.Entry.{Entry};
-ghost use Rattle.nl_fields.specs.declared.header.Header.{Header};
-ghost use Rattle.nl_fields.specs.Limits.{max_name, max_line, max_entry_line, max_log};
-ghost use Rattle.nl_fields.specs.Digits.{IsDigits, IsDecimal, digits_of, decimal_of};
-ghost use Rattle.nl_fields.specs.EntryLine.{IsEntry, IsEntryLine, IsEntryLineFour, line_of, entry_of, entry_of_four};
-ghost use Rattle.nl_fields.specs.Header.{IsHeader, version_five, header_line, header_of};
-ghost use Rattle.nl_fields.specs.CommandHash.{IsHash, hash_of};
-ghost use Rattle.nl_fields.specs.RapidHash.{rapid_hash_of};
+ghost use Rattle.std.specs.{Prelude.{◌≡◌, ◌≢◌, ◌↔◌, ℕ, ℤ, ◌+◌, ◌<◌, ◌≤◌, ◌^◌, List, [], length, All, Some, FitsSigned, codes}, Int.{w64}};
+ghost use Rattle.nl_fields.specs.{declared.entry.Entry.{Entry}, declared.header.Header.{Header}, Limits.{max_name, max_line, max_entry_line, max_log}, Digits.{IsDigits, IsDecimal, digits_of, decimal_of}, EntryLine.{IsEntry, IsEntryLine, IsEntryLineFour, line_of, entry_of, entry_of_four}, Header.{IsHeader, version_five, header_line, header_of}, CommandHash.{IsHash, hash_of}, RapidHash.{rapid_hash_of}};
 
 use crate::header::HEADER;
 use crate::limits::{MAX_ENTRY_LINE, MAX_LINE, MAX_LOG, MAX_NAME};

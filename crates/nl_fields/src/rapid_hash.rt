@@ -1,7 +1,6 @@
 //! The hash of a command in logs of version 7.
 ghost use Rattle.std.specs.Prelude.{◌≡◌, ◌+◌, ◌<◌, ◌≤◌, ◌%◌, ◌/◌, ◌^◌, ◌*◌, length};
-ghost use Rattle.nl_fields.specs.CommandHash.{xor};
-ghost use Rattle.nl_fields.specs.RapidHash.{folded, wide_at, narrow_at, with_sixteen, with_groups, with_first, with_last, over_bytes, end_first, end_last, begun, rapid_hash_of};
+ghost use Rattle.nl_fields.specs.{CommandHash.{xor}, RapidHash.{folded, wide_at, narrow_at, with_sixteen, with_groups, with_first, with_last, over_bytes, end_first, end_last, begun, rapid_hash_of}};
 
 const SEED: u64 = 0xbdd8_9aa9_8270_4029;
 

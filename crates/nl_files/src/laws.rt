@@ -1,11 +1,7 @@
 //! Laws of the definitions. Each is the contract of a function that does nothing.
 ghost use Rattle.std.specs.Prelude.{◌≡◌, ℕ, Bool, List, Some};
-ghost use Rattle.nl_files.specs.Model.{Model};
+ghost use Rattle.nl_files.specs.{Model.{Model}, SystemImages.{SystemImage}, Covered.{Covers}, Holdings.{Holdings, ScratchState, disk_of, with_scratch, IsNone, IsNotSpare}, Scratch.{KeepsAll}};
 ghost use Rattle.nl_folder.specs.CrashImages.{IsImage};
-ghost use Rattle.nl_files.specs.SystemImages.{SystemImage};
-ghost use Rattle.nl_files.specs.Covered.{Covers};
-ghost use Rattle.nl_files.specs.Holdings.{Holdings, ScratchState, disk_of, with_scratch, IsNone, IsNotSpare};
-ghost use Rattle.nl_files.specs.Scratch.{KeepsAll};
 
 pub fn writing_leaves_the_record()
     ensures { (m m_now : Model) (scratch scratch_now : ScratchState) (h : Holdings) → h.scratch ≡ Some scratch

@@ -1,15 +1,9 @@
 //! Runs of events on a log over the files of a system that can lose its power.
-ghost use Rattle.std.specs.Prelude.{◌≡◌, false, [], IfOk, IsSomeAnd, Some, option_map, slice_get, zip};
-ghost use Rattle.std.specs.Option.{ForSome};
-ghost use Rattle.nl_table.specs.History.{History};
-ghost use Rattle.nl_table.specs.Log.{history_of};
-ghost use Rattle.nl_folder.specs.DiskState.{Disk};
-ghost use Rattle.nl_folder.specs.FolderView.{SameState};
-ghost use Rattle.nl_session.specs.Reopening.{Moved};
-ghost use Rattle.nl_session.specs.Runs.{BeginsAt, Ran, HeadlineOn, RestsThrough, OpensAtLast, TakesMemory, faults_of, HasRisen, HadMemory, Ends};
-ghost use Rattle.nl_files.specs.Start.{IsAtStart, begun};
-ghost use Rattle.nl_files.specs.FileFolder.{begun_view, system_of, state_of, failure_count};
-ghost use Rattle.nl_files.specs.MemSystem.{no_files, numbers_left};
+ghost use Rattle.std.specs.{Prelude.{◌≡◌, false, [], IfOk, IsSomeAnd, Some, option_map, slice_get, zip}, Option.{ForSome}};
+ghost use Rattle.nl_table.specs.{History.{History}, Log.{history_of}};
+ghost use Rattle.nl_folder.specs.{DiskState.{Disk}, FolderView.{SameState}};
+ghost use Rattle.nl_session.specs.{Reopening.{Moved}, Runs.{BeginsAt, Ran, HeadlineOn, RestsThrough, OpensAtLast, TakesMemory, faults_of, HasRisen, HadMemory, Ends}};
+ghost use Rattle.nl_files.specs.{Start.{IsAtStart, begun}, FileFolder.{begun_view, system_of, state_of, failure_count}, MemSystem.{no_files, numbers_left}};
 
 use crate::{CrashableSystem, FileFolder, MemSystem, Plan};
 use nl_session::{Event, Outcome, Reply, run_events};

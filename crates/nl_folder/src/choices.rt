@@ -55,8 +55,7 @@ pub struct Choices {
 }
 
 impl Choices {
-    ghost use Rattle.nl_folder.specs.Fuse.{fails_at};
-    ghost use Rattle.nl_folder.specs.Choices.{counted};
+    ghost use Rattle.nl_folder.specs.{Fuse.{fails_at}, Choices.{counted}};
 
     /// Answers whether the call fails.
     pub fn count(&mut self, call: Call) -> bool

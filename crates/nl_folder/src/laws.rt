@@ -1,12 +1,7 @@
 //! The laws of crash images. Each is the contract of a function that does nothing.
 ghost use Rattle.std.specs.Prelude.{◌≡◌, ◌⊎◌, ◌≤◌, ◌++◌, ℕ, List, None, Result, length, take};
-ghost use Rattle.nl_lines.specs.Lines.{max_log};
-ghost use Rattle.nl_lines.specs.Prefix.{IsPrefix};
-ghost use Rattle.nl_lines.specs.Split.{joined, lines_of};
-ghost use Rattle.nl_folder.specs.DiskState.{Disk, File, durable_disk};
-ghost use Rattle.nl_folder.specs.CrashImages.{IsDisk, IsImage, IsImageOf, IsPrefixImage};
-ghost use Rattle.nl_folder.specs.Calls.{log_grown, log_cut, log_synced, replaced_disk, not_replaced_disk, AppendsLog, CutsLog, SyncsLog, AppendsScratch, SyncsScratch, Replaces, Crashes};
-ghost use Rattle.nl_folder.specs.declared.folder.Fault.{Fault};
+ghost use Rattle.nl_lines.specs.{Lines.{max_log}, Prefix.{IsPrefix}, Split.{joined, lines_of}};
+ghost use Rattle.nl_folder.specs.{DiskState.{Disk, File, durable_disk}, CrashImages.{IsDisk, IsImage, IsImageOf, IsPrefixImage}, Calls.{log_grown, log_cut, log_synced, replaced_disk, not_replaced_disk, AppendsLog, CutsLog, SyncsLog, AppendsScratch, SyncsScratch, Replaces, Crashes}, declared.folder.Fault.{Fault}};
 
 pub fn what_a_read_gives_is_an_image()
     ensures { (disk : Disk) → IsDisk disk → IsImage disk disk.visible }

@@ -1,10 +1,6 @@
 //! The laws of lines and of what readers of lines give. Each is the contract of a function that does nothing.
 ghost use Rattle.std.specs.Prelude.{◌≡◌, ◌⊎◌, ◌<◌, ◌≤◌, ◌+◌, ℕ, List, [], ◌∷◌, ◌++◌, length, take, All, Option, None, Some, Ok, Err, map};
-ghost use Rattle.nl_lines.specs.Prefix.{IsPrefix};
-ghost use Rattle.nl_lines.specs.Split.{NoNewline, EndsInNewline, SplitsInto, with_newline, joined, lines_of, rest_of, whole_len, torn_len};
-ghost use Rattle.nl_lines.specs.Lines.{Reader, TakesLine, TakesRest, AnswersNext, fresh, max_line, max_log, text_left};
-ghost use Rattle.nl_lines.specs.Runs.{GivenInTurn, as_shown, text_shown};
-ghost use Rattle.nl_lines.specs.declared.lines.Line.{Line};
+ghost use Rattle.nl_lines.specs.{Prefix.{IsPrefix}, Split.{NoNewline, EndsInNewline, SplitsInto, with_newline, joined, lines_of, rest_of, whole_len, torn_len}, Lines.{Reader, TakesLine, TakesRest, AnswersNext, fresh, max_line, max_log, text_left}, Runs.{GivenInTurn, as_shown, text_shown}, declared.lines.Line.{Line}};
 
 use crate::limits::{MAX_LINE, MAX_LOG};
 use crate::lines::LineFault;

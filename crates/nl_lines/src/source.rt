@@ -1,7 +1,5 @@
 //! Where bytes come from, a piece at a time: any source, a reader, and a slice.
-ghost use Rattle.std.specs.Prelude.{◌≡◌, ◌≤◌, List, ℕ, Option, Some, OnOk, OnErr};
-ghost use Rattle.std.specs.Io.{ReadsAtMost};
-ghost use Rattle.std.specs.Io.KnownBytes.{ReadConsumes};
+ghost use Rattle.std.specs.{Prelude.{◌≡◌, ◌≤◌, List, ℕ, Option, Some, OnOk, OnErr}, Io.{ReadsAtMost}, Io.KnownBytes.{ReadConsumes}};
 ghost use Rattle.nl_lines.specs.Source.{FailedBetween, IsCount, none_is_count};
 
 use std::io::Read;

@@ -1,8 +1,6 @@
 //! The text of `builds`, and what it tells at a terminal.
 ghost use Rattle.std.specs.Prelude.{◌≡◌, ◌<◌, ◌++◌, List, ℕ, IfOk, OnOk, length};
-ghost use Rattle.nl_reports.specs.BuildsTable.{AreRows, IsBegun, IsBuildsScreen, IsRow, date_text, row_text};
-ghost use Rattle.nl_reports.specs.BuildsText.{border_word, build_line, builds_text};
-ghost use Rattle.nl_reports.specs.Jobs.{told};
+ghost use Rattle.nl_reports.specs.{BuildsTable.{AreRows, IsBegun, IsBuildsScreen, IsRow, date_text, row_text}, BuildsText.{border_word, build_line, builds_text}, Jobs.{told}};
 
 use crate::numbers::{Numbers, numbers_of};
 use jiff_core::Timestamp;

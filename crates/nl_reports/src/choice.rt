@@ -1,11 +1,6 @@
 //! Which builds are told of, and their commands, one build after another on one clock.
 ghost use Rattle.std.specs.Prelude.{◌≡◌, ◌<◌, ◌^◌, map, IfOk, IfSome, All, ◌++◌};
-ghost use Rattle.nl_reports.specs.Jobs.{build_commands, is_manifest_alone, last_number, seen, told, build_jobs};
-ghost use Rattle.nl_reports.specs.Choice.{chosen, chosen_jobs};
-ghost use Rattle.nl_reports.specs.Spans.{IsEarly};
-ghost use Rattle.nl_reports.specs.Frame.{first_began};
-ghost use Rattle.nl_reports.specs.Rows.{by_start, spans};
-ghost use Rattle.nl_reports.specs.Turns.{clock_behind, jobs_in_turn, turned, turned_jobs};
+ghost use Rattle.nl_reports.specs.{Jobs.{build_commands, is_manifest_alone, last_number, seen, told, build_jobs}, Choice.{chosen, chosen_jobs}, Spans.{IsEarly}, Frame.{first_began}, Rows.{by_start, spans}, Turns.{clock_behind, jobs_in_turn, turned, turned_jobs}};
 
 use crate::job::{Job, JobsResult, between, commands_between, jobs_by_start, jobs_in, jobs_of};
 use crate::span::Span;

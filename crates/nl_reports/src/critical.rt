@@ -1,17 +1,6 @@
 //! What `summary` tells of the critical path.
-ghost use Rattle.std.specs.Prelude.{◌≡◌, ◌<◌, ◌≤◌, ◌+◌, ◌^◌, ◌++◌, ℕ, List, Some, IfOk, IfSome, IsTrue, OnOk, get_or, length, map, option_and_then, option_map, All, sum_by};
-ghost use Rattle.std.specs.List.{list_any};
-ghost use Rattle.nl_reports.specs.Critical.{IsCritical, IsFoundPath, lacking, lacking_line, path_head, ran_line, took_time};
-ghost use Rattle.nl_reports.specs.Found.{AreFound, IsFound, in_plan};
-ghost use Rattle.nl_reports.specs.Gains.{half_ran, halved};
-ghost use Rattle.nl_reports.specs.GraphText.{HeldNode, seen_graph};
-ghost use Rattle.nl_reports.specs.Jobs.{Job as SeenJob, seen};
-ghost use Rattle.nl_reports.specs.Lasting.{is_held};
-ghost use Rattle.nl_reports.specs.Plans.{kept};
-ghost use Rattle.nl_reports.specs.Outputs.{HoldPlaces, places_of};
-ghost use Rattle.nl_reports.specs.Reaches.{AreOf, IsBegun, IsFarthest, IsFollowed, IsTight, behind_at, far_at, ran_in, ran_named_in, ran_seen};
-ghost use Rattle.nl_reports.specs.Spans.{time_of};
-ghost use Rattle.nl_reports.specs.declared.graph.NinjaGraph.{NinjaGraph as HeldGraph};
+ghost use Rattle.std.specs.{Prelude.{◌≡◌, ◌<◌, ◌≤◌, ◌+◌, ◌^◌, ◌++◌, ℕ, List, Some, IfOk, IfSome, IsTrue, OnOk, get_or, length, map, option_and_then, option_map, All, sum_by}, List.{list_any}};
+ghost use Rattle.nl_reports.specs.{Critical.{IsCritical, IsFoundPath, lacking, lacking_line, path_head, ran_line, took_time}, Found.{AreFound, IsFound, in_plan}, Gains.{half_ran, halved}, GraphText.{HeldNode, seen_graph}, Jobs.{Job as SeenJob, seen}, Lasting.{is_held}, Plans.{kept}, Outputs.{HoldPlaces, places_of}, Reaches.{AreOf, IsBegun, IsFarthest, IsFollowed, IsTight, behind_at, far_at, ran_in, ran_named_in, ran_seen}, Spans.{time_of}, declared.graph.NinjaGraph.{NinjaGraph as HeldGraph}};
 
 use crate::graph::NinjaGraph;
 use crate::job::Job;

@@ -1,11 +1,6 @@
 //! Where things stand in a picture, its axis of time and its curve, and how moments are told.
 ghost use Rattle.std.specs.Prelude.{◌≡◌, ◌<◌, ◌≤◌, ◌^◌, ◌++◌, List, OnOk, All};
-ghost use Rattle.nl_reports.specs.Curve.{curve};
-ghost use Rattle.nl_reports.specs.Frame.{IsFrame, first_began, foot_of, frame_of, height, line_at, pitch, seconds, x_at, x_of, y_at};
-ghost use Rattle.nl_reports.specs.Moments.{AreMoments};
-ghost use Rattle.nl_reports.specs.Spans.{IsEarly};
-ghost use Rattle.nl_reports.specs.Ticks.{step_of, ticks};
-ghost use Rattle.nl_reports.specs.declared.span.Span.{Span};
+ghost use Rattle.nl_reports.specs.{Curve.{curve}, Frame.{IsFrame, first_began, foot_of, frame_of, height, line_at, pitch, seconds, x_at, x_of, y_at}, Moments.{AreMoments}, Spans.{IsEarly}, Ticks.{step_of, ticks}, declared.span.Span.{Span}};
 
 use crate::moments::Moments;
 use crate::span::Span;

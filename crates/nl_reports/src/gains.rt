@@ -1,12 +1,6 @@
 //! What a build gains if a command of its critical path took half as long.
 ghost use Rattle.std.specs.Prelude.{◌≡◌, List, IfOk, OnOk};
-ghost use Rattle.nl_reports.specs.Found.{IsFound};
-ghost use Rattle.nl_reports.specs.Gains.{AreGainsOf, IsGain, IsHalfPath};
-ghost use Rattle.nl_reports.specs.GraphText.{seen_graph};
-ghost use Rattle.nl_reports.specs.Jobs.{Job as SeenJob};
-ghost use Rattle.nl_reports.specs.Reaches.{AreOf, ran_seen};
-ghost use Rattle.nl_reports.specs.Spans.{time_of};
-ghost use Rattle.nl_reports.specs.declared.graph.NinjaGraph.{NinjaGraph as HeldGraph};
+ghost use Rattle.nl_reports.specs.{Found.{IsFound}, Gains.{AreGainsOf, IsGain, IsHalfPath}, GraphText.{seen_graph}, Jobs.{Job as SeenJob}, Reaches.{AreOf, ran_seen}, Spans.{time_of}, declared.graph.NinjaGraph.{NinjaGraph as HeldGraph}};
 
 use crate::critical::{Critical, Ran, Reaches};
 use nl_tool_texts::{AllocResult, Part, Ranking, append, append_line, highest};

@@ -1,9 +1,7 @@
 //! The graph that Ninja prints of a build, as `ninja -t graph` does, and an order of its edges.
 ghost use Rattle.std.specs.Prelude.{◌≡◌, ◌++◌, ℕ, List, IfErr, IfOk, IsErrOf, OnOk, map, IfSome};
-ghost use Rattle.nl_tool_texts.specs.declared.fault.ToolFault.{ToolFault};
-ghost use Rattle.nl_tool_texts.specs.GraphLine.{line_seen};
-ghost use Rattle.nl_reports.specs.GraphText.{Holds, IsGraphFault, IsOfText, IsPlaced, IsRefusedAt, edges_said, graph_of, nodes_said, seen_graph, seen_edge};
-ghost use Rattle.nl_reports.specs.Paths.{Edge as SeenEdge, Node, ClosesCycle};
+ghost use Rattle.nl_tool_texts.specs.{declared.fault.ToolFault.{ToolFault}, GraphLine.{line_seen}};
+ghost use Rattle.nl_reports.specs.{GraphText.{Holds, IsGraphFault, IsOfText, IsPlaced, IsRefusedAt, edges_said, graph_of, nodes_said, seen_graph, seen_edge}, Paths.{Edge as SeenEdge, Node, ClosesCycle}};
 
 use indexmap::IndexMap;
 use nl_table::Secret;

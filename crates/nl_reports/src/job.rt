@@ -1,8 +1,6 @@
 //! The commands of a build, with the entries of their outputs.
 ghost use Rattle.std.specs.Prelude.{◌≡◌, map, IfOk, All};
-ghost use Rattle.nl_reports.specs.Jobs.{between, build_jobs, commands_between, commands_to, entries_to, first_name, job_of, jobs_between, jobs_from, seen, told};
-ghost use Rattle.nl_reports.specs.Rows.{by_start};
-ghost use Rattle.nl_reports.specs.Spans.{IsEarly};
+ghost use Rattle.nl_reports.specs.{Jobs.{between, build_jobs, commands_between, commands_to, entries_to, first_name, job_of, jobs_between, jobs_from, seen, told}, Rows.{by_start}, Spans.{IsEarly}};
 
 use crate::moments::MOVES;
 use crate::span::Span;

@@ -1,13 +1,6 @@
 //! What so many commands at a time would take: estimates by a graph and by measured times.
 ghost use Rattle.std.specs.Prelude.{◌≡◌, ◌≤◌, ◌<◌, ◌^◌, ◌++◌, ℕ, List, map, IfOk, IfSome, IsTrue, OnOk};
-ghost use Rattle.nl_reports.specs.Found.{IsFound};
-ghost use Rattle.nl_reports.specs.GraphText.{seen_graph};
-ghost use Rattle.nl_reports.specs.Jobs.{Job as SeenJob, seen};
-ghost use Rattle.nl_reports.specs.Numbers.{total_time};
-ghost use Rattle.nl_reports.specs.Plans.{AreEstimates, HavePlan, IsToldBy, estimate_line, floor_of, kept};
-ghost use Rattle.nl_reports.specs.Reaches.{AreOf};
-ghost use Rattle.nl_reports.specs.Sweep.{last_moment, running};
-ghost use Rattle.nl_reports.specs.declared.graph.NinjaGraph.{NinjaGraph as HeldGraph};
+ghost use Rattle.nl_reports.specs.{Found.{IsFound}, GraphText.{seen_graph}, Jobs.{Job as SeenJob, seen}, Numbers.{total_time}, Plans.{AreEstimates, HavePlan, IsToldBy, estimate_line, floor_of, kept}, Reaches.{AreOf}, Sweep.{last_moment, running}, declared.graph.NinjaGraph.{NinjaGraph as HeldGraph}};
 
 use crate::critical::{Critical, Reaches, critical_lines, critical_of};
 use crate::gains::gain_lines;

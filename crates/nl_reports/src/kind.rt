@@ -1,7 +1,6 @@
 //! The kind of an output, by its name.
 ghost use Rattle.std.specs.Prelude.{◌≡◌};
-ghost use Rattle.nl_reports.specs.Kinds.{folder_of, kind_of, top_of};
-ghost use Rattle.nl_reports.specs.Work.{extension_of};
+ghost use Rattle.nl_reports.specs.{Kinds.{folder_of, kind_of, top_of}, Work.{extension_of}};
 
 use crate::work::{word, work_of};
 use memchr::memchr;

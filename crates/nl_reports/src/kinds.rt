@@ -1,7 +1,6 @@
 //! The commands of builds by kind.
 ghost use Rattle.std.specs.Prelude.{◌≡◌, ◌<◌, ◌^◌, ℕ, map, IfOk, OnOk, All};
-ghost use Rattle.nl_reports.specs.Kinds.{AreSumsOf, IsOfOne, counted, kind_pair, kinds};
-ghost use Rattle.nl_reports.specs.Rows.{told_row};
+ghost use Rattle.nl_reports.specs.{Kinds.{AreSumsOf, IsOfOne, counted, kind_pair, kinds}, Rows.{told_row}};
 
 use crate::kind::{KindRule, kind_of};
 use crate::rows::{Row, Sums};

@@ -1,8 +1,6 @@
 //! Builds without what later ones made again.
-ghost use Rattle.std.specs.Prelude.{◌≡◌, ◌-◌, ℕ, List, drop, get_or, length, map, take, IfOk};
-ghost use Rattle.std.specs.List.{list_any};
-ghost use Rattle.nl_reports.specs.Jobs.{told};
-ghost use Rattle.nl_reports.specs.Lasting.{builds_left, commands_left, is_among, is_held, last_entries, lasting, whole};
+ghost use Rattle.std.specs.{Prelude.{◌≡◌, ◌-◌, ℕ, List, drop, get_or, length, map, take, IfOk}, List.{list_any}};
+ghost use Rattle.nl_reports.specs.{Jobs.{told}, Lasting.{builds_left, commands_left, is_among, is_held, last_entries, lasting, whole}};
 
 use indexmap::IndexSet;
 use nl_builds::{Build, Builds, Command, How, NameKey};

@@ -1,39 +1,9 @@
 //! Laws of weighted times, lists, kinds, comparisons, plans, lanes and events, each the contract of a function that does nothing.
 ghost use Rattle.std.specs.Prelude.{◌≡◌, ◌+◌, ◌*◌, ◌/◌, ◌<◌, ◌≤◌, ◌^◌, ◌++◌, ◌∷◌, [], ℕ, Bool, true, false, IfSome, List, Some, count_by, length, map, slice_index, slice_index_or, take, All, filter, flat_map, sum_by, IsPermutation};
-ghost use Rattle.serde_json.specs.Data.{Data, array};
-ghost use Rattle.serde_json.specs.Read.{read};
-ghost use Rattle.serde_json.specs.View.{items_of};
+ghost use Rattle.serde_json.specs.{Data.{Data, array}, Read.{read}, View.{items_of}};
 ghost use Rattle.nl_builds.specs.Builds.{Told as BuildsTold};
-ghost use Rattle.nl_reports.specs.Bars.{drawn_width, long_bar, width_of};
-ghost use Rattle.nl_reports.specs.Compare.{Compared, Log, classes, compared, is_of, new_of, of_class, old_of, pairs, told_pair};
-ghost use Rattle.nl_reports.specs.Frame.{x_at};
-ghost use Rattle.nl_reports.specs.Jobs.{Job, first_name, jobs_from};
-ghost use Rattle.nl_reports.specs.Kinds.{kinds, named, of_kind};
-ghost use Rattle.nl_reports.specs.Lanes.{Begin, lanes};
-ghost use Rattle.nl_reports.specs.Lasting.{Rise, has_outputs, is_among, jobs_left, last_of, lasting, marked, of_name};
-ghost use Rattle.nl_reports.specs.Numbers.{total_time};
-ghost use Rattle.nl_reports.specs.Critical.{weight as node_weight};
-ghost use Rattle.nl_reports.specs.Paths.{Graph, IsPath, length_of};
-ghost use Rattle.nl_reports.specs.Picture.{bars_of};
-ghost use Rattle.nl_reports.specs.Plans.{IsPlan};
-ghost use Rattle.nl_reports.specs.Reading.{FewTaken, IsEvent};
-ghost use Rattle.nl_reports.specs.Rows.{Told, by_start, spans, told_jobs};
+ghost use Rattle.nl_reports.specs.{Bars.{drawn_width, long_bar, width_of}, Compare.{Compared, Log, classes, compared, is_of, new_of, of_class, old_of, pairs, told_pair}, Frame.{x_at}, Jobs.{Job, first_name, jobs_from}, Kinds.{kinds, named, of_kind}, Lanes.{Begin, lanes}, Lasting.{Rise, has_outputs, is_among, jobs_left, last_of, lasting, marked, of_name}, Numbers.{total_time}, Critical.{weight as node_weight}, Paths.{Graph, IsPath, length_of}, Picture.{bars_of}, Plans.{IsPlan}, Reading.{FewTaken, IsEvent}, Rows.{Told, by_start, spans, told_jobs}, Spans.{IsEarly, time_of}, declared.span.Span.{Span}, Sweep.{busy_time, left_over, parts, runs_at, weight}, Ticks.{IsRound, step_of}, Times.{job_work, share_of, time_in, times_of, total}, Trace.{array_text, how_in, number_in, scoped_text, trace_events}, Turns.{jobs_in_turn}, Work.{is_same}, declared.work.Times.{Times}, declared.work.Work.{Work}, declared.work.Work.TheVariants.{Archive, Compile, Generate, Link, Other, Test}, declared.choice.Scope.{Scope}, declared.sides.Rules.{Rules}, declared.frame.Frame.{Frame}, declared.kind.KindRule.{KindRule}};
 ghost use Rattle.nl_tool_texts.specs.Falling.{falling, ranked};
-ghost use Rattle.nl_reports.specs.Spans.{IsEarly, time_of};
-ghost use Rattle.nl_reports.specs.declared.span.Span.{Span};
-ghost use Rattle.nl_reports.specs.Sweep.{busy_time, left_over, parts, runs_at, weight};
-ghost use Rattle.nl_reports.specs.Ticks.{IsRound, step_of};
-ghost use Rattle.nl_reports.specs.Times.{job_work, share_of, time_in, times_of, total};
-ghost use Rattle.nl_reports.specs.Trace.{array_text, how_in, number_in, scoped_text, trace_events};
-ghost use Rattle.nl_reports.specs.Turns.{jobs_in_turn};
-ghost use Rattle.nl_reports.specs.Work.{is_same};
-ghost use Rattle.nl_reports.specs.declared.work.Times.{Times};
-ghost use Rattle.nl_reports.specs.declared.work.Work.{Work};
-ghost use Rattle.nl_reports.specs.declared.work.Work.TheVariants.{Archive, Compile, Generate, Link, Other, Test};
-ghost use Rattle.nl_reports.specs.declared.choice.Scope.{Scope};
-ghost use Rattle.nl_reports.specs.declared.sides.Rules.{Rules};
-ghost use Rattle.nl_reports.specs.declared.frame.Frame.{Frame};
-ghost use Rattle.nl_reports.specs.declared.kind.KindRule.{KindRule};
 
 /// The weighted times of commands, and what is left over, add up to the time in which one command at least runs.
 pub fn weights_add_up()

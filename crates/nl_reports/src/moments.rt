@@ -1,10 +1,6 @@
 //! When commands begin and end.
 ghost use Rattle.std.specs.Prelude.{◌≡◌, ◌-◌, ◌<◌, ◌≤◌, ◌^◌, ℕ, List, length, slice_index, IfOk, IsTrue, All, IsPermutation};
-ghost use Rattle.nl_reports.specs.Moments.{AreMoments};
-ghost use Rattle.nl_reports.specs.Spans.{IsEarly};
-ghost use Rattle.nl_reports.specs.declared.span.Span.{Span};
-ghost use Rattle.nl_reports.specs.Sweep.{running};
-ghost use Rattle.nl_reports.specs.SweepSteps.{Rises};
+ghost use Rattle.nl_reports.specs.{Moments.{AreMoments}, Spans.{IsEarly}, declared.span.Span.{Span}, Sweep.{running}, SweepSteps.{Rises}};
 
 use crate::span::Span;
 use nl_tool_texts::AllocResult;

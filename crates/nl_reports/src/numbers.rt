@@ -1,8 +1,6 @@
 //! The numbers of builds.
 ghost use Rattle.std.specs.Prelude.{◌≡◌, map, IfOk, All};
-ghost use Rattle.nl_reports.specs.Jobs.{seen, told};
-ghost use Rattle.nl_reports.specs.Numbers.{IsSmall, numbers_of, spans_of};
-ghost use Rattle.nl_reports.specs.Spans.{IsEarly, span_of};
+ghost use Rattle.nl_reports.specs.{Jobs.{seen, told}, Numbers.{IsSmall, numbers_of, spans_of}, Spans.{IsEarly, span_of}};
 
 use crate::job::{Job, commands_between, commands_to, entries_to};
 use crate::span::Span;

@@ -1,7 +1,6 @@
 //! Which command has an output.
 ghost use Rattle.std.specs.Prelude.{◌≡◌, ℕ, List, map, IfOk};
-ghost use Rattle.nl_reports.specs.Jobs.{seen};
-ghost use Rattle.nl_reports.specs.Outputs.{HoldPlaces, last_at, places_of};
+ghost use Rattle.nl_reports.specs.{Jobs.{seen}, Outputs.{HoldPlaces, last_at, places_of}};
 
 use crate::job::Job;
 use indexmap::IndexMap;

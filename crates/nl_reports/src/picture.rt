@@ -1,13 +1,6 @@
 //! The text of `picture`: builds as SVG.
 ghost use Rattle.std.specs.Prelude.{◌≡◌, ℕ, ◌<◌, ◌+◌, ◌^◌, ◌++◌, Some, map, option_map, replicate, IfErr, IfOk, OnOk, All};
-ghost use Rattle.nl_reports.specs.Bars.{no_short};
-ghost use Rattle.nl_reports.specs.Frame.{IsFrame};
-ghost use Rattle.nl_reports.specs.GraphText.{seen_graph};
-ghost use Rattle.nl_reports.specs.Jobs.{seen, told};
-ghost use Rattle.nl_reports.specs.Picture.{IsPicture, bars, end, known_in, known_line, legend_kind, longest, name, outlined, picture, start};
-ghost use Rattle.nl_reports.specs.Reaches.{rans_of};
-ghost use Rattle.nl_reports.specs.Spans.{IsEarly, time_of};
-ghost use Rattle.nl_reports.specs.Times.{AreTimesOf};
+ghost use Rattle.nl_reports.specs.{Bars.{no_short}, Frame.{IsFrame}, GraphText.{seen_graph}, Jobs.{seen, told}, Picture.{IsPicture, bars, end, known_in, known_line, legend_kind, longest, name, outlined, picture, start}, Reaches.{rans_of}, Spans.{IsEarly, time_of}, Times.{AreTimesOf}};
 ghost use Rattle.nl_tool_texts.specs.Writing.{IsFoundFault, IsWriteFault, PrintsInPieces, Writes};
 
 use crate::bars::{Short, append_bar, append_short};

@@ -1,10 +1,6 @@
 //! How much of the time of a build each command counts for, by a sweep over the moments at which commands begin and end.
 ghost use Rattle.std.specs.Prelude.{◌≡◌, ◌-◌, List, get_or, max, IfOk, All, Contains, ◌⊎◌, ◌+◌, ◌*◌, ◌<◌, ◌≤◌, ◌^◌, ℕ, [], map, length, slice_index, EachIndex, IsTrue, MatchBool, OnOk};
-ghost use Rattle.nl_reports.specs.Sweep.{alone_time, busy_time, most_at_once, weight, share_of, parts};
-ghost use Rattle.nl_reports.specs.Spans.{IsEarly};
-ghost use Rattle.nl_reports.specs.declared.span.Span.{Span};
-ghost use Rattle.nl_reports.specs.Shares.{AreSharesOf};
-ghost use Rattle.nl_reports.specs.SweepSteps.{AreSums, IsLow, IsSwept, Rises, running_by, shares_before};
+ghost use Rattle.nl_reports.specs.{Sweep.{alone_time, busy_time, most_at_once, weight, share_of, parts}, Spans.{IsEarly}, declared.span.Span.{Span}, Shares.{AreSharesOf}, SweepSteps.{AreSums, IsLow, IsSwept, Rises, running_by, shares_before}};
 
 use crate::moments::{Moments, Near, up_to};
 use crate::span::Span;

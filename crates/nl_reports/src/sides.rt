@@ -1,9 +1,6 @@
 //! The commands of two logs, side by side.
 ghost use Rattle.std.specs.Prelude.{◌≡◌, ◌++◌, [], ℕ, List, false, get_or, map, option_map, IfOk, OnOk};
-ghost use Rattle.nl_reports.specs.Compare.{compared, compared_of, cost_of, fresh, held_side, job_at, new_time, of_class, old_time, or_unfinished, pair_of, pairs_from, partner, side_of, time_in, told_pair, waits, with_taken};
-ghost use Rattle.nl_reports.specs.Jobs.{seen};
-ghost use Rattle.nl_reports.specs.Lasting.{marked};
-ghost use Rattle.nl_reports.specs.Outputs.{HoldPlaces, places_of};
+ghost use Rattle.nl_reports.specs.{Compare.{compared, compared_of, cost_of, fresh, held_side, job_at, new_time, of_class, old_time, or_unfinished, pair_of, pairs_from, partner, side_of, time_in, told_pair, waits, with_taken}, Jobs.{seen}, Lasting.{marked}, Outputs.{HoldPlaces, places_of}};
 
 use crate::class::{Class, class_by_time, class_number};
 use crate::job::{Job, jobs_from};

@@ -1,15 +1,7 @@
 //! The text of `summary`.
 ghost use Rattle.std.specs.Prelude.{◌≡◌, ◌+◌, ◌++◌, ◌<◌, ◌^◌, ℕ, List, None, Some, map, option_map, slice_get, IfOk, OnOk, All};
-ghost use Rattle.nl_reports.specs.Jobs.{build_jobs, seen, told};
-ghost use Rattle.nl_reports.specs.Kinds.{IsOfOne};
-ghost use Rattle.nl_reports.specs.Numbers.{IsSmall, spans_of};
-ghost use Rattle.nl_reports.specs.Rows.{rank_told, told_jobs, told_row, weighed, weights_of};
+ghost use Rattle.nl_reports.specs.{Jobs.{build_jobs, seen, told}, Kinds.{IsOfOne}, Numbers.{IsSmall, spans_of}, Rows.{rank_told, told_jobs, told_row, weighed, weights_of}, Shares.{AreSharesOf}, Spans.{IsEarly}, declared.span.Span.{Span}, Summary.{AreHighest, AreTotalsOf, again_in, again_line, both_lists, bound, chosen_text, count_line, few_text, first_of, lists_text, most_taken, no_totals, number_lines, rows_from, slowest_line, slowest_time, summary_text, taken_in, title, total_of, totals_from, unfinished_line, with_build, with_numbers}, declared.rows.Rank.TheVariants.{Time}};
 ghost use Rattle.nl_tool_texts.specs.Falling.{falling};
-ghost use Rattle.nl_reports.specs.Shares.{AreSharesOf};
-ghost use Rattle.nl_reports.specs.Spans.{IsEarly};
-ghost use Rattle.nl_reports.specs.declared.span.Span.{Span};
-ghost use Rattle.nl_reports.specs.Summary.{AreHighest, AreTotalsOf, again_in, again_line, both_lists, bound, chosen_text, count_line, few_text, first_of, lists_text, most_taken, no_totals, number_lines, rows_from, slowest_line, slowest_time, summary_text, taken_in, title, total_of, totals_from, unfinished_line, with_build, with_numbers};
-ghost use Rattle.nl_reports.specs.declared.rows.Rank.TheVariants.{Time};
 
 use crate::choice::{Choice, Scope, chosen};
 use crate::job::{Job, between, commands_between, commands_to, entries_to, job_of};

@@ -1,13 +1,7 @@
 //! The text of `trace`: the events of builds, as JSON.
 ghost use Rattle.std.specs.Prelude.{◌≡◌, ◌<◌, ◌^◌, ◌++◌, List, IfErr, OnOk, All, ◌∷◌, IfOk, IsTrue, string_bytes};
-ghost use Rattle.nl_reports.specs.Jobs.{seen, told, first_name};
-ghost use Rattle.nl_reports.specs.Moments.{AreMoments};
-ghost use Rattle.nl_reports.specs.Spans.{IsEarly};
-ghost use Rattle.nl_reports.specs.declared.span.Span.{Span};
-ghost use Rattle.nl_reports.specs.Trace.{how_in, number_in, scoped_text};
-ghost use Rattle.nl_tool_texts.specs.Writing.{IsWriteFault, Writes};
-ghost use Rattle.nl_reports.specs.Events.{args_of, build_event, build_name, command_event, event_text, running_event, shown};
-ghost use Rattle.nl_tool_texts.specs.Escape.{IsBare};
+ghost use Rattle.nl_reports.specs.{Jobs.{seen, told, first_name}, Moments.{AreMoments}, Spans.{IsEarly}, declared.span.Span.{Span}, Trace.{how_in, number_in, scoped_text}, Events.{args_of, build_event, build_name, command_event, event_text, running_event, shown}};
+ghost use Rattle.nl_tool_texts.specs.{Writing.{IsWriteFault, Writes}, Escape.{IsBare}};
 
 use crate::choice::{Choice, Scope, chosen, jobs_in_turn, last_number};
 use crate::frame::first_began;

@@ -1,9 +1,6 @@
 //! What a command does, by the extension of its first output, and how long commands took by it.
 ghost use Rattle.std.specs.Prelude.{◌≡◌, map, ◌+◌, ◌<◌, ◌^◌, ℕ, length, All};
-ghost use Rattle.nl_reports.specs.Work.{is_in, place, word, work_of};
-ghost use Rattle.nl_reports.specs.Jobs.{seen};
-ghost use Rattle.nl_reports.specs.Spans.{IsEarly};
-ghost use Rattle.nl_reports.specs.Times.{AreTimesOf, share_of, times_of, total};
+ghost use Rattle.nl_reports.specs.{Work.{is_in, place, word, work_of}, Jobs.{seen}, Spans.{IsEarly}, Times.{AreTimesOf, share_of, times_of, total}};
 
 use crate::job::Job;
 use crate::kind::extension_of;

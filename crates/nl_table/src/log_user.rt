@@ -1,7 +1,6 @@
 //! Users of a log, who say which paths are dead.
 ghost use Rattle.std.specs.Prelude.{◌≡◌, ℕ, List, Bool, false};
-ghost use Rattle.nl_table.specs.History.{holds};
-ghost use Rattle.nl_table.specs.LogUser.{is_dead_by};
+ghost use Rattle.nl_table.specs.{History.{holds}, LogUser.{is_dead_by}};
 
 use nl_fields::Name;
 

@@ -1,7 +1,6 @@
 //! Sets of names.
 ghost use Rattle.std.specs.Prelude.{◌≡◌, ℕ, List, [], not, IfOk, OnOk};
-ghost use Rattle.nl_table.specs.History.{holds};
-ghost use Rattle.nl_table.specs.Table.{with_name};
+ghost use Rattle.nl_table.specs.{History.{holds}, Table.{with_name}};
 
 use crate::log_user::LogUser;
 use crate::output_key::{NameKey, OutputKey};

@@ -1,8 +1,6 @@
 //! The key of an output in the map: its name, which is hashed as a whole.
-ghost use Rattle.std.specs.Prelude.{◌≡◌, ◌∷◌, [], nat_eq};
+ghost use Rattle.std.specs.{Prelude.{◌≡◌, ◌∷◌, [], nat_eq}, Cmp.{on_per, on_equiv, partial_equiv_from_equiv}, Cmp.Lexicographic.{pointwise, bytes_decides, nat_list_eq_equiv}};
 ghost use Rattle.std.proofs.Common.{ap};
-ghost use Rattle.std.specs.Cmp.{on_per, on_equiv, partial_equiv_from_equiv};
-ghost use Rattle.std.specs.Cmp.Lexicographic.{pointwise, bytes_decides, nat_list_eq_equiv};
 ghost use Rattle.nl_table.specs.Keys.{key_bytes};
 
 use indexmap::Equivalent;

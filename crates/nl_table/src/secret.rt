@@ -1,6 +1,5 @@
 //! The hash of a name, which has a secret: two numbers that whoever chooses names doesn't know.
-ghost use Rattle.std.specs.Prelude.{◌≡◌, ◌+◌, ◌≤◌, length};
-ghost use Rattle.std.specs.Hash.FoldHasher.{folded_multiply, read_short, read_u32, read_u64};
+ghost use Rattle.std.specs.{Prelude.{◌≡◌, ◌+◌, ◌≤◌, length}, Hash.FoldHasher.{folded_multiply, read_short, read_u32, read_u64}};
 ghost use Rattle.nl_table.specs.Hash.{mixed, mixed_blocks, hashed};
 
 use std::hash::{BuildHasher, Hasher};

@@ -1,17 +1,11 @@
 //! The words that change a log, over the folder of the real file LOG: `prune` and `retime` by what a build has.
 ghost use Rattle.std.specs.Prelude.{◌≡◌, ◌<◌, ◌⊎◌, ℕ, ℤ, [], List, Option, Err, IfErr, IsErr, IsErrAnd, IsSomeAnd, OnOk, length, slice_get};
 ghost use Rattle.nl_folder.specs.FolderView.{FolderView, folder_view};
-ghost use Rattle.nl_tool_change.specs.Applying.{IsApplied};
-ghost use Rattle.nl_tool_change.specs.Calls.{ChangesLogFor, adding, hashed, keeping, keeping_all, touching};
-ghost use Rattle.nl_tool_change.specs.Faults.{IsApplyFault, IsEntryFault, IsFileFault, IsRecompactFault, IsRecordFault, IsRestatFault};
-ghost use Rattle.nl_tool_change.specs.Files.{keep_of, times_of};
-ghost use Rattle.nl_tool_change.specs.RecordWords.{GiveEntry};
-ghost use Rattle.nl_tool_change.specs.Updates.{AsSaid};
+ghost use Rattle.nl_tool_change.specs.{Applying.{IsApplied}, Calls.{ChangesLogFor, adding, hashed, keeping, keeping_all, touching}, Faults.{IsApplyFault, IsEntryFault, IsFileFault, IsRecompactFault, IsRecordFault, IsRestatFault}, Files.{keep_of, times_of}, RecordWords.{GiveEntry}, Updates.{AsSaid}};
 ghost use Rattle.nl_tool_doubt.specs.There.{AddsFor, KeepsMost, pair_by};
 ghost use Rattle.nl_tool_print.specs.Faults.{IsLogFault};
 ghost use Rattle.nl_versions.specs.LogAs.{log_for};
-ghost use Rattle.nl_tool.specs.Answers.{RefusesLog};
-ghost use Rattle.nl_tool.specs.Faults.{IsPruneFault, IsRepairFault, IsSettlingFault, IsTargetsFault};
+ghost use Rattle.nl_tool.specs.{Answers.{RefusesLog}, Faults.{IsPruneFault, IsRepairFault, IsSettlingFault, IsTargetsFault}};
 ghost use Rattle.nl_tool_texts.specs.declared.fault.ToolFault.{ToolFault};
 
 use crate::desk::{Desk, ToolResult, close};

@@ -2,14 +2,12 @@
 //! all bytes are read before.
 ghost use Rattle.std.specs.Prelude.{◌≡◌, ◌&&◌, false, not, is_some, IfErr, IfOk, IfSome, IsErr, IsErrOf, IsSome};
 ghost use Rattle.nl_files.specs.FileFolder.{system_of};
-ghost use Rattle.nl_os.specs.OsSystem.{is_masked, paths_of, unsynced_of};
-ghost use Rattle.nl_os.specs.Paths.{ArePathsOf};
+ghost use Rattle.nl_os.specs.{OsSystem.{is_masked, paths_of, unsynced_of}, Paths.{ArePathsOf}};
 ghost use Rattle.nl_table.specs.Log.{NotALog, log_of};
 ghost use Rattle.nl_tool_print.specs.Faults.{IsLogFault};
-ghost use Rattle.nl_tool_texts.specs.Files.{OfBytes};
+ghost use Rattle.nl_tool_texts.specs.{Files.{OfBytes}, declared.fault.ToolFault.{ToolFault}};
 ghost use Rattle.nl_versions.specs.VersionOf.{as_five};
 ghost use Rattle.nl_tool.specs.VersionChoice.{asked_in, number_of};
-ghost use Rattle.nl_tool_texts.specs.declared.fault.ToolFault.{ToolFault};
 
 use crate::notes::{NotedReader, Notes};
 use crate::numbers::positive_of;

@@ -7,11 +7,8 @@
 //! 2. LOG is written anew with an intent over the entry of each output that can't be trusted, in one change (`mend_on`). If
 //!    there is no such output, and no line is damaged, LOG stays as it is.
 //! 3. The outputs are printed.
-ghost use Rattle.std.specs.Prelude.{◌≡◌, ◌<◌, ◌↔◌, None, IfErr, IfOk, IsErrOf, length, flat_map};
-ghost use Rattle.std.specs.Io.KnownBytes.{Appends};
-ghost use Rattle.nl_tool_doubt.specs.Doubts.{IsDoubts, doubt_line, undamaged};
-ghost use Rattle.nl_tool_doubt.specs.Mending.{IsMendFault, MendsFolder};
-ghost use Rattle.nl_tool_doubt.specs.declared.doubts.Doubts.{Doubts};
+ghost use Rattle.std.specs.{Prelude.{◌≡◌, ◌<◌, ◌↔◌, None, IfErr, IfOk, IsErrOf, length, flat_map}, Io.KnownBytes.{Appends}};
+ghost use Rattle.nl_tool_doubt.specs.{Doubts.{IsDoubts, doubt_line, undamaged}, Mending.{IsMendFault, MendsFolder}, declared.doubts.Doubts.{Doubts}};
 ghost use Rattle.nl_folder.specs.FolderView.{FolderView, folder_view};
 ghost use Rattle.nl_tool_print.specs.Faults.{IsLogFault};
 ghost use Rattle.nl_versions.specs.VersionOf.{as_five};

@@ -3,8 +3,7 @@ ghost use Rattle.std.specs.Prelude.{Option};
 ghost use Rattle.nl_tool_change.specs.declared.line_fault.WrongNumber.{WrongNumber};
 ghost use Rattle.nl_tool_texts.specs.declared.fault.ToolFault.{ToolFault};
 ghost use Rattle.nl_tool_words.specs.declared.words.Words.{Words};
-ghost use Rattle.nl_tool.specs.Faults.{IsFaultOf};
-ghost use Rattle.nl_tool.specs.Reasons.{HasText};
+ghost use Rattle.nl_tool.specs.{Faults.{IsFaultOf}, Reasons.{HasText}};
 
 pub use nl_reports::laws::{little_is_left_over, weights_add_up};
 pub use nl_tool_change::laws::{a_repaired_log_has_no_damage, damage_is_what_check_counts};

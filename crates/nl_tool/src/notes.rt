@@ -1,8 +1,6 @@
 //! What the system said of the calls that failed, and the first line of the log that is read, with what it looks like: kept while a
 //! command is done, for whoever asks why it was refused.
-ghost use Rattle.std.specs.Prelude.{◌≡◌, None, Some, IfErr, IfSome, false, true, string_bytes, flat_map};
-ghost use Rattle.std.specs.Io.{ReadsAtMost, WritesAtMost};
-ghost use Rattle.std.specs.Io.KnownBytes.{Keeps, ReadConsumes, WriteAppends};
+ghost use Rattle.std.specs.{Prelude.{◌≡◌, None, Some, IfErr, IfSome, false, true, string_bytes, flat_map}, Io.{ReadsAtMost, WritesAtMost}, Io.KnownBytes.{Keeps, ReadConsumes, WriteAppends}};
 ghost use Rattle.nl_tool.specs.Looks.{escaped, look_of, look_text};
 
 use crate::desk::Screen;

@@ -1,16 +1,10 @@
 //! The words that print, over LOG, FILE, SCRIPT or standard input, with standard output for their text.
-ghost use Rattle.std.specs.Prelude.{◌≡◌, ◌<◌, ◌↔◌, ℕ, List, IfErr, IfOk, IfSome, IsErrOf, MatchResult, length};
-ghost use Rattle.std.specs.Io.KnownBytes.{Appends};
-ghost use Rattle.nl_tool_print.specs.Faults.{IsLogFault};
-ghost use Rattle.nl_tool_print.specs.Output.{IsTextAsRead};
-ghost use Rattle.nl_tool_print.specs.Streams.{IsSoFar, damage_text_of};
-ghost use Rattle.nl_versions.specs.VersionOf.{as_five};
-ghost use Rattle.nl_versions.specs.LogAs.{log_for};
+ghost use Rattle.std.specs.{Prelude.{◌≡◌, ◌<◌, ◌↔◌, ℕ, List, IfErr, IfOk, IfSome, IsErrOf, MatchResult, length}, Io.KnownBytes.{Appends}};
+ghost use Rattle.nl_tool_print.specs.{Faults.{IsLogFault}, Output.{IsTextAsRead}, Streams.{IsSoFar, damage_text_of}};
+ghost use Rattle.nl_versions.specs.{VersionOf.{as_five}, LogAs.{log_for}};
 ghost use Rattle.nl_table.specs.Log.{NotALog, OtherVersion, log_of};
-ghost use Rattle.nl_tool_texts.specs.Output.{Prints};
-ghost use Rattle.nl_tool_texts.specs.declared.fault.ToolFault.{ToolFault};
-ghost use Rattle.nl_tool.specs.Answers.{IsAnswer, RefusesLog};
-ghost use Rattle.nl_tool.specs.Faults.{IsPrintingFault, IsReadingFault};
+ghost use Rattle.nl_tool_texts.specs.{Output.{Prints}, declared.fault.ToolFault.{ToolFault}};
+ghost use Rattle.nl_tool.specs.{Answers.{IsAnswer, RefusesLog}, Faults.{IsPrintingFault, IsReadingFault}};
 
 use crate::desk::{Desk, ToolResult};
 use crate::notes::{NotedReader, NotedWriter};

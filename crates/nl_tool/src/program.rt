@@ -1,12 +1,8 @@
 //! The program: what it does once its words are read; and how it ends, what it says of an answer, on which stream, and with which status.
-ghost use Rattle.std.specs.Prelude.{◌≡◌, ◌≢◌, ◌≤◌, Option, map, string_bytes, IfErr, IfOk, OnOk};
-ghost use Rattle.std.specs.IoError.{error_kind};
-ghost use Rattle.std.specs.declared.io.ErrorKind.TheVariants.{OutOfMemory};
+ghost use Rattle.std.specs.{Prelude.{◌≡◌, ◌≢◌, ◌≤◌, Option, map, string_bytes, IfErr, IfOk, OnOk}, IoError.{error_kind}, declared.io.ErrorKind.TheVariants.{OutOfMemory}};
 ghost use Rattle.clap.specs.Words.{kind_of};
 ghost use Rattle.nl_tool_change.specs.declared.line_fault.WrongNumber.{WrongNumber};
-ghost use Rattle.nl_tool.specs.Ending.{status_after, IsStatusBy, IsStatusOfKind};
-ghost use Rattle.nl_tool.specs.Faults.{CanBeDone, CanFind, IsFaultOf};
-ghost use Rattle.nl_tool.specs.Meant.{meant};
+ghost use Rattle.nl_tool.specs.{Ending.{status_after, IsStatusBy, IsStatusOfKind}, Faults.{CanBeDone, CanFind, IsFaultOf}, Meant.{meant}};
 ghost use Rattle.nl_tool_words.specs.CommandLine.{entered_of, fault_in};
 
 use crate::desk::{Desk, NO_SCREEN, Screen, ToolResult};

@@ -2,9 +2,7 @@
 ghost use Rattle.std.specs.Prelude.{◌≡◌, None, Some, IfSome, IsSome, false, true};
 ghost use Rattle.nl_os.specs.declared.failed_call.FileRole.{FileRole};
 ghost use Rattle.nl_tool_texts.specs.declared.fault.ToolFault.{ToolFault};
-ghost use Rattle.nl_tool.specs.declared.reason.Place.{Place};
-ghost use Rattle.nl_tool.specs.declared.reason.Reason.{Reason};
-ghost use Rattle.nl_tool.specs.Reasons.{HasText, IsMasked, IsNoteFor, IsReasonFor, IsSystem, IsUnsynced, log_place, mended_place, number_text, place_text, read_place, reads_input, reason_text, refusal_text, why_text, words_for, words_heard};
+ghost use Rattle.nl_tool.specs.{declared.reason.Place.{Place}, declared.reason.Reason.{Reason}, Reasons.{HasText, IsMasked, IsNoteFor, IsReasonFor, IsSystem, IsUnsynced, log_place, mended_place, number_text, place_text, read_place, reads_input, reason_text, refusal_text, why_text, words_for, words_heard}};
 
 use crate::notes::{Look, Notes, escaped_of, look_of};
 use nl_os::{Failure, FileRole, folder_part};

@@ -2,18 +2,12 @@
 //! their text.
 ghost use Rattle.std.specs.Prelude.{◌≡◌, ℕ, List, map, Some, IfErr, IfOk, IsErrOf, OnOk, is_some};
 ghost use Rattle.nl_builds.specs.declared.log.LogBuilds.{LogBuilds};
-ghost use Rattle.nl_tool_texts.specs.Output.{Prints};
+ghost use Rattle.nl_tool_texts.specs.{Output.{Prints}, declared.fault.ToolFault.{ToolFault}, Writing.{IsFoundFault, IsWriteFault}};
 ghost use Rattle.nl_versions.specs.VersionOf.{as_five};
 ghost use Rattle.nl_table.specs.Log.{NotALog, OtherVersion, log_of};
-ghost use Rattle.nl_reports.specs.Compare.{are_comparable, compare_text, side_of};
-ghost use Rattle.nl_tool_texts.specs.declared.fault.ToolFault.{ToolFault};
-ghost use Rattle.nl_reports.specs.Jobs.{told};
-ghost use Rattle.nl_tool_texts.specs.Writing.{IsFoundFault, IsWriteFault};
-ghost use Rattle.nl_reports.specs.declared.choice.Scope.{Scope};
-ghost use Rattle.nl_tool.specs.Answers.{RefusesLog};
-ghost use Rattle.nl_tool.specs.Faults.{IsCompareFault, IsPictureFault, IsReportFault, IsSummaryFault, IsToldFault};
+ghost use Rattle.nl_reports.specs.{Compare.{are_comparable, compare_text, side_of}, Jobs.{told}, declared.choice.Scope.{Scope}};
+ghost use Rattle.nl_tool.specs.{Answers.{RefusesLog}, Faults.{IsCompareFault, IsPictureFault, IsReportFault, IsSummaryFault, IsToldFault}, Reports.{AreCounts, IsLaidOut, IsLastOf, IsLeast, IsMost, IsReport, IsReportOf, IsScope, IsSummary, PrintsReport, asked_told, laid_out, rule_of, side_in, waiting}};
 ghost use Rattle.nl_tool_print.specs.Faults.{IsLogFault};
-ghost use Rattle.nl_tool.specs.Reports.{AreCounts, IsLaidOut, IsLastOf, IsLeast, IsMost, IsReport, IsReportOf, IsScope, IsSummary, PrintsReport, asked_told, laid_out, rule_of, side_in, waiting};
 
 use crate::desk::{Desk, Means, ToolResult};
 use crate::notes::NotedWriter;

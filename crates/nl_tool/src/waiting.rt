@@ -1,8 +1,6 @@
 //! What is said on standard error while a command lasts: how much of a log is read, if that takes long, and that a log is locked and
 //! waited for.
-ghost use Rattle.std.specs.Prelude.{◌≡◌};
-ghost use Rattle.std.specs.Io.{ReadsAtMost};
-ghost use Rattle.std.specs.Io.KnownBytes.{ReadConsumes};
+ghost use Rattle.std.specs.{Prelude.{◌≡◌}, Io.{ReadsAtMost}, Io.KnownBytes.{ReadConsumes}};
 
 use std::alloc::Allocator;
 use std::cell::Cell;

@@ -1,10 +1,7 @@
 //! What a line of `apply` asks for.
 ghost use Rattle.std.specs.Prelude.{◌++◌, ◌∷◌, ◌≢◌, codes, IfOk, IsErrAnd};
 ghost use Rattle.nl_session.specs.declared.events.Event.TheVariants.{Crash};
-ghost use Rattle.nl_tool_change.specs.Replay.{KeepsSome, event_line};
-ghost use Rattle.nl_tool_change.specs.declared.script.LineRefusal.{LineRefusal};
-ghost use Rattle.nl_tool_change.specs.declared.asked.Asked.{Asked};
-ghost use Rattle.nl_tool_change.specs.Applying.{Asks, BeginsBy, BeginsNone};
+ghost use Rattle.nl_tool_change.specs.{Replay.{KeepsSome, event_line}, declared.script.LineRefusal.{LineRefusal}, declared.asked.Asked.{Asked}, Applying.{Asks, BeginsBy, BeginsNone}};
 
 use crate::deed::Deed;
 use crate::files::why_no_name;

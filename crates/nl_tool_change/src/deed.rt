@@ -1,12 +1,7 @@
 //! An event that a line asks for, with the names that it keeps as a set, which takes its memory before the log is touched.
 ghost use Rattle.std.specs.Prelude.{◌≡◌, ◌≢◌, IfOk, IfSome, IsErr};
-ghost use Rattle.nl_table.specs.History.{holds};
-ghost use Rattle.nl_table.specs.Table.{each_once};
-ghost use Rattle.nl_table.specs.declared.log_user.KeepList.{KeepList};
-ghost use Rattle.nl_session.specs.declared.events.Event.{Event};
-ghost use Rattle.nl_session.specs.Machine.{reply_of};
-ghost use Rattle.nl_session.specs.LogView.{view_of};
-ghost use Rattle.nl_session.specs.Answers.{Answered};
+ghost use Rattle.nl_table.specs.{History.{holds}, Table.{each_once}, declared.log_user.KeepList.{KeepList}};
+ghost use Rattle.nl_session.specs.{declared.events.Event.{Event}, Machine.{reply_of}, LogView.{view_of}, Answers.{Answered}};
 ghost use Rattle.nl_tool_change.specs.Deeds.{HasNames, IsDeadBut, KeepsNames, SetsFor};
 
 use nl_fields::Name;

@@ -1,9 +1,8 @@
 //! The files KEEP and TIMES, and the targets of a build.
 ghost use Rattle.std.specs.Prelude.{◌≡◌, ◌++◌, ◌∷◌, [], ℕ, List, IfOk, IfErr, IsErrAnd, IsNone, IsSome, IfSome, option_map};
 ghost use Rattle.nl_table.specs.History.{holds};
-ghost use Rattle.nl_tool_change.specs.Faults.{IsBadLine, IsFileFault};
+ghost use Rattle.nl_tool_change.specs.{Faults.{IsBadLine, IsFileFault}, Files.{IfBadLine, IfSaid, Says, before_rule, keep_of, manifest_of, name_on, pair_on, target_on}};
 ghost use Rattle.nl_tool_texts.specs.Files.{OfBytes};
-ghost use Rattle.nl_tool_change.specs.Files.{IfBadLine, IfSaid, Says, before_rule, keep_of, manifest_of, name_on, pair_on, target_on};
 
 use crate::change::ToolResult;
 use crate::line_fault::{LineFault, NumberFault, Told, number_fault};

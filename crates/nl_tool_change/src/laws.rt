@@ -4,10 +4,8 @@ ghost use Rattle.nl_lines.specs.Split.{torn_len};
 ghost use Rattle.nl_table.specs.Log.{skipped_count};
 ghost use Rattle.nl_tool_print.specs.Streams.{damage_text_of};
 ghost use Rattle.nl_tool_texts.specs.declared.fault.ToolFault.{ToolFault};
-ghost use Rattle.nl_tool_change.specs.Calls.{ChangesAsRead, SaysAsRead, keeping, touching};
+ghost use Rattle.nl_tool_change.specs.{Calls.{ChangesAsRead, SaysAsRead, keeping, touching}, Files.{keep_of, times_of}, Updates.{repaired_text}};
 ghost use Rattle.nl_folder.specs.FolderView.{folder_view};
-ghost use Rattle.nl_tool_change.specs.Files.{keep_of, times_of};
-ghost use Rattle.nl_tool_change.specs.Updates.{repaired_text};
 
 use nl_folder::Folder;
 

@@ -1,11 +1,8 @@
 //! Files that say something line by line.
-ghost use Rattle.std.specs.Prelude.{◌≡◌, ◌⊎◌, ℕ, ◌+◌, ◌<◌, ◌≤◌, ◌^◌, List, Option, None, IfOk, IfErr, IsErrAnd, IsSome, OnOk, length};
-ghost use Rattle.std.specs.Result.{result_ok};
+ghost use Rattle.std.specs.{Prelude.{◌≡◌, ◌⊎◌, ℕ, ◌+◌, ◌<◌, ◌≤◌, ◌^◌, List, Option, None, IfOk, IfErr, IsErrAnd, IsSome, OnOk, length}, Result.{result_ok}};
 ghost use Rattle.nl_lines.specs.Lines.{lent_rest, max_line};
-ghost use Rattle.nl_tool_change.specs.Faults.{IsBadLine, IsFileFault};
-ghost use Rattle.nl_tool_texts.specs.Files.{OfBytes};
-ghost use Rattle.nl_tool_change.specs.Files.{IfBadLine, IfSaid, said_after, said_by, said_so_far};
-ghost use Rattle.nl_tool_texts.specs.declared.fault.ToolFault.{ToolFault};
+ghost use Rattle.nl_tool_change.specs.{Faults.{IsBadLine, IsFileFault}, Files.{IfBadLine, IfSaid, said_after, said_by, said_so_far}};
+ghost use Rattle.nl_tool_texts.specs.{Files.{OfBytes}, declared.fault.ToolFault.{ToolFault}};
 
 use crate::change::ToolResult;
 use crate::line_fault::{LineFault, Told};

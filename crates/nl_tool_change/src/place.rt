@@ -2,10 +2,8 @@
 ghost use Rattle.std.specs.Prelude.{◌≡◌, Result, IfErr};
 ghost use Rattle.nl_versions.specs.VersionFolder.{seen_as_version};
 ghost use Rattle.nl_tool_texts.specs.declared.fault.ToolFault.{ToolFault};
-ghost use Rattle.nl_tool_change.specs.Calls.{ChangesLog, ChangesLogAs, ChangesLogFor, IsFaultBy, IsFree, Meaning, Repairs, RepairsFor, keeping_all};
+ghost use Rattle.nl_tool_change.specs.{Calls.{ChangesLog, ChangesLogAs, ChangesLogFor, IsFaultBy, IsFree, Meaning, Repairs, RepairsFor, keeping_all}, Faults.{IsRecordFault}, Mending.{MendsLogAs}};
 ghost use Rattle.nl_folder.specs.FolderView.{folder_view};
-ghost use Rattle.nl_tool_change.specs.Faults.{IsRecordFault};
-ghost use Rattle.nl_tool_change.specs.Mending.{MendsLogAs};
 
 use crate::change::{Change, ToolResult, of_log_fault};
 use crate::reading::look_for;

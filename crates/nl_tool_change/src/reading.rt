@@ -4,9 +4,7 @@ ghost use Rattle.nl_table.specs.Log.{NotALog, OtherVersion};
 ghost use Rattle.nl_versions.specs.LogAs.{log_for};
 ghost use Rattle.nl_session.specs.declared.fault.LogFault.{LogFault};
 ghost use Rattle.nl_folder.specs.FolderView.{folder_view};
-ghost use Rattle.nl_tool_change.specs.Calls.{Looks};
-ghost use Rattle.nl_tool_change.specs.Distrusts.{AreDistrusted, Distrusts};
-ghost use Rattle.nl_tool_change.specs.Mending.{ReadsLog, ReadsWhole};
+ghost use Rattle.nl_tool_change.specs.{Calls.{Looks}, Distrusts.{AreDistrusted, Distrusts}, Mending.{ReadsLog, ReadsWhole}};
 
 use crate::change::{LogResult, ToolResult, of_log_fault};
 use nl_distrust::distrusted;

@@ -1,6 +1,5 @@
 //! The entry that the words of `record` give.
-ghost use Rattle.std.specs.Prelude.{◌≡◌, IfErr, IfOk, OnOk};
-ghost use Rattle.std.specs.Int.{w32, w64};
+ghost use Rattle.std.specs.{Prelude.{◌≡◌, IfErr, IfOk, OnOk}, Int.{w32, w64}};
 ghost use Rattle.nl_fields.specs.Digits.{IsDecimal};
 ghost use Rattle.nl_tool_change.specs.RecordWords.{GiveEntry, IsEntryOf, IsNoNumber, IsWordFault, of_name_fault};
 

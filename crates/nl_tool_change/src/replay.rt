@@ -1,9 +1,8 @@
 //! The command `replay`.
 ghost use Rattle.std.specs.Prelude.{◌≡◌, [], true, false, Some, IfErr, IfOk, IsErrAnd, IsSome};
 ghost use Rattle.nl_folder.specs.MemFolder.{durable_view, mem_view_of, failure_count, choices_of};
-ghost use Rattle.nl_tool_change.specs.Faults.{IsBadLine, IsReplayFault};
+ghost use Rattle.nl_tool_change.specs.{Faults.{IsBadLine, IsReplayFault}, Replay.{IsReplayOf, IsReplayText, printed, told_by}};
 ghost use Rattle.nl_tool_texts.specs.Output.{Prints};
-ghost use Rattle.nl_tool_change.specs.Replay.{IsReplayOf, IsReplayText, printed, told_by};
 
 use crate::answers::append_reply;
 use crate::line_fault::Told;

@@ -1,20 +1,10 @@
 //! Reading a script: what a folder in memory is told, and then the events.
-ghost use Rattle.std.specs.Prelude.{◌≡◌, ◌↔◌, ◌<◌, ◌++◌, ◌∷◌, ◌^◌, ℕ, [], pos, Some, length, IfErr, IfOk, IfSome, IsErr, IsErrAnd, IsErrOf, IsSome, OnOk, flat_map};
-ghost use Rattle.std.specs.List.{All as Each};
-ghost use Rattle.nl_fields.specs.Digits.{IsDecimal};
-ghost use Rattle.nl_fields.specs.Fields.{HasNoTab};
-ghost use Rattle.nl_fields.specs.EntryLine.{IsEntryLine, line_of};
-ghost use Rattle.nl_fields.specs.Name.{IsName};
+ghost use Rattle.std.specs.{Prelude.{◌≡◌, ◌↔◌, ◌<◌, ◌++◌, ◌∷◌, ◌^◌, ℕ, [], pos, Some, length, IfErr, IfOk, IfSome, IsErr, IsErrAnd, IsErrOf, IsSome, OnOk, flat_map}, List.{All as Each}};
+ghost use Rattle.nl_fields.specs.{Digits.{IsDecimal}, Fields.{HasNoTab}, EntryLine.{IsEntryLine, line_of}, Name.{IsName}, declared.name.NameFault.{NameFault}, declared.entry.Entry.{Entry}};
 ghost use Rattle.nl_folder.specs.declared.fuse.Call.{Call};
-ghost use Rattle.nl_tool_change.specs.Faults.{IsBadLine, IsFaultOfLine, IsScriptFault};
-ghost use Rattle.nl_fields.specs.declared.name.NameFault.{NameFault};
-ghost use Rattle.nl_tool_change.specs.declared.script.LineRefusal.TheVariants.{OutOfMemory};
-ghost use Rattle.nl_tool_change.specs.declared.script.Word.{Word};
+ghost use Rattle.nl_tool_change.specs.{Faults.{IsBadLine, IsFaultOfLine, IsScriptFault}, declared.script.LineRefusal.TheVariants.{OutOfMemory}, declared.script.Word.{Word}, Reading.{HoldsNames, IsLineOf, IsReadable, LacksMemory, SaysNames, SaysTimes, fields_of_event, word_of_event}, Replay.{IsScript, KeepsSome, NamesSome, SaysMore, TakesScriptLine, behind_tab, event_line, keep_fields, name_field, text_of_word, time_fields, word_of}};
 ghost use Rattle.nl_tool_texts.specs.Files.{OfBytes, file_lines};
-ghost use Rattle.nl_fields.specs.declared.entry.Entry.{Entry};
 ghost use Rattle.nl_session.specs.declared.events.Event.{Event};
-ghost use Rattle.nl_tool_change.specs.Reading.{HoldsNames, IsLineOf, IsReadable, LacksMemory, SaysNames, SaysTimes, fields_of_event, word_of_event};
-ghost use Rattle.nl_tool_change.specs.Replay.{IsScript, KeepsSome, NamesSome, SaysMore, TakesScriptLine, behind_tab, event_line, keep_fields, name_field, text_of_word, time_fields, word_of};
 
 use crate::change::ToolResult;
 use crate::line_fault::{LineFault, Told};

@@ -1,12 +1,8 @@
 //! The outputs of a log that can't be trusted, and the lines that say so.
-ghost use Rattle.std.specs.Prelude.{◌≡◌, ◌⊎◌, ◌++◌, ℕ, count_by, length, nat_lt, IfErr, IfOk, IsErrOf, OnOk, flat_map};
-ghost use Rattle.std.specs.Io.KnownBytes.{Appends, Keeps};
-ghost use Rattle.nl_table.specs.History.{logged, table};
-ghost use Rattle.nl_table.specs.Log.{log_of, NotALog, OtherVersion};
-ghost use Rattle.nl_table.specs.declared.loader.LoadFault.{LoadFault};
+ghost use Rattle.std.specs.{Prelude.{◌≡◌, ◌⊎◌, ◌++◌, ℕ, count_by, length, nat_lt, IfErr, IfOk, IsErrOf, OnOk, flat_map}, Io.KnownBytes.{Appends, Keeps}};
+ghost use Rattle.nl_table.specs.{History.{logged, table}, Log.{log_of, NotALog, OtherVersion}, declared.loader.LoadFault.{LoadFault}};
 ghost use Rattle.nl_versions.specs.VersionOf.{as_five};
-ghost use Rattle.nl_tool_texts.specs.Output.{AppendsPrefixOf};
-ghost use Rattle.nl_tool_texts.specs.declared.fault.ToolFault.{ToolFault};
+ghost use Rattle.nl_tool_texts.specs.{Output.{AppendsPrefixOf}, declared.fault.ToolFault.{ToolFault}};
 ghost use Rattle.nl_tool_doubt.specs.Doubts.{AreDoubts, IsDoubts, damaged_in, doubt_line, doubted, is_copied, is_file, is_moved, is_there, named_by, undamaged, why, word_of};
 
 use crate::files::{Looked, OutputFiles, look_all};

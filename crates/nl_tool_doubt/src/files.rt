@@ -1,8 +1,6 @@
 //! What is said of the files of outputs.
 ghost use Rattle.std.specs.Prelude.{◌≡◌, ℕ, List, Option, IfOk, IfSome};
-ghost use Rattle.nl_tool_doubt.specs.Doubts.{AreLooked};
-ghost use Rattle.nl_tool_doubt.specs.Judging.{is_present, is_written, was_moved};
-ghost use Rattle.nl_tool_doubt.specs.declared.files.FileState.{FileState};
+ghost use Rattle.nl_tool_doubt.specs.{Doubts.{AreLooked}, Judging.{is_present, is_written, was_moved}, declared.files.FileState.{FileState}};
 
 use nl_fields::EntryRef;
 use nl_table::Table;

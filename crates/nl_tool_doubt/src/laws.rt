@@ -1,11 +1,8 @@
 //! Laws of doubt, each the contract of a function that does nothing.
-ghost use Rattle.std.specs.Prelude.{◌≡◌, ◌+◌, ◌≤◌, ℤ, List, Option, Some, None, true, false, int_lt, map, pos, if◌then◌else◌, Contains};
-ghost use Rattle.std.specs.Ordering.{int_eq};
+ghost use Rattle.std.specs.{Prelude.{◌≡◌, ◌+◌, ◌≤◌, ℤ, List, Option, Some, None, true, false, int_lt, map, pos, if◌then◌else◌, Contains}, Ordering.{int_eq}};
 ghost use Rattle.nl_fields.specs.declared.entry.Entry.{Entry};
 ghost use Rattle.nl_builds.specs.declared.stamps.Stamps.{Stamps};
-ghost use Rattle.nl_tool_doubt.specs.Judging.{doubt_by, ended, is_newer, written};
-ghost use Rattle.nl_tool_doubt.specs.Moments.{begun, lo_of, m_of, tells, tick_of};
-ghost use Rattle.nl_tool_doubt.specs.declared.judge.Doubt.{Doubt};
+ghost use Rattle.nl_tool_doubt.specs.{Judging.{doubt_by, ended, is_newer, written}, Moments.{begun, lo_of, m_of, tells, tick_of}, declared.judge.Doubt.{Doubt}};
 
 /// It is neither newer nor unsure, whatever other lines tell.
 pub fn a_file_that_is_not_behind_mtime_agrees()

@@ -1,8 +1,7 @@
 //! What `mend` makes of the log in a folder, and what it says, over any files of the outputs and any writer.
 ghost use Rattle.std.specs.Prelude.{◌≡◌, ◌++◌, true, false, Ok, IfErr, IfOk, OnOk};
 ghost use Rattle.nl_folder.specs.FolderView.{folder_view};
-ghost use Rattle.nl_tool_change.specs.Faults.{IsRecordFault};
-ghost use Rattle.nl_tool_change.specs.Mending.{MendsLogAs};
+ghost use Rattle.nl_tool_change.specs.{Faults.{IsRecordFault}, Mending.{MendsLogAs}};
 ghost use Rattle.nl_versions.specs.VersionOf.{version_of};
 ghost use Rattle.nl_tool_doubt.specs.Mending.{EndsBy, IsIn, IsMendFault, IsSaid, Mends, MendsFolder, MendsSaid, cause_of, is_elsewhere};
 

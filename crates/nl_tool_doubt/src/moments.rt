@@ -1,9 +1,7 @@
 //! When the builds of a log's lines began, in whole milliseconds.
-ghost use Rattle.std.specs.Prelude.{◌≡◌, ◌<◌, ◌≤◌, ◌++◌, ◌^◌, IfOk, OnOk, map, filter};
-ghost use Rattle.std.specs.List.{list_all};
+ghost use Rattle.std.specs.{Prelude.{◌≡◌, ◌<◌, ◌≤◌, ◌++◌, ◌^◌, IfOk, OnOk, map, filter}, List.{list_all}};
 ghost use Rattle.nl_builds.specs.Commands.{moment};
-ghost use Rattle.nl_tool_doubt.specs.Known.{end_span, line_of, start_span};
-ghost use Rattle.nl_tool_doubt.specs.Moments.{begun, is_sure, is_whole, length_of, lines_that_tell, nearest, tells, tick_of};
+ghost use Rattle.nl_tool_doubt.specs.{Known.{end_span, line_of, start_span}, Moments.{begun, is_sure, is_whole, length_of, lines_that_tell, nearest, tells, tick_of}};
 
 use crate::spans::{Span, greatest_up_to, least_from, merged, rising, summed, within};
 use nl_builds::Stamps;
@@ -77,8 +75,7 @@ pub struct Moments<'a> {
 impl<'a> Model for Moments<'a> {
     ghost use Rattle.std.specs.Prelude.{List};
     ghost use Rattle.nl_fields.specs.declared.entry.Entry.{Entry};
-    ghost use Rattle.nl_tool_doubt.specs.Known.{IsKnownOf};
-    ghost use Rattle.nl_tool_doubt.specs.Moments.{lines_that_tell};
+    ghost use Rattle.nl_tool_doubt.specs.{Known.{IsKnownOf}, Moments.{lines_that_tell}};
 
     ghost Value = { List Entry };
 

@@ -1,8 +1,6 @@
 //! Spans of values that stand at places.
 ghost use Rattle.std.specs.Prelude.{◌≡◌, ◌-◌, IfOk, List, OnOk, Some, map};
-ghost use Rattle.nl_tool_doubt.specs.Moments.{least_from};
-ghost use Rattle.nl_tool_doubt.specs.Spans.{Alike, Joins, Rises, both, greatest_of, one, sums, within};
-ghost use Rattle.nl_tool_doubt.specs.declared.spans.Span.{Span};
+ghost use Rattle.nl_tool_doubt.specs.{Moments.{least_from}, Spans.{Alike, Joins, Rises, both, greatest_of, one, sums, within}, declared.spans.Span.{Span}};
 
 use nl_tool_texts::AllocResult;
 use std::alloc::Global;

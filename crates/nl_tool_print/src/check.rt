@@ -1,11 +1,9 @@
 //! The command `check`.
 ghost use Rattle.std.specs.Prelude.{◌≡◌, length, string_bytes, IfErr, IfOk};
 ghost use Rattle.nl_table.specs.Log.{log_of};
-ghost use Rattle.nl_tool_print.specs.Faults.{IfNotALog, IfOtherVersion, IsLogFault};
+ghost use Rattle.nl_tool_print.specs.{Faults.{IfNotALog, IfOtherVersion, IsLogFault}, Output.{check_text_of, report, yes_or_no, IsTextAsRead}, Versions.{IsReportFor}};
 ghost use Rattle.nl_tool_texts.specs.Output.{Prints};
-ghost use Rattle.nl_tool_print.specs.Output.{check_text_of, report, yes_or_no, IsTextAsRead};
 ghost use Rattle.nl_versions.specs.LogAs.{log_for};
-ghost use Rattle.nl_tool_print.specs.Versions.{IsReportFor};
 
 use crate::show::{ToolResult, load_read};
 use nl_table::{Loaded, NO_SECRET, Secret, is_due};

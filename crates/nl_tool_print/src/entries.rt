@@ -1,8 +1,7 @@
 //! The command `entries`.
 ghost use Rattle.std.specs.Prelude.{[], refl, IfErr, OnOk};
 ghost use Rattle.nl_table.specs.Log.{entry_on, log_of};
-ghost use Rattle.nl_tool_print.specs.Faults.{IfNotALog, IfOtherVersion, IsLogFault};
-ghost use Rattle.nl_tool_print.specs.Streams.{IsFirstLine, Streams, entry_text, entries_text_of};
+ghost use Rattle.nl_tool_print.specs.{Faults.{IfNotALog, IfOtherVersion, IsLogFault}, Streams.{IsFirstLine, Streams, entry_text, entries_text_of}};
 ghost use Rattle.nl_versions.specs.VersionOf.{as_five};
 
 use crate::show::ToolResult;

@@ -2,10 +2,8 @@
 ghost use Rattle.std.specs.Prelude.{◌≡◌, ◌≤◌, ◌⊎◌, IfErr, IfOk, IfSome, IsErrOf};
 ghost use Rattle.nl_lines.specs.Source.{FailedBetween};
 ghost use Rattle.nl_table.specs.declared.loader.LoadFault.{LoadFault};
-ghost use Rattle.nl_tool_print.specs.Faults.{IsHashFault, IsHashFileFault};
+ghost use Rattle.nl_tool_print.specs.{Faults.{IsHashFault, IsHashFileFault}, Output.{IsHashText}, Versions.{IsFileHashAs, hash_text_as}};
 ghost use Rattle.nl_tool_texts.specs.Output.{Prints};
-ghost use Rattle.nl_tool_print.specs.Output.{IsHashText};
-ghost use Rattle.nl_tool_print.specs.Versions.{IsFileHashAs, hash_text_as};
 
 use crate::show::ToolResult;
 use nl_fields::append_hex64;

@@ -1,16 +1,11 @@
 //! The command `show`, and the load of a log.
-ghost use Rattle.std.specs.Prelude.{◌≡◌, ◌+◌, ◌≤◌, [], map, vec_len, vec_capacity, IfErr, IfOk, IsErrOf, OnErr, OnOk};
-ghost use Rattle.std.specs.Io.KnownBytes.{Appends};
+ghost use Rattle.std.specs.{Prelude.{◌≡◌, ◌+◌, ◌≤◌, [], map, vec_len, vec_capacity, IfErr, IfOk, IsErrOf, OnErr, OnOk}, Io.KnownBytes.{Appends}};
 ghost use Rattle.nl_fields.specs.EntryLine.{line_of};
 ghost use Rattle.nl_lines.specs.Split.{joined};
 ghost use Rattle.nl_table.specs.Log.{log_of};
-ghost use Rattle.nl_tool_print.specs.Faults.{IfNotALog, IfOtherVersion, IsLogFault};
-ghost use Rattle.nl_tool_texts.specs.Output.{AppendsPrefixOf, Prints};
-ghost use Rattle.nl_tool_print.specs.Output.{IsTextAsRead, HoldsAllBut, show_text_of};
-ghost use Rattle.nl_versions.specs.Loading.{IsLoadFor};
-ghost use Rattle.nl_versions.specs.LogAs.{log_for};
-ghost use Rattle.nl_tool_print.specs.Versions.{show_text_for};
-ghost use Rattle.nl_tool_texts.specs.declared.fault.ToolFault.{ToolFault};
+ghost use Rattle.nl_tool_print.specs.{Faults.{IfNotALog, IfOtherVersion, IsLogFault}, Output.{IsTextAsRead, HoldsAllBut, show_text_of}, Versions.{show_text_for}};
+ghost use Rattle.nl_tool_texts.specs.{Output.{AppendsPrefixOf, Prints}, declared.fault.ToolFault.{ToolFault}};
+ghost use Rattle.nl_versions.specs.{Loading.{IsLoadFor}, LogAs.{log_for}};
 
 use nl_fields::{MAX_ENTRY_LINE, append_entry};
 use nl_lines::ReadSource;

@@ -1,7 +1,6 @@
 //! Why a command of the tool is refused, and the text that says so.
 ghost use Rattle.std.specs.Prelude.{◌≡◌, Some};
-ghost use Rattle.nl_tool_texts.specs.Faults.{of_line_fault, of_load_fault, fault_text};
-ghost use Rattle.nl_tool_texts.specs.declared.fault.ToolFault.TheVariants.{Memory};
+ghost use Rattle.nl_tool_texts.specs.{Faults.{of_line_fault, of_load_fault, fault_text}, declared.fault.ToolFault.TheVariants.{Memory}};
 
 use nl_lines::LineFault;
 use nl_table::LoadFault;

@@ -1,8 +1,6 @@
 //! Laws of names and columns, each the contract of a function that does nothing.
 ghost use Rattle.std.specs.Prelude.{◌≡◌, ◌+◌, ◌<◌, ◌≤◌, ◌++◌, ◌∷◌, ℕ, List, true, length, All};
-ghost use Rattle.nl_tool_texts.specs.Columns.{IsQuiet, cell, cells_to, field_at, fields_of, room_behind, shown, widest, width, widths};
-ghost use Rattle.nl_tool_texts.specs.Escape.{IsMadeOfPieces, begins_character, cut_at, escaped};
-ghost use Rattle.nl_tool_texts.specs.Escape.{IsQuiet as IsQuietByte};
+ghost use Rattle.nl_tool_texts.specs.{Columns.{IsQuiet, cell, cells_to, field_at, fields_of, room_behind, shown, widest, width, widths}, Escape.{IsMadeOfPieces, begins_character, cut_at, escaped, IsQuiet as IsQuietByte}};
 
 /// No escaped text has a `<`, a `>`, a `"` or a control character below 32, and each `&` in it begins an entity.
 pub fn escaped_text_is_quiet()

@@ -1,6 +1,5 @@
 //! Writing a text, in as many writes as it takes.
-ghost use Rattle.std.specs.Prelude.{◌≡◌, OnOk, OnErr, IfErr};
-ghost use Rattle.std.specs.Io.KnownBytes.{Appends};
+ghost use Rattle.std.specs.{Prelude.{◌≡◌, OnOk, OnErr, IfErr}, Io.KnownBytes.{Appends}};
 ghost use Rattle.nl_tool_texts.specs.Output.{AppendsPrefixOf};
 
 use crate::fault::ToolFault;

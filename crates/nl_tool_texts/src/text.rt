@@ -1,7 +1,6 @@
 //! Texts that are appended part by part.
 ghost use Rattle.std.specs.Prelude.{◌≡◌, ◌++◌, IsTrue, OnOk, map, All};
-ghost use Rattle.nl_tool_texts.specs.Escape.{IsBare};
-ghost use Rattle.nl_tool_texts.specs.Texts.{change_text, line, part_text, parts_text, rest_text, sign, time_text, took_text, two_text};
+ghost use Rattle.nl_tool_texts.specs.{Escape.{IsBare}, Texts.{change_text, line, part_text, parts_text, rest_text, sign, time_text, took_text, two_text}};
 
 use itoa::{Buffer, Integer};
 use std::alloc::AllocError;

@@ -1,8 +1,6 @@
 //! A text that is written piece by piece, as it is made.
 ghost use Rattle.std.specs.Prelude.{◌≡◌, ◌<◌, length, IfErr, OnErr, OnOk};
-ghost use Rattle.nl_tool_texts.specs.Writing.{HoldsAllBut, Writes};
-ghost use Rattle.nl_tool_texts.specs.Output.{AppendsPrefixOf};
-ghost use Rattle.nl_tool_texts.specs.declared.fault.ToolFault.{ToolFault};
+ghost use Rattle.nl_tool_texts.specs.{Writing.{HoldsAllBut, Writes}, Output.{AppendsPrefixOf}, declared.fault.ToolFault.{ToolFault}};
 
 use crate::fault::ToolFault;
 use crate::output::write_out;

@@ -1,7 +1,6 @@
 //! What a command line says, read by `clap`.
 ghost use Rattle.std.specs.Prelude.{◌≡◌, codes, is_some, map, option_map, string_bytes, IfErr, IfOk, IfSome};
-ghost use Rattle.clap.specs.Kinds.{or_else};
-ghost use Rattle.clap.specs.Words.{kind_of, subcommand_rows_of, FailsBy};
+ghost use Rattle.clap.specs.{Kinds.{or_else}, Words.{kind_of, subcommand_rows_of, FailsBy}};
 ghost use Rattle.nl_tool_words.specs.CommandLine.{IsAsked, IsSaid, choice_fault, entered_of, fault_in, given_in, input_fault, is_flagged, is_version_for, jobs_fault, path_in_place, tells_version, version_fault, version_id, version_text};
 
 use crate::shape::nlog_command;

@@ -1,7 +1,6 @@
 //! What a row says of a word, and the command of `clap` that it makes.
 ghost use Rattle.std.specs.Prelude.{◌≡◌, IfOk, false};
-ghost use Rattle.clap.specs.Words.{app_of, rule_of};
-ghost use Rattle.clap.specs.declared.builder.command.Command.TheViews.{out-Command};
+ghost use Rattle.clap.specs.{Words.{app_of, rule_of}, declared.builder.command.Command.TheViews.{out-Command}};
 ghost use Rattle.nl_tool_words.specs.Rows.{app_by, nlog, rule_by, word_by};
 
 use crate::rows::WORDS;
