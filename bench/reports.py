@@ -36,6 +36,16 @@ def lines_of(count, builds):
         began += max(lanes) + 60_000
 
 
+def write_log(log, count, builds):
+    """Writes a log in a process of its own, because what a command is said to take at its peak is at least what this process took."""
+    child = os.fork()
+    if child == 0:
+        with open(log, "w", encoding="utf-8") as it:
+            it.writelines(lines_of(count, builds))
+        os._exit(0)
+    os.waitpid(child, 0)
+
+
 def counted(words, log):
     """How many instructions a command takes, and its peak of memory in KB."""
     with open(log, "rb") as it:
@@ -55,8 +65,7 @@ def main():
     with tempfile.TemporaryDirectory() as room:
         for what, builds in BUILDS.items():
             log = f"{given.keep or room}/{builds}.log"
-            with open(log, "w", encoding="utf-8") as it:
-                it.writelines(lines_of(given.lines, min(builds, given.lines)))
+            write_log(log, given.lines, min(builds, given.lines))
             base = None
             for told, (time, memory) in WORDS.items():
                 took, held = counted([given.PROGRAM, *told.split()], log)
