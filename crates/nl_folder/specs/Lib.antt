@@ -2,6 +2,7 @@ pub mod DiskState
 pub mod CrashImages
 pub mod Calls
 pub mod FolderView
+pub mod CallEnds
 pub mod Fuse
 pub mod Amounts
 pub mod Choices
