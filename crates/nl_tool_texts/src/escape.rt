@@ -76,23 +76,17 @@ fn append_escaped(text: &[u8], out: &mut Vec<u8>) -> AllocResult
     let mut first: u8 = 0;
     let mut second: u8 = 0;
     for byte in text {
-        append_piece(first, second, *byte, out)?;
+        match *byte {
+            b'<' => append(b"&lt;", out)?,
+            b'>' => append(b"&gt;", out)?,
+            b'"' => append(b"&#34;", out)?,
+            b'&' => append(b"&#38;", out)?,
+            0..=31 => append(b"\xEF\xBF\xBD", out)?,
+            0xBE..=0xFF if first == 0xEF && second == 0xBF => append(b"\xBD", out)?,
+            _ => append(&[*byte], out)?,
+        }
         first = second;
         second = *byte;
     }
     Ok(())
-}
-
-fn append_piece(first: u8, second: u8, byte: u8, out: &mut Vec<u8>) -> AllocResult
-    ensures items { OnOk result (out.new.items ≡ out.old.items ++ piece first second byte) }
-{
-    match byte {
-        b'<' => append(b"&lt;", out),
-        b'>' => append(b"&gt;", out),
-        b'"' => append(b"&#34;", out),
-        b'&' => append(b"&#38;", out),
-        0..=31 => append(b"\xEF\xBF\xBD", out),
-        0xBE..=0xFF if first == 0xEF && second == 0xBF => append(b"\xBD", out),
-        _ => append(&[byte], out),
-    }
 }

@@ -12,19 +12,14 @@ pub fn shown(alloc: Global, text: &[u8]) -> AllocResult<Vec<u8>>
     let mut out = Vec::new(alloc);
     let mut before = 0;
     for byte in text {
-        append_shown(before, *byte, &mut out)?;
+        if is_control(before, *byte) {
+            append_number(*byte, &mut out)?;
+        } else {
+            out.push(*byte)?;
+        }
         before = *byte;
     }
     Ok(out)
-}
-
-fn append_shown(before: u8, byte: u8, out: &mut Vec<u8>) -> AllocResult
-    ensures items { OnOk result (out.new.items ≡ out.old.items ++ shown_byte before byte) }
-{
-    if is_control(before, byte) {
-        return append_number(byte, out);
-    }
-    append(&[byte], out)
 }
 
 /// The number is hexadecimal, as in `\x1b`.

@@ -163,12 +163,7 @@ fn append_rest(before: &[u8], number: u128, unit: &[u8], out: &mut Vec<u8>) -> A
 pub fn is_bare(name: &[u8]) -> bool
     ensures bare { IsTrue result → All IsBare name.now }
 {
-    for byte in name {
-        if !is_bare_byte(*byte) {
-            return false;
-        }
-    }
-    true
+    name.iter().all(|byte| is_bare_byte(*byte))
 }
 
 fn is_bare_byte(byte: u8) -> bool
