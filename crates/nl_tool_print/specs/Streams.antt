@@ -10,8 +10,6 @@ use Rattle.nl_lines.specs.Split.{lines_of, rest_of, with_newline}
 use Rattle.nl_lines.specs.Lines.{lent_rest, max_line}
 use Rattle.nl_table.specs.Log.{LogReading, Log, OtherVersion, NotALog, entry_by, log_of}
 use Rattle.nl_table.specs.LogText.{lines_of_entries}
-use Rattle.nl_versions.specs.VersionOf.{names_four, version_of}
-use Rattle.nl_versions.specs.declared.log_version.FirstLine.{FirstLine}
 use Rattle.nl_tool_texts.specs.declared.fault.ToolFault.{ToolFault}
 use Rattle.nl_tool_print.specs.Output.{IsTextAsRead}
 
@@ -47,10 +45,6 @@ entries_text_of bytes = entries_text (log_of bytes)
 abbrev pub entry_text : Option Entry → List ℕ
 entry_text None = []
 entry_text (Some e) = with_newline (line_of e)
-
--- it is the first line of the bytes that a reader gave, where these are known
-abbrev pub IsFirstLine : Option (List ℕ) → FirstLine → Type 0
-IsFirstLine known line = IfSome known (λ bs. (line.version ≡ version_of bs) × (line.is_four ≡ names_four bs))
 
 -- ---- `damage`
 

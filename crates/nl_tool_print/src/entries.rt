@@ -1,15 +1,14 @@
 //! The command `entries`.
-ghost use Rattle.std.specs.Prelude.{[], refl, IfErr, OnOk};
+ghost use Rattle.std.specs.Prelude.{[], refl, IfErr};
 ghost use Rattle.nl_table.specs.Log.{entry_on, log_of};
-ghost use Rattle.nl_tool_print.specs.{Faults.{IfNotALog, IfOtherVersion, IsLogFault}, Streams.{IsFirstLine, Streams, entry_text, entries_text_of}};
+ghost use Rattle.nl_tool_print.specs.{Faults.{IfNotALog, IfOtherVersion, IsLogFault}, Streams.{Streams, entry_text, entries_text_of}};
 ghost use Rattle.nl_versions.specs.VersionOf.{as_five};
 
 use crate::show::ToolResult;
-use crate::stream::{LineText, Piece, UNSEEN, append_field, stream_named};
+use crate::stream::{LineText, Piece, append_field, stream_named};
 use nl_fields::append_entry;
 use nl_table::{OLDEST_VERSION, read_line};
 use nl_tool_texts::AllocResult;
-use nl_versions::FirstLine;
 use std::alloc::Global;
 use std::io::{Read, Write};
 
@@ -45,24 +44,6 @@ pub fn entries_to<R: Read + Drop, W: Write>(alloc: Global, reader: R, writer: &m
     ensures other_version { IfOtherVersion result (λ bs. log_of (as_five bs)) (R.remaining reader) }
     ensures faults { IfErr result IsLogFault }
 {
-    let mut first = UNSEEN;
-    entries_named(alloc, reader, writer, &mut first)
-}
-
-/// As `entries_to`, and tells what the first line of the log names.
-pub fn entries_named<R: Read + Drop, W: Write>(
-    alloc: Global,
-    reader: R,
-    writer: &mut W,
-    first: &mut FirstLine,
-) -> ToolResult
-    ensures streams { Streams (λ bs. entries_text_of (as_five bs)) (R.remaining reader)
-        (W.contents writer.old) (W.contents writer.new) result }
-    ensures version { OnOk result (IsFirstLine (R.remaining reader) first.new) }
-    ensures not_a_log { IfNotALog result (λ bs. log_of (as_five bs)) (R.remaining reader) }
-    ensures other_version { IfOtherVersion result (λ bs. log_of (as_five bs)) (R.remaining reader) }
-    ensures faults { IfErr result IsLogFault }
-{
-    stream_named(alloc, &EntryLines, reader, writer, first)?;
+    stream_named(alloc, &EntryLines, reader, writer)?;
     Ok(())
 }

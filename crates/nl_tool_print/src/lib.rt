@@ -11,6 +11,6 @@ mod stream;
 
 pub use check::{check_log, check_to};
 pub use damage::damage_to;
-pub use entries::{entries_named, entries_to};
+pub use entries::entries_to;
 pub use hash::{hash_for, hash_read, hash_to, read_all};
 pub use show::{PIECE, load_read, show_log, show_to, write_lines};

@@ -1,5 +1,5 @@
 use Rattle.nl_tool_print.proofs.EntryLemmas.{all_listed, some_listed, streams_refused}
-use Rattle.nl_tool_print.proofs.entries.entries_named.Goals as goal
+use Rattle.nl_tool_print.proofs.entries.entries_to.Goals as goal
 
 pub returns-clause-streams : goal.returns-clause-streams
 returns-clause-streams g c = all_listed _ _ _ _ c.in_ok-stream_named.ensures.finds
