@@ -13,3 +13,4 @@ pub mod Told
 pub mod MemInode
 pub mod MemSystem
 pub mod FileFolder
+pub mod RunsOver

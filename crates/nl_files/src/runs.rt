@@ -1,9 +1,9 @@
 //! Runs of events on a log over the files of a system that can lose its power.
 ghost use Rattle.std.specs.{Prelude.{◌≡◌, false, [], IfOk, IsSomeAnd, Some, option_map, slice_get, zip}, Option.{ForSome}};
 ghost use Rattle.nl_table.specs.{History.{History}, Log.{history_of}};
-ghost use Rattle.nl_folder.specs.{DiskState.{Disk}, FolderView.{SameState}};
-ghost use Rattle.nl_session.specs.{Reopening.{Moved}, Runs.{BeginsAt, Ran, HeadlineOn, RestsThrough, OpensAtLast, TakesMemory, faults_of, HasRisen, HadMemory, Ends}};
-ghost use Rattle.nl_files.specs.{Start.{IsAtStart, begun}, FileFolder.{begun_view, system_of, state_of, failure_count}, MemSystem.{no_files, numbers_left}};
+ghost use Rattle.nl_folder.specs.DiskState.{Disk};
+ghost use Rattle.nl_session.specs.{Reopening.{Moved}, Runs.{BeginsAt, Ran, HeadlineOn, TakesMemory}};
+ghost use Rattle.nl_files.specs.{Start.{IsAtStart, begun}, FileFolder.{begun_view, system_of, state_of}, RunsOver.{RunsFrom}, MemSystem.{no_files, numbers_left}};
 
 use crate::{CrashableSystem, FileFolder, MemSystem, Plan};
 use nl_session::{Event, Outcome, Reply, run_events};
@@ -22,14 +22,7 @@ pub fn run_over_system<S: CrashableSystem + Drop>(
         (λ r. Ran start events.now r.1.items (state_of r.0).disk (state_of r.0).is_settled) }
     ensures disks { (d : Disk) → option_map begun (S.System.model system) ≡ Some d
         → IfOk result (λ r. Moved (option_map begun (S.System.model system)) (zip events.now r.1.items) (state_of r.0).disk) }
-    ensures rests { IfOk result (λ r. RestsThrough events.now (option_map begun (S.System.model system)) (state_of r.0).disk) }
-    ensures reopens { IfOk result (λ r. OpensAtLast (zip events.now r.1.items)
-        (option_map begun (S.System.model system)) (state_of r.0).disk) }
-    ensures failures { IfOk result (λ r. HasRisen 0 (faults_of r.1.items) (failure_count r.0)) }
-    ensures steady { IfOk result (λ r. faults_of r.1.items ≡ 0 → failure_count r.0 ≡ 0) }
-    ensures memory { IfOk result (λ r. HadMemory r.1.items) }
-    ensures outcome { IfOk result (λ r. Ends r.2 events.now r.1.items) }
-    ensures same { IfOk result (λ r. r.1.items ≡ [] → SameState (begun_view (S.System.model system)) (state_of r.0)) }
+    ensures runs { IfOk result (λ r. RunsFrom (begun_view (S.System.model system)) events.now r.0 r.1.items r.2) }
     ensures untouched { IfOk result (λ r. r.1.items ≡ [] → ¬ IsSomeAnd (slice_get events.now 0) TakesMemory → system_of r.0 ≡ system) }
 {
     let folder = FileFolder::new(system, alloc)?;
@@ -47,13 +40,7 @@ pub fn run_in_memory(
     ensures run { (start : History) → history_of [] ≡ Some start → IfOk result
         (λ r. Ran start events.now r.1.items (state_of r.0).disk (state_of r.0).is_settled) }
     ensures disks { IfOk result (λ r. Moved (Some (begun no_files)) (zip events.now r.1.items) (state_of r.0).disk) }
-    ensures rests { IfOk result (λ r. RestsThrough events.now (Some (begun no_files)) (state_of r.0).disk) }
-    ensures reopens { IfOk result (λ r. OpensAtLast (zip events.now r.1.items) (Some (begun no_files)) (state_of r.0).disk) }
-    ensures failures { IfOk result (λ r. HasRisen 0 (faults_of r.1.items) (failure_count r.0)) }
-    ensures steady { IfOk result (λ r. faults_of r.1.items ≡ 0 → failure_count r.0 ≡ 0) }
-    ensures memory { IfOk result (λ r. HadMemory r.1.items) }
-    ensures outcome { IfOk result (λ r. Ends r.2 events.now r.1.items) }
-    ensures same { IfOk result (λ r. r.1.items ≡ [] → SameState (begun_view (Some no_files)) (state_of r.0)) }
+    ensures runs { IfOk result (λ r. RunsFrom (begun_view (Some no_files)) events.now r.0 r.1.items r.2) }
     ensures untouched { IfOk result
         (λ r. r.1.items ≡ [] → ¬ IsSomeAnd (slice_get events.now 0) TakesMemory → numbers_left (system_of r.0).plan ≡ numbers_left plan) }
 {

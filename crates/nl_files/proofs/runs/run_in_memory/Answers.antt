@@ -1,11 +1,12 @@
 use Rattle.std.proofs.Common.{◌≡◌, ◌⊎◌, inl, inr, ◌≤◌, ℕ, List, [], ◌∷◌, length, refl, sym, subst, arith}
-use Rattle.std.specs.Prelude.{Some, zip, IfOk}
+use Rattle.std.specs.Prelude.{Some, IfOk}
 use Rattle.nl_folder.specs.CrashImages.{IsImage}
 use Rattle.nl_table.specs.History.{History}
 use Rattle.nl_table.specs.Log.{history_of}
-use Rattle.nl_session.specs.Runs.{BeginsAt, OpensAtLast}
-use Rattle.nl_files.specs.FileFolder.{state_of}
+use Rattle.nl_session.specs.Runs.{BeginsAt}
+use Rattle.nl_files.specs.FileFolder.{begun_view}
 use Rattle.nl_files.specs.Model.{Model}
+use Rattle.nl_files.specs.RunsOver.{RunsFrom}
 use Rattle.nl_files.specs.Start.{begun}
 use Rattle.nl_files.specs.MemSystem.{no_files}
 use Rattle.nl_files.proofs.runs.run_in_memory.Goals as goal
@@ -30,8 +31,7 @@ pub returns-clause-run : goal.returns-clause-run
 returns-clause-run c = λ start reads. c.run_over_system.ensures.run start
     (subst (λ (it : Model). BeginsAt start (Some (begun it))) (sym c.new.ensures.model) (begins_empty start reads))
 
-pub returns-clause-reopens : goal.returns-clause-reopens
-returns-clause-reopens c =
-    subst (λ (it : Model).
-    IfOk c.run_over_system.result (λ r. OpensAtLast (zip c.args.events.now r.1.items) (Some (begun it)) (state_of r.0).disk))
-    c.new.ensures.model c.run_over_system.ensures.reopens
+pub returns-clause-runs : goal.returns-clause-runs
+returns-clause-runs c =
+    subst (λ (it : Model). IfOk c.run_over_system.result (λ r. RunsFrom (begun_view (Some it)) c.args.events.now r.0 r.1.items r.2))
+    c.new.ensures.model c.run_over_system.ensures.runs

@@ -17,40 +17,28 @@ returns-clause-run g c = λ start begins.
     c.run_events.ensures.run start
     (subst (λ (it : Option Disk). BeginsAt start it) (sym (ap (λ (it : FolderView). it.disk) c.in_ok-folder.ensures.state)) begins)
 
-pub returns-clause-reopens : goal.returns-clause-reopens
-returns-clause-reopens g c =
-    subst (λ (it : Option Disk). OpensAtLast (zip c.args.events.now c.run_events.result.1.items) it (state_of c.run_events.result.0).disk)
-    (ap (λ (it : FolderView). it.disk) c.in_ok-folder.ensures.state) c.run_events.ensures.reopens
-
 pub returns-clause-disks : goal.returns-clause-disks
 returns-clause-disks g c = λ d is.
     let same = ap (λ (it : FolderView). it.disk) c.in_ok-folder.ensures.state in
     subst (λ (it : Option Disk). Moved it (zip c.args.events.now c.run_events.result.1.items) (state_of c.run_events.result.0).disk) same
     (c.run_events.ensures.disks d (same ∙ is))
 
-pub returns-clause-rests : goal.returns-clause-rests
-returns-clause-rests g c =
-    subst (λ (it : Option Disk). RestsThrough c.args.events.now it (state_of c.run_events.result.0).disk)
-    (ap (λ (it : FolderView). it.disk) c.in_ok-folder.ensures.state) c.run_events.ensures.rests
-
-pub returns-clause-failures : goal.returns-clause-failures
-returns-clause-failures g c =
-    subst (λ (it : ℕ). HasRisen it (faults_of c.run_events.result.1.items) (failure_count c.run_events.result.0))
-    c.in_ok-folder.ensures.failures c.run_events.ensures.failures
-
-pub returns-clause-steady : goal.returns-clause-steady
-returns-clause-steady g c = λ none. c.run_events.ensures.steady none ∙ c.in_ok-folder.ensures.failures
-
-pub returns-clause-memory : goal.returns-clause-memory
-returns-clause-memory g c = c.run_events.ensures.memory
-
-pub returns-clause-outcome : goal.returns-clause-outcome
-returns-clause-outcome g c = c.run_events.ensures.outcome
-
-pub returns-clause-same : goal.returns-clause-same
-returns-clause-same g c = λ none.
-    subst (λ (it : FolderView). SameState it (state_of c.run_events.result.0)) c.in_ok-folder.ensures.state
-    (c.run_events.ensures.same none)
+pub returns-clause-runs : goal.returns-clause-runs
+returns-clause-runs g c =
+    let began = ap (λ (it : FolderView). it.disk) c.in_ok-folder.ensures.state in
+    let last = (state_of c.run_events.result.0).disk in
+    record {
+      rests = subst (λ (it : Option Disk). RestsThrough c.args.events.now it last) began c.run_events.ensures.rests;
+      reopens = subst (λ (it : Option Disk). OpensAtLast (zip c.args.events.now c.run_events.result.1.items) it last) began
+          c.run_events.ensures.reopens;
+      failures = subst (λ (it : ℕ). HasRisen it (faults_of c.run_events.result.1.items) (failure_count c.run_events.result.0))
+          c.in_ok-folder.ensures.failures c.run_events.ensures.failures;
+      steady = λ none. c.run_events.ensures.steady none ∙ c.in_ok-folder.ensures.failures;
+      memory = c.run_events.ensures.memory;
+      outcome = c.run_events.ensures.outcome;
+      same = λ none. subst (λ (it : FolderView). SameState it (state_of c.run_events.result.0)) c.in_ok-folder.ensures.state
+          (c.run_events.ensures.same none);
+    }
 
 pub returns-clause-untouched : goal.returns-clause-untouched
 returns-clause-untouched g c = λ none first.
