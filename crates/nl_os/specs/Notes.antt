@@ -1,5 +1,5 @@
 -- What a call leaves of the files of a log.
-use Rattle.std.specs.Prelude.{◌≡◌, Result}
+use Rattle.std.specs.Prelude.{◌≡◌, None, Result, option_map}
 use Rattle.nl_folder.specs.Calls.{count_after}
 use Rattle.nl_os.specs.FailedCall.{Keeps}
 use Rattle.nl_os.specs.FileId.{number_of}
@@ -17,6 +17,11 @@ pub record Told {R I F T E : Type 0} (which : FailedCall → Type 0) (result : R
 pub record Notes {R I F T E : Type 0} (which : FailedCall → Type 0) (result : Result T E) (old new : OsSystem R I F) : Type 0 where
   pub told : Told which result old new
   pub look : new.seen ≡ old.seen
+
+-- and what the last look found counts no more
+pub record Changed {R I F T E : Type 0} (which : FailedCall → Type 0) (result : Result T E) (old new : OsSystem R I F) : Type 0 where
+  pub told : Told which result old new
+  pub look : option_map number_of new.seen ≡ None
 
 -- of an open file, whatever was read of it or written to it
 pub record IsSame {F : Type 0} (old new : OsFile F) : Type 0 where
