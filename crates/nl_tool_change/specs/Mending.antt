@@ -9,8 +9,6 @@ use Rattle.nl_versions.specs.declared.version.LogVersion.{LogVersion}
 use Rattle.nl_versions.specs.declared.version.LogVersion.TheVariants.{Five}
 use Rattle.nl_versions.specs.LogAs.{log_as}
 use Rattle.nl_versions.specs.VersionFolder.{seen_as_version}
-use Rattle.nl_session.specs.declared.fault.LogFault.{LogFault}
-use Rattle.nl_session.specs.declared.fault.LogFault.TheVariants as refusal
 use Rattle.nl_session.specs.Effects.{Rewrites}
 use Rattle.nl_session.specs.Intents.{with_intents}
 use Rattle.nl_session.specs.Mending.{IsOldOrMended, MendFaults}
@@ -23,24 +21,12 @@ use Rattle.nl_tool_change.specs.Faults.{IsRecordFault}
 -- ---- a log that is read
 
 -- the folder failed meanwhile, or memory was refused
-abbrev pub IsNoRead : ℕ → ℕ → LogFault → Type 0
-IsNoRead before after refusal.Fault = FailedBetween before after
-IsNoRead before after refusal.OutOfMemory = ⊤
-IsNoRead before after _ = ⊥
-
--- the folder stays as it is
-pub record ReadsLog (old new : FolderView) (result : Result (Vec ℕ) LogFault) : Type 0 where
-  pub same : SameState old new
-  pub rises : old.failures ≤ new.failures
-  pub value : IfOk result (λ bytes. (d : Disk) → old.disk ≡ Some d → d.visible ≡ bytes.items)
-  pub refusals : IfErr result (IsNoRead old.failures new.failures)
-
--- the fault is in the tool's words
 abbrev pub IsNoWhole : ℕ → ℕ → ToolFault → Type 0
 IsNoWhole before after Folder = FailedBetween before after
 IsNoWhole before after Memory = ⊤
 IsNoWhole before after _ = ⊥
 
+-- the folder stays as it is
 pub record ReadsWhole (old new : FolderView) (result : Result (Vec ℕ) ToolFault) : Type 0 where
   pub same : SameState old new
   pub rises : old.failures ≤ new.failures

@@ -63,7 +63,7 @@ impl Part for (Name, i64) {
             return Ok(Err(LineFault::NoTab));
         };
         let Some(mtime) = read_i64(time) else {
-            let fault = number_fault(time, NumberFault::Past64);
+            let fault = number_fault(time, NumberFault::Past64, NumberFault::Past64);
             return Ok(Err(LineFault::Number(fault)));
         };
         match <Name as Part>::read(alloc, name)? {

@@ -73,34 +73,30 @@ pub struct WrongNumber {
     pub why: NumberFault,
 }
 
-// The text isn't a number in its one spelling, or is out of the range that `past` names.
-pub fn number_fault(text: &[u8], past: NumberFault) -> NumberFault {
-    let digits = match text {
-        [b'-', digits @ ..] => digits,
-        _ => text,
+// The text isn't a number in its one spelling, or is out of the range that `below` names if it is negative, and else `past`.
+pub fn number_fault(text: &[u8], below: NumberFault, past: NumberFault) -> NumberFault {
+    let (digits, out) = match text {
+        [b'-', digits @ ..] => (digits, below),
+        _ => (text, past),
     };
     match digits {
         [] => NumberFault::NoNumber,
         _ if !digits.iter().all(|byte| byte.is_ascii_digit()) => NumberFault::NoNumber,
         [b'0', ..] => NumberFault::Spelling,
-        _ => past,
+        _ => out,
     }
 }
 
 // The text isn't a number from 0 up to 2^63 - 1.
 pub fn count_fault(text: &[u8]) -> NumberFault {
-    match text {
-        [b'-', ..] => number_fault(text, NumberFault::Below),
-        _ => number_fault(text, NumberFault::Past64),
-    }
+    number_fault(text, NumberFault::Below, NumberFault::Past64)
 }
 
 // The text isn't a number from 1 up to 2^63 - 1.
 pub fn build_fault(text: &[u8]) -> NumberFault {
     match text {
         b"0" => NumberFault::BelowOne,
-        [b'-', ..] => number_fault(text, NumberFault::BelowOne),
-        _ => number_fault(text, NumberFault::Past64),
+        _ => number_fault(text, NumberFault::BelowOne, NumberFault::Past64),
     }
 }
 

@@ -4,7 +4,7 @@ ghost use Rattle.nl_table.specs.Log.{NotALog, OtherVersion};
 ghost use Rattle.nl_versions.specs.LogAs.{log_for};
 ghost use Rattle.nl_session.specs.declared.fault.LogFault.{LogFault};
 ghost use Rattle.nl_folder.specs.FolderView.{folder_view};
-ghost use Rattle.nl_tool_change.specs.{Calls.{Looks}, Distrusts.{AreDistrusted, Distrusts}, Mending.{ReadsLog, ReadsWhole}};
+ghost use Rattle.nl_tool_change.specs.{Calls.{Looks}, Distrusts.{AreDistrusted, Distrusts}, Mending.{ReadsWhole}};
 
 use crate::change::{LogResult, ToolResult, of_log_fault};
 use nl_distrust::distrusted;
@@ -13,6 +13,7 @@ use nl_lines::SliceSource;
 use nl_session::LogFault;
 use nl_table::{LoadFault, Secret, Table};
 use nl_tool_print::read_all;
+use nl_tool_texts::ToolFault;
 use nl_versions::{LogVersion, first_line_in, load_seen};
 use std::alloc::Global;
 
@@ -40,18 +41,11 @@ pub fn look_for<F: Folder>(asked: Option<LogVersion>, folder: F) -> (F, LogResul
 pub fn read_log<F: Folder>(alloc: Global, folder: F) -> (F, ToolResult<Vec<u8>>)
     ensures reads { ReadsWhole (folder_view F.Folder folder) (folder_view F.Folder result.0) result.1 }
 {
-    let (folder, answer) = read_bytes(alloc, folder);
-    (folder, answer.map_err(of_log_fault))
-}
-
-fn read_bytes<F: Folder>(alloc: Global, folder: F) -> (F, LogResult<Vec<u8>>)
-    ensures reads { ReadsLog (folder_view F.Folder folder) (folder_view F.Folder result.0) result.1 }
-{
     let mut reader = LogReader::new(folder);
     reader.begin_load();
     match read_all(alloc, &mut reader) {
         Ok(bytes) => (reader.folder, Ok(bytes)),
-        Err(why) => (reader.folder, Err(why.into())),
+        Err(why) => (reader.folder, Err(of_log_fault(why.into()))),
     }
 }
 
@@ -67,13 +61,14 @@ pub fn distrusted_for<F: Folder>(
 ) -> (F, LogResult<Table>)
     ensures distrusts { Distrusts asked (folder_view F.Folder folder) (folder_view F.Folder result.0) result.1 }
 {
-    let (folder, read) = read_bytes(alloc, folder);
+    let (folder, read) = read_log(alloc, folder);
     match read {
         Ok(bytes) => (
             folder,
             distrusted_of(alloc, secret, asked, bytes.as_slice()),
         ),
-        Err(why) => (folder, Err(why)),
+        Err(ToolFault::Folder) => (folder, Err(LogFault::Fault)),
+        Err(_) => (folder, Err(LogFault::OutOfMemory)),
     }
 }
 

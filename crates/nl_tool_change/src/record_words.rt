@@ -23,7 +23,7 @@ pub fn entry_of<'a>(
     let end_ms = time_of(end, NumberOf::End, told)?;
     let text = mtime.as_bytes();
     let Some(mtime) = read_i64(text) else {
-        let why = number_fault(text, NumberFault::Past64);
+        let why = number_fault(text, NumberFault::Past64, NumberFault::Past64);
         return Err(told.refuse_number(WrongNumber {
             which: NumberOf::Mtime,
             nth: None,
@@ -46,7 +46,7 @@ fn time_of(text: &str, which: NumberOf, told: &mut Told) -> Result<i32, ToolFaul
         None => Err(told.refuse_number(WrongNumber {
             which,
             nth: None,
-            why: number_fault(text, NumberFault::Past32),
+            why: number_fault(text, NumberFault::Past32, NumberFault::Past32),
         })),
     }
 }
