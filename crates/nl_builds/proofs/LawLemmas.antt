@@ -1,6 +1,6 @@
 -- Laws of commands and builds.
 use Rattle.std.proofs.Common.{◌≡◌, ℕ, ◌+◌, ◌-◌, ◌<◌, ◌≤◌, ◌||◌, ◌&&◌, not, Bool, true, false, cond, List, [], ◌∷◌, ◌++◌, length, map, take, drop, refl, sym, ◌∙◌, ap, arith, subst, inl, inr, zero, suc}
-use Rattle.std.specs.Prelude.{nat_le, nat_lt, slice_get, Option, None, Some}
+use Rattle.std.specs.Prelude.{min, nat_le, nat_lt, slice_get, Option, None, Some}
 use Rattle.std.specs.List.Sorted.{IsPermutation}
 use Rattle.std.specs.Option.{is_some}
 use Rattle.std.proofs.lemmas.Bool.{cases_Bool, cond-false, cond-true, ltb-true}
@@ -9,7 +9,6 @@ use Rattle.std.proofs.lemmas.List.Sorted.{IsPermutation-append_left, IsPermutati
 use Rattle.nl_fields.specs.declared.entry.Entry.{Entry}
 use Rattle.nl_builds.specs.Builds.{Told, again, as_written, beside_doubts, builds_of, entries_of, entries_to, falls_at, first_back, found_build, is_before, new_commands, new_names, next_is_sure, past_in, told_with, walk, walk_from, whole_commands, written_build, written_builds}
 use Rattle.nl_builds.specs.Commands.{commands, commands_from, falls, first_of, is_more, is_same, longer, one, row_commands, row_to, with_next, with_rows, with_waits}
-use Rattle.nl_builds.specs.Moments.{least}
 use Rattle.nl_builds.specs.Laws.{AreModest, PlacesRise, Share, ShareCommands, ShareEntries}
 use Rattle.nl_builds.specs.Seen.{begun, doubts, is_border, is_doubtful, is_sure, mark, mark_told, mark_written, with_command}
 use Rattle.nl_builds.specs.Sorted.{by_moment, falling, moment_rank, span_rank}
@@ -51,7 +50,7 @@ waits_shared row from (c ∷ cs) end held = (held.0, waits_shared (row_to row c.
 next_to : (c : Command) (next : Option Command) → (with_next c next).to ≡ c.to
 next_to c None = refl
 next_to c (Some d) =
-    elim (falls c d) as (λ b. (cond b c (record c { up = least c.up d.up; wait = least c.wait d.wait })).to ≡ c.to) [ true ↦ refl | false ↦ refl ]
+    elim (falls c d) as (λ b. (cond b c (record c { up = min c.up d.up; wait = min c.wait d.wait })).to ≡ c.to) [ true ↦ refl | false ↦ refl ]
 
 rows_shared : (from : ℕ) (cs : List Command) (end : ℕ) → ShareEntries from cs end → ShareEntries from (with_rows cs) end
 rows_shared from [] end held = held

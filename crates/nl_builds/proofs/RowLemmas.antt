@@ -1,9 +1,9 @@
 -- What the commands of a row tell of each other: from the last one on, and of ENDs that rise.
-use Rattle.std.proofs.Common.{◌≡◌, ◌∙◌, ℕ, ◌+◌, ◌-◌, ◌<◌, ◌≤◌, ◌&&◌, Bool, true, false, List, [], ◌∷◌, ◌++◌, length, get_or, None, Some, refl, sym, ap, arith, inl, inr}
+use Rattle.std.proofs.Common.{◌≡◌, ◌∙◌, ℕ, ◌+◌, ◌-◌, ◌<◌, ◌≤◌, ◌&&◌, Bool, true, false, List, [], ◌∷◌, ◌++◌, length, get_or, refl, sym, ap, arith, inl, inr}
 use Rattle.std.specs.Prelude.{nat_le, nat_lt}
 use Rattle.std.specs.List.{list_any}
 use Rattle.std.specs.List.Sorted.{IsNonDecreasing, IsPartitionPoint, IsPartitionedBy}
-use Rattle.std.proofs.lemmas.Bool.{cases_lt, cond-false, cond-true, le-leb, le-ltb, lt-leb, lt-ltb, ltb-false, ltb-true}
+use Rattle.std.proofs.lemmas.Bool.{cases_lt, cond-true, le-leb, le-ltb, lt-leb, lt-ltb, ltb-false, ltb-true}
 use Rattle.std.proofs.lemmas.List.{get_or_default}
 use Rattle.std.proofs.lemmas.List.Folds.{list_any_at, list_any_none}
 use Rattle.nl_builds.specs.Commands.{first_of, is_at_once, row_to, waited, with_next, with_rows}
@@ -60,17 +60,15 @@ module _ (c : Command) (row : List ℕ) (rises : IsNonDecreasing row) where
 
   module _ (at : ℕ) (point : IsPartitionPoint (λ e. is_early c.began e ≡ true) (λ e. is_early c.began e ≡ false) row at) where
     -- the first that isn't too early tells whether the command waited for one
-    pub waited_none : ((k : ℕ) → at ≤ k → k < length row → c.began < get_or row k 0) → None ≡ waited row c
+    pub waited_none : ((k : ℕ) → at ≤ k → k < length row → c.began < get_or row k 0) → false ≡ waited row c
     waited_none later =
-        sym (cond-false (list_any (is_at_once c.began) row) (Some c.began) None
-        (list_any_none (is_at_once c.began) row (λ k d within. elim (cases_lt k at) [
+        sym (list_any_none (is_at_once c.began) row (λ k d within. elim (cases_lt k at) [
           | inl less ↦ early_none c.began (get_or row k d) (point.0 k d (omega arith) less)
           | inr more ↦ late_none c.began (get_or row k d) (omega (arith, later k more within, get_or_default row k d 0 within))
-        ])))
+        ]))
 
-    pub waited_one : (d : ℕ) → at < length row → get_or row at d ≤ c.began → Some c.began ≡ waited row c
+    pub waited_one : (d : ℕ) → at < length row → get_or row at d ≤ c.began → true ≡ waited row c
     waited_one d within le =
-        sym (cond-true (list_any (is_at_once c.began) row) (Some c.began) None
-        (list_any_at (is_at_once c.began) row at d within
+        sym (list_any_at (is_at_once c.began) row at d within
         (ap (λ b. b && nat_le c.began (get_or row at d + 1)) (le-leb (get_or row at d) c.began le)
-        ∙ le-leb c.began (get_or row at d + 1) (ltb-false (get_or row at d + 1) c.began (point.1 at d (omega arith) within)))))
+        ∙ le-leb c.began (get_or row at d + 1) (ltb-false (get_or row at d + 1) c.began (point.1 at d (omega arith) within))))

@@ -1,11 +1,11 @@
 -- The commands of a log, as its entries tell them (docs/FORMAT.md, "For a reporter: builds, commands and order").
-use Rattle.std.specs.Prelude.{ℕ, ℤ, pos, negsuc, ◌-ℤ◌, ◌+◌, ◌==◌, ◌&&◌, ◌||◌, Bool, false, not, bytes_eq, codes, int_lt, nat_le, nat_lt, List, [], ◌∷◌, ◌++◌, Option, None, Some, if◌then◌else◌}
+use Rattle.std.specs.Prelude.{ℕ, ℤ, pos, negsuc, ◌-ℤ◌, ◌+◌, ◌-◌, ◌^◌, ◌==◌, ◌&&◌, ◌||◌, Bool, false, not, bytes_eq, codes, int_lt, min, nat_le, nat_lt, List, [], ◌∷◌, ◌++◌, Option, None, Some, if◌then◌else◌}
 use Rattle.std.specs.Int.RustNames.{unsigned_abs}
 use Rattle.std.specs.List.{list_any}
-use Rattle.std.specs.Option.{is_some}
+use Rattle.std.specs.Option.{unwrap_or}
 use Rattle.std.specs.Ordering.{int_eq}
 use Rattle.nl_fields.specs.declared.entry.Entry.{Entry}
-use Rattle.nl_builds.specs.Moments.{least, moment_at}
+use Rattle.nl_builds.specs.Moments.{moment_at}
 use Rattle.nl_builds.specs.declared.command.Command.{Command}
 
 -- milliseconds from the earliest START that an entry can have
@@ -26,6 +26,10 @@ lo c = latest c.mtime c.ended
 abbrev pub tells : Command → Bool
 tells c = int_lt (pos 0) c.mtime
 
+-- behind each moment
+abbrev pub never : ℕ
+never = 2 ^ 64 - 1
+
 -- Ninja begins anew once it made the manifest
 abbrev pub is_manifest_name : List ℕ → Bool
 is_manifest_name name = bytes_eq name (codes "build.ninja")
@@ -38,9 +42,9 @@ one to e = record {
   mtime = e.mtime;
   hash = e.hash;
   to = to;
-  up = latest e.mtime (moment e.start_ms);
+  up = unwrap_or (latest e.mtime (moment e.start_ms)) never;
   has_waited = false;
-  wait = None;
+  wait = never;
   is_manifest = is_manifest_name e.name;
 }
 
@@ -56,7 +60,7 @@ abbrev pub longer : Command → ℕ → Entry → Command
 longer c to e = record c {
   mtime = agreed c.mtime e.mtime;
   to = to;
-  up = latest (agreed c.mtime e.mtime) c.began;
+  up = unwrap_or (latest (agreed c.mtime e.mtime) c.began) never;
   is_manifest = c.is_manifest || is_manifest_name e.name;
 }
 
@@ -82,17 +86,17 @@ is_same a b = a.began == b.began && a.ended == b.ended && a.hash == b.hash
 abbrev pub is_at_once : ℕ → ℕ → Bool
 is_at_once began ended = nat_le ended began && nat_le began (ended + 1)
 
--- START of a command, if it waited for one of a row with these ENDs
-abbrev pub waited : List ℕ → Command → Option ℕ
-waited row c = if list_any (is_at_once c.began) row then Some c.began else None
+-- a command waited for one of a row with these ENDs
+abbrev pub waited : List ℕ → Command → Bool
+waited row c = list_any (is_at_once c.began) row
 
 -- a row goes on up to where END falls
 abbrev pub row_to : List ℕ → ℕ → List ℕ
 row_to row ended = if list_any (nat_lt ended) row then [] else row
 
 -- each with its START, if it waited for one before it in its row
-abbrev pub with_wait : Command → Option ℕ → Command
-with_wait c wait = record c { has_waited = is_some wait; wait = wait }
+abbrev pub with_wait : Command → Bool → Command
+with_wait c waits = record c { has_waited = waits; wait = if waits then c.began else never }
 
 abbrev pub with_waits : List ℕ → List Command → List Command
 with_waits row [] = []
@@ -103,7 +107,7 @@ with_waits row (c ∷ cs) =
 -- of it and of those behind it in its row the least `hi`, and the least START of one that waited
 abbrev pub with_next : Command → Option Command → Command
 with_next c None = c
-with_next c (Some d) = if falls c d then c else record c { up = least c.up d.up; wait = least c.wait d.wait }
+with_next c (Some d) = if falls c d then c else record c { up = min c.up d.up; wait = min c.wait d.wait }
 
 abbrev pub first_of : List Command → Option Command
 first_of [] = None

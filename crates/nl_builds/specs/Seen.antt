@@ -43,7 +43,7 @@ is_after None m = true
 -- `lo`, unless `hi` is before the end of the build before
 abbrev pub told_by : Stamps → Option Past → Command → Option ℕ
 told_by Unknown past c = None
-told_by OfStart past c = c.up
+told_by OfStart past c = Some c.up
 told_by OfEnd past c = if is_after past (hi c) then lo c else None
 
 abbrev pub told : Stamps → Option Past → Command → Option ℕ
@@ -79,12 +79,8 @@ begun stamps to sure past c = record {
 }
 
 -- it, or a command behind it in its row, waited, and began 1 ms after the command before it ended, or earlier
-abbrev pub is_tied_by : Option ℕ → ℕ → Bool
-is_tied_by None ended = false
-is_tied_by (Some began) ended = nat_le began (ended + 1)
-
 abbrev pub is_tied : Seen → Command → Bool
-is_tied s c = is_tied_by c.wait s.last.ended
+is_tied s c = nat_le c.wait (s.last.ended + 1)
 
 -- a command that isn't tied begins a piece of the build, whose moment is its greatest `lo`; `pieces` is the least moment of those before
 

@@ -1,6 +1,6 @@
 //! The commands of a log, as the entries of their outputs tell them.
 ghost use Rattle.std.specs.{Prelude.{◌≡◌, [], nat_lt, false, IfOk}, List.{list_any}, List.Sorted.{IsNonDecreasing}};
-ghost use Rattle.nl_builds.specs.{Commands.{commands, falls, is_more, is_same, latest, longer, moment, one, row_to, tells, waited, with_next, with_rows, with_wait, with_waits}, Moments.{least}};
+ghost use Rattle.nl_builds.specs.{Commands.{commands, falls, is_more, is_same, latest, longer, moment, one, row_to, tells, waited, with_next, with_rows, with_wait, with_waits}};
 
 use nl_fields::EntryRef;
 use std::alloc::{AllocError, Global};
@@ -22,10 +22,11 @@ pub struct Command {
     pub hash: u64,
     /// The place behind the entry of its last output.
     pub to: usize,
-    /// The least [`latest`](Command::latest) of it and of those behind it in its row; in a log that was written anew its own.
-    pub up: Option<u64>,
-    /// The least START of those that so waited, of it and of those behind it in its row.
-    pub wait: Option<u64>,
+    /// The least [`latest`](Command::latest) of it and of those behind it in its row; in a log that was written anew its own. `u64::MAX` if
+    /// none has one.
+    pub up: u64,
+    /// The least START of those that so waited, of it and of those behind it in its row. `u64::MAX` if none waited.
+    pub wait: u64,
     /// Whether it began as one before it in its row ended.
     pub has_waited: bool,
     pub is_manifest: bool,
@@ -43,9 +44,9 @@ impl Command {
             mtime: entry.mtime,
             hash: entry.hash,
             to,
-            up: latest(entry.mtime, began),
+            up: latest(entry.mtime, began).unwrap_or(u64::MAX),
             has_waited: false,
-            wait: None,
+            wait: u64::MAX,
             is_manifest: entry.name() == MANIFEST.as_slice(),
         }
     }
@@ -69,19 +70,23 @@ impl Command {
         Command {
             mtime,
             to,
-            up: latest(mtime, self.began),
+            up: latest(mtime, self.began).unwrap_or(u64::MAX),
             is_manifest: self.is_manifest || entry.name() == MANIFEST.as_slice(),
             ..self
         }
     }
 
     // With its START, if it waited.
-    fn with_wait(self, wait: Option<u64>) -> Command
-        ensures value { result ≡ with_wait self wait }
+    fn with_wait(self, has_waited: bool) -> Command
+        ensures value { result ≡ with_wait self has_waited }
     {
         Command {
-            has_waited: wait.is_some(),
-            wait,
+            has_waited,
+            wait: if has_waited {
+                u64::from(self.began)
+            } else {
+                u64::MAX
+            },
             ..self
         }
     }
@@ -92,8 +97,8 @@ impl Command {
     {
         match next {
             Some(other) if !self.falls(&other) => Command {
-                up: least(self.up, other.up),
-                wait: least(self.wait, other.wait),
+                up: self.up.min(other.up),
+                wait: self.wait.min(other.wait),
                 ..self
             },
             _ => self,
@@ -152,13 +157,6 @@ pub(crate) fn latest(mtime: i64, ms: u32) -> Option<u64>
     Some(mtime.unsigned_abs() + ((1 << 32) - u64::from(ms)) * NANOS)
 }
 
-/// The one that is known, if only one is.
-pub(crate) fn least(a: Option<u64>, b: Option<u64>) -> Option<u64>
-    ensures { result ≡ least a b }
-{
-    a.zip(b).map_or(a.or(b), |(x, y)| Some(x.min(y)))
-}
-
 pub fn commands_of(alloc: Global, entries: &[EntryRef]) -> Result<Vec<Command>, AllocError>
     ensures value { IfOk result (λ found. found.items ≡ commands entries.now) }
 {
@@ -194,8 +192,8 @@ pub(crate) fn with_waits(alloc: Global, commands: Vec<Command>) -> Result<Vec<Co
     for i in 0..found.len() {
         let command = found[i];
         cut_row(&mut row, command.ended);
-        let wait = waited(row.as_slice(), &command);
-        found[i] = command.with_wait(wait);
+        let has_waited = waited(row.as_slice(), &command);
+        found[i] = command.with_wait(has_waited);
         row.push(command.ended)?;
     }
     Ok(found)
@@ -216,17 +214,17 @@ fn cut_row(row: &mut Vec<u32>, ended: u32)
     row.clear();
 }
 
-// START, if it waited for one of the row. ENDs in a row rise.
-fn waited(row: &[u32], command: &Command) -> Option<u64>
+// It waited for one of the row. ENDs in a row rise.
+fn waited(row: &[u32], command: &Command) -> bool
     requires { IsNonDecreasing row.now }
     ensures value { result ≡ waited row.now command.now }
 {
     let began = u64::from(command.began);
     let at = row.partition_point(|ended| u64::from(*ended) + 1 < began);
-    if at == row.len() || row[at] > command.began {
-        return None;
+    if at == row.len() {
+        return false;
     }
-    Some(began)
+    row[at] <= command.began
 }
 
 /// Each with what it and those behind it in its row tell.

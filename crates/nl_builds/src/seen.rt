@@ -1,8 +1,8 @@
 //! What is known of a build so far, and where another begins.
 ghost use Rattle.std.specs.Prelude.{◌≡◌, ◌+◌, ◌<◌, ◌^◌, length, IfOk, None};
-ghost use Rattle.nl_builds.specs.{Builds.{first_back, walk}, Moments.{greatest, is_past, reaches}, Seen.{begun, differs_by, doubts, is_after, is_back, is_behind, is_moment_of, is_tied, mark, only, past_by, told, with_command}};
+ghost use Rattle.nl_builds.specs.{Builds.{first_back, walk}, Moments.{greatest, is_past, least, reaches}, Seen.{begun, differs_by, doubts, is_after, is_back, is_behind, is_moment_of, is_tied, mark, only, past_by, told, with_command}};
 
-use crate::command::{Command, NANOS, least};
+use crate::command::{Command, NANOS};
 use crate::stamps::Stamps;
 use std::alloc::{AllocError, Global};
 
@@ -99,36 +99,44 @@ impl Seen {
     }
 
     /// The command stands before place `to`.
-    pub(crate) fn with_command(
-        self,
+    pub(crate) fn add(
+        &mut self,
         stamps: Stamps,
         to: usize,
         is_doubtful: bool,
+        moment: Option<u64>,
         command: &Command,
-    ) -> Seen
-        ensures value { result ≡ with_command self stamps to is_doubtful command.now }
+    )
+        requires told { moment ≡ told stamps self.old.past command.now }
+        ensures value { self.new ≡ with_command self.old stamps to is_doubtful command.now }
     {
         let is_tied = self.is_tied(command);
-        let one = Seen::begun(stamps, to, self.is_sure, self.past, command);
-        Seen {
-            is_doubtful: self.is_doubtful || is_doubtful || one.is_doubtful,
-            began: match stamps {
-                Stamps::OfStart => least(self.began, one.began),
-                Stamps::Unknown | Stamps::OfEnd => greatest(self.began, one.began),
-            },
-            earliest: greatest(self.earliest, one.earliest),
-            latest: least(self.latest, one.latest),
-            top: greatest(self.top, one.top),
-            ended: self.ended.max(one.ended),
-            piece: greatest(only(is_tied, self.piece), one.piece),
-            pieces: least(self.pieces, only(!is_tied, self.piece)),
-            oldest: least(self.oldest, one.oldest),
-            ..one
-        }
+        let (earliest, latest) = (command.earliest(), command.latest());
+        self.to = to;
+        self.is_doubtful = self.is_doubtful || is_doubtful || !command.tells();
+        self.began = match stamps {
+            Stamps::OfStart => least(self.began, moment),
+            Stamps::Unknown | Stamps::OfEnd => greatest(self.began, moment),
+        };
+        self.earliest = greatest(self.earliest, earliest);
+        self.latest = least(self.latest, latest);
+        self.top = greatest(self.top, latest);
+        self.ended = self.ended.max(command.ended);
+        self.pieces = least(self.pieces, only(!is_tied, self.piece));
+        self.piece = greatest(only(is_tied, self.piece), earliest);
+        self.oldest = least(self.oldest, only(!command.has_waited, latest));
+        self.last = *command;
     }
 
     /// What stands before a command behind this build.
-    pub(crate) fn mark(&self, order: Order, stamps: Stamps, command: &Command) -> Mark
+    pub(crate) fn mark(
+        &self,
+        order: Order,
+        stamps: Stamps,
+        moment: Option<u64>,
+        command: &Command,
+    ) -> Mark
+        requires told { moment ≡ told stamps self.now.past command.now }
         ensures { result ≡ mark order stamps self.now command.now }
     {
         if matches!(order, Order::ByMoment) {
@@ -147,7 +155,6 @@ impl Seen {
         if self.last.is_manifest {
             return Mark::Unsure;
         }
-        let moment = told(stamps, self.past, command);
         // By its moment another build had begun.
         if self.is_behind(moment) {
             return if stamps.is_start() && self.is_behind(command.earliest()) {
@@ -179,8 +186,7 @@ impl Seen {
     fn is_tied(&self, command: &Command) -> bool
         ensures { result ≡ is_tied self.now command.now }
     {
-        let ended = u64::from(self.last.ended);
-        command.wait.is_some_and(|began| began <= ended + 1)
+        command.wait <= u64::from(self.last.ended) + 1
     }
 
     /// The end of this build, if it began at `began`, or an earlier end if that isn't known.
@@ -249,7 +255,7 @@ fn told(stamps: Stamps, past: Option<Past>, command: &Command) -> Option<u64>
     ensures value { result ≡ told stamps past command.now }
 {
     match stamps {
-        Stamps::OfStart if command.tells() => command.up,
+        Stamps::OfStart if command.tells() => Some(command.up),
         Stamps::OfEnd if is_after(past, command.latest()) => command.earliest(),
         _ => None,
     }
@@ -271,6 +277,12 @@ fn reaches(began: u64, ended: u32, moment: u64) -> bool
 }
 
 /// The one that is known, if only one is.
+fn least(a: Option<u64>, b: Option<u64>) -> Option<u64>
+    ensures { result ≡ least a b }
+{
+    a.zip(b).map_or(a.or(b), |(x, y)| Some(x.min(y)))
+}
+
 fn greatest(a: Option<u64>, b: Option<u64>) -> Option<u64>
     ensures { result ≡ greatest a b }
 {
@@ -297,7 +309,8 @@ pub(crate) fn walk(
     let mut current = Seen::begun(stamps, to, is_sure, None, start);
     for command in later {
         to += 1;
-        let mark = current.mark(order, stamps, command);
+        let moment = told(stamps, current.past, command);
+        let mark = current.mark(order, stamps, moment, command);
         if matches!(mark, Mark::Unsure | Mark::Sure) {
             found.push(current)?;
             // It tells of the next build only if they stand as Ninja wrote them.
@@ -307,7 +320,7 @@ pub(crate) fn walk(
             };
             current = Seen::begun(stamps, to, matches!(mark, Mark::Sure), past, command);
         } else {
-            current = current.with_command(stamps, to, matches!(mark, Mark::Doubtful), command);
+            current.add(stamps, to, matches!(mark, Mark::Doubtful), moment, command);
         }
     }
     found.push(current)?;

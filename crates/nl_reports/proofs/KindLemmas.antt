@@ -8,11 +8,12 @@ use Rattle.std.proofs.lemmas.List.Sums.{fold_push}
 use Rattle.std.proofs.lemmas.Option.{get_or_from_slice_get, slice_get_within}
 use Rattle.indexmap.specs.IndexMap.{insert_entry}
 use Rattle.nl_builds.specs.declared.name_key.NameKey.{NameKey}
-use Rattle.nl_reports.specs.Kinds.{AreSumsOf, IsOfOne, IsSumOf, added, counted, kind_of, kind_pair, kinds, no_sums, same_bytes, sums_in, with_sums}
-use Rattle.nl_reports.specs.Rows.{Told, told_row}
+use Rattle.nl_reports.specs.Kinds.{AreSumsOf, IsSumOf, added, counted, kind_of, kind_pair, kinds, no_sums, same_bytes, sums_in, with_sums}
+use Rattle.nl_reports.specs.Rows.{Told, told_command, told_row}
 use Rattle.nl_reports.specs.declared.kind.KindRule.{KindRule}
 use Rattle.nl_reports.specs.declared.rows.Row.{Row}
 use Rattle.nl_reports.specs.declared.rows.Sums.{Sums}
+use Rattle.nl_reports.specs.declared.rows.Weighed.{Weighed}
 
 -- ---- a command more
 
@@ -52,32 +53,32 @@ found_within n (p ∷ ps) kind are =
       | false ↦ rest
     ]
 
-one_larger : (n : ℕ) (s : Sums) (r : Row) → IsOfOne r → IsSumOf n s → IsSumOf (n + 1) (added s r.sums)
-one_larger n s r one is = record {
+one_larger : (n : ℕ) (s t : Sums) → IsSumOf 1 t → IsSumOf n s → IsSumOf (n + 1) (added s t)
+one_larger n s t one is = record {
   commands = omega (arith, is.commands, one.commands);
   time = omega (arith, is.time, one.time);
   weight = omega (arith, is.weight, one.weight);
 }
 
-pub counted_within : (n : ℕ) (ks : List Told) (kind : List ℕ) (r : Row) → IsOfOne r → AreSumsOf n ks → AreSumsOf (n + 1) (counted kind ks (told_row r))
-counted_within n [] kind r one are =
-    (one_larger n no_sums r one (record { commands = omega arith; time = omega arith; weight = omega arith }), tt)
-counted_within n (k ∷ ks) kind r one are =
-    let rest = counted_within n ks kind r one are.1 in
-    elim (bytes_eq kind k.name) as (λ b. AreSumsOf (n + 1) (cond b (with_sums k r.sums ∷ ks) (k ∷ counted kind ks (told_row r)))) [
-      | true ↦ (one_larger n k.sums r one are.0, none_larger n ks are.1)
+pub counted_within : (n : ℕ) (ks : List Told) (kind : List ℕ) (t : Told) → IsSumOf 1 t.sums → AreSumsOf n ks → AreSumsOf (n + 1) (counted kind ks t)
+counted_within n [] kind t one are =
+    (one_larger n no_sums t.sums one (record { commands = omega arith; time = omega arith; weight = omega arith }), tt)
+counted_within n (k ∷ ks) kind t one are =
+    let rest = counted_within n ks kind t one are.1 in
+    elim (bytes_eq kind k.name) as (λ b. AreSumsOf (n + 1) (cond b (with_sums k t.sums ∷ ks) (k ∷ counted kind ks t))) [
+      | true ↦ (one_larger n k.sums t.sums one are.0, none_larger n ks are.1)
       | false ↦ (no_larger n k.sums are.0, rest)
     ]
 
 -- the kinds of one command more
-pub kinds_more : (rule : KindRule) (rows : List Row) (i : ℕ) (d : Row) (old new : List Told) (kind : List ℕ) → i < length rows
-    → kind ≡ kind_of rule (get_or rows i d).name.now → new ≡ counted kind old (told_row (get_or rows i d))
-    → old ≡ kinds rule (map told_row (take i rows)) → new ≡ kinds rule (map told_row (take (i + 1) rows))
+pub kinds_more : (rule : KindRule) (rows : List Weighed) (i : ℕ) (d : Weighed) (old new : List Told) (kind : List ℕ) → i < length rows
+    → kind ≡ kind_of rule (get_or rows i d).name.now → new ≡ counted kind old (told_command (get_or rows i d))
+    → old ≡ kinds rule (map told_command (take i rows)) → new ≡ kinds rule (map told_command (take (i + 1) rows))
 kinds_more rule rows i d old new kind within is after before =
     let x = get_or rows i d in
-    after ∙ (λ j. counted (is j) (before j) (told_row x))
-    ∙ sym (fold_push (λ (ks : List Told) (t : Told). counted (kind_of rule t.name) ks t) [] (map told_row (take i rows)) (told_row x))
-    ∙ ap (kinds rule) (sym (ap (map told_row) (take_more rows i d within) ∙ map-append told_row (take i rows) (x ∷ [])))
+    after ∙ (λ j. counted (is j) (before j) (told_command x))
+    ∙ sym (fold_push (λ (ks : List Told) (t : Told). counted (kind_of rule t.name) ks t) [] (map told_command (take i rows)) (told_command x))
+    ∙ ap (kinds rule) (sym (ap (map told_command) (take_more rows i d within) ∙ map-append told_command (take i rows) (x ∷ [])))
 
 -- ---- the rows of the kinds
 

@@ -1,5 +1,5 @@
 -- The commands of builds by kind (docs/CLI.md, "summary").
-use Rattle.std.specs.Prelude.{◌≡◌, ◌≤◌, ◌<◌, ◌*◌, ◌^◌, ⊤, ℕ, ◌+◌, ◌==◌, bytes_eq, position, Bool, List, [], ◌∷◌, take, if◌then◌else◌}
+use Rattle.std.specs.Prelude.{◌≤◌, ◌*◌, ◌^◌, ⊤, ℕ, ◌+◌, ◌==◌, bytes_eq, position, Bool, List, [], ◌∷◌, take, if◌then◌else◌}
 use Rattle.std.specs.List.{filter, fold}
 use Rattle.std.specs.Map.{lookup}
 use Rattle.std.specs.Option.{option_map_or, unwrap_or}
@@ -8,7 +8,6 @@ use Rattle.nl_reports.specs.Rows.{Told}
 use Rattle.nl_reports.specs.declared.kind.KindRule.{KindRule}
 use Rattle.nl_reports.specs.Work.{extension_of, word, work_of}
 use Rattle.nl_reports.specs.declared.kind.KindRule.TheVariants.{Extension, Folder, Top, Work}
-use Rattle.nl_reports.specs.declared.rows.Row.{Row}
 use Rattle.nl_reports.specs.declared.rows.Sums.{Sums}
 
 -- the bytes up to the last `/`, with it; `found` are those before the rest, which stands at a place
@@ -65,11 +64,6 @@ sums_in ps kind = unwrap_or (lookup (λ (k : NameKey). bytes_eq kind k.bytes.now
 
 abbrev pub same_bytes : NameKey → NameKey → Bool
 same_bytes a b = bytes_eq a.bytes.now b.bytes.now
-
-pub record IsOfOne (r : Row) : Type 0 where
-  pub commands : r.sums.commands ≡ 1
-  pub time : r.sums.time < 2 ^ 32
-  pub weight : r.sums.weight < 2 ^ 64
 
 -- no larger than the sums of `n` commands can be
 pub record IsSumOf (n : ℕ) (s : Sums) : Type 0 where

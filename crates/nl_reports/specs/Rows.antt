@@ -14,6 +14,7 @@ use Rattle.nl_reports.specs.declared.rows.Rank.{Rank}
 use Rattle.nl_reports.specs.declared.rows.Rank.TheVariants.{Time, Weight}
 use Rattle.nl_reports.specs.declared.rows.Row.{Row}
 use Rattle.nl_reports.specs.declared.rows.Sums.{Sums}
+use Rattle.nl_reports.specs.declared.rows.Weighed.{Weighed}
 use Rattle.nl_reports.specs.declared.span.Span.{Span}
 
 -- a command by its first output, or a kind
@@ -23,6 +24,9 @@ pub record Told : Type 0 where
 
 abbrev pub told_row : Row → Told
 told_row r = record { name = r.name.now; sums = r.sums }
+
+abbrev pub told_command : Weighed → Told
+told_command c = record { name = c.name.now; sums = record { commands = 1; time = c.time; weight = c.weight } }
 
 -- milliseconds, and weighted ones in parts of a millisecond
 abbrev pub weighed : ℕ → Job → Told
@@ -50,9 +54,6 @@ by_start js = falling lead js
 abbrev pub rank_told : Rank → Told → ℕ
 rank_told Time t = t.sums.time
 rank_told Weight t = t.sums.weight
-
-abbrev pub rank_of : Rank → Row → ℕ
-rank_of rank r = rank_told rank (told_row r)
 
 abbrev pub rank_key : Rank → List ℕ
 rank_key Time = codes "by-time\t"
@@ -89,7 +90,13 @@ list_line screen total listed rank t = if screen then screen_row listed total t 
     list_key listed rank t.sums.commands ++ decimal t.sums.time ++ codes "\t" ++ ratio t.sums.weight parts ++ codes "\t"
     ++ shown_name listed t.name ++ codes "\n"
 
--- the highest rank comes first; all commands take so long together
+-- all commands take so long together
+abbrev pub row_lines : Bool → ℕ → Listed → Rank → List Told → List ℕ
+row_lines screen total listed rank ts = heading screen listed ++ flat_map (list_line screen total listed rank) ts
+
+-- the highest rank comes first
+abbrev pub highest_told : ℕ → Rank → List Told → List Told
+highest_told most rank ts = take most (falling (rank_told rank) ts)
+
 abbrev pub list_lines : Lists → ℕ → Listed → Rank → List Told → List ℕ
-list_lines lists total listed rank ts = heading lists.screen listed
-    ++ flat_map (list_line lists.screen total listed rank) (take lists.most (falling (rank_told rank) ts))
+list_lines lists total listed rank ts = row_lines lists.screen total listed rank (highest_told lists.most rank ts)

@@ -114,9 +114,10 @@ abbrev pub slowest_line : Bool → Option Told → List ℕ
 slowest_line screen None = []
 slowest_line screen (Some t) = if screen then [] else line (codes "slowest" ∷ decimal t.sums.time ∷ t.name ∷ [])
 
--- a number after its key, or at a terminal before words
-abbrev pub count_line : Bool → List ℕ → List ℕ → ℕ → List ℕ
-count_line screen key words count = if screen then line (decimal count ∷ words ∷ []) else line (key ∷ decimal count ∷ [])
+-- a number after its key, or at a terminal before words, if there is one
+abbrev pub count_line : Bool → List ℕ → List ℕ → Option ℕ → List ℕ
+count_line screen key words None = []
+count_line screen key words (Some count) = if screen then line (decimal count ∷ words ∷ []) else line (key ∷ decimal count ∷ [])
 
 -- how many outputs later builds may have taken at most of one of these, if one was found again
 abbrev pub more_taken : Option ℕ → How → Option ℕ
@@ -139,20 +140,15 @@ abbrev pub taken_in : Scope → BuildsTold → Option ℕ
 taken_in scope t = option_and_then (λ (c : Choice). most_taken None (between (c.first - 1) c.last t.builds)) (chosen scope t)
 
 abbrev pub again_line : Bool → Option ℕ → List ℕ
-again_line screen None = []
-again_line screen (Some taken) = count_line screen (codes "again") (codes "outputs lost to later builds") taken
+again_line screen taken = count_line screen (codes "again") (codes "outputs lost to later builds") taken
 
 -- how many outputs wait for a command that didn't end, where one does
 abbrev pub unfinished_line : Bool → ℕ → List ℕ
-unfinished_line screen count = if count == 0 then [] else count_line screen (codes "unfinished") (codes "outputs have yet to be made") count
+unfinished_line screen count = if count == 0 then [] else count_line screen (codes "unfinished") (codes "outputs have yet to be made") (Some count)
 
 -- by time, and in a pipe also by weight
 abbrev pub both_lists : Lists → ℕ → Listed → List Told → List ℕ
 both_lists lists total listed ts = list_lines lists total listed Time ts ++ (if lists.screen then [] else list_lines lists total listed Weight ts)
-
--- the same come first by time
-abbrev pub AreHighest : Lists → List Told → List Told → Type 0
-AreHighest lists us ts = take lists.most (falling (rank_told Time) us) ≡ take lists.most (falling (rank_told Time) ts)
 
 abbrev pub all_lists : Lists → List Told → List Told → List ℕ
 all_lists lists ts ks = both_lists lists (total_of ts) Commands ts ++ both_lists lists (total_of ts) Kinds ks
@@ -175,7 +171,7 @@ builds_told scope lists unfinished t number (b ∷ bs) =
     text_of (title lists.screen scope number (length t.builds)) lists unfinished (totals_from no_totals t number (b ∷ bs)) (rows_from t number (b ∷ bs)) (again_in scope (b ∷ bs))
 
 abbrev pub few_text : Bool → ℕ → ℕ → List ℕ
-few_text screen count unfinished = count_line screen (codes "builds") (codes "builds in LOG") count ++ unfinished_line screen unfinished
+few_text screen count unfinished = count_line screen (codes "builds") (codes "builds in LOG") (Some count) ++ unfinished_line screen unfinished
 
 -- the text of the builds that are asked for; where there are fewer than that number, it says how many there are
 abbrev pub chosen_text : Scope → Option Choice → Lists → ℕ → BuildsTold → List ℕ

@@ -1,9 +1,9 @@
 //! The commands of builds by kind.
-ghost use Rattle.std.specs.Prelude.{◌≡◌, ◌<◌, ◌^◌, ℕ, map, IfOk, OnOk, All};
-ghost use Rattle.nl_reports.specs.{Kinds.{AreSumsOf, IsOfOne, counted, kind_pair, kinds}, Rows.{told_row}};
+ghost use Rattle.std.specs.Prelude.{◌≡◌, ◌+◌, ◌<◌, ◌^◌, ℕ, map, IfOk, OnOk};
+ghost use Rattle.nl_reports.specs.{Kinds.{AreSumsOf, counted, kind_pair, kinds}, Rows.{told_command, told_row}};
 
 use crate::kind::{KindRule, kind_of};
-use crate::rows::{Row, Sums};
+use crate::rows::{Row, Sums, Weighed};
 use indexmap::IndexMap;
 use nl_builds::NameKey;
 use nl_table::Secret;
@@ -15,33 +15,32 @@ pub fn kinds_of<'a>(
     alloc: Global,
     secret: Secret,
     rule: KindRule,
-    rows: &[Row<'a>],
+    commands: &[Weighed<'a>],
 ) -> AllocResult<Vec<Row<'a>>>
-    requires one { All IsOfOne rows.now }
-    ensures value { IfOk result (λ found. map told_row found.items ≡ kinds rule (map told_row rows.now)) }
+    ensures value { IfOk result (λ found. map told_row found.items ≡ kinds rule (map told_command commands.now)) }
 {
     let mut sums = IndexMap::with_hasher(alloc, secret);
-    for row in rows {
-        count_row(kind_of(rule, row.name), row, &mut sums)?;
+    for command in commands {
+        count_command(kind_of(rule, command.name), command, &mut sums)?;
     }
     rows_in(alloc, &sums)
 }
 
-fn count_row<'a>(
+fn count_command<'a>(
     kind: &'a [u8],
-    row: &Row,
+    command: &Weighed,
     sums: &mut IndexMap<NameKey<'a>, Sums, Secret>,
 ) -> AllocResult
-    requires one { IsOfOne row.now }
     requires few { (n : ℕ) × ((n < 2 ^ 63) × AreSumsOf n (map kind_pair sums.old.entries)) }
-    ensures value { OnOk result (map kind_pair sums.new.entries ≡ counted kind.now (map kind_pair sums.old.entries) (told_row row.now)) }
+    ensures value { OnOk result (map kind_pair sums.new.entries ≡ counted kind.now (map kind_pair sums.old.entries) (told_command command.now)) }
+    ensures few { (n : ℕ) → AreSumsOf n (map kind_pair sums.old.entries) → OnOk result (AreSumsOf (n + 1) (map kind_pair sums.new.entries)) }
 {
     let key = NameKey { bytes: kind };
     let before = sums.get(&key).copied().unwrap_or(Sums::default());
     let now = Sums {
-        commands: before.commands + row.sums.commands,
-        time: before.time + row.sums.time,
-        weight: before.weight + row.sums.weight,
+        commands: before.commands + 1,
+        time: before.time + u128::from(command.time),
+        weight: before.weight + u128::from(command.weight),
     };
     sums.insert(key, now)?;
     Ok(())

@@ -21,7 +21,7 @@ pub struct Moments {
 
 /// How many commands had begun and ended at the moment that was asked for last.
 #[derive(Clone, Copy, Default, Drop)]
-pub(crate) struct Near {
+pub struct Near {
     pub begun: usize,
     pub ended: usize,
 }
@@ -39,7 +39,7 @@ impl Moments {
     pub fn running(&self, at: u64) -> u64
         ensures value { (cs : List Span) → AreMoments cs self.now → result ≡ running cs at }
     {
-        self.running_near(&mut Near { begun: 0, ended: 0 }, at)
+        self.running_near(&mut Near::default(), at)
     }
 
     /// It is the quicker the nearer the moment is to the one before.

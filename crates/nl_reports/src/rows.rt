@@ -1,13 +1,9 @@
 //! Commands and kinds of commands, the largest first.
-ghost use Rattle.std.specs.Prelude.{◌≡◌, ◌<◌, ◌^◌, ◌++◌, map, take, OnOk, flat_map};
-ghost use Rattle.nl_reports.specs.Rows.{heading, list_key, list_line, list_lines, rank_of, rank_told, shown_name, told_row};
-ghost use Rattle.nl_tool_texts.specs.Falling.{falling};
+ghost use Rattle.std.specs.Prelude.{◌≡◌, ◌<◌, ◌^◌, ◌++◌, map, OnOk};
+ghost use Rattle.nl_reports.specs.Rows.{Told, heading, list_key, list_line, rank_told, row_lines, shown_name, told_command, told_row};
 
-use crate::lists::Lists;
 use crate::shares::PARTS;
-use nl_tool_texts::{
-    AllocResult, Part, Ranking, append, append_line, highest, percent, put, ratio,
-};
+use nl_tool_texts::{AllocResult, Part, Ranking, append, append_line, percent, put, ratio};
 
 /// How many commands there are, the sum of their milliseconds, and that of their weighted times, in parts of a millisecond.
 #[derive(Clone, Copy, Default, Drop)]
@@ -24,6 +20,45 @@ pub struct Row<'a> {
     pub sums: Sums,
 }
 
+/// A command by its first output, with its milliseconds, and its weighted time in parts of one. It takes half the memory of a row.
+#[derive(Clone, Copy, Drop)]
+pub struct Weighed<'a> {
+    pub name: &'a [u8],
+    pub weight: u64,
+    pub time: u32,
+}
+
+/// What a list has a row for.
+pub trait Listing: Copy {
+    ghost told: { Self → Told };
+
+    fn row(&self) -> Row<'_>
+        ensures { told_row result ≡ told self.now };
+}
+
+impl Listing for Weighed<'_> {
+    ghost told = { told_command };
+
+    fn row(&self) -> Row<'_> {
+        Row {
+            name: self.name,
+            sums: Sums {
+                commands: 1,
+                time: u128::from(self.time),
+                weight: u128::from(self.weight),
+            },
+        }
+    }
+}
+
+impl Listing for Row<'_> {
+    ghost told = { told_row };
+
+    fn row(&self) -> Row<'_> {
+        *self
+    }
+}
+
 /// By what rows are ranked.
 #[derive(Clone, Copy, Drop)]
 pub enum Rank {
@@ -38,33 +73,33 @@ pub enum Listed {
     Kinds,
 }
 
-impl<'a> Ranking<Row<'a>> for Rank {
-    ghost rank = { rank_of };
+impl<T: Listing> Ranking<T> for Rank {
+    ghost rank = { λ rank item. rank_told rank (T.told item) };
 
-    fn rank(&self, row: &Row<'a>) -> u128 {
+    fn rank(&self, item: &T) -> u128 {
+        let sums = item.row().sums;
         match self {
-            Rank::Time => row.sums.time,
-            Rank::Weight => row.sums.weight,
+            Rank::Time => sums.time,
+            Rank::Weight => sums.weight,
         }
     }
 }
 
-/// Appends the lines of the highest rows by this rank, under a heading at a terminal. All commands take so long together.
-pub(crate) fn append_list(
-    lists: Lists,
+/// Appends a line for each, under a heading at a terminal. All commands take so long together.
+pub(crate) fn append_list<T: Listing>(
+    screen: bool,
     total: u128,
     listed: Listed,
     rank: Rank,
-    rows: &[Row],
+    items: &[T],
     lines: &mut Vec<u8>,
 ) -> AllocResult
     requires room { total < 2 ^ 120 }
-    ensures items { OnOk result (lines.new.items ≡ lines.old.items ++ list_lines lists total listed rank (map told_row rows.now)) }
+    ensures items { OnOk result (lines.new.items ≡ lines.old.items ++ row_lines screen total listed rank (map T.told items.now)) }
 {
-    append(heading(lists.screen, listed), lines)?;
-    let kept = highest(*lines.allocator(), &rank, lists.most, rows)?;
-    for i in 0..kept.len() {
-        append_row(lists.screen, total, listed, rank, &kept[i], lines)?;
+    append(heading(screen, listed), lines)?;
+    for item in items {
+        append_row(screen, total, listed, rank, &item.row(), lines)?;
     }
     Ok(())
 }

@@ -1,6 +1,6 @@
 //! How much of the time of a build each command counts for, by a sweep over the moments at which commands begin and end.
 ghost use Rattle.std.specs.Prelude.{◌≡◌, ◌-◌, List, get_or, max, IfOk, All, Contains, ◌⊎◌, ◌+◌, ◌*◌, ◌<◌, ◌≤◌, ◌^◌, ℕ, [], map, length, slice_index, EachIndex, IsTrue, MatchBool, OnOk};
-ghost use Rattle.nl_reports.specs.{Sweep.{alone_time, busy_time, most_at_once, weight, share_of, parts}, Spans.{IsEarly}, declared.span.Span.{Span}, Shares.{AreSharesOf}, SweepSteps.{AreSums, IsLow, IsSwept, Rises, running_by, shares_before}};
+ghost use Rattle.nl_reports.specs.{Moments.{AreMoments}, Sweep.{alone_time, busy_time, most_at_once, weight, share_of, parts}, declared.span.Span.{Span}, Shares.{AreSharesOf}, SweepSteps.{AreSums, IsLow, IsSwept, Rises, running_by, shares_before}};
 
 use crate::moments::{Moments, Near, up_to};
 use crate::span::Span;
@@ -15,11 +15,10 @@ pub struct Shares {
 }
 
 impl Shares {
-    pub fn of(alloc: Global, spans: &[Span]) -> AllocResult<Shares>
-        requires early { All IsEarly spans.now }
-        ensures value { IfOk result (AreSharesOf spans.now) }
+    pub fn of(alloc: Global, moments: Moments) -> AllocResult<Shares>
+        requires order { Rises moments.starts.items × Rises moments.ends.items }
+        ensures value { (cs : List Span) → AreMoments cs moments → IfOk result (AreSharesOf cs) }
     {
-        let moments = Moments::of(alloc, spans)?;
         let swept = sweep(alloc, moments.starts.as_slice(), moments.ends.as_slice())?;
         Ok(Shares { moments, swept })
     }
@@ -43,22 +42,15 @@ impl Shares {
         ensures value { (cs : List Span) → AreSharesOf cs self.now → result ≡ most_at_once cs }
     {
         let mut most = 0;
-        let mut near = Near { begun: 0, ended: 0 };
+        let mut near = Near::default();
         for at in &self.moments.starts {
             most = larger(most, self.moments.running_near(&mut near, *at));
         }
         most
     }
 
-    /// The weighted time of a command, in parts of a millisecond.
-    pub fn weight(&self, span: &Span) -> u64
-        ensures value { (cs : List Span) → AreSharesOf cs self.now → Contains cs span.now → result ≡ weight cs span.now }
-    {
-        self.weight_near(&mut Near { begun: 0, ended: 0 }, span)
-    }
-
-    /// It is the quicker the nearer the command is to the one before.
-    pub(crate) fn weight_near(&self, near: &mut Near, span: &Span) -> u64
+    /// The weighted time of a command, in parts of a millisecond. It is the quicker the nearer the command is to the one before.
+    pub fn weight(&self, near: &mut Near, span: &Span) -> u64
         ensures value { (cs : List Span) → AreSharesOf cs self.now → Contains cs span.now → result ≡ weight cs span.now }
     {
         if span.ended <= span.began {

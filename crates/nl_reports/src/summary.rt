@@ -1,18 +1,18 @@
 //! The text of `summary`.
-ghost use Rattle.std.specs.Prelude.{◌≡◌, ◌+◌, ◌++◌, ◌<◌, ◌^◌, ℕ, List, None, Some, map, option_map, slice_get, IfOk, OnOk, All};
-ghost use Rattle.nl_reports.specs.{Jobs.{build_jobs, seen, told}, Kinds.{IsOfOne}, Numbers.{IsSmall, spans_of}, Rows.{rank_told, told_jobs, told_row, weighed, weights_of}, Shares.{AreSharesOf}, Spans.{IsEarly}, declared.span.Span.{Span}, Summary.{AreHighest, AreTotalsOf, again_in, again_line, both_lists, bound, chosen_text, count_line, few_text, first_of, lists_text, most_taken, no_totals, number_lines, rows_from, slowest_line, slowest_time, summary_text, taken_in, title, total_of, totals_from, unfinished_line, with_build, with_numbers}, declared.rows.Rank.TheVariants.{Time}};
+ghost use Rattle.std.specs.Prelude.{◌≡◌, ◌+◌, ◌++◌, ◌<◌, ◌^◌, ℕ, List, None, Some, map, max, option_map, slice_get, IfOk, OnOk};
+ghost use Rattle.nl_reports.specs.{Jobs.{build_jobs, told}, Moments.{AreMoments}, Numbers.{IsSmall, spans_of}, Rows.{highest_told, rank_told, told_command, told_jobs, weights_of}, Shares.{AreSharesOf}, Spans.{span_of}, declared.span.Span.{Span}, Summary.{AreTotalsOf, again_in, both_lists, bound, chosen_text, count_line, few_text, first_of, lists_text, most_taken, no_totals, number_lines, rows_from, slowest_line, slowest_time, summary_text, taken_in, title, total_of, totals_from, unfinished_line, with_build, with_numbers}, declared.rows.Rank.TheVariants.{Time}};
 ghost use Rattle.nl_tool_texts.specs.Falling.{falling};
 
 use crate::choice::{Choice, Scope, chosen};
-use crate::job::{Job, between, commands_between, commands_to, entries_to, job_of};
+use crate::job::{between, commands_between, commands_to, entries_to, job_of};
 use crate::kinds::kinds_of;
 use crate::lists::Lists;
-use crate::moments::Near;
+use crate::moments::{Moments, Near};
 use crate::numbers::{Numbers, numbers_of, spans_in};
-use crate::rows::{Listed, Rank, Row, Sums, append_list};
+use crate::rows::{Listed, Listing, Rank, Weighed, append_list};
 use crate::shares::Shares;
 use crate::span::Span;
-use nl_builds::{Build, Builds, How};
+use nl_builds::{Build, Builds, Command, How};
 use nl_tool_texts::{AllocResult, Part, append_line, highest, put, ratio};
 use std::alloc::Global;
 
@@ -51,7 +51,7 @@ pub fn summary_lines(
 fn append_few(screen: bool, builds: usize, unfinished: usize, lines: &mut Vec<u8>) -> AllocResult
     ensures items { OnOk result (lines.new.items ≡ lines.old.items ++ few_text screen builds unfinished) }
 {
-    append_count(screen, b"builds", b"builds in LOG", builds, lines)?;
+    append_count(screen, b"builds", b"builds in LOG", Some(builds), lines)?;
     append_unfinished(screen, unfinished, lines)
 }
 
@@ -71,16 +71,18 @@ fn append_chosen(
     if told.is_empty() {
         return append_unfinished(lists.screen, unfinished, lines);
     }
-    let all = all_of(*lines.allocator(), from, choice.first, told)?;
-    let rows = all.rows.as_slice();
-    let by_time = highest(*lines.allocator(), &Rank::Time, lists.most.max(1), rows)?;
+    let alloc = *lines.allocator();
+    let all = all_of(alloc, from, choice.first, told)?;
+    let commands = all.commands.as_slice();
+    let by_time = highest(alloc, &Rank::Time, lists.most.max(1), commands)?;
     let by_time = by_time.as_slice();
     append_title(lists.screen, scope, choice.first, from.builds.len(), lines)?;
-    append_totals(lists.screen, &all.totals, by_time, rows, lines)?;
+    append_totals(lists.screen, &all.totals, by_time, commands, lines)?;
     append_slowest(lists.screen, by_time, lines)?;
-    append_again(lists.screen, again_in(scope, told), lines)?;
+    let words = b"outputs lost to later builds";
+    append_count(lists.screen, b"again", words, again_in(scope, told), lines)?;
     append_unfinished(lists.screen, unfinished, lines)?;
-    append_lists(lists, by_time, rows, lines)
+    append_lists(lists, by_time, commands, lines)
 }
 
 fn append_title(
@@ -105,7 +107,7 @@ fn append_title(
 #[derive(Drop)]
 struct Summed<'a> {
     totals: Totals,
-    rows: Vec<Row<'a>>,
+    commands: Vec<Weighed<'a>>,
 }
 
 fn all_of<'a>(
@@ -116,18 +118,17 @@ fn all_of<'a>(
 ) -> AllocResult<Summed<'a>>
     requires small { first < 2 ^ 63 }
     ensures totals { IfOk result (λ all. all.totals ≡ totals_from no_totals (told from.now) first builds.now) }
-    ensures rows { IfOk result (λ all. map told_row all.rows.items ≡ rows_from (told from.now) first builds.now) }
-    ensures one { IfOk result (λ all. All IsOfOne all.rows.items) }
+    ensures commands { IfOk result (λ all. map told_command all.commands.items ≡ rows_from (told from.now) first builds.now) }
     ensures room { IfOk result (λ all. all.totals.wall < 2 ^ 120) }
 {
     let mut all = Summed {
         totals: Totals::default(),
-        rows: Vec::new(alloc),
+        commands: Vec::new(alloc),
     };
     let mut number = first;
     for _build in builds {
         let weights = add_numbers(alloc, from, number, &mut all.totals)?;
-        push_rows(from, number, weights.as_slice(), &mut all.rows)?;
+        push_commands(from, number, weights.as_slice(), &mut all.commands)?;
         number += 1;
     }
     Ok(all)
@@ -145,22 +146,23 @@ fn add_numbers(
     ensures few { (n : ℕ) → AreTotalsOf n totals.old → OnOk result (AreTotalsOf (n + 1) totals.new) }
     ensures weights { IfOk result (λ found. found.items ≡ weights_of (spans_of (build_jobs (told from.now) number))) }
 {
-    let spans = spans_in(alloc, commands_between(from, number, number))?;
-    let shares = Shares::of(alloc, spans.as_slice())?;
+    let commands = commands_between(from, number, number);
+    // They are taken before what is given back here, so that all of that goes back to the system.
+    let mut weights = Vec::with_capacity(alloc, commands.len())?;
+    let shares = Shares::of(alloc, moments_in(alloc, commands)?)?;
     *totals = with_numbers(totals, &numbers_of(from, number), &shares);
-    weights_of(alloc, &shares, spans.as_slice())
-}
-
-fn weights_of(alloc: Global, shares: &Shares, spans: &[Span]) -> AllocResult<Vec<u64>>
-    requires shares { AreSharesOf spans.now shares.now }
-    ensures weights { IfOk result (λ found. found.items ≡ weights_of spans.now) }
-{
-    let mut near = Near { begun: 0, ended: 0 };
-    let mut weights = Vec::with_capacity(alloc, spans.len())?;
-    for span in spans {
-        weights.push(shares.weight_near(&mut near, span))?;
+    let mut near = Near::default();
+    for command in commands {
+        weights.push(shares.weight(&mut near, &Span::of(command)))?;
     }
     Ok(weights)
+}
+
+fn moments_in(alloc: Global, commands: &[Command]) -> AllocResult<Moments>
+    ensures value { IfOk result (AreMoments (map span_of commands.now)) }
+{
+    let spans = spans_in(alloc, commands)?;
+    Moments::of(alloc, spans.as_slice())
 }
 
 fn with_numbers(totals: &Totals, numbers: &Numbers, shares: &Shares) -> Totals
@@ -178,66 +180,53 @@ fn with_numbers(totals: &Totals, numbers: &Numbers, shares: &Shares) -> Totals
     }
 }
 
-fn push_rows<'a>(
+fn push_commands<'a>(
     from: &Builds<'a>,
     number: usize,
     weights: &[u64],
-    rows: &mut Vec<Row<'a>>,
+    found: &mut Vec<Weighed<'a>>,
 ) -> AllocResult
     requires weights { weights.now ≡ weights_of (spans_of (build_jobs (told from.now) number)) }
-    requires one { All IsOfOne rows.old.items }
-    ensures rows { OnOk result (map told_row rows.new.items ≡ map told_row rows.old.items ++ told_jobs (build_jobs (told from.now) number)) }
-    ensures one { OnOk result (All IsOfOne rows.new.items) }
+    ensures commands { OnOk result (map told_command found.new.items ≡ map told_command found.old.items ++ told_jobs (build_jobs (told from.now) number)) }
 {
     let first = commands_to(number.saturating_sub(1), from.builds.as_slice());
     let mut start = entries_to(first, from.commands.as_slice());
     let commands = commands_between(from, number, number);
-    rows.reserve(commands.len())?;
+    found.reserve(commands.len())?;
     for place in 0..commands.len() {
-        let job = job_of(start, &commands[place], from.entries.as_slice());
-        rows.push(row_of(&job, weights.get(place).copied().unwrap_or(0)))?;
-        start = commands[place].to;
+        let command = &commands[place];
+        found.push(Weighed {
+            name: job_of(start, command, from.entries.as_slice()).name(),
+            weight: weights.get(place).copied().unwrap_or(0),
+            time: command.ended.saturating_sub(command.began),
+        })?;
+        start = command.to;
     }
     Ok(())
-}
-
-fn row_of<'a>(job: &Job<'_, 'a>, weight: u64) -> Row<'a>
-    ensures value { told_row result ≡ weighed weight (seen job.now) }
-    ensures one { IsEarly job.now.span → IsOfOne result }
-{
-    Row {
-        name: job.name(),
-        sums: Sums {
-            commands: 1,
-            time: u128::from(job.span.time()),
-            weight: u128::from(weight),
-        },
-    }
 }
 
 // `by_time` begins with the slowest.
 fn append_totals(
     screen: bool,
     totals: &Totals,
-    by_time: &[Row],
-    rows: &[Row],
+    by_time: &[Weighed],
+    commands: &[Weighed],
     lines: &mut Vec<u8>,
 ) -> AllocResult
-    requires first { option_map told_row (slice_get by_time.now 0) ≡ first_of (falling (rank_told Time) (map told_row rows.now)) }
+    requires first { option_map told_command (slice_get by_time.now 0) ≡ first_of (falling (rank_told Time) (map told_command commands.now)) }
     requires room { totals.now.wall < 2 ^ 120 }
-    requires one { All IsOfOne rows.now }
-    ensures items { OnOk result (lines.new.items ≡ lines.old.items ++ number_lines screen totals.now (map told_row rows.now)) }
+    ensures items { OnOk result (lines.new.items ≡ lines.old.items ++ number_lines screen totals.now (map told_command commands.now)) }
 {
     let alloc = *lines.allocator();
-    let commands = rows.len();
-    let total = total_of(rows);
+    let count = commands.len();
+    let total = total_of(commands);
     let parallel = ratio(alloc, total, totals.wall)?;
     if screen {
         let best = bound(totals.most, total, slowest_time(by_time));
         let none = totals.wall.saturating_sub(totals.busy);
         let most = u128::from(totals.most);
         return put!(lines; [Part::Took(true, totals.wall)] b"\telapsed\n" [Part::Took(true, total)]
-            b"\tof work\n" {commands} b"\tcommands\n" {totals.outputs} b"\toutputs\n"
+            b"\tof work\n" {count} b"\tcommands\n" {totals.outputs} b"\toutputs\n"
             [Part::Text(parallel.as_bytes())] b"\tat a time on average\n" {most}
             b"\tat a time at most\n" [Part::Took(true, best)] b"\tat best with " {most}
             b" at a time\n" [Part::Took(true, totals.alone)] b"\twith one command alone\n"
@@ -246,7 +235,7 @@ fn append_totals(
     let (outputs, wall) = (totals.outputs, totals.wall);
     let (busy, alone) = (totals.busy, totals.alone);
     let text = format!(in alloc;
-        "commands\t{commands}\noutputs\t{outputs}\nwall\t{wall}\ntotal\t{total}\nbusy\t{busy}\nalone\t{alone}\nparallel\t{parallel}\n"
+        "commands\t{count}\noutputs\t{outputs}\nwall\t{wall}\ntotal\t{total}\nbusy\t{busy}\nalone\t{alone}\nparallel\t{parallel}\n"
     )?;
     lines.extend_from_slice(text.as_bytes())?;
     Ok(())
@@ -259,32 +248,31 @@ fn bound(most: u64, total: u128, slowest: u128) -> u128
     (total / u128::from(most.max(1))).max(slowest)
 }
 
-fn total_of(rows: &[Row]) -> u128
-    requires one { All IsOfOne rows.now }
-    ensures value { result ≡ total_of (map told_row rows.now) }
+fn total_of(commands: &[Weighed]) -> u128
+    ensures value { result ≡ total_of (map told_command commands.now) }
     ensures room { result < 2 ^ 120 }
 {
     let mut total = 0;
-    for row in rows {
-        total += row.sums.time;
+    for command in commands {
+        total += u128::from(command.time);
     }
     total
 }
 
-fn slowest_time(by_time: &[Row]) -> u128
-    ensures { result ≡ slowest_time (option_map told_row (slice_get by_time.now 0)) }
+fn slowest_time(by_time: &[Weighed]) -> u128
+    ensures { result ≡ slowest_time (option_map told_command (slice_get by_time.now 0)) }
 {
-    by_time.first().map_or(0, |row| row.sums.time)
+    by_time.first().map_or(0, |it| u128::from(it.time))
 }
 
 // At a terminal it heads the list.
-fn append_slowest(screen: bool, by_time: &[Row], lines: &mut Vec<u8>) -> AllocResult
-    ensures items { OnOk result (lines.new.items ≡ lines.old.items ++ slowest_line screen (option_map told_row (slice_get by_time.now 0))) }
+fn append_slowest(screen: bool, by_time: &[Weighed], lines: &mut Vec<u8>) -> AllocResult
+    ensures items { OnOk result (lines.new.items ≡ lines.old.items ++ slowest_line screen (option_map told_command (slice_get by_time.now 0))) }
 {
     let (false, Some(first)) = (screen, by_time.first()) else {
         return Ok(());
     };
-    let (time, name) = (Part::Number(first.sums.time), Part::Text(first.name));
+    let (time, name) = (Part::Number(u128::from(first.time)), Part::Text(first.name));
     append_line(&[Part::Text(b"slowest"), time, name], lines)
 }
 
@@ -322,16 +310,6 @@ pub(crate) fn most_taken(builds: &[Build]) -> Option<usize>
     most
 }
 
-fn append_again(screen: bool, taken: Option<usize>, lines: &mut Vec<u8>) -> AllocResult
-    ensures items { OnOk result (lines.new.items ≡ lines.old.items ++ again_line screen taken) }
-{
-    let Some(count) = taken else {
-        return Ok(());
-    };
-    let words = b"outputs lost to later builds";
-    append_count(screen, b"again", words, count, lines)
-}
-
 fn append_unfinished(screen: bool, count: usize, lines: &mut Vec<u8>) -> AllocResult
     ensures items { OnOk result (lines.new.items ≡ lines.old.items ++ unfinished_line screen count) }
 {
@@ -339,54 +317,79 @@ fn append_unfinished(screen: bool, count: usize, lines: &mut Vec<u8>) -> AllocRe
         return Ok(());
     }
     let words = b"outputs have yet to be made";
-    append_count(screen, b"unfinished", words, count, lines)
+    append_count(screen, b"unfinished", words, Some(count), lines)
 }
 
 fn append_count(
     screen: bool,
     key: &[u8],
     words: &[u8],
-    count: usize,
+    count: Option<usize>,
     lines: &mut Vec<u8>,
 ) -> AllocResult
     ensures items { OnOk result (lines.new.items ≡ lines.old.items ++ count_line screen key.now words.now count) }
 {
+    let Some(count) = count else {
+        return Ok(());
+    };
     if screen {
         return append_line(&[Part::Number(count as u128), Part::Text(words)], lines);
     }
     append_line(&[Part::Text(key), Part::Number(count as u128)], lines)
 }
 
-fn append_lists(lists: Lists, by_time: &[Row], rows: &[Row], lines: &mut Vec<u8>) -> AllocResult
-    requires highest { AreHighest lists (map told_row by_time.now) (map told_row rows.now) }
-    requires one { All IsOfOne rows.now }
-    ensures items { OnOk result (lines.new.items ≡ lines.old.items ++ lists_text lists (map told_row rows.now)) }
+// `by_time` has those that took the longest.
+fn append_lists(
+    lists: Lists,
+    by_time: &[Weighed],
+    commands: &[Weighed],
+    lines: &mut Vec<u8>,
+) -> AllocResult
+    requires by_time { map told_command by_time.now ≡ highest_told (max lists.most 1) Time (map told_command commands.now) }
+    ensures items { OnOk result (lines.new.items ≡ lines.old.items ++ lists_text lists (map told_command commands.now)) }
 {
     if lists.most == 0 {
         return Ok(());
     }
-    let total = total_of(rows);
-    let kinds = kinds_of(*lines.allocator(), lists.secret, lists.rule, rows)?;
+    let alloc = *lines.allocator();
+    let total = total_of(commands);
+    append_both(lists, total, Listed::Commands, by_time, commands, lines)?;
+    let kinds = kinds_of(alloc, lists.secret, lists.rule, commands)?;
     let kinds = kinds.as_slice();
-    append_both(lists, total, Listed::Commands, by_time, rows, lines)?;
-    append_both(lists, total, Listed::Kinds, kinds, kinds, lines)
+    let by_time = highest(alloc, &Rank::Time, lists.most, kinds)?;
+    append_both(
+        lists,
+        total,
+        Listed::Kinds,
+        by_time.as_slice(),
+        kinds,
+        lines,
+    )
 }
 
-fn append_both<'a>(
+fn append_both<T: Listing>(
     lists: Lists,
     total: u128,
     listed: Listed,
-    by_time: &[Row<'a>],
-    rows: &[Row<'a>],
+    by_time: &[T],
+    all: &[T],
     lines: &mut Vec<u8>,
 ) -> AllocResult
-    requires highest { AreHighest lists (map told_row by_time.now) (map told_row rows.now) }
+    requires by_time { map T.told by_time.now ≡ highest_told lists.most Time (map T.told all.now) }
     requires room { total < 2 ^ 120 }
-    ensures items { OnOk result (lines.new.items ≡ lines.old.items ++ both_lists lists total listed (map told_row rows.now)) }
+    ensures items { OnOk result (lines.new.items ≡ lines.old.items ++ both_lists lists total listed (map T.told all.now)) }
 {
-    append_list(lists, total, listed, Rank::Time, by_time, lines)?;
+    append_list(lists.screen, total, listed, Rank::Time, by_time, lines)?;
     if lists.screen {
         return Ok(());
     }
-    append_list(lists, total, listed, Rank::Weight, rows, lines)
+    let by_weight = highest(*lines.allocator(), &Rank::Weight, lists.most, all)?;
+    append_list(
+        lists.screen,
+        total,
+        listed,
+        Rank::Weight,
+        by_weight.as_slice(),
+        lines,
+    )
 }

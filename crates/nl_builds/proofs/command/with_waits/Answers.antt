@@ -15,7 +15,7 @@ loop-i-preserved c =
     let t = c.with_wait.result in
     let rest = drop (i + 1) cs in
     let inside : i < length cs = omega (arith, c.loop-i-test.true, c.loop-i.invariant.count, c.args.commands.ok.0, c.len-i-end.ensures) in
-    let waits : c.waited-wait.result ≡ waited cut d = c.waited-wait.ensures.value ∙ ap (λ (l : List ℕ). waited l d) c.as_slice.ensures.value in
+    let waits : c.waited-has_waited.result ≡ waited cut d = c.waited-has_waited.ensures.value ∙ ap (λ (l : List ℕ). waited l d) c.as_slice.ensures.value in
     record {
       told = (λ j. take_more_set cs i t inside j ++ with_waits (c.in_ok-push.ensures.items j) (drop-set-lt (i + 1) cs i t (omega arith) j))
           ∙ append_assoc (take i cs) (t ∷ []) (with_waits (cut ++ d.ended ∷ []) rest)

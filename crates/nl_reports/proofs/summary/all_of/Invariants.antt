@@ -1,8 +1,6 @@
 use Rattle.std.proofs.Common.{◌≡◌, ◌+◌, ◌++◌, drop, map}
-use Rattle.std.specs.List.{All}
 use Rattle.nl_reports.specs.Jobs.{told}
-use Rattle.nl_reports.specs.Kinds.{IsOfOne}
-use Rattle.nl_reports.specs.Rows.{told_row}
+use Rattle.nl_reports.specs.Rows.{told_command}
 use Rattle.nl_reports.specs.Summary.{AreTotalsOf, no_totals, rows_from, totals_from}
 use Rattle.nl_reports.proofs.summary.all_of.Given as goal
 
@@ -10,8 +8,7 @@ use Rattle.nl_reports.proofs.summary.all_of.Given as goal
 abbrev pub invariant-loop-build : goal.invariant-loop-build
 invariant-loop-build l = record {
   totals : totals_from l.all.totals (told l.fn.from) l.number (drop l._build-index l.builds) ≡ totals_from no_totals (told l.fn.from) l.fn.first l.fn.builds;
-  rows : map told_row l.all.rows.items ++ rows_from (told l.fn.from) l.number (drop l._build-index l.builds) ≡ rows_from (told l.fn.from) l.fn.first l.fn.builds;
-  one : All IsOfOne l.all.rows.items;
+  commands : map told_command l.all.commands.items ++ rows_from (told l.fn.from) l.number (drop l._build-index l.builds) ≡ rows_from (told l.fn.from) l.fn.first l.fn.builds;
   number : l.number ≡ l.fn.first + l._build-index;
   few : AreTotalsOf l._build-index l.all.totals;
 }

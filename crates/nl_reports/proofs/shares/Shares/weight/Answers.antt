@@ -1,7 +1,7 @@
 use Rattle.std.proofs.Common.{◌≡◌, ◌∙◌, ◌<◌, arith}
 use Rattle.nl_reports.specs.SweepSteps.{shares_before}
 use Rattle.nl_reports.proofs.SharesLemmas.{end_there, ends_shares, found_share, no_weight, start_there, starts_shares, weight_is}
-use Rattle.nl_reports.proofs.shares.Shares.weight_near.Goals as goal
+use Rattle.nl_reports.proofs.shares.Shares.weight.Goals as goal
 
 pub returns-then-span : goal.returns-then-span
 returns-then-span c = record { value = λ cs are among. no_weight cs c.args.self.now are c.args.span.now c.if-span.true }
