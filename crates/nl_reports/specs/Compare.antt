@@ -5,6 +5,7 @@ use Rattle.std.specs.List.{filter, flat_map, list_any, sum_by}
 use Rattle.nl_fields.specs.declared.entry.Entry.{Entry}
 use Rattle.nl_versions.specs.declared.version.LogVersion.{LogVersion}
 use Rattle.nl_versions.specs.Version.{is_rapid}
+use Rattle.nl_reports.specs.Critical.{keyed_line}
 use Rattle.nl_reports.specs.Jobs.{Job, first_name, jobs_from, seen}
 use Rattle.nl_reports.specs.Lasting.{is_among, is_held, marked}
 use Rattle.nl_reports.specs.Outputs.{last_at, places_of}
@@ -203,9 +204,8 @@ total_line screen cs class = total_line_of screen class (of_class class cs)
 
 -- a command: by how much it took longer, how long it took in each log, and its first output
 abbrev pub row_of : Bool → Class → ℕ → ℕ → List ℕ → List ℕ
-row_of screen class old new output = if screen
-    then line (change_text screen old new ∷ took_text screen old ∷ took_text screen new ∷ output ∷ [])
-    else line (class_text class ∷ change_text screen old new ∷ took_text screen old ∷ took_text screen new ∷ output ∷ [])
+row_of screen class old new output =
+    keyed_line screen (class_text class ∷ change_text screen old new ∷ took_text screen old ∷ took_text screen new ∷ output ∷ [])
 
 abbrev pub row_line : Bool → Compared → List ℕ
 row_line screen c = row_of screen c.class c.old c.new c.output

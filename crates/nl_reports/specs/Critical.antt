@@ -40,6 +40,11 @@ ran_time (Some r) = time_of r.span
 abbrev pub weight : List Node → List Job → List ℕ → ℕ
 weight nodes js id = ran_time (ran_at nodes js id)
 
+-- a line that has its first field, by which a program knows it, only in a pipe
+abbrev pub keyed_line : Bool → List (List ℕ) → List ℕ
+keyed_line screen [] = line []
+keyed_line screen (key ∷ fields) = if screen then line fields else line (key ∷ fields)
+
 -- how long a command began after a moment
 abbrev pub waited : ℕ → Ran → ℕ
 waited before r = r.span.began - before

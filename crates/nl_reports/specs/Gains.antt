@@ -1,11 +1,11 @@
 -- What a build gains if a command of its critical path took half as long (docs/CLI.md, "summary").
 use Rattle.std.specs.Prelude.{◌≡◌, ℕ, ◌+◌, ◌-◌, ◌/◌, ◌==◌, ◌&&◌, nat_lt, Bool, List, [], ◌∷◌, take, codes, if◌then◌else◌, ◌++◌}
-use Rattle.nl_reports.specs.Critical.{Ran, path_rans, weight}
+use Rattle.nl_reports.specs.Critical.{Ran, keyed_line, path_rans, weight}
 use Rattle.nl_reports.specs.Jobs.{Job}
 use Rattle.nl_reports.specs.Paths.{Graph, IsLongest, length_of}
 use Rattle.nl_tool_texts.specs.Falling.{falling}
 use Rattle.nl_reports.specs.Spans.{time_of}
-use Rattle.nl_tool_texts.specs.Texts.{line, took_text}
+use Rattle.nl_tool_texts.specs.Texts.{took_text}
 use Rattle.nl_reports.specs.declared.span.Span.{Span}
 
 -- a command in half its time, rounded down, and commands of which the one at a place is so
@@ -30,9 +30,7 @@ half_ran place r = record { span = span_if (r.place == place) r.span; name = r.n
 
 -- a line: by how much the critical path gets shorter, and the output
 abbrev pub gain_line : Bool → ℕ → Ran → List ℕ
-gain_line screen gain r = if screen
-    then line (took_text screen gain ∷ r.name ∷ [])
-    else line (codes "gain" ∷ took_text screen gain ∷ r.name ∷ [])
+gain_line screen gain r = keyed_line screen (codes "gain" ∷ took_text screen gain ∷ r.name ∷ [])
 
 abbrev pub heading : Bool → ℕ → List ℕ
 heading screen most = if screen && nat_lt 0 most then codes "\nSaved if a command took half\nSaved\tOutput\n" else []

@@ -1,6 +1,6 @@
 //! How a command stands in two logs.
 ghost use Rattle.std.specs.Prelude.{◌≡◌};
-ghost use Rattle.nl_reports.specs.Compare.{class_by_time, class_number, class_text};
+ghost use Rattle.nl_reports.specs.Compare.{class_number, class_text};
 
 #[derive(Clone, Copy, Debug, PartialEq, Eq, Drop)]
 pub enum Class {
@@ -15,19 +15,6 @@ pub enum Class {
     /// One of the two says that it didn't end.
     Unfinished,
     Same,
-}
-
-// A difference of less than `least` milliseconds is none.
-pub(crate) fn class_by_time(least: u64, old: u64, new: u64) -> Class
-    ensures { result ≡ class_by_time least old new }
-{
-    if old.abs_diff(new) < least || old == new {
-        Class::Same
-    } else if old < new {
-        Class::Slower
-    } else {
-        Class::Faster
-    }
 }
 
 pub(crate) fn class_number(class: Class) -> u8

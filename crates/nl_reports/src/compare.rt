@@ -3,6 +3,7 @@ ghost use Rattle.std.specs.Prelude.{◌≡◌, ◌++◌, map, IfOk, OnOk, flat_m
 ghost use Rattle.nl_reports.specs.Compare.{are_comparable, class_heading, class_lines, compare_text, compared_of, head, row_line, side_of, total_line};
 
 use crate::class::{Class, class_text};
+use crate::critical::append_keyed;
 use crate::sides::{ByCost, ComparedRow, Rules, Side, compared, new_time, of_class, old_time};
 use nl_table::Secret;
 use nl_tool_texts::{AllocResult, Part, append, append_line, highest, put};
@@ -129,10 +130,7 @@ fn append_row(screen: bool, row: &ComparedRow, lines: &mut Vec<u8>) -> AllocResu
     let change = Part::Change(screen, u128::from(row.old), u128::from(row.new));
     let old = Part::Took(screen, u128::from(row.old));
     let new = Part::Took(screen, u128::from(row.new));
-    let output = Part::Text(row.output);
-    if screen {
-        return append_line(&[change, old, new, output], lines);
-    }
     let class = Part::Text(class_text(row.class).as_bytes());
-    append_line(&[class, change, old, new, output], lines)
+    let output = Part::Text(row.output);
+    append_keyed(screen, &[class, change, old, new, output], lines)
 }

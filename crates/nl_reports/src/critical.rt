@@ -1,6 +1,7 @@
 //! What `summary` tells of the critical path.
 ghost use Rattle.std.specs.{Prelude.{◌≡◌, ◌<◌, ◌≤◌, ◌+◌, ◌^◌, ◌++◌, ℕ, List, Some, IfOk, IfSome, IsTrue, OnOk, get_or, length, map, option_and_then, option_map, All, sum_by}, List.{list_any}};
-ghost use Rattle.nl_reports.specs.{Critical.{IsCritical, IsFoundPath, lacking, lacking_line, path_head, ran_line, took_time}, Found.{AreFound, IsFound, in_plan}, Gains.{half_ran, halved}, GraphText.{HeldNode, seen_graph}, Jobs.{Job as SeenJob, seen}, Lasting.{is_held}, Plans.{kept}, Outputs.{HoldPlaces, places_of}, Reaches.{AreOf, IsBegun, IsFarthest, IsFollowed, IsTight, behind_at, far_at, ran_in, ran_named_in, ran_seen}, Spans.{time_of}, declared.graph.NinjaGraph.{NinjaGraph as HeldGraph}};
+ghost use Rattle.nl_reports.specs.{Critical.{IsCritical, IsFoundPath, keyed_line, lacking, lacking_line, path_head, ran_line, took_time}, Found.{AreFound, IsFound, in_plan}, Gains.{half_ran, halved}, GraphText.{HeldNode, seen_graph}, Jobs.{Job as SeenJob, seen}, Lasting.{is_held}, Plans.{kept}, Outputs.{HoldPlaces, places_of}, Reaches.{AreOf, IsBegun, IsFarthest, IsFollowed, IsTight, behind_at, far_at, ran_in, ran_named_in, ran_seen}, Spans.{time_of}, declared.graph.NinjaGraph.{NinjaGraph as HeldGraph}};
+ghost use Rattle.nl_tool_texts.specs.Texts.{part_text};
 
 use crate::graph::NinjaGraph;
 use crate::job::Job;
@@ -153,6 +154,16 @@ fn append_ran(screen: bool, before: u64, ran: &Ran, lines: &mut Vec<u8>) -> Allo
     append_line(&[Part::Text(b"on-path"), time, began, ended, name], lines)
 }
 
+/// Appends a line of these fields, at a terminal without the first, by which a program knows the line.
+pub(crate) fn append_keyed(screen: bool, fields: &[Part<'_>], lines: &mut Vec<u8>) -> AllocResult
+    ensures items { OnOk result (lines.new.items ≡ lines.old.items ++ keyed_line screen (map part_text fields.now)) }
+{
+    match fields {
+        [_, rest @ ..] if screen => append_line(rest, lines),
+        _ => append_line(fields, lines),
+    }
+}
+
 fn append_lacking(screen: bool, lacking: Lacking, lines: &mut Vec<u8>) -> AllocResult
     ensures items { OnOk result (lines.new.items ≡ lines.old.items ++ lacking_line screen lacking.count lacking.time) }
 {
@@ -240,15 +251,10 @@ impl<'g, 'a> Reaches<'g, 'a> {
         ensures value { IsTrue result → All (IsTight self.now) self.now.graph.now.edges.items }
     {
         let count = self.ran.len();
-        for edge in &self.graph.edges {
-            if edge.from >= count
-                || edge.to >= count
-                || self.far_at(edge.to) > self.behind_at(edge.from)
-            {
-                return false;
-            }
-        }
-        true
+        self.graph.edges.iter().all(|edge| {
+            let is_there = edge.from < count && edge.to < count;
+            is_there && self.far_at(edge.to) <= self.behind_at(edge.from)
+        })
     }
 
     /// A longest path. That one is found isn't shown: if none is, memory is told to be wanting. No such case is known.
@@ -317,14 +323,11 @@ impl<'g, 'a> Reaches<'g, 'a> {
         ensures value { IsTrue result → (k : ℕ) → k < length self.now.ran.items → IsBegun self.now wall k }
     {
         let end = u128::from(wall);
-        for node in 0..self.ran.len() {
+        (0..self.ran.len()).all(|node| {
             let far = self.far_at(node);
             let ran = self.ran_at(node);
-            if far > end || !ran.is_none_or(|ran| far + u128::from(ran.span.began) == end) {
-                return false;
-            }
-        }
-        true
+            far <= end && ran.is_none_or(|ran| far + u128::from(ran.span.began) == end)
+        })
     }
 
     fn append_path(&self, start: usize, commands: &mut Vec<Ran<'a>>) -> AllocResult

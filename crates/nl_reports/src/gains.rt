@@ -2,8 +2,8 @@
 ghost use Rattle.std.specs.Prelude.{◌≡◌, List, IfOk, OnOk};
 ghost use Rattle.nl_reports.specs.{Found.{IsFound}, Gains.{AreGainsOf, IsGain, IsHalfPath}, GraphText.{seen_graph}, Jobs.{Job as SeenJob}, Reaches.{AreOf, ran_seen}, Spans.{time_of}, declared.graph.NinjaGraph.{NinjaGraph as HeldGraph}};
 
-use crate::critical::{Critical, Ran, Reaches};
-use nl_tool_texts::{AllocResult, Part, Ranking, append, append_line, highest};
+use crate::critical::{Critical, Ran, Reaches, append_keyed};
+use nl_tool_texts::{AllocResult, Part, Ranking, append, highest};
 
 /// For so many commands of the critical path, those that took the longest, how much shorter it is if one of them took half.
 pub(crate) fn gain_lines(screen: bool, most: usize, found: &Critical) -> AllocResult<Vec<u8>>
@@ -31,11 +31,8 @@ fn append_gain(screen: bool, found: &Critical, ran: &Ran, lines: &mut Vec<u8>) -
 {
     let half = half_length(&found.reaches, ran)?;
     let gain = Part::Took(screen, found.path.length.saturating_sub(half));
-    let name = Part::Text(ran.name);
-    if screen {
-        return append_line(&[gain, name], lines);
-    }
-    append_line(&[Part::Text(b"gain"), gain, name], lines)
+    let (key, name) = (Part::Text(b"gain"), Part::Text(ran.name));
+    append_keyed(screen, &[key, gain, name], lines)
 }
 
 fn half_length(reaches: &Reaches, ran: &Ran) -> AllocResult<u128>

@@ -66,18 +66,17 @@ impl<'a> NinjaGraph<'a> {
             (Holds (ns ++ nodes_said (line_seen said.entry)) (es ++ edges_said line (line_seen said.entry)) self.new.nodes.entries self.new.edges.items) }
     {
         match said {
-            Line::Passed => Ok(()),
+            Line::Passed => {}
             Line::Labelled { id, name } => {
                 self.nodes.insert(id, Some(name))?;
-                Ok(())
             }
             Line::Joined { from, to } => {
                 let from = self.place_of(from)?;
                 let to = self.place_of(to)?;
                 self.edges.push(Edge { from, to, line })?;
-                Ok(())
             }
         }
+        Ok(())
     }
 
     // A number without a place gets one.
@@ -86,14 +85,12 @@ impl<'a> NinjaGraph<'a> {
         ensures holds { (ns : List Node) (es : List SeenEdge) → Holds ns es self.old.nodes.entries self.old.edges.items
             → OnOk result (Holds ns es self.new.nodes.entries self.new.edges.items) }
     {
-        match self.nodes.get_index_of(id) {
-            Some(place) => Ok(place),
-            None => {
-                let place = self.nodes.len();
-                self.nodes.insert(id, None)?;
-                Ok(place)
-            }
+        if let Some(place) = self.nodes.get_index_of(id) {
+            return Ok(place);
         }
+        let place = self.nodes.len();
+        self.nodes.insert(id, None)?;
+        Ok(place)
     }
 }
 

@@ -1,11 +1,12 @@
 //! What so many commands at a time would take: estimates by a graph and by measured times.
 ghost use Rattle.std.specs.Prelude.{◌≡◌, ◌≤◌, ◌<◌, ◌^◌, ◌++◌, ℕ, List, map, IfOk, IfSome, IsTrue, OnOk};
-ghost use Rattle.nl_reports.specs.{Found.{IsFound}, GraphText.{seen_graph}, Jobs.{Job as SeenJob, seen}, Numbers.{total_time}, Plans.{AreEstimates, HavePlan, IsToldBy, estimate_line, floor_of, kept}, Reaches.{AreOf}, Sweep.{last_moment, running}, declared.graph.NinjaGraph.{NinjaGraph as HeldGraph}};
+ghost use Rattle.nl_reports.specs.{Found.{IsFound}, GraphText.{seen_graph}, Jobs.{Job as SeenJob, seen}, Numbers.{total_time}, Plans.{AreEstimates, HavePlan, IsToldBy, estimate_line, floor_of, kept}, Reaches.{AreOf}, Sweep.{running}, declared.graph.NinjaGraph.{NinjaGraph as HeldGraph}};
 
 use crate::critical::{Critical, Reaches, critical_lines, critical_of};
 use crate::gains::gain_lines;
 use crate::graph::NinjaGraph;
 use crate::job::{Job, JobsResult};
+use crate::last_entries::item_at;
 use crate::moments::rising;
 use crate::numbers::spans_of;
 use crate::simulation::{Priority, Waiting};
@@ -143,28 +144,29 @@ fn wall_of(
         → IfOk result (λ o. IfSome o (HavePlan (seen_graph g) (map seen jobs.now) count)) }
 {
     let alloc = reaches.allocator();
-    let (began, there) = waiting.run(jobs, count)?;
-    let planned = planned_jobs(alloc, jobs, began.as_slice())?;
+    let (there, nodes) = waiting.run(jobs, count)?;
+    let planned = planned_jobs(alloc, jobs, there.as_slice())?;
     let plan = planned.as_slice();
     let spans = spans_of(alloc, plan)?;
     let few = are_few(alloc, spans.as_slice(), count)?;
-    let wall = last_of(spans.as_slice());
-    let reaches = reaches.with_plan(plan, wall, there.as_slice())?;
-    let tight = reaches.are_tight();
-    let begun = reaches.are_begun(wall);
-    if few && tight && begun {
+    let wall = spans
+        .iter()
+        .fold(0, |last: u64, span: &Span| last.max(span.ended));
+    let reaches = reaches.with_plan(plan, wall, nodes.as_slice())?;
+    if few && reaches.are_tight() && reaches.are_begun(wall) {
         return Ok(Some(wall));
     }
     Ok(None)
 }
 
-fn planned_jobs<'s, 'a>(alloc: Global, jobs: &[Job<'s, 'a>], began: &[u64]) -> JobsResult<'s, 'a>
+// As they run if each ends as it is there.
+fn planned_jobs<'s, 'a>(alloc: Global, jobs: &[Job<'s, 'a>], there: &[u64]) -> JobsResult<'s, 'a>
     ensures value { IfOk result (λ plan. map kept (map seen plan.items) ≡ map kept (map seen jobs.now)) }
 {
     let mut plan = Vec::with_capacity(alloc, jobs.len())?;
     for place in 0..jobs.len() {
         let job = jobs[place];
-        let began = began.get(place).copied().unwrap_or(0);
+        let began = item_at(there, place, 0).saturating_sub(job.span.time());
         let ended = began.checked_add(job.span.time()).ok_or(AllocError)?;
         let span = Span { began, ended };
         plan.push(Job { span, ..job })?;
@@ -185,11 +187,4 @@ fn are_few(alloc: Global, plan: &[Span], count: usize) -> AllocResult<bool>
         }
     }
     Ok(true)
-}
-
-fn last_of(plan: &[Span]) -> u64
-    ensures value { result ≡ last_moment plan.now }
-{
-    plan.iter()
-        .fold(0, |last: u64, span: &Span| last.max(span.ended))
 }

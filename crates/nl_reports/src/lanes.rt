@@ -1,5 +1,5 @@
 //! Lanes of commands: no two commands of a lane run at one time.
-ghost use Rattle.std.specs.Prelude.{◌≡◌, ◌++◌, ◌∷◌, [], ◌+◌, ◌*◌, ◌<◌, ◌≤◌, ℕ, get_or, length, slice_index, IfOk, IfSome, IsNone, OnOk};
+ghost use Rattle.std.specs.Prelude.{◌≡◌, ◌++◌, ◌∷◌, [], ◌+◌, ◌*◌, ◌<◌, ◌≤◌, ℕ, length, slice_index, IfOk, IfSome, IsNone, OnOk};
 ghost use Rattle.nl_reports.specs.Lanes.{AreBusy, AreLow, first_free, given, lanes};
 
 use crate::span::Span;
@@ -93,11 +93,4 @@ impl Lanes {
         self.ends.push(end)?;
         Ok(())
     }
-}
-
-/// The first lane if there is none at the place.
-pub(crate) fn lane_at(lanes: &[u64], place: usize) -> u64
-    ensures { result ≡ get_or lanes.now place 0 }
-{
-    lanes.get(place).copied().unwrap_or(0)
 }

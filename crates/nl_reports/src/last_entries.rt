@@ -100,7 +100,7 @@ fn commands_left(
     let mut from = 0;
     for command in commands {
         before.push(left.len())?;
-        let to = entries.saturating_sub(number_at(behind, command.to, 0));
+        let to = entries.saturating_sub(item_at(behind, command.to, 0));
         if from < to {
             left.push(Command { to, ..*command })?;
         }
@@ -120,7 +120,7 @@ fn builds_left(
     let mut left = Vec::new(alloc);
     let mut from = 0;
     for build in builds {
-        let to = number_at(before, build.to, commands);
+        let to = item_at(before, build.to, commands);
         if from < to {
             let how = match build.how {
                 How::AsWritten => How::AsWritten,
@@ -133,8 +133,9 @@ fn builds_left(
     Ok(left)
 }
 
-fn number_at(numbers: &[usize], place: usize, end: usize) -> usize
-    ensures { result ≡ get_or numbers.now place end }
+/// The item at a place; the other one if there is none.
+pub(crate) fn item_at<T: Copy>(items: &[T], place: usize, other: T) -> T
+    ensures { result ≡ get_or items.now place other }
 {
-    numbers.get(place).copied().unwrap_or(end)
+    items.get(place).copied().unwrap_or(other)
 }

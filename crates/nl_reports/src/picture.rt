@@ -9,7 +9,8 @@ use crate::critical::{FoundPath, critical_of};
 use crate::frame::{Frame, append_curve, append_ticks};
 use crate::graph::NinjaGraph;
 use crate::job::Job;
-use crate::lanes::{lane_at, lanes_of};
+use crate::lanes::lanes_of;
+use crate::last_entries::item_at;
 use crate::moments::Moments;
 use crate::numbers::spans_of;
 use crate::summary::taken_in;
@@ -167,7 +168,7 @@ fn append_outlined(
         let ran = &commands[i];
         let x = frame.x_at(ran.span.began.min(LAST));
         let end = frame.x_at(ran.span.closed().min(LAST));
-        let y = frame.y_at(lane_at(lanes, ran.place));
+        let y = frame.y_at(item_at(lanes, ran.place, 0));
         put!(out; b"<rect class=\"c\" x=\"" {x} b"\" y=\"" {y} b"\" width=\""
             {end.saturating_sub(x).max(10)} b"\" height=\"" {frame.height()} b"\"/>\n")?;
     }

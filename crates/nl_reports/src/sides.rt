@@ -1,10 +1,10 @@
 //! The commands of two logs, side by side.
-ghost use Rattle.std.specs.Prelude.{◌≡◌, ◌++◌, [], ℕ, List, false, get_or, map, option_map, IfOk, OnOk};
+ghost use Rattle.std.specs.Prelude.{◌≡◌, ◌++◌, [], ℕ, List, map, option_map, IfOk, OnOk};
 ghost use Rattle.nl_reports.specs.{Compare.{compared, compared_of, cost_of, fresh, held_side, job_at, new_time, of_class, old_time, or_unfinished, pair_of, pairs_from, partner, side_of, time_in, told_pair, waits, with_taken}, Jobs.{seen}, Lasting.{marked}, Outputs.{HoldPlaces, places_of}};
 
-use crate::class::{Class, class_by_time, class_number};
+use crate::class::{Class, class_number};
 use crate::job::{Job, jobs_from};
-use crate::last_entries::{any_named, names_of};
+use crate::last_entries::{any_named, item_at, names_of};
 use crate::outputs::Outputs;
 use indexmap::IndexSet;
 use nl_builds::{Builds, NameKey};
@@ -123,7 +123,7 @@ fn push_fresh<'a>(
 {
     let mut place = 0;
     for other in &new.jobs {
-        if is_left(left, place) {
+        if item_at(left, place, false) {
             let (waits, time) = (old.waits(other), new.time(other));
             rows.push(row(Class::New, waits, 0, time, other.name()))?;
         }
@@ -137,18 +137,12 @@ fn partner(outputs: &Outputs, left: &[bool], job: &Job) -> Option<usize>
 {
     for entry in job.outputs {
         if let Some(place) = outputs.place_of(entry.name()) {
-            if is_left(left, place) {
+            if item_at(left, place, false) {
                 return Some(place);
             }
         }
     }
     None
-}
-
-fn is_left(left: &[bool], place: usize) -> bool
-    ensures { result ≡ get_or left.now place false }
-{
-    left.get(place).copied().unwrap_or(false)
 }
 
 // The command at the place is then left no more.
@@ -184,8 +178,12 @@ fn met<'a>(
     let after = new.time(partner);
     let class = if rules.hashes && job.hash != partner.hash {
         Class::Changed
+    } else if before.abs_diff(after) < rules.least || before == after {
+        Class::Same
+    } else if before < after {
+        Class::Slower
     } else {
-        class_by_time(rules.least, before, after)
+        Class::Faster
     };
     let is_waiting = old.waits(job) || new.waits(partner);
     row(class, is_waiting, before, after, job.name())

@@ -2,6 +2,7 @@
 
 use crate::critical::Reaches;
 use crate::job::{Job, between};
+use crate::last_entries::item_at;
 use nl_tool_texts::AllocResult;
 use std::alloc::AllocError;
 use std::cmp::Reverse;
@@ -35,8 +36,7 @@ impl Waiting {
         let alloc = reaches.allocator();
         let chains = reaches.in_commands()?;
         let nodes = reaches.graph.nodes.len();
-        let commands = 0..jobs.len();
-        let mut keys = commands
+        let mut keys = (0..jobs.len())
             .map(|command| (u128::MAX, NONE, command))
             .collect::<Vec<_>>(alloc)?;
         let mut parts = Vec::with_capacity(alloc, nodes)?;
@@ -57,8 +57,8 @@ impl Waiting {
         let mut waits = vec![in alloc; 0_usize; keys.len().saturating_add(nodes)]?;
         let mut edges = Vec::with_capacity(alloc, reaches.graph.edges.len())?;
         for edge in &reaches.graph.edges {
-            let to = parts.get(edge.to).copied().unwrap_or(NONE);
-            edges.push((parts.get(edge.from).copied().unwrap_or(NONE), to))?;
+            let to = item_at(&parts, edge.to, NONE);
+            edges.push((item_at(&parts, edge.from, NONE), to))?;
             if to < waits.len() {
                 waits[to] = waits[to].saturating_add(1);
             }
@@ -72,13 +72,12 @@ impl Waiting {
         })
     }
 
-    /// When each of these commands begins, and from when on each node is there, if so many run at a time at most. Each command that is ready is
-    /// taken as soon as fewer run; what waits for itself is never taken.
+    /// From when on each part is there, and each node, if so many run at a time at most. Each command that is ready is taken as soon as fewer
+    /// run; what waits for itself is never taken.
     pub(crate) fn run(&self, jobs: &[Job], count: usize) -> AllocResult<(Vec<u64>, Vec<u64>)> {
         let alloc = *self.parts.allocator();
         let mut waits = Vec::from_slice(alloc, self.waits.as_slice())?;
         let mut there = vec![in alloc; 0_u64; waits.len()]?;
-        let mut began = vec![in alloc; 0_u64; self.keys.len()]?;
         let mut ready = BinaryHeap::new(alloc);
         let mut running = BinaryHeap::new(alloc);
         // Parts that wait for nothing more, and whether they are there too.
@@ -89,12 +88,10 @@ impl Waiting {
             }
         }
         let mut now = 0_u64;
-        let mut free = count;
         for _ in 0..u64::MAX {
             if let Some((part, is_there)) = met.pop() {
-                if !is_there {
-                    let key = self.keys.get(part).copied().unwrap_or((0, 0, part));
-                    ready.push(Reverse(key)).map_err(AllocError::from)?;
+                if let (false, Some(key)) = (is_there, self.keys.get(part)) {
+                    ready.push(Reverse(*key)).map_err(AllocError::from)?;
                     continue;
                 }
                 if part < there.len() {
@@ -114,27 +111,21 @@ impl Waiting {
                 }
                 continue;
             }
-            let next = if free > 0 { ready.pop() } else { None };
+            let is_free = running.len() < count;
+            let next = if is_free { ready.pop() } else { None };
             if let Some(Reverse((_, _, command))) = next {
                 let time = jobs.get(command).map_or(0, |job| job.span.time());
                 let end = Reverse((now.saturating_add(time), command));
                 running.push(end).map_err(AllocError::from)?;
-                if command < began.len() {
-                    began[command] = now;
-                }
-                free = free.saturating_sub(1);
             } else if let Some(Reverse((ended, command))) = running.pop() {
                 met.push((command, true)).map_err(AllocError::from)?;
                 now = ended;
-                free = free.saturating_add(1);
             } else {
                 break;
             }
         }
-        let nodes = self
-            .parts
-            .iter()
-            .map(|part| there.get(*part).copied().unwrap_or(0));
-        Ok((began, nodes.collect(alloc)?))
+        let nodes = self.parts.iter().map(|part| item_at(&there, *part, 0));
+        let nodes = nodes.collect(alloc)?;
+        Ok((there, nodes))
     }
 }

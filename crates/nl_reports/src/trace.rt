@@ -6,7 +6,8 @@ ghost use Rattle.nl_tool_texts.specs.{Writing.{IsWriteFault, Writes}, Escape.{Is
 use crate::choice::{Choice, Scope, chosen, jobs_in_turn, last_number};
 use crate::frame::first_began;
 use crate::job::{Job, between};
-use crate::lanes::{lane_at, lanes_of};
+use crate::lanes::lanes_of;
+use crate::last_entries::item_at;
 use crate::moments::{Moments, Near};
 use crate::numbers::spans_of;
 use crate::summary::most_taken;
@@ -47,7 +48,7 @@ pub fn trace_builds<W: Write>(
     append_build(build, &mut held)?;
     let (mut by_start, mut by_end) = (Near::default(), Near::default());
     for i in 0..jobs.len() {
-        let lane = lane_at(lanes.as_slice(), i);
+        let lane = item_at(lanes.as_slice(), i, 0);
         let job = &jobs[i];
         append_command(build, lane, job, &mut held)?;
         append_running(build, &moments, &mut by_start, job.span.began, &mut held)?;

@@ -1,4 +1,4 @@
-use Rattle.std.proofs.Common.{◌≡◌, ◌∙◌, ◌≤◌, List, ℕ, ap, map, refl, subst}
+use Rattle.std.proofs.Common.{◌≡◌, ◌∙◌, ◌≤◌, List, ℕ, ap, map, refl, rules, subst}
 use Rattle.nl_reports.specs.Jobs.{seen}
 use Rattle.nl_reports.specs.Plans.{kept}
 use Rattle.nl_reports.specs.Rows.{spans}
@@ -8,8 +8,8 @@ use Rattle.nl_reports.specs.declared.span.Span.{Span}
 use Rattle.nl_reports.proofs.ReachesLemmas.{have_plan}
 use Rattle.nl_reports.proofs.jobs.wall_of.Goals as goal
 
-pub returns-then-begun : goal.returns-then-begun
-returns-then-begun c = record {
+pub returns-then-are_begun : goal.returns-then-are_begun
+returns-then-are_begun c = record {
   value = λ g there.
       let ks = map seen c.args.jobs.now in
       let js = map seen c.as_slice-plan.result.now in
@@ -17,8 +17,8 @@ returns-then-begun c = record {
       let r = c.in_ok-reaches.reaches in
       let are = c.in_ok-reaches.ensures.value g ks there same in
       let ran : c.as_slice-2.result.now ≡ spans js = c.as_slice-2.ensures.value ∙ c.in_ok-spans.ensures.value in
-      let last : c.as_slice-3.result.now ≡ spans js = c.as_slice-3.ensures.value ∙ c.in_ok-spans.ensures.value in
-      have_plan g js ks c.args.count c.last_of-wall.result r are same
+      let last : c.fold-wall.result ≡ last_moment c.in_ok-spans.spans.items = search rules in
+      have_plan g js ks c.args.count c.fold-wall.result r are same
       (subst (λ (cs : List Span). (t : ℕ) → running cs t ≤ c.args.count) ran (c.in_ok-few.ensures.value c.if-few.true))
-      (c.last_of-wall.ensures.value ∙ ap last_moment last) (c.if-tight.ensures.value refl) (c.if-begun.ensures.value refl);
+      (last ∙ ap last_moment c.in_ok-spans.ensures.value) (c.if-are_tight.ensures.value refl) (c.if-are_begun.ensures.value refl);
 }

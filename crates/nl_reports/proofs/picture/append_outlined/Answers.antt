@@ -27,7 +27,7 @@ loop-i-preserved c =
     let f = c.args.frame.now in
     let x = c.x_at-x.ensures.value ∙ ap (x_at f) c.min.ensures in
     let until = c.x_at-end.ensures.value ∙ ap (x_at f) (c.min-in-loop-i.ensures ∙ ap (λ (n : ℕ). min n 4294967295) c.closed.ensures.value) in
-    let y = c.y_at-y.ensures.value ∙ ap (y_at f) c.lane_at.ensures in
+    let y = c.y_at-y.ensures.value ∙ ap (y_at f) c.item_at.ensures in
     let wide = c.max.ensures ∙ ap (λ (n : ℕ). max n 10) c.saturating_sub.ensures ∙ max_swap (c.x_at-end.result - c.x_at-x.result) ∙ (λ k. max 10 (until k - x k)) in
     outlines_next f c.args.lanes.now commands c.loop-i.i _ _ _ _ within (c.in_ok-put.ensures.items ∙ (λ k. c.loop-i.out.items
     ++ joined (codes "<rect class=\"c\" x=\"" ∷ decimal (x k) ∷ codes "\" y=\"" ∷ decimal (y k) ∷ codes "\" width=\"" ∷ decimal (wide k)

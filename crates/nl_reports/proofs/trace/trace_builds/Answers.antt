@@ -49,7 +49,7 @@ append_command-requires-clause-lane g c =
     let count : length ran ≡ length c.as_slice-jobs.result.now =
     omega (arith, length-map (map seen c.as_slice-jobs.result.now) (λ j. j.span), length-map c.as_slice-jobs.result.now seen) in
     let within : c.loop-i.i < length ran = omega (arith, c.loop-i-test.true, count) in
-    omega (arith, lane_below ran [] c.loop-i.i within, c.lane_at-lane.ensures, ap (λ (l : List ℕ). get_or l c.loop-i.i 0) is, c.loop-i-test.true)
+    omega (arith, lane_below ran [] c.loop-i.i within, c.item_at-lane.ensures, ap (λ (l : List ℕ). get_or l c.loop-i.i 0) is, c.loop-i-test.true)
 
 pub loop-i-preserved : goal.loop-i-preserved
 loop-i-preserved g c =
@@ -71,12 +71,12 @@ loop-i-preserved g c =
     ) in
     let are : AreMoments ran c.in_ok-moments.moments = subst (λ (cs : List Span). AreMoments cs c.in_ok-moments.moments)
     (c.as_slice-2.ensures.value ∙ c.in_ok-spans.ensures.value) c.in_ok-moments.ensures.value in
-    let more : c.append_running-in-loop-i.new.out.items ≡ c.loop-i.held.items ++ behind_commas (events_of b ran (seen c.index-jobs-i.result, c.lane_at-lane.result)) =
+    let more : c.append_running-in-loop-i.new.out.items ≡ c.loop-i.held.items ++ behind_commas (events_of b ran (seen c.index-jobs-i.result, c.item_at-lane.result)) =
     three_more c.loop-i.held.items c.append_command.new.out.items c.append_running.new.out.items c.append_running-in-loop-i.new.out.items _ _ _
     c.in_ok-append_command.ensures.items (c.in_ok-append_running.ensures.items ran are) (rw c.closed.ensures.value at (c.in_ok-append_running-2.ensures.items ran are)) in
-    then_moved _ _ _ _ _ _ _ (more_held _ _ _ _ _ _ _ _ (93 ∷ []) (told_next b ran ks ls i c.lane_at-lane.result c.index-jobs-i.result within there
-    c.index-jobs-i.is (c.lane_at-lane.ensures ∙ ap (λ (l : List ℕ). get_or l i 0) c.as_slice-in-loop-i.ensures.value
-    ∙ get_or_default ls i 0 c.lane_at-lane.result there)) more c.loop-i.invariant) c.in_ok-write_full.ensures.moved
+    then_moved _ _ _ _ _ _ _ (more_held _ _ _ _ _ _ _ _ (93 ∷ []) (told_next b ran ks ls i c.item_at-lane.result c.index-jobs-i.result within there
+    c.index-jobs-i.is (c.item_at-lane.ensures ∙ ap (λ (l : List ℕ). get_or l i 0) c.as_slice-in-loop-i.ensures.value
+    ∙ get_or_default ls i 0 c.item_at-lane.result there)) more c.loop-i.invariant) c.in_ok-write_full.ensures.moved
 
 pub returns-in_err-append_command-clause-writes : goal.returns-in_err-append_command-clause-writes
 returns-in_err-append_command-clause-writes g c =
@@ -110,12 +110,12 @@ returns-in_err-write_full-clause-writes g c =
     ) in
     let are : AreMoments ran c.in_ok-moments.moments = subst (λ (cs : List Span). AreMoments cs c.in_ok-moments.moments)
     (c.as_slice-2.ensures.value ∙ c.in_ok-spans.ensures.value) c.in_ok-moments.ensures.value in
-    let more : c.append_running-in-loop-i.new.out.items ≡ c.loop-i.held.items ++ behind_commas (events_of b ran (seen c.index-jobs-i.result, c.lane_at-lane.result)) =
+    let more : c.append_running-in-loop-i.new.out.items ≡ c.loop-i.held.items ++ behind_commas (events_of b ran (seen c.index-jobs-i.result, c.item_at-lane.result)) =
     three_more c.loop-i.held.items c.append_command.new.out.items c.append_running.new.out.items c.append_running-in-loop-i.new.out.items _ _ _
     c.in_ok-append_command.ensures.items (c.in_ok-append_running.ensures.items ran are) (rw c.closed.ensures.value at (c.in_ok-append_running-2.ensures.items ran are)) in
     err_writes _ _ _ _ c.from_residual-in_err-write_full.ensures.0 (part_on _ _ _ _ _ _ (more_held _ _ _ _ _ _ _ _ (93 ∷ []) (told_next b ran ks ls i
-    c.lane_at-lane.result c.index-jobs-i.result within there c.index-jobs-i.is (c.lane_at-lane.ensures ∙ ap (λ (l : List ℕ). get_or l i 0)
-    c.as_slice-in-loop-i.ensures.value ∙ get_or_default ls i 0 c.lane_at-lane.result there)) more c.loop-i.invariant)
+    c.item_at-lane.result c.index-jobs-i.result within there c.index-jobs-i.is (c.item_at-lane.ensures ∙ ap (λ (l : List ℕ). get_or l i 0)
+    c.as_slice-in-loop-i.ensures.value ∙ get_or_default ls i 0 c.item_at-lane.result there)) more c.loop-i.invariant)
     c.in_err-write_full.ensures.prefix)
 
 pub returns-in_err-append-clause-writes : goal.returns-in_err-append-clause-writes
