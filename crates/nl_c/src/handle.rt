@@ -55,14 +55,12 @@ impl Handle {
         ensures refusals { (result ≡ ok) ⊎ (result ≡ out_of_memory) }
         ensures unchanged { result ≢ ok → self.new.kept.log ≡ self.old.kept.log }
     {
-        match Box::new(alloc, held) {
-            Ok(log) => {
-                drop(self.take(alloc));
-                *self = Handle::of(log);
-                status::OK
-            }
-            Err(_) => status::OUT_OF_MEMORY,
-        }
+        let Ok(log) = Box::new(alloc, held) else {
+            return status::OUT_OF_MEMORY;
+        };
+        drop(self.take(alloc));
+        *self = Handle::of(log);
+        status::OK
     }
 }
 

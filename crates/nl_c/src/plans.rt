@@ -38,10 +38,7 @@ impl Plans {
         let Ok(entry) = EntryRef::new(0, 0, 0, name, 1) else {
             return status::BAD_NAME;
         };
-        match self.names.enter(&entry) {
-            Ok(()) => status::OK,
-            Err(_) => status::OUT_OF_MEMORY,
-        }
+        status::of_room(self.names.enter(&entry))
     }
 
     /// Takes no memory, so it can't fail.
