@@ -100,7 +100,7 @@ part python3 tests/examples.py crates/nlog/out/nlog.by-rattle
 # Those that take the longest begin first.
 parts < <(
     printf 'python3 tests/%s.py\n' library growths refusals builds_compared lines_read host
-    for trial in stops crash_states found_builds mended large terminal system_calls short_writes fuzz files commands options apply apply_calls begun_builds scripts limits clib manual damaged closed_streams completions kept real_disks full_disk two_writers between reports release with_ninja; do
+    for trial in stops crash_states found_builds mended large terminal system_calls short_writes fuzz rivals files commands options apply apply_calls begun_builds scripts limits clib manual damaged closed_streams completions kept real_disks full_disk two_writers between reports release with_ninja; do
         echo "python3 tests/$trial.py crates/nlog/out/nlog"
     done
 )

@@ -215,11 +215,14 @@ def ranked_kinds(key, rank, kinds, most):
     return b"".join(b"%s\t%d\t%d\t%d.%02d\t%s\n" % it for it in told)
 
 
-def lanes_of(commands):
-    """Of commands, each a START and an END, in the order of START: the lowest lane that is free as each begins."""
+def lanes_of(commands, fault=None):
+    """Of commands, each a START and an END, in the order of START: the lowest lane that is free as each begins. `fault`: one of those that
+    tests/rivals.py plants in what this and the pictures and comparisons below tell."""
     lanes, ends = [], []
     for start, end in commands:
-        free = [lane for lane, busy in enumerate(ends) if busy <= start] + [len(ends)]
+        is_free = (lambda busy: busy < start) if fault == "a lane is free a moment later" else (lambda busy: busy <= start)
+        free = [lane for lane, busy in enumerate(ends) if is_free(busy) and fault != "no lane is given twice"] + [len(ends)]
+        free = free[-2:] if fault == "the highest free lane is taken" else free
         lanes.append(free[0])
         ends[free[0] : free[0] + 1] = [max(start, end)]
     return lanes
@@ -317,16 +320,16 @@ def in_words(time):
     return f"{time // unit} {first}" + (f" {rest} {second}" if rest else "")
 
 
-def cut(name, most):
+def cut(name, most, fault=None):
     """The last part of a name, of which so many bytes at most stand, of whole characters."""
-    text = name.rsplit(b"/", 1)[-1].decode(errors="replace").encode()
+    text = (name if fault == "the folder stands in a bar" else name.rsplit(b"/", 1)[-1]).decode(errors="replace").encode()
     if len(text) <= most:
         return name_in_xml(text, 5 * len(text))
     begun = text[: most - 1].decode(errors="ignore").encode()
     return name_in_xml(begun, 5 * len(begun)) + "\u2026".encode()
 
 
-def picture_of(text, version=None, number=None, of_all=False, path=None):
+def picture_of(text, version=None, number=None, of_all=False, path=None, fault=None):
     """What `picture` prints of a log: of its last build, of that of a number, or of all. `path`: the first outputs of the commands with an outline."""
     builds = asked_of(text, number, of_all, version)
     jobs = in_turn(builds or [])
@@ -334,7 +337,7 @@ def picture_of(text, version=None, number=None, of_all=False, path=None):
     said = f"no such build; builds: {len(told_of(text, version)[0])}" if builds is None else None
     if taken is not None:
         said = "builds were found again" if of_all else f"found again: later builds may have taken {taken} of its outputs"
-    return drawn(jobs, lanes_of([it[:2] for it in jobs]), said, path)
+    return drawn(jobs, lanes_of([it[:2] for it in jobs], fault), said, path, fault)
 
 
 OUTLINE = (
@@ -343,18 +346,19 @@ OUTLINE = (
 )
 
 
-def drawn(commands, lanes, said=None, path=None):
+def drawn(commands, lanes, said=None, path=None, fault=None):
     """The picture of commands in their lanes, in tenths of a pixel: the build is 14,400 wide, from 1000 on. A command is its START, its END,
     anything, and its outputs. `said`: what is said of the build. `path`: those with an outline, by their first outputs."""
     out, short, times = [], {}, [0] * len(WORKS)
     began, top = commands[0][0] if commands else 0, max(lanes, default=0)
     wall = max([max(it[:2]) for it in commands], default=0) - began
+    work = (lambda names: work_of(names[-1])) if fault == "the last output tells the kind" else (lambda names: work_of(names[0]))
     for start, end, _, names in commands:
-        times[work_of(names[0])] += max(0, end - start)
+        times[work(names)] += 1 if fault == "parts are of commands" else max(0, end - start)
     pitch = 220 if top < 64 else max(1, 8000 // (top + 1))
     high, foot = pitch - pitch // 8, 1100 + pitch * (top + 1) + 1200
     tall = foot + 600 + 180 * (min(10, len(commands)) + 1)
-    tenths = sum(times) * 10 // max(wall, 1)
+    tenths = (sum(times) * 10 + (wall // 2 if fault == "tenths are rounded" else 0)) // max(wall, 1)
     title = "%d command%s in %s, %d.%d at a time" % (len(commands), "" if len(commands) == 1 else "s", in_words(wall), *divmod(tenths, 10))
     out.append(
         '<svg xmlns="http://www.w3.org/2000/svg" width="1600" height="%d" viewBox="0 0 16000 %d" role="img" aria-labelledby="t" font-family="sans-serif"'
@@ -367,8 +371,9 @@ def drawn(commands, lanes, said=None, path=None):
     for at, (word, time) in enumerate(zip(WORKS, times)):
         x = 1000 + 1800 * at
         line = '<rect class="k%d" x="%d" y="540" width="140" height="140"/><text x="%d" y="655">%s %d %%</text>\n'
-        out.append(line % (at, x, x + 200, word, time * 100 // max(1, sum(times))))
-    step = next(it for it in STEPS if wall <= 12 * it)
+        half = sum(times) // 2 if fault == "parts are rounded" else 0
+        out.append(line % (at, x, x + 200, word, (time * 100 + half) // max(1, sum(times))))
+    step = next(it for it in STEPS if wall <= (13 if fault == "the axis has thirteen steps" else 12) * it)
     for at in range(0, wall + 1, step):
         x = 1000 + at * 14400 // max(wall, 1)
         out.append('<path class="g" d="M%d 1000V%d"/><text class="m" x="%d" y="950" text-anchor="middle">%s</text>\n' % (x, foot, x, in_words(at)))
@@ -381,23 +386,26 @@ def drawn(commands, lanes, said=None, path=None):
 
     for (start, end, _, names), lane in zip(commands, lanes):
         x, until = (1000 + (it - began) * 14400 // max(wall, 1) for it in (start, max(start, end)))
-        place, width, y = work_of(names[0]), until - x, 1100 + pitch * lane
-        if width < 5:
+        place, width, y = work(names), until - x, 1100 + pitch * lane
+        if width < {"a bar is half as narrow": 2, "a bar is narrow a tenth later": 6}.get(fault, 5):
             # (those of a lane come from left to right)
-            if lane in short and short[lane][1] != x // 10:
+            if lane in short and (short[lane][1] != x // 10 or fault == "each short command has a bar"):
                 draw_short(lane)
-            short.setdefault(lane, [place, x // 10, 0])[2] += 1
+            held = short.setdefault(lane, [place, x // 10, 0])
+            held[0] = place if fault == "the last short command gives the colour" else held[0]
+            held[2] = 1 if fault == "short commands aren't counted" else held[2] + 1
             continue
-        more = " and %d more" % (len(names) - 1) if len(names) > 1 else ""
+        more = " and %d more" % (len(names) - 1) if len(names) > 1 and fault != "more outputs aren't told" else ""
         told = *divmod(max(0, end - start), 1000), *divmod(start - began, 1000)
         end_of = "%s\n%d.%03d s from %d.%03d s</title></rect>\n" % (more, *told)
-        out += [start_of % (place, x, y, width if width < 20 else width - 6, high), name_in_xml(names[0]), end_of]
-        room = min(22, max(0, width - 80) // 70)
-        if room >= 4 and top < 64:
-            out += ['<text x="%d" y="%d">' % (x + 40, y + 135), cut(names[0], room), "</text>\n"]
-    for lane in sorted(short):
+        gap = 0 if width < {"the gap begins later": 21, "each bar has a gap": 6}.get(fault, 20) else 6
+        out += [start_of % (place, x, y, width - gap, high), name_in_xml(names[0]), end_of]
+        room = min(23 if fault == "a name has 23 letters" else 22, max(0, width - 80) // 70)
+        if room >= (5 if fault == "four letters are no room" else 4) and top < (65 if fault == "65 lanes have names" else 64):
+            out += ['<text x="%d" y="%d">' % (x + 40, y + 135), cut(names[0], room, fault), "</text>\n"]
+    for lane in sorted(short, reverse=fault == "the last lane's short commands come first"):
         draw_short(lane)
-    curve, starts, ends = "", [it[0] for it in commands], sorted(max(it[:2]) for it in commands)
+    curve, starts, ends = "", [it[0] for it in commands], sorted(max(it[:2]) + (fault == "the curve has what just ended") for it in commands)
     for at in range(480):
         moment = began + at * wall // 480
         count = bisect.bisect(starts, moment) - bisect.bisect(ends, moment)
@@ -411,7 +419,8 @@ def drawn(commands, lanes, said=None, path=None):
         x, until = (1000 + (it - began) * 14400 // max(wall, 1) for it in (start, max(start, end)))
         out.append('<rect class="c" x="%d" y="%d" width="%d" height="%d"/>\n' % (x, 1100 + pitch * lane, max(10, until - x), high))
     out.append('<text x="1000" y="%d">The commands that took the longest:</text>\n' % (foot + 600))
-    slow = sorted(commands, key=lambda it: -max(0, it[1] - it[0]))[:10]
+    slow = commands[::-1] if fault == "of two alike the last is listed first" else commands
+    slow = sorted(slow, key=lambda it: -max(0, it[1] - it[0]))[: 9 if fault == "nine are listed" else 10]
     for at, (start, end, _, names) in enumerate(slow):
         y = foot + 780 + 180 * at
         line = '<text x="1900" y="%d" text-anchor="end">%s</text><text x="2050" y="%d">'
@@ -544,36 +553,47 @@ def paths_of(graph, text, number=None, of_all=False, version=None, most=0):
 CLASSES = (b"new", b"gone", b"changed", b"slower", b"faster", b"unfinished", b"same")
 
 
-def class_of(old, new, hashes, least):
+def class_of(old, new, hashes, least, fault=None):
     """The class of a command that ran in both logs: a difference of less milliseconds than `least` is none."""
     if hashes and old.hash != new.hash:
         return b"changed"
     change = time_of(new) - time_of(old)
+    least = {"the limit is no difference": least + 1, "no difference is too small": 0}.get(fault, least)
     if abs(change) < least or change == 0:
         return b"same"
     return b"slower" if change > 0 else b"faster"
 
 
-def compare_of(old, new, versions=(None, None), most=10, least=0):
+def compare_of(old, new, versions=(None, None), most=10, least=0, fault=None):
     """What `compare` prints of two logs of these versions, which are seen here as of version 5."""
     (before, waited), (after, waits) = (told_of(*it) for it in zip((old, new), versions))
-    before, after = ([job for it in lasting(*told) for job in it.jobs] for told in ((before, waited), (after, waits)))
+    left_of = (lambda builds, _: builds) if fault == "entries that were made again count" else lasting
+    before, after = ([job for it in left_of(*told) for job in it.jobs] for told in ((before, waited), (after, waits)))
+    if fault == "each output is compared":
+        before, after = ([job._replace(outputs=[it]) for job in jobs for it in job.outputs] for jobs in (before, after))
     hashes = len({(version or lines_of(text)[0]) == 7 for text, version in zip((old, new), versions)}) == 1
+    hashes = {"hashes are always compared": True, "hashes are never compared": False}.get(fault, hashes)
     places, left, rows = {name: at for at, job in enumerate(after) for name in job.outputs}, set(range(len(after))), []
     for job in before:
         # Of the outputs the first one whose command has met none.
-        at = next((places[it] for it in job.outputs if places.get(it) in left), None)
-        left.discard(at)
-        kind = class_of(job, after[at], hashes, least) if at is not None else b"unfinished" if {*waits} & {*job.outputs} else b"gone"
+        outputs = job.outputs[::-1] if fault == "the last output meets first" else job.outputs[:1] if fault == "the first output alone meets" else job.outputs
+        at = next((places[it] for it in outputs if places.get(it) in left), None)
+        if fault != "a command is met twice" or at is None:
+            left.discard(at)
+        gone = b"gone" if fault == "what doesn't end is gone" else b"unfinished"
+        kind = class_of(job, after[at], hashes, least, fault) if at is not None else gone if {*waits} & {*job.outputs} else b"gone"
         rows.append((kind, time_of(job), time_of(after[at]) if at is not None else 0, job.outputs[0]))
-    for at in sorted(left):
-        rows.append((b"unfinished" if {*waited} & {*after[at].outputs} else b"new", 0, time_of(after[at]), after[at].outputs[0]))
+    fresh = b"new" if fault == "what didn't end is new" else b"unfinished"
+    for at in sorted(left, reverse=fault == "the last new command comes first"):
+        rows.append((fresh if {*waited} & {*after[at].outputs} else b"new", 0, time_of(after[at]), after[at].outputs[0]))
     told = [b"hashes\tcompared\n" if hashes else b"hashes\tnot-compared\n"]
     for kind in CLASSES:
         own = [it for it in rows if it[0] == kind]
+        own = own[:most] if fault == "a sum is of what is listed" else own
         times = [sum(it[at] for it in own) for at in (1, 2)]
         told.append(b"total\t%s\t%d\t%d\t%d\t%d\n" % (kind, len(own), times[1] - times[0], *times))
-    for kind in CLASSES[:-1]:
-        own = sorted((it for it in rows if it[0] == kind), key=lambda it: -abs(it[2] - it[1]))
-        told += [b"%s\t%d\t%d\t%d\t%s\n" % (kind, it[2] - it[1], *it[1:]) for it in own[:most]]
+    cost = {"what takes longest comes first": lambda it: -it[2], "what lost most comes first": lambda it: it[1] - it[2]}.get(fault, lambda it: -abs(it[2] - it[1]))
+    for kind in CLASSES if fault == "what is the same is listed" else CLASSES[:-1]:
+        own = sorted((it for it in rows if it[0] == kind), key=cost)
+        told += [b"%s\t%d\t%d\t%d\t%s\n" % (kind, it[2] - it[1], *it[1:]) for it in own[: most + (fault == "one more is listed")]]
     return b"".join(told)
