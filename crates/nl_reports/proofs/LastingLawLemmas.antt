@@ -6,7 +6,7 @@ use Rattle.std.proofs.lemmas.List.Folds.{list_any-append}
 use Rattle.nl_fields.specs.declared.entry.Entry.{Entry}
 use Rattle.nl_table.specs.Table.{entry_names}
 use Rattle.nl_table.proofs.HistoryLemmas.{same_bytes}
-use Rattle.nl_reports.specs.Lasting.{is_among, last_entries, last_of, marked, of_name}
+use Rattle.nl_reports.specs.Lasting.{is_among, last_entries, last_of, marked, marks, of_name}
 
 among-append : (name : List ℕ) (xs ys : List (List ℕ)) → is_among name (xs ++ ys) ≡ (is_among name xs || is_among name ys)
 among-append name xs ys = list_any-append (λ other. bytes_eq other name) xs ys
@@ -85,10 +85,6 @@ last_left others name rests (e ∷ es) =
     alone false = refl
 
 -- ---- their order
-
-abbrev pub marks : List (List ℕ) → List Entry → List Bool
-marks others [] = []
-marks others (e ∷ es) = not (is_among e.name (entry_names es ++ others)) ∷ marks others es
 
 pub left_marked : (others : List (List ℕ)) (es : List Entry) → last_entries others es ≡ marked (marks others es) es
 left_marked others [] = refl

@@ -1,5 +1,5 @@
 -- Builds with the last entry of each output alone (docs/CLI.md, "summary").
-use Rattle.std.specs.Prelude.{⊤, ℕ, ◌-◌, ◌≤◌, Bool, bytes_eq, nat_lt, List, [], ◌∷◌, ◌++◌, drop, length, take, if◌then◌else◌}
+use Rattle.std.specs.Prelude.{⊤, ℕ, ◌-◌, ◌≤◌, Bool, bytes_eq, nat_lt, not, List, [], ◌∷◌, ◌++◌, drop, length, take, if◌then◌else◌}
 use Rattle.std.specs.List.{filter, list_any}
 use Rattle.nl_fields.specs.declared.entry.Entry.{Entry}
 use Rattle.nl_table.specs.History.{holds}
@@ -74,6 +74,11 @@ jobs_left others es from (c ∷ cs) = record {
 
 abbrev pub has_outputs : Job → Bool
 has_outputs j = nat_lt 0 (length j.outputs)
+
+-- whether each entry is left
+abbrev pub marks : List (List ℕ) → List Entry → List Bool
+marks others [] = []
+marks others (e ∷ es) = not (is_among e.name (entry_names es ++ others)) ∷ marks others es
 
 abbrev pub marked : {A : Type 0} → List Bool → List A → List A
 marked [] xs = []

@@ -3,7 +3,7 @@ use Rattle.std.specs.Prelude.{◌≡◌, ◌≤◌, ◌<◌, ◌+◌, ◌-◌, �
 use Rattle.std.specs.List.{All}
 use Rattle.nl_fields.specs.declared.entry.Entry.{Entry}
 use Rattle.std.specs.Global.{Vec}
-use Rattle.nl_reports.specs.Critical.{IsCritical, Ran, ran_at, weight}
+use Rattle.nl_reports.specs.Critical.{IsCritical, Ran, keyed_line, ran_at, weight}
 use Rattle.nl_reports.specs.Gains.{AreGainsOf}
 use Rattle.nl_reports.specs.Jobs.{Job}
 use Rattle.nl_reports.specs.Numbers.{total_time}
@@ -11,7 +11,7 @@ use Rattle.nl_reports.specs.Paths.{Edge, Graph, IsLongest, length_of}
 use Rattle.nl_reports.specs.Rows.{spans}
 use Rattle.nl_reports.specs.Spans.{time_of}
 use Rattle.nl_reports.specs.Sweep.{last_moment, running}
-use Rattle.nl_tool_texts.specs.Texts.{line, took_text}
+use Rattle.nl_tool_texts.specs.Texts.{took_text}
 
 -- what a command keeps, whenever it runs: how long it takes, and its outputs
 abbrev pub kept : Job → ℕ × List Entry
@@ -52,9 +52,7 @@ pub record IsEstimate (g : Graph) (js : List Job) (n wall floor : ℕ) : Type 0 
 
 -- a line: for so many at a time the milliseconds, and that floor
 abbrev pub estimate_line : Bool → ℕ → ℕ → ℕ → List ℕ
-estimate_line screen n wall floor = if screen
-    then line (decimal n ∷ took_text screen wall ∷ took_text screen floor ∷ [])
-    else line (codes "estimate" ∷ decimal n ∷ took_text screen wall ∷ took_text screen floor ∷ [])
+estimate_line screen n wall floor = keyed_line screen (codes "estimate" ∷ decimal n ∷ took_text screen wall ∷ took_text screen floor ∷ [])
 
 abbrev pub heading : Bool → List ℕ → List ℕ
 heading screen ns = if nat_lt 0 (length ns) && screen then codes "\nEstimates\nJobs\tElapsed\tAt least\n" else []

@@ -2,7 +2,7 @@
 ghost use Rattle.std.specs.Prelude.{◌≡◌, ◌≤◌, ◌<◌, ◌^◌, ◌++◌, ℕ, List, map, IfOk, IfSome, IsTrue, OnOk};
 ghost use Rattle.nl_reports.specs.{Found.{IsFound}, GraphText.{seen_graph}, Jobs.{Job as SeenJob, seen}, Numbers.{total_time}, Plans.{AreEstimates, HavePlan, IsToldBy, estimate_line, floor_of, kept}, Reaches.{AreOf}, Sweep.{running}, declared.graph.NinjaGraph.{NinjaGraph as HeldGraph}};
 
-use crate::critical::{Critical, Reaches, critical_lines, critical_of};
+use crate::critical::{Critical, Reaches, append_keyed, critical_lines, critical_of};
 use crate::gains::gain_lines;
 use crate::graph::NinjaGraph;
 use crate::job::{Job, JobsResult};
@@ -12,7 +12,7 @@ use crate::numbers::spans_of;
 use crate::simulation::{Priority, Waiting};
 use crate::span::Span;
 use nl_table::Secret;
-use nl_tool_texts::{AllocResult, Part, append, append_line};
+use nl_tool_texts::{AllocResult, Part, append};
 use std::alloc::{AllocError, Global};
 
 /// A graph, the numbers of commands at a time that estimates are asked for, and of how many commands at most it is told what is gained by them.
@@ -127,10 +127,11 @@ fn append_estimate(
     let count = Part::Number(count as u128);
     let wall = Part::Took(screen, u128::from(wall));
     let floor = Part::Took(screen, floor);
-    if screen {
-        return append_line(&[count, wall, floor], lines);
-    }
-    append_line(&[Part::Text(b"estimate"), count, wall, floor], lines)
+    append_keyed(
+        screen,
+        &[Part::Text(b"estimate"), count, wall, floor],
+        lines,
+    )
 }
 
 // How long a plan takes in which so many run at a time; None, if none is found.

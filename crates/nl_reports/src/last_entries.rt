@@ -1,6 +1,6 @@
 //! Builds without what later ones made again.
-ghost use Rattle.std.specs.{Prelude.{◌≡◌, ◌-◌, ℕ, List, drop, get_or, length, map, take, IfOk}, List.{list_any}};
-ghost use Rattle.nl_reports.specs.{Jobs.{told}, Lasting.{builds_left, commands_left, is_among, is_held, last_entries, lasting, whole}};
+ghost use Rattle.std.specs.{Prelude.{◌≡◌, ℕ, List, get_or, length, map, take, IfOk}, List.{list_any}};
+ghost use Rattle.nl_reports.specs.{Jobs.{told}, Lasting.{builds_left, commands_left, is_among, is_held, lasting, marked, marks, whole}};
 
 use indexmap::IndexSet;
 use nl_builds::{Build, Builds, Command, How, NameKey};
@@ -20,8 +20,9 @@ pub fn lasting<'a>(
     ensures value { IfOk result (λ left. told left ≡ lasting (map (λ n. n.now) waiting.now) (told from.entry)) }
 {
     let (commands, builds) = (from.commands, from.builds);
-    let (entries, behind) = last_entries(alloc, secret, waiting, from.entries)?;
-    let (commands, before) = commands_left(alloc, entries.len(), &behind, &commands)?;
+    let marks = marks_of(alloc, secret, waiting, &from.entries)?;
+    let (entries, before) = entries_left(alloc, &marks, from.entries)?;
+    let (commands, before) = commands_left(alloc, entries.len(), &before, commands)?;
     let builds = builds_left(alloc, commands.len(), &before, &builds)?;
     Ok(Builds {
         entries,
@@ -30,34 +31,52 @@ pub fn lasting<'a>(
     })
 }
 
-// The entries that are left, and for each place the number of those that don't stand before it.
-fn last_entries<'a>(
+// Whether each entry is left.
+fn marks_of<'a>(
     alloc: Global,
     secret: Secret,
     waiting: &[&'a [u8]],
-    entries: Vec<EntryRef<'a>>,
-) -> AllocResult<(Vec<EntryRef<'a>>, Vec<usize>)>
-    ensures items { IfOk result (λ left. left.0.items ≡ last_entries (map (λ n. n.now) waiting.now) entries.entry.items) }
-    ensures behind { IfOk result (λ left. (place : ℕ) → get_or left.1.items place 0
-        ≡ length (last_entries (map (λ n. n.now) waiting.now) (drop place entries.entry.items))) }
+    entries: &[EntryRef<'a>],
+) -> AllocResult<Vec<bool>>
+    ensures value { IfOk result (λ found. found.items ≡ marks (map (λ n. n.now) waiting.now) entries.now) }
 {
     let mut later = names_of(alloc, secret, waiting)?;
     later.reserve(entries.len())?;
-    let mut left = Vec::with_capacity(alloc, entries.len())?;
-    let mut behind = Vec::with_capacity(alloc, entries.len())?;
-    let mut rest = entries;
-    'entries: while let Some(entry) = rest.pop() {
+    let mut found = Vec::with_capacity(alloc, entries.len())?;
+    let mut at = entries.len();
+    'entries: while at > 0 {
+        at -= 1;
+        let bytes = entries[at].name();
         // It is left if no later one has its name.
-        if later.insert(NameKey {
-            bytes: entry.name(),
-        })? {
-            left.push(entry)?;
-        }
-        behind.push(left.len())?;
+        found.push(later.insert(NameKey { bytes })?)?;
     }
-    left.reverse();
-    behind.reverse();
-    Ok((left, behind))
+    found.reverse();
+    Ok(found)
+}
+
+// Those that are marked, and for each place how many of them stand before it. They move within their list, which may be long.
+fn entries_left<'a>(
+    alloc: Global,
+    marks: &[bool],
+    entries: Vec<EntryRef<'a>>,
+) -> AllocResult<(Vec<EntryRef<'a>>, Vec<usize>)>
+    requires { length marks.now ≡ length entries.items }
+    ensures items { IfOk result (λ left. left.0.items ≡ marked marks.now entries.entry.items) }
+    ensures before { IfOk result (λ left. (place : ℕ) → get_or left.1.items place (length left.0.items)
+        ≡ length (marked marks.now (take place entries.entry.items))) }
+{
+    let mut left = entries;
+    let mut before = Vec::with_capacity(alloc, left.len())?;
+    let mut count = 0;
+    for place in 0..marks.len() {
+        before.push(count)?;
+        if item_at(marks, place, false) {
+            left.swap(count, place);
+            count += 1;
+        }
+    }
+    left.truncate(count);
+    Ok((left, before))
 }
 
 /// Names are hashed under a secret.
@@ -84,29 +103,32 @@ pub(crate) fn any_named(names: &IndexSet<NameKey, Secret>, outputs: &[EntryRef])
     }))
 }
 
-// `entries` counts the entries that are left, and `behind` those of them that don't stand before each place.
+// `entries` counts the entries that are left, and `before` those of them that stand before each place.
 fn commands_left(
     alloc: Global,
     entries: usize,
-    behind: &[usize],
-    commands: &[Command],
+    before: &[usize],
+    commands: Vec<Command>,
 ) -> AllocResult<(Vec<Command>, Vec<usize>)>
-    ensures items { IfOk result (λ left. left.0.items ≡ commands_left (λ place. entries - get_or behind.now place 0) 0 commands.now) }
+    ensures items { IfOk result (λ left. left.0.items ≡ commands_left (λ place. get_or before.now place entries) 0 commands.items) }
     ensures before { IfOk result (λ left. (place : ℕ) → get_or left.1.items place (length left.0.items)
-        ≡ length (commands_left (λ place. entries - get_or behind.now place 0) 0 (take place commands.now))) }
+        ≡ length (commands_left (λ place. get_or before.now place entries) 0 (take place commands.items))) }
 {
-    let mut left = Vec::new(alloc);
-    let mut before = Vec::with_capacity(alloc, commands.len())?;
-    let mut from = 0;
-    for command in commands {
-        before.push(left.len())?;
-        let to = entries.saturating_sub(item_at(behind, command.to, 0));
-        if from < to {
-            left.push(Command { to, ..*command })?;
+    let mut left = commands;
+    let mut counts = Vec::with_capacity(alloc, left.len())?;
+    let (mut from, mut count) = (0, 0);
+    for place in 0..left.len() {
+        counts.push(count)?;
+        let mut command = left[place];
+        command.to = item_at(before, command.to, entries);
+        if from < command.to {
+            left[count] = command;
+            count += 1;
         }
-        from = to;
+        from = command.to;
     }
-    Ok((left, before))
+    left.truncate(count);
+    Ok((left, counts))
 }
 
 fn builds_left(

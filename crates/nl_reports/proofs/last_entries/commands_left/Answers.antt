@@ -1,20 +1,66 @@
-use Rattle.std.proofs.Common.{◌≡◌, ◌∙◌, ◌-◌, ◌++◌, ℕ, List, ap, append-nil, get_or, length, sym}
+use Rattle.std.proofs.Common.{◌≡◌, ◌∙◌, ◌++◌, ◌<◌, [], List, ℕ, ap, append-nil, arith, drop, false, get_or, length, length-set, sym, take, true}
+use Rattle.std.specs.Prelude.{nat_lt, set}
+use Rattle.std.proofs.lemmas.Bool.{le-ltb, lt-ltb}
 use Rattle.std.proofs.lemmas.List.{drop_all}
 use Rattle.nl_builds.specs.declared.command.Command.{Command}
 use Rattle.nl_reports.specs.Lasting.{commands_left}
-use Rattle.nl_reports.proofs.LastingLemmas.{before_all, counts_before}
+use Rattle.nl_reports.proofs.LastingLemmas.{before_all, command_gone, command_kept, counts_before, counts_more}
+use Rattle.nl_reports.proofs.last_entries.commands_left.Goals.{then-from-command, else-from-command}
 use Rattle.nl_reports.proofs.last_entries.commands_left.Goals as goal
 
-pub returns-clause-before : goal.returns-clause-before
-returns-clause-before c = λ place.
-    let f : ℕ → ℕ = λ p. c.args.entries - get_or c.args.behind.now p 0 in
-    let cs = c.args.commands.now in
-    let left = c.loop-command.left.items in
-    let before = c.loop-command.before.items in
-    let done = drop_all c.loop-command.command-index cs c.loop-command-test.false in
-    let all_left : left ≡ commands_left f 0 cs =
-    sym (append-nil left) ∙ ap (λ (l : List Command). left ++ commands_left f c.loop-command.from l) (sym done) ∙ c.loop-command.invariant.left in
-    let all_before : before ≡ counts_before f 0 0 cs =
-    sym (append-nil before) ∙ ap (λ (l : List Command). before ++ counts_before f (length left) c.loop-command.from l) (sym done)
-    ∙ c.loop-command.invariant.before in
-    (λ i. get_or (all_before i) place (length (all_left i))) ∙ before_all f cs place
+pub loop-place-preserved : goal.loop-place-preserved
+loop-place-preserved c =
+    let f : ℕ → ℕ = λ p. get_or c.args.before.now p c.args.entries in
+    let cs = c.loop-place.left.items in
+    let k = c.loop-place.count in
+    let i = c.loop-place.place in
+    let from = c.loop-place.from in
+    let d = c.index-command.result.now in
+    let to = c.item_at.result in
+    let inv = c.loop-place.invariant in
+    let n = c.if-from-command.count in
+    let zs = c.if-from-command.left.items in
+    let here : i < length cs = omega (arith, c.loop-place-test.true, c.len-place-end.ensures, inv.same, c.args.commands.ok.0) in
+    elim c.if-from-command.branch [
+      | then-from-command w ↦
+          let test : nat_lt from to ≡ true = lt-ltb from to w.if-from-command.true in
+          let t : Command = record d { to = to } in
+          let left : zs ≡ set cs k t = (λ j. (w.left-is j).items) in
+          record {
+            told = command_kept f from to cs i d here c.index-command.ensures c.item_at.ensures k n zs _ inv.within w.count-is left test inv.told;
+            counts = counts_more f from to cs i d here c.index-command.ensures c.item_at.ensures k k n true t zs _ _ _ inv.within left test
+                w.count-is c.in_ok-push.ensures.items inv.counts;
+            within = omega (arith, w.count-is, inv.within);
+            same = ap length left ∙ length-set {A = Command} cs k t ∙ inv.same;
+          }
+      | else-from-command w ↦
+          let test : nat_lt from to ≡ false = le-ltb from to w.if-from-command.false in
+          let left : zs ≡ cs = (λ j. (w.left-is j).items) in
+          record {
+            told = command_gone f from to cs i d here c.index-command.ensures c.item_at.ensures k n zs _ w.count-is left test inv.told;
+            counts = counts_more f from to cs i d here c.index-command.ensures c.item_at.ensures k k n false d zs _ _ _ inv.within left test
+                w.count-is c.in_ok-push.ensures.items inv.counts;
+            within = omega (arith, w.count-is, inv.within);
+            same = ap length left ∙ inv.same;
+          }
+    ]
+
+pub returns : goal.returns
+returns c =
+    let f : ℕ → ℕ = λ p. get_or c.args.before.now p c.args.entries in
+    let cs = c.args.commands.items in
+    let k = c.loop-place.count in
+    let i = c.loop-place.place in
+    let from = c.loop-place.from in
+    let xs = c.loop-place.left.items in
+    let counts = c.loop-place.counts.items in
+    let inv = c.loop-place.invariant in
+    let none : [] ≡ drop i xs = sym (drop_all i xs (omega (arith, c.loop-place-test.false, c.len-place-end.ensures, inv.same, c.args.commands.ok.0))) in
+    let items : take k xs ≡ commands_left f 0 cs =
+    sym (append-nil (take k xs)) ∙ ap (λ (l : List Command). take k xs ++ commands_left f from l) none ∙ inv.told in
+    let all : counts ≡ counts_before f 0 0 cs =
+    sym (append-nil counts) ∙ ap (λ (l : List Command). counts ++ counts_before f k from l) none ∙ inv.counts in
+    record {
+      items = c.truncate.ensures.items ∙ items;
+      before = λ place. (λ j. get_or (all j) place (length ((c.truncate.ensures.items ∙ items) j))) ∙ before_all f cs place;
+    }

@@ -1,4 +1,5 @@
-use Rattle.nl_reports.proofs.LastingLawLemmas.{last_left, left_marked, marks, waiting_gone}
+use Rattle.nl_reports.specs.Lasting.{marks}
+use Rattle.nl_reports.proofs.LastingLawLemmas.{last_left, left_marked, waiting_gone}
 use Rattle.nl_reports.proofs.laws.the_last_entry_of_each_output_is_left.Goals as goal
 
 pub returns-clause-last : goal.returns-clause-last
