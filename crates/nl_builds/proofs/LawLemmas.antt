@@ -1,6 +1,6 @@
 -- Laws of commands and builds.
 use Rattle.std.proofs.Common.{◌≡◌, ℕ, ◌+◌, ◌-◌, ◌<◌, ◌≤◌, ◌||◌, ◌&&◌, not, Bool, true, false, cond, List, [], ◌∷◌, ◌++◌, length, map, take, drop, refl, sym, ◌∙◌, ap, arith, subst, inl, inr, zero, suc}
-use Rattle.std.specs.Prelude.{min, nat_le, nat_lt, slice_get, Option, None, Some}
+use Rattle.std.specs.Prelude.{nat_le, nat_lt, slice_get, Option, None, Some}
 use Rattle.std.specs.List.Sorted.{IsPermutation}
 use Rattle.std.specs.Option.{is_some}
 use Rattle.std.proofs.lemmas.Bool.{cases_Bool, cond-false, cond-true, ltb-true}
@@ -8,13 +8,14 @@ use Rattle.std.proofs.lemmas.List.{length-append, length-take-le, take-append-dr
 use Rattle.std.proofs.lemmas.List.Sorted.{IsPermutation-append_left, IsPermutation-refl, IsPermutation-trans, length_permutation}
 use Rattle.nl_fields.specs.declared.entry.Entry.{Entry}
 use Rattle.nl_builds.specs.Builds.{Told, again, as_written, beside_doubts, builds_of, entries_of, entries_to, falls_at, first_back, found_build, is_before, new_commands, new_names, next_is_sure, past_in, told_with, walk, walk_from, whole_commands, written_build, written_builds}
-use Rattle.nl_builds.specs.Commands.{commands, commands_from, falls, first_of, is_more, is_same, longer, one, row_commands, row_to, with_next, with_rows, with_waits}
+use Rattle.nl_builds.specs.Commands.{commands, commands_from, falls, is_more, is_same, longer, one, row_or, rows}
 use Rattle.nl_builds.specs.Laws.{AreModest, PlacesRise, Share, ShareCommands, ShareEntries}
 use Rattle.nl_builds.specs.Seen.{begun, doubts, is_border, is_doubtful, is_sure, mark, mark_told, mark_written, with_command}
 use Rattle.nl_builds.specs.Sorted.{by_moment, falling, moment_rank, span_rank}
 use Rattle.nl_builds.specs.Stamps.{is_end, is_start}
 use Rattle.nl_builds.specs.declared.build.Build.{Build}
 use Rattle.nl_builds.specs.declared.command.Command.{Command}
+use Rattle.nl_builds.specs.declared.command.Row.{Row}
 use Rattle.nl_builds.specs.declared.seen.Mark.TheVariants.{Sure, Unsure}
 use Rattle.nl_builds.specs.declared.seen.Order.{Order}
 use Rattle.nl_builds.specs.declared.seen.Order.TheVariants.{Written, ByMoment}
@@ -37,60 +38,46 @@ shared_from from place c first last (e ∷ es) less is =
       | false ↦ (omega (arith, less, is), subst (ShareEntries c.to (commands_from (place + 1) (one (place + 1) e) e.name e.name es)) end other)
     ]
 
-shared : (es : List Entry) → ShareEntries 0 (commands es) (length es)
-shared [] = refl
-shared (e ∷ es) =
+pub entries_shared : (es : List Entry) → ShareEntries 0 (commands es) (length es)
+entries_shared [] = refl
+entries_shared (e ∷ es) =
     let end : 1 + length es ≡ length (e ∷ es) = omega arith in
     subst (ShareEntries 0 (commands_from 1 (one 1 e) e.name e.name es)) end (shared_from 0 1 (one 1 e) e.name e.name es (omega arith) refl)
-
-waits_shared : (row : List ℕ) (from : ℕ) (cs : List Command) (end : ℕ) → ShareEntries from cs end → ShareEntries from (with_waits row cs) end
-waits_shared row from [] end held = held
-waits_shared row from (c ∷ cs) end held = (held.0, waits_shared (row_to row c.ended ++ c.ended ∷ []) c.to cs end held.1)
-
-next_to : (c : Command) (next : Option Command) → (with_next c next).to ≡ c.to
-next_to c None = refl
-next_to c (Some d) =
-    elim (falls c d) as (λ b. (cond b c (record c { up = min c.up d.up; wait = min c.wait d.wait })).to ≡ c.to) [ true ↦ refl | false ↦ refl ]
-
-rows_shared : (from : ℕ) (cs : List Command) (end : ℕ) → ShareEntries from cs end → ShareEntries from (with_rows cs) end
-rows_shared from [] end held = held
-rows_shared from (c ∷ cs) end held =
-    let same = next_to c (first_of (with_rows cs)) in
-    (omega (arith, same, held.0), subst (λ (n : ℕ). ShareEntries n (with_rows cs) end) (sym same) (rows_shared c.to cs end held.1))
-
-pub entries_shared : (es : List Entry) → ShareEntries 0 (row_commands es) (length es)
-entries_shared es = rows_shared 0 (with_waits [] (commands es)) (length es) (waits_shared [] 0 (commands es) (length es) (shared es))
 
 -- ---- commands and builds
 
 module _ (order : Order) (stamps : Stamps) where
-  walked : (from place : ℕ) (s : Seen) (cs : List Command) → from < place → s.to ≡ place
-      → ShareCommands from (walk_from order stamps place s cs) (place + length cs)
-  walked from place s [] less is = (omega (arith, less, is), omega (arith, is))
-  walked from place s (c ∷ cs) less is =
-      let m = mark order stamps s c in
-      let next = begun stamps (place + 1) (is_sure m) (past_in order s) c in
-      let longer_build = with_command s stamps (place + 1) (is_doubtful m) c in
-      let other = walked s.to (place + 1) next cs (omega (arith, is)) refl in
-      let more = walked from (place + 1) longer_build cs (omega (arith, less)) refl in
+  walked : (from place : ℕ) (s : Seen) (cs : List Command) (rs : List Row) → from < place → s.to ≡ place
+      → ShareCommands from (walk_from order stamps place s cs rs) (place + length cs)
+  walked from place s [] rs less is = (omega (arith, less, is), omega (arith, is))
+  walked from place s (c ∷ cs) rs less is =
+      let r = row_or c rs in
+      let rest = drop 1 rs in
+      let m = mark order stamps s c r in
+      let next = begun stamps (place + 1) (is_sure m) (past_in order s) c r in
+      let longer_build = with_command s stamps (place + 1) (is_doubtful m) c r in
+      let other = walked s.to (place + 1) next cs rest (omega (arith, is)) refl in
+      let more = walked from (place + 1) longer_build cs rest (omega (arith, less)) refl in
       let end : place + 1 + length cs ≡ place + length (c ∷ cs) = omega arith in
-      elim (is_border m) as (λ b. ShareCommands from (cond b (s ∷ walk_from order stamps (place + 1) next cs)
-      (walk_from order stamps (place + 1) longer_build cs)) (place + length (c ∷ cs))) [
-        | true ↦ (omega (arith, less, is), subst (ShareCommands s.to (walk_from order stamps (place + 1) next cs)) end other)
-        | false ↦ subst (ShareCommands from (walk_from order stamps (place + 1) longer_build cs)) end more
+      elim (is_border m) as (λ b. ShareCommands from (cond b (s ∷ walk_from order stamps (place + 1) next cs rest)
+      (walk_from order stamps (place + 1) longer_build cs rest)) (place + length (c ∷ cs))) [
+        | true ↦ (omega (arith, less, is), subst (ShareCommands s.to (walk_from order stamps (place + 1) next cs rest)) end other)
+        | false ↦ subst (ShareCommands from (walk_from order stamps (place + 1) longer_build cs rest)) end more
       ]
 
-  pub commands_shared : (place : ℕ) (sure : Bool) (cs : List Command) → ShareCommands place (walk order stamps place sure cs) (place + length cs)
-  commands_shared place sure [] = omega arith
-  commands_shared place sure (c ∷ cs) =
+  pub commands_shared : (place : ℕ) (sure : Bool) (cs : List Command) (rs : List Row)
+      → ShareCommands place (walk order stamps place sure cs rs) (place + length cs)
+  commands_shared place sure [] rs = omega arith
+  commands_shared place sure (c ∷ cs) rs =
+      let first = begun stamps (place + 1) sure None c (row_or c rs) in
       let end : place + 1 + length cs ≡ place + length (c ∷ cs) = omega arith in
-      subst (ShareCommands place (walk_from order stamps (place + 1) (begun stamps (place + 1) sure None c) cs)) end
-      (walked place (place + 1) (begun stamps (place + 1) sure None c) cs (omega arith) refl)
+      subst (ShareCommands place (walk_from order stamps (place + 1) first cs (drop 1 rs))) end
+      (walked place (place + 1) first cs (drop 1 rs) (omega arith) refl)
 
-from_first : (order : Order) (stamps : Stamps) (cs : List Command) → ShareCommands 0 (walk order stamps 0 true cs) (length cs)
-from_first order stamps cs =
+from_first : (order : Order) (stamps : Stamps) (cs : List Command) (rs : List Row) → ShareCommands 0 (walk order stamps 0 true cs rs) (length cs)
+from_first order stamps cs rs =
     let end : 0 + length cs ≡ length cs = omega arith in
-    subst (ShareCommands 0 (walk order stamps 0 true cs)) end (commands_shared order stamps 0 true cs)
+    subst (ShareCommands 0 (walk order stamps 0 true cs rs)) end (commands_shared order stamps 0 true cs rs)
 
 -- ---- a law of what is told, by its two cases
 
@@ -109,24 +96,27 @@ some_before None count is = absurd (cc is)
 some_before (Some back) count is = omega (arith, ltb-true back count is)
 
 told_either : (P : Told → Type 0) (stamps : Stamps) (es : List Entry)
-    → ((new : ℕ) → P (as_written stamps new es (row_commands es) (walk Written stamps 0 true (row_commands es))))
-    → ((count : ℕ) → 0 < count → count ≤ length (row_commands es) → P (again stamps count es (row_commands es))) → P (builds_of stamps es)
+    → ((new : ℕ) → P (as_written stamps new es (commands es) (walk Written stamps 0 true (commands es) (rows (commands es)))))
+    → ((count : ℕ) → 0 < count → count ≤ length (commands es) → P (again stamps count es (commands es) (rows (commands es)))) → P (builds_of stamps es)
 told_either P stamps es written moved = go (first_back stamps None 0 seen)
   where
     cs : List Command
-    cs = row_commands es
+    cs = commands es
+
+    rs : List Row
+    rs = rows cs
 
     seen : List Seen
-    seen = walk Written stamps 0 true cs
+    seen = walk Written stamps 0 true cs rs
 
-    go : (back : Option ℕ) → P (told_with stamps es cs seen back)
+    go : (back : Option ℕ) → P (told_with stamps es cs rs seen back)
     go back =
         let counts = is_some back || is_end stamps in
         let count = new_commands counts es cs in
         elim (cases_Bool (is_before back count)) [
-          | inl less ↦ subst P (sym (cond-true (is_before back count) (again stamps count es cs) (as_written stamps count es cs seen) less))
+          | inl less ↦ subst P (sym (cond-true (is_before back count) (again stamps count es cs rs) (as_written stamps count es cs seen) less))
               (moved count (some_before back count less) (new_within counts es cs))
-          | inr more ↦ subst P (sym (cond-false (is_before back count) (again stamps count es cs) (as_written stamps count es cs seen) more)) (written count)
+          | inr more ↦ subst P (sym (cond-false (is_before back count) (again stamps count es cs rs) (as_written stamps count es cs seen) more)) (written count)
         ]
 
 -- ---- entries
@@ -138,7 +128,7 @@ by_moment_moves stamps es =
 pub entries_moved : (stamps : Stamps) (es : List Entry) → IsPermutation es (builds_of stamps es).entries
 entries_moved stamps es =
     told_either (λ t. IsPermutation es t.entries) stamps es (λ new. IsPermutation-refl es) (λ count some within.
-    let k = entries_of count (row_commands es) in
+    let k = entries_of count (commands es) in
     subst (λ (l : List Entry). IsPermutation l (by_moment stamps (take k es) ++ drop k es)) (take-append-drop k es)
     (IsPermutation-append_left (drop k es) (take k es) (by_moment stamps (take k es)) (by_moment_moves stamps (take k es))))
 
@@ -168,11 +158,12 @@ found_rise : (k from : ℕ) (ss : List Seen) (end : ℕ) → ShareCommands from 
 found_rise k from [] end held = held
 found_rise k from (s ∷ ss) end held = (held.0, found_rise k s.to ss end held.1)
 
-again_rises : (stamps : Stamps) (es : List Entry) (count : ℕ) → 0 < count → count ≤ length (row_commands es)
-    → ShareEntries 0 (again stamps count es (row_commands es)).commands (length es)
-    × Share (λ (b : Build). b.to) 0 (again stamps count es (row_commands es)).builds (length (again stamps count es (row_commands es)).commands)
+again_rises : (stamps : Stamps) (es : List Entry) (count : ℕ) → 0 < count → count ≤ length (commands es)
+    → ShareEntries 0 (again stamps count es (commands es) (rows (commands es))).commands (length es)
+    × Share (λ (b : Build). b.to) 0 (again stamps count es (commands es) (rows (commands es))).builds
+    (length (again stamps count es (commands es) (rows (commands es))).commands)
 again_rises stamps es count some within =
-    let cs = row_commands es in
+    let cs = commands es in
     let k = entries_of count cs in
     let moved = by_moment stamps (take k es) in
     let fs = commands moved in
@@ -180,24 +171,25 @@ again_rises stamps es count some within =
     let place : suc (count - 1) ≡ count = omega (arith, some) in
     let behind = share_drop 0 cs (length es) (count - 1) (omega (arith, some, within)) (entries_shared es) in
     let all : length moved ≡ k = length_permutation (take k es) moved (by_moment_moves stamps (take k es)) ∙ length-take-le k es behind.1 in
-    let later = walk Written stamps (length fs) (falls_at count cs) rest in (
-      share_append (λ (c : Command). c.to) 0 k (length es) fs rest (subst (ShareEntries 0 fs) all (shared moved))
+    let behind_rows = drop count (rows cs) in
+    let later = walk Written stamps (length fs) (falls_at count cs) rest behind_rows in (
+      share_append (λ (c : Command). c.to) 0 k (length es) fs rest (subst (ShareEntries 0 fs) all (entries_shared moved))
           (subst (λ (n : ℕ). ShareEntries k (drop n cs) (length es)) place behind.0),
-      subst (Share (λ (b : Build). b.to) 0 (map (found_build k) (walk ByMoment stamps 0 true fs) ++ written_builds stamps 0 (length fs) false later))
+      subst (Share (λ (b : Build). b.to) 0 (map (found_build k) (walk ByMoment stamps 0 true fs []) ++ written_builds stamps 0 (length fs) false later))
           (sym (length-append fs rest))
-          (share_append (λ (b : Build). b.to) 0 (length fs) (length fs + length rest) (map (found_build k) (walk ByMoment stamps 0 true fs))
+          (share_append (λ (b : Build). b.to) 0 (length fs) (length fs + length rest) (map (found_build k) (walk ByMoment stamps 0 true fs []))
           (written_builds stamps 0 (length fs) false later)
-          (found_rise k 0 (walk ByMoment stamps 0 true fs) (length fs) (from_first ByMoment stamps fs))
+          (found_rise k 0 (walk ByMoment stamps 0 true fs []) (length fs) (from_first ByMoment stamps fs []))
           (written_rise stamps 0 false (length fs) later (length fs + length rest)
-          (commands_shared Written stamps (length fs) (falls_at count cs) rest))),
+          (commands_shared Written stamps (length fs) (falls_at count cs) rest behind_rows))),
     )
 
 pub told_rises : (stamps : Stamps) (es : List Entry) → PlacesRise (builds_of stamps es)
 told_rises stamps es =
-    let cs = row_commands es in
-    let seen = walk Written stamps 0 true cs in
+    let cs = commands es in
+    let seen = walk Written stamps 0 true cs (rows cs) in
     let both = told_either (λ t. ShareEntries 0 t.commands (length es) × Share (λ (b : Build). b.to) 0 t.builds (length t.commands)) stamps es
-    (λ new. (entries_shared es, written_rise stamps new false 0 seen (length cs) (from_first Written stamps cs))) (again_rises stamps es) in
+    (λ new. (entries_shared es, written_rise stamps new false 0 seen (length cs) (from_first Written stamps cs (rows cs)))) (again_rises stamps es) in
     let t = builds_of stamps es in
     (subst (ShareEntries 0 t.commands) (sym (length_permutation es t.entries (entries_moved stamps es))) both.0, both.1)
 
@@ -213,27 +205,27 @@ found_modest count (s ∷ ss) bs held = (refl, found_modest count ss bs held)
 
 pub builds_modest : (stamps : Stamps) (es : List Entry) → AreModest (builds_of stamps es).builds
 builds_modest stamps es =
-    let cs = row_commands es in
-    told_either (λ t. AreModest t.builds) stamps es (λ new. written_modest stamps new 0 false (walk Written stamps 0 true cs)) (λ count some within.
+    let cs = commands es in
+    told_either (λ t. AreModest t.builds) stamps es (λ new. written_modest stamps new 0 false (walk Written stamps 0 true cs (rows cs))) (λ count some within.
     let k = entries_of count cs in
     let fs = commands (by_moment stamps (take k es)) in
-    let later = walk Written stamps (length fs) (falls_at count cs) (drop count cs) in
-    found_modest k (walk ByMoment stamps 0 true fs) (written_builds stamps 0 (length fs) false later) (written_modest stamps 0 (length fs) false later))
+    let later = walk Written stamps (length fs) (falls_at count cs) (drop count cs) (drop count (rows cs)) in
+    found_modest k (walk ByMoment stamps 0 true fs []) (written_builds stamps 0 (length fs) false later) (written_modest stamps 0 (length fs) false later))
 
 -- ---- sure borders
 
-pub falls_sure : (stamps : Stamps) (s : Seen) (c : Command) → falls s.last c ≡ true → mark_written stamps s c ≡ Sure
-falls_sure stamps s c is =
-    cond-true (falls s.last c || is_same s.last c) Sure (cond s.last.is_manifest Unsure (mark_told stamps s c))
+pub falls_sure : (stamps : Stamps) (s : Seen) (c : Command) (r : Row) → falls s.last c ≡ true → mark_written stamps s c r ≡ Sure
+falls_sure stamps s c r is =
+    cond-true (falls s.last c || is_same s.last c) Sure (cond s.last.is_manifest Unsure (mark_told stamps s c r))
     (ap (λ (b : Bool). b || is_same s.last c) is)
 
 either : (a b : Bool) → b ≡ true → (a || b) ≡ true
 either true b is = refl
 either false b is = is
 
-pub same_sure : (stamps : Stamps) (s : Seen) (c : Command) → is_same s.last c ≡ true → mark_written stamps s c ≡ Sure
-same_sure stamps s c is =
-    cond-true (falls s.last c || is_same s.last c) Sure (cond s.last.is_manifest Unsure (mark_told stamps s c))
+pub same_sure : (stamps : Stamps) (s : Seen) (c : Command) (r : Row) → is_same s.last c ≡ true → mark_written stamps s c r ≡ Sure
+same_sure stamps s c r is =
+    cond-true (falls s.last c || is_same s.last c) Sure (cond s.last.is_manifest Unsure (mark_told stamps s c r))
     (either (falls s.last c) (is_same s.last c) is)
 
 -- ---- a sure build

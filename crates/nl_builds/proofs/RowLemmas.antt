@@ -8,22 +8,23 @@ use Rattle.std.proofs.lemmas.List.{get_or_default}
 use Rattle.std.proofs.lemmas.List.Folds.{list_any_at, list_any_none}
 use Rattle.nl_builds.specs.Commands.{first_of, is_at_once, row_to, waited, with_next, with_rows}
 use Rattle.nl_builds.specs.declared.command.Command.{Command}
+use Rattle.nl_builds.specs.declared.command.Row.{Row}
 
 -- ---- from the last one on
 
--- the commands with what their rows tell, where those behind them have theirs
-abbrev pub rows_onto : List Command → List Command → List Command
+-- what each tells with those behind it, where these have theirs
+abbrev pub rows_onto : List Row → List Row → List Row
 rows_onto [] told = told
 rows_onto (c ∷ cs) told = with_next c (first_of (rows_onto cs told)) ∷ rows_onto cs told
 
-pub rows_onto_nothing : (cs : List Command) → rows_onto cs [] ≡ with_rows cs
+pub rows_onto_nothing : (cs : List Row) → rows_onto cs [] ≡ with_rows cs
 rows_onto_nothing [] = refl
-rows_onto_nothing (c ∷ cs) = ap (λ (r : List Command). with_next c (first_of r) ∷ r) (rows_onto_nothing cs)
+rows_onto_nothing (c ∷ cs) = ap (λ (r : List Row). with_next c (first_of r) ∷ r) (rows_onto_nothing cs)
 
-pub rows_onto_last : (cs : List Command) (d : Command) (told : List Command)
+pub rows_onto_last : (cs : List Row) (d : Row) (told : List Row)
     → rows_onto (cs ++ d ∷ []) told ≡ rows_onto cs (with_next d (first_of told) ∷ told)
 rows_onto_last [] d told = refl
-rows_onto_last (c ∷ cs) d told = ap (λ (r : List Command). with_next c (first_of r) ∷ r) (rows_onto_last cs d told)
+rows_onto_last (c ∷ cs) d told = ap (λ (r : List Row). with_next c (first_of r) ∷ r) (rows_onto_last cs d told)
 
 -- ---- of ENDs that rise
 

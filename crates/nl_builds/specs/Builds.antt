@@ -4,13 +4,14 @@ use Rattle.std.specs.Option.{is_some}
 use Rattle.nl_fields.specs.declared.entry.Entry.{Entry}
 use Rattle.nl_table.specs.History.{holds}
 use Rattle.nl_table.specs.Table.{with_name}
-use Rattle.nl_builds.specs.Commands.{commands, falls, row_commands}
+use Rattle.nl_builds.specs.Commands.{commands, falls, row_or, rows}
 use Rattle.nl_builds.specs.Seen.{before, begun, doubts, is_back, is_border, is_doubtful, is_sure, mark, past_of, with_command}
 use Rattle.nl_builds.specs.Sorted.{by_moment}
 use Rattle.nl_builds.specs.Stamps.{is_end, is_start}
 use Rattle.nl_builds.specs.declared.build.Build.{Build}
 use Rattle.nl_builds.specs.declared.build.How.TheVariants.{AsWritten, FoundAgain}
 use Rattle.nl_builds.specs.declared.command.Command.{Command}
+use Rattle.nl_builds.specs.declared.command.Row.{Row}
 use Rattle.nl_builds.specs.declared.seen.Order.{Order}
 use Rattle.nl_builds.specs.declared.seen.Order.TheVariants.{Written, ByMoment}
 use Rattle.nl_builds.specs.declared.seen.Past.{Past}
@@ -25,17 +26,18 @@ past_in Written s = past_of s
 past_in ByMoment s = None
 
 -- a command behind a border begins another build, and any other is of the build so far
-abbrev pub walk_from : Order → Stamps → ℕ → Seen → List Command → List Seen
-walk_from order stamps place s [] = s ∷ []
-walk_from order stamps place s (c ∷ cs) =
-    let m = mark order stamps s c in
-    if is_border m then s ∷ walk_from order stamps (place + 1) (begun stamps (place + 1) (is_sure m) (past_in order s) c) cs
-    else walk_from order stamps (place + 1) (with_command s stamps (place + 1) (is_doubtful m) c) cs
+abbrev pub walk_from : Order → Stamps → ℕ → Seen → List Command → List Row → List Seen
+walk_from order stamps place s [] rs = s ∷ []
+walk_from order stamps place s (c ∷ cs) rs =
+    let r = row_or c rs in
+    let m = mark order stamps s c r in
+    if is_border m then s ∷ walk_from order stamps (place + 1) (begun stamps (place + 1) (is_sure m) (past_in order s) c r) cs (drop 1 rs)
+    else walk_from order stamps (place + 1) (with_command s stamps (place + 1) (is_doubtful m) c r) cs (drop 1 rs)
 
--- behind a place, with a border before the first command that is sure or not
-abbrev pub walk : Order → Stamps → ℕ → Bool → List Command → List Seen
-walk order stamps place sure [] = []
-walk order stamps place sure (c ∷ cs) = walk_from order stamps (place + 1) (begun stamps (place + 1) sure None c) cs
+-- behind a place, with a border before the first command that is sure or not; each command with what its row tells
+abbrev pub walk : Order → Stamps → ℕ → Bool → List Command → List Row → List Seen
+walk order stamps place sure [] rs = []
+walk order stamps place sure (c ∷ cs) rs = walk_from order stamps (place + 1) (begun stamps (place + 1) sure None c (row_or c rs)) cs (drop 1 rs)
 
 -- ---- whether the log was written anew, and how far
 
@@ -116,19 +118,19 @@ abbrev pub entries_of : ℕ → List Command → ℕ
 entries_of count cs = entries_to (slice_get cs (count - 1))
 
 -- the entries of so many commands were written anew
-abbrev pub again_with : Stamps → ℕ → ℕ → List Entry → List Command → List Entry → List Command → Told
-again_with stamps count k es cs moved fs = record {
+abbrev pub again_with : Stamps → ℕ → ℕ → List Entry → List Command → List Row → List Entry → List Command → Told
+again_with stamps count k es cs rs moved fs = record {
   entries = moved ++ drop k es;
   commands = fs ++ drop count cs;
-  builds = map (found_build k) (walk ByMoment stamps 0 true fs)
-      ++ written_builds stamps 0 (length fs) false (walk Written stamps (length fs) (falls_at count cs) (drop count cs));
+  builds = map (found_build k) (walk ByMoment stamps 0 true fs [])
+      ++ written_builds stamps 0 (length fs) false (walk Written stamps (length fs) (falls_at count cs) (drop count cs) (drop count rs));
 }
 
-abbrev pub again : Stamps → ℕ → List Entry → List Command → Told
-again stamps count es cs =
+abbrev pub again : Stamps → ℕ → List Entry → List Command → List Row → Told
+again stamps count es cs rs =
     let k = entries_of count cs in
     let moved = by_moment stamps (take k es) in
-    again_with stamps count k es cs moved (commands moved)
+    again_with stamps count k es cs rs moved (commands moved)
 
 abbrev pub new_commands : Bool → List Entry → List Command → ℕ
 new_commands counts es cs = if counts then whole_commands (new_names [] es) cs else 0
@@ -138,19 +140,19 @@ is_before None count = false
 is_before (Some back) count = nat_lt back count
 
 -- so many commands were written anew, if the first build that contradicts the order begins among them
-abbrev pub told_with : Stamps → List Entry → List Command → List Seen → Option ℕ → Told
-told_with stamps es cs seen back =
+abbrev pub told_with : Stamps → List Entry → List Command → List Row → List Seen → Option ℕ → Told
+told_with stamps es cs rs seen back =
     let count = new_commands (is_some back || is_end stamps) es cs in
-    if is_before back count then again stamps count es cs else as_written stamps count es cs seen
+    if is_before back count then again stamps count es cs rs else as_written stamps count es cs seen
 
-abbrev pub told_by : Stamps → List Entry → List Command → Told
-told_by stamps es cs =
-    let seen = walk Written stamps 0 true cs in
-    told_with stamps es cs seen (first_back stamps None 0 seen)
+abbrev pub told_by : Stamps → List Entry → List Command → List Row → Told
+told_by stamps es cs rs =
+    let seen = walk Written stamps 0 true cs rs in
+    told_with stamps es cs rs seen (first_back stamps None 0 seen)
 
 -- by the entries of its commands
 abbrev pub builds_of : Stamps → List Entry → Told
-builds_of stamps es = told_by stamps es (row_commands es)
+builds_of stamps es = told_by stamps es (commands es) (rows (commands es))
 
 abbrev pub IsTold : Told → List Entry → List Command → List Build → Type 0
 IsTold t es cs bs = (es ≡ t.entries) × (cs ≡ t.commands) × (bs ≡ t.builds)

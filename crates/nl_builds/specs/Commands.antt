@@ -7,6 +7,7 @@ use Rattle.std.specs.Ordering.{int_eq}
 use Rattle.nl_fields.specs.declared.entry.Entry.{Entry}
 use Rattle.nl_builds.specs.Moments.{moment_at}
 use Rattle.nl_builds.specs.declared.command.Command.{Command}
+use Rattle.nl_builds.specs.declared.command.Row.{Row}
 
 -- milliseconds from the earliest START that an entry can have
 abbrev pub moment : ℤ → ℕ
@@ -42,9 +43,6 @@ one to e = record {
   mtime = e.mtime;
   hash = e.hash;
   to = to;
-  up = unwrap_or (latest e.mtime (moment e.start_ms)) never;
-  has_waited = false;
-  wait = never;
   is_manifest = is_manifest_name e.name;
 }
 
@@ -60,7 +58,6 @@ abbrev pub longer : Command → ℕ → Entry → Command
 longer c to e = record c {
   mtime = agreed c.mtime e.mtime;
   to = to;
-  up = unwrap_or (latest (agreed c.mtime e.mtime) c.began) never;
   is_manifest = c.is_manifest || is_manifest_name e.name;
 }
 
@@ -94,29 +91,40 @@ waited row c = list_any (is_at_once c.began) row
 abbrev pub row_to : List ℕ → ℕ → List ℕ
 row_to row ended = if list_any (nat_lt ended) row then [] else row
 
--- each with its START, if it waited for one before it in its row
-abbrev pub with_wait : Command → Bool → Command
-with_wait c waits = record c { has_waited = waits; wait = if waits then c.began else never }
+-- what a command tells alone, with its START if it waited
+abbrev pub row_with : Command → Bool → Row
+row_with c waits = record {
+  ended = c.ended;
+  up = unwrap_or (hi c) never;
+  has_waited = waits;
+  wait = if waits then c.began else never;
+}
 
-abbrev pub with_waits : List ℕ → List Command → List Command
-with_waits row [] = []
-with_waits row (c ∷ cs) =
+-- each may have waited for one before it in its row
+abbrev pub waits_from : List ℕ → List Command → List Row
+waits_from row [] = []
+waits_from row (c ∷ cs) =
     let before = row_to row c.ended in
-    with_wait c (waited before c) ∷ with_waits (before ++ c.ended ∷ []) cs
+    row_with c (waited before c) ∷ waits_from (before ++ c.ended ∷ []) cs
 
 -- of it and of those behind it in its row the least `hi`, and the least START of one that waited
-abbrev pub with_next : Command → Option Command → Command
-with_next c None = c
-with_next c (Some d) = if falls c d then c else record c { up = min c.up d.up; wait = min c.wait d.wait }
+abbrev pub with_next : Row → Option Row → Row
+with_next r None = r
+with_next r (Some s) = if nat_lt s.ended r.ended then r else record r { up = min r.up s.up; wait = min r.wait s.wait }
 
-abbrev pub first_of : List Command → Option Command
+abbrev pub first_of : List Row → Option Row
 first_of [] = None
-first_of (c ∷ cs) = Some c
+first_of (r ∷ rs) = Some r
 
-abbrev pub with_rows : List Command → List Command
+abbrev pub with_rows : List Row → List Row
 with_rows [] = []
-with_rows (c ∷ cs) = with_next c (first_of (with_rows cs)) ∷ with_rows cs
+with_rows (r ∷ rs) = with_next r (first_of (with_rows rs)) ∷ with_rows rs
 
--- with what those beside them in their rows tell
-abbrev pub row_commands : List Entry → List Command
-row_commands es = with_rows (with_waits [] (commands es))
+-- what each tells with those beside it in its row
+abbrev pub rows : List Command → List Row
+rows cs = with_rows (waits_from [] cs)
+
+-- where no more is told of rows, a command tells alone
+abbrev pub row_or : Command → List Row → Row
+row_or c [] = row_with c false
+row_or c (r ∷ rs) = r

@@ -3,6 +3,7 @@ use Rattle.std.specs.Prelude.{ℕ, ◌+◌, ◌^◌, ◌==◌, ◌&&◌, ◌||�
 use Rattle.nl_builds.specs.Moments.{agreement, greatest, is_past, least, one_moment, reaches, slack}
 use Rattle.nl_builds.specs.Commands.{falls, hi, is_same, lo, tells}
 use Rattle.nl_builds.specs.declared.command.Command.{Command}
+use Rattle.nl_builds.specs.declared.command.Row.{Row}
 use Rattle.nl_builds.specs.declared.seen.Mark.{Mark}
 use Rattle.nl_builds.specs.declared.seen.Mark.TheVariants.{Inside, Doubtful, Unsure, Sure}
 use Rattle.nl_builds.specs.declared.seen.Order.{Order}
@@ -41,13 +42,13 @@ is_after None m = true
 
 -- when its build began, as borders go by it: if MTIME is of the start, the earliest `hi` from it to where END next falls; if it is of the end,
 -- `lo`, unless `hi` is before the end of the build before
-abbrev pub told_by : Stamps → Option Past → Command → Option ℕ
-told_by Unknown past c = None
-told_by OfStart past c = Some c.up
-told_by OfEnd past c = if is_after past (hi c) then lo c else None
+abbrev pub told_by : Stamps → Option Past → Command → Row → Option ℕ
+told_by Unknown past c r = None
+told_by OfStart past c r = Some r.up
+told_by OfEnd past c r = if is_after past (hi c) then lo c else None
 
-abbrev pub told : Stamps → Option Past → Command → Option ℕ
-told stamps past c = if tells c then told_by stamps past c else None
+abbrev pub told : Stamps → Option Past → Command → Row → Option ℕ
+told stamps past c r = if tells c then told_by stamps past c r else None
 
 abbrev pub better : Stamps → Option ℕ → Option ℕ → Option ℕ
 better OfStart a b = least a b
@@ -61,12 +62,12 @@ only false m = None
 -- ---- a build so far
 
 -- the command stands before a place
-abbrev pub begun : Stamps → ℕ → Bool → Option Past → Command → Seen
-begun stamps to sure past c = record {
+abbrev pub begun : Stamps → ℕ → Bool → Option Past → Command → Row → Seen
+begun stamps to sure past c r = record {
   to = to;
   is_sure = sure;
   is_doubtful = not (tells c);
-  began = told stamps past c;
+  began = told stamps past c r;
   past = past;
   earliest = lo c;
   latest = hi c;
@@ -75,30 +76,30 @@ begun stamps to sure past c = record {
   last = c;
   piece = lo c;
   pieces = None;
-  oldest = only (not c.has_waited) (hi c);
+  oldest = only (not r.has_waited) (hi c);
 }
 
 -- it, or a command behind it in its row, waited, and began 1 ms after the command before it ended, or earlier
-abbrev pub is_tied : Seen → Command → Bool
-is_tied s c = nat_le c.wait (s.last.ended + 1)
+abbrev pub is_tied : Seen → Row → Bool
+is_tied s r = nat_le r.wait (s.last.ended + 1)
 
 -- a command that isn't tied begins a piece of the build, whose moment is its greatest `lo`; `pieces` is the least moment of those before
 
-abbrev pub with_command : Seen → Stamps → ℕ → Bool → Command → Seen
-with_command s stamps to doubtful c = record {
+abbrev pub with_command : Seen → Stamps → ℕ → Bool → Command → Row → Seen
+with_command s stamps to doubtful c r = record {
   to = to;
   is_sure = s.is_sure;
   is_doubtful = s.is_doubtful || doubtful || not (tells c);
-  began = better stamps s.began (told stamps s.past c);
+  began = better stamps s.began (told stamps s.past c r);
   past = s.past;
   earliest = greatest s.earliest (lo c);
   latest = least s.latest (hi c);
   top = greatest s.top (hi c);
   ended = max s.ended c.ended;
   last = c;
-  piece = greatest (only (is_tied s c) s.piece) (lo c);
-  pieces = least s.pieces (only (not (is_tied s c)) s.piece);
-  oldest = least s.oldest (only (not c.has_waited) (hi c));
+  piece = greatest (only (is_tied s r) s.piece) (lo c);
+  pieces = least s.pieces (only (not (is_tied s r)) s.piece);
+  oldest = least s.oldest (only (not r.has_waited) (hi c));
 }
 
 -- or of the last build before of which that is known
@@ -130,31 +131,31 @@ abbrev pub is_behind : Seen → Option ℕ → Bool
 is_behind s m = is_behind_by s.ended s.began m
 
 -- a border is sure only if MTIME is of the start, and `lo` tells of another build too; before a tied command only a sure one is taken
-abbrev pub mark_behind : Stamps → Seen → Command → Mark
-mark_behind stamps s c = if is_start stamps && is_behind s (lo c) then Sure else if is_tied s c then Doubtful else Unsure
+abbrev pub mark_behind : Stamps → Seen → Command → Row → Mark
+mark_behind stamps s c r = if is_start stamps && is_behind s (lo c) then Sure else if is_tied s r then Doubtful else Unsure
 
 -- a border may hide before a command of the hash of the one before it, which may be that one again, and if MTIME is of the start before one
 -- whose moment is a little behind
-abbrev pub mark_told : Stamps → Seen → Command → Mark
-mark_told stamps s c =
-    let moment = told stamps s.past c in
-    if is_behind s moment then mark_behind stamps s c
+abbrev pub mark_told : Stamps → Seen → Command → Row → Mark
+mark_told stamps s c r =
+    let moment = told stamps s.past c r in
+    if is_behind s moment then mark_behind stamps s c r
     else if s.last.hash == c.hash || is_start stamps && differs_by agreement s.began moment then Doubtful else Inside
 
 -- between lines as Ninja wrote them: a border stands where END falls, before a command that ran again, and behind the manifest
-abbrev pub mark_written : Stamps → Seen → Command → Mark
-mark_written stamps s c =
+abbrev pub mark_written : Stamps → Seen → Command → Row → Mark
+mark_written stamps s c r =
     if falls s.last c || is_same s.last c then Sure
     else if s.last.is_manifest then Unsure
-    else mark_told stamps s c
+    else mark_told stamps s c r
 
 -- between commands by their moments: the manifest is a build
-abbrev pub mark_by_moment : Stamps → Seen → Command → Mark
-mark_by_moment stamps s c = if s.last.is_manifest || c.is_manifest || is_behind s (told stamps None c) then Unsure else Inside
+abbrev pub mark_by_moment : Stamps → Seen → Command → Row → Mark
+mark_by_moment stamps s c r = if s.last.is_manifest || c.is_manifest || is_behind s (told stamps None c r) then Unsure else Inside
 
-abbrev pub mark : Order → Stamps → Seen → Command → Mark
-mark Written stamps s c = mark_written stamps s c
-mark ByMoment stamps s c = mark_by_moment stamps s c
+abbrev pub mark : Order → Stamps → Seen → Command → Row → Mark
+mark Written stamps s c r = mark_written stamps s c r
+mark ByMoment stamps s c r = mark_by_moment stamps s c r
 
 -- ---- what can't be so
 

@@ -2,7 +2,7 @@
 ghost use Rattle.std.specs.Prelude.{◌≡◌, [], drop, take, ◌<◌, false, map, IfOk};
 ghost use Rattle.nl_builds.specs.{Builds.{again, builds_of, entries_of, falls_at, found_build, IsTold, new_names, whole_commands, written_builds}, Sorted.{by_moment, moment_rank, span_rank}};
 
-use crate::command::{Command, commands_of, latest, moment, with_rows, with_waits};
+use crate::command::{Command, Row, commands_of, latest, moment, with_rows, with_waits};
 use crate::name_key::NameKey;
 use crate::seen::{Order, Seen, first_back, walk};
 use crate::stamps::Stamps;
@@ -50,8 +50,10 @@ pub fn builds_of<'a>(
 ) -> Result<Builds<'a>, AllocError>
     ensures value { IfOk result (λ told. IsTold (builds_of stamps entries.entry.items) told.entries.items told.commands.items told.builds.items) }
 {
-    let commands = with_rows(with_waits(alloc, commands_of(alloc, entries.as_slice())?)?);
-    let seen = walk(alloc, Order::Written, stamps, 0, true, commands.as_slice())?;
+    let commands = commands_of(alloc, entries.as_slice())?;
+    let rows = with_rows(with_waits(alloc, commands.as_slice())?);
+    let (all, rows) = (commands.as_slice(), rows.as_slice());
+    let seen = walk(alloc, Order::Written, stamps, 0, true, all, rows)?;
     let back = first_back(stamps, seen.as_slice());
     let count = if back.is_some() || stamps.is_end() {
         whole_commands(
@@ -62,7 +64,7 @@ pub fn builds_of<'a>(
         0
     };
     if back.is_some_and(|place| place < count) {
-        return again(alloc, stamps, count, entries, commands);
+        return again(alloc, stamps, count, entries, commands, rows);
     }
     let builds = written_builds(alloc, stamps, count, 0, seen.as_slice())?;
     Ok(Builds {
@@ -110,19 +112,22 @@ fn again<'a>(
     count: usize,
     entries: Vec<EntryRef<'a>>,
     commands: Vec<Command>,
+    rows: &[Row],
 ) -> Result<Builds<'a>, AllocError>
-    ensures value { IfOk result (λ told. IsTold (again stamps count entries.entry.items commands.items) told.entries.items told.commands.items told.builds.items) }
+    ensures value { IfOk result (λ told. IsTold (again stamps count entries.entry.items commands.items rows.now) told.entries.items told.commands.items told.builds.items) }
 {
     let k = entries_of(count, commands.as_slice());
     let (front, mut rest) = split(alloc, k, entries)?;
     let mut moved = by_moment(stamps, front)?;
     let mut found = commands_of(alloc, moved.as_slice())?;
-    let before = walk(alloc, Order::ByMoment, stamps, 0, true, found.as_slice())?;
+    let (place, all) = (found.len(), found.as_slice());
+    let before = walk(alloc, Order::ByMoment, stamps, 0, true, all, &[])?;
     let is_sure = falls_at(count, commands.as_slice());
-    let later = commands_from(count, commands.as_slice());
-    let behind = walk(alloc, Order::Written, stamps, found.len(), is_sure, later)?;
+    let later = items_from(count, commands.as_slice());
+    let rows = items_from(count, rows);
+    let behind = walk(alloc, Order::Written, stamps, place, is_sure, later, rows)?;
     let mut builds = found_builds(alloc, k, before.as_slice())?;
-    let mut written = written_builds(alloc, stamps, 0, found.len(), behind.as_slice())?;
+    let mut written = written_builds(alloc, stamps, 0, place, behind.as_slice())?;
     found.extend_from_slice(later)?;
     builds.append(&mut written)?;
     moved.append(&mut rest)?;
@@ -155,10 +160,10 @@ fn entries_of(count: usize, commands: &[Command]) -> usize
     commands.get(count.saturating_sub(1)).map_or(0, |it| it.to)
 }
 
-fn commands_from(count: usize, commands: &[Command]) -> &[Command]
-    ensures { result.now ≡ drop count commands.now }
+fn items_from<T>(count: usize, items: &[T]) -> &[T]
+    ensures { result.now ≡ drop count items.now }
 {
-    &commands[count.min(commands.len())..]
+    &items[count.min(items.len())..]
 }
 
 fn falls_at(place: usize, commands: &[Command]) -> bool

@@ -1,6 +1,6 @@
 //! The commands of a log, as the entries of their outputs tell them.
-ghost use Rattle.std.specs.{Prelude.{◌≡◌, [], nat_lt, false, IfOk}, List.{list_any}, List.Sorted.{IsNonDecreasing}};
-ghost use Rattle.nl_builds.specs.{Commands.{commands, falls, is_more, is_same, latest, longer, moment, one, row_to, tells, waited, with_next, with_rows, with_wait, with_waits}};
+ghost use Rattle.std.specs.{Prelude.{◌≡◌, [], drop, nat_lt, false, IfOk}, List.{list_any}, List.Sorted.{IsNonDecreasing}};
+ghost use Rattle.nl_builds.specs.{Commands.{commands, falls, is_more, is_same, latest, longer, moment, one, row_or, row_to, row_with, tells, waited, waits_from, with_next, with_rows}};
 
 use nl_fields::EntryRef;
 use std::alloc::{AllocError, Global};
@@ -22,13 +22,6 @@ pub struct Command {
     pub hash: u64,
     /// The place behind the entry of its last output.
     pub to: usize,
-    /// The least [`latest`](Command::latest) of it and of those behind it in its row; in a log that was written anew its own. `u64::MAX` if
-    /// none has one.
-    pub up: u64,
-    /// The least START of those that so waited, of it and of those behind it in its row. `u64::MAX` if none waited.
-    pub wait: u64,
-    /// Whether it began as one before it in its row ended.
-    pub has_waited: bool,
     pub is_manifest: bool,
 }
 
@@ -37,16 +30,12 @@ impl Command {
     fn one(to: usize, entry: &EntryRef) -> Command
         ensures value { result ≡ one to entry.now }
     {
-        let began = moment(entry.start_ms);
         Command {
-            began,
+            began: moment(entry.start_ms),
             ended: moment(entry.end_ms),
             mtime: entry.mtime,
             hash: entry.hash,
             to,
-            up: latest(entry.mtime, began).unwrap_or(u64::MAX),
-            has_waited: false,
-            wait: u64::MAX,
             is_manifest: entry.name() == MANIFEST.as_slice(),
         }
     }
@@ -66,42 +55,11 @@ impl Command {
         ensures value { result ≡ longer self to entry.now }
     {
         let agrees = self.mtime == entry.mtime;
-        let mtime = if agrees { self.mtime } else { 0 };
         Command {
-            mtime,
+            mtime: if agrees { self.mtime } else { 0 },
             to,
-            up: latest(mtime, self.began).unwrap_or(u64::MAX),
             is_manifest: self.is_manifest || entry.name() == MANIFEST.as_slice(),
             ..self
-        }
-    }
-
-    // With its START, if it waited.
-    fn with_wait(self, has_waited: bool) -> Command
-        ensures value { result ≡ with_wait self has_waited }
-    {
-        Command {
-            has_waited,
-            wait: if has_waited {
-                u64::from(self.began)
-            } else {
-                u64::MAX
-            },
-            ..self
-        }
-    }
-
-    // The next one has what it and those behind it in its row tell.
-    fn with_next(self, next: Option<Command>) -> Command
-        ensures value { result ≡ with_next self next }
-    {
-        match next {
-            Some(other) if !self.falls(&other) => Command {
-                up: self.up.min(other.up),
-                wait: self.wait.min(other.wait),
-                ..self
-            },
-            _ => self,
         }
     }
 
@@ -183,17 +141,60 @@ pub fn commands_of(alloc: Global, entries: &[EntryRef]) -> Result<Vec<Command>, 
     Ok(found)
 }
 
+/// What a command tells with those beside it in its row.
+#[derive(Clone, Copy, Drop)]
+pub(crate) struct Row {
+    /// END of the command.
+    pub ended: u32,
+    /// Whether it began as one before it in its row ended.
+    pub has_waited: bool,
+    /// The least [`latest`](Command::latest) of it and of those behind it in its row. `u64::MAX` if none has one.
+    pub up: u64,
+    /// The least START of those that so waited, of it and of those behind it in its row. `u64::MAX` if none waited.
+    pub wait: u64,
+}
+
+impl Row {
+    fn of(command: &Command, has_waited: bool) -> Row
+        ensures value { result ≡ row_with command.now has_waited }
+    {
+        Row {
+            ended: command.ended,
+            has_waited,
+            up: command.latest().unwrap_or(u64::MAX),
+            wait: if has_waited {
+                u64::from(command.began)
+            } else {
+                u64::MAX
+            },
+        }
+    }
+
+    // The next one has what it and those behind it in its row tell.
+    fn with_next(self, next: Option<Row>) -> Row
+        ensures value { result ≡ with_next self next }
+    {
+        match next {
+            Some(other) if self.ended <= other.ended => Row {
+                up: self.up.min(other.up),
+                wait: self.wait.min(other.wait),
+                ..self
+            },
+            _ => self,
+        }
+    }
+}
+
 /// Each with its START, if it waited for one before it in its row.
-pub(crate) fn with_waits(alloc: Global, commands: Vec<Command>) -> Result<Vec<Command>, AllocError>
-    ensures value { IfOk result (λ found. found.items ≡ with_waits [] commands.items) }
+pub(crate) fn with_waits(alloc: Global, commands: &[Command]) -> Result<Vec<Row>, AllocError>
+    ensures value { IfOk result (λ found. found.items ≡ waits_from [] commands.now) }
 {
-    let mut found = commands;
+    let mut found = Vec::with_capacity(alloc, commands.len())?;
     let mut row = Vec::new(alloc);
-    for i in 0..found.len() {
-        let command = found[i];
+    for command in commands {
         cut_row(&mut row, command.ended);
-        let has_waited = waited(row.as_slice(), &command);
-        found[i] = command.with_wait(has_waited);
+        let has_waited = waited(row.as_slice(), command);
+        found.push(Row::of(command, has_waited))?;
         row.push(command.ended)?;
     }
     Ok(found)
@@ -228,10 +229,10 @@ fn waited(row: &[u32], command: &Command) -> bool
 }
 
 /// Each with what it and those behind it in its row tell.
-pub(crate) fn with_rows(commands: Vec<Command>) -> Vec<Command>
-    ensures value { result.items ≡ with_rows commands.items }
+pub(crate) fn with_rows(rows: Vec<Row>) -> Vec<Row>
+    ensures value { result.items ≡ with_rows rows.items }
 {
-    let mut found = commands;
+    let mut found = rows;
     let mut next = None;
     let mut at = found.len();
     'commands: while at > 0 {
@@ -241,4 +242,15 @@ pub(crate) fn with_rows(commands: Vec<Command>) -> Vec<Command>
         next = Some(told);
     }
     found
+}
+
+/// What the first of some rows tells, and those behind it. If there is none, the command tells alone, as in a log that was written anew.
+pub(crate) fn split_row<'r>(command: &Command, rows: &'r [Row]) -> (Row, &'r [Row])
+    ensures row { result.0 ≡ row_or command.now rows.now }
+    ensures rest { result.1.now ≡ drop 1 rows.now }
+{
+    match rows.split_first() {
+        Some((row, rest)) => (*row, rest),
+        None => (Row::of(command, false), rows),
+    }
 }

@@ -1,17 +1,17 @@
 //! Laws of commands and builds. Each is the contract of a function that does nothing.
 ghost use Rattle.std.specs.Prelude.{◌≡◌, ◌+◌, ℕ, Bool, List, false, length, true, IsPermutation};
 ghost use Rattle.nl_fields.specs.declared.entry.Entry.{Entry};
-ghost use Rattle.nl_builds.specs.{Builds.{builds_of, next_is_sure, walk, written_build}, Commands.{falls, is_same, row_commands}, Laws.{AreModest, PlacesRise, ShareCommands, ShareEntries}, Recorded.{any_intent, recorded}, Seen.{mark_written}, declared.command.Command.{Command}, declared.seen.Mark.TheVariants.{Sure}, declared.seen.Order.{Order}, declared.seen.Seen.{Seen}, declared.stamps.Stamps.{Stamps}};
+ghost use Rattle.nl_builds.specs.{Builds.{builds_of, next_is_sure, walk, written_build}, Commands.{commands, falls, is_same}, Laws.{AreModest, PlacesRise, ShareCommands, ShareEntries}, Recorded.{any_intent, recorded}, Seen.{mark_written}, declared.command.Command.{Command}, declared.command.Row.{Row}, declared.seen.Mark.TheVariants.{Sure}, declared.seen.Order.{Order}, declared.seen.Seen.{Seen}, declared.stamps.Stamps.{Stamps}};
 
 /// The first commands have the first entries, and so on to the last.
 pub fn each_entry_is_of_one_command()
-    ensures { (es : List Entry) → ShareEntries 0 (row_commands es) (length es) }
+    ensures { (es : List Entry) → ShareEntries 0 (commands es) (length es) }
 {}
 
 /// The first builds have the first commands, and so on to the last.
 pub fn each_command_is_of_one_build()
-    ensures { (order : Order) (stamps : Stamps) (place : ℕ) (sure : Bool) (cs : List Command)
-        → ShareCommands place (walk order stamps place sure cs) (place + length cs) }
+    ensures { (order : Order) (stamps : Stamps) (place : ℕ) (sure : Bool) (cs : List Command) (rs : List Row)
+        → ShareCommands place (walk order stamps place sure cs rs) (place + length cs) }
 {}
 
 /// Also if the log was written anew, each entry is of one command and each command of one build.
@@ -36,8 +36,8 @@ pub fn a_sure_build_has_sure_borders()
 
 /// Between lines as Ninja wrote them. So is a command that comes again.
 pub fn an_end_that_falls_is_a_sure_border()
-    ensures falls { (stamps : Stamps) (s : Seen) (c : Command) → falls s.last c ≡ true → mark_written stamps s c ≡ Sure }
-    ensures same { (stamps : Stamps) (s : Seen) (c : Command) → is_same s.last c ≡ true → mark_written stamps s c ≡ Sure }
+    ensures falls { (stamps : Stamps) (s : Seen) (c : Command) (r : Row) → falls s.last c ≡ true → mark_written stamps s c r ≡ Sure }
+    ensures same { (stamps : Stamps) (s : Seen) (c : Command) (r : Row) → is_same s.last c ≡ true → mark_written stamps s c r ≡ Sure }
 {}
 
 pub fn entries_without_intents_are_of_commands()

@@ -2,7 +2,7 @@
 ghost use Rattle.std.specs.Prelude.{◌≡◌, ◌+◌, ◌<◌, ◌^◌, length, IfOk, None};
 ghost use Rattle.nl_builds.specs.{Builds.{first_back, walk}, Moments.{greatest, is_past, least, reaches}, Seen.{begun, differs_by, doubts, is_after, is_back, is_behind, is_moment_of, is_tied, mark, only, past_by, told, with_command}};
 
-use crate::command::{Command, NANOS};
+use crate::command::{Command, NANOS, Row, split_row};
 use crate::stamps::Stamps;
 use std::alloc::{AllocError, Global};
 
@@ -78,14 +78,15 @@ impl Seen {
         is_sure: bool,
         past: Option<Past>,
         command: &Command,
+        row: &Row,
     ) -> Seen
-        ensures value { result ≡ begun stamps to is_sure past command.now }
+        ensures value { result ≡ begun stamps to is_sure past command.now row.now }
     {
         Seen {
             to,
             is_sure,
             is_doubtful: !command.tells(),
-            began: told(stamps, past, command),
+            began: told(stamps, past, command, row),
             past,
             earliest: command.earliest(),
             latest: command.latest(),
@@ -94,7 +95,7 @@ impl Seen {
             last: *command,
             piece: command.earliest(),
             pieces: None,
-            oldest: only(!command.has_waited, command.latest()),
+            oldest: only(!row.has_waited, command.latest()),
         }
     }
 
@@ -106,11 +107,12 @@ impl Seen {
         is_doubtful: bool,
         moment: Option<u64>,
         command: &Command,
+        row: &Row,
     )
-        requires told { moment ≡ told stamps self.old.past command.now }
-        ensures value { self.new ≡ with_command self.old stamps to is_doubtful command.now }
+        requires told { moment ≡ told stamps self.old.past command.now row.now }
+        ensures value { self.new ≡ with_command self.old stamps to is_doubtful command.now row.now }
     {
-        let is_tied = self.is_tied(command);
+        let is_tied = self.is_tied(row);
         let (earliest, latest) = (command.earliest(), command.latest());
         self.to = to;
         self.is_doubtful = self.is_doubtful || is_doubtful || !command.tells();
@@ -124,7 +126,7 @@ impl Seen {
         self.ended = self.ended.max(command.ended);
         self.pieces = least(self.pieces, only(!is_tied, self.piece));
         self.piece = greatest(only(is_tied, self.piece), earliest);
-        self.oldest = least(self.oldest, only(!command.has_waited, latest));
+        self.oldest = least(self.oldest, only(!row.has_waited, latest));
         self.last = *command;
     }
 
@@ -135,14 +137,15 @@ impl Seen {
         stamps: Stamps,
         moment: Option<u64>,
         command: &Command,
+        row: &Row,
     ) -> Mark
-        requires told { moment ≡ told stamps self.now.past command.now }
-        ensures { result ≡ mark order stamps self.now command.now }
+        requires told { moment ≡ told stamps self.now.past command.now row.now }
+        ensures { result ≡ mark order stamps self.now command.now row.now }
     {
         if matches!(order, Order::ByMoment) {
             return if self.last.is_manifest
                 || command.is_manifest
-                || self.is_behind(told(stamps, None, command))
+                || self.is_behind(told(stamps, None, command, row))
             {
                 Mark::Unsure
             } else {
@@ -159,7 +162,7 @@ impl Seen {
         if self.is_behind(moment) {
             return if stamps.is_start() && self.is_behind(command.earliest()) {
                 Mark::Sure
-            } else if self.is_tied(command) {
+            } else if self.is_tied(row) {
                 Mark::Doubtful
             } else {
                 Mark::Unsure
@@ -183,10 +186,10 @@ impl Seen {
     }
 
     // It, or one behind it in its row, waited for one of the row before it.
-    fn is_tied(&self, command: &Command) -> bool
-        ensures { result ≡ is_tied self.now command.now }
+    fn is_tied(&self, row: &Row) -> bool
+        ensures { result ≡ is_tied self.now row.now }
     {
-        command.wait <= u64::from(self.last.ended) + 1
+        row.wait <= u64::from(self.last.ended) + 1
     }
 
     /// The end of this build, if it began at `began`, or an earlier end if that isn't known.
@@ -251,11 +254,11 @@ fn is_moment_of(end: Option<Past>, moment: Option<u64>) -> bool
 }
 
 // When its build began, as borders go by it.
-fn told(stamps: Stamps, past: Option<Past>, command: &Command) -> Option<u64>
-    ensures value { result ≡ told stamps past command.now }
+fn told(stamps: Stamps, past: Option<Past>, command: &Command, row: &Row) -> Option<u64>
+    ensures value { result ≡ told stamps past command.now row.now }
 {
     match stamps {
-        Stamps::OfStart if command.tells() => Some(command.up),
+        Stamps::OfStart if command.tells() => Some(row.up),
         Stamps::OfEnd if is_after(past, command.latest()) => command.earliest(),
         _ => None,
     }
@@ -289,7 +292,8 @@ fn greatest(a: Option<u64>, b: Option<u64>) -> Option<u64>
     a.zip(b).map_or(a.or(b), |(x, y)| Some(x.max(y)))
 }
 
-/// The builds of commands, one behind another. The first command stands behind `place`, and `is_sure` is whether the border before it is.
+/// The builds of commands, one behind another, by what their rows tell. The first command stands behind `place`, and `is_sure` is whether the
+/// border before it is.
 pub(crate) fn walk(
     alloc: Global,
     order: Order,
@@ -297,20 +301,23 @@ pub(crate) fn walk(
     place: usize,
     is_sure: bool,
     commands: &[Command],
+    rows: &[Row],
 ) -> Result<Vec<Seen>, AllocError>
     requires room { place + length commands.now < 2 ^ 64 }
-    ensures value { IfOk result (λ found. found.items ≡ walk order stamps place is_sure commands.now) }
+    ensures value { IfOk result (λ found. found.items ≡ walk order stamps place is_sure commands.now rows.now) }
 {
     let mut found = Vec::new(alloc);
     let Some((start, later)) = commands.split_first() else {
         return Ok(found);
     };
     let mut to = place + 1;
-    let mut current = Seen::begun(stamps, to, is_sure, None, start);
+    let (row, mut rest) = split_row(start, rows);
+    let mut current = Seen::begun(stamps, to, is_sure, None, start, &row);
     for command in later {
         to += 1;
-        let moment = told(stamps, current.past, command);
-        let mark = current.mark(order, stamps, moment, command);
+        let (row, behind) = split_row(command, rest);
+        let moment = told(stamps, current.past, command, &row);
+        let mark = current.mark(order, stamps, moment, command, &row);
         if matches!(mark, Mark::Unsure | Mark::Sure) {
             found.push(current)?;
             // It tells of the next build only if they stand as Ninja wrote them.
@@ -318,10 +325,13 @@ pub(crate) fn walk(
                 Order::Written => current.end(current.began, current.past),
                 Order::ByMoment => None,
             };
-            current = Seen::begun(stamps, to, matches!(mark, Mark::Sure), past, command);
+            let is_sure = matches!(mark, Mark::Sure);
+            current = Seen::begun(stamps, to, is_sure, past, command, &row);
         } else {
-            current.add(stamps, to, matches!(mark, Mark::Doubtful), moment, command);
+            let is_doubtful = matches!(mark, Mark::Doubtful);
+            current.add(stamps, to, is_doubtful, moment, command, &row);
         }
+        rest = behind;
     }
     found.push(current)?;
     Ok(found)

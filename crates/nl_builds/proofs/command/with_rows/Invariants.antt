@@ -3,10 +3,10 @@ use Rattle.nl_builds.specs.Commands.{first_of, with_rows}
 use Rattle.nl_builds.proofs.RowLemmas.{rows_onto}
 use Rattle.nl_builds.proofs.command.with_rows.Given as goal
 
--- the commands behind a place are told
+-- those behind a place have theirs
 abbrev pub invariant-commands : goal.invariant-commands
 invariant-commands l = record {
-  told : rows_onto (take l.at l.found.items) (drop l.at l.found.items) ≡ with_rows l.fn.commands.items;
+  told : rows_onto (take l.at l.found.items) (drop l.at l.found.items) ≡ with_rows l.fn.rows.items;
   next : l.next ≡ first_of (drop l.at l.found.items);
   within : l.at ≤ length l.found.items;
 }

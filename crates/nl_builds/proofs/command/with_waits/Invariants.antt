@@ -1,12 +1,11 @@
-use Rattle.std.proofs.Common.{◌≡◌, ◌++◌, [], drop, length, take}
+use Rattle.std.proofs.Common.{◌≡◌, ◌++◌, [], drop}
 use Rattle.std.specs.List.Sorted.{IsNonDecreasing}
-use Rattle.nl_builds.specs.Commands.{with_waits}
+use Rattle.nl_builds.specs.Commands.{waits_from}
 use Rattle.nl_builds.proofs.command.with_waits.Given as goal
 
 -- the commands so far, and those of what is left
-abbrev pub invariant-loop-i : goal.invariant-loop-i
-invariant-loop-i l = record {
-  told : take l.i l.found.items ++ with_waits l.row.items (drop l.i l.found.items) ≡ with_waits [] l.fn.commands.items;
-  count : length l.found.items ≡ length l.fn.commands.items;
+abbrev pub invariant-loop-command : goal.invariant-loop-command
+invariant-loop-command l = record {
+  told : l.found.items ++ waits_from l.row.items (drop l.command-index l.commands) ≡ waits_from [] l.commands;
   rises : IsNonDecreasing l.row.items;
 }

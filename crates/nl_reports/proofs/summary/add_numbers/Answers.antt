@@ -18,7 +18,7 @@ loop-command-preserved c =
     let ds = c.commands_between-commands.result.now in
     let ws = c.loop-command.weights.items in
     let i = c.loop-command.command-index in
-    let no : Command = record { began = 0; ended = 0; mtime = pos 0; hash = 0; to = 0; up = 0; wait = 0; has_waited = false; is_manifest = false } in
+    let no : Command = record { began = 0; ended = 0; mtime = pos 0; hash = 0; to = 0; is_manifest = false } in
     let d = get_or ds i no in
     let f = weight (map span_of ds) in
     let rest = map f (map span_of (drop (i + 1) ds)) in

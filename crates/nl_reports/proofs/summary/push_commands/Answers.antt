@@ -18,7 +18,7 @@ loop-place-preserved c =
     let cs = spans_of (build_jobs t n) in
     let ds = c.commands_between-commands.result.now in
     let i = c.loop-place.place in
-    let no : Command = record { began = 0; ended = 0; mtime = pos 0; hash = 0; to = 0; up = 0; wait = 0; has_waited = false; is_manifest = false } in
+    let no : Command = record { began = 0; ended = 0; mtime = pos 0; hash = 0; to = 0; is_manifest = false } in
     let d = get_or ds i no in
     let within : i < length ds = omega (arith, c.loop-place-test.true, c.loop-place.auto.place-end) in
     let start = c.loop-place.start in
