@@ -1,8 +1,11 @@
 -- The line of a target: what stands before its last space.
 use Rattle.std.proofs.Common.{◌≡◌, ◌∙◌, ◌++◌, ◌∷◌, ◌&&◌, not, [], ℕ, List, Bool, true, false, Option, None, Some, refl, sym, ap, true≢false, append_assoc}
-use Rattle.std.proofs.Common.{Bor, arith, length, option_map}
-use Rattle.std.specs.Prelude.{◌==◌, IfSome, IsNone}
-use Rattle.std.proofs.lemmas.Bool.{eqb-true}
+use Rattle.std.proofs.Common.{Bor, ◌+◌, ◌-◌, ◌<◌, suc, arith, drop, get_or, inl, inr, length, option_map, take}
+use Rattle.std.specs.Prelude.{◌==◌, ◌≢◌, MatchOption}
+use Rattle.std.proofs.lemmas.Bool.{cases_Bool, eqb-true}
+use Rattle.std.proofs.lemmas.List.{get_or-drop, length-drop, take_all}
+use Rattle.memchr.specs.Find.{IsLastByte, is_byte}
+use Rattle.nl_fields.proofs.SearchLemmas.{split_there}
 use Rattle.nl_tool_texts.specs.Files.{OfBytes}
 use Rattle.nl_tool_change.specs.Files.{BadAt, Says, before_rule, begins_rule, cut_behind, has_no_space, manifest_of, said_by, some_said, target_on}
 
@@ -63,26 +66,41 @@ no_colon (b ∷ c ∷ front) rest e only =
 
 -- ---- what the search finds
 
-spaced_line : (line rest tail front : List ℕ) (last : ℕ) → line ≡ rest ++ tail → rest ≡ front ++ last ∷ [] → last ≡ 32
-    → line ≡ front ++ 32 ∷ tail
-spaced_line line rest tail front last e f g =
-    e ∙ ap (λ (n : List ℕ). n ++ tail) f ∙ append_assoc front (last ∷ []) tail ∙ ap (λ (b : ℕ). front ++ b ∷ tail) g
+no_space : (bytes : List ℕ) → ((k : ℕ) → k < length bytes → (get_or bytes k 0 == 32) ≡ true → ⊥) → has_no_space bytes ≡ true
+no_space [] none = refl
+no_space (b ∷ bytes) none = elim (cases_Bool (b == 32)) [
+  | inl space ↦ absurd (none 0 (omega arith) space)
+  | inr other ↦ rw other (no_space bytes (λ k within. none (suc k) (omega (arith, within))))
+]
 
--- a space, and what stands before it ends in a colon or doesn't
-pub cut_at : (line rest tail front : List ℕ) (last : ℕ) (o : Option (Bor (List ℕ))) → line ≡ rest ++ tail → rest ≡ front ++ last ∷ []
-    → last ≡ 32 → has_no_space tail ≡ true → IfSome o (λ t. front ≡ t.now ++ 58 ∷ [])
-    → (IsNone o → (t : List ℕ) → front ≡ t ++ 58 ∷ [] → ⊥) → option_map (λ (t : Bor (List ℕ)). t.now) o ≡ before_rule line
-cut_at line rest tail front last (Some t) e f g free found none =
-    let colon : front ++ 32 ∷ tail ≡ t.now ++ 58 ∷ 32 ∷ tail =
-    ap (λ (n : List ℕ). n ++ 32 ∷ tail) found ∙ append_assoc t.now (58 ∷ []) (32 ∷ tail) in
-    sym (ap before_rule (spaced_line line rest tail front last e f g ∙ colon) ∙ rule_cut t.now tail free)
-cut_at line rest tail front last None e f g free found none =
-    sym (ap before_rule (spaced_line line rest tail front last e f g) ∙ no_colon front tail free (none refl))
+-- the last space, and what stands before it ends in a colon or doesn't
+pub cut_at : (line : List ℕ) (at : ℕ) (o : Option (Bor (List ℕ))) → IsLastByte (is_byte 32) line (Some at)
+    → MatchOption o ((t : List ℕ) → take at line ≢ t ++ 58 ∷ []) (λ t. take at line ≡ t.now ++ 58 ∷ [])
+    → option_map (λ (t : Bor (List ℕ)). t.now) o ≡ before_rule line
+cut_at line at o last ends = go o ends
+  where
+    tail : List ℕ
+    tail = drop (at + 1) line
+
+    free : has_no_space tail ≡ true
+    free = no_space tail (λ k within space. last.0.after (at + 1 + k) (omega arith) (omega (arith, within, length-drop (at + 1) line))
+        (ap (λ (b : ℕ). b == 32) (sym (get_or-drop (at + 1) line k 0)) ∙ space))
+
+    spaced_line : line ≡ take at line ++ 32 ∷ tail
+    spaced_line = split_there line at 32 last.0.high (eqb-true (get_or line at 0) 32 last.1)
+        ∙ ap (λ (t : List ℕ). take at line ++ 32 ∷ t) (take_all (length line - (at + 1)) tail (omega (arith, length-drop (at + 1) line)))
+
+    go : (o : Option (Bor (List ℕ))) → MatchOption o ((t : List ℕ) → take at line ≢ t ++ 58 ∷ []) (λ t. take at line ≡ t.now ++ 58 ∷ [])
+        → option_map (λ (t : Bor (List ℕ)). t.now) o ≡ before_rule line
+    go (Some t) found =
+        let colon : take at line ++ 32 ∷ tail ≡ t.now ++ 58 ∷ 32 ∷ tail =
+        ap (λ (n : List ℕ). n ++ 32 ∷ tail) found ∙ append_assoc t.now (58 ∷ []) (32 ∷ tail) in
+        sym (ap before_rule (spaced_line ∙ colon) ∙ rule_cut t.now tail free)
+    go None none = sym (ap before_rule spaced_line ∙ no_colon (take at line) tail free none)
 
 -- there is no space at all
-pub uncut : (line rest tail : List ℕ) → line ≡ rest ++ tail → length rest ≡ 0 → has_no_space tail ≡ true → None ≡ before_rule line
-uncut line [] tail e empty free = sym (ap before_rule e ∙ no_rule tail free)
-uncut line (b ∷ rest) tail e empty free = absurd (omega (arith, empty))
+pub uncut : (line : List ℕ) → IsLastByte (is_byte 32) line None → None ≡ before_rule line
+uncut line none = sym (no_rule line (no_space line (λ k within. none k (omega arith) within)))
 
 -- ---- the file
 

@@ -1,5 +1,5 @@
 //! The files KEEP and TIMES, and the targets of a build.
-ghost use Rattle.std.specs.Prelude.{◌≡◌, ◌++◌, ◌∷◌, [], ℕ, List, IfOk, IfErr, IsErrAnd, IsNone, IsSome, IfSome, option_map};
+ghost use Rattle.std.specs.Prelude.{◌≡◌, ℕ, List, IfOk, IfErr, IsErrAnd, IsSome, option_map};
 ghost use Rattle.nl_table.specs.History.{holds};
 ghost use Rattle.nl_tool_change.specs.{Faults.{IsBadLine, IsFileFault}, Files.{IfBadLine, IfSaid, Says, before_rule, keep_of, manifest_of, name_on, pair_on, target_on}};
 ghost use Rattle.nl_tool_texts.specs.Files.{OfBytes};
@@ -8,6 +8,7 @@ use crate::change::ToolResult;
 use crate::line_fault::{LineFault, NumberFault, Told, number_fault};
 use crate::parts::{Part, read_parts};
 use crate::script::split_tab;
+use memchr::memrchr;
 use nl_fields::{Name, NameFault, read_i64};
 use nl_table::{NameSet, Secret};
 use nl_tool_texts::AllocResult;
@@ -104,24 +105,8 @@ impl Part for Target {
 fn before_rule(line: &[u8]) -> Option<&[u8]>
     ensures value { option_map (λ target. target.now) result ≡ before_rule line.now }
 {
-    let mut rest = line;
-    'bytes: while let Some((last, front)) = rest.split_last() {
-        if *last == b' ' {
-            return before_colon(front);
-        }
-        rest = front;
-    }
-    None
-}
-
-fn before_colon(bytes: &[u8]) -> Option<&[u8]>
-    ensures found { IfSome result (λ front. bytes.now ≡ front.now ++ 58 ∷ []) }
-    ensures none { IsNone result → (front : List ℕ) → bytes.now ≡ front ++ 58 ∷ [] → ⊥ }
-{
-    match bytes.split_last() {
-        Some((b':', front)) => Some(front),
-        _ => None,
-    }
+    let space = memrchr(b' ', line)?;
+    line[..space].strip_suffix(b":")
 }
 
 /// The targets of a build, as `ninja -t targets all` prints them. There must be one, because a Ninja that fails prints none. It takes the memory of the names.
