@@ -1,7 +1,6 @@
 //! What a line of `apply` asks for.
 ghost use Rattle.std.specs.Prelude.{◌++◌, ◌∷◌, ◌≢◌, codes, IfOk, IsErrAnd};
-ghost use Rattle.nl_session.specs.declared.events.Event.TheVariants.{Crash};
-ghost use Rattle.nl_tool_change.specs.{Replay.{KeepsSome, event_line}, declared.script.LineRefusal.{LineRefusal}, declared.asked.Asked.{Asked}, Applying.{Asks, BeginsBy, BeginsNone}};
+ghost use Rattle.nl_tool_change.specs.{declared.script.LineRefusal.{LineRefusal}, declared.asked.Asked.{Asked}, Applying.{Asks, BeginsBy, BeginsNone}};
 
 use crate::deed::Deed;
 use crate::files::why_no_name;
@@ -64,7 +63,10 @@ fn read_other(alloc: Global, secret: Secret, line: &[u8]) -> Asked<'_>
         },
         _ => match read_event_line(alloc, line) {
             Ok(Event::Crash) => Asked::Bad(LineFault::NoEvent),
-            Ok(event) => does(alloc, secret, event),
+            Ok(event) => match Deed::of(alloc, secret, event) {
+                Ok(deed) => Asked::Does(deed),
+                Err(_) => Asked::Unread,
+            },
             Err(LineRefusal::NoEvent | LineRefusal::BadLine) => Asked::Bad(why_none(line)),
             Err(LineRefusal::OutOfMemory) => Asked::Unread,
         },
@@ -86,17 +88,6 @@ fn why_none(line: &[u8]) -> LineFault {
         | b"table"
         | b"distrusted" => LineFault::Fields,
         _ => LineFault::NoEvent,
-    }
-}
-
-fn does(alloc: Global, secret: Secret, event: Event) -> Asked<'static>
-    requires no_crash { event ≢ Crash }
-    requires some { KeepsSome event }
-    ensures asks { Asks (event_line event) result }
-{
-    match Deed::of(alloc, secret, event) {
-        Ok(deed) => Asked::Does(deed),
-        Err(_) => Asked::Unread,
     }
 }
 
