@@ -1,7 +1,7 @@
 //! The entry that the words of `record` give.
 ghost use Rattle.std.specs.{Prelude.{◌≡◌, IfErr, IfOk, OnOk}, Int.{w32, w64}};
 ghost use Rattle.nl_fields.specs.Digits.{IsDecimal};
-ghost use Rattle.nl_tool_change.specs.RecordWords.{GiveEntry, IsEntryOf, IsNoNumber, IsWordFault, of_name_fault};
+ghost use Rattle.nl_tool_change.specs.RecordWords.{GiveEntry, IsEntryOf, IsNoNumber, IsToldOf, IsWordFault, of_name_fault};
 
 use crate::line_fault::{NumberFault, NumberOf, Told, WrongNumber, number_fault};
 use nl_fields::{EntryRef, NameFault, read_i32, read_i64};
@@ -21,14 +21,8 @@ pub fn entry_of<'a>(
 {
     let start_ms = time_of(start, NumberOf::Start, told)?;
     let end_ms = time_of(end, NumberOf::End, told)?;
-    let text = mtime.as_bytes();
-    let Some(mtime) = read_i64(text) else {
-        let why = number_fault(text, NumberFault::Past64, NumberFault::Past64);
-        return Err(told.refuse_number(WrongNumber {
-            which: NumberOf::Mtime,
-            nth: None,
-            why,
-        }));
+    let Some(mtime) = read_i64(mtime.as_bytes()) else {
+        return Err(no_number(mtime, NumberOf::Mtime, NumberFault::Past64, told));
     };
     match EntryRef::new(start_ms, end_ms, mtime, name.as_bytes(), 0) {
         Ok(entry) => Ok(entry),
@@ -40,15 +34,21 @@ fn time_of(text: &str, which: NumberOf, told: &mut Told) -> Result<i32, ToolFaul
     ensures value { IfOk result (λ n. IsDecimal n text.now) }
     ensures faults { IfErr result (IsNoNumber w32 text.now which told.new.number) }
 {
-    let text = text.as_bytes();
-    match read_i32(text) {
+    match read_i32(text.as_bytes()) {
         Some(number) => Ok(number),
-        None => Err(told.refuse_number(WrongNumber {
-            which,
-            nth: None,
-            why: number_fault(text, NumberFault::Past32, NumberFault::Past32),
-        })),
+        None => Err(no_number(text, which, NumberFault::Past32, told)),
     }
+}
+
+fn no_number(text: &str, which: NumberOf, past: NumberFault, told: &mut Told) -> ToolFault
+    ensures told { IsToldOf which told.new.number result }
+{
+    let why = number_fault(text.as_bytes(), past, past);
+    told.refuse_number(WrongNumber {
+        which,
+        nth: None,
+        why,
+    })
 }
 
 fn of_name_fault(fault: NameFault) -> ToolFault

@@ -11,7 +11,7 @@ returns-in-Err-clause-faults c = inr (
   },
   record {
     why = c.in-Err.fault;
-    has = subst (λ (bytes : List ℕ). HasFault bytes c.in-Err.fault) c.as_bytes.ensures.value c.in-Err.ensures.fault.0;
+    has = subst (λ (bytes : List ℕ). HasFault bytes c.in-Err.fault) c.as_bytes-2.ensures.value c.in-Err.ensures.fault.0;
     refused = c.in-Err.ensures.fault.1;
     is = c.of_name_fault.ensures;
   },
