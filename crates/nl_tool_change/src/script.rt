@@ -1,6 +1,6 @@
 //! Reading a script: what a folder in memory is told, and then the events.
 ghost use Rattle.std.specs.{Prelude.{◌≡◌, ◌↔◌, ◌<◌, ◌++◌, ◌∷◌, ◌^◌, ℕ, [], pos, Some, length, IfErr, IfOk, IfSome, IsErr, IsErrAnd, IsErrOf, IsSome, OnOk, flat_map}, List.{All as Each}};
-ghost use Rattle.nl_fields.specs.{Digits.{IsDecimal}, Fields.{HasNoTab}, EntryLine.{IsEntryLine, line_of}, Name.{IsName}, declared.name.NameFault.{NameFault}, declared.entry.Entry.{Entry}};
+ghost use Rattle.nl_fields.specs.{Digits.{IsDecimal}, Fields.{HasNoTab}, Name.{IsName}, declared.name.NameFault.{NameFault}, declared.entry.Entry.{Entry}};
 ghost use Rattle.nl_folder.specs.declared.fuse.Call.{Call};
 ghost use Rattle.nl_tool_change.specs.{Faults.{IsBadLine, IsFaultOfLine, IsScriptFault}, declared.script.LineRefusal.TheVariants.{OutOfMemory}, declared.script.Word.{Word}, Reading.{HoldsNames, IsLineOf, IsReadable, LacksMemory, SaysNames, SaysTimes, fields_of_event, word_of_event}, Replay.{IsScript, KeepsSome, NamesSome, SaysMore, TakesScriptLine, behind_tab, event_line, keep_fields, name_field, text_of_word, time_fields, word_of}};
 ghost use Rattle.nl_tool_texts.specs.Files.{OfBytes, file_lines};
@@ -98,9 +98,8 @@ pub fn read_script<R: Read + Drop>(alloc: Global, reader: R, told: &mut Told) ->
     'lines: loop {
         match lines.next(&mut source)? {
             Some(Line::Whole(line)) => script.take_line(alloc, line, number, told)?,
-            Some(Line::TooLong) => return Err(told.refuse(number, LineFault::LongLine)),
-            // It is too long to be lent.
-            Some(Line::Torn { bytes, .. }) if bytes.is_empty() => {
+            // A torn line that is too long to be lent is empty.
+            Some(Line::TooLong | Line::Torn { bytes: [], .. }) => {
                 return Err(told.refuse(number, LineFault::LongLine));
             }
             Some(Line::Torn { bytes, .. }) => {
@@ -215,7 +214,10 @@ fn read_event(alloc: Global, word: Word, rest: Option<&[u8]>) -> Result<Event, L
     match (word, rest) {
         (Word::Open, names) => Ok(Event::Open(read_kept(alloc, names)?)),
         (Word::Recompact, names) => Ok(Event::Recompact(read_kept(alloc, names)?)),
-        (Word::Record, Some(line)) => Ok(Event::Record(read_record(alloc, line)?)),
+        (Word::Record, Some(line)) => match read_entry(line) {
+            Some(entry) => Ok(Event::Record(Entry::of(alloc, &entry)?)),
+            None => Err(LineRefusal::BadLine),
+        },
         (Word::Restat, pairs) => Ok(Event::Restat(read_times(alloc, pairs)?)),
         (Word::Sync, None) => Ok(Event::Sync),
         (Word::Stop, None) => Ok(Event::Stop),
@@ -268,16 +270,6 @@ fn read_times(alloc: Global, text: Option<&[u8]>) -> Result<Vec<(Name, i64)>, Li
         left = rest;
     }
     Ok(pairs)
-}
-
-fn read_record(alloc: Global, line: &[u8]) -> Result<Entry, LineRefusal>
-    ensures line { IfOk result (λ e. line_of e ≡ line.now) }
-    ensures accepts { (e : Entry) → IsEntryLine e line.now → IfErr result LacksMemory }
-{
-    let Some(entry) = read_entry(line) else {
-        return Err(LineRefusal::BadLine);
-    };
-    Ok(Entry::of(alloc, &entry)?)
 }
 
 fn read_numbers(alloc: Global, text: &[u8]) -> Result<Vec<u64>, LineRefusal> {

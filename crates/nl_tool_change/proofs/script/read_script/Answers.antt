@@ -15,15 +15,15 @@ lines-init g c = record {
   fits = rw c.in_ok-lines.ensures.value (omega arith);
 }
 
-pub returns-in-Some-Torn-2-clause-value : goal.returns-in-Some-Torn-2-clause-value
-returns-in-Some-Torn-2-clause-value g c =
+pub returns-in-Some-Torn-clause-value : goal.returns-in-Some-Torn-clause-value
+returns-in-Some-Torn-clause-value g c =
     let h = rw (c.in_ok-line.was, c.in-Some-Torn.is, c.in-Some-Torn.field-0-is) at c.next.follows.holds-at-none in
     let bytes = c.in-Some-Torn.bytes.now in
-    let events = c.take_line-in-Some-Torn-2.new.self.events.items in
+    let events = c.take_line-in-Some-Torn.new.self.events.items in
     let some : 0 < length bytes = grind (arith, common_steps) in
     subst (λ a. OfBytes a (λ read. IsScript (file_lines read) events)) c.new-source.ensures.ahead
     (Scripted_rest _ _ _ _ c.lines.invariant.scripted _ _ h.0 events h.1
-    (subst (TakesScriptLine c.lines.script.events.items events) (lent_whole h.0 bytes h.5 some) c.in_ok-take_line-in-Some-Torn-2.ensures.ok))
+    (subst (TakesScriptLine c.lines.script.events.items events) (lent_whole h.0 bytes h.5 some) c.in_ok-take_line-in-Some-Torn.ensures.ok))
 
 pub returns-in-None-clause-value : goal.returns-in-None-clause-value
 returns-in-None-clause-value g c =
