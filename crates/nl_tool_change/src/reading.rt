@@ -43,10 +43,8 @@ pub fn read_log<F: Folder>(alloc: Global, folder: F) -> (F, ToolResult<Vec<u8>>)
 {
     let mut reader = LogReader::new(folder);
     reader.begin_load();
-    match read_all(alloc, &mut reader) {
-        Ok(bytes) => (reader.folder, Ok(bytes)),
-        Err(why) => (reader.folder, Err(of_log_fault(why.into()))),
-    }
+    let read = read_all(alloc, &mut reader).map_err(|why| of_log_fault(why.into()));
+    (reader.folder, read)
 }
 
 /// Which outputs of the log in a folder can't be trusted, by a read of all of it, while the folder stays as it is.
