@@ -1,15 +1,15 @@
 //! The command `replay`.
 ghost use Rattle.std.specs.Prelude.{◌≡◌, [], true, false, Some, IfErr, IfOk, IsErrAnd, IsSome};
 ghost use Rattle.nl_folder.specs.MemFolder.{durable_view, mem_view_of, failure_count, choices_of};
-ghost use Rattle.nl_tool_change.specs.{Faults.{IsBadLine, IsReplayFault}, Replay.{IsReplayOf, IsReplayText, printed, told_by}};
+ghost use Rattle.nl_tool_change.specs.{Faults.{IsBadLine, IsReplayFault}, Replay.{IsReplayOf, IsReplayText, told_by}};
 ghost use Rattle.nl_tool_texts.specs.Output.{Prints};
 
 use crate::answers::append_reply;
 use crate::line_fault::Told;
 use crate::script::{Script, read_script};
 use nl_folder::MemFolder;
-use nl_session::{Event, Outcome, Reply, run_events};
-use nl_tool_texts::{AllocResult, ToolFault, write_out};
+use nl_session::{Event, Outcome, run_events};
+use nl_tool_texts::{AllocResult, ToolFault, append_with, write_out};
 use std::alloc::{AllocError, Global};
 use std::io::{Read, Write};
 
@@ -47,20 +47,16 @@ fn run_script(alloc: Global, script: Script) -> AllocResult<Vec<u8>>
     let (folder, events) = set_up(alloc, script);
     let (folder, replies, outcome) = run_events(alloc, folder, &events);
     match outcome {
-        Outcome::Whole => text_of(alloc, &replies, folder.log_bytes()),
-        Outcome::OutOfMemory { .. } => Err(AllocError),
+        Outcome::Whole => {}
+        Outcome::OutOfMemory { .. } => return Err(AllocError),
     }
-}
-
-fn text_of(alloc: Global, replies: &[Reply], log: &[u8]) -> AllocResult<Vec<u8>>
-    ensures value { IfOk result (λ text. text.items ≡ printed replies.now log.now) }
-{
+    let log = folder.log_bytes();
     let mut text = Vec::new(alloc);
-    for reply in replies {
+    for reply in &replies {
         append_reply(*reply, &mut text)?;
     }
-    let line = format!(in alloc; "log {}\n", log.len())?;
-    text.extend_from_slice(line.as_bytes())?;
+    append_with(b"log ", log.len(), &mut text)?;
+    text.push(b'\n')?;
     text.extend_from_slice(log)?;
     Ok(text)
 }
