@@ -1,7 +1,7 @@
 //! When the builds of a log's lines began, in whole milliseconds.
-ghost use Rattle.std.specs.{Prelude.{◌≡◌, ◌<◌, ◌≤◌, ◌++◌, ◌^◌, IfOk, OnOk, map, filter}, List.{list_all}};
+ghost use Rattle.std.specs.{Prelude.{◌≡◌, ◌<◌, ◌≤◌, ◌^◌, IfOk, filter}, List.{list_all}};
 ghost use Rattle.nl_builds.specs.Commands.{moment};
-ghost use Rattle.nl_tool_doubt.specs.{Known.{end_span, line_of, start_span}, Moments.{begun, is_sure, is_whole, length_of, lines_that_tell, nearest, tells, tick_of}};
+ghost use Rattle.nl_tool_doubt.specs.{Known.{line_of}, Moments.{begun, is_sure, is_whole, length_of, lines_that_tell, nearest, tells, tick_of}};
 
 use crate::spans::{Span, greatest_up_to, least_from, merged, rising, summed, within};
 use nl_builds::Stamps;
@@ -93,7 +93,13 @@ impl<'a> Moments<'a> {
         let mut starts = Vec::new(alloc);
         let lines = lines_of(stamps, entries.as_slice());
         let is_coarse = are_whole(lines);
-        add_spans(lines, &mut ends, &mut starts)?;
+        for entry in lines {
+            if tells(entry) {
+                let line = Line::of(entry);
+                ends.push(Span::one(line.at, line.lo))?;
+                starts.push(Span::one(line.m, length_of(entry)))?;
+            }
+        }
         let bounds = summed(alloc, rising(ends).as_slice())?;
         let starts = merged(alloc, rising(starts).as_slice())?;
         Ok(Moments {
@@ -160,18 +166,4 @@ fn are_whole(lines: &[EntryRef]) -> bool
 {
     let mut telling = lines.iter().filter(|line| tells(line));
     telling.all(|line| line.mtime.unsigned_abs() % SECOND == 0)
-}
-
-fn add_spans(lines: &[EntryRef], ends: &mut Vec<Span>, starts: &mut Vec<Span>) -> AllocResult
-    ensures ends { OnOk result (ends.new.items ≡ ends.old.items ++ map end_span (filter tells lines.now)) }
-    ensures starts { OnOk result (starts.new.items ≡ starts.old.items ++ map start_span (filter tells lines.now)) }
-{
-    for entry in lines {
-        if tells(entry) {
-            let line = Line::of(entry);
-            ends.push(Span::one(line.at, line.lo))?;
-            starts.push(Span::one(line.m, length_of(entry)))?;
-        }
-    }
-    Ok(())
 }
