@@ -13,7 +13,7 @@ use nl_distrust::laws::a_whole_log_is_trusted;
 use nl_distrust::{distrusted, is_whole};
 use nl_fields::{Entry, EntryRef};
 use nl_table::{LoadFault, Secret, Table};
-use nl_tool_texts::{AllocResult, ToolFault, write_out};
+use nl_tool_texts::{AllocResult, Part, ToolFault, append_line, write_out};
 use nl_versions::lines_version;
 use std::alloc::Global;
 use std::io::Write;
@@ -161,22 +161,14 @@ pub fn write_doubts<W: Write>(
     ensures memory { IsErrOf result ToolFault.Memory → Keeps (W.contents writer.old) (W.contents writer.new) }
     ensures faults { IfErr result (λ e. (e ≡ ToolFault.Write) ⊎ (e ≡ ToolFault.Memory)) }
 {
-    let text = text_of(alloc, named)?;
-    write_out(text.as_slice(), writer)?;
-    Ok(!named.is_empty())
-}
-
-fn text_of(alloc: Global, named: &[Doubted]) -> AllocResult<Vec<u8>>
-    ensures value { IfOk result (λ text. text.items ≡ flat_map doubt_line named.now) }
-{
     let mut text = Vec::new(alloc);
     for it in named {
-        text.extend_from_slice(word_of(it.why).as_bytes())?;
-        text.push(b'\t')?;
-        text.extend_from_slice(it.entry.name.bytes())?;
-        text.push(b'\n')?;
+        let word = Part::Text(word_of(it.why).as_bytes());
+        let name = Part::Text(it.entry.name.bytes());
+        append_line(&[word, name], &mut text)?;
     }
-    Ok(text)
+    write_out(text.as_slice(), writer)?;
+    Ok(!named.is_empty())
 }
 
 /// How a line of it begins.
