@@ -1,13 +1,14 @@
 -- A mend of a log, by the answers of what it calls.
 use Rattle.std.proofs.Common.{◌≡◌, ◌≢◌, ◌∙◌, ◌↔◌, inl, inr, [], refl, sym, subst, List, ℕ, Result, Ok, Err}
-use Rattle.std.specs.Prelude.{Bool, true, false, Option, None, Some}
-use Rattle.std.specs.Io.KnownBytes.{Keeps}
+use Rattle.std.specs.Prelude.{Bool, true, false, Option, None, Some, IfErr, OnErr, OnOk}
+use Rattle.std.specs.Io.KnownBytes.{Appends, Keeps}
 use Rattle.std.proofs.lemmas.List.{append-nil}
 use Rattle.nl_folder.specs.DiskState.{Disk}
 use Rattle.nl_folder.specs.FolderView.{FolderView}
 use Rattle.nl_versions.specs.LogAs.{is_barred}
 use Rattle.nl_versions.specs.VersionOf.{version_of}
 use Rattle.nl_versions.proofs.VersionOfLemmas.{named_free}
+use Rattle.nl_tool_texts.specs.Output.{AppendsPrefixOf}
 use Rattle.nl_tool_texts.specs.declared.fault.ToolFault.{ToolFault}
 use Rattle.nl_tool_texts.specs.declared.fault.ToolFault.TheVariants.{Write, Elsewhere}
 use Rattle.nl_tool_change.specs.Calls.{IsFree}
@@ -23,10 +24,6 @@ use Rattle.nl_tool_doubt.specs.declared.mending.Said.{Said}
 pub keeps_same : (known : Option (List ℕ)) → Keeps known known
 keeps_same None = tt
 keeps_same (Some bytes) = refl
-
-pub is_true : (b : Bool) → (b ≡ false → ⊥) → b ≡ true
-is_true true other = refl
-is_true false other = absurd (other refl)
 
 -- a log that has these bytes isn't barred as one of the version that they name
 pub free_as_named : (disk : Option Disk) (log : List ℕ) → IsIn disk log → IsFree disk (version_of log)
@@ -44,6 +41,22 @@ said_failed {log} {said} {known} {old} {new} fault recorded due call =
       mends = record { mended = λ _ done. absurd (unwritten done); stays = λ no. absurd (cc (due, no)); refused = inr (inr call) };
       here = λ is. let same : fault ≡ Elsewhere = cc is in subst IsRecordFault same recorded;
     }
+
+-- what was made of the log stands, whatever the writer answers
+pub said_written : {log : List ℕ} {said : Said} {from to : Option (List ℕ)} {old new : FolderView} (r : Result (Unit {0}) ToolFault)
+    (text : List ℕ) → text ≡ said.text.items → OnOk r (Appends from to text) → OnErr r (AppendsPrefixOf from to text)
+    → IfErr r (λ fault. fault ≡ Write) → (said.is_due ≡ true → MendsLogAs (version_of log) said.names.items (Ok tt) old new)
+    → (said.is_due ≡ false → new ≡ old) → MendsSaid log said from to r old new
+said_written {from = from} {to = to} (Ok done) text is all part faults mended stays = record {
+  writes = record { all = subst (Appends from to) is all; part = λ fails. absurd (cc fails); none = λ other. absurd (other tt) };
+  mends = record { mended = λ due _. mended due; stays = stays; refused = tt };
+  here = λ fails. absurd (cc fails);
+}
+said_written {from = from} {to = to} (Err fault) text is all part faults mended stays = record {
+  writes = record { all = tt; part = λ _. subst (AppendsPrefixOf from to) is part; none = λ other. absurd (other faults) };
+  mends = record { mended = λ due _. mended due; stays = stays; refused = inl faults };
+  here = λ fails. absurd (cc (faults, fails));
+}
 
 -- ---- the mend
 

@@ -14,7 +14,7 @@ use nl_folder::Folder;
 use nl_session::is_intent;
 use nl_table::Secret;
 use nl_tool_change::{FoundFolder, mend_on, read_log};
-use nl_tool_texts::{AllocResult, ToolFault, write_out};
+use nl_tool_texts::{AllocResult, Part, ToolFault, append_line, write_out};
 use nl_versions::{lines_version, version_of};
 use std::alloc::Global;
 use std::io::Write;
@@ -116,10 +116,9 @@ fn said_of(alloc: Global, log: &[u8], doubts: &Doubts, how: How) -> AllocResult<
         let Some(cause) = cause_of(it) else {
             continue;
         };
-        text.extend_from_slice(word_of(cause).as_bytes())?;
-        text.push(b'\t')?;
-        text.extend_from_slice(it.entry.name.bytes())?;
-        text.push(b'\n')?;
+        let word = Part::Text(word_of(cause).as_bytes());
+        let name = Part::Text(it.entry.name.bytes());
+        append_line(&[word, name], &mut text)?;
         if how.all || !matches!(cause, Doubt::Unsure) {
             names.push(it.entry.name.copy(alloc)?)?;
         }
@@ -189,32 +188,17 @@ fn mend_said<D: Folder, W: Write>(
         result.1 (folder_view D.Folder folder) (folder_view D.Folder result.0) }
     ensures faults { IfErr result.1 IsMendFault }
 {
-    let (folder, changed) = change_if_due(alloc, secret, folder, log, said);
-    match changed {
-        Ok(()) => (folder, write_out(said.text.as_slice(), writer)),
-        Err(fault) => (folder, Err(fault)),
-    }
-}
-
-fn change_if_due<D: Folder>(
-    alloc: Global,
-    secret: Secret,
-    folder: D,
-    log: &[u8],
-    said: &Said,
-) -> (D, Result<(), ToolFault>)
-    ensures call { said.now.is_due ≡ true → IsIn (D.disk folder) log.now → MendsLogAs (version_of log.now) said.now.names.items result.1
-        (folder_view D.Folder folder) (folder_view D.Folder result.0) }
-    ensures stays { said.now.is_due ≡ false → (result.0 ≡ folder) × (result.1 ≡ Ok tt) }
-    ensures faults { IfErr result.1 IsRecordFault }
-{
     if !said.is_due {
-        return (folder, Ok(()));
+        return (folder, write_out(said.text.as_slice(), writer));
     }
     let place = FoundFolder {
         secret,
         version: version_of(log),
         folder,
     };
-    mend_on(alloc, place, said.names.as_slice())
+    let (folder, changed) = mend_on(alloc, place, said.names.as_slice());
+    match changed {
+        Ok(()) => (folder, write_out(said.text.as_slice(), writer)),
+        Err(fault) => (folder, Err(fault)),
+    }
 }
