@@ -6,3 +6,4 @@ pub mod OsSystem
 pub mod Notes
 pub mod Failure
 pub mod Renewal
+pub mod Looks

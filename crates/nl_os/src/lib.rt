@@ -4,15 +4,19 @@
 mod disk_folder;
 mod failed_call;
 mod file_id;
+mod looks;
 mod os_system;
 mod paths;
 mod renewal;
 mod rights;
 mod system_file;
+mod telling;
 mod wait;
 
 pub use disk_folder::DiskFolder;
 pub use failed_call::{FailedCall, Failure, FileRole, SystemCall};
+pub use looks::{Look, escaped_of, look_of};
 pub use os_system::OsSystem;
 pub use paths::folder_part;
 pub use system_file::SystemFile;
+pub use telling::{Telling, Waiting};
