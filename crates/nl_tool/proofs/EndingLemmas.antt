@@ -26,7 +26,7 @@ names_finding : (w : Words) (entered : Option (Text × List Row)) → IsSaid w e
 names_finding w None said asks = absurd (subst CanFind said asks)
 names_finding (Read Damage log choices) (Some p) said asks = inl (sym said.0)
 names_finding (Read Doubt log choices) (Some p) said asks = inr (inl (sym said.0))
-names_finding (Mend log folder dry_run all) (Some p) said asks = inr (inr (inl (sym said.0)))
+names_finding (Mend log choices) (Some p) said asks = inr (inr (inl (sym said.0)))
 names_finding (Change Prune log file) (Some p) said asks = inr (inr (inr (inl (sym said.0))))
 names_finding (Change Retime log file) (Some p) said asks = inr (inr (inr (inr (sym said.0))))
 names_finding _ (Some p) said asks = absurd asks

@@ -78,17 +78,14 @@ has_text (Read Picture log choices) told (inl (inl h)) = absurd h
 has_text (Read Picture log choices) told (inl (inr h)) =
     of_told (Read Picture log choices) told number.Build h.0.1 (some_build choices.all choices.build h.1)
 has_text (Read Picture log choices) told (inr h) = absurd (no_graph choices.graph h)
-has_text (Compare old new lines least) told (inl h) = absurd h
-has_text (Compare old new lines least) told (inr (inl h)) = of_told (Compare old new lines least) told number.Lines h.0.1 (some_most lines h.1)
-has_text (Compare old new lines least) told (inr (inr h)) = of_told (Compare old new lines least) told number.Least h.0.1 (some_least least h.1)
-has_text (Record log start end mtime name command) told (inl (inl (inl h))) =
-    of_told (Record log start end mtime name command) told number.Start h.0.1 refl
-has_text (Record log start end mtime name command) told (inl (inl (inr (inl h)))) =
-    of_told (Record log start end mtime name command) told number.End h.1.0.1 refl
-has_text (Record log start end mtime name command) told (inl (inl (inr (inr h)))) =
-    of_told (Record log start end mtime name command) told number.Mtime h.2.0.1 refl
-has_text (Record log start end mtime name command) told (inl (inr h)) = absurd (no_name h.1.why h.1.is)
-has_text (Record log start end mtime name command) told (inr h) = absurd h.1
+has_text (Compare old new choices) told (inl h) = absurd h
+has_text (Compare old new choices) told (inr (inl h)) = of_told (Compare old new choices) told number.Lines h.0.1 (some_most choices.lines h.1)
+has_text (Compare old new choices) told (inr (inr h)) = of_told (Compare old new choices) told number.Least h.0.1 (some_least choices.least h.1)
+has_text (Record entry) told (inl (inl (inl h))) = of_told (Record entry) told number.Start h.0.1 refl
+has_text (Record entry) told (inl (inl (inr (inl h)))) = of_told (Record entry) told number.End h.1.0.1 refl
+has_text (Record entry) told (inl (inl (inr (inr h)))) = of_told (Record entry) told number.Mtime h.2.0.1 refl
+has_text (Record entry) told (inl (inr h)) = absurd (no_name h.1.why h.1.is)
+has_text (Record entry) told (inr h) = absurd h.1
 has_text (Recompact log keep) told h = absurd h
 has_text (Restat log times) told h = absurd h
 has_text (Change Prune log file) told h = absurd h
@@ -96,5 +93,5 @@ has_text (Change Retime log file) told h = absurd h
 has_text (Change Repair log file) told (inl h) = absurd (cc)
 has_text (Change Repair log file) told (inr h) = absurd h
 has_text (Change Apply log file) told h = absurd h
-has_text (Mend log folder dry_run all) told h = absurd h
+has_text (Mend log choices) told h = absurd h
 has_text (Replay script) told h = absurd h

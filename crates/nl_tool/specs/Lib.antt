@@ -4,5 +4,4 @@ pub mod Reports
 pub mod Faults
 pub mod Meant
 pub mod Ending
-pub mod Looks
 pub mod Reasons

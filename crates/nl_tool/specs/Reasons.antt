@@ -17,7 +17,7 @@ use Rattle.nl_tool.specs.declared.reason.Place.TheVariants as at
 use Rattle.nl_tool.specs.declared.reason.Reason.{Reason}
 use Rattle.nl_tool.specs.declared.reason.Reason.TheVariants.{System, Full, Locked, Unsynced, Masked, Missing, Again, Line, Negative, Early, Version, Looks, Begins, Number, OtherBuild, NoBytes, Tab, Newline, Long}
 use Rattle.nl_tool.specs.declared.notes.Notes.{Notes}
-use Rattle.nl_tool.specs.Looks.{look_of, look_text, start_text}
+use Rattle.nl_os.specs.Looks.{look_of, look_text, start_text}
 use Rattle.nl_tool_change.specs.LineFaults.{line_fault_text, number_fault_text, number_name}
 use Rattle.nl_tool_change.specs.declared.line_fault.NumberOf.{NumberOf}
 use Rattle.nl_tool_change.specs.declared.line_fault.NumberOf.TheVariants as numbered
@@ -109,12 +109,12 @@ read_place (Check log) = Some (given_or_input (at.OfLog file.Log) log)
 read_place (Hash command) = None
 read_place (HashFile file) = Some (given_or_input at.Command file)
 read_place (Read what log choices) = Some (given_or_input (at.OfLog file.Log) log)
-read_place (Compare old new lines least) = None
-read_place (Record log start end mtime name command) = None
+read_place (Compare old new choices) = None
+read_place (Record entry) = None
 read_place (Recompact log keep) = Some (at.Keep keep)
 read_place (Restat log times) = Some (at.Times times)
 read_place (Change what log file) = Some (change_place what log file)
-read_place (Mend log folder dry_run all) = Some (mended_place log folder file.Log)
+read_place (Mend log choices) = Some (mended_place log choices.folder file.Log)
 read_place (Replay script) = Some (given_or_input at.Script script)
 
 -- a file of the log that the words change, or what they read a log from
@@ -124,23 +124,18 @@ log_place (Check log) file = read_place (Check log)
 log_place (Hash command) file = None
 log_place (HashFile path) file = None
 log_place (Read what log choices) file = read_place (Read what log choices)
-log_place (Compare old new lines least) file = None
-log_place (Record log start end mtime name command) file = Some (at.OfLog file log)
+log_place (Compare old new choices) file = None
+log_place (Record entry) file = Some (at.OfLog file entry.log)
 log_place (Recompact log keep) file = Some (at.OfLog file log)
 log_place (Restat log times) file = Some (at.OfLog file log)
 log_place (Change what log beside) file = Some (at.OfLog file log)
-log_place (Mend log folder dry_run all) file = Some (mended_place log folder file)
+log_place (Mend log choices) file = Some (mended_place log choices.folder file)
 log_place (Replay script) file = None
 
 -- a folder can't be synced
 abbrev pub IsUnsynced : Reason → Type 0
 IsUnsynced (Unsynced text) = ⊤
 IsUnsynced _ = ⊥
-
--- an access control list may be gone
-abbrev pub IsMasked : Reason → Type 0
-IsMasked Masked = ⊤
-IsMasked _ = ⊥
 
 -- the file of a graph, or standard input
 abbrev pub graph_file : Bor (List ℕ) → Option (Bor (List ℕ))
@@ -153,7 +148,7 @@ with_graph (Some graph) true words = HashFile (graph_file graph)
 with_graph _ _ words = words
 
 abbrev pub words_heard : Words → Bool → Words
-words_heard (Compare old new lines least) is_second = Show (Some (if is_second then new else old))
+words_heard (Compare old new choices) is_second = Show (Some (if is_second then new else old))
 words_heard (Read what log choices) is_second = with_graph choices.graph is_second (Read what log choices)
 words_heard words is_second = words
 
@@ -194,14 +189,14 @@ IsLookAt bytes _ = ⊥
 
 -- the text of a number of these words, where they have one
 abbrev pub number_text : Words → NumberOf → Option (Bor (List ℕ))
-number_text (Record log start end mtime name command) numbered.Start = Some start
-number_text (Record log start end mtime name command) numbered.End = Some end
-number_text (Record log start end mtime name command) numbered.Mtime = Some mtime
+number_text (Record entry) numbered.Start = Some entry.start
+number_text (Record entry) numbered.End = Some entry.end
+number_text (Record entry) numbered.Mtime = Some entry.mtime
 number_text (Read what log choices) numbered.Lines = choices.lines
 number_text (Read what log choices) numbered.Build = choices.build
 number_text (Read what log choices) numbered.Jobs = choices.jobs
-number_text (Compare old new lines least) numbered.Lines = lines
-number_text (Compare old new lines least) numbered.Least = least
+number_text (Compare old new choices) numbered.Lines = choices.lines
+number_text (Compare old new choices) numbered.Least = choices.least
 number_text _ _ = None
 
 -- of the number that was refused the words have the text
@@ -220,7 +215,7 @@ IsByteAt place (Newline at) = at ≡ place
 IsByteAt place _ = ⊥
 
 abbrev pub IsLongNameOf : Words → Why → Type 0
-IsLongNameOf (Record log start end mtime name command) why = (why.place ≡ at.Name) × (why.reason ≡ Long (length name.now))
+IsLongNameOf (Record entry) why = (why.place ≡ at.Name) × (why.reason ≡ Long (length entry.name.now))
 IsLongNameOf _ why = ⊥
 
 -- the reason is this line
@@ -253,6 +248,8 @@ IsReasonFor words fault.Memory notes why = ⊥
 IsReasonFor words fault.OtherGraph notes why = (read_place words ≡ Some why.place) × (why.reason ≡ OtherBuild)
 IsReasonFor words fault.Elsewhere notes why = ⊥
 
--- the note is said only of a log that was missing
-abbrev pub IsNoteFor : Words → Bool → Why → Type 0
-IsNoteFor words missing note = (log_place words file.Log ≡ Some note.place) × (note.reason ≡ Missing) × (missing ≡ true)
+-- a note of this file, by this reason: it is said only if that holds, and always if the words have such a file, too
+pub record IsNote (holds : Bool) (place : Option Place) (reason : Reason) (note : Option Why) : Type 0 where
+  pub none : holds ≡ false → note ≡ None
+  pub said : IfSome note (λ why. (place ≡ Some why.place) × (why.reason ≡ reason))
+  pub whenever : holds ≡ true → IsSome place → IsSome note

@@ -5,53 +5,48 @@ ghost use Rattle.nl_tool_change.specs.{Applying.{IsApplied}, Calls.{ChangesLogFo
 ghost use Rattle.nl_tool_doubt.specs.There.{AddsFor, KeepsMost, pair_by};
 ghost use Rattle.nl_tool_print.specs.Faults.{IsLogFault};
 ghost use Rattle.nl_versions.specs.LogAs.{log_for};
-ghost use Rattle.nl_tool.specs.{Answers.{RefusesLog}, Faults.{IsPruneFault, IsRepairFault, IsSettlingFault, IsTargetsFault}};
+ghost use Rattle.nl_tool.specs.{Answers.{RefusesLog}, Faults.{IsPruneFault, IsRepairFault, IsSettlingFault}};
 ghost use Rattle.nl_tool_texts.specs.declared.fault.ToolFault.{ToolFault};
 
-use crate::desk::{Desk, ToolResult, close};
+use crate::desk::{At, Desk, Disk, Host, ToolResult, close};
 use crate::doubting::SystemFiles;
 use crate::notes::{NotedReader, NotedWriter, Notes};
-use crate::printing::Streaming;
+use crate::printing::Printing;
 use crate::program::Verdict;
 use crate::reason::{Place, Reason, Why};
 use nl_fields::{EntryRef, Name};
 use nl_folder::Folder;
-use nl_os::{DiskFolder, Failure, FileRole, SystemFile};
+use nl_os::{DiskFolder, Failure, FileRole};
 use nl_session::first_negative;
 use nl_table::Secret;
 use nl_tool_change::{
-    AskedFolder, Hears, LineFault, LogPlace, apply_on, entry_of, read_manifest, recompact_on,
-    record_command, repair_on, restat_on, retime_on,
+    Hears, LineFault, LogPlace, apply_on, entry_of, read_manifest, recompact_on, record_command,
+    repair_on, restat_on, retime_on,
 };
 use nl_tool_doubt::{OutputFiles, names_there, times_there};
 use nl_tool_print::load_read;
 use nl_tool_texts::ToolFault;
+use nl_tool_words::NewEntry;
 use nl_versions::LogVersion;
 use std::alloc::Global;
 use std::io::{self, Read};
-use std::rt::{Clock, Files, Runtime};
 
-impl<R: Runtime> Desk<'_, R>
-where
-    R::File: SystemFile,
-{
+impl<R: Host> Desk<'_, R> {
     // It refuses bad words before it asks anything of the log.
-    pub fn record_in(
-        &mut self,
-        log: &str,
-        start: &str,
-        end: &str,
-        mtime: &str,
-        name: &str,
-        command: &str,
-    ) -> ToolResult
-        ensures accepts { OnOk result (GiveEntry start.now end.now mtime.now name.now) }
-        ensures faults { IfErr result (IsEntryFault start.now end.now mtime.now name.now self.new.notes.told.number) }
+    pub fn record_in(&mut self, given: NewEntry<'_>) -> ToolResult
+        ensures accepts { OnOk result (GiveEntry given.entry.start.now given.entry.end.now given.entry.mtime.now given.entry.name.now) }
+        ensures faults { IfErr result (IsEntryFault given.entry.start.now given.entry.end.now given.entry.mtime.now given.entry.name.now
+            self.new.notes.told.number) }
     {
-        let entry = entry_of(start, end, mtime, name, &mut self.notes.told)?;
-        self.note_missing(log);
-        let place = self.log_at(log)?;
-        record_at(self.alloc, place, entry, command, &mut self.notes)
+        let told = &mut self.notes.told;
+        let entry = entry_of(given.start, given.end, given.mtime, given.name, told)?;
+        self.note_missing(given.log);
+        record_at(
+            self.log_at(given.log)?,
+            entry,
+            given.command,
+            &mut self.notes,
+        )
     }
 
     pub fn recompact_in(&mut self, log: &str, keep: &str) -> ToolResult
@@ -59,8 +54,7 @@ where
     {
         let names = self.open(keep)?;
         self.note_missing(log);
-        let place = self.log_at(log)?;
-        recompact_at(self.alloc, place, names, &mut self.notes)
+        recompact_at(self.log_at(log)?, names, &mut self.notes)
     }
 
     pub fn restat_in(&mut self, log: &str, times: &str) -> ToolResult
@@ -68,61 +62,39 @@ where
     {
         let pairs = self.open(times)?;
         self.note_missing(log);
-        let place = self.log_at(log)?;
-        restat_at(self.alloc, place, pairs, &mut self.notes)
+        restat_at(self.log_at(log)?, pairs, &mut self.notes)
     }
 
     pub fn apply_in(&mut self, log: &str, script: Option<&str>) -> ToolResult
         ensures faults { IfErr result IsApplyFault }
     {
-        let Desk { rt, alloc, .. } = *self;
-        let Some(path) = script else {
-            let place = self.log_at(log)?;
-            return apply_at(rt, alloc, place, rt.reader(), Place::Input, &mut self.notes);
-        };
-        let lines = self.open(path)?;
-        let (place, script) = (self.log_at(log)?, Place::Script(path));
-        apply_at(rt, alloc, place, lines, script, &mut self.notes)
+        let lines = self.given(script, false)?;
+        let place = script.map_or(Place::Input, Place::Script);
+        apply_at(self.rt, self.log_at(log)?, lines, place, &mut self.notes)
     }
 
     pub fn repair_in(&mut self, log: &str) -> ToolResult
         ensures faults { IfErr result IsRepairFault }
     {
         self.look_there(log, self.missing_ok)?;
-        let place = self.log_at(log)?;
-        repair_at(self.alloc, place, &mut self.notes)
+        repair_at(self.log_at(log)?, &mut self.notes)
     }
 
     // It reads all targets before it asks anything of LOG.
     pub fn prune_in(&mut self, log: &str, path: Option<&str>) -> ToolResult<Verdict>
         ensures faults { IfErr result IsPruneFault }
     {
-        let targets = match path {
-            None => self.targets_from(self.rt.reader())?,
-            Some(path) => {
-                let file = self.open(path)?;
-                self.targets_from(file)?
-            }
-        };
+        let targets = self.given(path, false)?;
+        let targets = NotedReader::new(targets, &mut self.notes.heard);
+        let targets = read_manifest(self.notes.alloc, targets, &mut self.notes.told)?;
+        // Notes of the targets are kept only if these are refused, because LOG is read next.
+        self.notes.begin(false);
+        self.notes.heard.failure = None;
         let answer = self.settle_in(log, Some(targets));
         // The targets were read, so it is LOG that couldn't be.
         if let Some(error) = self.notes.heard.failure.take() {
             let file = FileRole::Log;
             self.notes.folder = Some(Failure { file, error });
-        }
-        answer
-    }
-
-    // Notes of the targets are kept only if these are refused, because LOG is read next.
-    fn targets_from<S: Read + Drop>(&mut self, reader: S) -> ToolResult<Vec<Name>>
-        ensures faults { IfErr result IsTargetsFault }
-    {
-        let notes = &mut self.notes;
-        let mut own = Notes::new(self.alloc, notes.looks, notes.screen, notes.secret);
-        let targets = NotedReader::new(reader, &mut own.heard);
-        let answer = read_manifest(self.alloc, targets, &mut notes.told);
-        if answer.is_err() {
-            notes.heard = own.heard;
         }
         answer
     }
@@ -137,72 +109,50 @@ where
         if self.asked.is_some() {
             let file = self.open(log)?;
             let file = NotedReader::new(file, &mut self.notes.heard);
-            check_version(self.alloc, self.notes.secret, self.asked, file)?;
+            check_version(self.notes.alloc, self.notes.secret, self.asked, file)?;
         }
-        if let Verdict::Found = self.stream_log(Streaming::Damage, Some(log))? {
+        if let Verdict::Found = self.print_in(Printing::Damage, Some(log))? {
             return Ok(Verdict::Found);
         }
         let file = self.open(log)?;
-        let (rt, alloc, folder) = (self.rt, self.alloc, None);
+        let (rt, alloc, folder) = (self.rt, self.notes.alloc, None);
         let files = SystemFiles { rt, alloc, folder };
-        let place = self.log_at(log)?;
+        let at = self.log_at(log)?;
         match targets {
-            Some(targets) => prune_at(alloc, place, targets, file, &files, &mut self.notes)?,
-            None => retime_at(alloc, place, file, &files, &mut self.notes)?,
+            Some(targets) => prune_at(at, targets, file, &files, &mut self.notes)?,
+            None => retime_at(at, file, &files, &mut self.notes)?,
         }
         Ok(Verdict::Done)
     }
 }
 
-fn record_at<D: Files + Clock + Drop>(
-    alloc: Global,
-    place: AskedFolder<DiskFolder<D>>,
-    entry: EntryRef<'_>,
-    command: &str,
-    notes: &mut Notes,
-) -> ToolResult
-where
-    D::File: SystemFile,
-    ensures call { (left : FolderView) × ChangesLogFor place.asked (λ version. adding (hashed entry.entry command.now version)) result
-        (folder_view ⟦<DiskFolder<D> as Folder>⟧ place.folder) left }
+fn record_at<D: Disk>(at: At<D>, entry: EntryRef<'_>, text: &str, notes: &mut Notes) -> ToolResult
+    ensures call { (left : FolderView) × ChangesLogFor at.asked (λ version. adding (hashed entry.entry text.now version)) result
+        (folder_view ⟦<DiskFolder<D> as Folder>⟧ at.folder) left }
     ensures faults { IfErr result IsRecordFault }
 {
-    let (secret, asked, folder) = (place.secret, place.asked, place.folder);
-    let (folder, answer) = record_command(alloc, secret, asked, folder, entry, command.as_bytes());
+    let (alloc, secret, asked) = (notes.alloc, at.secret, at.asked);
+    let (folder, answer) = record_command(alloc, secret, asked, at.folder, entry, text.as_bytes());
     close(folder, answer, notes)
 }
 
-fn recompact_at<D: Files + Clock + Drop, R: Read + Drop>(
-    alloc: Global,
-    place: AskedFolder<DiskFolder<D>>,
-    names: R,
-    notes: &mut Notes,
-) -> ToolResult
-where
-    D::File: SystemFile,
+fn recompact_at<D: Disk, R: Read + Drop>(at: At<D>, names: R, notes: &mut Notes) -> ToolResult
     ensures call { IsErrAnd result IsFileFault ⊎ ((left : FolderView) × AsSaid keep_of (R.remaining names)
-        (λ kept. ChangesLogFor place.asked (λ _. keeping kept) result (folder_view ⟦<DiskFolder<D> as Folder>⟧ place.folder) left)) }
+        (λ kept. ChangesLogFor at.asked (λ _. keeping kept) result (folder_view ⟦<DiskFolder<D> as Folder>⟧ at.folder) left)) }
     ensures faults { IfErr result IsRecompactFault }
 {
     let names = NotedReader::new(names, &mut notes.heard);
-    let (left, answer) = recompact_on(alloc, place, names, &mut notes.told);
+    let (left, answer) = recompact_on(notes.alloc, at, names, &mut notes.told);
     close(left.folder, answer, notes)
 }
 
-fn restat_at<D: Files + Clock + Drop, R: Read + Drop>(
-    alloc: Global,
-    place: AskedFolder<DiskFolder<D>>,
-    pairs: R,
-    notes: &mut Notes,
-) -> ToolResult
-where
-    D::File: SystemFile,
+fn restat_at<D: Disk, R: Read + Drop>(at: At<D>, pairs: R, notes: &mut Notes) -> ToolResult
     ensures call { IsErrAnd result IsFileFault ⊎ ((left : FolderView) × AsSaid times_of (R.remaining pairs)
-        (λ times. ChangesLogFor place.asked (λ _. touching times) result (folder_view ⟦<DiskFolder<D> as Folder>⟧ place.folder) left)) }
+        (λ times. ChangesLogFor at.asked (λ _. touching times) result (folder_view ⟦<DiskFolder<D> as Folder>⟧ at.folder) left)) }
     ensures faults { IfErr result IsRestatFault }
 {
     let pairs = NotedReader::new(pairs, &mut notes.heard);
-    let (left, answer) = restat_on(alloc, place, pairs, &mut notes.told);
+    let (left, answer) = restat_on(notes.alloc, at, pairs, &mut notes.told);
     close(left.folder, answer, notes)
 }
 
@@ -217,72 +167,58 @@ struct Explaining<'r, P> {
 impl<P: Eprint> Hears for Explaining<'_, P> {
     fn bad_line(&mut self, number: u64, why: LineFault) {
         if self.looks {
-            let reason = Reason::Line(number, Some(why));
-            let place = self.lines;
+            let (place, reason) = (self.lines, Reason::Line(number, Some(why)));
             let why = Why { place, reason };
             let _ = eprintln!(self.rt; "nlog: {why}");
         }
     }
 }
 
-fn apply_at<P: Print + Eprint, D: Files + Clock + Drop, R: Read + Drop>(
+fn apply_at<P: Print + Eprint, D: Disk, R: Read + Drop>(
     rt: &P,
-    alloc: Global,
-    place: AskedFolder<DiskFolder<D>>,
+    at: At<D>,
     reader: R,
     lines: Place<'_>,
     notes: &mut Notes,
 ) -> ToolResult
-where
-    D::File: SystemFile,
     ensures call { (left : FolderView) × (before : Option (List ℕ)) × (after : Option (List ℕ))
-        × IsApplied place.asked (R.remaining reader) (folder_view ⟦<DiskFolder<D> as Folder>⟧ place.folder) left before after result }
+        × IsApplied at.asked (R.remaining reader) (folder_view ⟦<DiskFolder<D> as Folder>⟧ at.folder) left before after result }
     ensures faults { IfErr result IsApplyFault }
 {
+    let (alloc, looks) = (notes.alloc, notes.looks);
     let mut out = NotedWriter::new(io::writer(rt));
-    let (secret, asked, folder) = (place.secret, place.asked, place.folder);
-    let looks = notes.looks;
     let mut hears = Explaining { rt, lines, looks };
     let reader = NotedReader::new(reader, &mut notes.heard);
+    let (secret, asked, folder) = (at.secret, at.asked, at.folder);
     let (folder, answer) = apply_on(alloc, secret, asked, folder, reader, &mut out, &mut hears);
     notes.written = out.failure;
     close(folder, answer, notes)
 }
 
-fn repair_at<D: Files + Clock + Drop>(
-    alloc: Global,
-    place: AskedFolder<DiskFolder<D>>,
-    notes: &mut Notes,
-) -> ToolResult
-where
-    D::File: SystemFile,
-    ensures call { (left : FolderView) × ChangesLogFor place.asked (λ _. keeping_all) result
-        (folder_view ⟦<DiskFolder<D> as Folder>⟧ place.folder) left }
+fn repair_at<D: Disk>(at: At<D>, notes: &mut Notes) -> ToolResult
+    ensures call { (left : FolderView) × ChangesLogFor at.asked (λ _. keeping_all) result (folder_view ⟦<DiskFolder<D> as Folder>⟧ at.folder) left }
     ensures faults { IfErr result IsRecordFault }
 {
-    let (left, answer) = repair_on(alloc, place);
+    let (left, answer) = repair_on(notes.alloc, at);
     close(left.folder, answer, notes)
 }
 
-fn prune_at<D: Files + Clock + Drop, R: Read + Drop, O: OutputFiles>(
-    alloc: Global,
-    place: AskedFolder<DiskFolder<D>>,
+fn prune_at<D: Disk, R: Read + Drop, O: OutputFiles>(
+    at: At<D>,
     targets: Vec<Name>,
     log: R,
     files: &O,
     notes: &mut Notes,
 ) -> ToolResult
-where
-    D::File: SystemFile,
     ensures call { IsErr result ⊎ ((kept : List (List ℕ)) × (left : FolderView)
         × KeepsMost (R.remaining log) (O.states files.now) targets.items kept
-        × ChangesLogFor place.asked (λ _. keeping kept) result (folder_view ⟦<DiskFolder<D> as Folder>⟧ place.folder) left) }
+        × ChangesLogFor at.asked (λ _. keeping kept) result (folder_view ⟦<DiskFolder<D> as Folder>⟧ at.folder) left) }
     ensures faults { IfErr result IsPruneFault }
 {
     let log = NotedReader::new(log, &mut notes.heard);
-    let (left, answer) = match names_there(alloc, place.secret(), log, files, targets) {
-        Ok(set) => place.change(alloc, &set),
-        Err(fault) => (place, Err(fault)),
+    let (left, answer) = match names_there(notes.alloc, at.secret(), log, files, targets) {
+        Ok(set) => at.change(notes.alloc, &set),
+        Err(fault) => (at, Err(fault)),
     };
     close(left.folder, answer, notes)
 }
@@ -299,22 +235,19 @@ fn check_version<R: Read + Drop>(
     load_read(alloc, secret, asked, log).and(Ok(()))
 }
 
-fn retime_at<D: Files + Clock + Drop, R: Read + Drop, O: OutputFiles>(
-    alloc: Global,
-    place: AskedFolder<DiskFolder<D>>,
+fn retime_at<D: Disk, R: Read + Drop, O: OutputFiles>(
+    at: At<D>,
     log: R,
     files: &O,
     notes: &mut Notes,
 ) -> ToolResult
-where
-    D::File: SystemFile,
     ensures call { IsErr result ⊎ ((times : List (List ℕ × ℤ)) × (left : FolderView)
         × AddsFor pair_by (R.remaining log) (O.states files.now) [] times
-        × ChangesLogFor place.asked (λ _. touching times) result (folder_view ⟦<DiskFolder<D> as Folder>⟧ place.folder) left) }
+        × ChangesLogFor at.asked (λ _. touching times) result (folder_view ⟦<DiskFolder<D> as Folder>⟧ at.folder) left) }
     ensures faults { IfErr result IsSettlingFault }
 {
     let log = NotedReader::new(log, &mut notes.heard);
-    let (left, answer) = retime_there(alloc, place, log, files, &mut notes.early);
+    let (left, answer) = retime_there(notes.alloc, at, log, files, &mut notes.early);
     close(left.folder, answer, notes)
 }
 

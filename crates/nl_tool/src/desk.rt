@@ -11,16 +11,16 @@ ghost use Rattle.nl_tool.specs.VersionChoice.{asked_in, number_of};
 
 use crate::notes::{NotedReader, Notes};
 use crate::numbers::positive_of;
-use crate::waiting::{Telling, Waiting};
+use either::{Either, Left, Right};
 use nl_builds::may_be_log;
-use nl_os::{DiskFolder, SystemFile};
+use nl_os::{DiskFolder, SystemFile, Telling, Waiting};
 use nl_table::Secret;
 use nl_tool_change::AskedFolder;
 use nl_tool_texts::ToolFault;
 use nl_tool_words::{AskedVersion, CommandLine, Words};
 use nl_versions::LogVersion;
 use std::alloc::Global;
-use std::io::{ErrorKind, Read};
+use std::io::{self, Empty, ErrorKind, Input, Read};
 use std::rt::{Clock, Files, Runtime};
 use std::{env, fs};
 
@@ -51,7 +51,6 @@ pub const NO_SCREEN: Screen = Screen {
 #[derive(Drop)]
 pub struct Desk<'r, R> {
     pub rt: &'r R,
-    pub alloc: Global,
     /// The version of the log that is asked for. None: that of its first line.
     pub asked: Option<LogVersion>,
     /// Whether a missing log is read as one without bytes, where a word doesn't say so by itself.
@@ -60,6 +59,9 @@ pub struct Desk<'r, R> {
     pub columns: Option<usize>,
     pub notes: Notes,
 }
+
+/// Standard input, a file, or nothing.
+pub type Given<R> = Either<<R as Input>::Reader, Either<<R as Files>::File, Empty>>;
 
 /// What a report is made with: names are hashed under the secret, and a line has so many characters at most.
 #[derive(Clone, Copy, Drop)]
@@ -72,14 +74,14 @@ pub struct Means {
 impl<'r, R: Runtime> Desk<'r, R> {
     pub fn means(&self) -> Means {
         Means {
-            alloc: self.alloc,
+            alloc: self.notes.alloc,
             secret: self.notes.secret,
             columns: self.columns,
         }
     }
 
     /// What a command line is done with. The words that change a log by what it holds go by its version, if none is asked for.
-    pub fn of(rt: &'r R, alloc: Global, line: &CommandLine<'_>, notes: Notes) -> Desk<'r, R>
+    pub fn of(rt: &'r R, line: &CommandLine<'_>, notes: Notes) -> Desk<'r, R>
         ensures asked { result.asked ≡ asked_in line.now.words line.now.version }
         ensures same { result.missing_ok ≡ line.now.missing_ok }
         ensures columns { is_some result.columns ≡ (notes.screen.output && not line.now.tabs) }
@@ -92,12 +94,11 @@ impl<'r, R: Runtime> Desk<'r, R> {
         });
         let asked = match (line.words, line.version) {
             (_, Some(asked)) => number_of(asked),
-            (Words::Change { .. }, None) => None,
+            (Words::Change(..), None) => None,
             (_, None) => Some(LogVersion::Five),
         };
         Desk {
             rt,
-            alloc,
             asked,
             missing_ok: line.missing_ok,
             columns,
@@ -153,16 +154,22 @@ impl<'r, R: Runtime> Desk<'r, R> {
         Ok(self.open_log(path, false)?.unwrap())
     }
 
+    /// Reads a file, or standard input where its path is left out; nothing, where the file may be missing, and is.
+    pub fn given(&mut self, path: Option<&str>, missing_ok: bool) -> ToolResult<Given<R>>
+        ensures faults { IfErr result (λ e. e ≡ ToolFault.Read) }
+    {
+        let Some(path) = path else {
+            return Ok(Left(self.rt.reader()));
+        };
+        let file = self.open_log(path, missing_ok)?;
+        Ok(Right(file.map_or(Right(io::empty()), Left)))
+    }
+
     pub fn log_bytes(&mut self, log: Option<&str>, missing_ok: bool) -> ToolResult<Vec<u8>>
         ensures faults { IfErr result IsLogFault }
     {
-        let Some(path) = log else {
-            return self.bytes_from(true, self.rt.reader());
-        };
-        match self.open_log(path, missing_ok)? {
-            Some(file) => self.bytes_from(true, file),
-            None => Ok(Vec::new(self.alloc)),
-        }
+        let from = self.given(log, missing_ok)?;
+        self.bytes_from(true, from)
     }
 
     // It says how far a log is read, where that takes long.
@@ -172,7 +179,7 @@ impl<'r, R: Runtime> Desk<'r, R> {
     {
         let reader = Telling::new(self.rt, is_log && self.notes.screen.errors, reader);
         let reader = NotedReader::new(reader, &mut self.notes.heard);
-        read_bytes(self.alloc, is_log, reader)
+        read_bytes(self.notes.alloc, is_log, reader)
     }
 
     // It is the second file, and read before the log.
@@ -180,11 +187,8 @@ impl<'r, R: Runtime> Desk<'r, R> {
         ensures faults { IfErr result IsLogFault }
     {
         self.notes.begin(true);
-        if path == "-" {
-            return self.bytes_from(false, self.rt.reader());
-        }
-        let file = self.open(path)?;
-        self.bytes_from(false, file)
+        let from = self.given((path != "-").then_some(path), false)?;
+        self.bytes_from(false, from)
     }
 }
 
@@ -199,13 +203,23 @@ pub fn number_of(asked: AskedVersion) -> Option<LogVersion>
     }
 }
 
-/// Where a log stands that is waited for.
-pub type LogAt<'r, R> = AskedFolder<DiskFolder<Waiting<'r, R>>>;
+/// A runtime over files that the folder of a log may have.
+pub trait Host: Runtime<File: SystemFile> {}
 
-impl<'r, R: Files + Clock + Eprint> Desk<'r, R>
-where
-    R::File: SystemFile,
-{
+impl<R: Runtime<File: SystemFile>> Host for R {}
+
+/// What such a folder needs of it.
+pub trait Disk: Files<File: SystemFile> + Clock + Drop {}
+
+impl<R: Files<File: SystemFile> + Clock + Drop> Disk for R {}
+
+/// Where a log stands.
+pub type At<D> = AskedFolder<DiskFolder<D>>;
+
+/// Where one stands that is waited for.
+pub type LogAt<'r, R> = At<Waiting<'r, R>>;
+
+impl<'r, R: Files<File: SystemFile> + Clock + Eprint> Desk<'r, R> {
     /// Where the log at this path stands. No file is touched.
     pub fn log_at(&self, log: &'r str) -> ToolResult<LogAt<'r, R>>
         ensures folder { IfOk result (λ at. ArePathsOf log.entry.now (paths_of (system_of at.folder.folder))) }
@@ -216,7 +230,7 @@ where
         Ok(AskedFolder {
             secret: self.notes.secret,
             asked: self.asked,
-            folder: DiskFolder::new(waiting, self.alloc, log)?,
+            folder: DiskFolder::new(waiting, self.notes.alloc, log)?,
         })
     }
 }
@@ -248,13 +262,11 @@ fn read_bytes<R: Read + Drop>(alloc: Global, is_log: bool, reader: R) -> ToolRes
 }
 
 /// Keeps why calls of a folder failed. If the file isn't taken for a log, its beginning is kept too, because the reason names it.
-pub fn close<R: Files + Clock + Drop, T: Drop>(
-    mut folder: DiskFolder<R>,
+pub fn close<D: Disk, T: Drop>(
+    mut folder: DiskFolder<D>,
     answer: ToolResult<T>,
     notes: &mut Notes,
 ) -> ToolResult<T>
-where
-    R::File: SystemFile,
     ensures same { result ≡ answer }
     ensures kept { notes.new.folder ≡ folder.last_failure }
     ensures unsynced { notes.new.unsynced ≡ unsynced_of (system_of folder.folder) }

@@ -16,21 +16,21 @@ ghost use Rattle.nl_table.specs.Log.{NotALog, OtherVersion, log_of};
 ghost use Rattle.nl_tool_texts.specs.declared.fault.ToolFault.{ToolFault};
 ghost use Rattle.nl_tool.specs.declared.program.Verdict.{Verdict};
 
-use crate::desk::{Desk, ToolResult, close};
+use crate::desk::{At, Desk, Disk, Host, ToolResult, close};
 use crate::notes::{NotedWriter, Notes};
 use crate::program::Verdict;
 use nl_folder::Folder;
-use nl_os::{DiskFolder, Failure, FileRole, SystemFile};
+use nl_os::{DiskFolder, Failure, FileRole};
 use nl_table::Secret;
-use nl_tool_change::AskedFolder;
 use nl_tool_doubt::{
     FileState, FileTimes, How, Mended, OutputFiles, doubts_of, mend_to, write_doubts,
 };
 use nl_tool_texts::ToolFault;
+use nl_tool_words::Choices;
 use std::alloc::Global;
 use std::io::{self, ErrorKind, Write};
 use std::os::unix::fs::MetadataExt;
-use std::rt::{Clock, Files, Runtime};
+use std::rt::Files;
 use std::{fs, str};
 
 const NANOSECONDS: i64 = 1_000_000_000;
@@ -105,41 +105,34 @@ fn tell_doubts<F: OutputFiles, W: Write>(
 // If fewer than one output in this many has a file, that is said.
 const FEW: usize = 10;
 
-impl<R: Runtime> Desk<'_, R>
-where
-    R::File: SystemFile,
-{
+impl<R: Host> Desk<'_, R> {
     pub fn doubt_in(&mut self, log: Option<&str>) -> ToolResult<Verdict>
         ensures faults { IfErr result IsLogFault }
     {
         let bytes = self.log_bytes(log, false)?;
-        let (rt, alloc, folder) = (self.rt, self.alloc, None);
-        let mut out = NotedWriter::new(io::writer(rt));
+        let (rt, alloc, folder) = (self.rt, self.notes.alloc, None);
         let files = SystemFiles { rt, alloc, folder };
         let secret = self.notes.secret;
+        let mut out = NotedWriter::new(io::writer(rt));
         let answer = tell_doubts(alloc, secret, bytes.as_slice(), &files, &mut out);
         self.notes.written = out.failure;
         answer
     }
 
     /// Without a path, LOG is the `.ninja_log` of the build's folder.
-    pub fn mend_in(
-        &mut self,
-        log: Option<&str>,
-        folder: Option<&str>,
-        how: How,
-    ) -> ToolResult<Verdict>
+    pub fn mend_in(&mut self, log: Option<&str>, choices: Choices<'_>) -> ToolResult<Verdict>
         ensures faults { IfErr result IsMendFault }
     {
+        let (rt, alloc, folder) = (self.rt, self.notes.alloc, choices.folder);
         // It refuses a missing folder, because the log that is missing with it would be taken for a whole one.
-        if let Some(Err(error)) = folder.map(|path| fs::metadata(self.rt, path)) {
+        if let Some(Err(error)) = folder.map(|path| fs::metadata(rt, path)) {
             let file = FileRole::Folder;
             self.notes.folder = Some(Failure { file, error });
             return Err(ToolFault::Read);
         }
         let own = match folder {
-            Some(folder) => format!(in self.alloc; "{folder}/.ninja_log")?,
-            None => String::from_str(self.alloc, ".ninja_log")?,
+            Some(folder) => format!(in alloc; "{folder}/.ninja_log")?,
+            None => String::from_str(alloc, ".ninja_log")?,
         };
         let log = log.unwrap_or(own.as_str());
         // A missing log needs no mending.
@@ -147,15 +140,19 @@ where
         if self.notes.is_missing {
             return Ok(Verdict::Done);
         }
-        let Desk { rt, alloc, .. } = *self;
         let files = SystemFiles { rt, alloc, folder };
-        let place = self.log_at(log)?;
+        let how = How {
+            dry_run: choices.dry_run,
+            all: choices.all,
+            at_terminal: self.notes.screen.output,
+        };
+        let at = self.log_at(log)?;
         let mut out = NotedWriter::new(io::writer(rt));
-        let answer = mend_at(alloc, place, &files, how, &mut out, &mut self.notes);
+        let answer = mend_at(at, &files, how, &mut out, &mut self.notes);
         self.notes.written = out.failure;
-        let mended = answer?;
         // If few outputs have a file, the folder may be that of another build.
-        let Mended { outputs, there, .. } = mended;
+        let mended = answer?;
+        let (outputs, there) = (mended.outputs, mended.there);
         if there < outputs / FEW {
             let _ = eprintln!(rt; "nlog: LOG {log}: {there} of {outputs} outputs are here");
         }
@@ -164,21 +161,17 @@ where
     }
 }
 
-fn mend_at<D: Files + Clock + Drop, O: OutputFiles, W: Write>(
-    alloc: Global,
-    place: AskedFolder<DiskFolder<D>>,
+fn mend_at<D: Disk, O: OutputFiles, W: Write>(
+    at: At<D>,
     files: &O,
     how: How,
     writer: &mut W,
     notes: &mut Notes,
 ) -> ToolResult<Mended>
-where
-    D::File: SystemFile,
     ensures call { (left : FolderView) × MendsFolder (O.states files.now) how
-        (W.contents writer.old) (W.contents writer.new) result (folder_view ⟦<DiskFolder<D> as Folder>⟧ place.folder) left }
+        (W.contents writer.old) (W.contents writer.new) result (folder_view ⟦<DiskFolder<D> as Folder>⟧ at.folder) left }
     ensures faults { IfErr result IsMendFault }
 {
-    let AskedFolder { secret, folder, .. } = place;
-    let (left, answer) = mend_to(alloc, secret, folder, files, how, writer);
+    let (left, answer) = mend_to(notes.alloc, at.secret, at.folder, files, how, writer);
     close(left, answer, notes)
 }

@@ -11,10 +11,9 @@ mod printing;
 mod program;
 mod reason;
 mod reporting;
-mod waiting;
 
-pub use desk::{Desk, LogAt, NO_SCREEN, Screen, number_of};
-pub use nl_os::DiskFolder;
+pub use desk::{Desk, Disk, Host, LogAt, NO_SCREEN, Screen, number_of};
+pub use nl_os::{DiskFolder, Look, Telling, Waiting, look_of};
 pub use nl_tool_change::{
     AskedFolder, FoundFolder, LineFault, LogPlace, Nobody, NumberFault, NumberOf, Told, UNTOLD,
     WrongNumber, apply_on, entry_of, recompact_on, record_command, record_on, repair_on, replay_to,
@@ -26,9 +25,10 @@ pub use nl_tool_print::{
     show_to,
 };
 pub use nl_tool_texts::{ToolFault, status_of};
-pub use nl_tool_words::{AskedVersion, Changing, Choices, CommandLine, Reading, Words, read_words};
+pub use nl_tool_words::{
+    AskedVersion, Changing, Choices, CommandLine, NewEntry, Reading, Words, read_words,
+};
 pub use nl_versions::{FirstLine, LogVersion, command_hash_in, first_line_in, version_of};
-pub use notes::{Heard, Look, NotedReader, NotedWriter, Notes, look_of};
+pub use notes::{Heard, NotedReader, NotedWriter, Notes};
 pub use program::{Verdict, run, run_at, run_line, run_program};
 pub use reason::{Place, Reason, Refusal, Why, note_of, refusal_of};
-pub use waiting::{Telling, Waiting};

@@ -1,7 +1,6 @@
 //! What the system said of the calls that failed, and the first line of the log that is read, with what it looks like: kept while a
 //! command is done, for whoever asks why it was refused.
-ghost use Rattle.std.specs.{Prelude.{◌≡◌, None, Some, IfErr, IfSome, false, true, string_bytes, flat_map}, Io.{ReadsAtMost, WritesAtMost}, Io.KnownBytes.{Keeps, ReadConsumes, WriteAppends}};
-ghost use Rattle.nl_tool.specs.Looks.{escaped, look_of, look_text};
+ghost use Rattle.std.specs.{Prelude.{◌≡◌, None, Some, IfErr, false, true}, Io.{ReadsAtMost, WritesAtMost}, Io.KnownBytes.{Keeps, ReadConsumes, WriteAppends}};
 
 use crate::desk::Screen;
 use nl_folder::Folder;
@@ -9,9 +8,7 @@ use nl_lines::MAX_LINE;
 use nl_os::Failure;
 use nl_table::Secret;
 use nl_tool_change::{Told, UNTOLD};
-use nl_tool_texts::append_number;
 use std::alloc::Global;
-use std::fmt;
 use std::io::{self, Read, Write};
 
 // How many bytes of a log's folder are read at a time.
@@ -20,6 +17,7 @@ const PIECE: usize = 512;
 /// What is kept of a command.
 #[derive(Drop)]
 pub struct Notes {
+    pub alloc: Global,
     /// What is kept of the file that the command reads, or of standard input.
     pub heard: Heard,
     /// What the reader of that file says beside its fault.
@@ -57,6 +55,7 @@ impl Notes {
         ensures screen { result.screen ≡ screen }
     {
         Notes {
+            alloc,
             heard: Heard {
                 failure: None,
                 beginning: Vec::new(alloc),
@@ -202,57 +201,4 @@ impl<W: Write> Write for NotedWriter<W> {
         self.failure = answer.err().or(self.failure);
         answer
     }
-}
-
-/// What a file is mistaken for a log that is none.
-#[derive(Clone, Copy, Debug, PartialEq, Eq, Drop)]
-pub enum Look {
-    Gzip,
-    /// It begins with a byte order mark, of UTF-8 or UTF-16.
-    Mark,
-    /// Ninja's log of dependencies.
-    Dependencies,
-    /// A carriage return stands before its first newline.
-    Return,
-}
-
-impl fmt::Display for Look {
-    ghost output = { λ look. Some (look_text look) };
-
-    fn fmt<W: fmt::Write>(&self, f: &mut fmt::Formatter<W>) -> fmt::Result {
-        match self {
-            Look::Gzip => write!(f, "it is gzip: unpack it first"),
-            Look::Mark => write!(f, "it begins with a byte order mark"),
-            Look::Dependencies => write!(f, "it is Ninja's log of dependencies, .ninja_deps"),
-            Look::Return => write!(f, "its first line ends in a carriage return"),
-        }
-    }
-}
-
-/// What a file looks like that begins with these bytes, up to its first newline.
-pub fn look_of(bytes: &[u8]) -> Option<Look>
-    ensures value { result ≡ look_of bytes.now }
-{
-    match bytes {
-        _ if bytes.starts_with(b"\x1f\x8b") => Some(Look::Gzip),
-        _ if bytes.starts_with(b"\xef\xbb\xbf") => Some(Look::Mark),
-        _ if bytes.starts_with(b"\xff\xfe") || bytes.starts_with(b"\xfe\xff") => Some(Look::Mark),
-        _ if bytes.starts_with(b"# ninjadeps") => Some(Look::Dependencies),
-        _ => bytes.ends_with(b"\r\n").then_some(Look::Return),
-    }
-}
-
-/// Bytes as they are said, each of them.
-pub fn escaped_of(alloc: Global, bytes: &[u8]) -> Option<String>
-    ensures value { IfSome result (λ text. string_bytes text ≡ flat_map escaped bytes.now) }
-{
-    let mut text = Vec::new(alloc);
-    for byte in bytes {
-        if 31 < *byte && *byte < 127 && *byte != b'"' && *byte != b'\\' {
-            text.push(*byte).ok()?;
-        } else {
-            append_number(*byte, &mut text).ok()?;
-        }
-    }
-    String::from_utf8(text).ok()
 }

@@ -2,27 +2,22 @@
 ghost use Rattle.std.specs.{Prelude.{◌≡◌, ◌≢◌, ◌≤◌, Option, map, string_bytes, IfErr, IfOk, OnOk}, IoError.{error_kind}, declared.io.ErrorKind.TheVariants.{OutOfMemory}};
 ghost use Rattle.clap.specs.Words.{kind_of};
 ghost use Rattle.nl_tool_change.specs.declared.line_fault.WrongNumber.{WrongNumber};
-ghost use Rattle.nl_tool.specs.{Ending.{status_after, IsStatusBy, IsStatusOfKind}, Faults.{CanBeDone, CanFind, IsFaultOf}, Meant.{meant}};
+ghost use Rattle.nl_tool.specs.{Ending.{status_after, IsStatusBy, IsStatusOfKind}, Faults.{CanBeDone, CanBeRead, CanFind, FindsBy, IsChangeFault, IsFaultOf, IsReadFault, StopsAtDamage}, Meant.{meant}};
 ghost use Rattle.nl_tool_words.specs.CommandLine.{entered_of, fault_in};
 
-use crate::desk::{Desk, NO_SCREEN, Screen, ToolResult};
+use crate::desk::{Desk, Host, NO_SCREEN, Screen, ToolResult};
 use crate::notes::Notes;
-use crate::numbers::scope_of;
-use crate::printing::{Printing, Streaming};
+use crate::printing::Printing;
 use crate::reason::{
-    Refusal, again_note, masked_note, note_of, reads_input, refusal_of, unsynced_note,
+    Refusal, Why, again_note, masked_note, note_of, reads_input, refusal_of, unsynced_note,
 };
-use crate::reporting::Report;
 use clap::Error;
 use clap::error::ErrorKind;
-use nl_os::SystemFile;
 use nl_table::{NO_SECRET, Secret};
-use nl_tool_doubt::How;
 use nl_tool_texts::{ToolFault, status_of};
-use nl_tool_words::{Changing, CommandLine, Reading, Words, path_in_place, read_words};
+use nl_tool_words::{Changing, Choices, CommandLine, Reading, Words, path_in_place, read_words};
 use std::alloc::Global;
 use std::random::RandomSource;
-use std::rt::Runtime;
 use std::{env, io};
 
 const DONE: u8 = 0;
@@ -43,9 +38,7 @@ pub enum Verdict {
 }
 
 /// The whole program: reads the words that it was given, does what they say, and answers the status to end with.
-pub fn run_program<R: Runtime + AllocGlobal + RandomSource>(rt: &R, screen: Screen) -> u8
-where
-    R::File: SystemFile,
+pub fn run_program<R: Host + AllocGlobal + RandomSource>(rt: &R, screen: Screen) -> u8
     ensures status { result ≤ 3 }
 {
     match env::args(rt).and_then(|words| Ok(words.collect::<Vec<String>>(rt.alloc())?)) {
@@ -58,30 +51,26 @@ where
 /// are hashed under a secret.
 ///
 /// The text of a command, help and the version go to standard output; why something was refused goes to standard error.
-pub fn run_line<R: Runtime>(
+pub fn run_line<R: Host>(
     rt: &R,
     alloc: Global,
     line: &[String],
     screen: Screen,
     secret: Secret,
 ) -> u8
-where
-    R::File: SystemFile,
     ensures status { IsStatusBy (fault_in (map string_bytes line.now)) (entered_of (map string_bytes line.now)) result }
     ensures bound { result ≤ 3 }
 {
     match read_words(alloc, line) {
         Ok(said) => {
-            let line = CommandLine {
-                words: meant(said.words, screen.input.then_some(HERE)),
-                ..said
-            };
+            let words = meant(said.words, screen.input.then_some(HERE));
+            let line = CommandLine { words, ..said };
             if screen.input && screen.errors && reads_input(&line.words) {
                 let _ = eprintln!(rt; "nlog: it reads standard input, up to Ctrl-D");
             }
             let looks = line.verbose || screen.errors;
             let notes = Notes::new(alloc, looks, screen, secret);
-            let mut desk = Desk::of(rt, alloc, &line, notes);
+            let mut desk = Desk::of(rt, &line, notes);
             let answer = run_at(&mut desk, &line);
             end(rt, &line, answer, &desk.notes)
         }
@@ -92,84 +81,76 @@ where
 /// Does what a command line says, with standard output for its text. LOG, FILE or SCRIPT is read, or standard input where it is
 /// left out. A log that is missing is read as one without bytes by the words that make or show it, and by the others where
 /// `--missing-ok` is given.
-pub fn run<R: Runtime>(rt: &R, alloc: Global, line: &CommandLine<'_>) -> ToolResult<Verdict>
-where
-    R::File: SystemFile,
+pub fn run<R: Host>(rt: &R, alloc: Global, line: &CommandLine<'_>) -> ToolResult<Verdict>
     ensures accepts { OnOk result (CanBeDone line.now.words) }
     ensures outcome { IfOk result (λ outcome. outcome ≡ Verdict.Found → CanFind line.now.words) }
     ensures faults { IfErr result (λ fault. (told : Option WrongNumber) × IsFaultOf line.now.words told fault) }
 {
     let notes = Notes::new(alloc, false, NO_SCREEN, NO_SECRET);
-    run_at(&mut Desk::of(rt, alloc, line, notes), line)
+    run_at(&mut Desk::of(rt, line, notes), line)
 }
 
 /// Does what a command line says, as `run`, at a desk of it, and notes why what failed has failed.
-pub fn run_at<R: Runtime>(desk: &mut Desk<'_, R>, line: &CommandLine<'_>) -> ToolResult<Verdict>
-where
-    R::File: SystemFile,
+pub fn run_at<R: Host>(desk: &mut Desk<'_, R>, line: &CommandLine<'_>) -> ToolResult<Verdict>
     ensures accepts { OnOk result (CanBeDone line.now.words) }
     ensures outcome { IfOk result (λ outcome. outcome ≡ Verdict.Found → CanFind line.now.words) }
     ensures faults { IfErr result (IsFaultOf line.now.words desk.new.notes.told.number) }
 {
     let done = match line.words {
-        Words::Show(log) => desk.print_in(Printing::Show, log),
-        Words::Check(log) => desk.print_in(Printing::Check, log),
-        Words::Hash(command) => desk.print_from(Printing::Hash(command), io::empty()),
-        Words::HashFile(file) => desk.print_in(Printing::HashFile, file),
-        Words::Replay(script) => desk.print_in(Printing::Replay, script),
-        Words::Read { what, log, choices } => match what {
-            Reading::Entries => return desk.stream_log(Streaming::Entries, log),
-            Reading::Damage => return desk.stream_log(Streaming::Damage, log),
-            Reading::Doubt => return desk.doubt_in(log),
-            Reading::Builds => desk.builds_in(log),
-            Reading::Summary => desk.summary_in(log, choices),
-            Reading::Trace => {
-                let scope = scope_of(choices.all, choices.build, &mut desk.notes.told)?;
-                desk.report_in(Report::Trace(scope), log)
-            }
-            Reading::Picture => desk.picture_in(log, choices),
-        },
-        Words::Compare {
-            old,
-            new,
-            lines,
-            least,
-        } => {
-            desk.compare_in(old, new, lines, least)?;
-            return Ok(Verdict::Done);
-        }
-        Words::Record {
-            log,
-            start,
-            end,
-            mtime,
-            name,
-            command,
-        } => {
-            desk.record_in(log, start, end, mtime, name, command)?;
-            return Ok(Verdict::Done);
-        }
-        Words::Recompact { log, keep } => desk.recompact_in(log, keep),
-        Words::Restat { log, times } => desk.restat_in(log, times),
-        Words::Change { what, log, file } => match what {
-            Changing::Prune => return desk.prune_in(log, file),
-            Changing::Retime => return desk.settle_in(log, None),
-            Changing::Repair => desk.repair_in(log),
-            Changing::Apply => desk.apply_in(log, file),
-        },
-        Words::Mend {
-            log,
-            folder,
-            dry_run,
-            all,
-        } => {
-            let how = How {
-                dry_run,
-                all,
-                at_terminal: desk.notes.screen.output,
-            };
-            return desk.mend_in(log, folder, how);
-        }
+        Words::Show(log) => return desk.print_in(Printing::Show, log),
+        Words::Check(log) => return desk.print_in(Printing::Check, log),
+        Words::Hash(command) => return desk.print_from(Printing::Hash(command), io::empty()),
+        Words::HashFile(file) => return desk.print_in(Printing::HashFile, file),
+        Words::Replay(script) => return desk.print_in(Printing::Replay, script),
+        Words::Read(what, log, choices) => return read_at(desk, what, log, choices),
+        Words::Change(what, log, file) => return change_at(desk, what, log, file),
+        Words::Mend(log, choices) => return desk.mend_in(log, choices),
+        Words::Compare(old, new, choices) => desk.compare_in(old, new, choices),
+        Words::Record(entry) => desk.record_in(entry),
+        Words::Recompact(log, keep) => desk.recompact_in(log, keep),
+        Words::Restat(log, times) => desk.restat_in(log, times),
+    };
+    done?;
+    Ok(Verdict::Done)
+}
+
+fn read_at<R: Host>(
+    desk: &mut Desk<'_, R>,
+    what: Reading,
+    log: Option<&str>,
+    choices: Choices<'_>,
+) -> ToolResult<Verdict>
+    ensures accepts { OnOk result (CanBeRead what choices.entry) }
+    ensures outcome { IfOk result (λ outcome. outcome ≡ Verdict.Found → FindsBy what) }
+    ensures faults { IfErr result (IsReadFault what choices.entry desk.new.notes.told.number) }
+{
+    let done = match what {
+        Reading::Entries => return desk.print_in(Printing::Entries, log),
+        Reading::Damage => return desk.print_in(Printing::Damage, log),
+        Reading::Doubt => return desk.doubt_in(log),
+        Reading::Builds => desk.builds_in(log),
+        Reading::Summary => desk.summary_in(log, choices),
+        Reading::Trace => desk.trace_in(log, choices),
+        Reading::Picture => desk.picture_in(log, choices),
+    };
+    done?;
+    Ok(Verdict::Done)
+}
+
+fn change_at<R: Host>(
+    desk: &mut Desk<'_, R>,
+    what: Changing,
+    log: &str,
+    file: Option<&str>,
+) -> ToolResult<Verdict>
+    ensures outcome { IfOk result (λ outcome. outcome ≡ Verdict.Found → StopsAtDamage what) }
+    ensures faults { IfErr result (IsChangeFault what) }
+{
+    let done = match what {
+        Changing::Prune => return desk.prune_in(log, file),
+        Changing::Retime => return desk.settle_in(log, None),
+        Changing::Repair => desk.repair_in(log),
+        Changing::Apply => desk.apply_in(log, file),
     };
     done?;
     Ok(Verdict::Done)
@@ -181,11 +162,7 @@ fn meant<'a>(words: Words<'a>, here: Option<&'a str>) -> Words<'a>
     ensures can_find { CanFind result → CanFind words.entry }
 {
     match words {
-        Words::Read { what, log, choices } => Words::Read {
-            what,
-            log: log.or(here),
-            choices,
-        },
+        Words::Read(what, log, choices) => Words::Read(what, log.or(here), choices),
         other => other,
     }
 }
@@ -216,21 +193,16 @@ fn end(rt: &impl Eprint, line: &CommandLine<'_>, answer: ToolResult<Verdict>, no
             DONE
         }
         Ok(Verdict::Found) => FOUND,
-        Err(fault) => say(rt, &refusal_of(line, fault, notes)),
+        Err(fault) => say(rt, fault, refusal_of(line, fault, notes).why),
     }
 }
 
-fn refuse(rt: &impl Eprint, fault: ToolFault) -> u8
+fn say(rt: &impl Eprint, fault: ToolFault, why: Option<Why<'_>>) -> u8
     ensures { result ≡ 1 }
 {
-    say(rt, &Refusal { fault, why: None })
-}
-
-fn say(rt: &impl Eprint, refusal: &Refusal<'_>) -> u8
-    ensures { result ≡ 1 }
-{
+    let refusal = Refusal { fault, why };
     let _ = eprintln!(rt; "nlog: {refusal}");
-    status_of(&refusal.fault)
+    status_of(&fault)
 }
 
 // Says why the words could not be taken, as where they are no UTF-8.
@@ -239,7 +211,7 @@ fn refuse_line(rt: &impl Eprint, error: &io::Error) -> u8
     ensures status { error_kind error.now ≢ OutOfMemory → result ≡ 2 }
 {
     if error.kind() == io::ErrorKind::OutOfMemory {
-        return refuse(rt, ToolFault::Memory);
+        return say(rt, ToolFault::Memory, None);
     }
     let _ = eprintln!(rt; "nlog: cannot read the words: {error}");
     WRONG_WORDS
@@ -252,10 +224,10 @@ fn explain(rt: &(impl Print + Eprint), line: &[String], error: &Error) -> u8
     ensures bound { result ≤ 2 }
 {
     match error.kind() {
-        ErrorKind::OutOfMemory => refuse(rt, ToolFault::Memory),
+        ErrorKind::OutOfMemory => say(rt, ToolFault::Memory, None),
         ErrorKind::DisplayHelp | ErrorKind::DisplayVersion => match error.print(rt) {
             Ok(()) => DONE,
-            Err(_) => refuse(rt, ToolFault::Write),
+            Err(_) => say(rt, ToolFault::Write, None),
         },
         _ => {
             let _ = error.print(rt);

@@ -1,11 +1,11 @@
 //! Why something was refused, as it is said where `--verbose` asks for it: which file it is of, and the reason.
-ghost use Rattle.std.specs.Prelude.{◌≡◌, None, Some, IfSome, IsSome, false, true};
+ghost use Rattle.std.specs.Prelude.{◌≡◌, ◌&&◌, None, Some, IfSome, IsSome, false, true};
 ghost use Rattle.nl_os.specs.declared.failed_call.FileRole.{FileRole};
 ghost use Rattle.nl_tool_texts.specs.declared.fault.ToolFault.{ToolFault};
-ghost use Rattle.nl_tool.specs.{declared.reason.Place.{Place}, declared.reason.Reason.{Reason}, Reasons.{HasText, IsMasked, IsNoteFor, IsReasonFor, IsSystem, IsUnsynced, log_place, mended_place, number_text, place_text, read_place, reads_input, reason_text, refusal_text, why_text, words_for, words_heard}};
+ghost use Rattle.nl_tool.specs.{declared.reason.Place.{Place}, declared.reason.Reason.{Reason}, Reasons.{HasText, IsNote, IsReasonFor, IsSystem, IsUnsynced, log_place, mended_place, number_text, place_text, read_place, reads_input, reason_text, refusal_text, why_text, words_for, words_heard}};
 
-use crate::notes::{Look, Notes, escaped_of, look_of};
-use nl_os::{Failure, FileRole, folder_part};
+use crate::notes::Notes;
+use nl_os::{Failure, FileRole, Look, escaped_of, folder_part, look_of};
 use nl_tool_change::{LineFault, NumberFault, NumberOf, WrongNumber};
 use nl_tool_texts::ToolFault;
 use nl_tool_words::{Changing, CommandLine, Words};
@@ -170,14 +170,23 @@ impl<'a> Why<'a> {
     {
         place.map(|place| Why { place, reason })
     }
+
+    fn note(is_said: bool, place: Option<Place<'a>>, reason: Reason) -> Option<Why<'a>>
+        ensures { IsNote is_said place.entry reason result }
+    {
+        if is_said {
+            Why::at(place, reason)
+        } else {
+            None
+        }
+    }
 }
 
 impl fmt::Display for Why<'_> {
     ghost output = { λ why. Some (why_text why) };
 
     fn fmt<W: fmt::Write>(&self, f: &mut fmt::Formatter<W>) -> fmt::Result {
-        let Why { place, reason } = self;
-        write!(f, "{place}: {reason}")
+        write!(f, "{}: {}", self.place, self.reason)
     }
 }
 
@@ -192,38 +201,28 @@ impl fmt::Display for Refusal<'_> {
     ghost output = { λ refusal. Some (refusal_text refusal) };
 
     fn fmt<W: fmt::Write>(&self, f: &mut fmt::Formatter<W>) -> fmt::Result {
-        let Refusal { fault, why } = self;
-        match why {
-            None => write!(f, "{fault}"),
-            Some(why) => write!(f, "{fault}\nnlog: {why}"),
+        match &self.why {
+            None => write!(f, "{}", self.fault),
+            Some(why) => write!(f, "{}\nnlog: {why}", self.fault),
         }
     }
 }
 
 /// What is said of a command that was done: that the log was missing, where the command line asks for more.
 pub fn note_of<'a>(line: &CommandLine<'a>, notes: &Notes) -> Option<Why<'a>>
-    ensures quiet { line.now.verbose ≡ false → result ≡ None }
-    ensures note { IfSome result (IsNoteFor (words_heard line.now.words notes.now.is_second) notes.now.is_missing) }
-    ensures whenever { line.now.verbose ≡ true → notes.now.is_missing ≡ true
-        → IsSome (log_place (words_heard line.now.words notes.now.is_second) FileRole.Log) → IsSome result }
+    ensures { IsNote (line.now.verbose && notes.now.is_missing) (log_place (words_heard line.now.words notes.now.is_second) FileRole.Log)
+        Reason.Missing result }
 {
-    if !line.verbose || !notes.is_missing {
-        return None;
-    }
-    let words = words_heard(&line.words, notes.is_second);
-    Why::at(log_place(&words, FileRole::Log), Reason::Missing)
+    let place = log_place(&words_heard(&line.words, notes.is_second), FileRole::Log);
+    Why::note(line.verbose && notes.is_missing, place, Reason::Missing)
 }
 
 /// What is said of a command that was done: that builds were found again of which it told.
 pub fn again_note<'a>(line: &CommandLine<'a>, notes: &Notes) -> Option<Why<'a>>
-    ensures none { notes.now.is_again ≡ false → result ≡ None }
-    ensures note { IfSome result (λ why. (log_place line.now.words FileRole.Log ≡ Some why.place) × (why.reason ≡ Reason.Again)) }
-    ensures whenever { notes.now.is_again ≡ true → IsSome (log_place line.now.words FileRole.Log) → IsSome result }
+    ensures { IsNote notes.now.is_again (log_place line.now.words FileRole.Log) Reason.Again result }
 {
-    if !notes.is_again {
-        return None;
-    }
-    Why::at(log_place(&line.words, FileRole::Log), Reason::Again)
+    let place = log_place(&line.words, FileRole::Log);
+    Why::note(notes.is_again, place, Reason::Again)
 }
 
 /// What is said of a command that was done in a folder which can't be synced, where the command line asks for more.
@@ -236,7 +235,7 @@ pub fn unsynced_note<'a>(line: &CommandLine<'a>, notes: &Notes) -> Option<Why<'a
         return None;
     }
     let error = notes.unsynced?;
-    let text = format!(in *notes.early.allocator(); "{error}").ok()?;
+    let text = format!(in notes.alloc; "{error}").ok()?;
     let place = log_place(&line.words, FileRole::Folder);
     Why::at(place, Reason::Unsynced(text))
 }
@@ -244,16 +243,10 @@ pub fn unsynced_note<'a>(line: &CommandLine<'a>, notes: &Notes) -> Option<Why<'a
 /// What is said of a command that was done: that the log's access control list is gone, if it had one, where the command line asks for
 /// more.
 pub fn masked_note<'a>(line: &CommandLine<'a>, notes: &Notes) -> Option<Why<'a>>
-    ensures quiet { line.now.verbose ≡ false → result ≡ None }
-    ensures none { notes.now.is_masked ≡ false → result ≡ None }
-    ensures note { IfSome result (λ why. (log_place line.now.words FileRole.Log ≡ Some why.place) × IsMasked why.reason) }
-    ensures whenever { line.now.verbose ≡ true → notes.now.is_masked ≡ true
-        → IsSome (log_place line.now.words FileRole.Log) → IsSome result }
+    ensures { IsNote (line.now.verbose && notes.now.is_masked) (log_place line.now.words FileRole.Log) Reason.Masked result }
 {
-    if !line.verbose || !notes.is_masked {
-        return None;
-    }
-    Why::at(log_place(&line.words, FileRole::Log), Reason::Masked)
+    let place = log_place(&line.words, FileRole::Log);
+    Why::note(line.verbose && notes.is_masked, place, Reason::Masked)
 }
 
 /// What is said of a fault of a command: its reason, where it is known, if the command line asks for it, or a person reads it.
@@ -282,8 +275,8 @@ fn words_heard<'a>(words: &Words<'a>, is_second: bool) -> Words<'a>
     ensures { result ≡ words_heard words.now is_second }
 {
     match *words {
-        Words::Compare { old, new, .. } => Words::Show(Some(if is_second { new } else { old })),
-        Words::Read { choices, .. } => match choices.graph {
+        Words::Compare(old, new, _) => Words::Show(Some(if is_second { new } else { old })),
+        Words::Read(_, _, choices) => match choices.graph {
             Some(path) if is_second => Words::HashFile((path != "-").then_some(path)),
             _ => *words,
         },
@@ -303,7 +296,7 @@ fn why_of<'a>(words: &Words<'a>, fault: ToolFault, notes: &Notes) -> Option<Why<
     ensures why { IfSome result (IsReasonFor words.now fault notes.now) }
     ensures whenever { fault ≡ ToolFault.BadNumber → HasText words.now notes.now.told.number → IsSome result }
 {
-    let alloc = *notes.early.allocator();
+    let alloc = notes.alloc;
     match fault {
         ToolFault::Read => match notes.heard.failure {
             Some(error) => said_of(alloc, read_place(words), error),
@@ -349,14 +342,14 @@ fn why_of<'a>(words: &Words<'a>, fault: ToolFault, notes: &Notes) -> Option<Why<
         }
         ToolFault::EmptyName => Why::at(Some(Place::Name), Reason::NoBytes),
         ToolFault::BadByte(at) => match *words {
-            Words::Record { name, .. } => match name.as_bytes().get(at)? {
+            Words::Record(entry) => match entry.name.as_bytes().get(at)? {
                 b'\n' => Why::at(Some(Place::Name), Reason::Newline(at)),
                 _ => Why::at(Some(Place::Name), Reason::Tab(at)),
             },
             _ => None,
         },
         ToolFault::LongName => match *words {
-            Words::Record { name, .. } => Why::at(Some(Place::Name), Reason::Long(name.len())),
+            Words::Record(entry) => Why::at(Some(Place::Name), Reason::Long(entry.name.len())),
             _ => None,
         },
         ToolFault::OtherGraph => Why::at(read_place(words), Reason::OtherBuild),
@@ -373,14 +366,14 @@ fn number_text<'a>(words: &Words<'a>, which: NumberOf) -> Option<&'a str>
     ensures { result ≡ number_text words.now which }
 {
     match (*words, which) {
-        (Words::Record { start, .. }, NumberOf::Start) => Some(start),
-        (Words::Record { end, .. }, NumberOf::End) => Some(end),
-        (Words::Record { mtime, .. }, NumberOf::Mtime) => Some(mtime),
-        (Words::Read { choices, .. }, NumberOf::Lines) => choices.lines,
-        (Words::Read { choices, .. }, NumberOf::Build) => choices.build,
-        (Words::Read { choices, .. }, NumberOf::Jobs) => choices.jobs,
-        (Words::Compare { lines, .. }, NumberOf::Lines) => lines,
-        (Words::Compare { least, .. }, NumberOf::Least) => least,
+        (Words::Record(entry), NumberOf::Start) => Some(entry.start),
+        (Words::Record(entry), NumberOf::End) => Some(entry.end),
+        (Words::Record(entry), NumberOf::Mtime) => Some(entry.mtime),
+        (Words::Read(_, _, choices), NumberOf::Lines) => choices.lines,
+        (Words::Read(_, _, choices), NumberOf::Build) => choices.build,
+        (Words::Read(_, _, choices), NumberOf::Jobs) => choices.jobs,
+        (Words::Compare(_, _, choices), NumberOf::Lines) => choices.lines,
+        (Words::Compare(_, _, choices), NumberOf::Least) => choices.least,
         _ => None,
     }
 }
@@ -403,23 +396,19 @@ fn read_place<'a>(words: &Words<'a>) -> Option<Place<'a>>
     ensures { result ≡ read_place words.now }
 {
     match *words {
-        Words::Show(None) | Words::Check(None) | Words::Read { log: None, .. } => {
-            Some(Place::Input)
-        }
-        Words::Show(Some(log)) | Words::Check(Some(log)) | Words::Read { log: Some(log), .. } => {
+        Words::Show(None) | Words::Check(None) | Words::Read(_, None, _) => Some(Place::Input),
+        Words::Show(Some(log)) | Words::Check(Some(log)) | Words::Read(_, Some(log), _) => {
             Some(Place::OfLog(FileRole::Log, log))
         }
         Words::HashFile(file) => Some(file.map_or(Place::Input, Place::Command)),
         Words::Replay(script) => Some(script.map_or(Place::Input, Place::Script)),
-        Words::Recompact { log: _, keep } => Some(Place::Keep(keep)),
-        Words::Restat { log: _, times } => Some(Place::Times(times)),
-        Words::Change { what, log, file } => match what {
-            Changing::Retime | Changing::Repair => Some(Place::OfLog(FileRole::Log, log)),
-            Changing::Prune => Some(file.map_or(Place::Input, Place::Targets)),
-            Changing::Apply => Some(file.map_or(Place::Input, Place::Script)),
-        },
-        Words::Mend { log, folder, .. } => Some(mended_place(log, folder, FileRole::Log)),
-        Words::Hash(_) | Words::Record { .. } | Words::Compare { .. } => None,
+        Words::Recompact(_, keep) => Some(Place::Keep(keep)),
+        Words::Restat(_, times) => Some(Place::Times(times)),
+        Words::Change(Changing::Prune, _, file) => Some(file.map_or(Place::Input, Place::Targets)),
+        Words::Change(Changing::Apply, _, file) => Some(file.map_or(Place::Input, Place::Script)),
+        Words::Change(_, log, _) => Some(Place::OfLog(FileRole::Log, log)),
+        Words::Mend(log, choices) => Some(mended_place(log, choices.folder, FileRole::Log)),
+        Words::Hash(_) | Words::Record(_) | Words::Compare(..) => None,
     }
 }
 
@@ -427,13 +416,13 @@ fn log_place<'a>(words: &Words<'a>, file: FileRole) -> Option<Place<'a>>
     ensures { result ≡ log_place words.now file }
 {
     match *words {
-        Words::Record { log, .. }
-        | Words::Recompact { log, keep: _ }
-        | Words::Restat { log, times: _ }
-        | Words::Change { log, .. } => Some(Place::OfLog(file, log)),
-        Words::Mend { log, folder, .. } => Some(mended_place(log, folder, file)),
-        Words::Show(_) | Words::Check(_) | Words::Read { .. } => read_place(words),
-        Words::Hash(_) | Words::HashFile(_) | Words::Replay(_) | Words::Compare { .. } => None,
+        Words::Record(entry) => Some(Place::OfLog(file, entry.log)),
+        Words::Recompact(log, _) | Words::Restat(log, _) | Words::Change(_, log, _) => {
+            Some(Place::OfLog(file, log))
+        }
+        Words::Mend(log, choices) => Some(mended_place(log, choices.folder, file)),
+        Words::Show(_) | Words::Check(_) | Words::Read(..) => read_place(words),
+        Words::Hash(_) | Words::HashFile(_) | Words::Replay(_) | Words::Compare(..) => None,
     }
 }
 

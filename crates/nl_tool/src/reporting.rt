@@ -6,7 +6,7 @@ ghost use Rattle.nl_tool_texts.specs.{Output.{Prints}, declared.fault.ToolFault.
 ghost use Rattle.nl_versions.specs.VersionOf.{as_five};
 ghost use Rattle.nl_table.specs.Log.{NotALog, OtherVersion, log_of};
 ghost use Rattle.nl_reports.specs.{Compare.{are_comparable, compare_text, side_of}, Jobs.{told}, declared.choice.Scope.{Scope}};
-ghost use Rattle.nl_tool.specs.{Answers.{RefusesLog}, Faults.{IsCompareFault, IsPictureFault, IsReportFault, IsSummaryFault, IsToldFault}, Reports.{AreCounts, IsLaidOut, IsLastOf, IsLeast, IsMost, IsReport, IsReportOf, IsScope, IsSummary, PrintsReport, asked_told, laid_out, rule_of, side_in, waiting}};
+ghost use Rattle.nl_tool.specs.{Answers.{RefusesLog}, Faults.{IsBuildFault, IsCompareFault, IsPictureFault, IsReportFault, IsSummaryFault, IsToldFault}, Reports.{AreCounts, IsLaidOut, IsLastOf, IsLeast, IsMost, IsReport, IsReportOf, IsScope, IsSummary, PrintsReport, asked_told, laid_out, rule_of, side_in, waiting}};
 ghost use Rattle.nl_tool_print.specs.Faults.{IsLogFault};
 
 use crate::desk::{Desk, Means, ToolResult};
@@ -48,7 +48,7 @@ impl<R: Runtime> Desk<'_, R> {
     {
         let most = count_of(choices.lines, 10, NumberOf::Lines, &mut self.notes.told)?;
         let scope = scope_of(choices.all, choices.build, &mut self.notes.told)?;
-        let counts = counts_of(self.alloc, choices.jobs, &mut self.notes.told)?;
+        let counts = counts_of(self.notes.alloc, choices.jobs, &mut self.notes.told)?;
         let lists = Lists {
             screen: self.columns.is_some(),
             most,
@@ -59,7 +59,7 @@ impl<R: Runtime> Desk<'_, R> {
             return self.report_in(Report::Summary(scope, lists, None), log);
         };
         let text = self.graph_bytes(path)?;
-        let graph = read_graph(self.alloc, lists.secret, text.as_slice())?;
+        let graph = read_graph(self.notes.alloc, lists.secret, text.as_slice())?;
         self.notes.begin(false);
         let by = ByGraph {
             screen: lists.screen,
@@ -74,7 +74,7 @@ impl<R: Runtime> Desk<'_, R> {
     pub fn builds_in(&mut self, log: Option<&str>) -> ToolResult
         ensures faults { IfErr result IsLogFault }
     {
-        let (rt, alloc, columns) = (self.rt, self.alloc, self.columns);
+        let (rt, alloc, columns) = (self.rt, self.notes.alloc, self.columns);
         let zones = TimeZoneDatabase::new(alloc);
         if columns.is_some() {
             if let Ok(system) = SystemTimeZone::read(&(rt, alloc)) {
@@ -87,6 +87,14 @@ impl<R: Runtime> Desk<'_, R> {
         self.report_in(Report::Builds(zone), log)
     }
 
+    pub fn trace_in(&mut self, log: Option<&str>, choices: Choices<'_>) -> ToolResult
+        ensures scope { OnOk result ((scope : Scope) × IsScope choices.entry.all choices.entry.build scope) }
+        ensures faults { IfErr result (IsBuildFault choices.entry self.new.notes.told.number) }
+    {
+        let scope = scope_of(choices.all, choices.build, &mut self.notes.told)?;
+        self.report_in(Report::Trace(scope), log)
+    }
+
     pub fn picture_in(&mut self, log: Option<&str>, choices: Choices<'_>) -> ToolResult
         ensures scope { OnOk result ((scope : Scope) × IsScope choices.entry.all choices.entry.build scope) }
         ensures faults { IfErr result (IsPictureFault choices.entry self.new.notes.told.number) }
@@ -96,24 +104,18 @@ impl<R: Runtime> Desk<'_, R> {
             return self.report_in(Report::Picture(scope, None), log);
         };
         let text = self.graph_bytes(path)?;
-        let graph = read_graph(self.alloc, self.notes.secret, text.as_slice())?;
+        let graph = read_graph(self.notes.alloc, self.notes.secret, text.as_slice())?;
         self.notes.begin(false);
         self.report_in(Report::Picture(scope, Some(&graph)), log)
     }
 
-    pub fn compare_in(
-        &mut self,
-        old: &str,
-        new: &str,
-        lines: Option<&str>,
-        least: Option<&str>,
-    ) -> ToolResult
-        ensures accepts { OnOk result ((most : ℕ) × IsMost lines.entry most) }
-        ensures least { OnOk result ((ms : ℕ) × IsLeast least.entry ms) }
-        ensures faults { IfErr result (IsCompareFault lines.entry least.entry self.new.notes.told.number) }
+    pub fn compare_in(&mut self, old: &str, new: &str, choices: Choices<'_>) -> ToolResult
+        ensures accepts { OnOk result ((most : ℕ) × IsMost choices.entry.lines most) }
+        ensures least { OnOk result ((ms : ℕ) × IsLeast choices.entry.least ms) }
+        ensures faults { IfErr result (IsCompareFault choices.entry self.new.notes.told.number) }
     {
-        let most = count_of(lines, 10, NumberOf::Lines, &mut self.notes.told)?;
-        let ms = count_of(least, 0, NumberOf::Least, &mut self.notes.told)?;
+        let most = count_of(choices.lines, 10, NumberOf::Lines, &mut self.notes.told)?;
+        let ms = count_of(choices.least, 0, NumberOf::Least, &mut self.notes.told)?;
         // Each log is closed before anything else is done.
         let means = self.means();
         let old_text = self.log_bytes(Some(old), self.missing_ok)?;
@@ -136,8 +138,8 @@ impl<R: Runtime> Desk<'_, R> {
         ensures faults { IfErr result (IsReportFault report.entry) }
     {
         let text = self.log_bytes(log, self.missing_ok)?;
-        let mut out = NotedWriter::new(io::writer(self.rt));
         let means = self.means();
+        let mut out = NotedWriter::new(io::writer(self.rt));
         let again = &mut self.notes.is_again;
         let answer = report_to(means, report, text.as_slice(), &mut out, again);
         self.notes.written = out.failure;

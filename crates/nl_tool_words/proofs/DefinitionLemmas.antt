@@ -11,7 +11,7 @@ use Rattle.clap.specs.Walk.{answers_to, nothing_held, stop_after, walk_from}
 use Rattle.clap.proofs.OnLiterals.{clap_on_literals}
 use Rattle.clap.proofs.WalkLemmas.{both}
 use Rattle.std.proofs.lemmas.Slice.Eq.{bytes_eq-Decides}
-use Rattle.nl_tool_words.specs.CommandLine.{HasEach, IsComplete, IsName, entered_of, is_changing, is_reading, required_ids, required_of}
+use Rattle.nl_tool_words.specs.CommandLine.{HasEach, IsComplete, IsName, entered_of, required_ids, required_of}
 use Rattle.nl_tool_words.specs.Rows.{nlog, word_rows}
 use Rattle.nl_tool_words.proofs.FullLemmas.{either, found_passes, is_plain_rule}
 use Rattle.nl_tool_words.proofs.HelpLemmas.{IsElsewhere, walk_elsewhere}
@@ -134,9 +134,7 @@ any_passes p q (x ∷ xs) any all =
 
 -- the names that have an arm of their own
 abbrev pub is_other : Text → Bool
-is_other name = is_reading name || (is_changing name || (bytes_eq name (codes "check") || (bytes_eq name (codes "hash")
-    || (bytes_eq name (codes "hash-file") || (bytes_eq name (codes "compare") || (bytes_eq name (codes "record")
-    || (bytes_eq name (codes "recompact") || (bytes_eq name (codes "restat") || (bytes_eq name (codes "mend") || bytes_eq name (codes "replay"))))))))))
+is_other name = bytes_eq name (codes "check") || (bytes_eq name (codes "hash") || (bytes_eq name (codes "entries") || (bytes_eq name (codes "damage") || (bytes_eq name (codes "doubt") || (bytes_eq name (codes "builds") || (bytes_eq name (codes "summary") || (bytes_eq name (codes "compare") || (bytes_eq name (codes "trace") || (bytes_eq name (codes "picture") || (bytes_eq name (codes "hash-file") || (bytes_eq name (codes "mend") || (bytes_eq name (codes "record") || (bytes_eq name (codes "recompact") || (bytes_eq name (codes "restat") || (bytes_eq name (codes "prune") || (bytes_eq name (codes "retime") || (bytes_eq name (codes "repair") || (bytes_eq name (codes "apply") || (bytes_eq name (codes "replay"))))))))))))))))))))
 
 abbrev is_known : Text → Bool
 is_known name = bytes_eq name (codes "show") || is_other name

@@ -14,6 +14,7 @@ use Rattle.nl_tool_words.specs.declared.command_line.AskedVersion.TheVariants.{A
 use Rattle.nl_tool_words.specs.declared.words.Changing.{Changing}
 use Rattle.nl_tool_words.specs.declared.words.Changing.TheVariants.{Prune, Retime, Repair, Apply}
 use Rattle.nl_tool_words.specs.declared.words.Choices.{Choices}
+use Rattle.nl_tool_words.specs.declared.words.NewEntry.{NewEntry}
 use Rattle.nl_tool_words.specs.declared.words.Reading.{Reading}
 use Rattle.nl_tool_words.specs.declared.words.Reading.TheVariants.{Entries, Damage, Doubt, Builds, Summary, Trace, Picture}
 use Rattle.nl_tool_words.specs.declared.words.Words.{Words}
@@ -84,28 +85,32 @@ changing_name Retime = codes "retime"
 changing_name Repair = codes "repair"
 changing_name Apply = codes "apply"
 
-abbrev pub is_changing : Text → Bool
-is_changing name = bytes_eq name (codes "prune") || (bytes_eq name (codes "retime") || (bytes_eq name (codes "repair") || bytes_eq name (codes "apply")))
-
 abbrev pub name_of : Words → Text
 name_of (Show log) = codes "show"
 name_of (Check log) = codes "check"
 name_of (Hash command) = codes "hash"
 name_of (HashFile file) = codes "hash-file"
 name_of (Read what log choices) = reading_name what
-name_of (Compare old new lines least) = codes "compare"
-name_of (Record log start end mtime name command) = codes "record"
+name_of (Compare old new choices) = codes "compare"
+name_of (Record entry) = codes "record"
 name_of (Recompact log keep) = codes "recompact"
 name_of (Restat log times) = codes "restat"
 name_of (Change what log file) = changing_name what
-name_of (Mend log folder dry_run all) = codes "mend"
+name_of (Mend log choices) = codes "mend"
 name_of (Replay script) = codes "replay"
 
 -- what is chosen: nothing by an option that the word doesn't have
 abbrev pub IsChosen : Choices → List Row → Type 0
 IsChosen choices rows = IsGiven (codes "build") rows choices.build × (choices.all ≡ is_set_in (codes "all") rows)
     × IsGiven (codes "kind") rows choices.kind × IsGiven (codes "lines") rows choices.lines
-    × IsGiven (codes "graph") rows choices.graph × IsGiven (codes "jobs") rows choices.jobs
+    × IsGiven (codes "graph") rows choices.graph × IsGiven (codes "jobs") rows choices.jobs × IsGiven (codes "at-least") rows choices.least
+    × IsGiven (codes "folder") rows choices.folder × (choices.dry_run ≡ is_set_in (codes "dry-run") rows)
+
+-- what `record` adds to a log
+abbrev pub IsNewEntry : NewEntry → List Row → Type 0
+IsNewEntry entry rows = IsThere (codes "LOG") rows entry.log × IsThere (codes "START") rows entry.start
+    × IsThere (codes "END") rows entry.end × IsThere (codes "MTIME") rows entry.mtime × IsThere (codes "NAME") rows entry.name
+    × IsThere (codes "COMMAND") rows entry.command
 
 -- the file beside the log
 abbrev pub IsBeside : Changing → List Row → Option (Bor Text) → Type 0
@@ -120,15 +125,12 @@ HasValues (Check log) rows = IsGiven (codes "LOG") rows log
 HasValues (Hash command) rows = IsThere (codes "COMMAND") rows command
 HasValues (HashFile file) rows = IsGiven (codes "FILE") rows file
 HasValues (Read what log choices) rows = IsGiven (codes "LOG") rows log × IsChosen choices rows
-HasValues (Compare old new lines least) rows = IsThere (codes "OLD") rows old × IsThere (codes "NEW") rows new
-    × IsGiven (codes "lines") rows lines × IsGiven (codes "at-least") rows least
-HasValues (Record log start end mtime name command) rows = IsThere (codes "LOG") rows log × IsThere (codes "START") rows start
-    × IsThere (codes "END") rows end × IsThere (codes "MTIME") rows mtime × IsThere (codes "NAME") rows name × IsThere (codes "COMMAND") rows command
+HasValues (Compare old new choices) rows = IsThere (codes "OLD") rows old × IsThere (codes "NEW") rows new × IsChosen choices rows
+HasValues (Record entry) rows = IsNewEntry entry rows
 HasValues (Recompact log keep) rows = IsThere (codes "LOG") rows log × IsThere (codes "KEEP") rows keep
 HasValues (Restat log times) rows = IsThere (codes "LOG") rows log × IsThere (codes "TIMES") rows times
 HasValues (Change what log file) rows = IsThere (codes "LOG") rows log × IsBeside what rows file
-HasValues (Mend log folder dry_run all) rows = IsGiven (codes "LOG") rows log × IsGiven (codes "folder") rows folder
-    × (dry_run ≡ is_set_in (codes "dry-run") rows) × (all ≡ is_set_in (codes "all") rows)
+HasValues (Mend log choices) rows = IsGiven (codes "LOG") rows log × IsChosen choices rows
 HasValues (Replay script) rows = IsGiven (codes "SCRIPT") rows script
 
 -- the word and its values are those of what was entered: `show` where nothing is

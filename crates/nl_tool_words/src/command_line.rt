@@ -4,7 +4,7 @@ ghost use Rattle.clap.specs.{Kinds.{or_else}, Words.{kind_of, subcommand_rows_of
 ghost use Rattle.nl_tool_words.specs.CommandLine.{IsAsked, IsSaid, choice_fault, entered_of, fault_in, given_in, input_fault, is_flagged, is_version_for, jobs_fault, path_in_place, tells_version, version_fault, version_id, version_text};
 
 use crate::shape::nlog_command;
-use crate::words::{Words, optional, reading_of, words_in};
+use crate::words::{Words, optional, words_in};
 use clap::error::ErrorKind;
 use clap::{ArgMatches, Error};
 use std::alloc::Global;
@@ -123,7 +123,10 @@ fn version_for(command: &str, text: &str) -> Option<AskedVersion>
 fn tells_version(command: &str) -> bool
     ensures value { result ≡ tells_version command.now }
 {
-    reading_of(command).is_some() || command == "compare"
+    matches!(
+        command,
+        "entries" | "damage" | "doubt" | "builds" | "summary" | "compare" | "trace" | "picture"
+    )
 }
 
 // Refuses choices that can't be met: both a build and all of them, and a rule for kinds that there isn't.

@@ -8,4 +8,4 @@ mod values;
 mod words;
 
 pub use command_line::{AskedVersion, CommandLine, path_in_place, read_words};
-pub use words::{Changing, Choices, Reading, Words};
+pub use words::{Changing, Choices, NewEntry, Reading, Words};

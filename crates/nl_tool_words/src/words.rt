@@ -1,7 +1,7 @@
 //! The word that a command line names, with its values.
-ghost use Rattle.std.specs.Prelude.{◌≡◌, codes, is_some, true, IfSome};
+ghost use Rattle.std.specs.Prelude.{◌≡◌, is_some, true};
 ghost use Rattle.clap.specs.Words.{first_of, found_of, rows_of, subcommand_rows_of};
-ghost use Rattle.nl_tool_words.specs.CommandLine.{HasEach, HasValues, IsComplete, IsGiven, IsName, IsSaid, IsThere, changing_name, is_changing, is_reading, is_set_in, name_of, reading_name, required_of};
+ghost use Rattle.nl_tool_words.specs.CommandLine.{HasEach, HasValues, IsChosen, IsComplete, IsGiven, IsName, IsSaid, IsThere, is_set_in, name_of, required_of};
 
 use clap::ArgMatches;
 
@@ -17,14 +17,14 @@ pub enum Reading {
     Picture,
 }
 
-/// What a word that reads a log may choose: nothing that it has no option for.
+/// What a word may choose: nothing that it has no option for.
 #[derive(Clone, Copy, PartialEq, Eq)]
 pub struct Choices<'a> {
     /// The number of the build that it tells of.
     pub build: Option<&'a str>,
-    /// Whether it tells of all builds, and not of one.
+    /// Whether it tells of all builds, and not of one; whether `mend` makes those anew, too, that may be well.
     pub all: bool,
-    /// The rule by which kinds are told apart: `extension`, `folder` or `top`.
+    /// The rule by which kinds are told apart: `extension`, `folder`, `top` or `work`.
     pub kind: Option<&'a str>,
     /// How many lines a list has at most.
     pub lines: Option<&'a str>,
@@ -32,6 +32,12 @@ pub struct Choices<'a> {
     pub graph: Option<&'a str>,
     /// How many commands run at a time in the builds that are reckoned.
     pub jobs: Option<&'a str>,
+    /// How many milliseconds a difference has at the least.
+    pub least: Option<&'a str>,
+    /// The folder in which the outputs are.
+    pub folder: Option<&'a str>,
+    /// Whether nothing is changed.
+    pub dry_run: bool,
 }
 
 /// A word that changes a log which tells its version.
@@ -46,6 +52,17 @@ pub enum Changing {
     Apply,
 }
 
+/// What `record` adds to LOG.
+#[derive(Clone, Copy, PartialEq, Eq)]
+pub struct NewEntry<'a> {
+    pub log: &'a str,
+    pub start: &'a str,
+    pub end: &'a str,
+    pub mtime: &'a str,
+    pub name: &'a str,
+    pub command: &'a str,
+}
+
 /// A word of the program with its values, as they were written.
 #[derive(Clone, Copy, PartialEq, Eq)]
 pub enum Words<'a> {
@@ -54,49 +71,17 @@ pub enum Words<'a> {
     Check(Option<&'a str>),
     Hash(&'a str),
     HashFile(Option<&'a str>),
-    Read {
-        what: Reading,
-        log: Option<&'a str>,
-        choices: Choices<'a>,
-    },
-    Compare {
-        old: &'a str,
-        new: &'a str,
-        lines: Option<&'a str>,
-        /// How many milliseconds a difference has at the least.
-        least: Option<&'a str>,
-    },
-    Record {
-        log: &'a str,
-        start: &'a str,
-        end: &'a str,
-        mtime: &'a str,
-        name: &'a str,
-        command: &'a str,
-    },
-    Recompact {
-        log: &'a str,
-        keep: &'a str,
-    },
-    Restat {
-        log: &'a str,
-        times: &'a str,
-    },
-    /// What it reads beside LOG is of a file, or of standard input.
-    Change {
-        what: Changing,
-        log: &'a str,
-        file: Option<&'a str>,
-    },
-    Mend {
-        log: Option<&'a str>,
-        /// The folder in which the outputs are.
-        folder: Option<&'a str>,
-        /// Whether nothing is changed.
-        dry_run: bool,
-        /// Whether those that may be well are made anew, too.
-        all: bool,
-    },
+    Read(Reading, Option<&'a str>, Choices<'a>),
+    /// OLD and NEW.
+    Compare(&'a str, &'a str, Choices<'a>),
+    Record(NewEntry<'a>),
+    /// LOG and KEEP.
+    Recompact(&'a str, &'a str),
+    /// LOG and TIMES.
+    Restat(&'a str, &'a str),
+    /// LOG, and what is read beside it: of a file, or of standard input.
+    Change(Changing, &'a str, Option<&'a str>),
+    Mend(Option<&'a str>, Choices<'a>),
     Replay(Option<&'a str>),
 }
 
@@ -116,94 +101,60 @@ fn words_of<'a>(name: &str, inner: &ArgMatches<'a>) -> Words<'a>
     ensures name { name_of result ≡ name.now }
     ensures values { HasValues result (rows_of (found_of inner.now)) }
 {
-    if let Some(what) = reading_of(name) {
-        return Words::Read {
-            what,
-            log: optional(inner, "LOG"),
-            choices: Choices {
-                build: optional(inner, "build"),
-                all: is_set(inner, "all"),
-                kind: optional(inner, "kind"),
-                lines: optional(inner, "lines"),
-                graph: optional(inner, "graph"),
-                jobs: optional(inner, "jobs"),
-            },
-        };
-    }
-    if let Some(what) = changing_of(name) {
-        return Words::Change {
-            what,
-            log: value(inner, "LOG"),
-            file: match what {
-                Changing::Prune => optional(inner, "TARGETS"),
-                Changing::Apply => optional(inner, "SCRIPT"),
-                Changing::Retime | Changing::Repair => None,
-            },
-        };
-    }
+    let (log, choices) = (optional(inner, "LOG"), choices_of(inner));
     match name {
-        "check" => Words::Check(optional(inner, "LOG")),
+        "check" => Words::Check(log),
         "hash" => Words::Hash(value(inner, "COMMAND")),
+        "entries" => Words::Read(Reading::Entries, log, choices),
+        "damage" => Words::Read(Reading::Damage, log, choices),
+        "doubt" => Words::Read(Reading::Doubt, log, choices),
+        "builds" => Words::Read(Reading::Builds, log, choices),
+        "summary" => Words::Read(Reading::Summary, log, choices),
+        "compare" => Words::Compare(value(inner, "OLD"), value(inner, "NEW"), choices),
+        "trace" => Words::Read(Reading::Trace, log, choices),
+        "picture" => Words::Read(Reading::Picture, log, choices),
         "hash-file" => Words::HashFile(optional(inner, "FILE")),
-        "compare" => Words::Compare {
-            old: value(inner, "OLD"),
-            new: value(inner, "NEW"),
-            lines: optional(inner, "lines"),
-            least: optional(inner, "at-least"),
-        },
-        "record" => Words::Record {
+        "mend" => Words::Mend(log, choices),
+        "record" => Words::Record(NewEntry {
             log: value(inner, "LOG"),
             start: value(inner, "START"),
             end: value(inner, "END"),
             mtime: value(inner, "MTIME"),
             name: value(inner, "NAME"),
             command: value(inner, "COMMAND"),
-        },
-        "recompact" => Words::Recompact {
-            log: value(inner, "LOG"),
-            keep: value(inner, "KEEP"),
-        },
-        "restat" => Words::Restat {
-            log: value(inner, "LOG"),
-            times: value(inner, "TIMES"),
-        },
-        "mend" => Words::Mend {
-            log: optional(inner, "LOG"),
-            folder: optional(inner, "folder"),
-            dry_run: is_set(inner, "dry-run"),
-            all: is_set(inner, "all"),
-        },
+        }),
+        "recompact" => Words::Recompact(value(inner, "LOG"), value(inner, "KEEP")),
+        "restat" => Words::Restat(value(inner, "LOG"), value(inner, "TIMES")),
+        "prune" => Words::Change(
+            Changing::Prune,
+            value(inner, "LOG"),
+            optional(inner, "TARGETS"),
+        ),
+        "retime" => Words::Change(Changing::Retime, value(inner, "LOG"), None),
+        "repair" => Words::Change(Changing::Repair, value(inner, "LOG"), None),
+        "apply" => Words::Change(
+            Changing::Apply,
+            value(inner, "LOG"),
+            optional(inner, "SCRIPT"),
+        ),
         "replay" => Words::Replay(optional(inner, "SCRIPT")),
-        _ => Words::Show(optional(inner, "LOG")),
+        _ => Words::Show(log),
     }
 }
 
-pub fn reading_of(name: &str) -> Option<Reading>
-    ensures value { IfSome result (λ what. name.now ≡ reading_name what) }
-    ensures accepts { is_some result ≡ is_reading name.now }
+fn choices_of<'a>(inner: &ArgMatches<'a>) -> Choices<'a>
+    ensures { IsChosen result (rows_of (found_of inner.now)) }
 {
-    match name {
-        "entries" => Some(Reading::Entries),
-        "damage" => Some(Reading::Damage),
-        "doubt" => Some(Reading::Doubt),
-        "builds" => Some(Reading::Builds),
-        "summary" => Some(Reading::Summary),
-        "trace" => Some(Reading::Trace),
-        "picture" => Some(Reading::Picture),
-        _ => None,
-    }
-}
-
-fn changing_of(name: &str) -> Option<Changing>
-    ensures value { IfSome result (λ what. name.now ≡ changing_name what) }
-    ensures accepts { is_some result ≡ is_changing name.now }
-{
-    match name {
-        "prune" => Some(Changing::Prune),
-        "retime" => Some(Changing::Retime),
-        "repair" => Some(Changing::Repair),
-        "apply" => Some(Changing::Apply),
-        _ => None,
+    Choices {
+        build: optional(inner, "build"),
+        all: is_set(inner, "all"),
+        kind: optional(inner, "kind"),
+        lines: optional(inner, "lines"),
+        graph: optional(inner, "graph"),
+        jobs: optional(inner, "jobs"),
+        least: optional(inner, "at-least"),
+        folder: optional(inner, "folder"),
+        dry_run: is_set(inner, "dry-run"),
     }
 }
 

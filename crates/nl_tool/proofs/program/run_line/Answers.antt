@@ -9,7 +9,7 @@ returns-after-line-clause-status g c =
     let line = map string_bytes c.args.line.now in
     command_ended (fault_in line) c.in-Ok.said.words (entered_of line) c.run_at-answer.result c.end.result
     c.in-Ok.ensures.accepts c.in-Ok.ensures.value
-    (IfOk-weaker c.run_at-answer.result _ _ (λ outcome finds is. c.meant.ensures.can_find (finds is)) c.run_at-answer.ensures.outcome)
+    (IfOk-weaker c.run_at-answer.result _ _ (λ outcome finds is. c.meant-words.ensures.can_find (finds is)) c.run_at-answer.ensures.outcome)
     c.end.ensures.status
 
 pub returns-in-Err : goal.returns-in-Err
