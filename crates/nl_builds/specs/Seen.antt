@@ -1,7 +1,8 @@
 -- Where another build begins (docs/BUILDS.md, "The rule").
-use Rattle.std.specs.Prelude.{ℕ, ◌+◌, ◌^◌, ◌==◌, ◌&&◌, ◌||◌, Bool, true, false, not, nat_le, max, Option, None, Some, if◌then◌else◌}
+use Rattle.std.specs.Prelude.{ℕ, ◌+◌, ◌^◌, ◌==◌, ◌&&◌, ◌||◌, Bool, true, false, not, nat_le, max, min, Option, None, Some, if◌then◌else◌}
+use Rattle.std.specs.Option.{unwrap_or}
 use Rattle.nl_builds.specs.Moments.{agreement, greatest, is_past, least, one_moment, reaches, slack}
-use Rattle.nl_builds.specs.Commands.{falls, hi, is_same, lo, tells}
+use Rattle.nl_builds.specs.Commands.{falls, hi, is_same, lo, never, tells}
 use Rattle.nl_builds.specs.declared.command.Command.{Command}
 use Rattle.nl_builds.specs.declared.command.Row.{Row}
 use Rattle.nl_builds.specs.declared.seen.Mark.{Mark}
@@ -55,9 +56,15 @@ better OfStart a b = least a b
 better OfEnd a b = greatest a b
 better Unknown a b = greatest a b
 
-abbrev pub only : Bool → Option ℕ → Option ℕ
-only true m = m
-only false m = None
+-- what no command tells is 0 where the greatest is asked for, and behind each moment where the least is
+abbrev pub or_none : Option ℕ → ℕ
+or_none m = unwrap_or m 0
+
+abbrev pub or_never : Option ℕ → ℕ
+or_never m = unwrap_or m never
+
+abbrev pub known : ℕ → Option ℕ
+known m = if m == 0 then None else Some m
 
 -- ---- a build so far
 
@@ -69,14 +76,14 @@ begun stamps to sure past c r = record {
   is_doubtful = not (tells c);
   began = told stamps past c r;
   past = past;
-  earliest = lo c;
-  latest = hi c;
-  top = hi c;
+  earliest = or_none (lo c);
+  latest = or_never (hi c);
+  top = or_none (hi c);
   ended = c.ended;
   last = c;
-  piece = lo c;
-  pieces = None;
-  oldest = only (not r.has_waited) (hi c);
+  piece = or_none (lo c);
+  pieces = never;
+  oldest = if r.has_waited then never else or_never (hi c);
 }
 
 -- it, or a command behind it in its row, waited, and began 1 ms after the command before it ended, or earlier
@@ -92,14 +99,14 @@ with_command s stamps to doubtful c r = record {
   is_doubtful = s.is_doubtful || doubtful || not (tells c);
   began = better stamps s.began (told stamps s.past c r);
   past = s.past;
-  earliest = greatest s.earliest (lo c);
-  latest = least s.latest (hi c);
-  top = greatest s.top (hi c);
+  earliest = max s.earliest (or_none (lo c));
+  latest = min s.latest (or_never (hi c));
+  top = max s.top (or_none (hi c));
   ended = max s.ended c.ended;
   last = c;
-  piece = greatest (only (is_tied s r) s.piece) (lo c);
-  pieces = least s.pieces (only (not (is_tied s r)) s.piece);
-  oldest = least s.oldest (only (not r.has_waited) (hi c));
+  piece = max (if is_tied s r then s.piece else 0) (or_none (lo c));
+  pieces = if is_tied s r then s.pieces else min s.pieces s.piece;
+  oldest = if r.has_waited then s.oldest else min s.oldest (or_never (hi c));
 }
 
 -- or of the last build before of which that is known
@@ -111,7 +118,7 @@ abbrev pub past_of : Seen → Option Past
 past_of s = past_by s.began s.ended s.past
 
 abbrev pub before : Seen → Option Past
-before s = past_by s.earliest s.ended None
+before s = past_by (known s.earliest) s.ended None
 
 -- ---- whether another build begins
 
@@ -161,12 +168,12 @@ mark ByMoment stamps s c r = mark_by_moment stamps s c r
 
 -- its commands have no moment in common, to so much
 abbrev pub is_disjoint : ℕ → Seen → Bool
-is_disjoint much s = differs_by much s.latest s.earliest
+is_disjoint much s = is_past much s.latest s.earliest
 
 -- if MTIME is of the end: a piece doesn't tell the build's moment, or, if the lines may be in another order, a command that waited for none
 -- has an MTIME of before it
 abbrev pub is_mixed : Bool → Seen → Bool
-is_mixed early s = differs_by one_moment (least s.pieces s.piece) s.earliest || early && differs_by one_moment s.oldest s.earliest
+is_mixed early s = is_past one_moment (min s.pieces s.piece) s.earliest || early && is_past one_moment s.oldest s.earliest
 
 -- a border may hide in it
 abbrev pub doubts : Stamps → Bool → Seen → Bool
@@ -182,5 +189,5 @@ is_moment_of None m = false
 -- one moment
 abbrev pub is_back : Stamps → Option Past → Seen → Bool
 is_back Unknown end s = false
-is_back OfEnd end s = not (is_after end s.top) || is_moment_of end s.earliest
-is_back OfStart end s = is_disjoint slack s || not (is_after end s.latest)
+is_back OfEnd end s = not (is_after end (known s.top)) || is_moment_of end (known s.earliest)
+is_back OfStart end s = is_disjoint slack s || not (is_after end (Some s.latest))

@@ -1,6 +1,6 @@
 //! What is known of a build so far, and where another begins.
 ghost use Rattle.std.specs.Prelude.{◌≡◌, ◌+◌, ◌<◌, ◌^◌, length, IfOk, None};
-ghost use Rattle.nl_builds.specs.{Builds.{first_back, walk}, Moments.{greatest, is_past, least, reaches}, Seen.{begun, differs_by, doubts, is_after, is_back, is_behind, is_moment_of, is_tied, mark, only, past_by, told, with_command}};
+ghost use Rattle.nl_builds.specs.{Builds.{first_back, walk}, Moments.{greatest, is_past, least, reaches}, Seen.{begun, doubts, is_after, is_back, is_behind, is_moment_of, is_tied, known, mark, past_by, told, with_command}};
 
 use crate::command::{Command, NANOS, Row, split_row};
 use crate::stamps::Stamps;
@@ -56,18 +56,19 @@ pub(crate) struct Seen {
     pub began: Option<u64>,
     /// The end of the last build before of which that is known.
     pub past: Option<Past>,
-    /// It began at `earliest` or behind, and at `latest` or before. No command tells that it began behind `top`.
-    pub earliest: Option<u64>,
-    pub latest: Option<u64>,
-    pub top: Option<u64>,
+    /// It began at `earliest` or behind, and at `latest` or before. No command tells that it began behind `top`. What no command tells is the
+    /// least or the greatest number, which tells nothing.
+    pub earliest: u64,
+    pub latest: u64,
+    pub top: u64,
     /// The greatest END.
     pub ended: u32,
     pub last: Command,
     /// The moment of the last piece, which begins at the last command that isn't tied, and the least of those before.
-    pub piece: Option<u64>,
-    pub pieces: Option<u64>,
+    pub piece: u64,
+    pub pieces: u64,
     /// The least `latest` of the commands that waited for none.
-    pub oldest: Option<u64>,
+    pub oldest: u64,
 }
 
 impl Seen {
@@ -82,20 +83,22 @@ impl Seen {
     ) -> Seen
         ensures value { result ≡ begun stamps to is_sure past command.now row.now }
     {
+        let (earliest, latest) = (command.earliest().unwrap_or(0), command.latest());
+        let until = latest.unwrap_or(u64::MAX);
         Seen {
             to,
             is_sure,
             is_doubtful: !command.tells(),
             began: told(stamps, past, command, row),
             past,
-            earliest: command.earliest(),
-            latest: command.latest(),
-            top: command.latest(),
+            earliest,
+            latest: until,
+            top: latest.unwrap_or(0),
             ended: command.ended,
             last: *command,
-            piece: command.earliest(),
-            pieces: None,
-            oldest: only(!row.has_waited, command.latest()),
+            piece: earliest,
+            pieces: u64::MAX,
+            oldest: if row.has_waited { u64::MAX } else { until },
         }
     }
 
@@ -112,21 +115,26 @@ impl Seen {
         requires told { moment ≡ told stamps self.old.past command.now row.now }
         ensures value { self.new ≡ with_command self.old stamps to is_doubtful command.now row.now }
     {
-        let is_tied = self.is_tied(row);
-        let (earliest, latest) = (command.earliest(), command.latest());
+        let (earliest, latest) = (command.earliest().unwrap_or(0), command.latest());
+        let until = latest.unwrap_or(u64::MAX);
+        if !self.is_tied(row) {
+            self.pieces = self.pieces.min(self.piece);
+            self.piece = 0;
+        }
         self.to = to;
         self.is_doubtful = self.is_doubtful || is_doubtful || !command.tells();
         self.began = match stamps {
             Stamps::OfStart => least(self.began, moment),
             Stamps::Unknown | Stamps::OfEnd => greatest(self.began, moment),
         };
-        self.earliest = greatest(self.earliest, earliest);
-        self.latest = least(self.latest, latest);
-        self.top = greatest(self.top, latest);
+        self.earliest = self.earliest.max(earliest);
+        self.latest = self.latest.min(until);
+        self.top = self.top.max(latest.unwrap_or(0));
         self.ended = self.ended.max(command.ended);
-        self.pieces = least(self.pieces, only(!is_tied, self.piece));
-        self.piece = greatest(only(is_tied, self.piece), earliest);
-        self.oldest = least(self.oldest, only(!row.has_waited, latest));
+        self.piece = self.piece.max(earliest);
+        if !row.has_waited {
+            self.oldest = self.oldest.min(until);
+        }
         self.last = *command;
     }
 
@@ -169,7 +177,11 @@ impl Seen {
             };
         }
         // A command of the hash of the one before it may be that one again.
-        let hides = stamps.is_start() && differs_by(AGREEMENT, self.began, moment);
+        let hides = stamps.is_start()
+            && self
+                .began
+                .zip(moment)
+                .is_some_and(|(began, at)| is_past(AGREEMENT, began, at));
         if self.last.hash == command.hash || hides {
             Mark::Doubtful
         } else {
@@ -207,8 +219,8 @@ impl Seen {
         // If MTIME is of the end, not all of it may tell its moment.
         self.is_doubtful
             || stamps.is_end()
-                && (differs_by(ONE_MOMENT, least(self.pieces, self.piece), self.earliest)
-                    || early && differs_by(ONE_MOMENT, self.oldest, self.earliest))
+                && (is_past(ONE_MOMENT, self.pieces.min(self.piece), self.earliest)
+                    || early && is_past(ONE_MOMENT, self.oldest, self.earliest))
     }
 
     /// It can't stand behind a build with this earliest end.
@@ -217,23 +229,19 @@ impl Seen {
     {
         match stamps {
             Stamps::Unknown => false,
-            Stamps::OfEnd => !is_after(before, self.top) || is_moment_of(before, self.earliest),
-            Stamps::OfStart => differs_by(SLACK, self.latest, self.earliest)
-                || !is_after(before, self.latest),
+            Stamps::OfEnd => !is_after(before, known(self.top))
+                || is_moment_of(before, known(self.earliest)),
+            Stamps::OfStart => is_past(SLACK, self.latest, self.earliest)
+                || !is_after(before, Some(self.latest)),
         }
     }
 }
 
-fn only(is_so: bool, moment: Option<u64>) -> Option<u64>
-    ensures { result ≡ only is_so moment }
+// 0 if no command tells it.
+pub(crate) fn known(moment: u64) -> Option<u64>
+    ensures value { result ≡ known moment }
 {
-    if is_so { moment } else { None }
-}
-
-fn differs_by(much: u64, from: Option<u64>, to: Option<u64>) -> bool
-    ensures { result ≡ differs_by much from to }
-{
-    from.zip(to).is_some_and(|(x, y)| is_past(much, x, y))
+    if moment == 0 { None } else { Some(moment) }
 }
 
 // A moment isn't before the end, or one of the two isn't known.
@@ -268,7 +276,7 @@ fn told(stamps: Stamps, past: Option<Past>, command: &Command, row: &Row) -> Opt
 fn is_past(much: u64, from: u64, to: u64) -> bool
     ensures { result ≡ is_past much from to }
 {
-    u128::from(from) + u128::from(much) < u128::from(to)
+    to.saturating_sub(from) > much
 }
 
 /// Whether a moment and the slack reach the END of a build that began at another.
@@ -347,7 +355,7 @@ pub(crate) fn first_back(stamps: Stamps, builds: &[Seen]) -> Option<usize>
         if build.is_back(stamps, before) {
             return Some(place);
         }
-        before = build.end(build.earliest, None);
+        before = build.end(known(build.earliest), None);
         place = build.to;
     }
     None
