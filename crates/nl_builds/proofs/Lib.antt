@@ -5,3 +5,4 @@ mod RecordedLemmas
 mod ReadingLemmas
 mod MarkLemmas
 mod LawLemmas
+mod HiddenLemmas

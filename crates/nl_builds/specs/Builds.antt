@@ -1,5 +1,6 @@
 -- The builds of a log (docs/BUILDS.md).
 use Rattle.std.specs.Prelude.{◌≡◌, ℕ, ◌+◌, ◌-◌, ◌&&◌, ◌||◌, Bool, true, false, not, nat_le, nat_lt, List, [], ◌∷◌, ◌++◌, length, map, take, drop, slice_get, Option, None, Some, if◌then◌else◌}
+use Rattle.std.specs.List.{list_any}
 use Rattle.std.specs.Option.{is_some}
 use Rattle.nl_fields.specs.declared.entry.Entry.{Entry}
 use Rattle.nl_table.specs.History.{holds}
@@ -139,11 +140,16 @@ abbrev pub is_before : Option ℕ → ℕ → Bool
 is_before None count = false
 is_before (Some back) count = nat_lt back count
 
+-- where no border may hide, it doesn't matter how many names are new
+abbrev pub counts_names : Stamps → Option ℕ → List Seen → Bool
+counts_names stamps back seen = is_some back || is_end stamps && list_any (doubts stamps true) seen
+
 -- so many commands were written anew, if the first build that contradicts the order begins among them
+abbrev pub told_at : Stamps → ℕ → List Entry → List Command → List Row → List Seen → Option ℕ → Told
+told_at stamps count es cs rs seen back = if is_before back count then again stamps count es cs rs else as_written stamps count es cs seen
+
 abbrev pub told_with : Stamps → List Entry → List Command → List Row → List Seen → Option ℕ → Told
-told_with stamps es cs rs seen back =
-    let count = new_commands (is_some back || is_end stamps) es cs in
-    if is_before back count then again stamps count es cs rs else as_written stamps count es cs seen
+told_with stamps es cs rs seen back = told_at stamps (new_commands (is_some back || is_end stamps) es cs) es cs rs seen back
 
 abbrev pub told_by : Stamps → List Entry → List Command → List Row → Told
 told_by stamps es cs rs =

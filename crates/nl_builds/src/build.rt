@@ -1,6 +1,6 @@
 //! The builds of a log's entries.
-ghost use Rattle.std.specs.Prelude.{◌≡◌, [], drop, take, ◌<◌, false, map, IfOk};
-ghost use Rattle.nl_builds.specs.{Builds.{again, builds_of, entries_of, falls_at, found_build, IsTold, new_names, whole_commands, written_builds}, Sorted.{by_moment, moment_rank, span_rank}};
+ghost use Rattle.std.specs.{List.{list_any}, Prelude.{◌≡◌, [], drop, take, ◌<◌, false, true, map, IfOk}};
+ghost use Rattle.nl_builds.specs.{Builds.{again, builds_of, counts_names, entries_of, falls_at, found_build, IsTold, new_commands, new_names, whole_commands, written_builds}, Seen.{doubts}, Sorted.{by_moment, moment_rank, span_rank}};
 
 use crate::command::{Command, Row, commands_of, latest, moment, with_rows, with_waits};
 use crate::name_key::NameKey;
@@ -40,8 +40,9 @@ pub struct Builds<'a> {
     pub builds: Vec<Build>,
 }
 
-/// It takes time in proportion to the entries, and if the log was written anew also that of sorting them. Only then it hashes names, under
-/// the secret.
+#[tactic(auto, using(crate::proofs::HiddenLemmas::told_written))]
+/// It takes time in proportion to the entries, and if the log was written anew also that of sorting them. It hashes names, under the secret, only
+/// then, and if a border may hide where MTIME is of the end.
 pub fn builds_of<'a>(
     alloc: Global,
     secret: Secret,
@@ -55,14 +56,8 @@ pub fn builds_of<'a>(
     let (all, rows) = (commands.as_slice(), rows.as_slice());
     let seen = walk(alloc, Order::Written, stamps, 0, true, all, rows)?;
     let back = first_back(stamps, seen.as_slice());
-    let count = if back.is_some() || stamps.is_end() {
-        whole_commands(
-            new_names(alloc, secret, entries.as_slice())?,
-            commands.as_slice(),
-        )
-    } else {
-        0
-    };
+    let counts = counts_names(stamps, back, seen.as_slice());
+    let count = new_commands(alloc, secret, counts, entries.as_slice(), all)?;
     if back.is_some_and(|place| place < count) {
         return again(alloc, stamps, count, entries, commands, rows);
     }
@@ -72,6 +67,36 @@ pub fn builds_of<'a>(
         commands,
         builds,
     })
+}
+
+// Where no border may hide, it doesn't matter how many names are new.
+fn counts_names(stamps: Stamps, back: Option<usize>, seen: &[Seen]) -> bool
+    ensures { result ≡ counts_names stamps back seen.now }
+{
+    back.is_some() || stamps.is_end() && any_doubts(stamps, seen)
+}
+
+// Whether a border may hide in one of them, if its lines may be in another order.
+fn any_doubts(stamps: Stamps, seen: &[Seen]) -> bool
+    ensures { result ≡ list_any (doubts stamps true) seen.now }
+{
+    seen.iter().any(|build| build.doubts(stamps, true))
+}
+
+// How many commands are of new names, if that counts.
+fn new_commands(
+    alloc: Global,
+    secret: Secret,
+    counts: bool,
+    entries: &[EntryRef],
+    commands: &[Command],
+) -> Result<usize, AllocError>
+    ensures value { IfOk result (λ count. count ≡ new_commands counts entries.now commands.now) }
+{
+    if !counts {
+        return Ok(0);
+    }
+    Ok(whole_commands(new_names(alloc, secret, entries)?, commands))
 }
 
 // How many entries stand before the first whose name came before: a log that was written anew has no name twice.

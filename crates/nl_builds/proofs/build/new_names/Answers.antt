@@ -1,4 +1,4 @@
-use Rattle.std.proofs.Common.{◌≡◌, ◌∙◌, ◌+◌, [], List, ap, arith, drop, map, not, sym}
+use Rattle.std.proofs.Common.{◌≡◌, ◌∙◌, ap, arith, not}
 use Rattle.std.proofs.lemmas.Grind.{common_steps}
 use Rattle.nl_table.specs.History.{holds}
 use Rattle.nl_table.specs.Table.{with_name}
