@@ -1,5 +1,5 @@
 -- When a build began, in nanoseconds from before all that there can be, and how two such moments stand (docs/BUILDS.md, "When a build began").
-use Rattle.std.specs.Prelude.{ℕ, ◌+◌, ◌*◌, ◌-◌, ◌^◌, Bool, nat_lt, min, max, Option, None, Some}
+use Rattle.std.specs.Prelude.{ℕ, ◌+◌, ◌*◌, ◌-◌, ◌^◌, Bool, nat_lt}
 
 abbrev pub nanos : ℕ → ℕ
 nanos ms = ms * 1000000
@@ -25,14 +25,3 @@ is_past much from to = nat_lt (from + much) to
 -- a moment and the slack reach the END of a build that began then
 abbrev pub reaches : ℕ → ℕ → ℕ → Bool
 reaches began ended moment = nat_lt (began + nanos ended) (moment + nanos (2 ^ 31) + slack)
-
--- the one that is known, if only one is
-abbrev pub least : Option ℕ → Option ℕ → Option ℕ
-least (Some x) (Some y) = Some (min x y)
-least (Some x) None = Some x
-least None y = y
-
-abbrev pub greatest : Option ℕ → Option ℕ → Option ℕ
-greatest (Some x) (Some y) = Some (max x y)
-greatest (Some x) None = Some x
-greatest None y = y

@@ -1,7 +1,7 @@
 -- Where another build begins (docs/BUILDS.md, "The rule").
 use Rattle.std.specs.Prelude.{ℕ, ◌+◌, ◌^◌, ◌==◌, ◌&&◌, ◌||◌, Bool, true, false, not, nat_le, max, min, Option, None, Some, if◌then◌else◌}
 use Rattle.std.specs.Option.{unwrap_or}
-use Rattle.nl_builds.specs.Moments.{agreement, greatest, is_past, least, one_moment, reaches, slack}
+use Rattle.nl_builds.specs.Moments.{agreement, is_past, one_moment, reaches, slack}
 use Rattle.nl_builds.specs.Commands.{falls, hi, is_same, lo, never, tells}
 use Rattle.nl_builds.specs.declared.command.Command.{Command}
 use Rattle.nl_builds.specs.declared.command.Row.{Row}
@@ -51,10 +51,11 @@ told_by OfEnd past c r = if is_after past (hi c) then lo c else None
 abbrev pub told : Stamps → Option Past → Command → Row → Option ℕ
 told stamps past c r = if tells c then told_by stamps past c r else None
 
+-- of two such moments; the one that is known, if only one is
 abbrev pub better : Stamps → Option ℕ → Option ℕ → Option ℕ
-better OfStart a b = least a b
-better OfEnd a b = greatest a b
-better Unknown a b = greatest a b
+better stamps (Some a) (Some b) = Some (if is_start stamps then min a b else max a b)
+better stamps (Some a) None = Some a
+better stamps None b = b
 
 -- what no command tells is 0 where the greatest is asked for, and behind each moment where the least is
 abbrev pub or_none : Option ℕ → ℕ

@@ -1,6 +1,6 @@
 //! What is known of a build so far, and where another begins.
 ghost use Rattle.std.specs.Prelude.{◌≡◌, ◌+◌, ◌<◌, ◌^◌, length, IfOk, None};
-ghost use Rattle.nl_builds.specs.{Builds.{first_back, walk}, Moments.{greatest, is_past, least, reaches}, Seen.{begun, doubts, is_after, is_back, is_behind, is_moment_of, is_tied, known, mark, past_by, told, with_command}};
+ghost use Rattle.nl_builds.specs.{Builds.{first_back, walk}, Moments.{is_past, reaches}, Seen.{begun, doubts, is_after, is_back, is_behind, is_moment_of, is_tied, known, mark, past_by, told, with_command}};
 
 use crate::command::{Command, NANOS, Row, split_row};
 use crate::stamps::Stamps;
@@ -123,9 +123,13 @@ impl Seen {
         }
         self.to = to;
         self.is_doubtful = self.is_doubtful || is_doubtful || !command.tells();
-        self.began = match stamps {
-            Stamps::OfStart => least(self.began, moment),
-            Stamps::Unknown | Stamps::OfEnd => greatest(self.began, moment),
+        self.began = match (self.began, moment) {
+            (Some(a), Some(b)) => Some(if stamps.is_start() {
+                a.min(b)
+            } else {
+                a.max(b)
+            }),
+            (a, b) => a.or(b),
         };
         self.earliest = self.earliest.max(earliest);
         self.latest = self.latest.min(until);
@@ -285,19 +289,6 @@ fn reaches(began: u64, ended: u32, moment: u64) -> bool
 {
     u128::from(began) + u128::from(ended) * u128::from(NANOS)
         < u128::from(moment) + u128::from(ZERO + SLACK)
-}
-
-/// The one that is known, if only one is.
-fn least(a: Option<u64>, b: Option<u64>) -> Option<u64>
-    ensures { result ≡ least a b }
-{
-    a.zip(b).map_or(a.or(b), |(x, y)| Some(x.min(y)))
-}
-
-fn greatest(a: Option<u64>, b: Option<u64>) -> Option<u64>
-    ensures { result ≡ greatest a b }
-{
-    a.zip(b).map_or(a.or(b), |(x, y)| Some(x.max(y)))
 }
 
 /// The builds of commands, one behind another, by what their rows tell. The first command stands behind `place`, and `is_sure` is whether the
