@@ -203,17 +203,15 @@ fn falls_at(place: usize, commands: &[Command]) -> bool
 fn found_builds(alloc: Global, count: usize, seen: &[Seen]) -> Result<Vec<Build>, AllocError>
     ensures value { IfOk result (λ builds. builds.items ≡ map (found_build count) seen.now) }
 {
-    let mut builds = Vec::with_capacity(alloc, seen.len())?;
-    for build in seen {
-        let taken = count.saturating_sub(build.last.to);
-        builds.push(Build {
-            to: build.to,
-            began: build.began,
-            how: How::FoundAgain { taken },
-            is_sure: false,
-        })?;
-    }
-    Ok(builds)
+    let builds = seen.iter().map(|build| Build {
+        to: build.to,
+        began: build.began,
+        how: How::FoundAgain {
+            taken: count.saturating_sub(build.last.to),
+        },
+        is_sure: false,
+    });
+    builds.collect(alloc)
 }
 
 // By the moments at which their builds began; those of one moment by END and hash.
