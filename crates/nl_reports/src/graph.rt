@@ -3,6 +3,7 @@ ghost use Rattle.std.specs.Prelude.{◌≡◌, ◌++◌, ℕ, List, IfErr, IfOk,
 ghost use Rattle.nl_tool_texts.specs.{declared.fault.ToolFault.{ToolFault}, GraphLine.{line_seen}};
 ghost use Rattle.nl_reports.specs.{GraphText.{Holds, IsGraphFault, IsOfText, IsPlaced, IsRefusedAt, edges_said, graph_of, nodes_said, seen_graph, seen_edge}, Paths.{Edge as SeenEdge, Node, ClosesCycle}};
 
+use crate::last_entries::{item_at, set_at};
 use indexmap::IndexMap;
 use nl_table::Secret;
 use nl_tool_texts::{AllocResult, Line, ToolFault, line_in, lines_of};
@@ -97,19 +98,6 @@ impl<'a> NinjaGraph<'a> {
 // No place.
 const NONE: usize = usize::MAX;
 
-// The state of a depth-first walk at a node: the first edge from it that wasn't looked at, and whether the walk went on from here and
-// didn't yet come back.
-#[derive(Clone, Copy, Drop)]
-struct Mark {
-    first: usize,
-    open: bool,
-}
-
-const DONE: Mark = Mark {
-    first: NONE,
-    open: false,
-};
-
 /// The places of all edges between so many nodes, each after those that lead to where it begins. An edge of a cycle is refused by its
 /// line. An edge that is taken for one of a cycle and isn't would be refused for want of memory: no such case is known.
 pub(crate) fn order_of(alloc: Global, count: usize, edges: &[Edge]) -> Result<Vec<usize>, ToolFault>
@@ -117,37 +105,37 @@ pub(crate) fn order_of(alloc: Global, count: usize, edges: &[Edge]) -> Result<Ve
         → ClosesCycle (map (seen_edge ids) edges.now) line }
     ensures faults { IfErr result IsGraphFault }
 {
-    let mut marks = Vec::new(alloc);
-    marks.resize(count, DONE)?;
-    // For each edge the one from the same node that is looked at next. The marks name the first ones.
+    // For each node the first edge from it that the walk didn't look at, and for each edge the one from the same node that is looked at next.
+    let mut first = vec![in alloc; NONE; count]?;
     let mut next = Vec::new(alloc);
     for place in 0..edges.len() {
         let from = edges[place].from;
-        next.push(mark_at(marks.as_slice(), from).first)
+        next.push(item_at(&first, from, NONE))
             .map_err(AllocError::from)?;
-        set_mark(marks.as_mut_slice(), from, place, false);
+        set_at(&mut first, from, place);
     }
+    // Whether the walk went on from a node and didn't yet come back.
+    let mut open = vec![in alloc; false; count]?;
     let mut order = Vec::new(alloc);
     // The edges from a start to the node at which the walk is.
     let mut way = Vec::new(alloc);
     for start in 0..count {
         let mut node = start;
         for _ in 0..u64::MAX {
-            let place = mark_at(marks.as_slice(), node).first;
+            let place = item_at(&first, node, NONE);
             if let Some(edge) = edges.get(place) {
-                let first = next.get(place).copied().unwrap_or(NONE);
-                set_mark(marks.as_mut_slice(), node, first, true);
+                set_at(&mut first, node, item_at(&next, place, NONE));
+                set_at(&mut open, node, true);
                 way.push(place).map_err(AllocError::from)?;
                 node = edge.to;
-                if mark_at(marks.as_slice(), node).open {
+                if item_at(&open, node, false) {
                     let line = closing_line(way.as_slice(), edges).ok_or(ToolFault::Memory)?;
                     return Err(ToolFault::BadLine(line));
                 }
             } else if let Some(seen) = way.pop() {
                 order.push(seen).map_err(AllocError::from)?;
                 node = edges.get(seen).map_or(start, |edge| edge.from);
-                let first = mark_at(marks.as_slice(), node).first;
-                set_mark(marks.as_mut_slice(), node, first, false);
+                set_at(&mut open, node, false);
             } else {
                 break;
             }
@@ -155,16 +143,6 @@ pub(crate) fn order_of(alloc: Global, count: usize, edges: &[Edge]) -> Result<Ve
     }
     order.reverse();
     Ok(order)
-}
-
-fn mark_at(marks: &[Mark], node: usize) -> Mark {
-    marks.get(node).copied().unwrap_or(DONE)
-}
-
-fn set_mark(marks: &mut [Mark], node: usize, first: usize, open: bool) {
-    if node < marks.len() {
-        marks[node] = Mark { first, open };
-    }
 }
 
 // The line of the last edge, if the edges before it lead from its end to its beginning.

@@ -1,5 +1,5 @@
 //! Builds without what later ones made again.
-ghost use Rattle.std.specs.{Prelude.{◌≡◌, ℕ, List, get_or, length, map, take, IfOk}, List.{list_any}};
+ghost use Rattle.std.specs.{Prelude.{◌≡◌, ℕ, List, get_or, length, map, set, take, IfOk}, List.{list_any}};
 ghost use Rattle.nl_reports.specs.{Jobs.{told}, Lasting.{builds_left, commands_left, is_among, is_held, lasting, marked, marks, whole}};
 
 use indexmap::IndexSet;
@@ -160,4 +160,13 @@ pub(crate) fn item_at<T: Copy>(items: &[T], place: usize, other: T) -> T
     ensures { result ≡ get_or items.now place other }
 {
     items.get(place).copied().unwrap_or(other)
+}
+
+/// Changes the item at a place, if there is one.
+pub(crate) fn set_at<T: Copy>(items: &mut [T], place: usize, item: T)
+    ensures { items.new ≡ set items.old place item }
+{
+    if place < items.len() {
+        items[place] = item;
+    }
 }

@@ -4,7 +4,7 @@ ghost use Rattle.nl_reports.specs.{Compare.{compared, compared_of, cost_of, fres
 
 use crate::class::{Class, class_number};
 use crate::job::{Job, jobs_from};
-use crate::last_entries::{any_named, item_at, names_of};
+use crate::last_entries::{any_named, item_at, names_of, set_at};
 use crate::outputs::Outputs;
 use indexmap::IndexSet;
 use nl_builds::{Builds, NameKey};
@@ -155,9 +155,7 @@ fn take_out<'j, 's, 'a>(
     ensures left { left.new ≡ with_taken left.old place }
 {
     let at = place?;
-    if at < left.len() {
-        left[at] = false;
-    }
+    set_at(left, at, false);
     jobs.get(at)
 }
 

@@ -2,7 +2,7 @@
 
 use crate::critical::Reaches;
 use crate::job::{Job, between};
-use crate::last_entries::item_at;
+use crate::last_entries::{item_at, set_at};
 use nl_tool_texts::AllocResult;
 use std::alloc::AllocError;
 use std::cmp::Reverse;
@@ -94,19 +94,16 @@ impl Waiting {
                     ready.push(Reverse(*key)).map_err(AllocError::from)?;
                     continue;
                 }
-                if part < there.len() {
-                    there[part] = now;
-                }
+                set_at(&mut there, part, now);
                 // The parts that wait for this one wait for one less.
                 let edges = self.edges.as_slice();
                 let first = edges.partition_point(|edge| edge.0 < part);
                 let end = edges.partition_point(|edge| edge.0 <= part);
                 for (_, to) in between(first, end, edges) {
-                    if *to < waits.len() {
-                        waits[*to] = waits[*to].saturating_sub(1);
-                        if waits[*to] == 0 {
-                            met.push((*to, *to >= self.keys.len()))?;
-                        }
+                    let left = item_at(&waits, *to, NONE).saturating_sub(1);
+                    set_at(&mut waits, *to, left);
+                    if left == 0 {
+                        met.push((*to, *to >= self.keys.len()))?;
                     }
                 }
                 continue;
