@@ -1,13 +1,13 @@
 //! The text of `builds`, and what it tells at a terminal.
 ghost use Rattle.std.specs.Prelude.{◌≡◌, ◌<◌, ◌++◌, List, ℕ, IfOk, OnOk, length};
-ghost use Rattle.nl_reports.specs.{BuildsTable.{AreRows, IsBegun, IsBuildsScreen, IsRow, date_text, row_text}, BuildsText.{border_word, build_line, builds_text}, Jobs.{told}};
+ghost use Rattle.nl_reports.specs.{BuildsTable.{IsBegun, IsBuildsScreen, IsRow, date_text, heading_for}, BuildsText.{border_word, build_line, builds_text}, Jobs.{told}};
 
-use crate::numbers::{Numbers, numbers_of};
+use crate::numbers::numbers_of;
 use jiff_core::Timestamp;
 use jiff_core::civil::DateTime;
 use jiff_tz::TimeZone;
 use nl_builds::{Build, Builds, How};
-use nl_tool_texts::{AllocResult, Part, append, append_line, put};
+use nl_tool_texts::{AllocResult, Part, append, put};
 use std::alloc::Global;
 
 // The moments of builds count from so many nanoseconds before 1970.
@@ -18,67 +18,37 @@ const ZERO: i128 = 2_147_483_648_000_000;
 pub fn builds_screen(alloc: Global, zone: &TimeZone, from: &Builds) -> AllocResult<Vec<u8>>
     ensures value { IfOk result (λ lines. IsBuildsScreen zone.now (told from.now) lines.items) }
 {
-    let rows = rows_of(alloc, zone, from)?;
-    let heading: &[u8] = match zone {
+    let mut lines = Vec::from_slice(alloc, heading_for(zone))?;
+    for place in 0..from.builds.len() {
+        append_row(zone, from, place, &mut lines)?;
+    }
+    Ok(lines)
+}
+
+fn heading_for(zone: &TimeZone) -> &'static [u8]
+    ensures { result.now ≡ heading_for zone.now }
+{
+    match zone {
         TimeZone::UTC | TimeZone::Unknown => {
             b"Build\tBegan (UTC)\tElapsed\tCommands\tOutputs\tKnown\n"
         }
         TimeZone::Fixed(_) | TimeZone::Posix(_) | TimeZone::Tzif(_) => {
             b"Build\tBegan\tElapsed\tCommands\tOutputs\tKnown\n"
         }
-    };
-    let mut lines = Vec::from_slice(alloc, heading)?;
-    lines.extend_from_slice(rows.as_slice())?;
-    Ok(lines)
-}
-
-fn rows_of(alloc: Global, zone: &TimeZone, from: &Builds) -> AllocResult<Vec<u8>>
-    ensures value { IfOk result (λ rows. AreRows zone.now (told from.now) (length from.now.builds.items) rows.items) }
-{
-    let mut rows = Vec::new(alloc);
-    for place in 0..from.builds.len() {
-        append_row(zone, from, place, &mut rows)?;
     }
-    Ok(rows)
 }
 
 fn append_row(zone: &TimeZone, from: &Builds, place: usize, rows: &mut Vec<u8>) -> AllocResult
     requires there { place < length from.now.builds.items }
     ensures row { OnOk result ((row : List ℕ) × (IsRow zone.now (told from.now) place row × (rows.new.items ≡ rows.old.items ++ row))) }
 {
-    let alloc = *rows.allocator();
     let build = from.builds[place];
     let number = place + 1;
-    let began = began_text(alloc, zone, build.began)?;
-    append_fields(
-        number,
-        began.as_slice(),
-        &numbers_of(from, number),
-        &build,
-        rows,
-    )
-}
-
-fn append_fields(
-    number: usize,
-    began: &[u8],
-    numbers: &Numbers,
-    build: &Build,
-    rows: &mut Vec<u8>,
-) -> AllocResult
-    ensures items { OnOk result (rows.new.items ≡ rows.old.items ++ row_text number began.now numbers.now build.now) }
-{
-    append_line(
-        &[
-            Part::Number(number as u128),
-            Part::Text(began),
-            Part::Time(numbers.wall),
-            Part::Number(numbers.commands as u128),
-            Part::Number(numbers.outputs as u128),
-            Part::Text(border_word(build)),
-        ],
-        rows,
-    )
+    let numbers = numbers_of(from, number);
+    let began = began_text(*rows.allocator(), zone, build.began)?;
+    put!(rows; {number} b"\t" [Part::Text(began.as_slice())] b"\t" [Part::Time(numbers.wall)])?;
+    put!(rows; b"\t" {numbers.commands} b"\t" {numbers.outputs} b"\t"
+        [Part::Text(border_word(&build))] b"\n")
 }
 
 fn began_text(alloc: Global, zone: &TimeZone, began: Option<u64>) -> AllocResult<Vec<u8>>
