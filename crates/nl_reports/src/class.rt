@@ -1,6 +1,6 @@
 //! How a command stands in two logs.
 ghost use Rattle.std.specs.Prelude.{◌≡◌};
-ghost use Rattle.nl_reports.specs.Compare.{class_number, class_text};
+ghost use Rattle.nl_reports.specs.Compare.{class_text};
 
 #[derive(Clone, Copy, Debug, PartialEq, Eq, Drop)]
 pub enum Class {
@@ -15,12 +15,6 @@ pub enum Class {
     /// One of the two says that it didn't end.
     Unfinished,
     Same,
-}
-
-pub(crate) fn class_number(class: Class) -> u8
-    ensures { result ≡ class_number class }
-{
-    class as u8
 }
 
 pub(crate) fn class_text(class: Class) -> &'static str

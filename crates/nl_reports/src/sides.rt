@@ -2,7 +2,7 @@
 ghost use Rattle.std.specs.Prelude.{◌≡◌, ◌++◌, [], ℕ, List, map, option_map, IfOk, OnOk};
 ghost use Rattle.nl_reports.specs.{Compare.{compared, compared_of, cost_of, fresh, held_side, job_at, new_time, of_class, old_time, or_unfinished, pair_of, pairs_from, partner, side_of, time_in, told_pair, waits, with_taken}, Jobs.{seen}, Lasting.{marked}, Outputs.{HoldPlaces, places_of}};
 
-use crate::class::{Class, class_number};
+use crate::class::Class;
 use crate::job::{Job, jobs_from};
 use crate::last_entries::{any_named, item_at, names_of, set_at};
 use crate::outputs::Outputs;
@@ -208,7 +208,7 @@ pub(crate) fn of_class<'a>(
 {
     let mut kept = Vec::new(alloc);
     for row in rows {
-        if class_number(row.class) == class_number(class) {
+        if row.class as u8 == class as u8 {
             kept.push(*row)?;
         }
     }
