@@ -1,6 +1,6 @@
 //! What so many commands at a time would take: estimates by a graph and by measured times.
 ghost use Rattle.std.specs.Prelude.{◌≡◌, ◌≤◌, ◌<◌, ◌^◌, ◌++◌, ℕ, List, map, IfOk, IfSome, IsTrue, OnOk};
-ghost use Rattle.nl_reports.specs.{Found.{IsFound}, GraphText.{seen_graph}, Jobs.{Job as SeenJob, seen}, Numbers.{total_time}, Plans.{AreEstimates, HavePlan, IsToldBy, estimate_line, floor_of, kept}, Reaches.{AreOf}, Sweep.{running}, declared.graph.NinjaGraph.{NinjaGraph as HeldGraph}};
+ghost use Rattle.nl_reports.specs.{Found.{IsFound}, GraphText.{seen_graph}, Jobs.{Job as SeenJob, seen}, Numbers.{total_time}, Plans.{AreEstimates, HavePlan, IsToldBy, kept}, Reaches.{AreOf}, Sweep.{running}, declared.graph.NinjaGraph.{NinjaGraph as HeldGraph}};
 
 use crate::critical::{Critical, Reaches, append_keyed, critical_lines, critical_of};
 use crate::gains::gain_lines;
@@ -78,8 +78,12 @@ fn estimate_lines(
         if !fits {
             return Ok(None);
         }
-        let floor = floor_of(path, total, *count);
-        append_estimate(screen, *count, wall, floor, &mut lines)?;
+        let number = *count as u128;
+        let floor = path.max((total + (number - 1)) / number);
+        let (key, number) = (Part::Text(b"estimate"), Part::Number(number));
+        let wall = Part::Took(screen, u128::from(wall));
+        let floor = Part::Took(screen, floor);
+        append_keyed(screen, &[key, number, wall, floor], &mut lines)?;
     }
     Ok(Some(lines))
 }
@@ -102,36 +106,6 @@ fn total_of(jobs: &[Job]) -> u128
         total += u128::from(job.span.time());
     }
     total
-}
-
-fn floor_of(path: u128, total: u128, count: usize) -> u128
-    requires room { total < 2 ^ 127 }
-    ensures value { 0 < count → result ≡ floor_of path total count }
-{
-    if count == 0 {
-        return path;
-    }
-    let count = count as u128;
-    path.max((total + (count - 1)) / count)
-}
-
-fn append_estimate(
-    screen: bool,
-    count: usize,
-    wall: u64,
-    floor: u128,
-    lines: &mut Vec<u8>,
-) -> AllocResult
-    ensures items { OnOk result (lines.new.items ≡ lines.old.items ++ estimate_line screen count wall floor) }
-{
-    let count = Part::Number(count as u128);
-    let wall = Part::Took(screen, u128::from(wall));
-    let floor = Part::Took(screen, floor);
-    append_keyed(
-        screen,
-        &[Part::Text(b"estimate"), count, wall, floor],
-        lines,
-    )
 }
 
 // How long a plan takes in which so many run at a time; None, if none is found.
