@@ -2,7 +2,7 @@
 ghost use Rattle.std.specs.Prelude.{◌≡◌, ◌<◌, ◌^◌, map, IfOk, IfSome, All, ◌++◌};
 ghost use Rattle.nl_reports.specs.{Jobs.{build_commands, is_manifest_alone, last_number, seen, told, build_jobs}, Choice.{chosen, chosen_jobs}, Spans.{IsEarly}, Frame.{first_began}, Rows.{by_start, spans}, Turns.{clock_behind, jobs_in_turn, turned, turned_jobs}};
 
-use crate::job::{Job, JobsResult, between, commands_between, jobs_by_start, jobs_in, jobs_of};
+use crate::job::{Job, JobsResult, between, commands_between, jobs_by_start, jobs_in};
 use crate::span::Span;
 use nl_builds::Builds;
 use nl_tool_texts::AllocResult;
@@ -90,7 +90,7 @@ pub fn jobs_in_turn<'s, 'a>(alloc: Global, scope: Scope, from: &'s Builds<'a>) -
     let mut clock = 0;
     let mut number = first;
     for _build in builds {
-        let jobs = jobs_by_start(jobs_of(alloc, from, number)?)?;
+        let jobs = jobs_by_start(jobs_in(alloc, from, number, number)?)?;
         clock = push_build(jobs.as_slice(), clock, &mut all)?;
         number += 1;
     }

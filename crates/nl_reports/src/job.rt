@@ -1,9 +1,9 @@
 //! The commands of a build, with the entries of their outputs.
 ghost use Rattle.std.specs.Prelude.{◌≡◌, map, IfOk, All};
-ghost use Rattle.nl_reports.specs.{Jobs.{between, build_jobs, commands_between, commands_to, entries_to, first_name, job_of, jobs_between, jobs_from, seen, told}, Rows.{by_start}, Spans.{IsEarly}};
+ghost use Rattle.nl_reports.specs.{Jobs.{between, commands_between, commands_to, entries_to, first_name, job_of, jobs_between, jobs_from, seen, told}, Rows.{by_start}, Spans.{IsEarly}};
 
 use crate::moments::MOVES;
-use crate::span::Span;
+use crate::span::{NO_MOMENT, Span};
 use nl_builds::{Build, Builds, Command};
 use nl_fields::EntryRef;
 use nl_tool_texts::AllocResult;
@@ -30,14 +30,7 @@ impl<'a> Job<'_, 'a> {
 
 pub type JobsResult<'s, 'a> = AllocResult<Vec<Job<'s, 'a>>>;
 
-/// Builds are numbered from 1. No commands if there is no such build.
-pub fn jobs_of<'s, 'a>(alloc: Global, from: &'s Builds<'a>, number: usize) -> JobsResult<'s, 'a>
-    ensures value { IfOk result (λ jobs. map seen jobs.items ≡ build_jobs (told from.now) number) }
-    ensures early { IfOk result (λ jobs. All (λ j. IsEarly j.span) jobs.items) }
-{
-    jobs_in(alloc, from, number, number)
-}
-
+/// Builds are numbered from 1. No commands of those that aren't there.
 pub(crate) fn jobs_in<'s, 'a>(
     alloc: Global,
     from: &'s Builds<'a>,
@@ -47,8 +40,7 @@ pub(crate) fn jobs_in<'s, 'a>(
     ensures value { IfOk result (λ jobs. map seen jobs.items ≡ jobs_between (told from.now) first last) }
     ensures early { IfOk result (λ jobs. All (λ j. IsEarly j.span) jobs.items) }
 {
-    let start = commands_to(first.saturating_sub(1), from.builds.as_slice());
-    let place = entries_to(start, from.commands.as_slice());
+    let place = entries_to(first.saturating_sub(1), from);
     let commands = commands_between(from, first, last);
     jobs_from(alloc, place, commands, from.entries.as_slice())
 }
@@ -105,13 +97,15 @@ pub(crate) fn commands_to(count: usize, builds: &[Build]) -> usize
     builds.get(count - 1).map_or(0, |build| build.to)
 }
 
-pub(crate) fn entries_to(count: usize, commands: &[Command]) -> usize
-    ensures { result ≡ entries_to count commands.now }
+/// How many entries the commands of so many builds have.
+pub(crate) fn entries_to(count: usize, from: &Builds) -> usize
+    ensures { result ≡ entries_to (commands_to count from.now.builds.items) from.now.commands.items }
 {
-    if count == 0 {
+    let commands = commands_to(count, from.builds.as_slice());
+    if commands == 0 {
         return 0;
     }
-    commands.get(count - 1).map_or(0, |command| command.to)
+    from.commands.get(commands - 1).map_or(0, |it| it.to)
 }
 
 pub(crate) fn between<T>(from: usize, to: usize, items: &[T]) -> &[T]
@@ -120,9 +114,6 @@ pub(crate) fn between<T>(from: usize, to: usize, items: &[T]) -> &[T]
     let front = &items[..to.min(items.len())];
     &front[from.min(front.len())..]
 }
-
-// Later than each moment.
-const NO_MOMENT: u64 = 1 << 32;
 
 /// Commands of one START keep their order.
 pub fn jobs_by_start<'s, 'a>(jobs: Vec<Job<'s, 'a>>) -> JobsResult<'s, 'a>

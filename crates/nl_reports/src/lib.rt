@@ -37,7 +37,7 @@ pub use class::Class;
 pub use compare::compare_lines;
 pub use frame::step_of;
 pub use graph::{NinjaGraph, read_graph};
-pub use job::{Job, jobs_by_start, jobs_of};
+pub use job::{Job, jobs_by_start};
 pub use jobs::{ByGraph, graph_lines};
 pub use kind::{KindRule, kind_of};
 pub use kinds::kinds_of;

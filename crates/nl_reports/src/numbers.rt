@@ -2,8 +2,8 @@
 ghost use Rattle.std.specs.Prelude.{◌≡◌, map, IfOk, All};
 ghost use Rattle.nl_reports.specs.{Jobs.{seen, told}, Numbers.{IsSmall, numbers_of, spans_of}, Spans.{IsEarly, span_of}};
 
-use crate::job::{Job, commands_between, commands_to, entries_to};
-use crate::span::Span;
+use crate::job::{Job, commands_between, entries_to};
+use crate::span::{NO_MOMENT, Span};
 use nl_builds::{Builds, Command};
 use nl_tool_texts::AllocResult;
 use std::alloc::Global;
@@ -19,9 +19,6 @@ pub struct Numbers {
     pub total: u128,
 }
 
-// Later than each moment.
-const NO_MOMENT: u64 = 1 << 32;
-
 pub fn numbers_of(from: &Builds, number: usize) -> Numbers
     ensures value { result ≡ numbers_of (told from.now) number }
     ensures small { IsSmall result }
@@ -36,12 +33,10 @@ pub fn numbers_of(from: &Builds, number: usize) -> Numbers
         ended = ended.max(span.ended);
         total += u128::from(span.time());
     }
-    let first = commands_to(number.saturating_sub(1), from.builds.as_slice());
-    let end = commands_to(number, from.builds.as_slice());
-    let start = entries_to(first, from.commands.as_slice());
+    let start = entries_to(number.saturating_sub(1), from);
     Numbers {
         commands: commands.len(),
-        outputs: entries_to(end, from.commands.as_slice()).saturating_sub(start),
+        outputs: entries_to(number, from).saturating_sub(start),
         wall: ended.saturating_sub(began),
         total,
     }

@@ -4,6 +4,9 @@ ghost use Rattle.nl_reports.specs.Spans.{IsEarly, closed_of, span_of, time_of};
 
 use nl_builds::Command;
 
+// Later than each moment.
+pub(crate) const NO_MOMENT: u64 = 1 << 32;
+
 /// A moment is a count of milliseconds from 2^31 before its build began, so that none is negative.
 #[derive(Clone, Copy, Drop)]
 pub struct Span {

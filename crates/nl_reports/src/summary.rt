@@ -4,7 +4,7 @@ ghost use Rattle.nl_reports.specs.{Jobs.{build_jobs, told}, Moments.{AreMoments}
 ghost use Rattle.nl_tool_texts.specs.Falling.{falling};
 
 use crate::choice::{Choice, Scope, chosen};
-use crate::job::{between, commands_between, commands_to, entries_to, job_of};
+use crate::job::{between, commands_between, entries_to, job_of};
 use crate::kinds::kinds_of;
 use crate::lists::Lists;
 use crate::moments::{Moments, Near};
@@ -189,8 +189,7 @@ fn push_commands<'a>(
     requires weights { weights.now ≡ weights_of (spans_of (build_jobs (told from.now) number)) }
     ensures commands { OnOk result (map told_command found.new.items ≡ map told_command found.old.items ++ told_jobs (build_jobs (told from.now) number)) }
 {
-    let first = commands_to(number.saturating_sub(1), from.builds.as_slice());
-    let mut start = entries_to(first, from.commands.as_slice());
+    let mut start = entries_to(number.saturating_sub(1), from);
     let commands = commands_between(from, number, number);
     found.reserve(commands.len())?;
     for place in 0..commands.len() {

@@ -17,7 +17,7 @@ loop-build-preserved c =
     let no : Build = record { to = 0; began = None; how = AsWritten; is_sure = false } in
     let old = map seen c.loop-build.all.items in
     let ran : map seen c.as_slice-in-loop-build.result.now ≡ by_start (build_jobs t n) =
-    ap (map seen) c.as_slice-in-loop-build.ensures.value ∙ c.in_ok-jobs.ensures.value ∙ ap by_start c.in_ok-jobs_of.ensures.value in
+    ap (map seen) c.as_slice-in-loop-build.ensures.value ∙ c.in_ok-jobs.ensures.value ∙ ap by_start c.in_ok-jobs_in.ensures.value in
     let js = turned_jobs clock (by_start (build_jobs t n)) in
     let rest : ℕ → List Job = λ k. jobs_turned k t (n + 1) (drop (i + 1) bs) in
     let now = c.in_ok-clock.ensures.jobs ∙ ap (λ (l : List Job). old ++ turned_jobs clock l) ran in

@@ -27,11 +27,8 @@ returns-clause-value c =
     let so_far : l.total ≡ sum_by time cs = omega (arith, l.invariant.total, at_drop_all (λ ds. sum_by time ds) cs l.command-index all) in
     let total : l.total ≡ total_time (build_jobs t n) = so_far ∙ sym (total_from t.entries place cs) ∙ ap (λ ds. total_time (jobs_from t.entries place ds)) is in
     let commands : length cs ≡ length (build_jobs t n) = sym (length_from t.entries place cs) ∙ ap (λ ds. length (jobs_from t.entries place ds)) is in
-    let first = c.commands_to-first.ensures ∙ (λ i. commands_to (c.saturating_sub.ensures i) (c.as_slice.ensures.value i)) in
-    let last = c.commands_to-end.ensures ∙ ap (commands_to n) c.as_slice-2.ensures.value in
-    let start = c.entries_to-start.ensures ∙ (λ i. entries_to (first i) (c.as_slice-3.ensures.value i)) in
-    let end = c.entries_to.ensures ∙ (λ i. entries_to (last i) (c.as_slice-4.ensures.value i)) in
-    let outputs = c.saturating_sub-2.ensures ∙ (λ i. end i - start i) in
+    let start = c.entries_to-start.ensures ∙ (λ i. entries_to (commands_to (c.saturating_sub.ensures i) t.builds) t.commands) in
+    let outputs = c.saturating_sub-2.ensures ∙ (λ i. c.entries_to.ensures i - start i) in
     let wall = c.saturating_sub-3.ensures ∙ (λ i. ended i - began i) in
     λ i. record { commands = commands i; outputs = outputs i; wall = wall i; total = total i }
 
