@@ -1,40 +1,64 @@
 -- The last dot and the last `/` of a name.
-use Rattle.std.proofs.Common.{◌≡◌, ◌∙◌, ℕ, ◌+◌, ◌<◌, ◌==◌, cond, List, [], ◌∷◌, drop, get_or, length, zero, suc, ap, arith}
+use Rattle.std.proofs.Common.{◌≡◌, ◌∙◌, ℕ, ◌+◌, ◌<◌, ◌==◌, ◌||◌, cond, Bool, true, false, List, [], ◌∷◌, drop, get_or, length, zero, suc, ap, arith, refl, true≢false}
 use Rattle.std.proofs.lemmas.Bool.{eq-eqb, ne_eqb}
+use Rattle.memchr.specs.Find.{Nowhere, Passes, is_byte, is_byte2}
 use Rattle.nl_reports.specs.Kinds.{folder_len}
 use Rattle.nl_reports.specs.Work.{extension_behind}
 
--- no dot and no `/` in it
-abbrev pub IsPlain : List ℕ → Type 0
-IsPlain rest = (found : List ℕ) → extension_behind found rest ≡ found
+-- neither of two bytes
+neither : (a b : Bool) → (a || b ≡ true → ⊥) → (a ≡ false) × (b ≡ false)
+neither true b none = absurd (none refl)
+neither false true none = absurd (none refl)
+neither false false none = (refl, refl)
+
+pub other : (a b : Bool) → a || b ≡ true → a ≡ false → b ≡ true
+other true b is none = absurd (true≢false none)
+other false b is none = is
+
+-- no dot and no `/` from a place on
+pub plain : (name found : List ℕ) → Nowhere (Passes (is_byte2 46 47) name) 0 (length name) → extension_behind found name ≡ found
+plain [] found none = refl
+plain (c ∷ cs) found none =
+    let other = neither (c == 46) (c == 47) (none 0 (omega arith) (omega arith)) in
+    (λ i. extension_behind (cond (other.1 i) [] (cond (other.0 i) (c ∷ cs) found)) cs)
+    ∙ plain cs found (λ k low high. none (suc k) (omega arith) (omega (arith, high)))
 
 -- the last of them is a `/`
 pub last_is_slash : (name : List ℕ) (at : ℕ) (found : List ℕ) → at < length name → get_or name at 0 ≡ 47
-    → IsPlain (drop (suc at) name) → extension_behind found name ≡ []
+    → Nowhere (Passes (is_byte2 46 47) name) (at + 1) (length name) → extension_behind found name ≡ []
 last_is_slash [] at found within slash rest = absurd (omega (arith, within))
 last_is_slash (c ∷ cs) zero found within slash rest =
-    ap (λ b. extension_behind (cond b [] (cond (c == 46) (c ∷ cs) found)) cs) (eq-eqb c 47 slash) ∙ rest []
+    ap (λ b. extension_behind (cond b [] (cond (c == 46) (c ∷ cs) found)) cs) (eq-eqb c 47 slash)
+    ∙ plain cs [] (λ k low high. rest (suc k) (omega arith) (omega (arith, high)))
 last_is_slash (c ∷ cs) (suc k) found within slash rest =
-    last_is_slash cs k (cond (c == 47) [] (cond (c == 46) (c ∷ cs) found)) (omega (arith, within)) slash rest
+    last_is_slash cs k (cond (c == 47) [] (cond (c == 46) (c ∷ cs) found)) (omega (arith, within)) slash
+    (λ j low high. rest (suc j) (omega (arith, low)) (omega (arith, high)))
 
 -- the last of them is a dot
-pub last_is_dot : (name : List ℕ) (at : ℕ) (found : List ℕ) → at < length name → (get_or name at 0 ≡ 47 → ⊥) → get_or name at 0 ≡ 46
-    → IsPlain (drop (suc at) name) → extension_behind found name ≡ drop at name
-last_is_dot [] at found within slash dot rest = absurd (omega (arith, within))
-last_is_dot (c ∷ cs) zero found within slash dot rest =
-    ap (λ b. extension_behind (cond b [] (cond (c == 46) (c ∷ cs) found)) cs) (ne_eqb c 47 slash)
-    ∙ ap (λ b. extension_behind (cond b (c ∷ cs) found) cs) (eq-eqb c 46 dot) ∙ rest (c ∷ cs)
-last_is_dot (c ∷ cs) (suc k) found within slash dot rest =
-    last_is_dot cs k (cond (c == 47) [] (cond (c == 46) (c ∷ cs) found)) (omega (arith, within)) slash dot rest
+pub last_is_dot : (name : List ℕ) (at : ℕ) (found : List ℕ) → at < length name → get_or name at 0 ≡ 46
+    → Nowhere (Passes (is_byte2 46 47) name) (at + 1) (length name) → extension_behind found name ≡ drop at name
+last_is_dot [] at found within dot rest = absurd (omega (arith, within))
+last_is_dot (c ∷ cs) zero found within dot rest =
+    ap (λ b. extension_behind (cond b [] (cond (c == 46) (c ∷ cs) found)) cs) (ne_eqb c 47 (λ slash. omega (arith, dot, slash)))
+    ∙ ap (λ b. extension_behind (cond b (c ∷ cs) found) cs) (eq-eqb c 46 dot)
+    ∙ plain cs (c ∷ cs) (λ k low high. rest (suc k) (omega arith) (omega (arith, high)))
+last_is_dot (c ∷ cs) (suc k) found within dot rest =
+    last_is_dot cs k (cond (c == 47) [] (cond (c == 46) (c ∷ cs) found)) (omega (arith, within)) dot
+    (λ j low high. rest (suc j) (omega (arith, low)) (omega (arith, high)))
 
--- no `/` in it
-abbrev pub IsLeaf : List ℕ → Type 0
-IsLeaf rest = (found before : ℕ) → folder_len found before rest ≡ found
+-- no `/`
+pub leaf : (name : List ℕ) (found before : ℕ) → Nowhere (Passes (is_byte 47) name) 0 (length name) → folder_len found before name ≡ found
+leaf [] found before none = refl
+leaf (c ∷ cs) found before none =
+    ap (λ b. folder_len (cond b (before + 1) found) (before + 1) cs) (ne_eqb c 47 (λ slash. none 0 (omega arith) (omega arith) (eq-eqb c 47 slash)))
+    ∙ leaf cs found (before + 1) (λ k low high. none (suc k) (omega arith) (omega (arith, high)))
 
-pub last_slash : (name : List ℕ) (at found before : ℕ) → at < length name → get_or name at 0 ≡ 47 → IsLeaf (drop (suc at) name)
-    → folder_len found before name ≡ before + at + 1
+pub last_slash : (name : List ℕ) (at found before : ℕ) → at < length name → get_or name at 0 ≡ 47
+    → Nowhere (Passes (is_byte 47) name) (at + 1) (length name) → folder_len found before name ≡ before + at + 1
 last_slash [] at found before within slash rest = absurd (omega (arith, within))
 last_slash (c ∷ cs) zero found before within slash rest =
-    ap (λ b. folder_len (cond b (before + 1) found) (before + 1) cs) (eq-eqb c 47 slash) ∙ rest (before + 1) (before + 1) ∙ omega arith
+    ap (λ b. folder_len (cond b (before + 1) found) (before + 1) cs) (eq-eqb c 47 slash)
+    ∙ leaf cs (before + 1) (before + 1) (λ k low high. rest (suc k) (omega arith) (omega (arith, high))) ∙ omega arith
 last_slash (c ∷ cs) (suc k) found before within slash rest =
-    last_slash cs k (cond (c == 47) (before + 1) found) (before + 1) (omega (arith, within)) slash rest ∙ omega arith
+    last_slash cs k (cond (c == 47) (before + 1) found) (before + 1) (omega (arith, within)) slash
+    (λ j low high. rest (suc j) (omega (arith, low)) (omega (arith, high))) ∙ omega arith

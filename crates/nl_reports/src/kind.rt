@@ -3,7 +3,7 @@ ghost use Rattle.std.specs.Prelude.{◌≡◌};
 ghost use Rattle.nl_reports.specs.{Kinds.{folder_of, kind_of, top_of}, Work.{extension_of}};
 
 use crate::work::{word, work_of};
-use memchr::memchr;
+use memchr::{memchr, memrchr, memrchr2};
 
 #[derive(Clone, Copy, Drop)]
 pub enum KindRule {
@@ -32,30 +32,19 @@ pub fn kind_of(rule: KindRule, name: &[u8]) -> &[u8]
 pub(crate) fn extension_of(name: &[u8]) -> &[u8]
     ensures value { result.now ≡ extension_of name.now }
 {
-    let mut at = name.len();
-    'bytes: while at > 0 {
-        at -= 1;
-        if name[at] == b'/' {
-            return b"";
-        }
-        if name[at] == b'.' {
-            return &name[at..];
-        }
+    match memrchr2(b'.', b'/', name) {
+        Some(at) if name[at] == b'.' => &name[at..],
+        _ => b"",
     }
-    b""
 }
 
 fn folder_of(name: &[u8]) -> &[u8]
     ensures value { result.now ≡ folder_of name.now }
 {
-    let mut at = name.len();
-    'bytes: while at > 0 {
-        if name[at - 1] == b'/' {
-            return &name[..at];
-        }
-        at -= 1;
+    match memrchr(b'/', name) {
+        Some(at) => &name[..at + 1],
+        None => b"",
     }
-    b""
 }
 
 fn top_of(name: &[u8]) -> &[u8]
