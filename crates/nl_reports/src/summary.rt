@@ -1,6 +1,6 @@
 //! The text of `summary`.
 ghost use Rattle.std.specs.Prelude.{◌≡◌, ◌+◌, ◌++◌, ◌<◌, ◌^◌, ℕ, List, None, Some, map, max, option_map, slice_get, IfOk, OnOk};
-ghost use Rattle.nl_reports.specs.{Jobs.{build_jobs, told}, Moments.{AreMoments}, Numbers.{IsSmall, spans_of}, Rows.{highest_told, rank_told, told_command, told_jobs, weights_of}, Shares.{AreSharesOf}, Spans.{span_of}, declared.span.Span.{Span}, Summary.{AreTotalsOf, again_in, both_lists, bound, chosen_text, count_line, few_text, first_of, lists_text, most_taken, no_totals, number_lines, rows_from, slowest_line, slowest_time, summary_text, taken_in, title, total_of, totals_from, unfinished_line, with_build, with_numbers}, declared.rows.Rank.TheVariants.{Time}};
+ghost use Rattle.nl_reports.specs.{Jobs.{build_jobs, told}, Numbers.{spans_of}, Rows.{highest_told, rank_told, told_command, told_jobs, weights_of}, Summary.{AreTotalsOf, again_in, both_lists, chosen_text, count_line, few_text, first_of, lists_text, most_taken, no_totals, number_lines, rows_from, slowest_line, slowest_time, summary_text, taken_in, title, total_of, totals_from, unfinished_line, with_build}, declared.rows.Rank.TheVariants.{Time}};
 ghost use Rattle.nl_tool_texts.specs.Falling.{falling};
 
 use crate::choice::{Choice, Scope, chosen};
@@ -8,11 +8,11 @@ use crate::job::{between, commands_between, entries_to, job_of};
 use crate::kinds::kinds_of;
 use crate::lists::Lists;
 use crate::moments::{Moments, Near};
-use crate::numbers::{Numbers, numbers_of, spans_in};
+use crate::numbers::{numbers_of, spans_in};
 use crate::rows::{Listed, Listing, Rank, Weighed, append_list};
 use crate::shares::Shares;
 use crate::span::Span;
-use nl_builds::{Build, Builds, Command, How};
+use nl_builds::{Build, Builds, How};
 use nl_tool_texts::{AllocResult, Part, append_line, highest, put, ratio};
 use std::alloc::Global;
 
@@ -72,12 +72,12 @@ fn append_chosen(
         return append_unfinished(lists.screen, unfinished, lines);
     }
     let alloc = *lines.allocator();
-    let all = all_of(alloc, from, choice.first, told)?;
-    let commands = all.commands.as_slice();
+    let (totals, commands) = all_of(alloc, from, choice.first, told)?;
+    let commands = commands.as_slice();
     let by_time = highest(alloc, &Rank::Time, lists.most.max(1), commands)?;
     let by_time = by_time.as_slice();
     append_title(lists.screen, scope, choice.first, from.builds.len(), lines)?;
-    append_totals(lists.screen, &all.totals, by_time, commands, lines)?;
+    append_totals(lists.screen, &totals, by_time, commands, lines)?;
     append_slowest(lists.screen, by_time, lines)?;
     let words = b"outputs lost to later builds";
     append_count(lists.screen, b"again", words, again_in(scope, told), lines)?;
@@ -104,34 +104,26 @@ fn append_title(
     }
 }
 
-#[derive(Drop)]
-struct Summed<'a> {
-    totals: Totals,
-    commands: Vec<Weighed<'a>>,
-}
-
 fn all_of<'a>(
     alloc: Global,
     from: &Builds<'a>,
     first: usize,
     builds: &[Build],
-) -> AllocResult<Summed<'a>>
+) -> AllocResult<(Totals, Vec<Weighed<'a>>)>
     requires small { first < 2 ^ 63 }
-    ensures totals { IfOk result (λ all. all.totals ≡ totals_from no_totals (told from.now) first builds.now) }
-    ensures commands { IfOk result (λ all. map told_command all.commands.items ≡ rows_from (told from.now) first builds.now) }
-    ensures room { IfOk result (λ all. all.totals.wall < 2 ^ 120) }
+    ensures totals { IfOk result (λ all. all.0 ≡ totals_from no_totals (told from.now) first builds.now) }
+    ensures commands { IfOk result (λ all. map told_command all.1.items ≡ rows_from (told from.now) first builds.now) }
+    ensures room { IfOk result (λ all. all.0.wall < 2 ^ 120) }
 {
-    let mut all = Summed {
-        totals: Totals::default(),
-        commands: Vec::new(alloc),
-    };
+    let mut totals = Totals::default();
+    let mut commands = Vec::new(alloc);
     let mut number = first;
     for _build in builds {
-        let weights = add_numbers(alloc, from, number, &mut all.totals)?;
-        push_commands(from, number, weights.as_slice(), &mut all.commands)?;
+        let weights = add_numbers(alloc, from, number, &mut totals)?;
+        push_commands(from, number, weights.as_slice(), &mut commands)?;
         number += 1;
     }
-    Ok(all)
+    Ok((totals, commands))
 }
 
 // The weights of the commands of a build, whose numbers are added.
@@ -149,35 +141,19 @@ fn add_numbers(
     let commands = commands_between(from, number, number);
     // They are taken before what is given back here, so that all of that goes back to the system.
     let mut weights = Vec::with_capacity(alloc, commands.len())?;
-    let shares = Shares::of(alloc, moments_in(alloc, commands)?)?;
-    *totals = with_numbers(totals, &numbers_of(from, number), &shares);
+    let moments = Moments::of(alloc, spans_in(alloc, commands)?.as_slice())?;
+    let shares = Shares::of(alloc, moments)?;
+    let numbers = numbers_of(from, number);
+    totals.outputs += numbers.outputs as u128;
+    totals.wall += u128::from(numbers.wall);
+    totals.busy += u128::from(shares.busy());
+    totals.alone += u128::from(shares.alone());
+    totals.most = totals.most.max(shares.most());
     let mut near = Near::default();
     for command in commands {
         weights.push(shares.weight(&mut near, &Span::of(command)))?;
     }
     Ok(weights)
-}
-
-fn moments_in(alloc: Global, commands: &[Command]) -> AllocResult<Moments>
-    ensures value { IfOk result (AreMoments (map span_of commands.now)) }
-{
-    let spans = spans_in(alloc, commands)?;
-    Moments::of(alloc, spans.as_slice())
-}
-
-fn with_numbers(totals: &Totals, numbers: &Numbers, shares: &Shares) -> Totals
-    requires few { (n : ℕ) × ((n < 2 ^ 63) × AreTotalsOf n totals.now) }
-    requires small { IsSmall numbers.now }
-    ensures value { (cs : List Span) → AreSharesOf cs shares.now → result ≡ with_numbers totals.now numbers.now cs }
-    ensures few { (n : ℕ) → AreTotalsOf n totals.now → AreTotalsOf (n + 1) result }
-{
-    Totals {
-        outputs: totals.outputs + numbers.outputs as u128,
-        wall: totals.wall + u128::from(numbers.wall),
-        busy: totals.busy + u128::from(shares.busy()),
-        alone: totals.alone + u128::from(shares.alone()),
-        most: totals.most.max(shares.most()),
-    }
 }
 
 fn push_commands<'a>(
@@ -221,9 +197,10 @@ fn append_totals(
     let total = total_of(commands);
     let parallel = ratio(alloc, total, totals.wall)?;
     if screen {
-        let best = bound(totals.most, total, slowest_time(by_time));
-        let none = totals.wall.saturating_sub(totals.busy);
         let most = u128::from(totals.most);
+        // They take no less, if no more run at a time: the slowest takes as long as it takes.
+        let best = (total / most.max(1)).max(slowest_time(by_time));
+        let none = totals.wall.saturating_sub(totals.busy);
         return put!(lines; [Part::Took(true, totals.wall)] b"\telapsed\n" [Part::Took(true, total)]
             b"\tof work\n" {count} b"\tcommands\n" {totals.outputs} b"\toutputs\n"
             [Part::Text(parallel.as_bytes())] b"\tat a time on average\n" {most}
@@ -238,13 +215,6 @@ fn append_totals(
     )?;
     lines.extend_from_slice(text.as_bytes())?;
     Ok(())
-}
-
-// How long commands take at least that take so long together, if so many run at a time at most, and the slowest takes so long.
-fn bound(most: u64, total: u128, slowest: u128) -> u128
-    ensures value { result ≡ bound most total slowest }
-{
-    (total / u128::from(most.max(1))).max(slowest)
 }
 
 fn total_of(commands: &[Weighed]) -> u128
@@ -356,14 +326,7 @@ fn append_lists(
     let kinds = kinds_of(alloc, lists.secret, lists.rule, commands)?;
     let kinds = kinds.as_slice();
     let by_time = highest(alloc, &Rank::Time, lists.most, kinds)?;
-    append_both(
-        lists,
-        total,
-        Listed::Kinds,
-        by_time.as_slice(),
-        kinds,
-        lines,
-    )
+    append_both(lists, total, Listed::Kinds, &by_time, kinds, lines)
 }
 
 fn append_both<T: Listing>(
@@ -378,17 +341,11 @@ fn append_both<T: Listing>(
     requires room { total < 2 ^ 120 }
     ensures items { OnOk result (lines.new.items ≡ lines.old.items ++ both_lists lists total listed (map T.told all.now)) }
 {
-    append_list(lists.screen, total, listed, Rank::Time, by_time, lines)?;
-    if lists.screen {
+    let screen = lists.screen;
+    append_list(screen, total, listed, Rank::Time, by_time, lines)?;
+    if screen {
         return Ok(());
     }
     let by_weight = highest(*lines.allocator(), &Rank::Weight, lists.most, all)?;
-    append_list(
-        lists.screen,
-        total,
-        listed,
-        Rank::Weight,
-        by_weight.as_slice(),
-        lines,
-    )
+    append_list(screen, total, listed, Rank::Weight, &by_weight, lines)
 }

@@ -1,8 +1,9 @@
-use Rattle.std.proofs.Common.{◌≡◌, ◌∙◌, ◌+◌, ◌-◌, ◌≤◌, ◌++◌, ◌∷◌, [], ℕ, List, ap, append-nil, append_assoc, arith, drop, false, get_or, length, map, pos, subst, sym}
+use Rattle.std.proofs.Common.{◌≡◌, ◌∙◌, ◌+◌, ◌-◌, ◌≤◌, ◌++◌, ◌∷◌, [], ℕ, List, ap, append-nil, append_assoc, arith, drop, false, get_or, length, map, max, pos, subst, sym}
 use Rattle.std.specs.List.{Contains}
 use Rattle.std.proofs.lemmas.List.{at_drop_more, drop_all, get_or_default}
 use Rattle.nl_builds.specs.declared.command.Command.{Command}
 use Rattle.nl_reports.specs.Jobs.{build_commands, build_jobs, commands_to, entries_to, told}
+use Rattle.nl_reports.specs.Moments.{AreMoments}
 use Rattle.nl_reports.specs.Numbers.{spans_of}
 use Rattle.nl_reports.specs.Rows.{weights_of}
 use Rattle.nl_reports.specs.Spans.{span_of}
@@ -23,7 +24,8 @@ loop-command-preserved c =
     let f = weight (map span_of ds) in
     let rest = map f (map span_of (drop (i + 1) ds)) in
     let ran : c.of-in-loop-command.result ≡ span_of d = c.of-in-loop-command.ensures.value in
-    let own : c.weight.result ≡ f (span_of d) = c.weight.ensures.value (map span_of ds) (c.in_ok-shares.ensures.value _ c.in_ok-moments_in.ensures.value)
+    let are = subst (λ (cs : List Span). AreMoments cs c.in_ok-moments.moments) (c.as_slice.ensures.value ∙ c.in_ok-spans_in.ensures.value) c.in_ok-moments.ensures.value in
+    let own : c.weight.result ≡ f (span_of d) = c.weight.ensures.value (map span_of ds) (c.in_ok-shares.ensures.value _ are)
     (subst (λ (s : Span). Contains (map span_of ds) s) (sym ran) (contains_map span_of ds d (i, c.loop-command-test.true, get_or_default ds i d no c.loop-command-test.true)))
     ∙ ap f ran in
     ap (λ (l : List ℕ). l ++ rest) c.in_ok-push.ensures.items ∙ append_assoc ws (c.weight.result ∷ []) rest
@@ -35,13 +37,19 @@ pub returns-clause-totals : goal.returns-clause-totals
 returns-clause-totals c =
     let t = told c.args.from.now in
     let n = c.args.number in
+    let old = c.args.totals.now in
+    let numbers = c.numbers_of-numbers.result in
+    let are = subst (λ (cs : List Span). AreMoments cs c.in_ok-moments.moments) (c.as_slice.ensures.value ∙ c.in_ok-spans_in.ensures.value) c.in_ok-moments.ensures.value in
+    let shares = c.in_ok-shares.ensures.value _ are in
     let is : map span_of c.commands_between-commands.result.now ≡ spans_of (build_jobs t n) = ap (map span_of) c.commands_between-commands.ensures
     ∙ sym (spans_from t.entries (entries_to (commands_to (n - 1) t.builds) t.commands) (build_commands t n)) in
-    c.with_numbers.ensures.value _ (c.in_ok-shares.ensures.value _ c.in_ok-moments_in.ensures.value)
-    ∙ (λ i. with_numbers c.args.totals.now (c.numbers_of.ensures.value i) (is i))
-
-pub returns-clause-few : goal.returns-clause-few
-returns-clause-few c = λ n are. c.with_numbers.ensures.few n are
+    (λ i. record {
+      outputs = old.outputs + numbers.outputs;
+      wall = old.wall + c.from.ensures i;
+      busy = old.busy + (c.from-2.ensures ∙ c.busy.ensures.value _ shares) i;
+      alone = old.alone + (c.from-3.ensures ∙ c.alone.ensures.value _ shares) i;
+      most = (c.max-totals.ensures ∙ ap (max old.most) (c.most.ensures.value _ shares)) i;
+    }) ∙ (λ i. with_numbers old (c.numbers_of-numbers.ensures.value i) (is i))
 
 pub returns-clause-weights : goal.returns-clause-weights
 returns-clause-weights c =

@@ -15,11 +15,11 @@ loop-build-preserved c =
     let i = c.loop-build._build-index in
     let n = c.loop-build.number in
     let no : Build = record { to = 0; began = None; how = AsWritten; is_sure = false } in
-    let old = map told_command c.loop-build.all.commands.items in
+    let old = map told_command c.loop-build.commands.items in
     let rest = drop (i + 1) bs in
     record {
       totals = ap (λ (s : Totals). totals_from s t (n + 1) rest) c.in_ok-weights.ensures.totals
-          ∙ sym (at_drop_more (λ (l : List Build). totals_from c.loop-build.all.totals t n l) bs i no c.loop-build-test.true)
+          ∙ sym (at_drop_more (λ (l : List Build). totals_from c.loop-build.totals t n l) bs i no c.loop-build-test.true)
           ∙ c.loop-build.invariant.totals;
       commands = ap (λ (l : List Told). l ++ rows_from t (n + 1) rest) c.in_ok-push_commands.ensures.commands
           ∙ append_assoc old (told_jobs (build_jobs t n)) (rows_from t (n + 1) rest)

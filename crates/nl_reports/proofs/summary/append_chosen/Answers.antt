@@ -28,7 +28,7 @@ returns c =
     let t = told c.args.from.now in
     let first = c.args.choice.first in
     let bs = c.between-told.result.now in
-    let ts = c.in_ok-all.all.totals in
+    let ts = c.in_ok-totals.totals in
     let rows = c.as_slice-commands.ensures.value in
     let us = map told_command c.as_slice-commands.result.now in
     let taken = c.again_in.result in
@@ -50,7 +50,7 @@ returns c =
           (c.in_ok-append_totals.ensures.items ∙ ap (λ (l : List ℕ). l ++ number_lines screen ts us) c.in_ok-append_title.ensures.items))))
           ∙ parts_in_order old head (number_lines screen ts us) slow (again_line screen taken) last (lists_text c.args.lists us) in
           whole
-          ∙ (λ i. old ++ text_of (title screen c.args.scope first ((c.len.ensures ∙ c.args.from.now.builds.ok.0) i)) c.args.lists c.args.unfinished (c.in_ok-all.ensures.totals i) ((ap (map told_command) rows ∙ c.in_ok-all.ensures.commands) i) (c.again_in.ensures i))
+          ∙ (λ i. old ++ text_of (title screen c.args.scope first ((c.len.ensures ∙ c.args.from.now.builds.ok.0) i)) c.args.lists c.args.unfinished (c.in_ok-totals.ensures.totals i) ((ap (map told_command) rows ∙ c.in_ok-totals.ensures.commands) i) (c.again_in.ensures i))
           ∙ ap (λ (l : List ℕ). old ++ l) (sym (some_told c.args.scope c.args.lists c.args.unfinished t first bs (λ none. true≢false (sym (eq-eqb _ 0 none) ∙ sym c.is_empty.ensures ∙ c.if-is_empty.false))))
           ∙ ap (λ (l : List Build). old ++ builds_told c.args.scope c.args.lists c.args.unfinished t first l) chosen) c.append_lists.ensures.items;
     }

@@ -12,4 +12,4 @@ append_both-requires-clause-by_time c =
 
 pub append_both-requires-2-clause-by_time : goal.append_both-requires-2-clause-by_time
 append_both-requires-2-clause-by_time c =
-    highest_are told_row (rank_told Time) c.args.lists.most c.as_slice-kinds.result.now c.as_slice.result.now (c.as_slice.ensures.value ∙ c.in_ok-by_time.ensures.value)
+    highest_are told_row (rank_told Time) c.args.lists.most c.as_slice-kinds.result.now c.deref.result.now (c.deref.ensures.value ∙ c.in_ok-by_time.ensures.value)

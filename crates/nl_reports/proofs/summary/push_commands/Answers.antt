@@ -31,7 +31,7 @@ loop-place-preserved c =
     found ∙ ap (λ (ws : List _). get_or ws i 0) (c.requires.weights ∙ ap (map (weight cs)) same)
     ∙ get_or-map (weight cs) (map span_of ds) i (span_of no) 0 (rw length-map within) ∙ ap (weight cs) (get_or-map span_of ds i no (span_of no) within) in
     let job : seen c.job_of.result ≡ job_of t.entries start d =
-    c.job_of.ensures.value ∙ ap (λ (es : List Entry). job_of es start d) c.as_slice-in-loop-place.ensures.value in
+    c.job_of.ensures.value ∙ ap (λ (es : List Entry). job_of es start d) c.as_slice.ensures.value in
     let name : c.name.result.now ≡ first_name (job_of t.entries start d).outputs = c.name.ensures ∙ ap (λ (j : Job). first_name j.outputs) job in
     let time : c.saturating_sub-in-loop-place.result ≡ time_of (span_of d) = c.saturating_sub-in-loop-place.ensures in
     let r : Weighed = record { name = c.name.result; weight = c.unwrap_or.result; time = c.saturating_sub-in-loop-place.result } in
