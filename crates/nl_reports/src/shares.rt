@@ -1,7 +1,8 @@
 //! How much of the time of a build each command counts for, by a sweep over the moments at which commands begin and end.
-ghost use Rattle.std.specs.Prelude.{◌≡◌, ◌-◌, List, get_or, max, IfOk, All, Contains, ◌⊎◌, ◌+◌, ◌*◌, ◌<◌, ◌≤◌, ◌^◌, ℕ, [], map, length, slice_index, EachIndex, IsTrue, MatchBool, OnOk};
+ghost use Rattle.std.specs.Prelude.{◌≡◌, List, IfOk, All, Contains, ◌⊎◌, ◌+◌, ◌*◌, ◌<◌, ◌≤◌, ◌^◌, ℕ, [], map, length, slice_index, EachIndex, IsTrue, MatchBool, OnOk};
 ghost use Rattle.nl_reports.specs.{Moments.{AreMoments}, Sweep.{alone_time, busy_time, most_at_once, weight, share_of, parts}, declared.span.Span.{Span}, Shares.{AreSharesOf}, SweepSteps.{AreSums, IsLow, IsSwept, Rises, running_by, shares_before}};
 
+use crate::last_entries::item_at;
 use crate::moments::{Moments, Near, up_to};
 use crate::span::Span;
 use nl_tool_texts::AllocResult;
@@ -41,10 +42,10 @@ impl Shares {
     pub fn most(&self) -> u64
         ensures value { (cs : List Span) → AreSharesOf cs self.now → result ≡ most_at_once cs }
     {
-        let mut most = 0;
+        let mut most: u64 = 0;
         let mut near = Near::default();
         for at in &self.moments.starts {
-            most = larger(most, self.moments.running_near(&mut near, *at));
+            most = most.max(self.moments.running_near(&mut near, *at));
         }
         most
     }
@@ -58,23 +59,10 @@ impl Shares {
         }
         near.begun = up_to(self.moments.starts.as_slice(), near.begun, span.began);
         near.ended = up_to(self.moments.ends.as_slice(), near.ended, span.ended);
-        let before = share_at(self.swept.at_starts.as_slice(), near.begun);
-        let after = share_at(self.swept.at_ends.as_slice(), near.ended);
+        let before = item_at(&self.swept.at_starts, near.begun.saturating_sub(1), 0);
+        let after = item_at(&self.swept.at_ends, near.ended.saturating_sub(1), 0);
         after.saturating_sub(before)
     }
-}
-
-fn larger(a: u64, b: u64) -> u64
-    ensures { result ≡ max a b }
-{
-    a.max(b)
-}
-
-// What stands before a place.
-fn share_at(shares: &[u64], place: usize) -> u64
-    ensures { result ≡ get_or shares.now (place - 1) 0 }
-{
-    shares.get(place.saturating_sub(1)).copied().unwrap_or(0)
 }
 
 // The parts of a millisecond: up to 22 commands share them with nothing left.

@@ -12,7 +12,7 @@ loop-at-preserved c = λ cs are.
     let most = c.loop-at.most in
     let items = c.deref-at-items.ensures.value in
     let within : i < length starts = omega (arith, c.loop-at-test.true, ap (λ (l : List ℕ). length l) items) in
-    ap (λ (n : ℕ). fold (λ m t. max m (running cs t)) n (drop (i + 1) starts)) (c.larger-most.ensures ∙ ap (max most) (c.running_near.ensures.value cs are.moments
+    ap (λ (n : ℕ). fold (λ m t. max m (running cs t)) n (drop (i + 1) starts)) (c.max-most.ensures ∙ ap (max most) (c.running_near.ensures.value cs are.moments
     ∙ ap (λ (l : List ℕ). running cs (get_or l i 0)) items))
     ∙ sym (at_drop_more (λ (l : List ℕ). fold (λ m t. max m (running cs t)) most l) starts i 0 within)
     ∙ c.loop-at.invariant cs are

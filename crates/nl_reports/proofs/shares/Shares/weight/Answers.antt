@@ -1,4 +1,4 @@
-use Rattle.std.proofs.Common.{◌≡◌, ◌∙◌, ◌<◌, arith}
+use Rattle.std.proofs.Common.{◌≡◌, ◌∙◌, ◌<◌, ℕ, ap, arith, get_or}
 use Rattle.nl_reports.specs.SweepSteps.{shares_before}
 use Rattle.nl_reports.proofs.SharesLemmas.{end_there, ends_shares, found_share, no_weight, start_there, starts_shares, weight_is}
 use Rattle.nl_reports.proofs.shares.Shares.weight.Goals as goal
@@ -15,11 +15,13 @@ returns c = record {
       let runs : span.began < span.ended = omega (arith, c.if-span.false) in
       let begun = rw c.as_slice.ensures.value at c.up_to-near.ensures in
       let ended = rw c.as_slice-2.ensures.value at c.up_to-near-2.ensures in
-      let before : c.share_at-before.result ≡ f span.began = c.share_at-before.ensures
-      ∙ found_share s.moments.starts.items _ span.began _ f are.moments.starts_rise (c.as_slice-3.ensures.value ∙ starts_shares cs s are)
+      let before : c.item_at-before.result ≡ f span.began = c.item_at-before.ensures
+      ∙ ap (λ (n : ℕ). get_or c.deref.result.now n 0) c.saturating_sub.ensures
+      ∙ found_share s.moments.starts.items _ span.began _ f are.moments.starts_rise (c.deref.ensures.value ∙ starts_shares cs s are)
       begun.within (begun.before are.moments.starts_rise) (begun.after are.moments.starts_rise) (start_there cs s are span among) in
-      let after : c.share_at-after.result ≡ f span.ended = c.share_at-after.ensures
-      ∙ found_share s.moments.ends.items _ span.ended _ f are.moments.ends_rise (c.as_slice-4.ensures.value ∙ ends_shares cs s are)
+      let after : c.item_at-after.result ≡ f span.ended = c.item_at-after.ensures
+      ∙ ap (λ (n : ℕ). get_or c.deref-2.result.now n 0) c.saturating_sub-2.ensures
+      ∙ found_share s.moments.ends.items _ span.ended _ f are.moments.ends_rise (c.deref-2.ensures.value ∙ ends_shares cs s are)
       ended.within (ended.before are.moments.ends_rise) (ended.after are.moments.ends_rise) (end_there cs s are span among runs) in
-      c.saturating_sub.ensures ∙ (rw (before, after) (weight_is cs s are span among runs));
+      c.saturating_sub-3.ensures ∙ (rw (before, after) (weight_is cs s are span among runs));
 }
