@@ -15,7 +15,8 @@ use json::Writer;
 use nl_builds::{Builds, How};
 use nl_fields::append_hex64;
 use nl_tool_texts::{
-    AllocResult, ToolFault, append, append_with, is_bare, write_full, write_out, write_rest,
+    AllocResult, Part, ToolFault, append, append_with, is_bare, put, write_full, write_out,
+    write_rest,
 };
 use std::alloc::Global;
 use std::io::Write;
@@ -89,25 +90,18 @@ pub(crate) struct BuildEvent {
 }
 
 /// Appends the name of a build, which says whether it was found again, and how many of its outputs later builds may have taken.
-pub(crate) fn append_build(build: BuildEvent, out: &mut Vec<u8>) -> AllocResult
+fn append_build(build: BuildEvent, out: &mut Vec<u8>) -> AllocResult
     ensures items { OnOk result (out.new.items ≡ out.old.items ++ event_text (build_event build)) }
 {
-    let alloc = *out.allocator();
     let number = build.number;
-    let name = build_name(alloc, number)?;
+    let name = build_name(*out.allocator(), number)?;
     match build.how {
-        How::AsWritten => {
-            let text = format!(in alloc;
-                "{{\"args\":{{\"name\":\"{name}\",\"rewritten\":false}},\"name\":\"process_name\",\"ph\":\"M\",\"pid\":{number}}}"
-            )?;
-            append(text.as_bytes(), out)
-        }
-        How::FoundAgain { taken } => {
-            let text = format!(in alloc;
-                "{{\"args\":{{\"name\":\"{name}, found again\",\"rewritten\":true,\"taken\":{taken}}},\"name\":\"process_name\",\"ph\":\"M\",\"pid\":{number}}}"
-            )?;
-            append(text.as_bytes(), out)
-        }
+        How::AsWritten => put!(out; b"{\"args\":{\"name\":\"" [Part::Text(name.as_bytes())]
+            b"\",\"rewritten\":false},\"name\":\"process_name\",\"ph\":\"M\",\"pid\":" {number} b"}"),
+        How::FoundAgain { taken } =>
+            put!(out; b"{\"args\":{\"name\":\"" [Part::Text(name.as_bytes())]
+            b", found again\",\"rewritten\":true,\"taken\":" {taken}
+            b"},\"name\":\"process_name\",\"ph\":\"M\",\"pid\":" {number} b"}"),
     }
 }
 
@@ -121,12 +115,7 @@ fn build_name(alloc: Global, number: u64) -> AllocResult<String>
 }
 
 /// Appends a command in a lane, after a comma.
-pub(crate) fn append_command(
-    build: BuildEvent,
-    lane: u64,
-    job: &Job,
-    out: &mut Vec<u8>,
-) -> AllocResult
+fn append_command(build: BuildEvent, lane: u64, job: &Job, out: &mut Vec<u8>) -> AllocResult
     requires early { IsEarly job.now.span }
     requires lane { lane < 2 ^ 63 }
     ensures items { OnOk result (out.new.items ≡ out.old.items ++ 44 ∷ event_text (command_event build lane (seen job.now))) }
@@ -188,7 +177,7 @@ fn append_shown(is_bare: bool, name: &[u8], out: &mut Vec<u8>) -> AllocResult
 }
 
 /// Appends how many commands run at a moment, after a comma.
-pub(crate) fn append_running(
+fn append_running(
     build: BuildEvent,
     moments: &Moments,
     near: &mut Near,
