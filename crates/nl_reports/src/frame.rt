@@ -2,7 +2,7 @@
 ghost use Rattle.std.specs.Prelude.{◌≡◌, ◌<◌, ◌≤◌, ◌^◌, ◌++◌, List, OnOk, All};
 ghost use Rattle.nl_reports.specs.{Curve.{curve}, Frame.{IsFrame, first_began, foot_of, frame_of, height, line_at, pitch, seconds, x_at, x_of, y_at}, Moments.{AreMoments}, Spans.{IsEarly}, Ticks.{step_of, ticks}, declared.span.Span.{Span}};
 
-use crate::moments::Moments;
+use crate::moments::{Moments, Near};
 use crate::span::Span;
 use nl_tool_texts::{AllocResult, Part, put};
 
@@ -149,8 +149,9 @@ pub(crate) fn append_curve(frame: &Frame, moments: &Moments, out: &mut Vec<u8>) 
     let foot = frame.foot();
     let most = u128::from(frame.top) + 1;
     put!(out; b"<path class=\"q\" d=\"M1000 " {foot})?;
+    let mut near = Near::default();
     for i in 0..480_u64 {
-        let count = moments.running(frame.began + i * frame.wall / 480);
+        let count = moments.running_near(&mut near, frame.began + i * frame.wall / 480);
         let high = u128::from(count) * 800 / most;
         put!(out; b"V" {foot.saturating_sub(high)} b"H" {1030 + i * 30})?;
     }

@@ -36,13 +36,7 @@ impl Moments {
         Ok(Moments { starts, ends })
     }
 
-    pub fn running(&self, at: u64) -> u64
-        ensures value { (cs : List Span) → AreMoments cs self.now → result ≡ running cs at }
-    {
-        self.running_near(&mut Near::default(), at)
-    }
-
-    /// It is the quicker the nearer the moment is to the one before.
+    /// How many commands run at a moment. It is the quicker the nearer it is to the one before.
     pub(crate) fn running_near(&self, near: &mut Near, at: u64) -> u64
         ensures value { (cs : List Span) → AreMoments cs self.now → result ≡ running cs at }
     {

@@ -15,7 +15,7 @@ loop-i-preserved c =
     let n = c.loop-i.i in
     λ cs are. one_more_point c.args.frame.now cs n c.put.new.out.items c.loop-i.out.items c.put-in-loop-i.new.out.items (c.loop-i.invariant cs are)
     (c.in_ok-put-2.ensures.items ∙ (λ k. c.loop-i.out.items ++ joined (codes "V"
-    ∷ decimal ((c.saturating_sub.ensures ∙ (λ i. c.foot-foot.ensures.value i - (c.from.ensures ∙ c.running-count.ensures.value cs are) i * 800 / (c.from-most.ensures i + 1))) k)
+    ∷ decimal ((c.saturating_sub.ensures ∙ (λ i. c.foot-foot.ensures.value i - (c.from.ensures ∙ c.running_near-count.ensures.value cs are) i * 800 / (c.from-most.ensures i + 1))) k)
     ∷ codes "H" ∷ decimal (1030 + n * 30) ∷ [])))
 
 pub returns : goal.returns
