@@ -1,6 +1,6 @@
 //! The text of `picture`: builds as SVG.
-ghost use Rattle.std.specs.Prelude.{◌≡◌, ℕ, ◌<◌, ◌+◌, ◌^◌, ◌++◌, Some, map, option_map, replicate, IfErr, IfOk, OnOk, All};
-ghost use Rattle.nl_reports.specs.{Bars.{no_short}, Frame.{IsFrame}, GraphText.{seen_graph}, Jobs.{seen, told}, Picture.{IsPicture, bars, end, known_in, known_line, legend_kind, longest, name, outlined, picture, start}, Reaches.{rans_of}, Spans.{IsEarly, time_of}, Times.{AreTimesOf}};
+ghost use Rattle.std.specs.Prelude.{◌≡◌, ℕ, ◌<◌, ◌+◌, ◌^◌, ◌++◌, ◌*◌, ◌/◌, Some, map, max, option_map, replicate, IfErr, IfOk, OnOk, All};
+ghost use Rattle.nl_reports.specs.{Bars.{no_short}, Frame.{IsFrame}, GraphText.{seen_graph}, Jobs.{seen, told}, Picture.{IsPicture, bars, end, known_in, known_line, legend_text, longest, name_of, outlined, picture, start}, Reaches.{rans_of}, Spans.{IsEarly, time_of}, Work.{place, word}};
 ghost use Rattle.nl_tool_texts.specs.Writing.{IsFoundFault, IsWriteFault, PrintsInPieces, Writes};
 
 use crate::bars::{Short, append_bar, append_short};
@@ -131,22 +131,23 @@ fn append_start(frame: &Frame, known: Known, jobs: &[Job], out: &mut Vec<u8>) ->
     ensures items { OnOk result (out.new.items ≡ out.old.items ++ start frame.now known (map seen jobs.now)) }
 {
     let times = Times::of(jobs);
+    let total = times.total();
     let commands = jobs.len() as u64;
     let height = frame.line_at(commands.min(LISTED) + 1);
     put!(out; b"<svg xmlns=\"http://www.w3.org/2000/svg\" width=\"1600\" height=\"" {height / 10}
         b"\" viewBox=\"0 0 16000 " {height}
         b"\" role=\"img\" aria-labelledby=\"t\" font-family=\"sans-serif\" font-size=\"120\">\n<title id=\"t\">")?;
-    append_name(frame, &times, commands, out)?;
+    append_name(frame, total, commands, out)?;
     append(STYLE, out)?;
-    append_name(frame, &times, commands, out)?;
+    append_name(frame, total, commands, out)?;
     append(b"</text>\n", out)?;
     append_known(known, out)?;
-    append_kind(&times, Work::Compile, out)?;
-    append_kind(&times, Work::Link, out)?;
-    append_kind(&times, Work::Archive, out)?;
-    append_kind(&times, Work::Generate, out)?;
-    append_kind(&times, Work::Test, out)?;
-    append_kind(&times, Work::Other, out)?;
+    append_kind(total, times.compile, Work::Compile, out)?;
+    append_kind(total, times.link, Work::Link, out)?;
+    append_kind(total, times.archive, Work::Archive, out)?;
+    append_kind(total, times.generate, Work::Generate, out)?;
+    append_kind(total, times.test, Work::Test, out)?;
+    append_kind(total, times.other, Work::Other, out)?;
     append_ticks(frame, out)?;
     append(b"<g class=\"t\" font-size=\"110\">\n", out)
 }
@@ -183,12 +184,11 @@ fn none_short(alloc: Global, top: u64) -> AllocResult<Vec<Short>>
     Ok(shorts)
 }
 
-fn append_name(frame: &Frame, times: &Times, commands: u64, out: &mut Vec<u8>) -> AllocResult
-    requires few { AreTimesOf commands times.now }
-    requires small { commands < 2 ^ 63 }
-    ensures items { OnOk result (out.new.items ≡ out.old.items ++ name frame.now times.now commands) }
+fn append_name(frame: &Frame, total: u128, commands: u64, out: &mut Vec<u8>) -> AllocResult
+    requires room { total < 2 ^ 120 }
+    ensures items { OnOk result (out.new.items ≡ out.old.items ++ name_of commands frame.now.wall (total * 10 / max 1 frame.now.wall)) }
 {
-    let tenths = times.total() * 10 / u128::from(frame.wall.max(1));
+    let tenths = total * 10 / u128::from(frame.wall.max(1));
     let word: &[u8] = if commands == 1 {
         b" command in "
     } else {
@@ -206,25 +206,24 @@ fn append_known(known: Known, out: &mut Vec<u8>) -> AllocResult
         Known::FoundAgain { taken } => put!(out;
             b"<text class=\"m\" x=\"15400\" y=\"380\" text-anchor=\"end\">found again: later builds may have taken "
             {taken} b" of its outputs</text>\n"),
-        Known::SomeAgain => append(
-            b"<text class=\"m\" x=\"15400\" y=\"380\" text-anchor=\"end\">builds were found again</text>\n",
-            out,
-        ),
+        Known::SomeAgain => put!(out;
+            b"<text class=\"m\" x=\"15400\" y=\"380\" text-anchor=\"end\">builds were found again</text>\n"),
         Known::Missing { builds } => put!(out;
             b"<text class=\"m\" x=\"15400\" y=\"380\" text-anchor=\"end\">no such build; builds: "
             {builds} b"</text>\n"),
     }
 }
 
-fn append_kind(times: &Times, work: Work, out: &mut Vec<u8>) -> AllocResult
-    requires few { (n : ℕ) × ((n < 2 ^ 63) × AreTimesOf n times.now) }
-    ensures items { OnOk result (out.new.items ≡ out.old.items ++ legend_kind times.now work) }
+// The part of the time is in parts of a hundred, rounded down.
+fn append_kind(total: u128, time: u128, work: Work, out: &mut Vec<u8>) -> AllocResult
+    requires room { time < 2 ^ 120 }
+    ensures items { OnOk result (out.new.items ≡ out.old.items ++ legend_text (place work) (word work) (time * 100 / max 1 total)) }
 {
     let kind = u128::from(place(work));
     let x = 1000 + kind * 1800;
     put!(out; b"<rect class=\"k" {kind} b"\" x=\"" {x}
         b"\" y=\"540\" width=\"140\" height=\"140\"/><text x=\"" {x + 200} b"\" y=\"655\">"
-        [Part::Text(word(work))] b" " {times.share_of(work)} b" %</text>\n")
+        [Part::Text(word(work))] b" " {time * 100 / total.max(1)} b" %</text>\n")
 }
 
 fn append_longest(frame: &Frame, jobs: &[Job], out: &mut Vec<u8>) -> AllocResult

@@ -1,6 +1,6 @@
 //! What a command does, by the extension of its first output, and how long commands took by it.
 ghost use Rattle.std.specs.Prelude.{◌≡◌, map, ◌+◌, ◌<◌, ◌^◌, ℕ, length, All};
-ghost use Rattle.nl_reports.specs.{Work.{is_in, place, word, work_of}, Jobs.{seen}, Spans.{IsEarly}, Times.{AreTimesOf, share_of, times_of, total}};
+ghost use Rattle.nl_reports.specs.{Work.{is_in, place, word, work_of}, Jobs.{seen}, Spans.{IsEarly}, Times.{AreTimesOf, times_of, total}};
 
 use crate::job::Job;
 use crate::kind::extension_of;
@@ -117,21 +117,5 @@ impl Times {
         ensures bound { result < 2 ^ 120 }
     {
         self.compile + self.link + self.archive + self.generate + self.test + self.other
-    }
-
-    /// In parts of a hundred, rounded down.
-    pub(crate) fn share_of(&self, work: Work) -> u128
-        requires few { (n : ℕ) × ((n < 2 ^ 63) × AreTimesOf n self.now) }
-        ensures value { result ≡ share_of self.now work }
-    {
-        let time = match work {
-            Work::Compile => self.compile,
-            Work::Link => self.link,
-            Work::Archive => self.archive,
-            Work::Generate => self.generate,
-            Work::Test => self.test,
-            Work::Other => self.other,
-        };
-        time * 100 / self.total().max(1)
     }
 }
