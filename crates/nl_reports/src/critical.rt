@@ -6,7 +6,7 @@ ghost use Rattle.nl_tool_texts.specs.Texts.{part_text};
 use crate::graph::NinjaGraph;
 use crate::job::Job;
 use crate::last_entries::any_named;
-use crate::outputs::Outputs;
+use crate::outputs::{Outputs, outputs_of};
 use crate::span::Span;
 use indexmap::IndexSet;
 use nl_builds::NameKey;
@@ -113,13 +113,12 @@ pub(crate) fn name_at<'a>(graph: &NinjaGraph<'a>, node: usize) -> Option<&'a [u8
 }
 
 fn ran_named<'a>(name: Option<&'a [u8]>, outputs: &Outputs, jobs: &[Job]) -> Option<Ran<'a>>
-    ensures value { HoldPlaces (places_of (map seen jobs.now)) outputs.now.places.entries
+    ensures value { HoldPlaces (places_of (map seen jobs.now)) outputs.now.entries
         → option_map ran_seen result ≡ ran_named_in (map seen jobs.now) name.entry }
 {
     let name = name?;
-    let place = outputs.place_of(name)?;
-    let job = jobs.get(place)?;
-    let span = job.span;
+    let place = *outputs.get(name)?;
+    let span = jobs.get(place)?.span;
     Some(Ran { span, name, place })
 }
 
@@ -200,7 +199,7 @@ impl<'g, 'a> Reaches<'g, 'a> {
     ) -> AllocResult<Reaches<'g, 'a>>
         ensures value { IfOk result (AreOf graph.now (map seen jobs.now)) }
     {
-        let outputs = Outputs::of(alloc, secret, jobs)?;
+        let outputs = outputs_of(alloc, secret, jobs)?;
         let mut ran = Vec::new(alloc);
         for node in 0..graph.nodes.len() {
             ran.push(ran_named(name_at(graph, node), &outputs, jobs))?;

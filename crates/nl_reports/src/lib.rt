@@ -46,7 +46,6 @@ pub use last_entries::lasting;
 pub use lists::Lists;
 pub use moments::{Moments, Near};
 pub use numbers::{Numbers, numbers_of};
-pub use outputs::Outputs;
 pub use picture::{Known, draw_builds};
 pub use rows::{Listed, Rank, Row, Sums, Weighed};
 pub use shares::Shares;

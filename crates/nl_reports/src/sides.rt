@@ -5,7 +5,7 @@ ghost use Rattle.nl_reports.specs.{Compare.{compared, compared_of, cost_of, fres
 use crate::class::Class;
 use crate::job::{Job, jobs_from};
 use crate::last_entries::{any_named, item_at, names_of, set_at};
-use crate::outputs::Outputs;
+use crate::outputs::{Outputs, outputs_of};
 use indexmap::IndexSet;
 use nl_builds::{Builds, NameKey};
 use nl_table::Secret;
@@ -80,7 +80,7 @@ pub fn compared<'a>(
 {
     let before = Held::of(alloc, secret, old)?;
     let after = Held::of(alloc, secret, new)?;
-    let outputs = Outputs::of(alloc, secret, after.jobs.as_slice())?;
+    let outputs = outputs_of(alloc, secret, after.jobs.as_slice())?;
     let mut left = vec![in alloc; true; after.jobs.len()]?;
     let mut rows = Vec::new(alloc);
     push_pairs(rules, &before, &after, &outputs, &mut left, &mut rows)?;
@@ -97,7 +97,7 @@ fn push_pairs<'a>(
     left: &mut Vec<bool>,
     rows: &mut Vec<ComparedRow<'a>>,
 ) -> AllocResult
-    requires held { HoldPlaces (places_of (map seen new.now.jobs.items)) outputs.now.places.entries }
+    requires held { HoldPlaces (places_of (map seen new.now.jobs.items)) outputs.now.entries }
     ensures rows { OnOk result (map compared_of rows.new.items
         ++ map (told_pair rules (held_side old.now) (held_side new.now)) (pairs_from (map seen new.now.jobs.items) left.new.items [])
         ≡ map compared_of rows.old.items ++ map (told_pair rules (held_side old.now) (held_side new.now))
@@ -133,12 +133,12 @@ fn push_fresh<'a>(
 }
 
 fn partner(outputs: &Outputs, left: &[bool], job: &Job) -> Option<usize>
-    ensures value { (ps : List (List ℕ × ℕ)) → HoldPlaces ps outputs.now.places.entries → result ≡ partner ps left.now job.now.outputs.now }
+    ensures value { (ps : List (List ℕ × ℕ)) → HoldPlaces ps outputs.now.entries → result ≡ partner ps left.now job.now.outputs.now }
 {
     for entry in job.outputs {
-        if let Some(place) = outputs.place_of(entry.name()) {
-            if item_at(left, place, false) {
-                return Some(place);
+        if let Some(place) = outputs.get(entry.name()) {
+            if item_at(left, *place, false) {
+                return Some(*place);
             }
         }
     }

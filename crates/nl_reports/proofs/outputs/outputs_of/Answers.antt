@@ -5,7 +5,7 @@ use Rattle.nl_reports.specs.Jobs.{seen}
 use Rattle.nl_reports.specs.Outputs.{HoldPlaces, outputs_at, places_from}
 use Rattle.nl_reports.specs.declared.job.Job.{Job}
 use Rattle.nl_reports.proofs.OutputsLemmas.{held_push, outputs_more, places_more}
-use Rattle.nl_reports.proofs.outputs.Outputs.of.Goals as goal
+use Rattle.nl_reports.proofs.outputs.outputs_of.Goals as goal
 
 pub loop-entry-init : goal.loop-entry-init
 loop-entry-init c =

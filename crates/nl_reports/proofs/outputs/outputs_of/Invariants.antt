@@ -1,7 +1,7 @@
 use Rattle.std.proofs.Common.{◌++◌, map, take}
 use Rattle.nl_reports.specs.Jobs.{seen}
 use Rattle.nl_reports.specs.Outputs.{HoldPlaces, outputs_at, places_from}
-use Rattle.nl_reports.proofs.outputs.Outputs.of.Given as goal
+use Rattle.nl_reports.proofs.outputs.outputs_of.Given as goal
 
 -- the outputs of the commands so far
 abbrev pub invariant-loop-place : goal.invariant-loop-place
