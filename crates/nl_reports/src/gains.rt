@@ -3,7 +3,7 @@ ghost use Rattle.std.specs.Prelude.{◌≡◌, List, IfOk, OnOk};
 ghost use Rattle.nl_reports.specs.{Found.{IsFound}, Gains.{AreGainsOf, IsGain, IsHalfPath}, GraphText.{seen_graph}, Jobs.{Job as SeenJob}, Reaches.{AreOf, ran_seen}, Spans.{time_of}, declared.graph.NinjaGraph.{NinjaGraph as HeldGraph}};
 
 use crate::critical::{Critical, Ran, Reaches, append_keyed};
-use nl_tool_texts::{AllocResult, Part, Ranking, append, highest};
+use nl_tool_texts::{AllocResult, Part, Ranking, highest, put};
 
 /// For so many commands of the critical path, those that took the longest, how much shorter it is if one of them took half.
 pub(crate) fn gain_lines(screen: bool, most: usize, found: &Critical) -> AllocResult<Vec<u8>>
@@ -14,10 +14,7 @@ pub(crate) fn gain_lines(screen: bool, most: usize, found: &Critical) -> AllocRe
     let longest = highest(*commands.allocator(), &ByTime, most, commands.as_slice())?;
     let mut lines = Vec::new(*commands.allocator());
     if screen && most > 0 {
-        append(
-            b"\nSaved if a command took half\nSaved\tOutput\n",
-            &mut lines,
-        )?;
+        put!(&mut lines; b"\nSaved if a command took half\nSaved\tOutput\n")?;
     }
     for i in 0..longest.len() {
         append_gain(screen, found, &longest[i], &mut lines)?;
