@@ -94,35 +94,35 @@ module _ (cs : List Span) (s : Shares) (are : AreSharesOf cs s) where
     sum_by-IsPermutation (λ (m : ℕ). cond (nat_le m t) 1 0) (map closed_of cs) s.moments.ends.items are.moments.ends,
   )
 
-  ends_by : All (λ c. c.ended ≤ s.swept.sums.at) cs
+  ends_by : All (λ c. c.ended ≤ s.sums.at) cs
   ends_by =
-      let swept : All (λ (e : ℕ). e ≤ s.swept.sums.at) s.moments.ends.items = All-from_get_or (λ (e : ℕ). e ≤ s.swept.sums.at) s.moments.ends.items 0
+      let swept : All (λ (e : ℕ). e ≤ s.sums.at) s.moments.ends.items = All-from_get_or (λ (e : ℕ). e ≤ s.sums.at) s.moments.ends.items 0
       (λ k within. are.swept.has_ended k (omega (arith, are.ended))) in
-      all_ended s.swept.sums.at cs (All-permutation (λ (e : ℕ). e ≤ s.swept.sums.at) s.moments.ends.items (map closed_of cs)
+      all_ended s.sums.at cs (All-permutation (λ (e : ℕ). e ≤ s.sums.at) s.moments.ends.items (map closed_of cs)
       (IsPermutation-sym (map closed_of cs) s.moments.ends.items are.moments.ends) swept)
 
   -- a sum over the moments that were gone over, where nothing counts while none runs
   gone_over : (f : ℕ → ℕ) → f 0 ≡ 0
-      → before (λ t. f (running_by s.moments.starts.items s.moments.ends.items t)) s.swept.sums.at ≡ before (λ t. f (running cs t)) (last_moment cs)
+      → before (λ t. f (running_by s.moments.starts.items s.moments.ends.items t)) s.sums.at ≡ before (λ t. f (running cs t)) (last_moment cs)
   gone_over f none =
-      before-same (λ t. f (running_by s.moments.starts.items s.moments.ends.items t)) (λ t. f (running cs t)) s.swept.sums.at (λ t. ap f (runs_as t))
-      ∙ before-beyond (λ t. f (running cs t)) (last_moment cs) s.swept.sums.at (last_below cs s.swept.sums.at ends_by)
+      before-same (λ t. f (running_by s.moments.starts.items s.moments.ends.items t)) (λ t. f (running cs t)) s.sums.at (λ t. ap f (runs_as t))
+      ∙ before-beyond (λ t. f (running cs t)) (last_moment cs) s.sums.at (last_below cs s.sums.at ends_by)
       (λ t after. ap f (none_after cs t
       (All-weaker (λ (c : Span). c.ended ≤ last_moment cs) (λ (c : Span). c.ended ≤ t) (λ c le. omega (arith, le, after)) cs (below_last cs))) ∙ none)
 
-  pub busy_is : s.swept.sums.busy ≡ busy_time cs
+  pub busy_is : s.sums.busy ≡ busy_time cs
   busy_is = are.swept.sums.busy ∙ gone_over any_of refl
 
-  pub alone_is : s.swept.sums.alone ≡ alone_time cs
+  pub alone_is : s.sums.alone ≡ alone_time cs
   alone_is = are.swept.sums.alone ∙ gone_over alone_of refl
 
-  pub starts_shares : s.swept.at_starts.items ≡ map (shares_before s.moments.starts.items s.moments.ends.items) s.moments.starts.items
+  pub starts_shares : s.at_starts.items ≡ map (shares_before s.moments.starts.items s.moments.ends.items) s.moments.starts.items
   starts_shares = are.swept.at_starts ∙ ap (map (shares_before s.moments.starts.items s.moments.ends.items))
-      (take_all s.swept.begun s.moments.starts.items (omega (arith, are.begun)))
+      (take_all (length s.at_starts.items) s.moments.starts.items (omega (arith, are.begun)))
 
-  pub ends_shares : s.swept.at_ends.items ≡ map (shares_before s.moments.starts.items s.moments.ends.items) s.moments.ends.items
+  pub ends_shares : s.at_ends.items ≡ map (shares_before s.moments.starts.items s.moments.ends.items) s.moments.ends.items
   ends_shares = are.swept.at_ends ∙ ap (map (shares_before s.moments.starts.items s.moments.ends.items))
-      (take_all s.swept.ended s.moments.ends.items (omega (arith, are.ended)))
+      (take_all (length s.at_ends.items) s.moments.ends.items (omega (arith, are.ended)))
 
   module _ (span : Span) (among : Contains cs span) where
     pub start_there : Contains s.moments.starts.items span.began

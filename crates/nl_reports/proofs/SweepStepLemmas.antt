@@ -4,12 +4,11 @@ use Rattle.std.proofs.Common.{sym, ap, arith, inl, inr}
 use Rattle.std.specs.Prelude.{count_by, nat_le}
 use Rattle.std.proofs.lemmas.Bool.{cases_lt}
 use Rattle.std.proofs.lemmas.Bool.Decides.{nat_tests}
-use Rattle.std.proofs.lemmas.List.{map_more}
+use Rattle.std.proofs.lemmas.List.{length-append, map_more}
 use Rattle.std.proofs.lemmas.List.Sums.{sum_by-cons}
 use Rattle.nl_reports.specs.Sweep.{before, share_of, any_of, alone_of}
-use Rattle.nl_reports.specs.SweepSteps.{AreSums, IsLow, IsSwept, Rises, running_by, shares_before}
+use Rattle.nl_reports.specs.SweepSteps.{AreSums, IsLow, IsSwept, Rises, Swept, running_by, shares_before}
 use Rattle.nl_reports.specs.declared.shares.Sums.{Sums}
-use Rattle.nl_reports.specs.declared.shares.Sweeping.{Sweeping}
 use Rattle.nl_reports.proofs.SweepLemmas.{before-constant}
 
 -- the sums at a moment up to which so many run
@@ -64,63 +63,69 @@ counted_to (x ∷ xs) (suc i) t within first later =
     sum_by-cons (λ y. cond (nat_le y t) 1 0) x xs ∙ (rw yes (omega (arith, rest)))
 
 -- up to the next start or end, as many run
-module _ (starts ends : List ℕ) (s : Sweeping) (swept : IsSwept starts ends s) (next : ℕ) where
-  pub steady_until : ((k : ℕ) → s.begun ≤ k → k < length starts → next ≤ get_or starts k 0)
-      → ((k : ℕ) → s.ended ≤ k → k < length ends → next ≤ get_or ends k 0)
-      → (t : ℕ) → s.sums.at ≤ t → t < next → running_by starts ends t ≡ s.begun - s.ended
+module _ (starts ends : List ℕ) (s : Swept) (swept : IsSwept starts ends s) (next : ℕ) where
+  pub steady_until : ((k : ℕ) → (length s.at_starts) ≤ k → k < length starts → next ≤ get_or starts k 0)
+      → ((k : ℕ) → (length s.at_ends) ≤ k → k < length ends → next ≤ get_or ends k 0)
+      → (t : ℕ) → s.sums.at ≤ t → t < next → running_by starts ends t ≡ (length s.at_starts) - (length s.at_ends)
   steady_until begins ends_later t low high =
-      let first = counted_to starts s.begun t swept.begun (λ k below. omega (arith, swept.began k below))
+      let first = counted_to starts (length s.at_starts) t swept.begun (λ k below. omega (arith, swept.began k below))
       (λ k from within. omega (arith, begins k from within)) in
-      let second = counted_to ends s.ended t swept.ended (λ k below. omega (arith, swept.has_ended k below))
+      let second = counted_to ends (length s.at_ends) t swept.ended (λ k below. omega (arith, swept.has_ended k below))
       (λ k from within. omega (arith, ends_later k from within)) in
       omega (arith, first, second)
 
-  pub swept_start : (new : Sweeping) → Rises starts → s.begun < length starts → get_or starts s.begun 0 ≡ next → s.sums.at ≤ next
-      → ((k : ℕ) → s.ended ≤ k → k < length ends → next ≤ get_or ends k 0)
+  pub swept_start : (new : Swept) → Rises starts → (length s.at_starts) < length starts → get_or starts (length s.at_starts) 0 ≡ next → s.sums.at ≤ next
+      → ((k : ℕ) → (length s.at_ends) ≤ k → k < length ends → next ≤ get_or ends k 0)
       → IsLow new.sums → AreSums (running_by starts ends) new.sums → new.sums.at ≡ next
-      → new.begun ≡ s.begun + 1 → new.ended ≡ s.ended → new.at_starts.items ≡ s.at_starts.items ++ new.sums.shares ∷ []
-      → new.at_ends.items ≡ s.at_ends.items → IsSwept starts ends new
-  swept_start new rises more is order ends_later low sums at begun ended at_starts at_ends = record {
-    low = low;
-    begun = omega arith;
-    ended = omega (arith, swept.ended);
-    began = λ k below. elim (cases_lt k s.begun) [
-      | inl h ↦ omega (arith, swept.began k h)
-      | inr h ↦ let same : k ≡ s.begun = omega arith in omega (arith, ap (λ (j : ℕ). get_or starts j 0) same)
-    ];
-    begins = λ k from within. omega (arith, rises.order s.begun k (omega arith) within);
-    has_ended = λ k below. omega (arith, swept.has_ended k (omega arith));
-    ends_later = λ k from within. omega (arith, ends_later k (omega arith) within);
-    sums = sums;
-    at_starts = at_starts ∙ ap (λ (l : List ℕ). l ++ new.sums.shares ∷ []) swept.at_starts
-        ∙ ap (λ (v : ℕ). map (shares_before starts ends) (take s.begun starts) ++ v ∷ [])
-        (sums.shares ∙ ap (shares_before starts ends) (at ∙ sym is))
-        ∙ sym (map_more (shares_before starts ends) starts s.begun 0 more)
-        ∙ ap (λ (n : ℕ). map (shares_before starts ends) (take n starts)) (sym begun);
-    at_ends = at_ends ∙ swept.at_ends ∙ ap (λ (n : ℕ). map (shares_before starts ends) (take n ends)) (sym ended);
-  }
+      → new.at_starts ≡ s.at_starts ++ new.sums.shares ∷ []
+      → new.at_ends ≡ s.at_ends → IsSwept starts ends new
+  swept_start new rises more is order ends_later low sums at at_starts at_ends =
+      let begun : length new.at_starts ≡ length s.at_starts + 1 = ap length at_starts ∙ length-append s.at_starts (new.sums.shares ∷ []) in
+      let ended : length new.at_ends ≡ length s.at_ends = ap length at_ends in
+      record {
+        low = low;
+        begun = omega arith;
+        ended = omega (arith, swept.ended);
+        began = λ k below. elim (cases_lt k (length s.at_starts)) [
+          | inl h ↦ omega (arith, swept.began k h)
+          | inr h ↦ let same : k ≡ (length s.at_starts) = omega arith in omega (arith, ap (λ (j : ℕ). get_or starts j 0) same)
+        ];
+        begins = λ k from within. omega (arith, rises.order (length s.at_starts) k (omega arith) within);
+        has_ended = λ k below. omega (arith, swept.has_ended k (omega arith));
+        ends_later = λ k from within. omega (arith, ends_later k (omega arith) within);
+        sums = sums;
+        at_starts = at_starts ∙ ap (λ (l : List ℕ). l ++ new.sums.shares ∷ []) swept.at_starts
+            ∙ ap (λ (v : ℕ). map (shares_before starts ends) (take (length s.at_starts) starts) ++ v ∷ [])
+            (sums.shares ∙ ap (shares_before starts ends) (at ∙ sym is))
+            ∙ sym (map_more (shares_before starts ends) starts (length s.at_starts) 0 more)
+            ∙ ap (λ (n : ℕ). map (shares_before starts ends) (take n starts)) (sym begun);
+        at_ends = at_ends ∙ swept.at_ends ∙ ap (λ (n : ℕ). map (shares_before starts ends) (take n ends)) (sym ended);
+      }
 
-  pub swept_end : (new : Sweeping) → Rises ends → s.ended < length ends → get_or ends s.ended 0 ≡ next → s.sums.at ≤ next
-      → ((k : ℕ) → s.begun ≤ k → k < length starts → next ≤ get_or starts k 0)
+  pub swept_end : (new : Swept) → Rises ends → (length s.at_ends) < length ends → get_or ends (length s.at_ends) 0 ≡ next → s.sums.at ≤ next
+      → ((k : ℕ) → (length s.at_starts) ≤ k → k < length starts → next ≤ get_or starts k 0)
       → IsLow new.sums → AreSums (running_by starts ends) new.sums → new.sums.at ≡ next
-      → new.ended ≡ s.ended + 1 → new.begun ≡ s.begun → new.at_ends.items ≡ s.at_ends.items ++ new.sums.shares ∷ []
-      → new.at_starts.items ≡ s.at_starts.items → IsSwept starts ends new
-  swept_end new rises more is order begins low sums at ended begun at_ends at_starts = record {
-    low = low;
-    begun = omega (arith, swept.begun);
-    ended = omega arith;
-    began = λ k below. omega (arith, swept.began k (omega arith));
-    begins = λ k from within. omega (arith, begins k (omega arith) within);
-    has_ended = λ k below. elim (cases_lt k s.ended) [
-      | inl h ↦ omega (arith, swept.has_ended k h)
-      | inr h ↦ let same : k ≡ s.ended = omega arith in omega (arith, ap (λ (j : ℕ). get_or ends j 0) same)
-    ];
-    ends_later = λ k from within. omega (arith, rises.order s.ended k (omega arith) within);
-    sums = sums;
-    at_ends = at_ends ∙ ap (λ (l : List ℕ). l ++ new.sums.shares ∷ []) swept.at_ends
-        ∙ ap (λ (v : ℕ). map (shares_before starts ends) (take s.ended ends) ++ v ∷ [])
-        (sums.shares ∙ ap (shares_before starts ends) (at ∙ sym is))
-        ∙ sym (map_more (shares_before starts ends) ends s.ended 0 more)
-        ∙ ap (λ (n : ℕ). map (shares_before starts ends) (take n ends)) (sym ended);
-    at_starts = at_starts ∙ swept.at_starts ∙ ap (λ (n : ℕ). map (shares_before starts ends) (take n starts)) (sym begun);
-  }
+      → new.at_ends ≡ s.at_ends ++ new.sums.shares ∷ []
+      → new.at_starts ≡ s.at_starts → IsSwept starts ends new
+  swept_end new rises more is order begins low sums at at_ends at_starts =
+      let ended : length new.at_ends ≡ length s.at_ends + 1 = ap length at_ends ∙ length-append s.at_ends (new.sums.shares ∷ []) in
+      let begun : length new.at_starts ≡ length s.at_starts = ap length at_starts in
+      record {
+        low = low;
+        begun = omega (arith, swept.begun);
+        ended = omega arith;
+        began = λ k below. omega (arith, swept.began k (omega arith));
+        begins = λ k from within. omega (arith, begins k (omega arith) within);
+        has_ended = λ k below. elim (cases_lt k (length s.at_ends)) [
+          | inl h ↦ omega (arith, swept.has_ended k h)
+          | inr h ↦ let same : k ≡ (length s.at_ends) = omega arith in omega (arith, ap (λ (j : ℕ). get_or ends j 0) same)
+        ];
+        ends_later = λ k from within. omega (arith, rises.order (length s.at_ends) k (omega arith) within);
+        sums = sums;
+        at_ends = at_ends ∙ ap (λ (l : List ℕ). l ++ new.sums.shares ∷ []) swept.at_ends
+            ∙ ap (λ (v : ℕ). map (shares_before starts ends) (take (length s.at_ends) ends) ++ v ∷ [])
+            (sums.shares ∙ ap (shares_before starts ends) (at ∙ sym is))
+            ∙ sym (map_more (shares_before starts ends) ends (length s.at_ends) 0 more)
+            ∙ ap (λ (n : ℕ). map (shares_before starts ends) (take n ends)) (sym ended);
+        at_starts = at_starts ∙ swept.at_starts ∙ ap (λ (n : ℕ). map (shares_before starts ends) (take n starts)) (sym begun);
+      }

@@ -2,7 +2,6 @@
 use Rattle.std.specs.Prelude.{◌≡◌, ℕ, ◌-◌, ◌*◌, ◌<◌, ◌≤◌, ◌^◌, nat_le, List, length, map, take, count_by, slice_index}
 use Rattle.nl_reports.specs.Sweep.{before, share_of, any_of, alone_of, parts}
 use Rattle.nl_reports.specs.declared.shares.Sums.{Sums}
-use Rattle.nl_reports.specs.declared.shares.Sweeping.{Sweeping}
 
 -- the moments are in order, and none is above 2 ^ 32
 pub record Rises (moments : List ℕ) : Type 0 where
@@ -29,15 +28,21 @@ pub record IsLow (s : Sums) : Type 0 where
   pub busy : s.busy ≤ s.at
   pub alone : s.alone ≤ s.at
 
+-- a sweep so far: its sums, and the shares before each start and each end that it has come to
+pub record Swept : Type 0 where
+  pub sums : Sums
+  pub at_starts : List ℕ
+  pub at_ends : List ℕ
+
 -- the sweep has come to a moment: the first starts and ends aren't after it, the others aren't before it
-pub record IsSwept (starts ends : List ℕ) (s : Sweeping) : Type 0 where
+pub record IsSwept (starts ends : List ℕ) (s : Swept) : Type 0 where
   pub low : IsLow s.sums
-  pub begun : s.begun ≤ length starts
-  pub ended : s.ended ≤ length ends
-  pub began : (k : ℕ) → k < s.begun → slice_index starts k ≤ s.sums.at
-  pub begins : (k : ℕ) → s.begun ≤ k → k < length starts → s.sums.at ≤ slice_index starts k
-  pub has_ended : (k : ℕ) → k < s.ended → slice_index ends k ≤ s.sums.at
-  pub ends_later : (k : ℕ) → s.ended ≤ k → k < length ends → s.sums.at ≤ slice_index ends k
+  pub begun : length s.at_starts ≤ length starts
+  pub ended : length s.at_ends ≤ length ends
+  pub began : (k : ℕ) → k < length s.at_starts → slice_index starts k ≤ s.sums.at
+  pub begins : (k : ℕ) → length s.at_starts ≤ k → k < length starts → s.sums.at ≤ slice_index starts k
+  pub has_ended : (k : ℕ) → k < length s.at_ends → slice_index ends k ≤ s.sums.at
+  pub ends_later : (k : ℕ) → length s.at_ends ≤ k → k < length ends → s.sums.at ≤ slice_index ends k
   pub sums : AreSums (running_by starts ends) s.sums
-  pub at_starts : s.at_starts.items ≡ map (shares_before starts ends) (take s.begun starts)
-  pub at_ends : s.at_ends.items ≡ map (shares_before starts ends) (take s.ended ends)
+  pub at_starts : s.at_starts ≡ map (shares_before starts ends) (take (length s.at_starts) starts)
+  pub at_ends : s.at_ends ≡ map (shares_before starts ends) (take (length s.at_ends) ends)

@@ -1,6 +1,6 @@
 //! How much of the time of a build each command counts for, by a sweep over the moments at which commands begin and end.
 ghost use Rattle.std.specs.Prelude.{◌≡◌, List, IfOk, All, Contains, ◌⊎◌, ◌+◌, ◌*◌, ◌<◌, ◌≤◌, ◌^◌, ℕ, [], map, length, slice_index, EachIndex, IsTrue, MatchBool, OnOk};
-ghost use Rattle.nl_reports.specs.{Moments.{AreMoments}, Sweep.{alone_time, busy_time, most_at_once, weight, share_of, parts}, declared.span.Span.{Span}, Shares.{AreSharesOf}, SweepSteps.{AreSums, IsLow, IsSwept, Rises, running_by, shares_before}};
+ghost use Rattle.nl_reports.specs.{Moments.{AreMoments}, Sweep.{alone_time, busy_time, most_at_once, weight, share_of, parts}, declared.span.Span.{Span}, Shares.{AreSharesOf}, SweepSteps.{AreSums, IsLow, Rises}};
 
 use crate::last_entries::item_at;
 use crate::moments::{Moments, Near, up_to};
@@ -8,11 +8,13 @@ use crate::span::Span;
 use nl_tool_texts::AllocResult;
 use std::alloc::Global;
 
-/// The shares of commands among each other.
+/// The shares of commands among each other: the sums over all moments, and the sum of the shares before each start and before each end.
 #[derive(Drop)]
 pub struct Shares {
     moments: Moments,
-    swept: Sweeping,
+    sums: Sums,
+    at_starts: Vec<u64>,
+    at_ends: Vec<u64>,
 }
 
 impl Shares {
@@ -20,22 +22,43 @@ impl Shares {
         requires order { Rises moments.starts.items × Rises moments.ends.items }
         ensures value { (cs : List Span) → AreMoments cs moments → IfOk result (AreSharesOf cs) }
     {
-        let swept = sweep(alloc, moments.starts.as_slice(), moments.ends.as_slice())?;
-        Ok(Shares { moments, swept })
+        let starts = moments.starts.as_slice();
+        let ends = moments.ends.as_slice();
+        let mut sums = Sums::default();
+        let mut at_starts = Vec::with_capacity(alloc, starts.len())?;
+        let mut at_ends = Vec::with_capacity(alloc, ends.len())?;
+        'events: while at_starts.len() < starts.len() || at_ends.len() < ends.len() {
+            let begun = at_starts.len();
+            let ended = at_ends.len();
+            let running = (begun as u64).saturating_sub(ended as u64);
+            if is_start_next(starts, begun, ends, ended) {
+                sums.advance(starts[begun], running);
+                at_starts.push(sums.shares)?;
+                continue;
+            }
+            sums.advance(ends[ended], running);
+            at_ends.push(sums.shares)?;
+        }
+        Ok(Shares {
+            moments,
+            sums,
+            at_starts,
+            at_ends,
+        })
     }
 
     /// The milliseconds in which one command at least runs.
     pub fn busy(&self) -> u64
         ensures value { (cs : List Span) → AreSharesOf cs self.now → result ≡ busy_time cs }
     {
-        self.swept.sums.busy
+        self.sums.busy
     }
 
     /// The milliseconds in which one command alone runs.
     pub fn alone(&self) -> u64
         ensures value { (cs : List Span) → AreSharesOf cs self.now → result ≡ alone_time cs }
     {
-        self.swept.sums.alone
+        self.sums.alone
     }
 
     /// How many commands run at a time at most.
@@ -59,8 +82,8 @@ impl Shares {
         }
         near.begun = up_to(self.moments.starts.as_slice(), near.begun, span.began);
         near.ended = up_to(self.moments.ends.as_slice(), near.ended, span.ended);
-        let before = item_at(&self.swept.at_starts, near.begun.saturating_sub(1), 0);
-        let after = item_at(&self.swept.at_ends, near.ended.saturating_sub(1), 0);
+        let before = item_at(&self.at_starts, near.begun.saturating_sub(1), 0);
+        let after = item_at(&self.at_ends, near.ended.saturating_sub(1), 0);
         after.saturating_sub(before)
     }
 }
@@ -106,15 +129,6 @@ fn share_of(running: u64) -> u64
     if running == 0 { 0 } else { PARTS / running }
 }
 
-#[derive(Drop)]
-pub struct Sweeping {
-    pub sums: Sums,
-    pub begun: usize,
-    pub ended: usize,
-    pub at_starts: Vec<u64>,
-    pub at_ends: Vec<u64>,
-}
-
 // A start comes before an end at the same moment.
 fn is_start_next(starts: &[u64], begun: usize, ends: &[u64], ended: usize) -> bool
     ensures { MatchBool result
@@ -123,31 +137,4 @@ fn is_start_next(starts: &[u64], begun: usize, ends: &[u64], ended: usize) -> bo
         (begun < length starts.now → (ended < length ends.now) × (slice_index ends.now ended ≤ slice_index starts.now begun)) }
 {
     begun < starts.len() && (ended >= ends.len() || starts[begun] <= ends[ended])
-}
-
-pub fn sweep(alloc: Global, starts: &[u64], ends: &[u64]) -> AllocResult<Sweeping>
-    requires order { Rises starts.now × Rises ends.now }
-    ensures swept { IfOk result (λ swept. IsSwept starts.now ends.now swept
-        × (swept.begun ≡ length starts.now) × (swept.ended ≡ length ends.now)) }
-{
-    let mut so_far = Sweeping {
-        sums: Sums::default(),
-        begun: 0,
-        ended: 0,
-        at_starts: Vec::with_capacity(alloc, starts.len())?,
-        at_ends: Vec::with_capacity(alloc, ends.len())?,
-    };
-    'events: while so_far.begun < starts.len() || so_far.ended < ends.len() {
-        let running = (so_far.begun as u64).saturating_sub(so_far.ended as u64);
-        if is_start_next(starts, so_far.begun, ends, so_far.ended) {
-            so_far.sums.advance(starts[so_far.begun], running);
-            so_far.at_starts.push(so_far.sums.shares)?;
-            so_far.begun += 1;
-            continue;
-        }
-        so_far.sums.advance(ends[so_far.ended], running);
-        so_far.at_ends.push(so_far.sums.shares)?;
-        so_far.ended += 1;
-    }
-    Ok(so_far)
 }
