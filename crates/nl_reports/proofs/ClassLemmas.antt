@@ -4,8 +4,8 @@ use Rattle.std.specs.Prelude.{count_by}
 use Rattle.std.specs.List.{sum_by}
 use Rattle.std.proofs.lemmas.List.Sums.{sum_by-cons}
 use Rattle.nl_reports.specs.Compare.{Compared, classes, is_of, of_class}
-use Rattle.nl_reports.specs.declared.class.Class.{Class}
-use Rattle.nl_reports.specs.declared.class.Class.TheVariants.{New, Gone, Changed, Slower, Faster, Unfinished, Same}
+use Rattle.nl_reports.specs.declared.sides.Class.{Class}
+use Rattle.nl_reports.specs.declared.sides.Class.TheVariants.{New, Gone, Changed, Slower, Faster, Unfinished, Same}
 
 -- ---- the classes
 

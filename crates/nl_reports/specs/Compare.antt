@@ -12,8 +12,8 @@ use Rattle.nl_reports.specs.Outputs.{last_at, places_of}
 use Rattle.nl_tool_texts.specs.Falling.{falling}
 use Rattle.nl_reports.specs.Spans.{time_of}
 use Rattle.nl_tool_texts.specs.Texts.{change_text, joined, line, took_text}
-use Rattle.nl_reports.specs.declared.class.Class.{Class}
-use Rattle.nl_reports.specs.declared.class.Class.TheVariants.{New, Gone, Changed, Slower, Faster, Unfinished, Same}
+use Rattle.nl_reports.specs.declared.sides.Class.{Class}
+use Rattle.nl_reports.specs.declared.sides.Class.TheVariants.{New, Gone, Changed, Slower, Faster, Unfinished, Same}
 use Rattle.nl_reports.specs.declared.sides.ComparedRow.{ComparedRow}
 use Rattle.nl_reports.specs.declared.sides.Held.{Held}
 use Rattle.nl_reports.specs.declared.sides.Rules.{Rules}

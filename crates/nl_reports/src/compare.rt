@@ -1,10 +1,11 @@
 //! The text of `compare`.
 ghost use Rattle.std.specs.Prelude.{◌≡◌, ◌++◌, map, IfOk, OnOk, flat_map};
-ghost use Rattle.nl_reports.specs.Compare.{are_comparable, class_heading, class_lines, compare_text, compared_of, head, row_line, side_of, total_line};
+ghost use Rattle.nl_reports.specs.Compare.{are_comparable, class_heading, class_lines, class_text, compare_text, compared_of, head, row_line, side_of, total_line};
 
-use crate::class::{Class, class_text};
 use crate::critical::append_keyed;
-use crate::sides::{ByCost, ComparedRow, Rules, Side, compared, new_time, of_class, old_time};
+use crate::sides::{
+    ByCost, Class, ComparedRow, Rules, Side, compared, new_time, of_class, old_time,
+};
 use nl_table::Secret;
 use nl_tool_texts::{AllocResult, Part, append, append_line, highest, put};
 use std::alloc::Global;
@@ -82,7 +83,7 @@ fn append_total(screen: bool, class: Class, rows: &[ComparedRow], out: &mut Vec<
     let kept = of_class(*out.allocator(), class, rows)?;
     let old = old_time(kept.as_slice());
     let new = new_time(kept.as_slice());
-    let class = Part::Text(class_text(class).as_bytes());
+    let class = Part::Text(class_text(class));
     let count = Part::Number(kept.len() as u128);
     let change = Part::Change(screen, old, new);
     let old = Part::Took(screen, old);
@@ -120,7 +121,7 @@ fn append_heading(screen: bool, class: Class, lines: &mut Vec<u8>) -> AllocResul
     if !screen {
         return Ok(());
     }
-    put!(lines; b"\nCommands: " [Part::Text(class_text(class).as_bytes())]
+    put!(lines; b"\nCommands: " [Part::Text(class_text(class))]
         b"\nChange\tOld\tNew\tOutput\n")
 }
 
@@ -130,7 +131,21 @@ fn append_row(screen: bool, row: &ComparedRow, lines: &mut Vec<u8>) -> AllocResu
     let change = Part::Change(screen, u128::from(row.old), u128::from(row.new));
     let old = Part::Took(screen, u128::from(row.old));
     let new = Part::Took(screen, u128::from(row.new));
-    let class = Part::Text(class_text(row.class).as_bytes());
+    let class = Part::Text(class_text(row.class));
     let output = Part::Text(row.output);
     append_keyed(screen, &[class, change, old, new, output], lines)
+}
+
+fn class_text(class: Class) -> &'static [u8]
+    ensures { result.now ≡ class_text class }
+{
+    match class {
+        Class::New => b"new",
+        Class::Gone => b"gone",
+        Class::Changed => b"changed",
+        Class::Slower => b"slower",
+        Class::Faster => b"faster",
+        Class::Unfinished => b"unfinished",
+        Class::Same => b"same",
+    }
 }

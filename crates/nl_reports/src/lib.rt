@@ -4,7 +4,6 @@
 mod bars;
 mod builds_table;
 mod choice;
-mod class;
 mod compare;
 mod critical;
 mod frame;
@@ -33,7 +32,6 @@ mod work;
 
 pub use builds_table::{builds_lines, builds_screen};
 pub use choice::{Choice, Scope, chosen_jobs, last_number};
-pub use class::Class;
 pub use compare::compare_lines;
 pub use frame::step_of;
 pub use graph::{NinjaGraph, read_graph};
@@ -49,7 +47,7 @@ pub use numbers::{Numbers, numbers_of};
 pub use picture::{Known, draw_builds};
 pub use rows::{Listed, Rank, Row, Sums, Weighed};
 pub use shares::Shares;
-pub use sides::{ComparedRow, Rules, Side, compared};
+pub use sides::{Class, ComparedRow, Rules, Side, compared};
 pub use simulation::Priority;
 pub use span::Span;
 pub use summary::{Totals, summary_lines, taken_in};

@@ -2,7 +2,6 @@
 ghost use Rattle.std.specs.Prelude.{◌≡◌, ◌++◌, [], ℕ, List, map, option_map, IfOk, OnOk};
 ghost use Rattle.nl_reports.specs.{Compare.{compared, compared_of, cost_of, fresh, held_side, job_at, new_time, of_class, old_time, or_unfinished, pair_of, pairs_from, partner, side_of, time_in, told_pair, waits, with_taken}, Jobs.{seen}, Lasting.{marked}, Outputs.{HoldPlaces, places_of}};
 
-use crate::class::Class;
 use crate::job::{Job, jobs_from};
 use crate::last_entries::{any_named, item_at, names_of, set_at};
 use crate::outputs::{Outputs, outputs_of};
@@ -26,6 +25,22 @@ pub struct Side<'s, 'a> {
 pub struct Rules {
     pub hashes: bool,
     pub least: u64,
+}
+
+/// How a command stands in two logs.
+#[derive(Clone, Copy, Debug, PartialEq, Eq, Drop)]
+pub enum Class {
+    /// Only the new log has it.
+    New,
+    /// Only the old log has it.
+    Gone,
+    /// Another one makes its output, as the hash says.
+    Changed,
+    Slower,
+    Faster,
+    /// One of the two says that it didn't end.
+    Unfinished,
+    Same,
 }
 
 /// Times are in milliseconds, and 0 where the command isn't there or didn't end. The output is its first.
