@@ -23,7 +23,15 @@ pub fn kinds_of<'a>(
     for command in commands {
         count_command(kind_of(rule, command.name), command, &mut sums)?;
     }
-    rows_in(alloc, &sums)
+    let held = &sums;
+    let mut rows = Vec::new(alloc);
+    for i in 0..held.len() {
+        if let Some((name, at)) = held.get_index(i) {
+            let (name, sums) = (name.bytes, *at);
+            rows.push(Row { name, sums })?;
+        }
+    }
+    Ok(rows)
 }
 
 fn count_command<'a>(
@@ -44,20 +52,4 @@ fn count_command<'a>(
     };
     sums.insert(key, now)?;
     Ok(())
-}
-
-fn rows_in<'a>(
-    alloc: Global,
-    sums: &IndexMap<NameKey<'a>, Sums, Secret>,
-) -> AllocResult<Vec<Row<'a>>>
-    ensures value { IfOk result (λ found. map told_row found.items ≡ map kind_pair sums.now.entries) }
-{
-    let mut rows = Vec::new(alloc);
-    for i in 0..sums.len() {
-        if let Some((name, at)) = sums.get_index(i) {
-            let (name, sums) = (name.bytes, *at);
-            rows.push(Row { name, sums })?;
-        }
-    }
-    Ok(rows)
 }
