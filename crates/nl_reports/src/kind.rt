@@ -1,6 +1,6 @@
 //! The kind of an output, by its name.
-ghost use Rattle.std.specs.Prelude.{◌≡◌};
-ghost use Rattle.nl_reports.specs.{Kinds.{folder_of, kind_of, top_of}, Work.{extension_of}};
+ghost use Rattle.std.specs.Prelude.{◌≡◌, ◌+◌, ◌<◌, [], MatchOption, length, take};
+ghost use Rattle.nl_reports.specs.{Kinds.{kind_of}, Work.{extension_of}};
 
 use crate::work::{word, work_of};
 use memchr::{memchr, memrchr, memrchr2};
@@ -23,8 +23,8 @@ pub fn kind_of(rule: KindRule, name: &[u8]) -> &[u8]
 {
     match rule {
         KindRule::Extension => extension_of(name),
-        KindRule::Folder => folder_of(name),
-        KindRule::Top => top_of(name),
+        KindRule::Folder => up_to(memrchr(b'/', name), name),
+        KindRule::Top => up_to(memchr(b'/', name), name),
         KindRule::Work => word(work_of(name)),
     }
 }
@@ -38,20 +38,12 @@ pub(crate) fn extension_of(name: &[u8]) -> &[u8]
     }
 }
 
-fn folder_of(name: &[u8]) -> &[u8]
-    ensures value { result.now ≡ folder_of name.now }
+// The name up to that place, with what stands there; empty if there is none.
+fn up_to(at: Option<usize>, name: &[u8]) -> &[u8]
+    ensures { MatchOption at (result.now ≡ []) (λ i. i < length name.now → result.now ≡ take (i + 1) name.now) }
 {
-    match memrchr(b'/', name) {
-        Some(at) => &name[..at + 1],
-        None => b"",
-    }
-}
-
-fn top_of(name: &[u8]) -> &[u8]
-    ensures value { result.now ≡ top_of name.now }
-{
-    match memchr(b'/', name) {
-        Some(at) => &name[..at + 1],
-        None => b"",
+    match at {
+        Some(at) if at < name.len() => &name[..at + 1],
+        _ => b"",
     }
 }
