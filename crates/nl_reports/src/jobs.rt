@@ -74,8 +74,7 @@ fn estimate_lines(
         let Some(wall) = wall else {
             return Ok(None);
         };
-        let fits = is_at_bounds(*count, jobs.len(), wall, total, path);
-        if !fits {
+        if !is_at_bounds(*count, jobs.len(), wall, total, path) {
             return Ok(None);
         }
         let number = *count as u128;

@@ -19,8 +19,8 @@ loop-count-preserved c = λ g is text rest.
     (estimate_more c.args.by.now.screen (seen_graph g) js counts c.loop-count.count-index n c.in_ok-wall.wall c.in-Some.wall c.max-floor.result found.length
     (map ran_seen found.commands.items) c.loop-count.lines.items c.append_keyed.new.lines.items text c.loop-count-test.true (get_or_default counts c.loop-count.count-index 0 n c.loop-count-test.true) c.in-Some.is
     (c.in_ok-wall.ensures.value g is.are) is.is_path (c.max-floor.ensures ∙ ap (λ (t : ℕ). floor_of found.length t n) total)
-    (λ one. c.if-not-fits.ensures.one refl one ∙ total)
-    (λ fits. c.if-not-fits.ensures.enough refl (omega (arith, fits, length-map jobs seen)))
+    (λ one. c.if-not-is_at_bounds.ensures.one refl one ∙ total)
+    (λ fits. c.if-not-is_at_bounds.ensures.enough refl (omega (arith, fits, length-map jobs seen)))
     (c.in_ok-append_keyed.ensures.items ∙ ap (λ (w : ℕ). c.loop-count.lines.items ++ estimate_line c.args.by.now.screen n w c.max-floor.result) c.from.ensures) rest)
 
 pub returns : goal.returns
