@@ -1,9 +1,11 @@
 -- The times of kinds, the lines of the axis, and where bars stand.
-use Rattle.std.proofs.Common.{◌≡◌, ℕ, ◌+◌, ◌*◌, ◌-◌, ◌/◌, ◌<◌, ◌≤◌, ◌^◌, Bool, true, false, cond, List, [], ◌∷◌, max, inl, inr, refl, arith}
+use Rattle.std.proofs.Common.{◌≡◌, ◌∙◌, ℕ, ◌+◌, ◌*◌, ◌-◌, ◌/◌, ◌<◌, ◌≤◌, ◌^◌, Bool, true, false, cond, List, [], ◌∷◌, get_or, length, length-set, max, inl, inr, refl, arith, sym}
 use Rattle.std.specs.Prelude.{nat_le, nat_lt}
 use Rattle.std.specs.List.{All, filter, fold, sum_by}
 use Rattle.std.proofs.Math.Nat.{div-le_of_le-mul, le_of_mul-le-mul_left, mul-div-le}
-use Rattle.std.proofs.lemmas.Bool.Decides.{leb_tells}
+use Rattle.std.proofs.lemmas.Bool.Decides.{eqb_tells, leb_tells}
+use Rattle.std.proofs.lemmas.Grind.{get_or-set_at}
+use Rattle.std.proofs.lemmas.List.{get_or-set_other}
 use Rattle.std.proofs.lemmas.List.Elements.{All-cons, All-head, All-nil, All-tail}
 use Rattle.std.proofs.lemmas.List.Sums.{sum_by-cons}
 use Rattle.nl_reports.specs.Bars.{drawn_width, width_of}
@@ -13,7 +15,7 @@ use Rattle.nl_reports.specs.Numbers.{total_time}
 use Rattle.nl_reports.specs.Spans.{time_of}
 use Rattle.nl_reports.specs.Ticks.{IsRound, IsStep, step_in, step_of, steps}
 use Rattle.nl_reports.specs.Times.{job_work, no_times, share_of, time_in, times_of, total, with_job, with_time}
-use Rattle.nl_reports.specs.Work.{is_same}
+use Rattle.nl_reports.specs.Work.{is_same, place}
 use Rattle.nl_reports.specs.declared.frame.Frame.{Frame}
 use Rattle.nl_reports.specs.declared.work.Times.{Times}
 use Rattle.nl_reports.specs.declared.work.Work.{Work}
@@ -21,43 +23,21 @@ use Rattle.nl_reports.specs.declared.work.Work.TheVariants.{Compile, Link, Archi
 
 -- ---- the times of kinds
 
-with_in : (t : Times) (v w : Work) (ms : ℕ) → time_in (with_time t v ms) w ≡ time_in t w + cond (is_same w v) ms 0
-with_in t Compile Compile ms = refl
-with_in t Compile Link ms = omega arith
-with_in t Compile Archive ms = omega arith
-with_in t Compile Generate ms = omega arith
-with_in t Compile Test ms = omega arith
-with_in t Compile Other ms = omega arith
-with_in t Link Compile ms = omega arith
-with_in t Link Link ms = refl
-with_in t Link Archive ms = omega arith
-with_in t Link Generate ms = omega arith
-with_in t Link Test ms = omega arith
-with_in t Link Other ms = omega arith
-with_in t Archive Compile ms = omega arith
-with_in t Archive Link ms = omega arith
-with_in t Archive Archive ms = refl
-with_in t Archive Generate ms = omega arith
-with_in t Archive Test ms = omega arith
-with_in t Archive Other ms = omega arith
-with_in t Generate Compile ms = omega arith
-with_in t Generate Link ms = omega arith
-with_in t Generate Archive ms = omega arith
-with_in t Generate Generate ms = refl
-with_in t Generate Test ms = omega arith
-with_in t Generate Other ms = omega arith
-with_in t Test Compile ms = omega arith
-with_in t Test Link ms = omega arith
-with_in t Test Archive ms = omega arith
-with_in t Test Generate ms = omega arith
-with_in t Test Test ms = refl
-with_in t Test Other ms = omega arith
-with_in t Other Compile ms = omega arith
-with_in t Other Link ms = omega arith
-with_in t Other Archive ms = omega arith
-with_in t Other Generate ms = omega arith
-with_in t Other Test ms = omega arith
-with_in t Other Other ms = refl
+-- each has a place
+pub has_place : (w : Work) → place w < 6
+has_place Compile = omega arith
+has_place Link = omega arith
+has_place Archive = omega arith
+has_place Generate = omega arith
+has_place Test = omega arith
+has_place Other = omega arith
+
+with_in : (t : Times) (v w : Work) (ms : ℕ) → length t.by_place ≡ 6 → time_in (with_time t v ms) w ≡ time_in t w + cond (is_same w v) ms 0
+with_in t v w ms all = elim (eqb_tells (place w) (place v)) [
+  | inl h ↦ get_or-set_at t.by_place (place v) (place w) (time_in t v + ms) 0 h.1 (omega (arith, all, has_place v))
+      ∙ (λ i. get_or t.by_place (sym h.1 i) 0 + cond (sym h.0 i) ms 0)
+  | inr h ↦ rw h.0 (omega (arith, get_or-set_other t.by_place (place v) (place w) (time_in t v + ms) 0 h.1))
+]
 
 filter_sum : (p : Job → Bool) (f : Job → ℕ) (j : Job) (js : List Job) → sum_by f (filter p (j ∷ js)) ≡ cond (p j) (f j) 0 + sum_by f (filter p js)
 filter_sum p f j js = here (p j)
@@ -66,14 +46,14 @@ filter_sum p f j js = here (p j)
     here true = sum_by-cons f j (filter p js)
     here false = omega arith
 
-time_from : (w : Work) (t : Times) (js : List Job)
+time_from : (w : Work) (t : Times) (js : List Job) → length t.by_place ≡ 6
     → time_in (fold with_job t js) w ≡ time_in t w + sum_by (λ (j : Job). time_of j.span) (filter (λ j. is_same w (job_work j)) js)
-time_from w t [] = omega arith
-time_from w t (j ∷ js) =
+time_from w t [] all = omega arith
+time_from w t (j ∷ js) all =
     omega (
       arith,
-      time_from w (with_job t j) js,
-      with_in t (job_work j) w (time_of j.span),
+      time_from w (with_job t j) js (length-set t.by_place _ _ ∙ all),
+      with_in t (job_work j) w (time_of j.span) all,
       filter_sum (λ j. is_same w (job_work j)) (λ (j : Job). time_of j.span) j js,
     )
 
@@ -87,23 +67,43 @@ none_in Other = refl
 
 pub time_is : (js : List Job) (w : Work)
     → time_in (times_of js) w ≡ sum_by (λ (j : Job). time_of j.span) (filter (λ j. is_same w (job_work j)) js)
-time_is js w = omega (arith, time_from w no_times js, none_in w)
+time_is js w = omega (arith, time_from w no_times js refl, none_in w)
 
-total_more : (t : Times) (w : Work) (ms : ℕ) → total (with_time t w ms) ≡ total t + ms
-total_more t Compile ms = omega arith
-total_more t Link ms = omega arith
-total_more t Archive ms = omega arith
-total_more t Generate ms = omega arith
-total_more t Test ms = omega arith
-total_more t Other ms = omega arith
+-- it counts for one of them
+once : (w : Work) (ms : ℕ) → cond (is_same Compile w) ms 0 + cond (is_same Link w) ms 0 + cond (is_same Archive w) ms 0
+    + cond (is_same Generate w) ms 0 + cond (is_same Test w) ms 0 + cond (is_same Other w) ms 0 ≡ ms
+once Compile ms = omega arith
+once Link ms = omega arith
+once Archive ms = omega arith
+once Generate ms = omega arith
+once Test ms = omega arith
+once Other ms = omega arith
 
-total_from : (t : Times) (js : List Job) → total (fold with_job t js) ≡ total t + total_time js
-total_from t [] = omega arith
-total_from t (j ∷ js) =
-    omega (arith, total_from (with_job t j) js, total_more t (job_work j) (time_of j.span), sum_by-cons (λ (j : Job). time_of j.span) j js)
+total_more : (t : Times) (w : Work) (ms : ℕ) → length t.by_place ≡ 6 → total (with_time t w ms) ≡ total t + ms
+total_more t w ms all =
+    omega (
+      arith,
+      once w ms,
+      with_in t w Compile ms all,
+      with_in t w Link ms all,
+      with_in t w Archive ms all,
+      with_in t w Generate ms all,
+      with_in t w Test ms all,
+      with_in t w Other ms all,
+    )
+
+total_from : (t : Times) (js : List Job) → length t.by_place ≡ 6 → total (fold with_job t js) ≡ total t + total_time js
+total_from t [] all = omega arith
+total_from t (j ∷ js) all =
+    omega (
+      arith,
+      total_from (with_job t j) js (length-set t.by_place _ _ ∙ all),
+      total_more t (job_work j) (time_of j.span) all,
+      sum_by-cons (λ (j : Job). time_of j.span) j js,
+    )
 
 pub total_is : (js : List Job) → total (times_of js) ≡ total_time js
-total_is js = omega (arith, total_from no_times js)
+total_is js = omega (arith, total_from no_times js refl)
 
 parts_sum : (m a b c d e f : ℕ) → 0 < m → a + b + c + d + e + f ≤ m
     → a * 100 / m + b * 100 / m + c * 100 / m + d * 100 / m + e * 100 / m + f * 100 / m ≤ 100
@@ -121,7 +121,8 @@ parts_sum m a b c d e f some all =
 
 pub shares_few : (t : Times)
     → share_of t Compile + share_of t Link + share_of t Archive + share_of t Generate + share_of t Test + share_of t Other ≤ 100
-shares_few t = parts_sum (max 1 (total t)) t.compile t.link t.archive t.generate t.test t.other (omega arith) (omega arith)
+shares_few t = parts_sum (max 1 (total t)) (time_in t Compile) (time_in t Link) (time_in t Archive) (time_in t Generate) (time_in t Test) (time_in t Other)
+    (omega arith) (omega arith)
 
 -- ---- the lines of the axis
 

@@ -60,6 +60,3 @@ place Other = 5
 
 abbrev pub is_same : Work → Work → Bool
 is_same a b = place a == place b
-
-abbrev pub works : List Work
-works = Compile ∷ Link ∷ Archive ∷ Generate ∷ Test ∷ Other ∷ []

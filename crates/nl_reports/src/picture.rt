@@ -142,12 +142,12 @@ fn append_start(frame: &Frame, known: Known, jobs: &[Job], out: &mut Vec<u8>) ->
     append_name(frame, total, commands, out)?;
     append(b"</text>\n", out)?;
     append_known(known, out)?;
-    append_kind(total, times.compile, Work::Compile, out)?;
-    append_kind(total, times.link, Work::Link, out)?;
-    append_kind(total, times.archive, Work::Archive, out)?;
-    append_kind(total, times.generate, Work::Generate, out)?;
-    append_kind(total, times.test, Work::Test, out)?;
-    append_kind(total, times.other, Work::Other, out)?;
+    append_kind(total, times.by_place[0], Work::Compile, out)?;
+    append_kind(total, times.by_place[1], Work::Link, out)?;
+    append_kind(total, times.by_place[2], Work::Archive, out)?;
+    append_kind(total, times.by_place[3], Work::Generate, out)?;
+    append_kind(total, times.by_place[4], Work::Test, out)?;
+    append_kind(total, times.by_place[5], Work::Other, out)?;
     append_ticks(frame, out)?;
     append(b"<g class=\"t\" font-size=\"110\">\n", out)
 }

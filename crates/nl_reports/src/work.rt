@@ -79,15 +79,10 @@ pub(crate) fn place(work: Work) -> u32
     work as u32
 }
 
-/// In milliseconds.
-#[derive(Clone, Copy, Default, Drop)]
+/// In milliseconds, by the place of what commands do.
+#[derive(Clone, Copy, Drop)]
 pub struct Times {
-    pub compile: u128,
-    pub link: u128,
-    pub archive: u128,
-    pub generate: u128,
-    pub test: u128,
-    pub other: u128,
+    pub by_place: [u128; 6],
 }
 
 impl Times {
@@ -96,19 +91,12 @@ impl Times {
         ensures value { result ≡ times_of (map seen jobs.now) }
         ensures few { AreTimesOf (length jobs.now) result }
     {
-        let mut times = Times::default();
+        let mut by_place = [0; 6];
         for job in jobs {
-            let more = u128::from(job.span.time());
-            match work_of(job.name()) {
-                Work::Compile => times.compile += more,
-                Work::Link => times.link += more,
-                Work::Archive => times.archive += more,
-                Work::Generate => times.generate += more,
-                Work::Test => times.test += more,
-                Work::Other => times.other += more,
-            }
+            let at = place(work_of(job.name())) as usize;
+            by_place[at] += u128::from(job.span.time());
         }
-        times
+        Times { by_place }
     }
 
     pub(crate) fn total(&self) -> u128
@@ -116,6 +104,7 @@ impl Times {
         ensures value { result ≡ total self.now }
         ensures bound { result < 2 ^ 120 }
     {
-        self.compile + self.link + self.archive + self.generate + self.test + self.other
+        let by = self.by_place;
+        by[0] + by[1] + by[2] + by[3] + by[4] + by[5]
     }
 }

@@ -1,4 +1,4 @@
-use Rattle.std.proofs.Common.{◌≡◌, ◌∙◌, ◌<◌, ◌≤◌, ◌++◌, ℕ, List, [], ap, append-nil, arith, codes, get_or, length, map, subst, sym}
+use Rattle.std.proofs.Common.{◌≡◌, ◌∙◌, ◌<◌, ◌≤◌, ◌++◌, ℕ, List, [], ap, append-nil, arith, codes, get_or, length, map, rules, subst, sym}
 use Rattle.std.proofs.lemmas.List.{at_drop_all, get_or_default, length-map}
 use Rattle.std.specs.List.{zip}
 use Rattle.nl_reports.specs.Bars.{short_bars}
@@ -163,3 +163,6 @@ returns-clause-writes g c =
     (ap (λ (l : List ℕ). held ++ l) (at_drop_all (short_bars f lane) shorts lane all) ∙ append-nil held) inv.holds in
     rest_written _ _ _ _ _ c.write_rest.result (end_held _ _ _ _ _ _ _ inv.is (c.in_ok-append-2.ensures.items
     ∙ ap (λ (l : List ℕ). held ++ l) c.as_slice-5.ensures.value) over) c.write_rest.ensures.writes
+
+pub returns-in_err-write_full-clause-faults : goal.returns-in_err-write_full-clause-faults
+returns-in_err-write_full-clause-faults g c = search rules

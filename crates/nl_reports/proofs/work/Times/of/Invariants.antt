@@ -6,6 +6,6 @@ use Rattle.nl_reports.proofs.work.Times.of.Given as goal
 
 abbrev pub invariant-loop-job : goal.invariant-loop-job
 invariant-loop-job l = record {
-  value : fold with_job l.times (map seen (drop l.job-index l.jobs)) ≡ times_of (map seen l.jobs);
-  few : AreTimesOf l.job-index l.times;
+  value : fold with_job (record { by_place = l.by_place }) (map seen (drop l.job-index l.jobs)) ≡ times_of (map seen l.jobs);
+  few : AreTimesOf l.job-index (record { by_place = l.by_place });
 }
