@@ -1,6 +1,6 @@
 -- The text of `summary`.
 use Rattle.std.proofs.Common.{◌≡◌, ◌∙◌, ℕ, List, [], ◌∷◌, ◌++◌, ap, append_assoc, length, map, option_map, refl, suc, take, zero, ◌<◌, arith}
-use Rattle.std.specs.Prelude.{OnOk, Result, Ok, Err, slice_get}
+use Rattle.std.specs.Prelude.{slice_get}
 use Rattle.nl_builds.specs.Builds.{Told as BuildsTold}
 use Rattle.nl_builds.specs.declared.build.Build.{Build}
 use Rattle.nl_reports.specs.Rows.{Told, told_command}
@@ -18,10 +18,6 @@ pub some_told : (scope : Scope) (lists : Lists) (unfinished : ℕ) (t : BuildsTo
     ≡ text_of (title lists.screen scope number (length t.builds)) lists unfinished (totals_from no_totals t number bs) (rows_from t number bs) (again_in scope bs)
 some_told scope lists unfinished t number [] some = absurd (some refl)
 some_told scope lists unfinished t number (b ∷ bs) some = refl
-
-pub on_ok : {T E : Type 0} (r : Result T E) {P : Type 0} → P → OnOk r P
-on_ok (Ok x) p = p
-on_ok (Err e) p = tt
 
 -- six parts behind what stood before
 pub parts_in_order : (o h n s a u l : List ℕ) → (((((o ++ h) ++ n) ++ s) ++ a) ++ u) ++ l ≡ o ++ (h ++ (n ++ (s ++ (a ++ (u ++ l)))))
