@@ -1,7 +1,6 @@
 mod AllLemmas
 mod BoxedLog
 mod ChangeLemmas
-mod EndsLemmas
 mod FaultLemmas
 mod JoinLemmas
 mod KeptValues
@@ -12,6 +11,5 @@ mod RecordLemmas
 mod RestatLemmas
 mod RewritingLemmas
 mod StepLemmas
-mod ToldLemmas
 mod WaitLemmas
 mod WholeLemmas

@@ -3,7 +3,6 @@ pub mod MarkedNames
 pub mod Plans
 pub mod Loads
 pub mod Changes
-pub mod Ends
 pub mod Honest
 pub mod Written
 pub mod LoadedLogs
