@@ -106,7 +106,7 @@ pub extern "C" fn carried_begin(
 ) -> u32
     ensures call { InCarried (Ends name.now (Begun name.now moment_ms hash)) result handle.old.kept.log handle.new.kept.log }
 {
-    carried!(handle, alloc, log => log.begin(alloc, name, moment_ms, hash))
+    carried!(handle, alloc, log => log.begin(name, moment_ms, hash))
 }
 
 /// Fills the stamp with the entry that the intent covers. A name without an entry gets an intent only where the caller wants one.
