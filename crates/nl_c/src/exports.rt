@@ -1,9 +1,9 @@
 //! The exported calls: each takes the log out of its handle and puts it back, and one that makes a log is given a secret to hash names under.
-ghost use Rattle.std.specs.Prelude.{◌≡◌, ◌≢◌, ◌↔◌, ◌⊎◌, None, IsSomeAnd};
+ghost use Rattle.std.specs.Prelude.{◌≡◌, ◌↔◌, ◌⊎◌};
 ghost use Rattle.nl_fields.specs.{CommandHash.{IsHash, hash_of}, RapidHash.{rapid_hash_of}, Name.{IsName}};
 ghost use Rattle.nl_table.specs.Log.{NotALog, OtherVersion, log_of};
-ghost use Rattle.nl_versions.specs.{Version.{as_version}, VersionOf.{as_five}};
-ghost use Rattle.nl_c.specs.{LoadedLogs.{IsDistrustedFrom, IsLoadedAs}, Answers.{answered_at, answered_count, answered_facts, answered_find, answer_line}, Held.{loaded_in, loaded_of, table_in}, Written.{version_for}, Statuses.{ok, bad_name, not_a_log, other_version, out_of_memory, text_in, status_text}};
+ghost use Rattle.nl_versions.specs.VersionOf.{as_five};
+ghost use Rattle.nl_c.specs.{LoadedLogs.{IsDistrustedFrom, IsLoadedAs}, Answers.{answered_at, answered_count, answered_facts, answered_find, answer_line}, Held.{LoadsInto, loaded_in, table_in}, Written.{NamesNoLog, NamesOther}, Statuses.{ok, bad_name, text_in, status_text}};
 
 use crate::handle::{Handle, Held};
 use crate::loaded_log::{CStamp, Facts, LoadedLog};
@@ -60,12 +60,8 @@ pub extern "C" fn nlog_load(
     key1: u64,
     bytes: &[u8],
 ) -> u32
-    ensures ok { result ≡ ok → IsSomeAnd handle.new.kept.log (λ held. IsSomeAnd (loaded_of held) (IsLoadedAs version bytes.now)) }
-    ensures not_a_log { result ≡ not_a_log → IsSomeAnd (version_for version bytes.now) (λ v. log_of (as_version v bytes.now) ≡ NotALog) }
-    ensures other_version { result ≡ other_version → (version_for version bytes.now ≡ None)
-        ⊎ IsSomeAnd (version_for version bytes.now) (λ v. log_of (as_version v bytes.now) ≡ OtherVersion) }
-    ensures refusals { (result ≡ ok) ⊎ (result ≡ not_a_log) ⊎ (result ≡ other_version) ⊎ (result ≡ out_of_memory) }
-    ensures unchanged { result ≢ ok → handle.new.kept.log ≡ handle.old.kept.log }
+    ensures { LoadsInto (IsLoadedAs version bytes.now) (NamesNoLog version bytes.now) (NamesOther version bytes.now) result
+        handle.old.kept.log handle.new.kept.log }
 {
     match LoadedLog::load(alloc, version, Secret::of(key0, key1), bytes) {
         Ok(log) => handle.put(alloc, Held::Loaded(log)),
@@ -83,11 +79,8 @@ pub extern "C" fn nlog_load_distrusted(
     key1: u64,
     bytes: &[u8],
 ) -> u32
-    ensures ok { result ≡ ok → IsSomeAnd handle.new.kept.log (λ held. IsSomeAnd (loaded_of held) (IsDistrustedFrom bytes.now)) }
-    ensures not_a_log { result ≡ not_a_log → log_of (as_five bytes.now) ≡ NotALog }
-    ensures other_version { result ≡ other_version → log_of (as_five bytes.now) ≡ OtherVersion }
-    ensures refusals { (result ≡ ok) ⊎ (result ≡ not_a_log) ⊎ (result ≡ other_version) ⊎ (result ≡ out_of_memory) }
-    ensures unchanged { result ≢ ok → handle.new.kept.log ≡ handle.old.kept.log }
+    ensures { LoadsInto (IsDistrustedFrom bytes.now) (log_of (as_five bytes.now) ≡ NotALog) (log_of (as_five bytes.now) ≡ OtherVersion) result
+        handle.old.kept.log handle.new.kept.log }
 {
     match LoadedLog::load_distrusted(alloc, Secret::of(key0, key1), bytes) {
         Ok(log) => handle.put(alloc, Held::Loaded(log)),
