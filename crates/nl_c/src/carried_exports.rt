@@ -76,9 +76,12 @@ pub extern "C" fn carried_open(
     let Some(held) = found.take(alloc) else {
         return status::NO_HANDLE;
     };
-    let Some(log) = Box::into_inner(held).into_all() else {
+    let Held::Loaded(log) = Box::into_inner(held) else {
         return status::NO_HANDLE;
     };
+    if !log.is_all {
+        return status::NO_HANDLE;
+    }
     carried!(handle, alloc, carried => carried.open(alloc, log, wants_whole, change))
 }
 
@@ -135,7 +138,9 @@ pub extern "C" fn carried_withdraw(
 ) -> u32
     ensures call { InCarried (Withdrawn name.now before.now) result handle.old.kept.log handle.new.kept.log }
 {
-    carried!(handle, alloc, log => log.withdraw(name, before))
+    carried!(handle, alloc, log => {
+        if log.plans.stands(name) { log.record(name, before) } else { status::NOT_FOUND }
+    })
 }
 
 /// Spells the line without adding it to the text: whoever writes it to the file gives it back later.

@@ -93,8 +93,7 @@ pub extern "C" fn nlog_load_distrusted(
 pub extern "C" fn nlog_free(handle: &mut Handle, alloc: Global)
     ensures { handle.new.kept.log ≡ None }
 {
-    let log = handle.take(alloc);
-    drop(log);
+    drop(handle.take(alloc));
 }
 
 #[unsafe(no_mangle)]

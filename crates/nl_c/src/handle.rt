@@ -1,6 +1,6 @@
 //! The handle that a caller in C has: memory of zeros is a handle without a log.
 ghost use Rattle.std.specs.Prelude.{◌≡◌, ◌≢◌, ◌↔◌, ◌⊎◌, Option, IsSome, Some, None, option_map};
-ghost use Rattle.nl_c.specs.{Kept.{made as made_mark, owned_if}, Held.{all_of, loaded_of, table_of}, declared.handle.Held.{Held}, Statuses.{ok, out_of_memory}};
+ghost use Rattle.nl_c.specs.{Kept.{made as made_mark, owned_if}, Held.{loaded_of, table_of}, declared.handle.Held.{Held}, Statuses.{ok, out_of_memory}};
 
 use crate::carried_log::CarriedLog;
 use crate::loaded_log::LoadedLog;
@@ -120,15 +120,6 @@ impl Held {
     {
         match self {
             Held::Loaded(log) => Some(log),
-            Held::Carried(_) => None,
-        }
-    }
-
-    pub(crate) fn into_all(self) -> Option<LoadedLog>
-        ensures { result ≡ all_of self }
-    {
-        match self {
-            Held::Loaded(log) => { if log.is_all { Some(log) } else { None } }
             Held::Carried(_) => None,
         }
     }
