@@ -5,6 +5,7 @@
 #
 # Each part ends in a line 'N passed, M failed', behind what it skipped; the last line is their sum. What was skipped is named at the end, and with --strict it has failed.
 # NLOG_NINJA_SOURCES=FOLDER tries Ninja and samurai on the library for C too, and --strict does, with sources that are fetched where there are none.
+# NLOG_NINJAS=FOLDER tries more Ninjas, and NLOG_ROOT=FOLDER a Debian of the packages; --strict makes them where none is named.
 set -uo pipefail
 cd "$(dirname "$0")"
 
@@ -95,6 +96,17 @@ part python3 tests/prose.py
 # The program as LLVM made it, and as Rattle's own compiler did.
 part python3 tests/examples.py crates/nlog/out/nlog
 part python3 tests/examples.py crates/nlog/out/nlog.by-rattle
+
+# More Ninjas, and a root of Debian, which trials take where they are named, and --strict makes. What can't be made is skipped below.
+if [[ -n $strict && -z ${NLOG_NINJAS-} ]]; then
+    export NLOG_NINJAS=$room/ninjas
+    mkdir "$NLOG_NINJAS"
+    integrations/ninja/others.sh "$NLOG_NINJAS"
+fi
+if [[ -n $strict && -z ${NLOG_ROOT-} ]]; then
+    export NLOG_ROOT=$room/root
+    debootstrap --variant=minbase bookworm "$NLOG_ROOT" "${NLOG_MIRROR:-http://deb.debian.org/debian}" > "$room/part" 2>&1 || tail -n 3 "$room/part"
+fi
 
 # The libraries, and the program. Each says what it skips, and why: a formatter, strace, Ninja or a small disk may be missing.
 # Those that take the longest begin first.

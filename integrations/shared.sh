@@ -51,7 +51,7 @@ apt() {
 
 # Fetches a package's source of a version that begins so, and lays it out as this folder: with Debian's changes, or by `tar` as its authors have it.
 fetch() { # package, version, folder [, tar]
-    local keyring=/usr/share/keyrings/debian-archive-keyring.gpg mirror=${NLOG_DEBIAN:-http://deb.debian.org/debian} full
+    local keyring=/usr/share/keyrings/debian-archive-keyring.gpg mirror=${NLOG_MIRROR:-http://deb.debian.org/debian} full
     for it in apt-get apt-cache dpkg-source "$keyring"; do
         [[ -e $it ]] || command -v "$it" > /dev/null || skip "$3 isn't there, and it can't be fetched: $it isn't there"
     done

@@ -6,7 +6,7 @@
 The archive for x86-64 is laid out in an empty root, of which the C library, its loader and a shell with four small tools are all, and in one like
 Alpine's, of busybox and musl. The examples of README.md run there, and so does the first C example of docs/LIBRARY.md, which is compiled outside by
 what pkg-config says. The one for ARM64 is laid out too, and qemu-aarch64 runs the same. The packages are installed, used and removed by dpkg, and
-lintian has no error of them but those of the missing licence. With NLOG_DEBIAN=FOLDER that is done in a copy of this root, as debootstrap makes one.
+lintian has no error of them but those of the missing licence. With NLOG_ROOT=FOLDER that is done in a copy of this root, as debootstrap makes one.
 What RELEASE and the packages say of the C library, of the kit and of the files is compared with the files themselves; and each script that needs the
 toolchain says in one line where that is missing.
 
@@ -297,9 +297,9 @@ def try_packages(trials, to, versions, newest, room):
 
 def try_debian(trials, packages, room):
     """The packages in a Debian of their own."""
-    source = os.environ.get("NLOG_DEBIAN")
-    if not source:
-        trials.skip("a Debian of the packages", "NLOG_DEBIAN names no root that debootstrap made")
+    source = os.environ.get("NLOG_ROOT", "")
+    if not os.path.isdir(f"{source}/var/lib/dpkg") or not source:
+        trials.skip("a Debian of the packages", "NLOG_ROOT names no root that debootstrap made")
         return
     trials.about = "the packages, in a Debian: "
     folder = f"{room}/debian"

@@ -7,7 +7,7 @@
 # by the package manager with lists of its own, into FOLDER, or where none is named into a folder that goes with the trial.
 #
 #   NLOG_CFLAGS, NLOG_LIBS    the library to take, as the compiler is told of it; else lib/archive.sh makes it, which wants rt
-#   NLOG_DEBIAN               the mirror (http://deb.debian.org/debian)
+#   NLOG_MIRROR               the mirror (http://deb.debian.org/debian)
 #   NLOG_PARTS                which of steps, without, cmake, tests, faults, differ, stale, cost are run (all but steps and cmake)
 #   NLOG_PROJECTS, NLOG_SEED  how many projects differ.py makes (300), and from which seed it and stale.py go (one by the clock)
 #   NLOG_STATES               how many outputs stale.py looks at (20000)

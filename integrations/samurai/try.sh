@@ -8,7 +8,7 @@
 #
 #   NLOG_CFLAGS, NLOG_LIBS    the library to take, as the compiler is told of it; else lib/archive.sh makes it, which wants rt
 #   NLOG_PROGRAM              the program nlog, which tells hashes (crates/nlog/out/nlog, where it is there)
-#   NLOG_DEBIAN               the mirror (http://deb.debian.org/debian)
+#   NLOG_MIRROR               the mirror (http://deb.debian.org/debian)
 #   NLOG_PARTS                which of own, faults, stale are run (all)
 #   NLOG_STATES, NLOG_SEED    how many outputs stale.py looks at (20000), and from which seed it goes (one by the clock)
 #
