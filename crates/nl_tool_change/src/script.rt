@@ -139,15 +139,9 @@ impl Script {
         };
         let may_set = self.events.is_empty();
         match (word, rest) {
-            (Word::Writes, Some(text)) if may_set && self.writes.is_empty() => {
-                self.writes = read_numbers(alloc, text)?;
-            }
-            (Word::Fates, Some(text)) if may_set && self.fates.is_empty() => {
-                self.fates = read_numbers(alloc, text)?;
-            }
-            (Word::Tails, Some(text)) if may_set && self.tails.is_empty() => {
-                self.tails = read_numbers(alloc, text)?;
-            }
+            (Word::Writes, Some(text)) if may_set => set_numbers(&mut self.writes, text)?,
+            (Word::Fates, Some(text)) if may_set => set_numbers(&mut self.fates, text)?,
+            (Word::Tails, Some(text)) if may_set => set_numbers(&mut self.tails, text)?,
             (Word::Fuse, Some(text)) if may_set && self.fuse.is_none() => {
                 self.fuse = Some(read_fuse(text)?);
             }
@@ -272,12 +266,14 @@ fn read_times(alloc: Global, text: Option<&[u8]>) -> Result<Vec<(Name, i64)>, Li
     Ok(pairs)
 }
 
-fn read_numbers(alloc: Global, text: &[u8]) -> Result<Vec<u64>, LineRefusal> {
-    let mut numbers = Vec::new(alloc);
+fn set_numbers(numbers: &mut Vec<u64>, text: &[u8]) -> Result<(), LineRefusal> {
+    if !numbers.is_empty() {
+        return Err(LineRefusal::BadLine);
+    }
     for number in text.split(|b| *b == b'\t') {
         numbers.push(read_number(number).ok_or(LineRefusal::BadLine)?)?;
     }
-    Ok(numbers)
+    Ok(())
 }
 
 fn read_fuse(text: &[u8]) -> Result<Fuse, LineRefusal> {
