@@ -1,7 +1,6 @@
 //! The entry that the words of `record` give.
-ghost use Rattle.std.specs.{Prelude.{◌≡◌, IfErr, IfOk, OnOk}, Int.{w32, w64}};
-ghost use Rattle.nl_fields.specs.Digits.{IsDecimal};
-ghost use Rattle.nl_tool_change.specs.RecordWords.{GiveEntry, IsEntryOf, IsNoNumber, IsToldOf, IsWordFault, of_name_fault};
+ghost use Rattle.std.specs.Prelude.{◌≡◌, IfErr, IfOk, OnOk};
+ghost use Rattle.nl_tool_change.specs.RecordWords.{GiveEntry, IsEntryOf, IsToldOf, IsWordFault, of_name_fault};
 
 use crate::line_fault::{NumberFault, NumberOf, Told, WrongNumber, number_fault};
 use nl_fields::{EntryRef, NameFault, read_i32, read_i64};
@@ -19,24 +18,18 @@ pub fn entry_of<'a>(
     ensures accepts { OnOk result (GiveEntry start.now end.now mtime.now name.entry.now) }
     ensures faults { IfErr result (IsWordFault start.now end.now mtime.now name.entry.now told.new.number) }
 {
-    let start_ms = time_of(start, NumberOf::Start, told)?;
-    let end_ms = time_of(end, NumberOf::End, told)?;
+    let Some(start_ms) = read_i32(start.as_bytes()) else {
+        return Err(no_number(start, NumberOf::Start, NumberFault::Past32, told));
+    };
+    let Some(end_ms) = read_i32(end.as_bytes()) else {
+        return Err(no_number(end, NumberOf::End, NumberFault::Past32, told));
+    };
     let Some(mtime) = read_i64(mtime.as_bytes()) else {
         return Err(no_number(mtime, NumberOf::Mtime, NumberFault::Past64, told));
     };
     match EntryRef::new(start_ms, end_ms, mtime, name.as_bytes(), 0) {
         Ok(entry) => Ok(entry),
         Err(fault) => Err(of_name_fault(fault)),
-    }
-}
-
-fn time_of(text: &str, which: NumberOf, told: &mut Told) -> Result<i32, ToolFault>
-    ensures value { IfOk result (λ n. IsDecimal n text.now) }
-    ensures faults { IfErr result (IsNoNumber w32 text.now which told.new.number) }
-{
-    match read_i32(text.as_bytes()) {
-        Some(number) => Ok(number),
-        None => Err(no_number(text, which, NumberFault::Past32, told)),
     }
 }
 

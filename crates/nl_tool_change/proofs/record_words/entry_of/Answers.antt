@@ -5,13 +5,13 @@ use Rattle.nl_tool_change.proofs.record_words.entry_of.Goals as goal
 pub returns-in-Err-clause-faults : goal.returns-in-Err-clause-faults
 returns-in-Err-clause-faults c = inr (
   record {
-    start_is = record { number = c.in_ok-start_ms.start_ms; fits = search rules; is = c.in_ok-start_ms.ensures.value };
-    end_is = record { number = c.in_ok-end_ms.end_ms; fits = search rules; is = c.in_ok-end_ms.ensures.value };
-    mtime_is = record { number = c.in-Some.mtime; fits = search rules; is = search rules };
+    start_is = record { number = c.in-Some.start_ms; fits = search rules; is = search rules };
+    end_is = record { number = c.in-Some-read_i32.end_ms; fits = search rules; is = search rules };
+    mtime_is = record { number = c.in-Some-read_i64.mtime; fits = search rules; is = search rules };
   },
   record {
     why = c.in-Err.fault;
-    has = subst (λ (bytes : List ℕ). HasFault bytes c.in-Err.fault) c.as_bytes-2.ensures.value c.in-Err.ensures.fault.0;
+    has = subst (λ (bytes : List ℕ). HasFault bytes c.in-Err.fault) c.as_bytes-4.ensures.value c.in-Err.ensures.fault.0;
     refused = c.in-Err.ensures.fault.1;
     is = c.of_name_fault.ensures;
   },
