@@ -13,7 +13,6 @@ mod parts;
 mod place;
 mod reading;
 mod record_words;
-mod replay;
 mod script;
 mod seen;
 mod update;
@@ -26,5 +25,5 @@ pub use line_fault::{
 pub use place::{AskedFolder, FoundFolder, LogPlace, mend_on};
 pub use reading::read_log;
 pub use record_words::entry_of;
-pub use replay::replay_to;
+pub use script::replay_to;
 pub use update::{recompact_on, record_command, record_on, repair_on, restat_on, retime_on};

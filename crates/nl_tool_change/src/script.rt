@@ -1,21 +1,22 @@
-//! Reading a script: what a folder in memory is told, and then the events.
-ghost use Rattle.std.specs.{Prelude.{◌≡◌, ◌↔◌, ◌<◌, ◌++◌, ◌∷◌, ◌^◌, ℕ, [], pos, Some, length, IfErr, IfOk, IfSome, IsErr, IsErrAnd, IsErrOf, IsSome, OnOk, flat_map}, List.{All as Each}};
+//! The command `replay`, and reading its script: what a folder in memory is told, and then the events.
+ghost use Rattle.std.specs.{Prelude.{◌≡◌, ◌↔◌, ◌<◌, ◌++◌, ◌∷◌, ◌^◌, ℕ, [], pos, true, false, Some, length, IfErr, IfOk, IfSome, IsErr, IsErrAnd, IsErrOf, IsSome, OnOk, flat_map}, List.{All as Each}};
 ghost use Rattle.nl_fields.specs.{Digits.{IsDecimal}, Fields.{HasNoTab}, Name.{IsName}, declared.name.NameFault.{NameFault}, declared.entry.Entry.{Entry}};
-ghost use Rattle.nl_folder.specs.declared.fuse.Call.{Call};
-ghost use Rattle.nl_tool_change.specs.{Faults.{IsBadLine, IsFaultOfLine, IsScriptFault}, declared.script.LineRefusal.TheVariants.{OutOfMemory}, declared.script.Word.{Word}, Reading.{HoldsNames, IsLineOf, IsReadable, LacksMemory, SaysNames, SaysTimes, fields_of_event, word_of_event}, Replay.{IsScript, KeepsSome, NamesSome, SaysMore, TakesScriptLine, behind_tab, event_line, keep_fields, name_field, text_of_word, time_fields, word_of}};
-ghost use Rattle.nl_tool_texts.specs.Files.{OfBytes, file_lines};
+ghost use Rattle.nl_folder.specs.{declared.fuse.Call.{Call}, MemFolder.{durable_view, mem_view_of, failure_count, choices_of}};
+ghost use Rattle.nl_tool_change.specs.{Faults.{IsBadLine, IsFaultOfLine, IsReplayFault, IsScriptFault}, declared.script.LineRefusal.TheVariants.{OutOfMemory}, declared.script.Word.{Word}, Reading.{HoldsNames, IsLineOf, IsReadable, LacksMemory, SaysNames, SaysTimes, fields_of_event, word_of_event}, Replay.{IsReplayOf, IsReplayText, IsScript, KeepsSome, NamesSome, SaysMore, TakesScriptLine, behind_tab, event_line, keep_fields, name_field, text_of_word, time_fields, told_by, word_of}};
+ghost use Rattle.nl_tool_texts.specs.{Files.{OfBytes, file_lines}, Output.{Prints}};
 ghost use Rattle.nl_session.specs.declared.events.Event.{Event};
 
+use crate::answers::append_reply;
 use crate::change::ToolResult;
 use crate::line_fault::{LineFault, Told};
 use nl_fields::{Entry, Name, NameFault, read_entry, read_i64};
-use nl_folder::{Call, Fuse};
+use nl_folder::{Call, Fuse, MemFolder};
 use nl_lines::{Line, Lines, ReadSource};
-use nl_session::Event;
+use nl_session::{Event, Outcome, run_events};
 use nl_table::KeepList;
-use nl_tool_texts::ToolFault;
+use nl_tool_texts::{AllocResult, ToolFault, append_with, write_out};
 use std::alloc::{AllocError, AllocFailed, Global};
-use std::io::Read;
+use std::io::{Read, Write};
 use std::str;
 
 /// The settings of a folder in memory, and the events for a log over it.
@@ -309,4 +310,52 @@ fn read_number(text: &[u8]) -> Option<u64>
     ensures accepts { (n : ℕ) → n < 2 ^ 63 → IsDecimal (pos n) text.now → result ≡ Some n }
 {
     u64::try_from(read_i64(text)?).ok()
+}
+
+/// Runs the script's events over a folder in memory whose log is empty, and writes the replies and the log that they leave.
+pub fn replay_to<R: Read + Drop, W: Write>(
+    alloc: Global,
+    reader: R,
+    writer: &mut W,
+    told: &mut Told,
+) -> Result<(), ToolFault>
+    ensures prints { Prints (IsReplayText (R.remaining reader)) (W.contents writer.old) (W.contents writer.new) result }
+    ensures why { IsErrAnd result IsBadLine → IsSome told.new.why }
+    ensures faults { IfErr result IsReplayFault }
+{
+    let script = read_script(alloc, reader, told)?;
+    let text = run_script(alloc, script)?;
+    write_out(text.as_slice(), writer)
+}
+
+fn set_up(alloc: Global, script: Script) -> (MemFolder, Vec<Event>)
+    ensures state { mem_view_of result.0 ≡ durable_view [] }
+    ensures failures { failure_count result.0 ≡ 0 }
+    ensures choices { choices_of result.0 ≡ told_by script }
+    ensures events { result.1.items ≡ script.events.items }
+{
+    let log = Vec::new(alloc);
+    let mut folder = MemFolder::new(alloc, log, script.writes, script.fates, script.fuse);
+    folder.set_tails(script.tails);
+    (folder, script.events)
+}
+
+fn run_script(alloc: Global, script: Script) -> AllocResult<Vec<u8>>
+    ensures value { IfOk result (λ text. IsReplayOf script.events.items text.items) }
+{
+    let (folder, events) = set_up(alloc, script);
+    let (folder, replies, outcome) = run_events(alloc, folder, &events);
+    match outcome {
+        Outcome::Whole => {}
+        Outcome::OutOfMemory { .. } => return Err(AllocError),
+    }
+    let log = folder.log_bytes();
+    let mut text = Vec::new(alloc);
+    for reply in &replies {
+        append_reply(*reply, &mut text)?;
+    }
+    append_with(b"log ", log.len(), &mut text)?;
+    text.push(b'\n')?;
+    text.extend_from_slice(log)?;
+    Ok(text)
 }

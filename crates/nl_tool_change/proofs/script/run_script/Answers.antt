@@ -9,7 +9,7 @@ use Rattle.nl_session.specs.declared.events.Reply.{Reply}
 use Rattle.nl_session.specs.declared.events.Reply.TheVariants.{Done}
 use Rattle.nl_tool_change.specs.Replay.{IsReplayOf, printed, reply_line}
 use Rattle.nl_tool_change.proofs.ReplayLemmas.{printed_is, replayed}
-use Rattle.nl_tool_change.proofs.replay.run_script.Goals as goal
+use Rattle.nl_tool_change.proofs.script.run_script.Goals as goal
 
 pub loop-reply-preserved : goal.loop-reply-preserved
 loop-reply-preserved c =
