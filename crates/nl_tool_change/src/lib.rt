@@ -5,7 +5,6 @@ mod answers;
 mod apply;
 mod asked;
 mod change;
-mod deed;
 mod files;
 pub mod laws;
 mod line_fault;

@@ -10,7 +10,7 @@ use Rattle.nl_session.specs.declared.events.Event.TheVariants.{Open as OpenLog, 
 use Rattle.nl_session.specs.declared.events.Reply.{Reply}
 use Rattle.nl_session.proofs.RunLemmas.{open_moves, open_sound, breaks_by_fault, other_moves, rewrite_leaves, answered_open, stayed}
 use Rattle.nl_tool_change.specs.Deeds.{SetsFor}
-use Rattle.nl_tool_change.proofs.deed.Deed.ask.Goals as goal
+use Rattle.nl_tool_change.proofs.asked.Deed.ask.Goals as goal
 
 pub returns-in-Open-Some : goal.returns-in-Open-Some
 returns-in-Open-Some g c =

@@ -3,7 +3,7 @@ use Rattle.nl_table.specs.Table.{each_once}
 use Rattle.nl_table.specs.declared.log_user.KeepList.{KeepList}
 use Rattle.nl_tool_change.specs.Deeds.{IsDeadBut}
 use Rattle.nl_tool_change.proofs.DeedLemmas.{same_dead}
-use Rattle.nl_tool_change.proofs.deed.kept_by.Goals as goal
+use Rattle.nl_tool_change.proofs.asked.kept_by.Goals as goal
 
 pub returns-in_ok-set_of-in-Only-clause-value : goal.returns-in_ok-set_of-in-Only-clause-value
 returns-in_ok-set_of-in-Only-clause-value c =
