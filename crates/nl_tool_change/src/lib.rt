@@ -8,7 +8,6 @@ mod change;
 mod files;
 pub mod laws;
 mod line_fault;
-mod parts;
 mod place;
 mod reading;
 mod record_words;

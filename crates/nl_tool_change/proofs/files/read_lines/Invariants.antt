@@ -2,7 +2,7 @@ use Rattle.std.proofs.Common.{◌-◌}
 use Rattle.nl_lines.specs.Lines.{max_log}
 use Rattle.nl_tool_change.specs.Files.{line_of}
 use Rattle.nl_tool_change.proofs.FileLemmas.{Telling}
-use Rattle.nl_tool_change.proofs.parts.read_lines.Given as goal
+use Rattle.nl_tool_change.proofs.files.read_lines.Given as goal
 
 abbrev pub invariant-lines : goal.invariant-lines
 invariant-lines g l = record {

@@ -1,6 +1,6 @@
 use Rattle.std.proofs.Common.{◌≡◌, arith, inl, inr}
 use Rattle.nl_tool_change.proofs.FileLemmas.{Telling_none, Telling_more, Telling_rest, Telling_reading, Telling_end, lent_all, lent_is_short}
-use Rattle.nl_tool_change.proofs.parts.read_lines.Goals as goal
+use Rattle.nl_tool_change.proofs.files.read_lines.Goals as goal
 
 pub lines-init : goal.lines-init
 lines-init g c = record {
