@@ -10,7 +10,6 @@ pub mod laws;
 mod line_fault;
 mod place;
 mod reading;
-mod record_words;
 mod script;
 mod seen;
 mod update;
@@ -18,10 +17,9 @@ mod update;
 pub use apply::{Hears, Nobody, apply_on};
 pub use files::read_manifest;
 pub use line_fault::{
-    LineFault, NumberFault, NumberOf, Told, UNTOLD, WrongNumber, build_fault, count_fault,
+    LineFault, NumberFault, NumberOf, Told, UNTOLD, WrongNumber, build_fault, count_fault, entry_of,
 };
 pub use place::{AskedFolder, FoundFolder, LogPlace, mend_on};
 pub use reading::read_log;
-pub use record_words::entry_of;
 pub use script::replay_to;
 pub use update::{recompact_on, record_command, record_on, repair_on, restat_on, retime_on};

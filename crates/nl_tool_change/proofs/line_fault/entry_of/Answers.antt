@@ -1,6 +1,6 @@
 use Rattle.std.proofs.Common.{ℕ, List, subst, inr, rules}
 use Rattle.nl_fields.specs.Name.{HasFault}
-use Rattle.nl_tool_change.proofs.record_words.entry_of.Goals as goal
+use Rattle.nl_tool_change.proofs.line_fault.entry_of.Goals as goal
 
 pub returns-in-Err-clause-faults : goal.returns-in-Err-clause-faults
 returns-in-Err-clause-faults c = inr (
