@@ -1,6 +1,5 @@
 //! What a line of `apply` asks for. An event has the names that it keeps as a set, which takes its memory before the log is touched.
 ghost use Rattle.std.specs.Prelude.{◌≡◌, ◌++◌, ◌∷◌, ◌≢◌, codes, IfOk, IfSome, IsErr, IsErrAnd};
-ghost use Rattle.nl_table.specs.{History.{holds}, Table.{each_once}, declared.log_user.KeepList.{KeepList}};
 ghost use Rattle.nl_session.specs.{declared.events.Event.{Event}, Machine.{reply_of}, LogView.{view_of}, Answers.{Answered}};
 ghost use Rattle.nl_tool_change.specs.{declared.script.LineRefusal.{LineRefusal}, declared.asked.Asked.{Asked}, Applying.{Asks, BeginsBy, BeginsNone}, Deeds.{HasNames, IsDeadBut, KeepsNames, SetsFor}};
 
@@ -174,20 +173,14 @@ fn kept_by(alloc: Global, secret: Secret, keep: &KeepList) -> AllocResult<Option
     ensures value { IfOk result (λ kept. IfSome kept (λ names. IsDeadBut names keep.now)) }
     ensures memory { IsErr result → HasNames keep.now }
 {
-    match keep {
-        KeepList::All => Ok(None),
-        KeepList::Only(names) => Ok(Some(set_of(alloc, secret, names.as_slice())?)),
-    }
-}
-
-fn set_of(alloc: Global, secret: Secret, names: &[Name]) -> AllocResult<NameSet>
-    ensures value { IfOk result (λ set. set ≡ each_once names.now) }
-{
+    let KeepList::Only(names) = keep else {
+        return Ok(None);
+    };
     let mut set = NameSet::new(alloc, secret);
     for name in names {
         set.add(name)?;
     }
-    Ok(set)
+    Ok(Some(set))
 }
 
 pub fn reply_of(answer: Result<(), LogFault>) -> Reply
