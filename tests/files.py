@@ -13,11 +13,10 @@ import os
 import random
 import shutil
 import sys
-import tempfile
 
 from log_format import HEADER, WORD, Log, as_version, line_of
 from log_lines import distrusted_of
-from trials import Trials, in_memory, read, run, short, usage, write
+from trials import main_by_chance, read, run, short, write
 
 CASES, SEED = 1200, 20240229
 NAMES = [b"a", b"b", b"c", b"d", b"two words", b"folder/c", b"folder", b"a/below a file", b"gone", b"gone/too", b"n" * 256, b"no UTF-8 \xff"]
@@ -352,25 +351,18 @@ class Rivals:
         self.unseen -= {("mend", fault) for fault in FAULTS["mend"] if wanted(fault) != got}
 
 
-def main(words):
-    numbers = words[1:]
-    if not words or len(numbers) > 2 or not all(it.isdecimal() for it in numbers):
-        return usage(__file__, "PROGRAM [CASES [SEED]]")
-    trials, count = Trials(__file__), int(numbers[0]) if numbers else CASES
-    chance = random.Random(int(numbers[1]) if len(numbers) > 1 else SEED)
-    with tempfile.TemporaryDirectory(dir=in_memory()) as room:
-        rivals = Rivals(trials, os.path.abspath(words[0]), room)
-        for number in range(count):
-            rivals.case(f"case {number}", chance)
-        # What a case shows depends on when its files changed too, so more are tried where a fault wasn't seen.
-        while CASES <= count and rivals.unseen and number < 4 * count:
-            number += 1
-            rivals.case(f"case {number}", chance)
+def trial(trials, program, room, count, chance):
+    rivals = Rivals(trials, program, room)
+    for number in range(count):
+        rivals.case(f"case {number}", chance)
+    # What a case shows depends on when its files changed too, so more are tried where a fault wasn't seen.
+    while CASES <= count and rivals.unseen and number < 4 * count:
+        number += 1
+        rivals.case(f"case {number}", chance)
     for word, faults in FAULTS.items():
         for fault in faults if count >= CASES else []:
             trials.check(f"{word}, with the fault that {fault}, comes out otherwise", (word, fault) not in rivals.unseen)
-    return trials.end()
 
 
 if __name__ == "__main__":
-    sys.exit(main(sys.argv[1:]))
+    sys.exit(main_by_chance(__file__, CASES, SEED, trial))

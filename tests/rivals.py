@@ -8,14 +8,11 @@ and no echo, with each fault some case has to come out otherwise than the progra
 
     python3 tests/rivals.py PROGRAM [CASES [SEED]]
 """
-import os
-import random
 import sys
-import tempfile
 
 from log_format import as_version, line_of
 from log_lines import compare_of, picture_of
-from trials import Trials, in_memory, run, short, usage, write
+from trials import main_by_chance, run, short, write
 
 CASES, SEED = 300, 20240229
 MILLI = 1_000_000
@@ -100,21 +97,14 @@ class Rivals:
         self.want(f"{what} of {short(sides)}", "compare", words, lambda fault: compare_of(*seen, versions, most, least, fault))
 
 
-def main(words):
-    numbers = words[1:]
-    if not words or len(numbers) > 2 or not all(it.isdecimal() for it in numbers):
-        return usage(__file__, "PROGRAM [CASES [SEED]]")
-    trials, count = Trials(__file__), int(numbers[0]) if numbers else CASES
-    chance = random.Random(int(numbers[1]) if len(numbers) > 1 else SEED)
-    with tempfile.TemporaryDirectory(dir=in_memory()) as room:
-        rivals = Rivals(trials, os.path.abspath(words[0]), room)
-        for number in range(count):
-            rivals.case(f"case {number}", chance)
+def trial(trials, program, room, count, chance):
+    rivals = Rivals(trials, program, room)
+    for number in range(count):
+        rivals.case(f"case {number}", chance)
     for word, faults in FAULTS.items():
         for fault in faults if count >= CASES else []:
             trials.check(f"{word}, with the fault that {fault}, comes out otherwise", (word, fault) not in rivals.unseen)
-    return trials.end()
 
 
 if __name__ == "__main__":
-    sys.exit(main(sys.argv[1:]))
+    sys.exit(main_by_chance(__file__, CASES, SEED, trial))

@@ -1,6 +1,7 @@
 """What the trials of this folder share: their words, what passed and what failed, and the last line."""
 import fcntl
 import os
+import random
 import resource
 import shutil
 import subprocess
@@ -71,6 +72,17 @@ def main(script, trial):
         program = shutil.copy(words[0], f"{folder}/nlog")
         os.chmod(program, 0o755)
         trial(trials, program, room)
+    return trials.end()
+
+
+def main_by_chance(script, cases, seed, trial):
+    """Runs a trial that makes cases by chance, as many as its words say, and gives the status to end with."""
+    words, numbers = sys.argv[1:], sys.argv[2:]
+    if not words or len(numbers) > 2 or not all(it.isdecimal() for it in numbers):
+        return usage(script, "PROGRAM [CASES [SEED]]")
+    trials, numbers = Trials(script), [*map(int, numbers), *(cases, seed)[len(numbers) :]]
+    with tempfile.TemporaryDirectory(dir=in_memory()) as room:
+        trial(trials, os.path.abspath(words[0]), room, numbers[0], random.Random(numbers[1]))
     return trials.end()
 
 
