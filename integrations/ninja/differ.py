@@ -244,7 +244,8 @@ class Differ:
         self.ninjas, self.room = ninjas, room
         self.steps = self.commands = self.intents = 0
         self.lost = set()  # the outputs of lines that were torn
-        self.overtaken = set()  # those whose record was lost, because a Ninja within the build rewrote the patched log
+        self.left = set()  # those over which an intent was left: by a build that failed, or because a Ninja within it rewrote the patched log
+        self.apart = set()  # those of them that the patched one alone has built since
 
     @staticmethod
     def begun(sides):
@@ -260,27 +261,27 @@ class Differ:
         """Which file the log is."""
         return os.stat(side.path(LOG)).st_ino if os.path.exists(side.path(LOG)) else None
 
-    def compare(self, sides, what, answers, is_overtaken=False):
+    def compare(self, sides, what, answers, is_left=False):
         """What the two differ in, if anything."""
         self.steps += 1
         before = self.begun(sides)
         logs = [it.log() for it in sides]
         after = self.begun(sides)
         self.intents += len(after - before)
-        again = self.overtaken & before
-        self.overtaken = (self.overtaken | (after - before if is_overtaken else set())) & after
+        again = self.left & before
+        self.left = (self.left | (after - before if is_left else set())) & after
         # What can't be trusted has no entry in the patched log until it is built.
         self.lost = {name for name in self.lost if name not in sides[1].entries}
         for name in self.lost:
             (logs[0] or {}).pop(name, None)
         if answers[0] is not None:
             answers = [(status, [it for it in said if not (it.startswith(b"ninja explain: ") and any(name in it for name in before | after | self.lost))]) for status, said in answers]
-            # A command whose record was lost so runs once more.
+            # A command over whose output an intent was left may run once more.
             (status, less), (other, more) = answers
-            if again and status == other and all(more.count(it) >= less.count(it) for it in less):
-                answers = [(status, less)] * 2
+            if again and status == other and all(more.count(it) >= less.count(it) for it in less if it != b"ninja: no work to do."):
+                answers, self.apart = [(status, less)] * 2, self.apart | again
         for it in logs:
-            for name in after | again:
+            for name in after | self.apart:
                 (it or {}).pop(name, None)
         for name, of_sides in (("answers", answers), ("files", [it.files() for it in sides]), ("logs", logs)):
             if of_sides[0] != of_sides[1]:
@@ -290,7 +291,7 @@ class Differ:
     def project(self, random_numbers, version, folder):
         """Takes a project through its steps: what the two first differed in."""
         project = Project(random_numbers, version)
-        self.lost, self.overtaken = set(), set()
+        self.lost, self.left, self.apart = set(), set(), set()
         sides = [Side(it, f"{folder}/{at}") for at, it in enumerate(self.ninjas)]
 
         def both(name, text):
@@ -322,7 +323,7 @@ class Differ:
             if text.endswith(b"\n") and more.startswith(text) and is_same and not project.has_inner and not project.is_remade and ends != sorted(ends):
                 return f"after {words}: an end falls within a build: {ends}"
             tick(folder)
-            difference = self.compare(sides, words, answers, project.has_inner and not is_same)
+            difference = self.compare(sides, words, answers, answers[1][0] != 0 or project.has_inner and not is_same)
             if not difference and sides[0].is_due != sides[1].is_due:
                 return run("-t", "recompact")
             return difference
@@ -405,7 +406,8 @@ class Differ:
             for name in [*project.outputs(), "dynout", "hid.den", "other", "inside", "outside"]:
                 dated(name, near + random_numbers.randint(-5, 5))
             return run("-t", "restat", *(["--", *some] if random_numbers.random() < 0.5 else []))
-        elif what in ("recompact", "cleandead", "clean"):
+        # What has an intent counts for no dead output.
+        elif what in ("recompact", "clean") or what == "cleandead" and not self.begun(sides):
             return run("-t", what)
         return None
 
