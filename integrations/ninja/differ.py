@@ -16,6 +16,9 @@ The patched one writes intents, and so one differs from the other where a comman
 output whose last entry is such an intent has an older entry, or none, in the other log, and no reason to be built is compared of it. Until
 it was built no file gets another time by hand, and the file whose record was cut off is removed. Where one log is due, which may be that of the
 patched one first, both are rewritten. An output whose line was torn may have no entry in the patched log until it is built.
+
+An intent that a build left which failed, or in which another Ninja rewrote the patched log, may cost its command once more. Commands of the plain
+one alone are a difference all the same, and a build that ended well may leave none.
 """
 import os
 import random
