@@ -389,7 +389,7 @@ class Differ:
             texts = [it.bytes(LOG) or b"" for it in sides]
             places = [it[:-1].rfind(b"\n") + 1 for it in texts]
             # Rewritten logs are in other orders.
-            names = {it[at:].split(b"\t")[-2] for it, at in zip(texts, places) if it[at:].count(b"\t") > 3}
+            names = {it[at:].split(b"\t")[3] for it, at in zip(texts, places) if it[at:].count(b"\t") > 3}
             kept = {os.fsencode(it) for it in [*project.sources, "build.ninja"]}
             # A name that is cut may be another one.
             others = {it for it in sides[1].entries if any(it != name and name.startswith(it) for name in names)}
