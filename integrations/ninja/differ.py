@@ -13,9 +13,10 @@ entries: their outputs, their hashes, the numbers that both were given, and of o
 A torn line is followed by a recompaction, since a build by the plain one then spoils the log: faults.py shows that.
 
 The patched one writes intents, and so one differs from the other where a command fails, or a record is lost: faults.py shows that too. Here an
-output whose last entry is such an intent has an older entry, or none, in the other log, and no reason to be built is compared of it. Until
-it was built no file gets another time by hand, and the file whose record was cut off is removed. Where one log is due, which may be that of the
-patched one first, both are rewritten. An output whose line was torn may have no entry in the patched log until it is built.
+output whose last entry is such an intent has an older entry, or none, in the other log, which may be missing then, and no reason to be built is
+compared of it. Until it was built no file gets another time by hand, and the file whose record was cut off is removed. Where one log is due,
+which may be that of the patched one first, both are rewritten. An output whose line was torn may have no entry in the patched log until it is
+built.
 
 An intent that a build left which failed, or in which another Ninja rewrote the patched log, may cost its command once more. Commands of the plain
 one alone are a difference all the same, and a build that ended well may leave none.
@@ -286,6 +287,9 @@ class Differ:
         for it in logs:
             for name in after | self.apart:
                 (it or {}).pop(name, None)
+        # The plain one makes no log before its first record.
+        if logs[0] is None and after and logs[1] == {b"header": (logs[1] or {}).get(b"header"), b"torn": b""}:
+            logs[1] = None
         for name, of_sides in (("answers", answers), ("files", [it.files() for it in sides]), ("logs", logs)):
             if of_sides[0] != of_sides[1]:
                 return f"after {what}: {name}: {apart(*of_sides)}"
