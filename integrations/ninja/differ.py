@@ -330,6 +330,10 @@ class Differ:
             if text.endswith(b"\n") and more.startswith(text) and is_same and not project.has_inner and not project.is_remade and ends != sorted(ends):
                 return f"after {words}: an end falls within a build: {ends}"
             tick(folder)
+            # A Ninja within the build may have found the patched log due, which has more lines: then both are rewritten.
+            if file is not None and project.has_inner and not is_same:
+                for it in sides:
+                    it.run(["-t", "recompact"])
             difference = self.compare(sides, words, answers, answers[1][0] != 0 or project.has_inner and not is_same)
             if not difference and sides[0].is_due != sides[1].is_due:
                 return run("-t", "recompact")
