@@ -18,8 +18,8 @@ compared of it. Until it was built no file gets another time by hand, and the fi
 which may be that of the patched one first, both are rewritten. An output whose line was torn may have no entry in the patched log until it is
 built.
 
-An intent that a build left which failed, or in which another Ninja rewrote the patched log, may cost its command once more. Commands of the plain
-one alone are a difference all the same, and a build that ended well may leave none.
+An intent that a build left which failed, or in which another Ninja rewrote the patched log, or that stood over an output without an entry, may
+cost its command once more, and no other one may. Commands of the plain one alone are a difference all the same.
 """
 import os
 import random
@@ -248,8 +248,9 @@ class Differ:
         self.ninjas, self.room = ninjas, room
         self.steps = self.commands = self.intents = 0
         self.lost = set()  # the outputs of lines that were torn
-        self.left = set()  # those over which an intent was left: by a build that failed, or because a Ninja within it rewrote the patched log
+        self.left = set()  # those over which an intent was left: because the build failed, a Ninja within it rewrote the log, or they had no entry
         self.apart = set()  # those of them that the patched one alone has built since
+        self.is_over = False  # whether one of their files is another one by now
 
     @staticmethod
     def begun(sides):
@@ -272,8 +273,9 @@ class Differ:
         logs = [it.log() for it in sides]
         after = self.begun(sides)
         self.intents += len(after - before)
-        again = self.left & before
-        self.left = (self.left | (after - before if is_left else set())) & after
+        again, is_more = self.left & before, False
+        # What had no entry can't get it back where its command turns out not to be needed.
+        self.left = (self.left | {name for name in after - before if is_left or name not in sides[0].entries}) & after
         # What can't be trusted has no entry in the patched log until it is built.
         self.lost = {name for name in self.lost if name not in sides[1].entries}
         for name in self.lost:
@@ -283,6 +285,7 @@ class Differ:
             # A command over whose output an intent was left may run once more.
             (status, less), (other, more) = answers
             if again and status == other and all(more.count(it) >= less.count(it) for it in less if it != b"ninja: no work to do."):
+                is_more = less != more
                 answers, self.apart = [(status, less)] * 2, self.apart | again
         for it in logs:
             for name in after | self.apart:
@@ -292,13 +295,15 @@ class Differ:
             logs[1] = None
         for name, of_sides in (("answers", answers), ("files", [it.files() for it in sides]), ("logs", logs)):
             if of_sides[0] != of_sides[1]:
-                return f"after {what}: {name}: {apart(*of_sides)}"
+                # The file that was built once more may have other bytes than one that no command made. From there on the two differ.
+                self.is_over = is_more and name == "files"
+                return None if self.is_over else f"after {what}: {name}: {apart(*of_sides)}"
         return None
 
     def project(self, random_numbers, version, folder):
         """Takes a project through its steps: what the two first differed in."""
         project = Project(random_numbers, version)
-        self.lost, self.left, self.apart = set(), set(), set()
+        self.lost, self.left, self.apart, self.is_over = set(), set(), set(), False
         sides = [Side(it, f"{folder}/{at}") for at, it in enumerate(self.ninjas)]
 
         def both(name, text):
@@ -335,7 +340,7 @@ class Differ:
                 for it in sides:
                     it.run(["-t", "recompact"])
             difference = self.compare(sides, words, answers, answers[1][0] != 0 or project.has_inner and not is_same)
-            if not difference and sides[0].is_due != sides[1].is_due:
+            if not difference and not self.is_over and sides[0].is_due != sides[1].is_due:
                 return run("-t", "recompact")
             return difference
 
@@ -363,7 +368,7 @@ class Differ:
         for _ in range(random_numbers.randint(4, 12)):
             difference = self.step(random_numbers, project, sides, (both, dated, manifest, run))
             tick(folder)
-            if difference:
+            if difference or self.is_over:
                 return difference
         return None
 
