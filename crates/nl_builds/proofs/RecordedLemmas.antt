@@ -11,7 +11,8 @@ use Rattle.nl_table.proofs.NameLemmas.{bytes_eq_comm}
 use Rattle.nl_table.proofs.TableLemmas.{IsTable-entered}
 use Rattle.nl_table.specs.History.{holds}
 use Rattle.nl_table.specs.Table.{IsTable, all_entered_table, entered_table, entry_named, entry_names}
-use Rattle.nl_builds.specs.Recorded.{any_intent, is_intent, is_some_equal, is_some_intent, is_withdrawn, kept_of, name_of_new, recorded, recorded_from, stood_with, unfinished}
+use Rattle.nl_fields.specs.Intent.{is_intent}
+use Rattle.nl_builds.specs.Recorded.{any_intent, is_some_equal, is_some_intent, is_withdrawn, kept_of, name_of_new, recorded, recorded_from, stood_with, unfinished}
 
 -- none of them is an intent
 abbrev pub NoneOf : List Entry → Type 0

@@ -1,13 +1,10 @@
 -- Entries that stand for outputs while their command runs (docs/FORMAT.md, "Intents"), and those that stand again when it doesn't.
-use Rattle.std.specs.Prelude.{ℕ, pos, ◌==◌, ◌&&◌, ◌||◌, Bool, false, List, [], ◌∷◌, ◌++◌, Option, None, Some, filter, if◌then◌else◌}
+use Rattle.std.specs.Prelude.{ℕ, ◌==◌, ◌&&◌, ◌||◌, Bool, false, List, [], ◌∷◌, ◌++◌, Option, None, Some, filter, if◌then◌else◌}
 use Rattle.std.specs.List.{list_any}
 use Rattle.std.specs.Ordering.{int_eq}
+use Rattle.nl_fields.specs.Intent.{is_intent}
 use Rattle.nl_fields.specs.declared.entry.Entry.{Entry}
 use Rattle.nl_table.specs.Table.{all_entered_table, entered_table, entry_named, entry_names}
-
--- it ends when it begins, and its mtime is 0
-abbrev pub is_intent : Entry → Bool
-is_intent e = int_eq e.start_ms e.end_ms && int_eq e.mtime (pos 0)
 
 abbrev pub any_intent : List Entry → Bool
 any_intent es = list_any is_intent es

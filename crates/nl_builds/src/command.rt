@@ -99,7 +99,8 @@ impl Command {
     }
 }
 
-pub(crate) fn moment(ms: i32) -> u32
+/// The milliseconds from the earliest START or END that there can be.
+pub fn moment(ms: i32) -> u32
     ensures value { result ≡ moment ms }
 {
     ms.abs_diff(i32::MIN)

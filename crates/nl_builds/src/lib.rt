@@ -12,7 +12,7 @@ mod seen;
 mod stamps;
 
 pub use build::{Build, Builds, How, builds_of};
-pub use command::{Command, commands_of};
+pub use command::{Command, commands_of, moment};
 pub use log::{LogBuilds, may_be_log, read_builds};
 pub use name_key::NameKey;
 pub use reading::{LogEntries, read_entries};

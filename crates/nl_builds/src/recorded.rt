@@ -1,9 +1,9 @@
 //! Which entries are of commands: not those that stand for outputs while their command runs, nor those that stand again when it doesn't.
 ghost use Rattle.std.specs.Prelude.{◌≡◌, ◌++◌, ◌∷◌, [], map, if◌then◌else◌, IfOk, OnOk};
 ghost use Rattle.nl_table.specs.Table.{entered_table, entry_named};
-ghost use Rattle.nl_builds.specs.Recorded.{is_intent, is_of_none, is_some_equal, is_some_intent, name_of_new, recorded, stood_with, unfinished};
+ghost use Rattle.nl_builds.specs.Recorded.{is_of_none, is_some_equal, is_some_intent, name_of_new, recorded, stood_with, unfinished};
 
-use nl_fields::EntryRef;
+use nl_fields::{EntryRef, is_intent};
 use nl_table::{Secret, Table};
 use std::alloc::{AllocError, Global};
 
@@ -25,7 +25,7 @@ pub fn keep_recorded<'a>(
     ensures unfinished { IfOk result (λ kept. map (λ n. n.now) kept.unfinished.items ≡ unfinished entries.entry.items) }
 {
     let mut names = Vec::new(alloc);
-    if !entries.iter().any(is_intent) {
+    if !entries.iter().any(|entry| is_intent(entry)) {
         return Ok(Recorded {
             entries,
             unfinished: names,
@@ -79,7 +79,7 @@ fn take<'a>(
 fn is_some_intent(entry: &Option<EntryRef>) -> bool
     ensures { result ≡ is_some_intent entry.now }
 {
-    entry.as_ref().is_some_and(is_intent)
+    entry.as_ref().is_some_and(|entry| is_intent(entry))
 }
 
 fn is_some_equal(old: &Option<EntryRef>, entry: &EntryRef) -> bool
@@ -94,10 +94,4 @@ fn is_some_equal(old: &Option<EntryRef>, entry: &EntryRef) -> bool
         }
         None => false,
     }
-}
-
-fn is_intent(entry: &EntryRef) -> bool
-    ensures { result ≡ is_intent entry.now }
-{
-    entry.start_ms == entry.end_ms && entry.mtime == 0
 }

@@ -11,15 +11,12 @@ pub fn trusted_lines_are_read_alike()
         → plain_last name (drop 1 (lines_of bytes)) ≡ entry_last version name (drop 1 (lines_of bytes)) }
 {}
 
-/// Plain Ninja takes the line of an entry for one with the entry's texts.
+/// Plain Ninja takes the line of an entry for one with the entry's texts. A line that is no entry, and that it takes for one, mentions its
+/// name.
 pub fn entries_are_read_alike()
     ensures five { (line : List ℕ) (e : Entry) → entry_on current_version line ≡ Some e → IsSomeAnd (plain_texts line) (IsSpelled e) }
     ensures four { (line : List ℕ) (e : Entry) → entry_on oldest_version line ≡ Some e → IsSomeAnd (plain_texts line) (IsTold e) }
-{}
-
-/// A line that is no entry, and that plain Ninja takes for one, mentions its name.
-pub fn what_is_taken_is_mentioned()
-    ensures { (version : ℕ) (line : List ℕ) (t : Texts) → entry_on version line ≡ None → plain_texts line ≡ Some t → IsName t.name
+    ensures mentioned { (version : ℕ) (line : List ℕ) (t : Texts) → entry_on version line ≡ None → plain_texts line ≡ Some t → IsName t.name
         → holds (mentioned_on version line) t.name ≡ true }
 {}
 
@@ -35,10 +32,7 @@ pub fn a_whole_log_is_trusted()
     ensures entries { (version : ℕ) (bytes : List ℕ) → All (λ line. IsSome (entry_on version line)) (drop 1 (lines_of bytes))
         → rest_of bytes ≡ [] → mentioned_in version bytes ≡ [] }
     ensures whole { (version : ℕ) (bytes : List ℕ) (es : List Entry) → is_whole version bytes ≡ true → distrusted_in version bytes es ≡ [] }
-{}
-
-pub fn a_whole_log_skips_no_line()
-    ensures { (version : ℕ) (bytes : List ℕ) (es : List Entry) → log_of bytes ≡ Log version es
+    ensures counts { (version : ℕ) (bytes : List ℕ) (es : List Entry) → log_of bytes ≡ Log version es
         → is_whole version bytes ≡ (torn_len bytes == 0 && skipped_count bytes == 0) }
 {}
 

@@ -6,4 +6,4 @@ mod plain;
 mod walk;
 
 pub use plain::plain_name;
-pub use walk::{distrusted, is_torn, is_whole};
+pub use walk::{distrusted, is_whole};

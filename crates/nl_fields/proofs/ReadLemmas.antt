@@ -1,4 +1,4 @@
--- Digits that are read: the table of their values at each of the 256 bytes, by computing, and room for one more.
+-- Digits that are read: the table of their values at each byte up to `f`, by computing, and room for one more.
 use Rattle.std.proofs.Common.{◌≡◌, ℕ, zero, suc, ◌+◌, ◌-◌, ◌*◌, ◌^◌, ◌<◌, ◌≤◌, Bool, true, false, ◌&&◌, nat_lt, if◌then◌else◌, get_or, List}
 use Rattle.std.proofs.Common.{refl, arith, inl, inr, ◌∙◌}
 use Rattle.std.proofs.Math.Dec.{eqb}
@@ -38,19 +38,24 @@ holds_at table (suc n) h c lt =
     let both = both_of (eqb (get_or table n 0) (value_at n)) (holds_below table n) h in
     elim (cases_eq c n) [ inl same ↦ rw same (eqb-true _ _ both.0) | inr other ↦ holds_at table n both.1 c (omega arith) ]
 
-table_holds : holds_below VALUES 256 ≡ true
+table_holds : holds_below VALUES 103 ≡ true
 unfolding holds_below value_at
 table_holds = refl
 
 -- what the table has below the base is the value of the digit
-pub digit_there : (base c : ℕ) → base ≤ 16 → c < 256 → get_or VALUES c 0 < base → IsDigit base (get_or VALUES c 0) c
+pub digit_there : (base c : ℕ) → base ≤ 16 → c < 103 → get_or VALUES c 0 < base → IsDigit base (get_or VALUES c 0) c
 digit_there base c small fits less =
-    let is = holds_at VALUES 256 table_holds c fits in
+    let is = holds_at VALUES 103 table_holds c fits in
     rw is (is_digit base c small (omega (arith, is, less)))
 
+-- no byte above `f` is a digit
+pub digit_fits : (base d c : ℕ) → base ≤ 16 → IsDigit base d c → c < 103
+unfolding value_at
+digit_fits base d c small digit = grind (arith, nat_tests, small, digit.below, digit.byte)
+
 -- a digit has its value in the table
-pub digit_found : (base d c : ℕ) → base ≤ 16 → c < 256 → IsDigit base d c → get_or VALUES c 0 ≡ d
-digit_found base d c small fits digit = holds_at VALUES 256 table_holds c fits ∙ has_value base d c small digit
+pub digit_found : (base d c : ℕ) → base ≤ 16 → IsDigit base d c → get_or VALUES c 0 ≡ d
+digit_found base d c small digit = holds_at VALUES 103 table_holds c (digit_fits base d c small digit) ∙ has_value base d c small digit
 
 -- a number below a power of the base and one digit more are below the next
 pub bound_more : (base number digit i : ℕ) → number < base ^ (i + 1) → digit < base → base * number + digit < base ^ (i + 1 + 1)

@@ -7,3 +7,4 @@ pub mod Header
 pub mod CommandHash
 pub mod RapidHash
 pub mod Stamps
+pub mod Intent

@@ -95,19 +95,6 @@ fn split_digits(bytes: &[u8]) -> Option<(u64, &[u8])>
     Some((number, rest))
 }
 
-fn to_i64(magnitude: u64) -> Option<i64>
-    ensures { SomeIff result (FitsSigned w64 (pos magnitude)) (pos magnitude) }
-{
-    i64::try_from(magnitude).ok()
-}
-
-fn to_i32(number: i64) -> Option<i32>
-    ensures { SomeIff result (FitsSigned w32 number) number }
-{
-    i32::try_from(number).ok()
-}
-
-/// The number up to the first tab, and what follows the tab.
 #[inline(always)]
 pub(crate) fn split_i64(bytes: &[u8]) -> Option<(i64, &[u8])>
     ensures found { IfSome result (λ r. BeginsWith (IsDecimal r.0) bytes.now r.1.now) }
@@ -122,16 +109,15 @@ pub(crate) fn split_i64(bytes: &[u8]) -> Option<(i64, &[u8])>
         Some((0i64.checked_sub_unsigned(magnitude)?, rest))
     } else {
         let (magnitude, rest) = split_digits(bytes)?;
-        Some((to_i64(magnitude)?, rest))
+        Some((i64::try_from(magnitude).ok()?, rest))
     }
 }
 
-/// The number at the front, if an `i32` holds it, and the bytes behind it.
 #[inline(always)]
 pub(crate) fn split_i32(bytes: &[u8]) -> Option<(i32, &[u8])>
     ensures found { IfSome result (λ r. BeginsWith (IsDecimal r.0) bytes.now r.1.now) }
     ensures accepts { (n : ℤ) (rest : List ℕ) → FitsSigned w32 n → BeginsWith (IsDecimal n) bytes.now rest → IsSome result }
 {
     let (number, rest) = split_i64(bytes)?;
-    Some((to_i32(number)?, rest))
+    Some((i32::try_from(number).ok()?, rest))
 }

@@ -4,22 +4,15 @@ ghost use Rattle.nl_fields.specs.Digits.{IsDigit, IsDigits, digit_of, digits_of}
 
 use std::alloc::AllocError;
 
-// Each byte's value as a digit, and 255 for none. A table, because tests for letters would mispredict: which digits come can't be foreseen.
-static VALUES: [u8; 256] = [
+// The value of each byte up to `f` as a digit, and 255 for none. A table, because tests for letters would mispredict: which digits come can't
+// be foreseen.
+static VALUES: [u8; 103] = [
     255, 255, 255, 255, 255, 255, 255, 255, 255, 255, 255, 255, 255, 255, 255, 255, 255, 255, 255,
     255, 255, 255, 255, 255, 255, 255, 255, 255, 255, 255, 255, 255, 255, 255, 255, 255, 255, 255,
     255, 255, 255, 255, 255, 255, 255, 255, 255, 255, 0, 1, 2, 3, 4, 5, 6, 7, 8, 9, 255, 255, 255,
     255, 255, 255, 255, 255, 255, 255, 255, 255, 255, 255, 255, 255, 255, 255, 255, 255, 255, 255,
     255, 255, 255, 255, 255, 255, 255, 255, 255, 255, 255, 255, 255, 255, 255, 255, 255, 10, 11,
-    12, 13, 14, 15, 255, 255, 255, 255, 255, 255, 255, 255, 255, 255, 255, 255, 255, 255, 255, 255,
-    255, 255, 255, 255, 255, 255, 255, 255, 255, 255, 255, 255, 255, 255, 255, 255, 255, 255, 255,
-    255, 255, 255, 255, 255, 255, 255, 255, 255, 255, 255, 255, 255, 255, 255, 255, 255, 255, 255,
-    255, 255, 255, 255, 255, 255, 255, 255, 255, 255, 255, 255, 255, 255, 255, 255, 255, 255, 255,
-    255, 255, 255, 255, 255, 255, 255, 255, 255, 255, 255, 255, 255, 255, 255, 255, 255, 255, 255,
-    255, 255, 255, 255, 255, 255, 255, 255, 255, 255, 255, 255, 255, 255, 255, 255, 255, 255, 255,
-    255, 255, 255, 255, 255, 255, 255, 255, 255, 255, 255, 255, 255, 255, 255, 255, 255, 255, 255,
-    255, 255, 255, 255, 255, 255, 255, 255, 255, 255, 255, 255, 255, 255, 255, 255, 255, 255, 255,
-    255, 255, 255, 255,
+    12, 13, 14, 15,
 ];
 
 fn digit_value(digit: u8, base: u64) -> Option<u64>
@@ -27,6 +20,9 @@ fn digit_value(digit: u8, base: u64) -> Option<u64>
     ensures value { IfSome result (λ d. IsDigit base d digit) }
     ensures accepts { (d : ℕ) → IsDigit base d digit → result ≡ Some d }
 {
+    if digit > b'f' {
+        return None;
+    }
     let value = u64::from(VALUES[digit as usize]);
     if value < base { Some(value) } else { None }
 }

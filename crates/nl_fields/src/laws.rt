@@ -28,9 +28,8 @@ pub fn one_line()
     ensures line { (e : Entry) (k l : List ℕ) → IsEntryLine e k → IsEntryLine e l → k ≡ l }
     ensures exists { (e : Entry) → IsEntry e → IsEntryLine e (line_of e) }
     ensures reads_back { (e : Entry) → IsEntry e → entry_of (line_of e) ≡ Some e }
-{}
-
-pub fn one_entry()
+    ensures length { (e : Entry) (line : List ℕ) → IsEntryLine e line → length line + 1 ≤ max_entry_line }
+    ensures newline { (e : Entry) (line : List ℕ) → IsEntryLine e line → All (λ b. b ≢ 10) line }
     ensures entry { (e f : Entry) (line : List ℕ) → IsEntryLine e line → IsEntryLine f line → e ≡ f }
     ensures decides { (e : Entry) (line : List ℕ) → (entry_of line ≡ Some e) ↔ IsEntryLine e line }
 {}
@@ -41,18 +40,10 @@ pub fn one_entry_v4()
     ensures newline { (e : Entry) (line : List ℕ) → IsEntryLineFour e line → All (λ b. b ≢ 10) line }
 {}
 
-pub fn line_is_short()
-    ensures length { (e : Entry) (line : List ℕ) → IsEntryLine e line → length line + 1 ≤ max_entry_line }
-    ensures newline { (e : Entry) (line : List ℕ) → IsEntryLine e line → All (λ b. b ≢ 10) line }
-{}
-
-pub fn header_is_its_line()
+pub fn one_header()
     ensures line { HEADER.now ≡ header_line }
     ensures newline { All (λ b. b ≢ 10) version_five }
     ensures reads_back { header_of version_five ≡ Header.V5 }
-{}
-
-pub fn one_header()
     ensures header { (line : List ℕ) (h k : Header) → IsHeader line h → IsHeader line k → h ≡ k }
     ensures exists { (line : List ℕ) → IsHeader line (header_of line) }
 {}

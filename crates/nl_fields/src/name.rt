@@ -57,20 +57,13 @@ pub fn name_fault(bytes: &[u8]) -> Option<NameFault>
     None
 }
 
-/// The name up to the first tab, and what follows the tab.
 #[inline(always)]
 pub(crate) fn split_name(bytes: &[u8]) -> Option<(&[u8], &[u8])>
     ensures found { IfSome result (λ r. IsName r.0.now × (bytes.now ≡ r.0.now ++ 9 ∷ r.1.now)) }
     ensures accepts { (name rest : List ℕ) → IsName name → bytes.now ≡ name ++ 9 ∷ rest → IsSome result }
 {
     let at = first_forbidden(bytes)?;
-    if bytes[at] != b'\t' {
-        return None;
-    }
-    if at == 0 {
-        return None;
-    }
-    if at > MAX_NAME {
+    if bytes[at] != b'\t' || at == 0 || at > MAX_NAME {
         return None;
     }
     Some((&bytes[..at], &bytes[at + 1..]))

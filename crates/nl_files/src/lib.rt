@@ -9,11 +9,9 @@ mod mem_inode;
 mod mem_system;
 mod runs;
 mod scratch_calls;
-mod sync_fault;
 mod system;
 
 pub use file_folder::FileFolder;
-pub use mem_system::{MemHandle, MemSystem, Plan};
+pub use mem_system::{MemHandle, MemSystem};
 pub use runs::{run_in_memory, run_over_system};
-pub use sync_fault::SyncFault;
-pub use system::{CrashableSystem, System};
+pub use system::{CrashableSystem, SyncFault, System};

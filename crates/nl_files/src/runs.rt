@@ -3,11 +3,12 @@ ghost use Rattle.std.specs.{Prelude.{◌≡◌, false, [], IfOk, IsSomeAnd, Some
 ghost use Rattle.nl_table.specs.{History.{History}, Log.{history_of}};
 ghost use Rattle.nl_folder.specs.DiskState.{Disk};
 ghost use Rattle.nl_session.specs.{Reopening.{Moved}, Runs.{BeginsAt, Ran, HeadlineOn, TakesMemory}};
-ghost use Rattle.nl_files.specs.{Start.{IsAtStart, begun}, FileFolder.{begun_view, system_of, state_of}, RunsOver.{RunsFrom}, MemSystem.{no_files, numbers_left}};
+ghost use Rattle.nl_files.specs.{Start.{IsAtStart, begun}, FileFolder.{begun_view, system_of, state_of}, RunsOver.{RunsFrom}, MemSystem.{no_files}};
 
-use crate::{CrashableSystem, FileFolder, MemSystem, Plan};
+use crate::{CrashableSystem, FileFolder, MemSystem};
 use nl_session::{Event, Outcome, Reply, run_events};
 use std::alloc::{AllocError, Global};
+use std::collections::VecDeque;
 
 /// The events as `run_events` has them, on a new log over the files of a system. Err only if memory is wanting for what the folder holds.
 pub fn run_over_system<S: CrashableSystem + Drop>(
@@ -32,7 +33,7 @@ pub fn run_over_system<S: CrashableSystem + Drop>(
 /// The same over a system in memory without files, which fails and crashes as it is told. The headline holds of it without a premise.
 pub fn run_in_memory(
     alloc: Global,
-    plan: Plan,
+    plan: VecDeque<u64>,
     events: &[Event],
 ) -> Result<(FileFolder<MemSystem>, Vec<Reply>, Outcome), AllocError>
     ensures headline { (start : History) → history_of [] ≡ Some start
@@ -42,7 +43,7 @@ pub fn run_in_memory(
     ensures disks { IfOk result (λ r. Moved (Some (begun no_files)) (zip events.now r.1.items) (state_of r.0).disk) }
     ensures runs { IfOk result (λ r. RunsFrom (begun_view (Some no_files)) events.now r.0 r.1.items r.2) }
     ensures untouched { IfOk result
-        (λ r. r.1.items ≡ [] → ¬ IsSomeAnd (slice_get events.now 0) TakesMemory → numbers_left (system_of r.0).plan ≡ numbers_left plan) }
+        (λ r. r.1.items ≡ [] → ¬ IsSomeAnd (slice_get events.now 0) TakesMemory → (system_of r.0).plan.items ≡ plan.items) }
 {
     run_over_system(alloc, MemSystem::new(alloc, plan), events)
 }

@@ -33,7 +33,6 @@ impl Numbers {
         self.all.get(self.next).copied()
     }
 
-    /// Where one is left.
     pub fn advance(&mut self)
         ensures { self.new ≡ drop 1 self.old }
     {
@@ -57,7 +56,6 @@ pub struct Choices {
 impl Choices {
     ghost use Rattle.nl_folder.specs.{Fuse.{fails_at}, Choices.{counted}};
 
-    /// Answers whether the call fails.
     pub fn count(&mut self, call: Call) -> bool
         ensures fails { result ≡ fails_at self.old.fuse call }
         ensures counted { self.new ≡ counted call self.old }
@@ -77,10 +75,7 @@ impl Choices {
 pub fn amount(number: Option<u64>, least: u64, most: usize) -> usize
     ensures { result ≡ amount_of number least most }
 {
-    match number {
-        Some(number) => number.max(least).min(most as u64) as usize,
-        None => most,
-    }
+    number.map_or(most, |number| number.max(least).min(most as u64) as usize)
 }
 
 /// Of a text of `old` bytes `len` stay, and as many more as the number says.

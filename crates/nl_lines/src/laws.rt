@@ -2,33 +2,21 @@
 ghost use Rattle.std.specs.Prelude.{◌≡◌, ◌⊎◌, ◌<◌, ◌≤◌, ◌+◌, ℕ, List, [], ◌∷◌, ◌++◌, length, take, All, Option, None, Some, Ok, Err, map};
 ghost use Rattle.nl_lines.specs.{Prefix.{IsPrefix}, Split.{NoNewline, EndsInNewline, SplitsInto, with_newline, joined, lines_of, rest_of, whole_len, torn_len}, Lines.{Reader, TakesLine, TakesRest, AnswersNext, fresh, max_line, max_log, text_left}, Runs.{GivenInTurn, as_shown, text_shown}, declared.lines.Line.{Line}};
 
-use crate::limits::{MAX_LINE, MAX_LOG};
 use crate::lines::LineFault;
+use crate::window::{MAX_LINE, MAX_LOG};
 
 pub fn the_limits()
     ensures line { MAX_LINE ≡ max_line }
     ensures log { MAX_LOG ≡ max_log }
 {}
 
-pub fn every_text_splits()
-    ensures { (text : List ℕ) → SplitsInto text (lines_of text) (rest_of text) }
-{}
-
 pub fn a_text_splits_one_way()
-    ensures { (text : List ℕ) (lines : List (List ℕ)) (rest : List ℕ) → SplitsInto text lines rest
+    ensures exists { (text : List ℕ) → SplitsInto text (lines_of text) (rest_of text) }
+    ensures one { (text : List ℕ) (lines : List (List ℕ)) (rest : List ℕ) → SplitsInto text lines rest
         → (lines_of text ≡ lines) × (rest_of text ≡ rest) }
-{}
-
-pub fn whole_and_torn()
-    ensures { (text : List ℕ) → whole_len text + torn_len text ≡ length text }
-{}
-
-pub fn the_whole_lines_are_a_prefix()
-    ensures { (text : List ℕ) → take (whole_len text) text ≡ joined (lines_of text) }
-{}
-
-pub fn without_whole_bytes_there_is_no_line()
-    ensures { (text : List ℕ) → whole_len text ≡ 0 → lines_of text ≡ [] }
+    ensures length { (text : List ℕ) → whole_len text + torn_len text ≡ length text }
+    ensures whole { (text : List ℕ) → take (whole_len text) text ≡ joined (lines_of text) }
+    ensures nothing { (text : List ℕ) → whole_len text ≡ 0 → lines_of text ≡ [] }
 {}
 
 /// Whatever stands behind them.
@@ -57,41 +45,28 @@ pub fn a_tail_without_a_newline_changes_no_line()
 {}
 
 pub fn a_prefix_has_the_first_lines()
-    ensures { (text prefix : List ℕ) → IsPrefix prefix text → IsPrefix (lines_of prefix) (lines_of text) }
-{}
-
-pub fn a_prefix_of_a_line_is_whole_or_torn()
-    ensures { (line prefix : List ℕ) → NoNewline line → IsPrefix prefix (with_newline line)
+    ensures lines { (text prefix : List ℕ) → IsPrefix prefix text → IsPrefix (lines_of prefix) (lines_of text) }
+    ensures line { (line prefix : List ℕ) → NoNewline line → IsPrefix prefix (with_newline line)
         → (prefix ≡ with_newline line) ⊎ NoNewline prefix }
 {}
 
-/// It is the first line of the text that was still to be given, and the later ones are still to come.
-pub fn a_line_is_the_first()
-    ensures { (old : Reader) (a : Option (List ℕ)) (new : Reader) (b : Option (List ℕ)) (line text : List ℕ)
+/// A line that is given is the first of the text that was still to be given, and the later ones are still to come. Before the rest no line
+/// was still to be given.
+pub fn lines_are_given_in_order()
+    ensures line { (old : Reader) (a : Option (List ℕ)) (new : Reader) (b : Option (List ℕ)) (line text : List ℕ)
         → TakesLine old a new b line → text_left old a ≡ Some text → (left : List ℕ) × (text_left new b ≡ Some left)
         × (lines_of text ≡ line ∷ lines_of left) × (rest_of text ≡ rest_of left) }
-{}
-
-/// No line was still to be given.
-pub fn the_rest_is_last()
-    ensures { (old : Reader) (a : Option (List ℕ)) (new : Reader) (b : Option (List ℕ)) (rest text : List ℕ)
+    ensures rest { (old : Reader) (a : Option (List ℕ)) (new : Reader) (b : Option (List ℕ)) (rest text : List ℕ)
         → TakesRest old a new b rest → text_left old a ≡ Some text → (lines_of text ≡ []) × (rest_of text ≡ rest) }
 {}
 
-/// Calls of `next` up to the first `None` show the lines of a text in order and then its rest, in whatever pieces the text comes.
+/// Calls of `next` up to the first `None` show the lines of a text in order and then its rest, in whatever pieces the text comes. They come
+/// to `None` only if the text is within the limit, and to `TooLarge` only if it is beyond.
 pub fn a_run_shows_the_text()
-    ensures { (text : List ℕ) (lines : List Line) (last : Reader) (b : Option (List ℕ)) (end : Reader) (c : Option (List ℕ))
+    ensures text { (text : List ℕ) (lines : List Line) (last : Reader) (b : Option (List ℕ)) (end : Reader) (c : Option (List ℕ))
         → GivenInTurn fresh (Some text) lines last b → AnswersNext last b end c (Ok None) → map as_shown lines ≡ text_shown text }
-{}
-
-/// A run comes to its `None` only then.
-pub fn a_text_that_is_shown_is_within_the_limit()
-    ensures { (text : List ℕ) (lines : List Line) (last : Reader) (b : Option (List ℕ)) (end : Reader) (c : Option (List ℕ))
+    ensures within { (text : List ℕ) (lines : List Line) (last : Reader) (b : Option (List ℕ)) (end : Reader) (c : Option (List ℕ))
         → GivenInTurn fresh (Some text) lines last b → AnswersNext last b end c (Ok None) → length text ≤ max_log }
-{}
-
-/// A run ends with `TooLarge` only then.
-pub fn a_text_that_is_too_large_is_beyond_the_limit()
-    ensures { (text : List ℕ) (lines : List Line) (last : Reader) (b : Option (List ℕ)) (end : Reader) (c : Option (List ℕ))
+    ensures too_large { (text : List ℕ) (lines : List Line) (last : Reader) (b : Option (List ℕ)) (end : Reader) (c : Option (List ℕ))
         → GivenInTurn fresh (Some text) lines last b → AnswersNext last b end c (Err LineFault.TooLarge) → max_log < length text }
 {}

@@ -72,13 +72,11 @@ impl<R: Read> Source for ReadSource<R> {
     ghost keeps_joined = { λ s t u first second. tt };
 
     fn read_some(&mut self, buf: &mut [u8]) -> Result<usize, SourceFault> {
-        match self.reader.read(buf) {
-            Ok(count) => Ok(count),
-            Err(_) => {
-                self.failures = self.failures.saturating_add(1);
-                Err(SourceFault)
-            }
-        }
+        let Ok(count) = self.reader.read(buf) else {
+            self.failures = self.failures.saturating_add(1);
+            return Err(SourceFault);
+        };
+        Ok(count)
     }
 
     fn failures(&self) -> u64 {

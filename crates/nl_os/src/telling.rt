@@ -14,8 +14,6 @@ const PATIENCE: u128 = 2_000;
 
 const PAUSE: u128 = 500;
 
-const MEGABYTE: u64 = 1_000_000;
-
 /// A reader that tells on standard error how much it has read, from the third second on. What is written next goes over the line,
 /// which is blanked when all is read. If the clock fails, nothing is told.
 #[derive(Drop)]
@@ -60,8 +58,8 @@ impl<'r, P: Clock + Eprint, R: Read> Telling<'r, P, R> {
         }
         self.due = passed.saturating_add(PAUSE);
         self.told = true;
-        let read = self.read / MEGABYTE;
-        let _ = eprint!(self.rt; "nlog: {read} MB read\r");
+        let megabytes = self.read / 1_000_000;
+        let _ = eprint!(self.rt; "nlog: {megabytes} MB read\r");
     }
 }
 

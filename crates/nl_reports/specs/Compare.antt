@@ -28,8 +28,8 @@ pub record Log : Type 0 where
 
 abbrev pub side_of : Side → Log
 side_of s = record {
-  jobs = jobs_from s.told.now.entries.items 0 s.told.now.commands.items;
-  waiting = λ name. is_among name (map (λ n. n.now) s.waiting.now);
+  jobs = jobs_from s.told.entries.items 0 s.told.commands.items;
+  waiting = λ name. is_among name (map (λ n. n.now) s.waiting.items);
 }
 
 -- an output of a command waits

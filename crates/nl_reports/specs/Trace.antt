@@ -1,5 +1,5 @@
 -- The text of `trace`: the events of builds, as a JSON array (docs/CLI.md, "trace").
-use Rattle.std.specs.Prelude.{ℕ, ◌-◌, List, [], ◌∷◌, Option, None, Some, option_and_then}
+use Rattle.std.specs.Prelude.{ℕ, ◌-◌, List, [], ◌∷◌, ◌++◌, Option, None, Some, option_and_then}
 use Rattle.std.specs.List.{flat_map, zip}
 use Rattle.serde_json.specs.Data.{Data, array}
 use Rattle.serde_json.specs.View.{items_of}
@@ -68,3 +68,7 @@ scoped_text scope t = array_text (trace_events scope t)
 -- the text of each event after a comma
 abbrev pub behind_commas : List Data → List ℕ
 behind_commas events = flat_map (λ d. 44 ∷ event_text d) events
+
+-- the events of commands in lanes, and the array's end
+abbrev pub commands_text : BuildEvent → List Job → List ℕ → List ℕ
+commands_text b js found = behind_commas (flat_map (events_of b (spans js)) (zip js found)) ++ 93 ∷ []

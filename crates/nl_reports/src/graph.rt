@@ -6,7 +6,7 @@ ghost use Rattle.nl_reports.specs.{GraphText.{Holds, IsGraphFault, IsOfText, IsP
 use crate::last_entries::{item_at, set_at};
 use indexmap::IndexMap;
 use nl_table::Secret;
-use nl_tool_texts::{AllocResult, Line, ToolFault, line_in, lines_of};
+use nl_tool_texts::{AllocResult, Line, ToolFault, ToolResult, line_in, lines_of};
 use std::alloc::{AllocError, Global};
 
 /// An edge from one node to another, by their places, and the line on which it stands.
@@ -29,11 +29,7 @@ pub struct NinjaGraph<'a> {
 
 /// Numbers are hashed under a secret. The text is refused at its first bad line, or else at a line whose edge is of a cycle. To read it
 /// takes 16 bytes more for each line.
-pub fn read_graph<'a>(
-    alloc: Global,
-    secret: Secret,
-    text: &'a [u8],
-) -> Result<NinjaGraph<'a>, ToolFault>
+pub fn read_graph<'a>(alloc: Global, secret: Secret, text: &'a [u8]) -> ToolResult<NinjaGraph<'a>>
     ensures value { IfOk result (λ g. IsOfText (graph_of text.now) (seen_graph g)) }
     ensures told_line { (line : ℕ) → IsErrOf result (ToolFault.BadLine line) → IsRefusedAt (graph_of text.now) line }
     ensures faults { IfErr result IsGraphFault }
@@ -100,7 +96,7 @@ const NONE: usize = usize::MAX;
 
 /// The places of all edges between so many nodes, each after those that lead to where it begins. An edge of a cycle is refused by its
 /// line. An edge that is taken for one of a cycle and isn't would be refused for want of memory: no such case is known.
-pub(crate) fn order_of(alloc: Global, count: usize, edges: &[Edge]) -> Result<Vec<usize>, ToolFault>
+pub(crate) fn order_of(alloc: Global, count: usize, edges: &[Edge]) -> ToolResult<Vec<usize>>
     ensures told_line { (ids : List (List ℕ)) (line : ℕ) → IsErrOf result (ToolFault.BadLine line)
         → ClosesCycle (map (seen_edge ids) edges.now) line }
     ensures faults { IfErr result IsGraphFault }

@@ -18,8 +18,8 @@ use crate::work::{Times, Work, place, word};
 use nl_builds::Builds;
 use nl_table::Secret;
 use nl_tool_texts::{
-    AllocResult, Part, Ranking, ToolFault, append, append_label, highest, put, write_full,
-    write_rest,
+    AllocResult, Part, Ranking, ToolFault, ToolResult, append, append_label, highest, put,
+    write_full, write_rest,
 };
 use std::alloc::Global;
 use std::io::Write;
@@ -57,7 +57,7 @@ pub fn draw_builds<W: Write>(
     graph: Option<&NinjaGraph>,
     from: &Builds,
     writer: &mut W,
-) -> Result<(), ToolFault>
+) -> ToolResult
     ensures prints { PrintsInPieces (IsPicture scope (option_map (λ g. seen_graph g.now) graph.entry) (told from.now))
         (W.contents writer.old) (W.contents writer.new) result }
     ensures faults { IfErr result (IsFoundFault graph.entry) }
@@ -93,7 +93,7 @@ fn write_jobs<W: Write>(
     path: Option<&FoundPath>,
     jobs: &[Job],
     writer: &mut W,
-) -> Result<(), ToolFault>
+) -> ToolResult
     requires early { All (λ j. IsEarly j.span) jobs.now }
     ensures writes { Writes (W.contents writer.old) (W.contents writer.new) (picture known (rans_of path.entry) (map seen jobs.now)) result }
     ensures faults { IfErr result IsWriteFault }

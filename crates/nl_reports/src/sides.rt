@@ -13,11 +13,11 @@ use nl_versions::LogVersion;
 use std::alloc::Global;
 
 /// A log that is compared. `told` has only the last entry of each output; `waiting` are the outputs of commands that didn't end.
-#[derive(Clone, Copy, Drop)]
-pub struct Side<'s, 'a> {
+#[derive(Drop)]
+pub struct Side<'a> {
     pub version: LogVersion,
-    pub told: &'s Builds<'a>,
-    pub waiting: &'s [&'a [u8]],
+    pub told: Builds<'a>,
+    pub waiting: Vec<&'a [u8]>,
 }
 
 /// `hashes` says whether hashes can be compared; `least` is the least difference in milliseconds.
@@ -59,12 +59,12 @@ struct Held<'s, 'a> {
 }
 
 impl<'s, 'a> Held<'s, 'a> {
-    fn of(alloc: Global, secret: Secret, side: &Side<'s, 'a>) -> AllocResult<Held<'s, 'a>>
+    fn of(alloc: Global, secret: Secret, side: &'s Side<'a>) -> AllocResult<Held<'s, 'a>>
         ensures value { IfOk result (λ held. held_side held ≡ side_of side.now) }
     {
-        let told = side.told;
+        let told = &side.told;
         let jobs = jobs_from(alloc, 0, told.commands.as_slice(), told.entries.as_slice())?;
-        let waiting = names_of(alloc, secret, side.waiting)?;
+        let waiting = names_of(alloc, secret, side.waiting.as_slice())?;
         Ok(Held { jobs, waiting })
     }
 
@@ -88,8 +88,8 @@ pub fn compared<'a>(
     alloc: Global,
     secret: Secret,
     rules: Rules,
-    old: &Side<'_, 'a>,
-    new: &Side<'_, 'a>,
+    old: &Side<'a>,
+    new: &Side<'a>,
 ) -> AllocResult<Vec<ComparedRow<'a>>>
     ensures value { IfOk result (λ rows. map compared_of rows.items ≡ compared rules (side_of old.now) (side_of new.now)) }
 {

@@ -1,6 +1,6 @@
 //! The text of `trace`: the events of builds, as JSON.
-ghost use Rattle.std.specs.Prelude.{◌≡◌, ◌<◌, ◌^◌, ◌++◌, List, IfErr, OnOk, All, ◌∷◌, IfOk, IsTrue, string_bytes};
-ghost use Rattle.nl_reports.specs.{Jobs.{seen, told, first_name}, Moments.{AreMoments}, Spans.{IsEarly}, declared.span.Span.{Span}, Trace.{how_in, number_in, scoped_text}, Events.{args_of, build_event, build_name, command_event, event_text, running_event, shown}};
+ghost use Rattle.std.specs.Prelude.{◌≡◌, ◌<◌, ◌^◌, ◌++◌, List, IfErr, OnOk, All, ◌∷◌, IfOk, IsTrue, map, string_bytes};
+ghost use Rattle.nl_reports.specs.{Jobs.{seen, told, first_name}, Moments.{AreMoments}, Spans.{IsEarly}, Lanes.{lanes}, Rows.{spans}, declared.span.Span.{Span}, Trace.{commands_text, how_in, number_in, scoped_text}, Events.{args_of, build_event, build_name, command_event, event_text, running_event, shown}};
 ghost use Rattle.nl_tool_texts.specs.{Writing.{IsWriteFault, Writes}, Escape.{IsBare}};
 
 use crate::choice::{Choice, Scope, chosen, jobs_in_turn, last_number};
@@ -15,7 +15,7 @@ use json::Writer;
 use nl_builds::{Builds, How};
 use nl_fields::append_hex64;
 use nl_tool_texts::{
-    AllocResult, Part, ToolFault, append, append_with, is_bare, put, write_full, write_out,
+    AllocResult, Part, ToolResult, append, append_with, is_bare, put, write_full, write_out,
     write_rest,
 };
 use std::alloc::Global;
@@ -30,7 +30,7 @@ pub fn trace_builds<W: Write>(
     scope: Scope,
     from: &Builds,
     writer: &mut W,
-) -> Result<(), ToolFault>
+) -> ToolResult
     ensures writes { Writes (W.contents writer.old) (W.contents writer.new) (scoped_text scope (told from.now)) result }
     ensures faults { IfErr result IsWriteFault }
 {
@@ -47,13 +47,31 @@ pub fn trace_builds<W: Write>(
     let build = BuildEvent { number, began, how };
     let mut held = Vec::from_slice(alloc, b"[")?;
     append_build(build, &mut held)?;
+    write_commands(build, jobs, lanes.as_slice(), &moments, held, writer)
+}
+
+/// Writes what is held, the events of commands in their lanes, each after a comma, and the array's end.
+fn write_commands<W: Write>(
+    build: BuildEvent,
+    jobs: &[Job],
+    lane_of: &[u64],
+    moments: &Moments,
+    mut held: Vec<u8>,
+    writer: &mut W,
+) -> ToolResult
+    requires early { All (λ j. IsEarly j.span) jobs.now }
+    requires lanes { lane_of.now ≡ lanes (spans (map seen jobs.now)) }
+    requires moments { AreMoments (spans (map seen jobs.now)) moments.now }
+    ensures writes { Writes (W.contents writer.old) (W.contents writer.new) (held.items ++ commands_text build (map seen jobs.now) lane_of.now) result }
+    ensures faults { IfErr result IsWriteFault }
+{
     let (mut by_start, mut by_end) = (Near::default(), Near::default());
     for i in 0..jobs.len() {
-        let lane = item_at(lanes.as_slice(), i, 0);
+        let lane = item_at(lane_of, i, 0);
         let job = &jobs[i];
         append_command(build, lane, job, &mut held)?;
-        append_running(build, &moments, &mut by_start, job.span.began, &mut held)?;
-        append_running(build, &moments, &mut by_end, job.span.closed(), &mut held)?;
+        append_running(build, moments, &mut by_start, job.span.began, &mut held)?;
+        append_running(build, moments, &mut by_end, job.span.closed(), &mut held)?;
         write_full(&mut held, writer)?;
     }
     append(b"]", &mut held)?;

@@ -13,6 +13,6 @@ mod state;
 
 pub use events::{Event, Outcome, Reply, reply_to_event, run_events};
 pub use fault::LogFault;
-pub use intent::{intent_hash, is_intent};
+pub use intent::intent_hash;
 pub use log::{Log, first_negative};
 pub use state::LogState;

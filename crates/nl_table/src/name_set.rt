@@ -57,7 +57,6 @@ impl NameSet {
         Ok(self.names.insert(OutputKey { name })?)
     }
 
-    /// Whether the name of these bytes is among them.
     pub fn has(&self, name: &[u8]) -> bool
         ensures { result ≡ holds self.now name.now }
     {

@@ -20,8 +20,6 @@ use Rattle.nl_tool_texts.specs.Output.{Prints}
 use Rattle.nl_tool_texts.specs.declared.fault.ToolFault.{ToolFault}
 use Rattle.nl_tool_texts.specs.declared.fault.ToolFault.TheVariants.{NotALog as NoLog, OtherVersion as Other, Read, Memory, Write, Folder, NegativeTime, BadNumber, EmptyName, BadByte, LongName, BadLine, OtherGraph, Elsewhere}
 use Rattle.nl_reports.specs.Choice.{chosen_jobs}
-use Rattle.nl_reports.specs.Compare.{Log as Compared, are_comparable, compare_text}
-use Rattle.nl_versions.specs.declared.version.LogVersion.{LogVersion}
 use Rattle.nl_reports.specs.GraphText.{seen_graph}
 use Rattle.nl_reports.specs.Jobs.{Job, told}
 use Rattle.nl_reports.specs.Summary.{summary_text}
@@ -227,11 +225,6 @@ pub report_of : (report : Report) (names more : List (List ℕ)) (t u : Told) (t
     → IsReport report more u text
 report_of report names more t u text same told is =
     subst (λ u. IsReport report more u text) told (subst (λ names. IsReport report names t text) same is)
-
-pub compared_so : (screen shown : Bool) (most least : ℕ) (a b c d : LogVersion) (s t u v : Compared) (lines : List ℕ) → screen ≡ shown → a ≡ c → b ≡ d
-    → s ≡ u → t ≡ v → lines ≡ compare_text screen most least (are_comparable a b) s t → lines ≡ compare_text shown most least (are_comparable c d) u v
-compared_so screen shown most least a b c d s t u v lines same ac bd su tv is =
-    is ∙ (λ i. compare_text (same i) most least (are_comparable (ac i) (bd i)) (su i) (tv i))
 
 pub printed_so : (columns : Option ℕ) (lines text : List ℕ) (old new : Option (List ℕ)) (r : Result (Unit {0}) ToolFault) → lines ≡ text
     → Prints (λ out. out ≡ laid_out columns lines) old new r → Prints (λ out. out ≡ laid_out columns text) old new r

@@ -23,10 +23,10 @@ use Rattle.nl_reports.specs.BuildsTable.{IsBuildsScreen}
 use Rattle.nl_reports.specs.BuildsText.{builds_text}
 use Rattle.nl_reports.specs.Choice.{chosen_jobs}
 use Rattle.nl_tool_texts.specs.Columns.{in_columns}
-use Rattle.nl_reports.specs.Compare.{Log as Compared}
+use Rattle.nl_reports.specs.declared.sides.Side.{Side}
 use Rattle.nl_reports.specs.GraphText.{seen_graph}
-use Rattle.nl_reports.specs.Jobs.{jobs_from, told}
-use Rattle.nl_reports.specs.Lasting.{is_among, lasting}
+use Rattle.nl_reports.specs.Jobs.{told}
+use Rattle.nl_reports.specs.Lasting.{lasting}
 use Rattle.nl_reports.specs.Picture.{IsPicture}
 use Rattle.nl_reports.specs.Plans.{IsToldBy}
 use Rattle.nl_reports.specs.Summary.{summary_text}
@@ -38,7 +38,6 @@ use Rattle.nl_reports.specs.declared.jobs.ByGraph.{ByGraph}
 use Rattle.nl_reports.specs.declared.kind.KindRule.{KindRule}
 use Rattle.nl_reports.specs.declared.kind.KindRule.TheVariants.{Extension, Folder, Top, Work}
 use Rattle.nl_reports.specs.declared.lists.Lists.{Lists}
-use Rattle.nl_tool.specs.declared.reporting.Last.{Last as LastHeld}
 use Rattle.nl_tool.specs.declared.reporting.Report.{Report}
 use Rattle.nl_tool.specs.declared.reporting.Report.TheVariants.{Builds, Picture, Summary, Trace}
 
@@ -170,19 +169,13 @@ pub record IsReportOf (report : Report) (bytes : List ℕ) (text : List ℕ) : T
 -- ---- two logs
 
 -- what a log tells that is compared
-pub record IsLastOf (bytes : List ℕ) (held : LastHeld) : Type 0 where
+pub record IsLastOf (bytes : List ℕ) (held : Side) : Type 0 where
   pub version : ℕ
   pub entries : List Entry
   pub is_log : log_of (as_five bytes) ≡ Log version entries
   pub named : held.version ≡ version_of bytes
   pub builds : told held.told ≡ lasting (unfinished entries) (builds_of (stamps_of bytes) (recorded entries))
   pub waits : map (λ n. n.now) held.waiting.items ≡ unfinished entries
-
-abbrev pub side_in : LastHeld → Compared
-side_in held = record {
-  jobs = jobs_from held.told.entries.items 0 held.told.commands.items;
-  waiting = λ name. is_among name (map (λ n. n.now) held.waiting.items);
-}
 
 -- ---- how it is written
 

@@ -8,7 +8,7 @@ ghost use Rattle.nl_versions.specs.LogAs.{log_for};
 ghost use Rattle.nl_tool.specs.{Answers.{RefusesLog}, Faults.{IsPruneFault, IsRepairFault, IsSettlingFault}};
 ghost use Rattle.nl_tool_texts.specs.declared.fault.ToolFault.{ToolFault};
 
-use crate::desk::{At, Desk, Disk, Host, ToolResult, close};
+use crate::desk::{At, Desk, Disk, Host, close};
 use crate::doubting::SystemFiles;
 use crate::notes::{NotedReader, NotedWriter, Notes};
 use crate::printing::Printing;
@@ -25,7 +25,7 @@ use nl_tool_change::{
 };
 use nl_tool_doubt::{OutputFiles, names_there, times_there};
 use nl_tool_print::load_read;
-use nl_tool_texts::ToolFault;
+use nl_tool_texts::{ToolFault, ToolResult};
 use nl_tool_words::NewEntry;
 use nl_versions::LogVersion;
 use std::alloc::Global;

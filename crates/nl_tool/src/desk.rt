@@ -16,16 +16,13 @@ use nl_builds::may_be_log;
 use nl_os::{DiskFolder, SystemFile, Telling, Waiting};
 use nl_table::Secret;
 use nl_tool_change::AskedFolder;
-use nl_tool_texts::ToolFault;
+use nl_tool_texts::{ToolFault, ToolResult};
 use nl_tool_words::{AskedVersion, CommandLine, Words};
 use nl_versions::LogVersion;
 use std::alloc::Global;
 use std::io::{self, Empty, ErrorKind, Input, Read};
 use std::rt::{Clock, Files, Runtime};
 use std::{env, fs};
-
-/// What a command answers.
-pub type ToolResult<T = ()> = Result<T, ToolFault>;
 
 // How many characters a line of a terminal has where COLUMNS doesn't tell.
 const USUAL: usize = 80;

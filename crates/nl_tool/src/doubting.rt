@@ -16,7 +16,7 @@ ghost use Rattle.nl_table.specs.Log.{NotALog, OtherVersion, log_of};
 ghost use Rattle.nl_tool_texts.specs.declared.fault.ToolFault.{ToolFault};
 ghost use Rattle.nl_tool.specs.declared.program.Verdict.{Verdict};
 
-use crate::desk::{At, Desk, Disk, Host, ToolResult, close};
+use crate::desk::{At, Desk, Disk, Host, close};
 use crate::notes::{NotedWriter, Notes};
 use crate::program::Verdict;
 use nl_folder::Folder;
@@ -25,7 +25,7 @@ use nl_table::Secret;
 use nl_tool_doubt::{
     FileState, FileTimes, How, Mended, OutputFiles, doubts_of, mend_to, write_doubts,
 };
-use nl_tool_texts::ToolFault;
+use nl_tool_texts::{ToolFault, ToolResult};
 use nl_tool_words::Choices;
 use std::alloc::Global;
 use std::io::{self, ErrorKind, Write};

@@ -15,9 +15,8 @@ mod reporting;
 pub use desk::{Desk, Disk, Host, LogAt, NO_SCREEN, Screen, number_of};
 pub use nl_os::{DiskFolder, Look, Telling, Waiting, look_of};
 pub use nl_tool_change::{
-    AskedFolder, FoundFolder, LineFault, LogPlace, Nobody, NumberFault, NumberOf, Told, UNTOLD,
-    WrongNumber, apply_on, entry_of, recompact_on, record_command, record_on, repair_on, replay_to,
-    restat_on,
+    AskedFolder, LineFault, LogPlace, Nobody, NumberFault, NumberOf, Told, UNTOLD, WrongNumber,
+    apply_on, entry_of, recompact_on, record_command, record_on, repair_on, replay_to, restat_on,
 };
 pub use nl_tool_doubt::{doubts_of, write_doubts};
 pub use nl_tool_print::{

@@ -4,11 +4,10 @@ ghost use Rattle.nl_fields.specs.Digits.{IsDecimal};
 ghost use Rattle.nl_reports.specs.declared.choice.Scope.{Scope};
 ghost use Rattle.nl_tool.specs.Reports.{ArePositive, AreCounts, IsCount, IsNoCount, IsNoCounts, IsNoScope, IsNotPositive, IsScope};
 
-use crate::desk::ToolResult;
 use nl_fields::read_i64;
 use nl_reports::Scope;
 use nl_tool_change::{NumberOf, Told, WrongNumber, build_fault, count_fault};
-use nl_tool_texts::ToolFault;
+use nl_tool_texts::{ToolFault, ToolResult};
 use std::alloc::Global;
 
 pub fn count_of(

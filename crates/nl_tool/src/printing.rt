@@ -2,12 +2,13 @@
 ghost use Rattle.std.specs.Prelude.{◌≡◌, IfErr, IfOk};
 ghost use Rattle.nl_tool.specs.{Answers.{PrintsBy, RefusesLog, TellsDamage, reading_by}, Faults.{IsPrintingFault, IsReadingFault}};
 
-use crate::desk::{Desk, Means, ToolResult};
+use crate::desk::{Desk, Means};
 use crate::notes::{NotedReader, NotedWriter};
 use crate::program::Verdict;
 use nl_os::Telling;
 use nl_tool_change::{Told, replay_to};
 use nl_tool_print::{check_log, damage_to, entries_to, hash_for, hash_read, show_log};
+use nl_tool_texts::ToolResult;
 use nl_versions::LogVersion;
 use std::io::{self, Read, Write};
 use std::rt::Runtime;

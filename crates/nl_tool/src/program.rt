@@ -5,7 +5,7 @@ ghost use Rattle.nl_tool_change.specs.declared.line_fault.WrongNumber.{WrongNumb
 ghost use Rattle.nl_tool.specs.{Ending.{status_after, IsStatusBy, IsStatusOfKind}, Faults.{CanBeDone, CanBeRead, CanFind, FindsBy, IsChangeFault, IsFaultOf, IsReadFault, StopsAtDamage}, Meant.{meant}};
 ghost use Rattle.nl_tool_words.specs.CommandLine.{entered_of, fault_in};
 
-use crate::desk::{Desk, Host, NO_SCREEN, Screen, ToolResult};
+use crate::desk::{Desk, Host, NO_SCREEN, Screen};
 use crate::notes::Notes;
 use crate::printing::Printing;
 use crate::reason::{
@@ -14,7 +14,7 @@ use crate::reason::{
 use clap::Error;
 use clap::error::ErrorKind;
 use nl_table::{NO_SECRET, Secret};
-use nl_tool_texts::{ToolFault, status_of};
+use nl_tool_texts::{ToolFault, ToolResult, status_of};
 use nl_tool_words::{Changing, Choices, CommandLine, Reading, Words, path_in_place, read_words};
 use std::alloc::Global;
 use std::random::RandomSource;

@@ -296,6 +296,36 @@ fn why_of<'a>(words: &Words<'a>, fault: ToolFault, notes: &Notes) -> Option<Why<
     ensures why { IfSome result (IsReasonFor words.now fault notes.now) }
     ensures whenever { fault ≡ ToolFault.BadNumber → HasText words.now notes.now.told.number → IsSome result }
 {
+    match fault {
+        ToolFault::BadLine(number) => {
+            Why::at(read_place(words), Reason::Line(number, notes.told.why))
+        }
+        ToolFault::EmptyName => Why::at(Some(Place::Name), Reason::NoBytes),
+        ToolFault::BadByte(at) => match *words {
+            Words::Record(entry) => match entry.name.as_bytes().get(at)? {
+                b'\n' => Why::at(Some(Place::Name), Reason::Newline(at)),
+                _ => Why::at(Some(Place::Name), Reason::Tab(at)),
+            },
+            _ => None,
+        },
+        ToolFault::LongName => match *words {
+            Words::Record(entry) => Why::at(Some(Place::Name), Reason::Long(entry.name.len())),
+            _ => None,
+        },
+        ToolFault::OtherGraph => Why::at(read_place(words), Reason::OtherBuild),
+        ToolFault::BadNumber => {
+            let WrongNumber { which, nth, why } = notes.told.number?;
+            let text = number_text(words, which)?;
+            Why::at(Some(Place::Number(which, text)), Reason::Number(nth, why))
+        }
+        _ => noted_why(words, fault, notes),
+    }
+}
+
+// What the system said, or how the file begins that was read.
+fn noted_why<'a>(words: &Words<'a>, fault: ToolFault, notes: &Notes) -> Option<Why<'a>>
+    ensures why { IfSome result (IsReasonFor words.now fault notes.now) }
+{
     let alloc = notes.alloc;
     match fault {
         ToolFault::Read => match notes.heard.failure {
@@ -315,9 +345,6 @@ fn why_of<'a>(words: &Words<'a>, fault: ToolFault, notes: &Notes) -> Option<Why<
                 _ => Reason::System(text),
             };
             Why::at(log_place(words, file), reason)
-        }
-        ToolFault::BadLine(number) => {
-            Why::at(read_place(words), Reason::Line(number, notes.told.why))
         }
         ToolFault::NegativeTime(_) => {
             let reason = if notes.early.is_empty() {
@@ -340,25 +367,7 @@ fn why_of<'a>(words: &Words<'a>, fault: ToolFault, notes: &Notes) -> Option<Why<
             };
             Why::at(log_place(words, FileRole::Log), reason)
         }
-        ToolFault::EmptyName => Why::at(Some(Place::Name), Reason::NoBytes),
-        ToolFault::BadByte(at) => match *words {
-            Words::Record(entry) => match entry.name.as_bytes().get(at)? {
-                b'\n' => Why::at(Some(Place::Name), Reason::Newline(at)),
-                _ => Why::at(Some(Place::Name), Reason::Tab(at)),
-            },
-            _ => None,
-        },
-        ToolFault::LongName => match *words {
-            Words::Record(entry) => Why::at(Some(Place::Name), Reason::Long(entry.name.len())),
-            _ => None,
-        },
-        ToolFault::OtherGraph => Why::at(read_place(words), Reason::OtherBuild),
-        ToolFault::BadNumber => {
-            let WrongNumber { which, nth, why } = notes.told.number?;
-            let text = number_text(words, which)?;
-            Why::at(Some(Place::Number(which, text)), Reason::Number(nth, why))
-        }
-        ToolFault::Memory | ToolFault::Elsewhere => None,
+        _ => None,
     }
 }
 

@@ -6,10 +6,10 @@ ghost use Rattle.nl_tool_texts.specs.{Output.{Prints}, declared.fault.ToolFault.
 ghost use Rattle.nl_versions.specs.VersionOf.{as_five};
 ghost use Rattle.nl_table.specs.Log.{NotALog, OtherVersion, log_of};
 ghost use Rattle.nl_reports.specs.{Compare.{are_comparable, compare_text, side_of}, Jobs.{told}, declared.choice.Scope.{Scope}};
-ghost use Rattle.nl_tool.specs.{Answers.{RefusesLog}, Faults.{IsBuildFault, IsCompareFault, IsPictureFault, IsReportFault, IsSummaryFault, IsToldFault}, Reports.{AreCounts, IsLaidOut, IsLastOf, IsLeast, IsMost, IsReport, IsReportOf, IsScope, IsSummary, PrintsReport, asked_told, laid_out, rule_of, side_in, waiting}};
+ghost use Rattle.nl_tool.specs.{Answers.{RefusesLog}, Faults.{IsBuildFault, IsCompareFault, IsPictureFault, IsReportFault, IsSummaryFault, IsToldFault}, Reports.{AreCounts, IsLaidOut, IsLastOf, IsLeast, IsMost, IsReport, IsReportOf, IsScope, IsSummary, PrintsReport, asked_told, laid_out, rule_of, waiting}};
 ghost use Rattle.nl_tool_print.specs.Faults.{IsLogFault};
 
-use crate::desk::{Desk, Means, ToolResult};
+use crate::desk::{Desk, Means};
 use crate::notes::NotedWriter;
 use crate::numbers::{count_of, counts_of, scope_of};
 use jiff_tz::{SystemTimeZone, TimeZone, TimeZoneDatabase};
@@ -20,9 +20,9 @@ use nl_reports::{
     taken_in, trace_builds,
 };
 use nl_tool_change::NumberOf;
-use nl_tool_texts::{AllocResult, ToolFault, in_columns, write_out};
+use nl_tool_texts::{AllocResult, ToolFault, ToolResult, in_columns, write_out};
 use nl_tool_words::Choices;
-use nl_versions::{LogVersion, version_of};
+use nl_versions::version_of;
 use std::io::{self, Write};
 use std::rt::Runtime;
 
@@ -274,15 +274,7 @@ fn write_lines<W: Write>(means: Means, lines: Vec<u8>, writer: &mut W) -> ToolRe
     write_out(laid.as_slice(), writer)
 }
 
-// `told` has only the last entry of each output.
-#[derive(Drop)]
-pub struct Last<'a> {
-    pub version: LogVersion,
-    pub told: Builds<'a>,
-    pub waiting: Vec<&'a [u8]>,
-}
-
-fn last_of(means: Means, text: &[u8]) -> ToolResult<Last<'_>>
+fn last_of(means: Means, text: &[u8]) -> ToolResult<Side<'_>>
     ensures value { IfOk result (IsLastOf text.now) }
     ensures not_a_log { IsErrOf result ToolFault.NotALog → log_of (as_five text.now) ≡ NotALog }
     ensures other_version { IsErrOf result ToolFault.OtherVersion → log_of (as_five text.now) ≡ OtherVersion }
@@ -290,7 +282,7 @@ fn last_of(means: Means, text: &[u8]) -> ToolResult<Last<'_>>
 {
     let log = read_builds(means.alloc, means.secret, text)?;
     let waiting = log.unfinished;
-    Ok(Last {
+    Ok(Side {
         version: version_of(text),
         told: lasting(means.alloc, means.secret, waiting.as_slice(), log.told)?,
         waiting,
@@ -301,29 +293,17 @@ fn compare_to<W: Write>(
     means: Means,
     most: usize,
     least: u64,
-    old: &Last<'_>,
-    new: &Last<'_>,
+    old: &Side<'_>,
+    new: &Side<'_>,
     writer: &mut W,
 ) -> ToolResult
     ensures prints { Prints (λ text. text ≡ laid_out means.columns
-        (compare_text (is_some means.columns) most least (are_comparable old.now.version new.now.version) (side_in old.now) (side_in new.now)))
+        (compare_text (is_some means.columns) most least (are_comparable old.now.version new.now.version) (side_of old.now) (side_of new.now)))
         (W.contents writer.old) (W.contents writer.new) result }
     ensures faults { IfErr result IsWriteFault }
 {
     let Means { alloc, secret, .. } = means;
-    let (old, new) = (side_of(old), side_of(new));
     let screen = means.columns.is_some();
-    let lines = compare_lines(alloc, secret, screen, most, least, &old, &new)?;
+    let lines = compare_lines(alloc, secret, screen, most, least, old, new)?;
     write_lines(means, lines, writer)
-}
-
-fn side_of<'s, 'a>(last: &'s Last<'a>) -> Side<'s, 'a>
-    ensures version { result.version ≡ last.now.version }
-    ensures value { side_of result ≡ side_in last.now }
-{
-    Side {
-        version: last.version,
-        told: &last.told,
-        waiting: last.waiting.as_slice(),
-    }
 }

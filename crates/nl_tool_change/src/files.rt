@@ -5,14 +5,13 @@ ghost use Rattle.nl_table.specs.History.{holds};
 ghost use Rattle.nl_tool_change.specs.{Faults.{IsBadLine, IsFileFault}, Files.{IfBadLine, IfSaid, Says, before_rule, keep_of, manifest_of, name_on, pair_on, said_after, said_by, said_so_far, target_on}};
 ghost use Rattle.nl_tool_texts.specs.{Files.{OfBytes}, declared.fault.ToolFault.{ToolFault}};
 
-use crate::change::ToolResult;
 use crate::line_fault::{LineFault, NumberFault, Told, number_fault};
 use crate::script::split_tab;
 use memchr::memrchr;
 use nl_fields::{Name, NameFault, read_i64};
 use nl_lines::{Line, Lines, MAX_LINE, ReadSource, Source};
 use nl_table::{NameSet, Secret};
-use nl_tool_texts::AllocResult;
+use nl_tool_texts::{AllocResult, ToolResult};
 use std::alloc::{AllocError, Global};
 use std::io::Read;
 use std::marker::Model;

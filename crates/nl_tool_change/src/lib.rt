@@ -19,7 +19,7 @@ pub use files::read_manifest;
 pub use line_fault::{
     LineFault, NumberFault, NumberOf, Told, UNTOLD, WrongNumber, build_fault, count_fault, entry_of,
 };
-pub use place::{AskedFolder, FoundFolder, LogPlace, mend_on};
+pub use place::{AskedFolder, LogPlace, mend_on};
 pub use reading::read_log;
 pub use script::replay_to;
 pub use update::{recompact_on, record_command, record_on, repair_on, restat_on, retime_on};

@@ -5,7 +5,7 @@ ghost use Rattle.nl_tool_change.specs.{LineFaults.{line_fault_text, number_fault
 ghost use Rattle.nl_tool_texts.specs.declared.fault.ToolFault.{ToolFault};
 
 use nl_fields::{EntryRef, NameFault, read_i32, read_i64};
-use nl_tool_texts::ToolFault;
+use nl_tool_texts::{ToolFault, ToolResult};
 use std::fmt;
 
 #[derive(Clone, Copy, Debug, PartialEq, Eq, Drop)]
@@ -186,7 +186,7 @@ pub fn entry_of<'a>(
     mtime: &str,
     name: &'a str,
     told: &mut Told,
-) -> Result<EntryRef<'a>, ToolFault>
+) -> ToolResult<EntryRef<'a>>
     ensures value { IfOk result (IsEntryOf start.now end.now mtime.now name.entry.now) }
     ensures accepts { OnOk result (GiveEntry start.now end.now mtime.now name.entry.now) }
     ensures faults { IfErr result (IsWordFault start.now end.now mtime.now name.entry.now told.new.number) }

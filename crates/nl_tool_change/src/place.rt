@@ -1,16 +1,16 @@
 //! Where a log stands that is changed: in a folder, as it is, or as one of the version that is asked for.
 ghost use Rattle.std.specs.Prelude.{◌≡◌, Result, IfErr};
-ghost use Rattle.nl_versions.specs.VersionFolder.{seen_as_version};
 ghost use Rattle.nl_tool_texts.specs.declared.fault.ToolFault.{ToolFault};
 ghost use Rattle.nl_tool_change.specs.{Calls.{ChangesLog, ChangesLogAs, ChangesLogFor, IsFaultBy, IsFree, Meaning, Repairs, RepairsFor, keeping_all}, Faults.{IsRecordFault}, Mending.{MendsLogAs}};
 ghost use Rattle.nl_folder.specs.FolderView.{folder_view};
 
-use crate::change::{Change, ToolResult, of_log_fault};
+use crate::change::{Change, of_log_fault};
 use crate::reading::look_for;
 use crate::seen::SeenLog;
 use nl_fields::Name;
 use nl_folder::Folder;
 use nl_table::{NO_SECRET, Secret};
+use nl_tool_texts::ToolResult;
 use nl_versions::LogVersion;
 use std::alloc::Global;
 
@@ -38,14 +38,6 @@ pub struct AskedFolder<F> {
     pub folder: F,
 }
 
-/// The log was found to be one of the version, or is taken for one. Names are hashed under the secret.
-#[derive(Drop)]
-pub struct FoundFolder<F> {
-    pub secret: Secret,
-    pub version: LogVersion,
-    pub folder: F,
-}
-
 impl<F: Folder> LogPlace for F {
     ghost changes = { λ m result old new. ChangesLog m result (folder_view F.Folder old) (folder_view F.Folder new) };
 
@@ -57,24 +49,6 @@ impl<F: Folder> LogPlace for F {
 
     fn change<C: Change>(self, alloc: Global, change: &C) -> (F, ToolResult) {
         change_found(alloc, NO_SECRET, LogVersion::Five, self, change)
-    }
-}
-
-impl<F: Folder> LogPlace for FoundFolder<F> {
-    ghost changes = { λ m result old new. IsFree (F.disk old.folder) old.version
-        → ChangesLogAs old.version m result (folder_view F.Folder old.folder) (folder_view F.Folder new.folder) };
-
-    ghost repairs = { λ result old new. IsFree (F.disk old.folder) old.version
-        → Repairs result (seen_as_version old.version (F.disk old.folder))
-        (seen_as_version old.version (F.disk new.folder)) };
-
-    fn secret(&self) -> Secret {
-        self.secret
-    }
-
-    fn change<C: Change>(self, alloc: Global, change: &C) -> (Self, ToolResult) {
-        let (folder, result) = change_found(alloc, self.secret, self.version, self.folder, change);
-        (FoundFolder { folder, ..self }, result)
     }
 }
 
@@ -119,12 +93,18 @@ impl<F: Folder> LogPlace for AskedFolder<F> {
 
 /// It makes the intents over the entries of outputs that can't be trusted durable, by one change. Damaged lines are gone then, because the
 /// log is written anew.
-pub fn mend_on<F: Folder>(alloc: Global, place: FoundFolder<F>, names: &[Name]) -> (F, ToolResult)
-    ensures call { IsFree (F.disk place.folder) place.version → MendsLogAs place.version names.now
-        result.1 (folder_view F.Folder place.folder) (folder_view F.Folder result.0) }
+pub fn mend_on<F: Folder>(
+    alloc: Global,
+    secret: Secret,
+    version: LogVersion,
+    folder: F,
+    names: &[Name],
+) -> (F, ToolResult)
+    ensures call { IsFree (F.disk folder) version → MendsLogAs version names.now
+        result.1 (folder_view F.Folder folder) (folder_view F.Folder result.0) }
     ensures faults { IfErr result.1 IsRecordFault }
 {
-    let mut log = SeenLog::new(alloc, place.secret, place.version, place.folder);
-    let result = log.mend(names).map_err(of_log_fault);
-    (log.into_parts().1, result)
+    let mut seen = SeenLog::new(alloc, secret, version, folder);
+    let result = seen.mend(names).map_err(of_log_fault);
+    (seen.into_parts().1, result)
 }

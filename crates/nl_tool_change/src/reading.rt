@@ -6,14 +6,14 @@ ghost use Rattle.nl_session.specs.declared.fault.LogFault.{LogFault};
 ghost use Rattle.nl_folder.specs.FolderView.{folder_view};
 ghost use Rattle.nl_tool_change.specs.{Calls.{Looks}, Distrusts.{AreDistrusted, Distrusts}, Mending.{ReadsWhole}};
 
-use crate::change::{LogResult, ToolResult, of_log_fault};
+use crate::change::{LogResult, of_log_fault};
 use nl_distrust::distrusted;
 use nl_folder::{Folder, LogReader};
 use nl_lines::SliceSource;
 use nl_session::LogFault;
 use nl_table::{LoadFault, Secret, Table};
 use nl_tool_print::read_all;
-use nl_tool_texts::ToolFault;
+use nl_tool_texts::{ToolFault, ToolResult};
 use nl_versions::{LogVersion, first_line_in, load_seen};
 use std::alloc::Global;
 

@@ -7,14 +7,13 @@ ghost use Rattle.nl_tool_texts.specs.{Files.{OfBytes, file_lines}, Output.{Print
 ghost use Rattle.nl_session.specs.declared.events.Event.{Event};
 
 use crate::answers::append_reply;
-use crate::change::ToolResult;
 use crate::line_fault::{LineFault, Told};
 use nl_fields::{Entry, Name, NameFault, read_entry, read_i64};
 use nl_folder::{Call, Fuse, MemFolder};
 use nl_lines::{Line, Lines, ReadSource};
 use nl_session::{Event, Outcome, run_events};
 use nl_table::KeepList;
-use nl_tool_texts::{AllocResult, ToolFault, append_with, write_out};
+use nl_tool_texts::{AllocResult, ToolFault, ToolResult, append_with, write_out};
 use std::alloc::{AllocError, AllocFailed, Global};
 use std::io::{Read, Write};
 use std::str;
@@ -318,7 +317,7 @@ pub fn replay_to<R: Read + Drop, W: Write>(
     reader: R,
     writer: &mut W,
     told: &mut Told,
-) -> Result<(), ToolFault>
+) -> ToolResult
     ensures prints { Prints (IsReplayText (R.remaining reader)) (W.contents writer.old) (W.contents writer.new) result }
     ensures why { IsErrAnd result IsBadLine → IsSome told.new.why }
     ensures faults { IfErr result IsReplayFault }

@@ -8,7 +8,7 @@ use Rattle.nl_folder.specs.FolderView.{FolderView}
 use Rattle.nl_table.specs.Log.{log_of}
 use Rattle.nl_table.specs.Log as log_reading
 use Rattle.nl_versions.specs.VersionOf.{as_five, lines_version, version_of}
-use Rattle.nl_session.specs.Intents.{is_intent}
+use Rattle.nl_fields.specs.Intent.{is_intent}
 use Rattle.nl_distrust.specs.Distrusted.{is_whole}
 use Rattle.nl_tool_texts.specs.Output.{AppendsPrefixOf}
 use Rattle.nl_tool_texts.specs.declared.fault.ToolFault.{ToolFault}

@@ -2,7 +2,7 @@
 use Rattle.std.specs.Prelude.{if◌then◌else◌, ◌≡◌, ◌++◌, ◌∷◌, ◌<◌, ◌≤◌, ◌*◌, [], ℕ, ℤ, Bool, List, length, Option, None, Some, IfSome}
 use Rattle.std.specs.List.{count_by, flat_map}
 use Rattle.nl_fields.specs.declared.entry.Entry.{Entry}
-use Rattle.nl_session.specs.Intents.{is_intent}
+use Rattle.nl_fields.specs.Intent.{is_intent}
 use Rattle.nl_table.specs.History.{holds, logged, table}
 use Rattle.nl_table.specs.Log.{LogReading, Log, NotALog, OtherVersion, log_of}
 use Rattle.nl_versions.specs.VersionOf.{as_five}

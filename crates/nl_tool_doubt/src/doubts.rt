@@ -13,7 +13,7 @@ use nl_distrust::laws::a_whole_log_is_trusted;
 use nl_distrust::{distrusted, is_whole};
 use nl_fields::{Entry, EntryRef};
 use nl_table::{LoadFault, Secret, Table};
-use nl_tool_texts::{AllocResult, Part, ToolFault, append_line, write_out};
+use nl_tool_texts::{AllocResult, Part, ToolResult, append_line, write_out};
 use nl_versions::lines_version;
 use std::alloc::Global;
 use std::io::Write;
@@ -150,11 +150,7 @@ fn is_copied(looked: &[Looked]) -> bool
 }
 
 /// It writes a line for each output, and answers whether there is any.
-pub fn write_doubts<W: Write>(
-    alloc: Global,
-    named: &[Doubted],
-    writer: &mut W,
-) -> Result<bool, ToolFault>
+pub fn write_doubts<W: Write>(alloc: Global, named: &[Doubted], writer: &mut W) -> ToolResult<bool>
     ensures ok { IfOk result (λ any. Appends (W.contents writer.old) (W.contents writer.new) (flat_map doubt_line named.now)
         × (any ≡ nat_lt 0 (length named.now))) }
     ensures prefix { IsErrOf result ToolFault.Write → AppendsPrefixOf (W.contents writer.old) (W.contents writer.new) (flat_map doubt_line named.now) }

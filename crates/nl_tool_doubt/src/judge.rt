@@ -3,8 +3,8 @@ ghost use Rattle.std.specs.Prelude.{◌≡◌};
 ghost use Rattle.nl_tool_doubt.specs.Judging.{doubt_from, doubt_of, last_of};
 
 use crate::files::{FileState, FileTimes, Looked};
-use crate::moments::{Moments, NANOSECONDS, NONE, length_of, moment, tells};
-use nl_builds::Stamps;
+use crate::moments::{Moments, NANOSECONDS, NONE, length_of, tells};
+use nl_builds::{Stamps, moment};
 use nl_fields::EntryRef;
 
 #[derive(Clone, Copy, Drop)]

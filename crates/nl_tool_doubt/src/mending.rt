@@ -9,12 +9,11 @@ use crate::doubts::{Doubted, Doubts, untrusted_of, word_of};
 use crate::files::OutputFiles;
 use crate::judge::Doubt;
 use nl_distrust::is_whole;
-use nl_fields::Name;
+use nl_fields::{Name, is_intent};
 use nl_folder::Folder;
-use nl_session::is_intent;
 use nl_table::Secret;
-use nl_tool_change::{FoundFolder, mend_on, read_log};
-use nl_tool_texts::{AllocResult, Part, ToolFault, append_line, write_out};
+use nl_tool_change::{mend_on, read_log};
+use nl_tool_texts::{AllocResult, Part, ToolFault, ToolResult, append_line, write_out};
 use nl_versions::{lines_version, version_of};
 use std::alloc::Global;
 use std::io::Write;
@@ -46,7 +45,7 @@ pub fn mend_to<D: Folder, F: OutputFiles, W: Write>(
     files: &F,
     how: How,
     writer: &mut W,
-) -> (D, Result<Mended, ToolFault>)
+) -> (D, ToolResult<Mended>)
     ensures call { MendsFolder (F.states files.now) how (W.contents writer.old) (W.contents
         writer.new) result.1 (folder_view D.Folder folder) (folder_view D.Folder result.0) }
     ensures faults { IfErr result.1 IsMendFault }
@@ -69,7 +68,7 @@ fn mend_doubted<D: Folder, W: Write>(
     doubts: &Doubts,
     how: How,
     writer: &mut W,
-) -> (D, Result<Mended, ToolFault>)
+) -> (D, ToolResult<Mended>)
     ensures call { IsIn (D.disk folder) log.now → Mends how log.now doubts.now (W.contents writer.old) (W.contents writer.new)
         result.1 (folder_view D.Folder folder) (folder_view D.Folder result.0) }
     ensures faults { IfErr result.1 IsMendFault }
@@ -183,7 +182,7 @@ fn mend_said<D: Folder, W: Write>(
     log: &[u8],
     said: &Said,
     writer: &mut W,
-) -> (D, Result<(), ToolFault>)
+) -> (D, ToolResult)
     ensures call { IsIn (D.disk folder) log.now → MendsSaid log.now said.now (W.contents writer.old) (W.contents writer.new)
         result.1 (folder_view D.Folder folder) (folder_view D.Folder result.0) }
     ensures faults { IfErr result.1 IsMendFault }
@@ -191,12 +190,8 @@ fn mend_said<D: Folder, W: Write>(
     if !said.is_due {
         return (folder, write_out(said.text.as_slice(), writer));
     }
-    let place = FoundFolder {
-        secret,
-        version: version_of(log),
-        folder,
-    };
-    let (folder, changed) = mend_on(alloc, place, said.names.as_slice());
+    let names = said.names.as_slice();
+    let (folder, changed) = mend_on(alloc, secret, version_of(log), folder, names);
     match changed {
         Ok(()) => (folder, write_out(said.text.as_slice(), writer)),
         Err(fault) => (folder, Err(fault)),

@@ -4,7 +4,7 @@ ghost use Rattle.nl_builds.specs.Commands.{moment};
 ghost use Rattle.nl_tool_doubt.specs.{Known.{line_of}, Moments.{begun, is_sure, is_whole, length_of, lines_that_tell, nearest, tells, tick_of}};
 
 use crate::spans::{Span, greatest_up_to, least_from, merged, rising, summed, within};
-use nl_builds::Stamps;
+use nl_builds::{Stamps, moment};
 use nl_fields::EntryRef;
 use nl_tool_texts::AllocResult;
 use std::alloc::Global;
@@ -51,13 +51,6 @@ pub fn tells(entry: &EntryRef) -> bool
     ensures { result ≡ tells entry.now }
 {
     entry.mtime > 0
-}
-
-/// The milliseconds from the earliest START or END that there can be.
-pub fn moment(ms: i32) -> u32
-    ensures value { result ≡ moment ms }
-{
-    ms.abs_diff(i32::MIN)
 }
 
 /// Each question takes time by the logarithm of the number of lines.

@@ -104,15 +104,8 @@ pub fn within(spans: &[Span], from: u64, to: u64) -> Option<Span>
     ensures value { result ≡ within from to spans.now }
 {
     let start = spans.partition_point(|span| span.first < from);
-    up_to(&spans[start..], to)
-}
-
-fn up_to(spans: &[Span], to: u64) -> Option<Span>
-    requires rises { Rises spans.now }
-    ensures value { result ≡ within 0 to spans.now }
-{
     let mut found = None;
-    for span in spans {
+    for span in &spans[start..] {
         if to < span.first {
             return found;
         }

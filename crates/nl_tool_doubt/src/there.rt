@@ -7,11 +7,10 @@ ghost use Rattle.nl_versions.specs.VersionOf.{as_five};
 ghost use Rattle.nl_tool_doubt.specs.There.{AddsFor, KeepsMost, LosesMost, is_kept, learned, name_by, pair_by};
 
 use crate::files::{FileState, Looked, OutputFiles, look_all};
-use nl_fields::{Entry, Name};
-use nl_session::is_intent;
+use nl_fields::{Entry, Name, is_intent};
 use nl_table::{NameSet, Secret};
 use nl_tool_print::load_read;
-use nl_tool_texts::{AllocResult, ToolFault};
+use nl_tool_texts::{AllocResult, ToolFault, ToolResult};
 use std::alloc::Global;
 use std::io::Read;
 
@@ -23,7 +22,7 @@ pub fn names_there<R: Read + Drop, F: OutputFiles>(
     reader: R,
     files: &F,
     targets: Vec<Name>,
-) -> Result<NameSet, ToolFault>
+) -> ToolResult<NameSet>
     ensures kept { IfOk result (KeepsMost (R.remaining reader) (F.states files.now) targets.items) }
     ensures elsewhere { IsErrOf result ToolFault.Elsewhere → (set : List (List ℕ))
         × LosesMost (R.remaining reader) (F.states files.now) targets.items set }
@@ -57,7 +56,7 @@ pub fn times_there<R: Read + Drop, F: OutputFiles>(
     secret: Secret,
     reader: R,
     files: &F,
-) -> Result<Vec<(Name, i64)>, ToolFault>
+) -> ToolResult<Vec<(Name, i64)>>
     ensures given { IfOk result (λ times. AddsFor pair_by (R.remaining reader) (F.states files.now) [] times.items) }
     ensures not_a_log { IfNotALog result (λ bs. log_of (as_five bs)) (R.remaining reader) }
     ensures other_version { IfOtherVersion result (λ bs. log_of (as_five bs)) (R.remaining reader) }

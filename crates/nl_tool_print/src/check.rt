@@ -5,9 +5,9 @@ ghost use Rattle.nl_tool_print.specs.{Faults.{IfNotALog, IfOtherVersion, IsLogFa
 ghost use Rattle.nl_tool_texts.specs.Output.{Prints};
 ghost use Rattle.nl_versions.specs.LogAs.{log_for};
 
-use crate::show::{ToolResult, load_read};
+use crate::show::load_read;
 use nl_table::{Loaded, NO_SECRET, Secret, is_due};
-use nl_tool_texts::{AllocResult, write_out};
+use nl_tool_texts::{AllocResult, ToolResult, write_out};
 use nl_versions::LogVersion;
 use std::alloc::Global;
 use std::io::{Read, Write};

@@ -4,11 +4,10 @@ ghost use Rattle.nl_table.specs.Log.{entry_on, log_of};
 ghost use Rattle.nl_tool_print.specs.{Faults.{IfNotALog, IfOtherVersion, IsLogFault}, Streams.{Streams, entry_text, entries_text_of}};
 ghost use Rattle.nl_versions.specs.VersionOf.{as_five};
 
-use crate::show::ToolResult;
 use crate::stream::{LineText, Piece, append_field, stream_named};
 use nl_fields::append_entry;
 use nl_table::{OLDEST_VERSION, read_line};
-use nl_tool_texts::AllocResult;
+use nl_tool_texts::{AllocResult, ToolResult};
 use std::alloc::Global;
 use std::io::{Read, Write};
 

@@ -5,11 +5,10 @@ ghost use Rattle.nl_table.specs.declared.loader.LoadFault.{LoadFault};
 ghost use Rattle.nl_tool_print.specs.{Faults.{IsHashFault, IsHashFileFault}, Output.{IsHashText}, Versions.{IsFileHashAs, hash_text_as}};
 ghost use Rattle.nl_tool_texts.specs.Output.{Prints};
 
-use crate::show::ToolResult;
 use nl_fields::append_hex64;
 use nl_lines::{ReadSource, Source};
 use nl_table::LoadFault;
-use nl_tool_texts::{append, write_out};
+use nl_tool_texts::{ToolResult, append, write_out};
 use nl_versions::{LogVersion, command_hash_in};
 use std::alloc::Global;
 use std::io::{Read, Write};

@@ -10,13 +10,10 @@ ghost use Rattle.nl_versions.specs.{Loading.{IsLoadFor}, LogAs.{log_for}};
 use nl_fields::{MAX_ENTRY_LINE, append_entry};
 use nl_lines::ReadSource;
 use nl_table::{Loaded, NO_SECRET, Secret, Table};
-use nl_tool_texts::{ToolFault, write_out};
+use nl_tool_texts::{ToolResult, write_out};
 use nl_versions::{LogVersion, load_seen};
 use std::alloc::Global;
 use std::io::{Read, Write};
-
-/// What a command answers.
-pub type ToolResult<T = ()> = Result<T, ToolFault>;
 
 // More than the longest line, so that lines are held before they are written.
 pub const PIECE: usize = 262_144;

@@ -8,6 +8,9 @@ use std::alloc::AllocError;
 use std::error::Error;
 use std::fmt;
 
+/// What a command answers.
+pub type ToolResult<T = ()> = Result<T, ToolFault>;
+
 /// Its `Display` is the text for the user.
 #[derive(Clone, Copy, Debug, PartialEq, Eq)]
 pub enum ToolFault {

@@ -16,7 +16,7 @@ mod writing;
 
 pub use columns::{in_columns, lines_of};
 pub use escape::{append_cut_name, append_label};
-pub use fault::{ToolFault, status_of};
+pub use fault::{ToolFault, ToolResult, status_of};
 pub use fraction::{percent, ratio};
 pub use graph_line::{Line, line_in};
 pub use output::write_out;

@@ -5,3 +5,4 @@ pub mod LogAs
 pub mod Loading
 pub mod VersionFolder
 pub mod SeenDisk
+pub mod SeenState

@@ -8,7 +8,7 @@ mod sources;
 mod version;
 mod version_folder;
 
-pub use loading::{NamedSource, load_seen, see_named};
+pub use loading::{load_seen, see_named};
 pub use log_version::{
     FirstLine, first_line_in, lines_version, names_four, taken_version, version_of,
 };

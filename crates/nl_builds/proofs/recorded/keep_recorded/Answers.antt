@@ -7,7 +7,8 @@ use Rattle.std.proofs.lemmas.Iterator.Search.{any_from_yields_List}
 use Rattle.std.proofs.lemmas.List.{map-id}
 use Rattle.nl_fields.specs.declared.entry.Entry.{Entry}
 use Rattle.nl_table.specs.Table.{all_entered_table}
-use Rattle.nl_builds.specs.Recorded.{any_intent, is_intent}
+use Rattle.nl_fields.specs.Intent.{is_intent}
+use Rattle.nl_builds.specs.Recorded.{any_intent}
 use Rattle.nl_builds.proofs.RecordedLemmas.{entered_more, kept_all, kept_more, names_more, none_unfinished, recorded_plain, unfinished_of}
 use Rattle.nl_builds.proofs.recorded.keep_recorded.Goals as goal
 

@@ -2,7 +2,7 @@ use Rattle.std.proofs.Common.{◌∷◌, ap, arith, pos, suc, subst, sym, ◌∙
 use Rattle.std.proofs.lemmas.Int.{to_z-of_z}
 use Rattle.std.proofs.lemmas.Option.{none-some}
 use Rattle.nl_fields.proofs.DigitLemmas.{magnitude_fits, negation_answered}
-use Rattle.nl_fields.proofs.LeadingLemmas.{behind_minus_begins, minus_begins, not_some, plain_begins, plain_fits, same_begun}
+use Rattle.nl_fields.proofs.LeadingLemmas.{behind_minus_begins, minus_begins, not_ok, not_some, plain_begins, plain_fits, same_begun}
 use Rattle.nl_fields.proofs.decimal.split_i64.Goals as goal
 
 pub returns-in_err-magnitude-clause-accepts : goal.returns-in_err-magnitude-clause-accepts
@@ -37,8 +37,8 @@ returns-in_err-magnitude-2-clause-accepts c n rest fits begins =
     let plain = plain_begins n _ _ _ rest c.in_ok-first.ensures.cases.0 c.if-first-eq45.false begins in
     absurd (not_some (c.in_err-magnitude-2.ensures.accepts plain.0 rest (plain_fits n _ fits plain.1) plain.2))
 
-pub returns-in_err-to_i64-clause-accepts : goal.returns-in_err-to_i64-clause-accepts
-returns-in_err-to_i64-clause-accepts c n rest fits begins =
+pub returns-in_err-ok-clause-accepts : goal.returns-in_err-ok-clause-accepts
+returns-in_err-ok-clause-accepts c n rest fits begins =
     let plain = plain_begins n _ _ _ rest c.in_ok-first.ensures.cases.0 c.if-first-eq45.false begins in
     let same = same_begun plain.2 c.in_ok-magnitude-2.ensures.found in
-    absurd (c.in_err-to_i64.ensures (subst (λ (m : ℕ). FitsSigned w64 (pos m)) same (subst (λ (z : ℤ). FitsSigned w64 z) plain.1 fits)))
+    absurd (not_ok _ c.try_from.result c.try_from.ensures (sym c.in_err-ok.ensures.value) (subst (λ (m : ℕ). FitsSigned w64 (pos m)) same (subst (λ (z : ℤ). FitsSigned w64 z) plain.1 fits)))

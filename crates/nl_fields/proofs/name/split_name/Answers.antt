@@ -1,4 +1,4 @@
-use Rattle.std.proofs.Common.{arith, ap, get_or, length, sym, ◌∙◌, List, ℕ}
+use Rattle.std.proofs.Common.{arith, ap, get_or, inl, inr, length, sym, ◌∙◌, List, ℕ}
 use Rattle.std.proofs.lemmas.List.{length-take}
 use Rattle.std.proofs.lemmas.Option.{none-some, same_Some}
 use Rattle.nl_fields.specs.Name.{is_forbidden}
@@ -12,18 +12,8 @@ returns-in_err-at-clause-accepts c name rest is line =
 pub returns-then-bytes-at-ne9-clause-accepts : goal.returns-then-bytes-at-ne9-clause-accepts
 returns-then-bytes-at-ne9-clause-accepts c name rest is line =
     let same = same_Some _ _ (c.in_ok-at.ensures ∙ ends_there _ name rest is line) in
-    absurd (c.if-bytes-at-ne9.true
-    (ap (λ (k : ℕ). get_or c.args.bytes.now k 0) same ∙ ap (λ (s : List ℕ). get_or s (length name) 0) line ∙ at_seam name 9 rest))
-
-pub returns-then-at-eq0-clause-accepts : goal.returns-then-at-eq0-clause-accepts
-returns-then-at-eq0-clause-accepts c name rest is line =
-    let same = same_Some _ _ (c.in_ok-at.ensures ∙ ends_there _ name rest is line) in
-    absurd (omega (arith, same, is.some, c.if-at-eq0.true))
-
-pub returns-then-at-gt-MAX_NAME-clause-accepts : goal.returns-then-at-gt-MAX_NAME-clause-accepts
-returns-then-at-gt-MAX_NAME-clause-accepts c name rest is line =
-    let same = same_Some _ _ (c.in_ok-at.ensures ∙ ends_there _ name rest is line) in
-    absurd (omega (arith, same, is.short, c.if-at-gt-MAX_NAME.true))
+    let tab = ap (λ (k : ℕ). get_or c.args.bytes.now k 0) same ∙ ap (λ (s : List ℕ). get_or s (length name) 0) line ∙ at_seam name 9 rest in
+    absurd (elim c.then-bytes-at-ne9.either [ inl other ↦ other tab | inr long ↦ omega (arith, same, is.some, is.short, long) ])
 
 pub returns-clause-found : goal.returns-clause-found
 returns-clause-found c =

@@ -16,7 +16,7 @@ returns-in-Ok-clause-call g c = λ here.
     let free = subst (IsFree (g.D.Folder.disk c.args.folder)) (sym c.version_of.ensures) (free_as_named (g.D.Folder.disk c.args.folder) c.args.log.now here) in
     let call = subst (λ version. MendsLogAs version names (Ok c.in-Ok.field-0) old new) c.version_of.ensures
     (subst (λ r. MendsLogAs c.version_of.result names r old new) c.in-Ok.is
-    (subst (λ names. MendsLogAs c.version_of.result names c.mend_on-folder.result.1 old new) c.as_slice-2.ensures.value
+    (subst (λ names. MendsLogAs c.version_of.result names c.mend_on-folder.result.1 old new) c.as_slice-names.ensures.value
     (c.mend_on-folder.ensures.call free))) in
     let due : c.args.said.now.is_due ≡ true = search rules in
     said_written c.write_out-in-Ok.result c.as_slice-in-Ok.result.now c.as_slice-in-Ok.ensures.value c.write_out-in-Ok.ensures.ok
@@ -33,5 +33,5 @@ returns-in-Err-clause-call g c = λ here.
     said_failed c.in-Err.fault (subst (λ r. IfErr r IsRecordFault) c.in-Err.is c.mend_on-folder.ensures.faults) due
     (subst (λ version. MendsLogAs version names (Err c.in-Err.fault) old new) c.version_of.ensures
     (subst (λ r. MendsLogAs c.version_of.result names r old new) c.in-Err.is
-    (subst (λ names. MendsLogAs c.version_of.result names c.mend_on-folder.result.1 old new) c.as_slice-2.ensures.value
+    (subst (λ names. MendsLogAs c.version_of.result names c.mend_on-folder.result.1 old new) c.as_slice-names.ensures.value
     (c.mend_on-folder.ensures.call free))))

@@ -1,6 +1,0 @@
-use Rattle.std.proofs.Common.{◌≡◌, drop}
-use Rattle.nl_tool_doubt.specs.Spans.{both, within}
-use Rattle.nl_tool_doubt.proofs.spans.up_to.Given as goal
-
-abbrev pub invariant-loop-span : goal.invariant-loop-span
-invariant-loop-span l = both l.found (within 0 l.to (drop l.span-index l.spans)) ≡ within 0 l.to l.spans
