@@ -4,7 +4,7 @@ use Rattle.std.specs.Prelude.{bytes_eq}
 use Rattle.std.specs.List.{list_any}
 use Rattle.std.proofs.lemmas.List.{map-append}
 use Rattle.indexmap.specs.IndexSet.{insert_key}
-use Rattle.nl_builds.specs.declared.name_key.NameKey.{NameKey}
+use Rattle.nl_table.specs.declared.output_key.NameKey.{NameKey}
 use Rattle.nl_table.specs.History.{holds}
 use Rattle.nl_table.specs.Table.{with_name}
 use Rattle.nl_table.proofs.NameLemmas.{bytes_eq_comm}

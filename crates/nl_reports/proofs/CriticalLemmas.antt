@@ -4,7 +4,7 @@ use Rattle.std.proofs.lemmas.List.{at_drop_more, map-append, take_more}
 use Rattle.std.proofs.lemmas.List.Concat.{flat_map-append}
 use Rattle.std.specs.Global.{Vec}
 use Rattle.std.specs.List.{list_any}
-use Rattle.nl_builds.specs.declared.name_key.NameKey.{NameKey}
+use Rattle.nl_table.specs.declared.output_key.NameKey.{NameKey}
 use Rattle.nl_fields.specs.declared.entry.Entry.{Entry}
 use Rattle.nl_reports.specs.Critical.{IsCritical, IsCriticalText, IsFoundPath, IsPathText, Ran, told_path, any_named, lacking}
 use Rattle.nl_reports.specs.GraphText.{HeldNode, node_of, nodes_of}

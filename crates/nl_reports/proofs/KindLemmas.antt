@@ -7,7 +7,7 @@ use Rattle.std.proofs.lemmas.List.{map-append, take_more}
 use Rattle.std.proofs.lemmas.List.Sums.{fold_push}
 use Rattle.std.proofs.lemmas.Option.{get_or_from_slice_get, slice_get_within}
 use Rattle.indexmap.specs.IndexMap.{insert_entry}
-use Rattle.nl_builds.specs.declared.name_key.NameKey.{NameKey}
+use Rattle.nl_table.specs.declared.output_key.NameKey.{NameKey}
 use Rattle.nl_reports.specs.Kinds.{AreSumsOf, IsSumOf, added, counted, kind_of, kind_pair, kinds, no_sums, same_bytes, sums_in, with_sums}
 use Rattle.nl_reports.specs.Rows.{Told, told_command, told_row}
 use Rattle.nl_reports.specs.declared.kind.KindRule.{KindRule}

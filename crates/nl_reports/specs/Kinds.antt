@@ -3,7 +3,7 @@ use Rattle.std.specs.Prelude.{◌≤◌, ◌*◌, ◌^◌, ⊤, ℕ, ◌+◌, �
 use Rattle.std.specs.List.{filter, fold}
 use Rattle.std.specs.Map.{lookup}
 use Rattle.std.specs.Option.{option_map_or, unwrap_or}
-use Rattle.nl_builds.specs.declared.name_key.NameKey.{NameKey}
+use Rattle.nl_table.specs.declared.output_key.NameKey.{NameKey}
 use Rattle.nl_reports.specs.Rows.{Told}
 use Rattle.nl_reports.specs.declared.kind.KindRule.{KindRule}
 use Rattle.nl_reports.specs.Work.{extension_of, word, work_of}

@@ -9,9 +9,8 @@ use crate::last_entries::any_named;
 use crate::outputs::{Outputs, outputs_of};
 use crate::span::Span;
 use indexmap::IndexSet;
-use nl_builds::NameKey;
 use nl_fields::EntryRef;
-use nl_table::Secret;
+use nl_table::{NameKey, Secret};
 use nl_tool_texts::{AllocResult, BEGINNING, Part, append_line, put};
 use std::alloc::{AllocError, Global};
 

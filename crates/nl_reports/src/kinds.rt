@@ -5,8 +5,7 @@ ghost use Rattle.nl_reports.specs.{Kinds.{AreSumsOf, counted, kind_pair, kinds},
 use crate::kind::{KindRule, kind_of};
 use crate::rows::{Row, Sums, Weighed};
 use indexmap::IndexMap;
-use nl_builds::NameKey;
-use nl_table::Secret;
+use nl_table::{NameKey, Secret};
 use nl_tool_texts::AllocResult;
 use std::alloc::Global;
 

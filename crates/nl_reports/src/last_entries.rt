@@ -3,9 +3,9 @@ ghost use Rattle.std.specs.{Prelude.{◌≡◌, ℕ, List, get_or, length, map, 
 ghost use Rattle.nl_reports.specs.{Jobs.{told}, Lasting.{builds_left, commands_left, is_among, is_held, lasting, marked, marks, whole}};
 
 use indexmap::IndexSet;
-use nl_builds::{Build, Builds, Command, How, NameKey};
+use nl_builds::{Build, Builds, Command, How};
 use nl_fields::EntryRef;
-use nl_table::Secret;
+use nl_table::{NameKey, Secret};
 use nl_tool_texts::AllocResult;
 use std::alloc::Global;
 

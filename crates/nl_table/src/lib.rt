@@ -17,5 +17,6 @@ pub use loader::{
 };
 pub use log_user::{KeepAll, KeepList, LogUser};
 pub use name_set::NameSet;
+pub use output_key::NameKey;
 pub use secret::{NO_SECRET, Secret};
 pub use table::Table;

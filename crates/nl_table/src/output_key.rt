@@ -37,8 +37,9 @@ impl Hash for OutputKey {
     }
 }
 
-#[derive(Clone, Copy)]
-pub(crate) struct NameKey<'a> {
+/// A name that is hashed as a whole. A slice is hashed byte by byte, which takes seven instructions for each.
+#[derive(Clone, Copy, Drop)]
+pub struct NameKey<'a> {
     pub bytes: &'a [u8],
 }
 

@@ -3,7 +3,7 @@ use Rattle.std.specs.Borrow.{Bor}
 use Rattle.std.specs.List.{sum_by}
 use Rattle.std.proofs.lemmas.List.{take_all}
 use Rattle.std.proofs.lemmas.List.Sums.{sum_by-cons}
-use Rattle.nl_builds.specs.declared.name_key.NameKey.{NameKey}
+use Rattle.nl_table.specs.declared.output_key.NameKey.{NameKey}
 use Rattle.nl_reports.specs.Critical.{lacking}
 use Rattle.nl_reports.specs.GraphText.{HeldNode, nodes_of, seen_graph}
 use Rattle.nl_reports.specs.Jobs.{Job, seen}
