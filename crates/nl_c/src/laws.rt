@@ -7,15 +7,12 @@ ghost use Rattle.nl_session.specs.Opened.{opened_bytes, IsTableOf};
 ghost use Rattle.nl_folder.specs.{CrashImages.{IsDisk, IsImage}, DiskState.{Disk}};
 ghost use Rattle.nl_c.specs.{Changes.{Ending, IsOpenText, StepsLeave, exit_of, replace, steps_of}, Faults.{CarriedFaults}, PlanLaws.{PlansStand, WithdrawalsGiveBack}};
 
-/// Wherever a rewriting stops, even if the power then fails, the log is what could be found before, or is the new text.
+/// Wherever a rewriting stops, even if the power then fails, the log is what could be found before, or is the new text. When a call of the
+/// writer unlocks and closes, it changes nothing on disk.
 pub fn a_rewriting_leaves_the_old_or_the_new()
-    ensures { (old new : Disk) (text bs : List ℕ) → IsDisk old → StepsLeave (steps_of replace old.visible text) old new → IsImage new bs
+    ensures rewriting { (old new : Disk) (text bs : List ℕ) → IsDisk old → StepsLeave (steps_of replace old.visible text) old new → IsImage new bs
         → IsImage old bs ⊎ (bs ≡ text) }
-{}
-
-/// When a call of the writer unlocks and closes, it changes nothing on disk.
-pub fn an_end_leaves_the_disk()
-    ensures { (ending : Ending) (is_shared : Bool) (old new : Disk) → StepsLeave (exit_of ending is_shared) old new → new ≡ old }
+    ensures end { (ending : Ending) (is_shared : Bool) (old new : Disk) → StepsLeave (exit_of ending is_shared) old new → new ≡ old }
 {}
 
 /// Someone else's lines at the end of an open log's file are recorded one by one: the table is then that of the whole file.

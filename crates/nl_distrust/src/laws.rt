@@ -5,10 +5,13 @@ ghost use Rattle.nl_lines.specs.Split.{lines_of, rest_of, torn_len};
 ghost use Rattle.nl_table.specs.{History.{holds}, Log.{Log, entry_on, log_of, skipped_count}, Table.{entry_named}, Versions.{current_version, oldest_version}};
 ghost use Rattle.nl_distrust.specs.{Distrusted.{distrusted_in, is_whole, mentioned_in, mentioned_on}, Named.{named_in, torn_behind_name}, Plain.{entry_last, plain_last, plain_texts}};
 
-/// The last line that plain Ninja takes for an entry of a name is its last entry, unless the log mentions the name.
+/// The last line that plain Ninja takes for an entry of a name is its last entry, unless the log mentions the name. What can't be trusted are
+/// the table's entries of the names that the log mentions, and no others.
 pub fn trusted_lines_are_read_alike()
-    ensures { (version : ℕ) (bytes name : List ℕ) → IsName name → holds (mentioned_in version bytes) name ≡ false
+    ensures last { (version : ℕ) (bytes name : List ℕ) → IsName name → holds (mentioned_in version bytes) name ≡ false
         → plain_last name (drop 1 (lines_of bytes)) ≡ entry_last version name (drop 1 (lines_of bytes)) }
+    ensures found { (version : ℕ) (bytes name : List ℕ) (es : List Entry) → entry_named (distrusted_in version bytes es) name
+        ≡ (if holds (mentioned_in version bytes) name then entry_named es name else None) }
 {}
 
 /// Plain Ninja takes the line of an entry for one with the entry's texts. A line that is no entry, and that it takes for one, mentions its
@@ -34,10 +37,4 @@ pub fn a_whole_log_is_trusted()
     ensures whole { (version : ℕ) (bytes : List ℕ) (es : List Entry) → is_whole version bytes ≡ true → distrusted_in version bytes es ≡ [] }
     ensures counts { (version : ℕ) (bytes : List ℕ) (es : List Entry) → log_of bytes ≡ Log version es
         → is_whole version bytes ≡ (torn_len bytes == 0 && skipped_count bytes == 0) }
-{}
-
-/// What can't be trusted are the table's entries of the names that the log mentions, and no others.
-pub fn mentioned_names_are_found()
-    ensures { (version : ℕ) (bytes name : List ℕ) (es : List Entry) → entry_named (distrusted_in version bytes es) name
-        ≡ (if holds (mentioned_in version bytes) name then entry_named es name else None) }
 {}

@@ -12,16 +12,13 @@ pub fn the_limits()
     ensures log { MAX_LOG ≡ max_log }
 {}
 
-pub fn one_decimal()
+pub fn one_number()
     ensures spelling { (n : ℤ) (k l : List ℕ) → IsDecimal n k → IsDecimal n l → k ≡ l }
     ensures number { (m n : ℤ) (bytes : List ℕ) → IsDecimal m bytes → IsDecimal n bytes → m ≡ n }
     ensures exists { (n : ℤ) → FitsSigned w64 n → IsDecimal n (decimal_of n) }
-{}
-
-pub fn one_hexadecimal()
-    ensures spelling { (n : ℕ) (k l : List ℕ) → IsDigits 16 n k → IsDigits 16 n l → k ≡ l }
-    ensures number { (m n : ℕ) (bytes : List ℕ) → IsDigits 16 m bytes → IsDigits 16 n bytes → m ≡ n }
-    ensures exists { (n : ℕ) → n < 2 ^ 64 → IsDigits 16 n (digits_of 16 n) }
+    ensures hex_spelling { (n : ℕ) (k l : List ℕ) → IsDigits 16 n k → IsDigits 16 n l → k ≡ l }
+    ensures hex_number { (m n : ℕ) (bytes : List ℕ) → IsDigits 16 m bytes → IsDigits 16 n bytes → m ≡ n }
+    ensures hex_exists { (n : ℕ) → n < 2 ^ 64 → IsDigits 16 n (digits_of 16 n) }
 {}
 
 pub fn one_line()
@@ -32,12 +29,9 @@ pub fn one_line()
     ensures newline { (e : Entry) (line : List ℕ) → IsEntryLine e line → All (λ b. b ≢ 10) line }
     ensures entry { (e f : Entry) (line : List ℕ) → IsEntryLine e line → IsEntryLine f line → e ≡ f }
     ensures decides { (e : Entry) (line : List ℕ) → (entry_of line ≡ Some e) ↔ IsEntryLine e line }
-{}
-
-pub fn one_entry_v4()
-    ensures entry { (e f : Entry) (line : List ℕ) → IsEntryLineFour e line → IsEntryLineFour f line → e ≡ f }
-    ensures decides { (e : Entry) (line : List ℕ) → (entry_of_four line ≡ Some e) ↔ IsEntryLineFour e line }
-    ensures newline { (e : Entry) (line : List ℕ) → IsEntryLineFour e line → All (λ b. b ≢ 10) line }
+    ensures entry_four { (e f : Entry) (line : List ℕ) → IsEntryLineFour e line → IsEntryLineFour f line → e ≡ f }
+    ensures decides_four { (e : Entry) (line : List ℕ) → (entry_of_four line ≡ Some e) ↔ IsEntryLineFour e line }
+    ensures newline_four { (e : Entry) (line : List ℕ) → IsEntryLineFour e line → All (λ b. b ≢ 10) line }
 {}
 
 pub fn one_header()

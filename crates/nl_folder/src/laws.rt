@@ -4,7 +4,8 @@ ghost use Rattle.nl_lines.specs.{Lines.{max_log}, Prefix.{IsPrefix}, Split.{join
 ghost use Rattle.nl_folder.specs.{DiskState.{Disk, File, durable_disk}, CrashImages.{IsDisk, IsImage, IsImageOf, IsPrefixImage}, Calls.{log_grown, log_cut, log_synced, replaced_disk, not_replaced_disk, AppendsLog, CutsLog, SyncsLog, AppendsScratch, SyncsScratch, Replaces, Crashes}, declared.folder.Fault.{Fault}};
 
 /// What a read gives is one, and so is a prefix image, the only one if there is one prefix image alone. None is longer than a log may be, and
-/// no newline stands in the tail of one.
+/// no newline stands in the tail of one. Of a durable log it is what a read gave, and after a replacement that of either file, within its own
+/// lengths, also if the replacement failed.
 pub fn images_of_a_disk()
     ensures visible { (disk : Disk) → IsDisk disk → IsImage disk disk.visible }
     ensures limit { (disk : Disk) (bs : List ℕ) → IsDisk disk → IsImage disk bs → length bs ≤ max_log }
@@ -12,12 +13,10 @@ pub fn images_of_a_disk()
     ensures prefix { (disk : Disk) (bs : List ℕ) → IsPrefixImage disk bs → IsImage disk bs }
     ensures one { (disk : Disk) (text : List ℕ) → IsDisk disk → ((bs : List ℕ) → IsPrefixImage disk bs → bs ≡ text)
         → (bs : List ℕ) → IsImage disk bs → bs ≡ text }
-{}
-
-/// It is what a read gave.
-pub fn a_durable_log_has_one_image()
     ensures synced { (disk : Disk) (bs : List ℕ) → IsImage (log_synced disk) bs → bs ≡ disk.visible }
     ensures durable { (text bs : List ℕ) (scratch : File) → IsImage (durable_disk text scratch) bs → bs ≡ text }
+    ensures either { (disk : Disk) (bs : List ℕ) → IsImage (replaced_disk disk) bs ⊎ IsImage (not_replaced_disk disk) bs
+        → IsImageOf disk.scratch bs ⊎ IsImageOf disk.log bs }
 {}
 
 /// After an append it is a prefix of the new text that has the durable bytes: one from before, or what a read gave and a prefix of what was
@@ -29,12 +28,6 @@ pub fn a_prefix_image_after_a_call()
         → IsPrefixImage disk bs ⊎ ((more : List ℕ) × (bs ≡ disk.visible ++ more) × IsPrefix more (take n bytes)) }
     ensures cut { (disk : Disk) (n kept : ℕ) (bs : List ℕ) → disk.other ≡ None → n ≤ disk.log.durable_len
         → IsPrefixImage (log_cut n kept disk) bs → IsPrefix bs disk.log.longest × (n ≤ length bs) }
-{}
-
-/// Each within its own lengths, and after a replacement that failed too.
-pub fn a_replacement_leaves_either_file()
-    ensures { (disk : Disk) (bs : List ℕ) → IsImage (replaced_disk disk) bs ⊎ IsImage (not_replaced_disk disk) bs
-        → IsImageOf disk.scratch bs ⊎ IsImageOf disk.log bs }
 {}
 
 /// It meets every row, whatever it answers.

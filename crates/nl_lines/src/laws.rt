@@ -19,35 +19,26 @@ pub fn a_text_splits_one_way()
     ensures nothing { (text : List ℕ) → whole_len text ≡ 0 → lines_of text ≡ [] }
 {}
 
-/// Whatever stands behind them.
-pub fn joined_lines_come_back()
-    ensures lines { (lines : List (List ℕ)) (tail : List ℕ) → All NoNewline lines
+/// Joined lines come back, whatever stands behind them. A tail without a newline changes no line, and a last newline leaves no rest.
+pub fn lines_of_a_longer_text()
+    ensures joined_lines { (lines : List (List ℕ)) (tail : List ℕ) → All NoNewline lines
         → lines_of (joined lines ++ tail) ≡ lines ++ lines_of tail }
-    ensures rest { (lines : List (List ℕ)) (tail : List ℕ) → All NoNewline lines → rest_of (joined lines ++ tail) ≡ rest_of tail }
+    ensures joined_rest { (lines : List (List ℕ)) (tail : List ℕ) → All NoNewline lines → rest_of (joined lines ++ tail) ≡ rest_of tail }
+    ensures tail_lines { (text tail : List ℕ) → NoNewline tail → lines_of (text ++ tail) ≡ lines_of text }
+    ensures tail_rest { (text tail : List ℕ) → NoNewline tail → rest_of (text ++ tail) ≡ rest_of text ++ tail }
+    ensures some { (text : List ℕ) → EndsInNewline text → 1 ≤ length (lines_of text) }
+    ensures none { (text : List ℕ) → EndsInNewline text → rest_of text ≡ [] }
+    ensures ends { (line : List ℕ) (lines : List (List ℕ)) → EndsInNewline (joined (line ∷ lines)) }
 {}
 
-pub fn a_last_newline_leaves_no_rest()
-    ensures lines { (text : List ℕ) → EndsInNewline text → 1 ≤ length (lines_of text) }
-    ensures rest { (text : List ℕ) → EndsInNewline text → rest_of text ≡ [] }
-    ensures joined { (line : List ℕ) (lines : List (List ℕ)) → EndsInNewline (joined (line ∷ lines)) }
-{}
-
-/// A prefix that has all whole lines has the same lines, and a prefix of the rest.
-pub fn a_cut_rest_leaves_the_lines()
+/// A prefix has the first lines. One that has all whole lines has the same lines, and a prefix of the rest.
+pub fn lines_of_a_prefix()
+    ensures first { (text prefix : List ℕ) → IsPrefix prefix text → IsPrefix (lines_of prefix) (lines_of text) }
+    ensures line { (line prefix : List ℕ) → NoNewline line → IsPrefix prefix (with_newline line)
+        → (prefix ≡ with_newline line) ⊎ NoNewline prefix }
     ensures lines { (text prefix : List ℕ) → IsPrefix prefix text → whole_len text ≤ length prefix → lines_of prefix ≡ lines_of text }
     ensures rest { (text prefix : List ℕ) → IsPrefix prefix text → whole_len text ≤ length prefix
         → IsPrefix (rest_of prefix) (rest_of text) }
-{}
-
-pub fn a_tail_without_a_newline_changes_no_line()
-    ensures lines { (text tail : List ℕ) → NoNewline tail → lines_of (text ++ tail) ≡ lines_of text }
-    ensures rest { (text tail : List ℕ) → NoNewline tail → rest_of (text ++ tail) ≡ rest_of text ++ tail }
-{}
-
-pub fn a_prefix_has_the_first_lines()
-    ensures lines { (text prefix : List ℕ) → IsPrefix prefix text → IsPrefix (lines_of prefix) (lines_of text) }
-    ensures line { (line prefix : List ℕ) → NoNewline line → IsPrefix prefix (with_newline line)
-        → (prefix ≡ with_newline line) ⊎ NoNewline prefix }
 {}
 
 /// A line that is given is the first of the text that was still to be given, and the later ones are still to come. Before the rest no line

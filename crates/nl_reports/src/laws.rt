@@ -5,14 +5,11 @@ ghost use Rattle.nl_builds.specs.Builds.{Told as BuildsTold};
 ghost use Rattle.nl_reports.specs.{Bars.{drawn_width, long_bar, width_of}, Compare.{Compared, Log, classes, compared, is_of, new_of, of_class, old_of, pairs, told_pair}, Frame.{x_at}, Jobs.{Job, first_name, jobs_from}, Kinds.{kinds, named, of_kind}, Lanes.{Begin, lanes}, Lasting.{Rise, has_outputs, is_among, jobs_left, last_of, lasting, marked, of_name}, Numbers.{total_time}, Critical.{weight as node_weight}, Paths.{Graph, IsPath, length_of}, Picture.{bars_of}, Plans.{IsPlan}, Reading.{FewTaken, IsEvent}, Rows.{Told, by_start, spans, told_jobs}, Spans.{IsEarly, time_of}, declared.span.Span.{Span}, Sweep.{busy_time, left_over, parts, runs_at, weight}, Ticks.{IsRound, step_of}, Times.{job_work, share_of, time_in, times_of, total}, Trace.{array_text, how_in, number_in, scoped_text, trace_events}, Turns.{jobs_in_turn}, Work.{is_same}, declared.work.Times.{Times}, declared.work.Work.{Work}, declared.work.Work.TheVariants.{Archive, Compile, Generate, Link, Other, Test}, declared.choice.Scope.{Scope}, declared.sides.Rules.{Rules}, declared.frame.Frame.{Frame}, declared.kind.KindRule.{KindRule}};
 ghost use Rattle.nl_tool_texts.specs.Falling.{falling, ranked};
 
-/// The weighted times of commands, and what is left over, add up to the time in which one command at least runs.
+/// The weighted times of commands, and what is left over, add up to the time in which one command at least runs. What is left over is no
+/// more parts of a millisecond than the commands' own times have milliseconds.
 pub fn weights_add_up()
-    ensures { (cs : List Span) → sum_by (weight cs) cs + left_over cs ≡ parts * busy_time cs }
-{}
-
-/// What is left over is no more parts of a millisecond than the commands' own times have milliseconds.
-pub fn little_is_left_over()
-    ensures { (cs : List Span) → left_over cs ≤ sum_by time_of cs }
+    ensures weights { (cs : List Span) → sum_by (weight cs) cs + left_over cs ≡ parts * busy_time cs }
+    ensures left { (cs : List Span) → left_over cs ≤ sum_by time_of cs }
 {}
 
 /// A list of commands or kinds is those that it is made of, each once; none is larger than one before it, by what the list goes by; and
@@ -24,7 +21,8 @@ pub fn the_largest_come_first()
     ensures alike { (rank : Told → ℕ) (v : ℕ) (ts : List Told) → ranked rank v (falling rank ts) ≡ ranked rank v ts }
 {}
 
-/// Each kind is told once, with the sums of its own commands.
+/// Each kind is told once, with the sums of its own commands. The commands of all kinds are those of the build, and their times add up to the
+/// sum of its commands' times. Their weighted times, and what is left over, add up to the time in which one command at least runs.
 pub fn each_kind_is_its_commands()
     ensures once { (rule : KindRule) (kind : List ℕ) (ts : List Told) → length (named kind (kinds rule ts)) ≤ 1 }
     ensures commands { (rule : KindRule) (kind : List ℕ) (ts : List Told)
@@ -34,108 +32,76 @@ pub fn each_kind_is_its_commands()
         ≡ sum_by (λ (t : Told). t.sums.time) (of_kind rule kind ts) }
     ensures weights { (rule : KindRule) (kind : List ℕ) (ts : List Told) → sum_by (λ (k : Told). k.sums.weight) (named kind (kinds rule ts))
         ≡ sum_by (λ (t : Told). t.sums.weight) (of_kind rule kind ts) }
-{}
-
-/// The commands of all kinds are those of the build, and their times add up to the sum of its commands' times. Their weighted times, and
-/// what is left over, add up to the time in which one command at least runs.
-pub fn kinds_add_up()
-    ensures commands { (rule : KindRule) (js : List Job) → sum_by (λ (k : Told). k.sums.commands) (kinds rule (told_jobs js)) ≡ length js }
-    ensures times { (rule : KindRule) (js : List Job) → sum_by (λ (k : Told). k.sums.time) (kinds rule (told_jobs js)) ≡ total_time js }
-    ensures weights { (rule : KindRule) (js : List Job)
+    ensures all_commands { (rule : KindRule) (js : List Job) → sum_by (λ (k : Told). k.sums.commands) (kinds rule (told_jobs js)) ≡ length js }
+    ensures all_times { (rule : KindRule) (js : List Job) → sum_by (λ (k : Told). k.sums.time) (kinds rule (told_jobs js)) ≡ total_time js }
+    ensures all_weights { (rule : KindRule) (js : List Job)
         → sum_by (λ (k : Told). k.sums.weight) (kinds rule (told_jobs js)) + left_over (spans js) ≡ parts * busy_time (spans js) }
 {}
 
-/// What is left of the entries of an output is its last one, and nothing where it waits; and what is left of all stands as before.
+/// What is left of the entries of an output is its last one, and nothing where it waits; and what is left of all stands as before. Each
+/// command keeps those of its outputs that are left, and one of which none is left is gone. There places rise.
 pub fn the_last_entry_of_each_output_is_left()
     ensures last { (names : List (List ℕ)) (t : BuildsTold) (name : List ℕ) → is_among name names ≡ false
         → of_name name (lasting names t).entries ≡ last_of (of_name name t.entries) }
     ensures waiting { (names : List (List ℕ)) (t : BuildsTold) (name : List ℕ) → is_among name names ≡ true
         → of_name name (lasting names t).entries ≡ [] }
     ensures order { (names : List (List ℕ)) (t : BuildsTold) → (marks : List Bool) × ((lasting names t).entries ≡ marked marks t.entries) }
-{}
-
-/// Each command keeps those of its outputs that are left, and one of which none is left is gone. Here places rise.
-pub fn each_command_keeps_what_is_left()
-    ensures { (names : List (List ℕ)) (t : BuildsTold) → Rise 0 t.commands
+    ensures commands { (names : List (List ℕ)) (t : BuildsTold) → Rise 0 t.commands
         → jobs_from (lasting names t).entries 0 (lasting names t).commands ≡ filter has_outputs (jobs_left names t.entries 0 t.commands) }
 {}
 
 /// What is compared are pairs: each command of the old log stands in one, in its order; and those of the new log that stand in pairs, with
-/// an old one or alone, are all of its commands, each once.
+/// an old one or alone, are all of its commands, each once. Those of the old log come first, in its order. Each command is in one class; so
+/// the totals of all classes add up to those of all commands, whatever is summed.
 pub fn each_command_is_compared_once()
     ensures rows { (rules : Rules) (old new : Log) → compared rules old new ≡ map (told_pair rules old new) (pairs old.jobs new.jobs) }
     ensures old { (js ks : List Job) → flat_map old_of (pairs js ks) ≡ js }
     ensures new { (js ks : List Job) → IsPermutation ks (flat_map new_of (pairs js ks)) }
-{}
-
-/// The commands that are compared begin with those of the old log, in its order.
-pub fn each_old_command_is_compared()
-    ensures { (rules : Rules) (old new : Log) → map (λ (c : Compared). c.output) (take (length old.jobs) (compared rules old new))
+    ensures front { (rules : Rules) (old new : Log) → map (λ (c : Compared). c.output) (take (length old.jobs) (compared rules old new))
         ≡ map (λ (j : Job). first_name j.outputs) old.jobs }
-{}
-
-/// Each command is in one class; so the totals of all classes add up to those of all commands, whatever is summed.
-pub fn each_command_is_in_one_class()
     ensures one { (c : Compared) → count_by (λ k. is_of k c) classes ≡ 1 }
     ensures sums { (f : Compared → ℕ) (cs : List Compared) → sum_by (λ k. sum_by f (of_class k cs)) classes ≡ sum_by f cs }
 {}
 
-/// No lane holds two commands that run at one moment.
+/// No lane holds two commands that run at one moment. A command gets a new lane only if so many others run as it begins: its lane's number
+/// is at most that of the commands before it that run then. So no other choice of lanes has fewer, but for a command that took no time: it
+/// runs at no moment, and may take one lane more.
 pub fn no_lane_holds_two_at_once()
-    ensures { (cs : List Span) (i j t : ℕ) (d : Span) → i < j → j < length cs
+    ensures apart { (cs : List Span) (i j t : ℕ) (d : Span) → i < j → j < length cs
         → slice_index (lanes cs) i ≡ slice_index (lanes cs) j → runs_at t (slice_index_or cs i d) ≡ true
         → runs_at t (slice_index_or cs j d) ≡ true → ⊥ }
-{}
-
-/// A command gets a new lane only if so many others run as it begins: its lane's number is at most that of the commands before it that run
-/// then. So no other choice of lanes has fewer, but for a command that took no time: it runs at no moment, and may take one lane more.
-pub fn lanes_are_few()
-    ensures { (cs : List Span) (i : ℕ) (d : Span) → Begin cs → i < length cs → slice_index (lanes cs) i
+    ensures few { (cs : List Span) (i : ℕ) (d : Span) → Begin cs → i < length cs → slice_index (lanes cs) i
         ≤ count_by (runs_at (slice_index_or cs i d).began) (take i cs) }
 {}
 
-/// By the definition of reading of `serde_json`, the text of any events reads as their array, if each number in them has 64 bits.
-pub fn an_array_reads_as_its_events()
-    ensures { (ds : List Data) → All IsEvent ds → read (array_text ds) ≡ Some (array (items_of ds)) }
-{}
-
-/// The text of a trace reads as the array of its events, where there are no more commands and outputs than a memory holds.
+/// By the definition of reading of `serde_json`, the text of any events reads as their array, if each number in them has 64 bits. The text of
+/// a trace does, where there are no more commands and outputs than a memory holds.
 pub fn a_trace_reads_as_its_events()
-    ensures { (scope : Scope) (t : BuildsTold) → length (jobs_in_turn scope t) < 2 ^ 63 → number_in scope t < 2 ^ 64
+    ensures events { (ds : List Data) → All IsEvent ds → read (array_text ds) ≡ Some (array (items_of ds)) }
+    ensures trace { (scope : Scope) (t : BuildsTold) → length (jobs_in_turn scope t) < 2 ^ 63 → number_in scope t < 2 ^ 64
         → IfSome (how_in scope t) FewTaken → read (scoped_text scope t) ≡ Some (array (items_of (trace_events scope t))) }
 {}
 
-/// The bar of a command takes at most 400 bytes, its title and its name included, whatever its outputs are called.
+/// The bar of a command takes at most 400 bytes, its title and its name included, whatever its outputs are called. All bars of a picture,
+/// those of short commands too, take at most 400 bytes for each command. A bar stands between where the build begins and where it ends.
 pub fn a_bar_takes_at_most_400_bytes()
-    ensures { (f : Frame) (j : Job) (lane : ℕ) → IsEarly j.span → length j.outputs < 2 ^ 63 → lane ≤ f.top
+    ensures one { (f : Frame) (j : Job) (lane : ℕ) → IsEarly j.span → length j.outputs < 2 ^ 63 → lane ≤ f.top
         → f.top < 2 ^ 63 → length (long_bar f j lane) ≤ 400 }
-{}
-
-/// A bar stands between where the build begins and where it ends.
-pub fn a_bar_is_within_the_picture()
-    ensures { (f : Frame) (j : Job) → (1000 ≤ x_at f j.span.began) × (x_at f j.span.began + drawn_width (width_of f j) ≤ 15400) }
-{}
-
-/// The lines of the axis stand a round time apart, and there are twelve steps at most.
-pub fn ticks_are_round_and_few()
-    ensures round { (wall : ℕ) → IsRound (step_of wall) }
-    ensures few { (wall : ℕ) → wall < 2 ^ 32 → wall / step_of wall ≤ 12 }
+    ensures all { (js : List Job) → All (λ (j : Job). IsEarly j.span) js → All (λ (j : Job). length j.outputs < 2 ^ 63) js
+        → length js < 2 ^ 63 → length (bars_of (by_start js)) ≤ 400 * length js }
+    ensures within { (f : Frame) (j : Job) → (1000 ≤ x_at f j.span.began) × (x_at f j.span.began + drawn_width (width_of f j) ≤ 15400) }
 {}
 
 /// Each command counts for one kind of a picture; so the times of all kinds are those of all commands, and their parts are no more than a
-/// hundred.
+/// hundred. The lines of the axis stand a round time apart, and there are twelve steps at most.
 pub fn parts_add_up()
     ensures kinds { (js : List Job) (w : Work) → time_in (times_of js) w
         ≡ sum_by (λ (j : Job). time_of j.span) (filter (λ j. is_same w (job_work j)) js) }
     ensures times { (js : List Job) → total (times_of js) ≡ total_time js }
     ensures parts { (t : Times) → share_of t Compile + share_of t Link + share_of t Archive + share_of t Generate
         + share_of t Test + share_of t Other ≤ 100 }
-{}
-
-/// All bars of a picture, those of short commands too, take at most 400 bytes for each command.
-pub fn bars_take_at_most_400_bytes_a_command()
-    ensures { (js : List Job) → All (λ (j : Job). IsEarly j.span) js → All (λ (j : Job). length j.outputs < 2 ^ 63) js
-        → length js < 2 ^ 63 → length (bars_of (by_start js)) ≤ 400 * length js }
+    ensures round { (wall : ℕ) → IsRound (step_of wall) }
+    ensures few { (wall : ℕ) → wall < 2 ^ 32 → wall / step_of wall ≤ 12 }
 {}
 
 /// No plan for so many processors ends before the critical path does, nor before so many have done all that there is to do.

@@ -5,8 +5,8 @@ ghost use Rattle.nl_tool_texts.specs.declared.fault.ToolFault.{ToolFault};
 ghost use Rattle.nl_tool_words.specs.declared.words.Words.{Words};
 ghost use Rattle.nl_tool.specs.{Faults.{IsFaultOf}, Reasons.{HasText}};
 
-pub use nl_reports::laws::{little_is_left_over, weights_add_up};
-pub use nl_tool_change::laws::{a_repaired_log_has_no_damage, damage_is_what_check_counts};
+pub use nl_reports::laws::weights_add_up;
+pub use nl_tool_change::laws::damage_is_what_check_counts;
 pub use nl_tool_print::laws::entries_are_shown;
 pub use nl_versions::laws::auto_is_the_version;
 

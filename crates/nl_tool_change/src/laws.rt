@@ -9,25 +9,18 @@ ghost use Rattle.nl_folder.specs.FolderView.{folder_view};
 
 use nl_folder::Folder;
 
-/// `damage` prints nothing of a log exactly if `check` counts no skipped line and no torn byte.
+/// `damage` prints nothing of a log exactly if `check` counts no skipped line and no torn byte, and nothing of a repaired one.
 pub fn damage_is_what_check_counts()
-    ensures { (bytes text : List ℕ) → damage_text_of bytes ≡ Some text → (text ≡ []) ↔ ((skipped_count bytes ≡ 0) × (torn_len bytes ≡ 0)) }
+    ensures counts { (bytes text : List ℕ) → damage_text_of bytes ≡ Some text → (text ≡ []) ↔ ((skipped_count bytes ≡ 0) × (torn_len bytes ≡ 0)) }
+    ensures repaired { (bytes : List ℕ) → repaired_text bytes ≡ Some bytes → damage_text_of bytes ≡ Some [] }
 {}
 
-pub fn a_repaired_log_has_no_damage()
-    ensures { (bytes : List ℕ) → repaired_text bytes ≡ Some bytes → damage_text_of bytes ≡ Some [] }
-{}
-
-/// A change by KEEP answers by the names that KEEP holds, or nothing was done.
-pub fn keep_is_read_first<F: Folder>()
-    ensures { (known : Option (List ℕ)) (result : Result (Unit {0}) ToolFault) (old new : F)
+/// A change by KEEP or TIMES answers by the names or the pairs that the file holds, or nothing was done.
+pub fn files_are_read_first<F: Folder>()
+    ensures keep { (known : Option (List ℕ)) (result : Result (Unit {0}) ToolFault) (old new : F)
         → ChangesAsRead F.Folder keep_of keeping known result old new
         → SaysAsRead keep_of keeping known result (folder_view F.Folder old) (folder_view F.Folder new) }
-{}
-
-/// A change by TIMES answers by the pairs that TIMES holds, or nothing was done.
-pub fn times_are_read_first<F: Folder>()
-    ensures { (known : Option (List ℕ)) (result : Result (Unit {0}) ToolFault) (old new : F)
+    ensures times { (known : Option (List ℕ)) (result : Result (Unit {0}) ToolFault) (old new : F)
         → ChangesAsRead F.Folder times_of touching known result old new
         → SaysAsRead times_of touching known result (folder_view F.Folder old) (folder_view F.Folder new) }
 {}

@@ -2,35 +2,25 @@
 ghost use Rattle.std.specs.Prelude.{◌≡◌, ◌+◌, ◌<◌, ◌≤◌, ◌++◌, ◌∷◌, ℕ, List, true, length, All};
 ghost use Rattle.nl_tool_texts.specs.{Columns.{IsQuiet, cell, cells_to, field_at, fields_of, room_behind, shown, widest, width, widths}, Escape.{IsMadeOfPieces, begins_character, cut_at, escaped, IsQuiet as IsQuietByte}};
 
-/// No escaped text has a `<`, a `>`, a `"` or a control character below 32, and each `&` in it begins an entity.
-pub fn escaped_text_is_quiet()
+/// No name makes a terminal do anything: what is laid out has no control character, of one byte or of two, but tabs and newlines. No escaped
+/// text has a `<`, a `>`, a `"` or a control character below 32, and each `&` in it begins an entity. A name that is cut is cut before a
+/// character, and has fewer bytes than fit, but for the ellipsis.
+pub fn nothing_is_obeyed()
+    ensures shown { (text : List ℕ) → IsQuiet 0 (shown text) }
     ensures bytes { (text : List ℕ) → All IsQuietByte (escaped text) }
     ensures pieces { (text : List ℕ) → IsMadeOfPieces (escaped text) }
-{}
-
-/// A name that is cut is cut before a character, and has fewer bytes than fit, but for the ellipsis.
-pub fn names_are_cut_at_characters()
     ensures fits { (most : ℕ) (text : List ℕ) → cut_at most text ≤ most }
     ensures whole { (most : ℕ) (text : List ℕ) → 0 < cut_at most text → begins_character (cut_at most text) text ≡ true }
 {}
 
 /// Columns line up: in each line of a text with as many fields, a cell that others follow is as wide as the widest field of its column,
-/// and two characters more.
+/// and two characters more. No line has more characters than it may, if its fields but the last leave room for one.
 pub fn columns_line_up()
-    ensures { (before : List (List ℕ)) (line : List ℕ) (later : List (List ℕ)) (place : ℕ)
+    ensures cells { (before : List (List ℕ)) (line : List ℕ) (later : List (List ℕ)) (place : ℕ)
         → width (cell (widest (length (fields_of line)) place (before ++ line ∷ later) 0) (field_at line place))
         ≡ widest (length (fields_of line)) place (before ++ line ∷ later) 0 + 2 }
-{}
-
-/// No line has more characters than it may, if its fields but the last leave room for one.
-pub fn a_line_fits()
-    ensures { (most last : ℕ) (before : List (List ℕ)) (line : List ℕ) (later : List (List ℕ))
+    ensures lines { (most last : ℕ) (before : List (List ℕ)) (line : List ℕ) (later : List (List ℕ))
         → last + 1 ≡ length (fields_of line) → 1 ≤ last
         → 1 ≤ room_behind last most (widths (length (fields_of line)) (before ++ line ∷ later))
         → width (cells_to last most (widths (length (fields_of line)) (before ++ line ∷ later)) line) ≤ most }
-{}
-
-/// No name makes a terminal do anything: what is laid out has no control character, of one byte or of two, but tabs and newlines.
-pub fn nothing_is_obeyed()
-    ensures { (text : List ℕ) → IsQuiet 0 (shown text) }
 {}

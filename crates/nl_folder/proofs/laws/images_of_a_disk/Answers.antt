@@ -1,4 +1,4 @@
-use Rattle.nl_folder.proofs.ImageLemmas.{one_prefix_image, prefix-IsImage, whole_lines}
+use Rattle.nl_folder.proofs.ImageLemmas.{one_prefix_image, prefix-IsImage, whole_lines, durable_disk_unique}
 use Rattle.nl_folder.proofs.laws.images_of_a_disk.Goals as goal
 
 pub returns-clause-lines : goal.returns-clause-lines
@@ -9,3 +9,6 @@ returns-clause-prefix c = prefix-IsImage
 
 pub returns-clause-one : goal.returns-clause-one
 returns-clause-one c = one_prefix_image
+
+pub returns-clause-durable : goal.returns-clause-durable
+returns-clause-durable c = durable_disk_unique
