@@ -30,4 +30,4 @@ pub use nl_tool_words::{
 pub use nl_versions::{FirstLine, LogVersion, command_hash_in, first_line_in, version_of};
 pub use notes::{Heard, NotedReader, NotedWriter, Notes};
 pub use program::{Verdict, run, run_at, run_line, run_program};
-pub use reason::{Place, Reason, Refusal, Why, note_of, refusal_of};
+pub use reason::{Place, Reason, Refusal, Why, notes_of, refusal_of};

@@ -8,9 +8,7 @@ ghost use Rattle.nl_tool_words.specs.CommandLine.{entered_of, fault_in};
 use crate::desk::{Desk, Host, NO_SCREEN, Screen};
 use crate::notes::Notes;
 use crate::printing::Printing;
-use crate::reason::{
-    Refusal, Why, again_note, masked_note, note_of, reads_input, refusal_of, unsynced_note,
-};
+use crate::reason::{Note, Refusal, notes_of, reads_input, refusal_of, unsynced_note};
 use clap::Error;
 use clap::error::ErrorKind;
 use nl_table::{NO_SECRET, Secret};
@@ -185,9 +183,11 @@ fn end(rt: &impl Eprint, line: &CommandLine<'_>, answer: ToolResult<Verdict>, no
 {
     match answer {
         Ok(Verdict::Done) => {
-            let (again, missing) = (again_note(line, notes), note_of(line, notes));
-            let (unsynced, masked) = (unsynced_note(line, notes), masked_note(line, notes));
-            for why in [again, missing, unsynced, masked].into_iter().flatten() {
+            let (again, missing, masked) = notes_of(line, notes);
+            for why in [again, missing, unsynced_note(line, notes), masked]
+                .into_iter()
+                .flatten()
+            {
                 let _ = eprintln!(rt; "nlog: {why}");
             }
             DONE
@@ -197,7 +197,7 @@ fn end(rt: &impl Eprint, line: &CommandLine<'_>, answer: ToolResult<Verdict>, no
     }
 }
 
-fn say(rt: &impl Eprint, fault: ToolFault, why: Option<Why<'_>>) -> u8
+fn say(rt: &impl Eprint, fault: ToolFault, why: Note<'_>) -> u8
     ensures { result ≡ 1 }
 {
     let refusal = Refusal { fault, why };

@@ -164,14 +164,14 @@ pub struct Why<'a> {
 }
 
 impl<'a> Why<'a> {
-    fn at(place: Option<Place<'a>>, reason: Reason) -> Option<Why<'a>>
+    fn at(place: Option<Place<'a>>, reason: Reason) -> Note<'a>
         ensures value { IfSome result (λ why. (place.entry ≡ Some why.place) × (why.reason ≡ reason)) }
         ensures whenever { IsSome place.entry → IsSome result }
     {
         place.map(|place| Why { place, reason })
     }
 
-    fn note(is_said: bool, place: Option<Place<'a>>, reason: Reason) -> Option<Why<'a>>
+    fn note(is_said: bool, place: Option<Place<'a>>, reason: Reason) -> Note<'a>
         ensures { IsNote is_said place.entry reason result }
     {
         if is_said {
@@ -190,11 +190,14 @@ impl fmt::Display for Why<'_> {
     }
 }
 
+/// What is said beside an answer, if anything is.
+pub type Note<'a> = Option<Why<'a>>;
+
 /// A refusal as it is said: its fault, and after it what else is to be said of it.
 #[derive(Debug, PartialEq, Eq, Drop)]
 pub struct Refusal<'a> {
     pub fault: ToolFault,
-    pub why: Option<Why<'a>>,
+    pub why: Note<'a>,
 }
 
 impl fmt::Display for Refusal<'_> {
@@ -208,25 +211,25 @@ impl fmt::Display for Refusal<'_> {
     }
 }
 
-/// What is said of a command that was done: that the log was missing, where the command line asks for more.
-pub fn note_of<'a>(line: &CommandLine<'a>, notes: &Notes) -> Option<Why<'a>>
-    ensures { IsNote (line.now.verbose && notes.now.is_missing) (log_place (words_heard line.now.words notes.now.is_second) FileRole.Log)
-        Reason.Missing result }
+/// What is said of a command that was done: that builds were found again of which it told; and where the command line asks for more, that the
+/// log was missing, and that its access control list is gone, if it had one.
+pub fn notes_of<'a>(line: &CommandLine<'a>, notes: &Notes) -> (Note<'a>, Note<'a>, Note<'a>)
+    ensures again { IsNote notes.now.is_again (log_place line.now.words FileRole.Log) Reason.Again result.0 }
+    ensures empty { IsNote (line.now.verbose && notes.now.is_missing) (log_place (words_heard line.now.words notes.now.is_second) FileRole.Log)
+        Reason.Missing result.1 }
+    ensures masked { IsNote (line.now.verbose && notes.now.is_masked) (log_place line.now.words FileRole.Log) Reason.Masked result.2 }
 {
-    let place = log_place(&words_heard(&line.words, notes.is_second), FileRole::Log);
-    Why::note(line.verbose && notes.is_missing, place, Reason::Missing)
-}
-
-/// What is said of a command that was done: that builds were found again of which it told.
-pub fn again_note<'a>(line: &CommandLine<'a>, notes: &Notes) -> Option<Why<'a>>
-    ensures { IsNote notes.now.is_again (log_place line.now.words FileRole.Log) Reason.Again result }
-{
-    let place = log_place(&line.words, FileRole::Log);
-    Why::note(notes.is_again, place, Reason::Again)
+    let log = log_place(&line.words, FileRole::Log);
+    let heard = log_place(&words_heard(&line.words, notes.is_second), FileRole::Log);
+    (
+        Why::note(notes.is_again, log, Reason::Again),
+        Why::note(line.verbose && notes.is_missing, heard, Reason::Missing),
+        Why::note(line.verbose && notes.is_masked, log, Reason::Masked),
+    )
 }
 
 /// What is said of a command that was done in a folder which can't be synced, where the command line asks for more.
-pub fn unsynced_note<'a>(line: &CommandLine<'a>, notes: &Notes) -> Option<Why<'a>>
+pub fn unsynced_note<'a>(line: &CommandLine<'a>, notes: &Notes) -> Note<'a>
     ensures quiet { line.now.verbose ≡ false → result ≡ None }
     ensures none { notes.now.unsynced ≡ None → result ≡ None }
     ensures note { IfSome result (λ why. (log_place line.now.words FileRole.Folder ≡ Some why.place) × IsUnsynced why.reason) }
@@ -238,15 +241,6 @@ pub fn unsynced_note<'a>(line: &CommandLine<'a>, notes: &Notes) -> Option<Why<'a
     let text = format!(in notes.alloc; "{error}").ok()?;
     let place = log_place(&line.words, FileRole::Folder);
     Why::at(place, Reason::Unsynced(text))
-}
-
-/// What is said of a command that was done: that the log's access control list is gone, if it had one, where the command line asks for
-/// more.
-pub fn masked_note<'a>(line: &CommandLine<'a>, notes: &Notes) -> Option<Why<'a>>
-    ensures { IsNote (line.now.verbose && notes.now.is_masked) (log_place line.now.words FileRole.Log) Reason.Masked result }
-{
-    let place = log_place(&line.words, FileRole::Log);
-    Why::note(line.verbose && notes.is_masked, place, Reason::Masked)
 }
 
 /// What is said of a fault of a command: its reason, where it is known, if the command line asks for it, or a person reads it.
@@ -292,7 +286,7 @@ pub fn reads_input(words: &Words<'_>) -> bool
         || matches!(read_place(&words_heard(words, true)), Some(Place::Input))
 }
 
-fn why_of<'a>(words: &Words<'a>, fault: ToolFault, notes: &Notes) -> Option<Why<'a>>
+fn why_of<'a>(words: &Words<'a>, fault: ToolFault, notes: &Notes) -> Note<'a>
     ensures why { IfSome result (IsReasonFor words.now fault notes.now) }
     ensures whenever { fault ≡ ToolFault.BadNumber → HasText words.now notes.now.told.number → IsSome result }
 {
@@ -323,7 +317,7 @@ fn why_of<'a>(words: &Words<'a>, fault: ToolFault, notes: &Notes) -> Option<Why<
 }
 
 // What the system said, or how the file begins that was read.
-fn noted_why<'a>(words: &Words<'a>, fault: ToolFault, notes: &Notes) -> Option<Why<'a>>
+fn noted_why<'a>(words: &Words<'a>, fault: ToolFault, notes: &Notes) -> Note<'a>
     ensures why { IfSome result (IsReasonFor words.now fault notes.now) }
 {
     let alloc = notes.alloc;
@@ -387,7 +381,7 @@ fn number_text<'a>(words: &Words<'a>, which: NumberOf) -> Option<&'a str>
     }
 }
 
-fn said_of<'a>(alloc: Global, place: Option<Place<'a>>, error: io::Error) -> Option<Why<'a>>
+fn said_of<'a>(alloc: Global, place: Option<Place<'a>>, error: io::Error) -> Note<'a>
     ensures { IfSome result (λ why. (place.entry ≡ Some why.place) × IsSystem why.reason) }
 {
     Why::at(place, Reason::System(format!(in alloc; "{error}").ok()?))
