@@ -36,12 +36,12 @@ pub fn chosen(scope: Scope, from: &Builds) -> Option<Choice>
         Scope::Last => last_number(from),
         Scope::Numbered(number) if number > count as u64 => return None,
         Scope::Numbered(number) => number as usize,
-        Scope::All => count,
+        Scope::All => return Some(Choice {
+            first: 1,
+            last: count,
+        }),
     };
-    let first = match scope {
-        Scope::Last | Scope::Numbered(_) => last.max(1),
-        Scope::All => 1,
-    };
+    let first = last.max(1);
     Some(Choice { first, last })
 }
 

@@ -91,10 +91,8 @@ pub(crate) fn job_of<'s, 'a>(
 pub(crate) fn commands_to(count: usize, builds: &[Build]) -> usize
     ensures { result ≡ commands_to count builds.now }
 {
-    if count == 0 {
-        return 0;
-    }
-    builds.get(count - 1).map_or(0, |build| build.to)
+    let last = count.checked_sub(1).and_then(|at| builds.get(at));
+    last.map_or(0, |build| build.to)
 }
 
 /// How many entries the commands of so many builds have.

@@ -138,12 +138,11 @@ fn planned_jobs<'s, 'a>(alloc: Global, jobs: &[Job<'s, 'a>], there: &[u64]) -> J
     ensures value { IfOk result (λ plan. map kept (map seen plan.items) ≡ map kept (map seen jobs.now)) }
 {
     let mut plan = Vec::with_capacity(alloc, jobs.len())?;
-    for place in 0..jobs.len() {
-        let job = jobs[place];
+    for (place, job) in jobs.iter().enumerate() {
         let began = item_at(there, place, 0).saturating_sub(job.span.time());
         let ended = began.checked_add(job.span.time()).ok_or(AllocError)?;
         let span = Span { began, ended };
-        plan.push(Job { span, ..job })?;
+        plan.push(Job { span, ..*job })?;
     }
     Ok(plan)
 }

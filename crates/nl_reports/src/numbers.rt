@@ -57,9 +57,5 @@ pub(crate) fn spans_in(alloc: Global, commands: &[Command]) -> AllocResult<Vec<S
     ensures value { IfOk result (λ spans. spans.items ≡ map span_of commands.now) }
     ensures early { IfOk result (λ spans. All IsEarly spans.items) }
 {
-    let mut spans = Vec::with_capacity(alloc, commands.len())?;
-    for command in commands {
-        spans.push(Span::of(command))?;
-    }
-    Ok(spans)
+    commands.iter().map(|it| Span::of(it)).collect(alloc)
 }
