@@ -14,12 +14,13 @@ use crate::last_entries::item_at;
 use crate::moments::Moments;
 use crate::numbers::spans_of;
 use crate::summary::taken_in;
+use crate::trace::FULL;
 use crate::work::{Times, Work, place, word};
 use nl_builds::Builds;
 use nl_table::Secret;
 use nl_tool_texts::{
     AllocResult, Part, Ranking, ToolFault, ToolResult, append, append_label, highest, put,
-    write_full, write_rest,
+    write_full, write_out,
 };
 use std::alloc::Global;
 use std::io::Write;
@@ -113,16 +114,16 @@ fn write_jobs<W: Write>(
     let mut shorts = none_short(alloc, frame.top)?;
     for i in 0..jobs.len() {
         append_bar(&frame, &jobs[i], lanes[i], &mut shorts, &mut held)?;
-        write_full(&mut held, writer)?;
+        write_full(FULL, &mut held, writer)?;
     }
     // The bars of short commands that aren't drawn yet, lane by lane.
     let shorts = shorts.as_slice();
     for lane in 0..shorts.len() {
         append_short(&frame, lane as u64, &shorts[lane], &mut held)?;
-        write_full(&mut held, writer)?;
+        write_full(FULL, &mut held, writer)?;
     }
     append(end.as_slice(), &mut held)?;
-    write_rest(held, writer)
+    write_out(held.as_slice(), writer)
 }
 
 fn append_start(frame: &Frame, known: Known, jobs: &[Job], out: &mut Vec<u8>) -> AllocResult

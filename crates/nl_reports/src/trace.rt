@@ -16,10 +16,12 @@ use nl_builds::{Builds, How};
 use nl_fields::append_hex64;
 use nl_tool_texts::{
     AllocResult, Part, ToolResult, append, append_with, is_bare, put, write_full, write_out,
-    write_rest,
 };
 use std::alloc::Global;
 use std::io::Write;
+
+// So many bytes of a text are held before they are written.
+pub(crate) const FULL: usize = 16_384;
 
 /// Writes what builds did, one after another on one clock, as the events of a trace: a JSON array. Each command has a lane, in which no other
 /// runs as it does, and all its outputs; and it is told how many run as it begins and as it has ended. The text is written as it is made, so
@@ -72,10 +74,10 @@ fn write_commands<W: Write>(
         append_command(build, lane, job, &mut held)?;
         append_running(build, moments, &mut by_start, job.span.began, &mut held)?;
         append_running(build, moments, &mut by_end, job.span.closed(), &mut held)?;
-        write_full(&mut held, writer)?;
+        write_full(FULL, &mut held, writer)?;
     }
     append(b"]", &mut held)?;
-    write_rest(held, writer)
+    write_out(held.as_slice(), writer)
 }
 
 fn number_in(scope: Scope, from: &Builds) -> u64

@@ -97,13 +97,6 @@ not_read columns (Summary scope lists graph) IsText old new e kept = not_printed
 not_read columns (Trace scope) IsText old new e kept = not_in_pieces IsText old new e kept
 not_read columns (Picture scope graph) IsText old new e kept = not_in_pieces IsText old new e kept
 
--- what was read so far is none of a log, so nothing that follows makes it one
-pub refused_by : (known left : Option (List ℕ)) (read : List ℕ) → Consumes known left read
-    → ((more : List ℕ) → log_of (as_five (read ++ more)) ≡ NotALog) → IfSome known (λ bs. log_of (as_five bs) ≡ NotALog)
-refused_by None left read consumed none = tt
-refused_by (Some bs) None read consumed none = absurd consumed
-refused_by (Some bs) (Some more) read consumed none = subst (λ l. log_of (as_five l) ≡ NotALog) (sym consumed) (none more)
-
 -- ---- which faults
 
 pub as_log : (fault : ToolFault) → IsWriteFault fault → IsLogFault fault

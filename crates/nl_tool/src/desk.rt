@@ -1,21 +1,20 @@
 //! What a command is done with, the screen before which it is done, and the files that it reads: of a log or of a graph that is told of,
 //! all bytes are read before.
-ghost use Rattle.std.specs.Prelude.{◌≡◌, ◌&&◌, false, not, is_some, IfErr, IfOk, IfSome, IsErr, IsErrOf, IsSome};
+ghost use Rattle.std.specs.Prelude.{◌≡◌, ◌&&◌, false, not, is_some, IfErr, IfOk, IsErr, IsSome};
 ghost use Rattle.nl_files.specs.FileFolder.{system_of};
 ghost use Rattle.nl_os.specs.{OsSystem.{is_masked, paths_of, unsynced_of}, Paths.{ArePathsOf}};
-ghost use Rattle.nl_table.specs.Log.{NotALog, log_of};
 ghost use Rattle.nl_tool_print.specs.Faults.{IsLogFault};
 ghost use Rattle.nl_tool_texts.specs.{Files.{OfBytes}, declared.fault.ToolFault.{ToolFault}};
-ghost use Rattle.nl_versions.specs.VersionOf.{as_five};
 ghost use Rattle.nl_tool.specs.VersionChoice.{asked_in, number_of};
 
 use crate::notes::{NotedReader, Notes};
 use crate::numbers::positive_of;
 use either::{Either, Left, Right};
-use nl_builds::may_be_log;
+use nl_lines::ReadSource;
 use nl_os::{DiskFolder, SystemFile, Telling, Waiting};
 use nl_table::Secret;
 use nl_tool_change::AskedFolder;
+use nl_tool_print::read_all;
 use nl_tool_texts::{ToolFault, ToolResult};
 use nl_tool_words::{AskedVersion, CommandLine, Words};
 use nl_versions::LogVersion;
@@ -176,7 +175,7 @@ impl<'r, R: Runtime> Desk<'r, R> {
     {
         let reader = Telling::new(self.rt, is_log && self.notes.screen.errors, reader);
         let reader = NotedReader::new(reader, &mut self.notes.heard);
-        read_bytes(self.notes.alloc, is_log, reader)
+        Ok(read_all(self.notes.alloc, is_log, &mut ReadSource::new(reader))?)
     }
 
     // It is the second file, and read before the log.
@@ -230,32 +229,6 @@ impl<'r, R: Files<File: SystemFile> + Clock + Eprint> Desk<'r, R> {
             folder: DiskFolder::new(waiting, self.notes.alloc, log)?,
         })
     }
-}
-
-// Bytes of one read.
-const PIECE: usize = 65_536;
-
-// It refuses a log as soon as the first bytes begin none. A read that was interrupted has failed.
-fn read_bytes<R: Read + Drop>(alloc: Global, is_log: bool, reader: R) -> ToolResult<Vec<u8>>
-    ensures value { IfOk result (λ all. OfBytes (R.remaining reader) (λ bytes. bytes ≡ all.items)) }
-    ensures not_a_log { IsErrOf result ToolFault.NotALog → IfSome (R.remaining reader) (λ bs. log_of (as_five bs) ≡ NotALog) }
-    ensures faults { IfErr result IsLogFault }
-{
-    let mut reader = reader;
-    let mut piece = Vec::new(alloc);
-    piece.resize(PIECE, 0)?;
-    let mut all = Vec::new(alloc);
-    for _ in 0..u64::MAX {
-        if is_log && !may_be_log(all.as_slice()) {
-            return Err(ToolFault::NotALog);
-        }
-        match reader.read(piece.as_mut_slice()) {
-            Ok(0) => return Ok(all),
-            Ok(n) => all.extend_from_slice(&piece[..n])?,
-            Err(_) => return Err(ToolFault::Read),
-        }
-    }
-    Err(ToolFault::Read)
 }
 
 /// Keeps why calls of a folder failed. If the file isn't taken for a log, its beginning is kept too, because the reason names it.

@@ -43,7 +43,7 @@ pub fn read_log<F: Folder>(alloc: Global, folder: F) -> (F, ToolResult<Vec<u8>>)
 {
     let mut reader = LogReader::new(folder);
     reader.begin_load();
-    let read = read_all(alloc, &mut reader).map_err(|why| of_log_fault(why.into()));
+    let read = read_all(alloc, false, &mut reader).map_err(|why| of_log_fault(why.into()));
     (reader.folder, read)
 }
 

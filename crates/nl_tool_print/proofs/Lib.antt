@@ -4,3 +4,4 @@ mod DamageLemmas
 mod EntryLemmas
 mod StreamLemmas
 mod AnyVersionLemmas
+mod HashLemmas

@@ -8,30 +8,8 @@ use Rattle.nl_lines.specs.Split.{joined}
 use Rattle.std.specs.Io.KnownBytes.{Appends}
 use Rattle.std.proofs.KnownBytes.{Appends-nil, Appends-trans}
 use Rattle.nl_tool_texts.specs.Output.{AppendsPrefixOf}
-use Rattle.nl_tool_print.specs.Output.{HoldsAllBut, report_lines}
-
--- a text was written where the rest that was held is written
-pub all_moved : (old mid new : Option (List ℕ)) (text held : List ℕ) → HoldsAllBut old mid text held → Appends mid new held
-    → Appends old new text
-all_moved old mid new text held moves appends = rw (moves.is) (Appends-trans old mid new moves.written held moves.appended appends)
-
--- what is held is moved on
-pub moved_on : (old mid new : Option (List ℕ)) (text held left : List ℕ) → HoldsAllBut old mid text held → HoldsAllBut mid new held left
-    → HoldsAllBut old new text left
-moved_on old mid new text held left first next = record {
-  written = first.written ++ next.written;
-  is = first.is ∙ ap (λ rest. first.written ++ rest) next.is ∙ sym (append_assoc first.written next.written left);
-  appended = Appends-trans old mid new first.written next.written first.appended next.appended;
-}
-
--- a line more is held
-pub held_more : (old new : Option (List ℕ)) (text held line : List ℕ) → HoldsAllBut old new text held
-    → HoldsAllBut old new (text ++ line) (held ++ line)
-held_more old new text held line moves = record {
-  written = moves.written;
-  is = ap (λ front. front ++ line) moves.is ∙ append_assoc moves.written held line;
-  appended = moves.appended;
-}
+use Rattle.nl_tool_texts.specs.Writing.{HoldsAllBut}
+use Rattle.nl_tool_print.specs.Output.{report_lines}
 
 -- nothing is held of nothing
 pub nothing_moved : (known : Option (List ℕ)) → HoldsAllBut known known [] []

@@ -9,12 +9,6 @@ use Rattle.nl_table.specs.Due.{is_due}
 use Rattle.nl_table.specs.History.{logged, table}
 use Rattle.nl_table.specs.Log.{LogReading, Log, NotALog, OtherVersion, log_of, skipped_count}
 
--- known bytes grew by a prefix of the text, and the rest is held
-pub record HoldsAllBut (old new : Option (List ℕ)) (text held : List ℕ) : Type 0 where
-  pub written : List ℕ
-  pub is : text ≡ written ++ held
-  pub appended : Appends old new written
-
 -- a hash in its one spelling, and a newline
 pub record IsHashText (command text : List ℕ) : Type 0 where
   pub hash : ℕ

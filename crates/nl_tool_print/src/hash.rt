@@ -1,10 +1,12 @@
 //! The commands `hash` and `hash-file`.
-ghost use Rattle.std.specs.Prelude.{◌≡◌, ◌≤◌, ◌⊎◌, IfErr, IfOk, IfSome, IsErrOf};
+ghost use Rattle.std.specs.Prelude.{◌≡◌, ◌≤◌, ◌⊎◌, true, IfErr, IfOk, IfSome, IsErrOf};
 ghost use Rattle.nl_lines.specs.Source.{FailedBetween};
-ghost use Rattle.nl_table.specs.declared.loader.LoadFault.{LoadFault};
+ghost use Rattle.nl_table.specs.{Log.{NotALog, log_of}, declared.loader.LoadFault.{LoadFault}};
+ghost use Rattle.nl_versions.specs.VersionOf.{as_five};
 ghost use Rattle.nl_tool_print.specs.{Faults.{IsHashFault, IsHashFileFault}, Output.{IsHashText}, Versions.{IsFileHashAs, hash_text_as}};
 ghost use Rattle.nl_tool_texts.specs.Output.{Prints};
 
+use nl_builds::may_be_log;
 use nl_fields::append_hex64;
 use nl_lines::{ReadSource, Source};
 use nl_table::LoadFault;
@@ -50,15 +52,20 @@ pub fn hash_read<R: Read + Drop, W: Write>(
     ensures prints { Prints (IsFileHashAs version (R.remaining reader)) (W.contents writer.old) (W.contents writer.new) result }
     ensures faults { IfErr result IsHashFileFault }
 {
-    let command = read_all(alloc, &mut ReadSource::new(reader))?;
+    let command = read_all(alloc, false, &mut ReadSource::new(reader))?;
     hash_for(alloc, version, command.as_slice(), writer)
 }
 
-/// All that the source has left. It takes the memory of that.
-pub fn read_all<S: Source>(alloc: Global, source: &mut S) -> Result<Vec<u8>, LoadFault>
+/// All that the source has left. It refuses a log as soon as the first bytes begin none. It takes the memory of what it has read.
+pub fn read_all<S: Source>(
+    alloc: Global,
+    is_log: bool,
+    source: &mut S,
+) -> Result<Vec<u8>, LoadFault>
     ensures value { IfOk result (λ all. IfSome (S.ahead source.old) (λ bytes. bytes ≡ all.items)) }
     ensures cause { IsErrOf result LoadFault.Read → FailedBetween (S.failures source.old) (S.failures source.new) }
-    ensures refusals { IfErr result (λ why. (why ≡ LoadFault.Read) ⊎ (why ≡ LoadFault.OutOfMemory)) }
+    ensures not_a_log { IsErrOf result LoadFault.NotALog → IfSome (S.ahead source.old) (λ bs. log_of (as_five bs) ≡ NotALog) }
+    ensures refusals { IfErr result (λ why. (why ≡ LoadFault.Read) ⊎ (why ≡ LoadFault.OutOfMemory) ⊎ ((why ≡ LoadFault.NotALog) × (is_log ≡ true))) }
     ensures rises { S.failures source.old ≤ S.failures source.new }
     ensures relation { S.keeps source.old source.new }
 {
@@ -66,6 +73,9 @@ pub fn read_all<S: Source>(alloc: Global, source: &mut S) -> Result<Vec<u8>, Loa
     piece.resize(PIECE, 0)?;
     let mut all = Vec::new(alloc);
     'pieces: for _ in 0..u64::MAX {
+        if is_log && !may_be_log(all.as_slice()) {
+            return Err(LoadFault::NotALog);
+        }
         match source.read_some(piece.as_mut_slice()) {
             Ok(0) => return Ok(all),
             Ok(n) => all.extend_from_slice(&piece[..n])?,

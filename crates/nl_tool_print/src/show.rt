@@ -1,16 +1,16 @@
 //! The command `show`, and the load of a log.
-ghost use Rattle.std.specs.{Prelude.{◌≡◌, ◌+◌, ◌≤◌, [], map, vec_len, vec_capacity, IfErr, IfOk, IsErrOf, OnErr, OnOk}, Io.KnownBytes.{Appends}};
+ghost use Rattle.std.specs.{Prelude.{◌≡◌, ◌≤◌, [], map, vec_capacity, IfErr, IfOk, IsErrOf, OnErr, OnOk}, Io.KnownBytes.{Appends}};
 ghost use Rattle.nl_fields.specs.EntryLine.{line_of};
 ghost use Rattle.nl_lines.specs.Split.{joined};
 ghost use Rattle.nl_table.specs.Log.{log_of};
-ghost use Rattle.nl_tool_print.specs.{Faults.{IfNotALog, IfOtherVersion, IsLogFault}, Output.{IsTextAsRead, HoldsAllBut, show_text_of}, Versions.{show_text_for}};
+ghost use Rattle.nl_tool_print.specs.{Faults.{IfNotALog, IfOtherVersion, IsLogFault}, Output.{IsTextAsRead, show_text_of}, Versions.{show_text_for}};
 ghost use Rattle.nl_tool_texts.specs.{Output.{AppendsPrefixOf, Prints}, declared.fault.ToolFault.{ToolFault}};
 ghost use Rattle.nl_versions.specs.{Loading.{IsLoadFor}, LogAs.{log_for}};
 
 use nl_fields::{MAX_ENTRY_LINE, append_entry};
 use nl_lines::ReadSource;
 use nl_table::{Loaded, NO_SECRET, Secret, Table};
-use nl_tool_texts::{ToolResult, write_out};
+use nl_tool_texts::{ToolResult, write_full, write_out};
 use nl_versions::{LogVersion, load_seen};
 use std::alloc::Global;
 use std::io::{Read, Write};
@@ -58,27 +58,11 @@ pub fn write_lines<W: Write>(table: &Table, piece: &mut Vec<u8>, writer: &mut W)
 {
     for place in 0..table.len() {
         if let Some(entry) = table.at(place) {
-            make_room(piece, writer)?;
+            write_full(piece.capacity() - MAX_ENTRY_LINE, piece, writer)?;
             append_entry(&entry, piece).unwrap();
         }
     }
     write_out(piece.as_slice(), writer)
-}
-
-pub fn make_room<W: Write>(held: &mut Vec<u8>, writer: &mut W) -> ToolResult
-    requires { MAX_ENTRY_LINE ≤ vec_capacity held.old }
-    ensures room { OnOk result (vec_len held.new + MAX_ENTRY_LINE ≤ vec_capacity held.new) }
-    ensures capacity { vec_capacity held.old ≤ vec_capacity held.new }
-    ensures moved { OnOk result (HoldsAllBut (W.contents writer.old) (W.contents writer.new) held.old.items held.new.items) }
-    ensures prefix { OnErr result (AppendsPrefixOf (W.contents writer.old) (W.contents writer.new) held.old.items) }
-    ensures faults { IfErr result (λ e. e ≡ ToolFault.Write) }
-{
-    if held.capacity() - held.len() >= MAX_ENTRY_LINE {
-        return Ok(());
-    }
-    write_out(held.as_slice(), writer)?;
-    held.clear();
-    Ok(())
 }
 
 /// Loads the bytes that the reader has left as a log of the version that is asked for, or else of the one that their first line names.

@@ -12,17 +12,15 @@ mod output;
 mod ranking;
 mod shown;
 mod text;
-mod writing;
 
 pub use columns::{in_columns, lines_of};
 pub use escape::{append_cut_name, append_label};
 pub use fault::{ToolFault, ToolResult, status_of};
 pub use fraction::{percent, ratio};
 pub use graph_line::{Line, line_in};
-pub use output::write_out;
+pub use output::{write_full, write_out};
 pub use ranking::{Ranking, falling, highest};
 pub use shown::append_number;
 pub use text::{
     AllocResult, BEGINNING, Part, append, append_line, append_parts, append_with, is_bare,
 };
-pub use writing::{write_full, write_rest};

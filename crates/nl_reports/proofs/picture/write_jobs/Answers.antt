@@ -12,7 +12,7 @@ use Rattle.nl_tool_texts.specs.Writing.{HoldsAllBut}
 use Rattle.nl_reports.proofs.DrawLemmas.{bars_held, bars_over, end_absent, end_held, end_some, none_drawn, picture_is, shorts_held}
 use Rattle.nl_reports.proofs.LaneLemmas.{lanes_length}
 use Rattle.nl_tool_texts.proofs.TextLemmas.{two_parts}
-use Rattle.nl_tool_texts.proofs.WritingLemmas.{all_held, err_writes, part_on, rest_written, some_of, then_moved}
+use Rattle.nl_tool_texts.proofs.WritingLemmas.{all_held, err_writes, out_writes, part_on, rest_written, some_of, then_moved}
 use Rattle.nl_reports.proofs.picture.write_jobs.Goals as goal
 
 pub returns-in_err-spans-clause-writes : goal.returns-in_err-spans-clause-writes
@@ -161,8 +161,9 @@ returns-clause-writes g c =
     let all : length shorts ≤ lane = omega (arith, c.loop-lane-test.false) in
     let over = subst (λ (l : List ℕ). HoldsAllBut (g.W.Write.contents c.args.writer.now) (g.W.Write.contents c.loop-lane.writer) inv.text l)
     (ap (λ (l : List ℕ). held ++ l) (at_drop_all (short_bars f lane) shorts lane all) ∙ append-nil held) inv.holds in
-    rest_written _ _ _ _ _ c.write_rest.result (end_held _ _ _ _ _ _ _ inv.is (c.in_ok-append-2.ensures.items
-    ∙ ap (λ (l : List ℕ). held ++ l) c.as_slice-5.ensures.value) over) c.write_rest.ensures.writes
+    rest_written _ _ _ _ _ c.write_out.result (rw c.as_slice-6.ensures.value (end_held _ _ _ _ _ _ _ inv.is (c.in_ok-append-2.ensures.items
+    ∙ ap (λ (l : List ℕ). held ++ l) c.as_slice-5.ensures.value) over))
+    (out_writes _ _ _ c.write_out.result c.write_out.ensures.ok c.write_out.ensures.prefix)
 
 pub returns-in_err-write_full-clause-faults : goal.returns-in_err-write_full-clause-faults
 returns-in_err-write_full-clause-faults g c = search rules

@@ -3,7 +3,7 @@ use Rattle.nl_reports.specs.Jobs.{seen}
 use Rattle.nl_reports.specs.Trace.{behind_commas, commands_text, events_of}
 use Rattle.nl_tool_texts.specs.Writing.{HoldsAllBut}
 use Rattle.nl_reports.proofs.TraceLemmas.{end_some, three_more, told_next}
-use Rattle.nl_tool_texts.proofs.WritingLemmas.{all_held, err_writes, is_part, more_held, part_on, rest_written, then_moved}
+use Rattle.nl_tool_texts.proofs.WritingLemmas.{all_held, err_writes, is_part, more_held, out_writes, part_on, rest_written, then_moved}
 use Rattle.std.proofs.lemmas.List.{get_or_default, length-map}
 use Rattle.nl_reports.specs.Rows.{spans}
 use Rattle.nl_reports.proofs.LaneLemmas.{lane_below, lanes_length}
@@ -78,6 +78,7 @@ returns-clause-writes g c =
     let b = c.args.build in
     let all : length ks ≤ c.loop-i.i = omega (arith, c.loop-i-test.false) in
     let over = ap behind_commas (pairs_done (flat_map (events_of b (spans js))) ks ls c.loop-i.i all) in
-    rest_written _ _ _ _ _ c.write_rest.result (rw c.in_ok-append.ensures.items (subst (λ (l : List ℕ). HoldsAllBut (g.W.Write.contents c.args.writer.now)
+    rest_written _ _ _ _ _ c.write_out.result (rw (c.as_slice.ensures.value, c.in_ok-append.ensures.items) (subst (λ (l : List ℕ). HoldsAllBut (g.W.Write.contents c.args.writer.now)
     (g.W.Write.contents c.loop-i.writer) (c.args.held.items ++ commands_text b js ls) (c.loop-i.held.items ++ (l ++ 93 ∷ []))) over
-    c.loop-i.invariant)) c.write_rest.ensures.writes
+    c.loop-i.invariant))
+    (out_writes _ _ _ c.write_out.result c.write_out.ensures.ok c.write_out.ensures.prefix)

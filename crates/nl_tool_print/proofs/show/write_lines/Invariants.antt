@@ -2,7 +2,7 @@ use Rattle.std.proofs.Common.{◌≤◌, map, take, vec_capacity}
 use Rattle.nl_fields.specs.EntryLine.{line_of}
 use Rattle.nl_fields.specs.Limits.{max_entry_line}
 use Rattle.nl_lines.specs.Split.{joined}
-use Rattle.nl_tool_print.specs.Output.{HoldsAllBut}
+use Rattle.nl_tool_texts.specs.Writing.{HoldsAllBut}
 use Rattle.nl_tool_print.proofs.show.write_lines.Given as goal
 
 -- of the lines of the entries before the place, a prefix is written and the rest is held
