@@ -1,6 +1,9 @@
 -- What is said after a refusal where `--verbose` asks for it: docs/CLI.md, "Why something was refused".
-use Rattle.std.specs.Prelude.{⊤, ◌≡◌, ◌⊎◌, ◌++◌, IsSome, IsSomeAnd, [], List, ℕ, Option, None, Some, IfSome, codes, decimal, string_bytes, ◌||◌, Bool, true, false, bytes_eq, length, if◌then◌else◌}
+use Rattle.std.specs.Prelude.{⊤, ◌≡◌, ◌≢◌, pos, ◌⊎◌, ◌++◌, IsSome, IsSomeAnd, [], List, ℕ, Option, None, Some, IfSome, codes, decimal, string_bytes, ◌||◌, Bool, true, false, bytes_eq, length, if◌then◌else◌}
 use Rattle.std.specs.Borrow.{Bor}
+use Rattle.std.specs.IoError.{error_kind, raw_os_error}
+use Rattle.std.specs.declared.io.Error.{Error}
+use Rattle.std.specs.declared.io.ErrorKind.TheVariants.{WouldBlock}
 use Rattle.nl_os.specs.Paths.{folder_path_of}
 use Rattle.nl_os.specs.declared.failed_call.FileRole.{FileRole}
 use Rattle.nl_os.specs.declared.failed_call.FileRole.TheVariants as file
@@ -169,9 +172,14 @@ words_for fault words is_second = words_heard words is_second
 -- the reason is what the system said
 abbrev pub IsSystem : Reason → Type 0
 IsSystem (System text) = ⊤
-IsSystem (Full text) = ⊤
-IsSystem (Locked text) = ⊤
 IsSystem _ = ⊥
+
+-- what is said of a folder's error: the disk has no room, another holds the lock, or else what the system says
+abbrev pub IsSaidOf : Error → Reason → Type 0
+IsSaidOf error (Full text) = raw_os_error error ≡ Some (pos 28)
+IsSaidOf error (Locked text) = error_kind error ≡ WouldBlock
+IsSaidOf error (System text) = (raw_os_error error ≢ Some (pos 28)) × (error_kind error ≢ WouldBlock)
+IsSaidOf error _ = ⊥
 
 abbrev pub IsVersion : Reason → Type 0
 IsVersion (Version version) = ⊤
@@ -235,7 +243,7 @@ IsReasonFor words fault.Read notes why =
     ((read_place words ≡ Some why.place) ⊎ IsSomeAnd notes.folder (λ failure. log_place words failure.file ≡ Some why.place)) × IsSystem why.reason
 IsReasonFor words fault.Write notes why = (why.place ≡ at.Output) × IsSystem why.reason
 IsReasonFor words fault.Folder notes why =
-    IfSome notes.folder (λ failure. log_place words failure.file ≡ Some why.place) × IsSystem why.reason
+    IfSome notes.folder (λ failure. (log_place words failure.file ≡ Some why.place) × IsSaidOf failure.error why.reason)
 IsReasonFor words (fault.BadLine number) notes why = (read_place words ≡ Some why.place) × IsLine number why.reason
 IsReasonFor words (fault.NegativeTime place) notes why = (read_place words ≡ Some why.place) × IsNegative why.reason
 IsReasonFor words fault.OtherVersion notes why = (log_place words file.Log ≡ Some why.place) × IsVersion why.reason
