@@ -339,7 +339,8 @@ class Differ:
             if file is not None and project.has_inner and not is_same:
                 for it in sides:
                     it.run(["-t", "recompact"])
-            difference = self.compare(sides, words, answers, answers[1][0] != 0 or project.has_inner and not is_same)
+            is_rewritten = not is_same and (project.has_inner or any(edge[0] == "nested" for edge in project.edges))
+            difference = self.compare(sides, words, answers, answers[1][0] != 0 or is_rewritten)
             if not difference and not self.is_over and sides[0].is_due != sides[1].is_due:
                 return run("-t", "recompact")
             return difference
