@@ -1,5 +1,5 @@
 -- What is said after a refusal where `--verbose` asks for it: docs/CLI.md, "Why something was refused".
-use Rattle.std.specs.Prelude.{⊤, ◌≡◌, ◌≢◌, pos, ◌⊎◌, ◌++◌, IsSome, IsSomeAnd, [], List, ℕ, Option, None, Some, IfSome, codes, decimal, string_bytes, ◌||◌, Bool, true, false, bytes_eq, length, if◌then◌else◌}
+use Rattle.std.specs.Prelude.{⊤, ◌≡◌, ◌≢◌, pos, ◌⊎◌, ◌++◌, IsSome, IsSomeAnd, [], List, ℕ, Option, None, Some, IfSome, codes, decimal, string_bytes, ◌||◌, Bool, true, false, bytes_eq, length, ◌∷◌, if◌then◌else◌}
 use Rattle.std.specs.Borrow.{Bor}
 use Rattle.std.specs.IoError.{error_kind, raw_os_error}
 use Rattle.std.specs.declared.io.Error.{Error}
@@ -181,13 +181,17 @@ IsSaidOf error (Locked text) = error_kind error ≡ WouldBlock
 IsSaidOf error (System text) = (raw_os_error error ≢ Some (pos 28)) × (error_kind error ≢ WouldBlock)
 IsSaidOf error _ = ⊥
 
-abbrev pub IsVersion : Reason → Type 0
-IsVersion (Version version) = ⊤
-IsVersion _ = ⊥
-
 -- how the file begins that was read last
 abbrev pub heard_of : Notes → List ℕ
 heard_of notes = notes.heard.beginning.items
+
+-- the first line names the version of these digits, and ends behind them
+abbrev pub NamesVersion : List ℕ → List ℕ → Type 0
+NamesVersion bytes digits = (more : List ℕ) × (bytes ≡ codes "# ninja log v" ++ (digits ++ 10 ∷ more))
+
+abbrev pub IsVersion : List ℕ → Reason → Type 0
+IsVersion bytes (Version version) = NamesVersion bytes (string_bytes version)
+IsVersion bytes _ = ⊥
 
 -- the reason is what a file looks like that begins so, or else its first bytes
 abbrev pub IsLookAt : List ℕ → Reason → Type 0
@@ -246,7 +250,7 @@ IsReasonFor words fault.Folder notes why =
     IfSome notes.folder (λ failure. (log_place words failure.file ≡ Some why.place) × IsSaidOf failure.error why.reason)
 IsReasonFor words (fault.BadLine number) notes why = (read_place words ≡ Some why.place) × IsLine number why.reason
 IsReasonFor words (fault.NegativeTime place) notes why = (read_place words ≡ Some why.place) × IsNegative why.reason
-IsReasonFor words fault.OtherVersion notes why = (log_place words file.Log ≡ Some why.place) × IsVersion why.reason
+IsReasonFor words fault.OtherVersion notes why = (log_place words file.Log ≡ Some why.place) × IsVersion (heard_of notes) why.reason
 IsReasonFor words fault.NotALog notes why = (log_place words file.Log ≡ Some why.place) × IsLookAt (heard_of notes) why.reason
 IsReasonFor words fault.BadNumber notes why = IsSomeAnd notes.told.number (λ bad. TellsNumber words bad why)
 IsReasonFor words fault.EmptyName notes why = (why.place ≡ at.Name) × (why.reason ≡ NoBytes)

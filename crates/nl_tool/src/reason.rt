@@ -2,7 +2,7 @@
 ghost use Rattle.std.specs.Prelude.{◌≡◌, ◌&&◌, None, Some, IfSome, IsSome, false, true};
 ghost use Rattle.nl_os.specs.declared.failed_call.FileRole.{FileRole};
 ghost use Rattle.nl_tool_texts.specs.declared.fault.ToolFault.{ToolFault};
-ghost use Rattle.nl_tool.specs.{declared.reason.Place.{Place}, declared.reason.Reason.{Reason}, Reasons.{HasText, IsNote, IsReasonFor, IsSystem, IsUnsynced, log_place, mended_place, number_text, place_text, read_place, reads_input, reason_text, refusal_text, why_text, words_for, words_heard}};
+ghost use Rattle.nl_tool.specs.{declared.reason.Place.{Place}, declared.reason.Reason.{Reason}, Reasons.{HasText, IsNote, IsReasonFor, IsSystem, IsUnsynced, NamesVersion, log_place, mended_place, number_text, place_text, read_place, reads_input, reason_text, refusal_text, why_text, words_for, words_heard}};
 
 use crate::notes::Notes;
 use nl_os::{Failure, FileRole, Look, escaped_of, folder_part, look_of};
@@ -387,7 +387,9 @@ fn said_of<'a>(alloc: Global, place: Option<Place<'a>>, error: io::Error) -> Not
     Why::at(place, Reason::System(format!(in alloc; "{error}").ok()?))
 }
 
-fn named_version(beginning: &[u8]) -> Option<&[u8]> {
+fn named_version(beginning: &[u8]) -> Option<&[u8]>
+    ensures { IfSome result (λ digits. NamesVersion beginning.now digits.now) }
+{
     let rest = beginning.strip_prefix(b"# ninja log v")?;
     let end = rest.iter().position(|byte| *byte == b'\n')?;
     let version = &rest[..end];
