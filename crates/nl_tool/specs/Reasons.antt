@@ -1,5 +1,5 @@
 -- What is said after a refusal where `--verbose` asks for it: docs/CLI.md, "Why something was refused".
-use Rattle.std.specs.Prelude.{⊤, ◌≡◌, ◌≢◌, pos, ◌⊎◌, ◌++◌, IsSome, IsSomeAnd, [], List, ℕ, Option, None, Some, IfSome, codes, decimal, string_bytes, ◌||◌, Bool, true, false, bytes_eq, length, ◌∷◌, if◌then◌else◌}
+use Rattle.std.specs.Prelude.{⊤, ◌≡◌, ◌≢◌, pos, ◌⊎◌, ◌++◌, IsSome, IsSomeAnd, [], List, ℕ, Option, None, Some, IfSome, codes, decimal, string_bytes, ◌||◌, Bool, true, false, bytes_eq, length, flat_map, ◌∷◌, if◌then◌else◌}
 use Rattle.std.specs.Borrow.{Bor}
 use Rattle.std.specs.IoError.{error_kind, raw_os_error}
 use Rattle.std.specs.declared.io.Error.{Error}
@@ -20,7 +20,7 @@ use Rattle.nl_tool.specs.declared.reason.Place.TheVariants as at
 use Rattle.nl_tool.specs.declared.reason.Reason.{Reason}
 use Rattle.nl_tool.specs.declared.reason.Reason.TheVariants.{System, Full, Locked, Unsynced, Masked, Missing, Again, Line, Negative, Early, Version, Looks, Begins, Number, OtherBuild, NoBytes, Tab, Newline, Long}
 use Rattle.nl_tool.specs.declared.notes.Notes.{Notes}
-use Rattle.nl_os.specs.Looks.{look_of, look_text, start_text}
+use Rattle.nl_os.specs.Looks.{escaped, look_of, look_text, start_text}
 use Rattle.nl_tool_change.specs.LineFaults.{line_fault_text, number_fault_text, number_name}
 use Rattle.nl_tool_change.specs.declared.line_fault.NumberOf.{NumberOf}
 use Rattle.nl_tool_change.specs.declared.line_fault.NumberOf.TheVariants as numbered
@@ -230,15 +230,16 @@ abbrev pub IsLongNameOf : Words → Why → Type 0
 IsLongNameOf (Record entry) why = (why.place ≡ at.Name) × (why.reason ≡ Long (length entry.name.now))
 IsLongNameOf _ why = ⊥
 
--- the reason is this line
-abbrev pub IsLine : ℕ → Reason → Type 0
-IsLine number (Line at fault) = at ≡ number
-IsLine number _ = ⊥
+-- the reason is this line, and what its reader says of it
+abbrev pub IsLine : ℕ → Notes → Reason → Type 0
+IsLine number notes (Line at fault) = (at ≡ number) × (fault ≡ notes.told.why)
+IsLine number notes _ = ⊥
 
-abbrev pub IsNegative : Reason → Type 0
-IsNegative (Negative number) = ⊤
-IsNegative (Early text) = ⊤
-IsNegative _ = ⊥
+-- it is the output whose file is noted, or else the line
+abbrev pub IsNegative : Notes → Reason → Type 0
+IsNegative notes (Negative number) = (notes.early.items ≡ []) × (notes.told.negative ≡ Some number)
+IsNegative notes (Early text) = string_bytes text ≡ flat_map escaped notes.early.items
+IsNegative notes _ = ⊥
 
 -- what may be said of a fault of these words, by what is noted: the folder's last failure, how the file begins that was read last, and the
 -- number that was refused; what couldn't be read is the file that the words read, or the log beside it, where that failure is noted
@@ -248,8 +249,8 @@ IsReasonFor words fault.Read notes why =
 IsReasonFor words fault.Write notes why = (why.place ≡ at.Output) × IsSystem why.reason
 IsReasonFor words fault.Folder notes why =
     IfSome notes.folder (λ failure. (log_place words failure.file ≡ Some why.place) × IsSaidOf failure.error why.reason)
-IsReasonFor words (fault.BadLine number) notes why = (read_place words ≡ Some why.place) × IsLine number why.reason
-IsReasonFor words (fault.NegativeTime place) notes why = (read_place words ≡ Some why.place) × IsNegative why.reason
+IsReasonFor words (fault.BadLine number) notes why = (read_place words ≡ Some why.place) × IsLine number notes why.reason
+IsReasonFor words (fault.NegativeTime place) notes why = (read_place words ≡ Some why.place) × IsNegative notes why.reason
 IsReasonFor words fault.OtherVersion notes why = (log_place words file.Log ≡ Some why.place) × IsVersion (heard_of notes) why.reason
 IsReasonFor words fault.NotALog notes why = (log_place words file.Log ≡ Some why.place) × IsLookAt (heard_of notes) why.reason
 IsReasonFor words fault.BadNumber notes why = IsSomeAnd notes.told.number (λ bad. TellsNumber words bad why)
