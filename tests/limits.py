@@ -4,9 +4,9 @@
     python3 tests/limits.py PROGRAM
 
 Names and lines of each length up to the limits of docs/FORMAT.md, by `record` and by `replay`; scripts with lists of 40 and 1,000
-numbers, a fuse beyond 1,000, and lines of 1,000 names or pairs, against tests/run_model.py; bad lines past 255 and 65,536; words too many;
-help onto a full output; files that are named `-`; the mode of each file that is made; files that may not be read or written, by a user who
-has no rights.
+numbers, a fuse beyond 1,000, and lines of 1,000 names or pairs, against tests/run_model.py; bad lines past 255 and 65,536; words too
+many; help onto a full output; what begins no log and never ends; files that are named `-`; the mode of each file that is made; files
+that may not be read or written, by a user who has no rights.
 """
 import itertools
 import os
@@ -484,8 +484,16 @@ def try_file_size(trials, program, room):
         trials.want("with all its entries", read(log), SMALL)
 
 
+def try_no_end(trials, program, room):
+    """What begins no log is refused at once, though it never ends: to read all of it would want more memory than there is."""
+    for word in ("builds", "summary", "trace", "picture", "doubt"):
+        with open("/dev/zero", "rb") as it:
+            ended = run([program, word], stdin=it, preexec_fn=lambda: resource.setrlimit(resource.RLIMIT_AS, (2**28, 2**28)))
+        trials.want(f"{word} of zeros without an end", ended, (1, b"", b"nlog: not a ninja log\n"))
+
+
 def trial(trials, program, room):
-    for number, part in enumerate((try_names, try_scripts, try_bad_lines, try_words, try_full_output, try_dash, try_modes, try_owners, try_watched, try_rights, try_file_size)):
+    for number, part in enumerate((try_names, try_scripts, try_bad_lines, try_words, try_full_output, try_dash, try_modes, try_owners, try_watched, try_rights, try_file_size, try_no_end)):
         os.mkdir(f"{room}/{number}")
         part(trials, program, f"{room}/{number}")
 
