@@ -12,7 +12,7 @@ use Rattle.nl_builds.specs.declared.build.How.TheVariants.{AsWritten}
 use Rattle.nl_builds.specs.declared.command.Command.{Command}
 use Rattle.nl_builds.specs.declared.command.Row.{Row}
 use Rattle.nl_builds.specs.declared.seen.Seen.{Seen}
-use Rattle.nl_builds.specs.declared.stamps.Stamps.{Stamps}
+use Rattle.nl_builds.specs.declared.reading.Stamps.{Stamps}
 
 neither : (a b : Bool) → (a || b) ≡ false → (a ≡ false) × (b ≡ false)
 neither true b is = absurd (cc is)

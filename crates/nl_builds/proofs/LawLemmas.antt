@@ -20,7 +20,7 @@ use Rattle.nl_builds.specs.declared.seen.Mark.TheVariants.{Sure, Unsure}
 use Rattle.nl_builds.specs.declared.seen.Order.{Order}
 use Rattle.nl_builds.specs.declared.seen.Order.TheVariants.{Written, ByMoment}
 use Rattle.nl_builds.specs.declared.seen.Seen.{Seen}
-use Rattle.nl_builds.specs.declared.stamps.Stamps.{Stamps}
+use Rattle.nl_builds.specs.declared.reading.Stamps.{Stamps}
 use Rattle.nl_builds.proofs.FallingLemmas.{falling_moves}
 
 -- ---- entries and commands

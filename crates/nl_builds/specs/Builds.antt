@@ -17,7 +17,7 @@ use Rattle.nl_builds.specs.declared.seen.Order.{Order}
 use Rattle.nl_builds.specs.declared.seen.Order.TheVariants.{Written, ByMoment}
 use Rattle.nl_builds.specs.declared.seen.Past.{Past}
 use Rattle.nl_builds.specs.declared.seen.Seen.{Seen}
-use Rattle.nl_builds.specs.declared.stamps.Stamps.{Stamps}
+use Rattle.nl_builds.specs.declared.reading.Stamps.{Stamps}
 
 -- ---- the builds of commands that stand in an order
 

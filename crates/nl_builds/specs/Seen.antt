@@ -12,8 +12,8 @@ use Rattle.nl_builds.specs.declared.seen.Order.TheVariants.{Written, ByMoment}
 use Rattle.nl_builds.specs.declared.seen.Past.{Past}
 use Rattle.nl_builds.specs.declared.seen.Seen.{Seen}
 use Rattle.nl_builds.specs.Stamps.{is_end, is_start}
-use Rattle.nl_builds.specs.declared.stamps.Stamps.{Stamps}
-use Rattle.nl_builds.specs.declared.stamps.Stamps.TheVariants.{Unknown, OfEnd, OfStart}
+use Rattle.nl_builds.specs.declared.reading.Stamps.{Stamps}
+use Rattle.nl_builds.specs.declared.reading.Stamps.TheVariants.{Unknown, OfEnd, OfStart}
 
 abbrev pub is_border : Mark → Bool
 is_border Inside = false

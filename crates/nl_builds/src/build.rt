@@ -3,8 +3,8 @@ ghost use Rattle.std.specs.{List.{list_any}, Prelude.{◌≡◌, [], drop, take,
 ghost use Rattle.nl_builds.specs.{Builds.{again, builds_of, counts_names, entries_of, falls_at, found_build, IsTold, new_commands, new_names, whole_commands, written_builds}, Seen.{doubts}, Sorted.{by_moment, moment_rank, span_rank}};
 
 use crate::command::{Command, Row, commands_of, latest, moment, with_rows, with_waits};
+use crate::reading::Stamps;
 use crate::seen::{Order, Seen, first_back, walk};
-use crate::stamps::Stamps;
 use indexmap::IndexSet;
 use nl_fields::EntryRef;
 use nl_table::{NameKey, Secret};

@@ -3,7 +3,7 @@ ghost use Rattle.std.specs.Prelude.{◌≡◌, ◌+◌, ◌<◌, ◌^◌, length
 ghost use Rattle.nl_builds.specs.{Builds.{first_back, walk}, Moments.{is_past, reaches}, Seen.{begun, doubts, is_after, is_back, is_behind, is_moment_of, is_tied, known, mark, past_by, told, with_command}};
 
 use crate::command::{Command, NANOS, Row, split_row};
-use crate::stamps::Stamps;
+use crate::reading::Stamps;
 use std::alloc::{AllocError, Global};
 
 // Nanoseconds by which the clocks of a file system and of a build may differ (docs/BUILDS.md).

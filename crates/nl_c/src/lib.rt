@@ -4,7 +4,6 @@
 mod carried_exports;
 mod carried_folder;
 mod carried_log;
-mod disk_record;
 mod exports;
 mod handle;
 mod laws;
@@ -13,6 +12,4 @@ mod look_up;
 mod marks;
 mod more;
 mod opening;
-mod plans;
 mod status;
-mod written_log;

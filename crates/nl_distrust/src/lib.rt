@@ -2,8 +2,6 @@
 #![tactic(auto)]
 
 pub mod laws;
-mod plain;
 mod walk;
 
-pub use plain::plain_name;
-pub use walk::{distrusted, is_whole};
+pub use walk::{distrusted, is_whole, plain_name};

@@ -2,8 +2,7 @@
 ghost use Rattle.std.specs.{Prelude.{◌≡◌, ◌≢◌, ◌↔◌, ℕ, ℤ, ◌+◌, ◌<◌, ◌≤◌, ◌^◌, List, [], length, All, Some, FitsSigned, codes}, Int.{w64}};
 ghost use Rattle.nl_fields.specs.{declared.entry.Entry.{Entry}, declared.header.Header.{Header}, Limits.{max_name, max_line, max_entry_line, max_log}, Digits.{IsDigits, IsDecimal, digits_of, decimal_of}, EntryLine.{IsEntry, IsEntryLine, IsEntryLineFour, line_of, entry_of, entry_of_four}, Header.{IsHeader, version_five, header_line, header_of}, CommandHash.{IsHash, hash_of}, RapidHash.{rapid_hash_of}};
 
-use crate::header::HEADER;
-use crate::limits::{MAX_ENTRY_LINE, MAX_LINE, MAX_LOG, MAX_NAME};
+use crate::header::{HEADER, MAX_ENTRY_LINE, MAX_LINE, MAX_LOG, MAX_NAME};
 
 pub fn the_limits()
     ensures name { MAX_NAME ≡ max_name }

@@ -8,7 +8,6 @@ mod entry_line;
 mod hash;
 mod header;
 pub mod laws;
-mod limits;
 mod name;
 mod rapid_hash;
 
@@ -17,7 +16,6 @@ pub use digits::{append_hex64, read_hex64};
 pub use entry::{Entry, EntryRef, Stamp, is_intent};
 pub use entry_line::{append_entry, read_entry, read_entry_v4};
 pub use hash::command_hash;
-pub use header::{HEADER, Header, read_header};
-pub use limits::{MAX_ENTRY_LINE, MAX_LINE, MAX_LOG, MAX_NAME};
+pub use header::{HEADER, Header, MAX_ENTRY_LINE, MAX_LINE, MAX_LOG, MAX_NAME, read_header};
 pub use name::{Name, NameFault, name_fault};
 pub use rapid_hash::command_hash_v7;

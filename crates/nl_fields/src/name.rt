@@ -2,7 +2,7 @@
 ghost use Rattle.std.specs.Prelude.{◌≡◌, ◌≢◌, ◌↔◌, ◌++◌, ◌∷◌, List, ℕ, IsOk, IfOk, IfErr, IfSome, IsSome, IsNone, position};
 ghost use Rattle.nl_fields.specs.Name.{HasFault, IsName, is_forbidden};
 
-use crate::limits::MAX_NAME;
+use crate::header::MAX_NAME;
 use memchr::memchr3;
 use std::alloc::{AllocError, Global};
 use std::marker::Model;

@@ -2,8 +2,28 @@
 ghost use Rattle.std.specs.Prelude.{◌≡◌, ◌≤◌, List, ℕ, length, drop, slice_get};
 ghost use Rattle.nl_folder.specs.Amounts.{amount_of, kept_len, tail_len};
 
-use crate::{Call, Fuse};
 use std::marker::Model;
+
+/// A kind of call, and `Any` for all of them together.
+#[derive(Clone, Copy, Debug, PartialEq, Eq, Drop)]
+pub enum Call {
+    ReadLog,
+    AppendLog,
+    CutLog,
+    SyncLog,
+    StartScratch,
+    AppendScratch,
+    SyncScratch,
+    Replace,
+    Any,
+}
+
+/// The `nth` call of this kind fails, counted from 1 since the fuse was set, and none where `nth` is 0.
+#[derive(Clone, Copy, Debug, PartialEq, Eq, Drop)]
+pub struct Fuse {
+    pub call: Call,
+    pub nth: u64,
+}
 
 /// Numbers that are used up from the front.
 #[derive(Drop)]

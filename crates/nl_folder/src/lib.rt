@@ -3,13 +3,12 @@
 
 mod choices;
 mod folder;
-mod fuse;
 pub mod laws;
 mod log_reader;
 mod mem_file;
 mod mem_folder;
 
+pub use choices::{Call, Fuse};
 pub use folder::{Crashable, Fault, Folder};
-pub use fuse::{Call, Fuse};
 pub use log_reader::LogReader;
 pub use mem_folder::MemFolder;

@@ -3,7 +3,6 @@
 
 mod disk_folder;
 mod failed_call;
-mod file_id;
 mod looks;
 mod os_system;
 mod paths;

@@ -1,10 +1,10 @@
-//! An open file of the operating system.
+//! An open file of the operating system, which file it is, and when it was changed.
 ghost use Rattle.std.specs.Prelude.{◌≤◌, IfOk, length};
 
-use std::fs::{File, OpenFile, TryLockError};
+use std::fs::{File, Metadata, OpenFile, TryLockError};
 use std::io::{self, Write};
 use std::os::fd::AsRawFd;
-use std::os::unix::fs::{FileExt, fchown};
+use std::os::unix::fs::{FileExt, MetadataExt, fchown};
 
 /// What a log asks of an open file beside std's `OpenFile`. A file of the system has it, and a test may have its own.
 pub trait SystemFile: OpenFile + Write {
@@ -36,5 +36,37 @@ impl SystemFile for File {
 
     fn descriptor(&self) -> i32 {
         self.as_raw_fd()
+    }
+}
+
+/// A file by its numbers, which no other file has as long as it is there.
+#[derive(Clone, Copy, Debug, PartialEq, Eq, Drop)]
+pub struct FileId {
+    pub device: u64,
+    pub number: u64,
+}
+
+impl FileId {
+    pub fn of(metadata: &Metadata) -> FileId {
+        FileId {
+            device: metadata.dev(),
+            number: metadata.ino(),
+        }
+    }
+}
+
+/// When the system says that a file was last changed: its bytes, its rights or its names. No call sets it.
+#[derive(Clone, Copy, Debug, PartialEq, Eq, Drop)]
+pub struct ChangeTime {
+    seconds: i64,
+    nanoseconds: i64,
+}
+
+impl ChangeTime {
+    pub fn of(metadata: &Metadata) -> ChangeTime {
+        ChangeTime {
+            seconds: metadata.ctime(),
+            nanoseconds: metadata.ctime_nsec(),
+        }
     }
 }

@@ -1,7 +1,7 @@
 //! How long a lock is waited for, and how often it is asked for.
 ghost use Rattle.std.specs.Prelude.{◌≡◌, ◌≢◌, ◌≤◌, ◌<◌, ◌+◌, ◌-◌, ◌⊎◌, IfSome, None, Some};
 
-use crate::file_id::FileId;
+use crate::system_file::FileId;
 use std::fs::Metadata;
 use std::os::unix::fs::MetadataExt;
 

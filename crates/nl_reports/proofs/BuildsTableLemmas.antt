@@ -5,7 +5,7 @@ use Rattle.nl_builds.specs.Builds.{Told}
 use Rattle.nl_builds.specs.declared.build.Build.{Build}
 use Rattle.nl_reports.specs.BuildsTable.{AreRows, IsBegun, IsRow, no_build, row_text}
 use Rattle.nl_reports.specs.Numbers.{numbers_of}
-use Rattle.nl_reports.specs.declared.numbers.Numbers.{Numbers}
+use Rattle.nl_reports.specs.declared.job.Numbers.{Numbers}
 
 -- a row by its parts
 pub row_is : (zone : TimeZone) (t : Told) (place : ℕ) (b : Build) (began : List ℕ) (n : Numbers) (old new : List ℕ)

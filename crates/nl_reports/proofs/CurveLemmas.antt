@@ -1,6 +1,6 @@
 -- The points of a curve, and the lines of an axis, one by one.
 use Rattle.std.proofs.Common.{◌≡◌, ◌∙◌, ℕ, suc, ◌+◌, ◌*◌, List, ◌++◌, sym, ap, arith, append_assoc, append-nil, refl}
-use Rattle.nl_reports.specs.declared.span.Span.{Span}
+use Rattle.nl_reports.specs.declared.moments.Span.{Span}
 use Rattle.nl_reports.specs.Curve.{point, points}
 use Rattle.nl_reports.specs.Ticks.{tick, ticks_of}
 use Rattle.nl_reports.specs.declared.frame.Frame.{Frame}

@@ -23,7 +23,7 @@ use Rattle.nl_reports.specs.declared.bars.Short.{Short}
 use Rattle.nl_reports.specs.declared.frame.Frame.{Frame}
 use Rattle.nl_reports.specs.declared.picture.Known.{Known}
 use Rattle.nl_reports.specs.declared.job.Job.{Job as HeldJob}
-use Rattle.nl_reports.specs.declared.span.Span.{Span}
+use Rattle.nl_reports.specs.declared.moments.Span.{Span}
 use Rattle.nl_tool_texts.proofs.FallingLemmas.{map-falling}
 use Rattle.nl_tool_texts.proofs.ListedLemmas.{map-take}
 use Rattle.nl_reports.proofs.PairLemmas.{pair_at, pairs_done}

@@ -12,7 +12,7 @@ use Rattle.nl_reports.specs.Jobs.{Job, first_name}
 use Rattle.nl_reports.specs.Spans.{time_of}
 use Rattle.nl_reports.specs.Sweep.{running}
 use Rattle.nl_reports.specs.declared.trace.BuildEvent.{BuildEvent}
-use Rattle.nl_reports.specs.declared.span.Span.{Span}
+use Rattle.nl_reports.specs.declared.moments.Span.{Span}
 
 -- digits stand in a text as they are
 glyph_plain : (x : ℕ) → x < 10 → escape_byte (digit_glyph false x) ≡ digit_glyph false x ∷ []

@@ -19,7 +19,7 @@ use Rattle.nl_reports.specs.Trace.{events_of, how_in, named_events, number_in, n
 use Rattle.nl_reports.specs.Turns.{jobs_in_turn}
 use Rattle.nl_reports.specs.declared.choice.Scope.{Scope}
 use Rattle.nl_reports.specs.declared.trace.BuildEvent.{BuildEvent}
-use Rattle.nl_reports.specs.declared.span.Span.{Span}
+use Rattle.nl_reports.specs.declared.moments.Span.{Span}
 use Rattle.nl_reports.proofs.LaneLemmas.{lane_below, lanes_length}
 use Rattle.nl_reports.proofs.TurnLemmas.{in_turn_early}
 

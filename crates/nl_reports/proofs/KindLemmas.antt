@@ -10,7 +10,7 @@ use Rattle.indexmap.specs.IndexMap.{insert_entry}
 use Rattle.nl_table.specs.declared.output_key.NameKey.{NameKey}
 use Rattle.nl_reports.specs.Kinds.{AreSumsOf, IsSumOf, added, counted, kind_of, kind_pair, kinds, no_sums, same_bytes, sums_in, with_sums}
 use Rattle.nl_reports.specs.Rows.{Told, told_command, told_row}
-use Rattle.nl_reports.specs.declared.kind.KindRule.{KindRule}
+use Rattle.nl_reports.specs.declared.kinds.KindRule.{KindRule}
 use Rattle.nl_reports.specs.declared.rows.Row.{Row}
 use Rattle.nl_reports.specs.declared.rows.Sums.{Sums}
 use Rattle.nl_reports.specs.declared.rows.Weighed.{Weighed}

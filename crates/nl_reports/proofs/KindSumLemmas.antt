@@ -11,8 +11,8 @@ use Rattle.nl_reports.specs.Kinds.{counted, kind_of, kinds, named, no_sums, of_k
 use Rattle.nl_reports.specs.Numbers.{total_time}
 use Rattle.nl_reports.specs.Rows.{Told, spans, told_job, told_jobs}
 use Rattle.nl_reports.specs.Sweep.{busy_time, left_over, parts, weight}
-use Rattle.nl_reports.specs.declared.kind.KindRule.{KindRule}
-use Rattle.nl_reports.specs.declared.span.Span.{Span}
+use Rattle.nl_reports.specs.declared.kinds.KindRule.{KindRule}
+use Rattle.nl_reports.specs.declared.moments.Span.{Span}
 use Rattle.nl_reports.proofs.SweepLemmas.{weights_add_up}
 
 -- a kind without a command

@@ -7,7 +7,7 @@ use Rattle.std.proofs.lemmas.Bool.{cases_lt}
 use Rattle.std.proofs.lemmas.Bool.Decides.{eqb_tells, nat_tests}
 use Rattle.std.proofs.lemmas.List.Elements.{All-head, All-tail}
 use Rattle.std.proofs.lemmas.List.Sums.{sum_by-cons}
-use Rattle.nl_reports.specs.declared.span.Span.{Span}
+use Rattle.nl_reports.specs.declared.moments.Span.{Span}
 use Rattle.nl_reports.specs.Sweep.{before, runs_at, running, left_of, last_moment, left_over}
 use Rattle.nl_reports.proofs.SweepLemmas.{before-same, before-swap, before-within, counted}
 use Rattle.nl_reports.proofs.SharesLemmas.{before-beyond, below_last}

@@ -4,7 +4,7 @@ use Rattle.std.specs.Prelude.{count_by, nat_le}
 use Rattle.std.proofs.lemmas.Bool.Decides.{nat_tests}
 use Rattle.std.proofs.lemmas.List.Sums.{sum_by-cons}
 use Rattle.std.proofs.lemmas.List.Sorted.{sum_by-IsPermutation}
-use Rattle.nl_reports.specs.declared.span.Span.{Span}
+use Rattle.nl_reports.specs.declared.moments.Span.{Span}
 use Rattle.nl_reports.specs.Sweep.{running, runs_at}
 use Rattle.nl_reports.specs.SweepSteps.{Rises}
 use Rattle.nl_reports.specs.Spans.{began_of, closed_of}

@@ -21,7 +21,7 @@ use Rattle.nl_reports.specs.Rows.{spans}
 use Rattle.nl_reports.specs.Spans.{began_of, closed_of, time_of}
 use Rattle.nl_reports.specs.Sweep.{before, last_moment, running}
 use Rattle.nl_reports.specs.declared.job.Job.{Job as Held}
-use Rattle.nl_reports.specs.declared.span.Span.{Span}
+use Rattle.nl_reports.specs.declared.moments.Span.{Span}
 use Rattle.nl_reports.proofs.LeftOverLemmas.{before-below, total_is}
 use Rattle.nl_reports.proofs.MomentLemmas.{count_begun}
 use Rattle.nl_reports.proofs.PathsLemmas.{IsBounded, path_bound}

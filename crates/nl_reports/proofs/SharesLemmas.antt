@@ -10,7 +10,7 @@ use Rattle.std.proofs.lemmas.List.{get_or-map, length-map, take_all}
 use Rattle.std.proofs.lemmas.List.Elements.{All-cons, All-contains, All-from_get_or, All-head, All-tail, All-weaker}
 use Rattle.std.proofs.lemmas.List.Sorted.{All-permutation, Contains-permutation, IsPermutation-sym, sum_by-IsPermutation}
 use Rattle.std.proofs.lemmas.List.Sums.{sum_by-cons}
-use Rattle.nl_reports.specs.declared.span.Span.{Span}
+use Rattle.nl_reports.specs.declared.moments.Span.{Span}
 use Rattle.nl_reports.specs.declared.shares.Shares.{Shares}
 use Rattle.nl_reports.specs.Sweep.{before, runs_at, running, share_of, any_of, alone_of, last_moment, busy_time, alone_time, most_at_once, weight}
 use Rattle.nl_reports.specs.SweepSteps.{Rises, running_by, shares_before}

@@ -6,7 +6,7 @@ use Rattle.nl_builds.specs.declared.build.Build.{Build}
 use Rattle.nl_reports.specs.Rows.{Told, told_command}
 use Rattle.nl_reports.specs.Summary.{again_in, builds_told, first_of, no_totals, rows_from, text_of, title, totals_from}
 use Rattle.nl_reports.specs.declared.choice.Scope.{Scope}
-use Rattle.nl_reports.specs.declared.lists.Lists.{Lists}
+use Rattle.nl_reports.specs.declared.rows.Lists.{Lists}
 use Rattle.nl_reports.specs.declared.rows.Weighed.{Weighed}
 use Rattle.nl_tool_texts.specs.Falling.{falling}
 use Rattle.nl_tool_texts.proofs.FallingLemmas.{map-falling}

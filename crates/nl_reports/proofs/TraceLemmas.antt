@@ -17,7 +17,7 @@ use Rattle.nl_reports.specs.Trace.{array_text, behind_commas, build_events, even
 use Rattle.nl_tool_texts.specs.Writing.{Writes}
 use Rattle.nl_reports.specs.declared.trace.BuildEvent.{BuildEvent}
 use Rattle.nl_reports.specs.declared.job.Job.{Job as HeldJob}
-use Rattle.nl_reports.specs.declared.span.Span.{Span}
+use Rattle.nl_reports.specs.declared.moments.Span.{Span}
 use Rattle.nl_reports.proofs.PairLemmas.{pair_at}
 use Rattle.nl_tool_texts.proofs.WritingLemmas.{err_writes, none_written}
 

@@ -12,7 +12,7 @@ use Rattle.nl_builds.specs.declared.build.How.TheVariants.{AsWritten}
 use Rattle.nl_reports.specs.BuildsText.{border_word}
 use Rattle.nl_reports.specs.Numbers.{numbers_of}
 use Rattle.nl_tool_texts.specs.Texts.{joined, line, time_text}
-use Rattle.nl_reports.specs.declared.numbers.Numbers.{Numbers}
+use Rattle.nl_reports.specs.declared.job.Numbers.{Numbers}
 
 -- ---- when a build began
 

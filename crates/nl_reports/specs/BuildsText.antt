@@ -5,7 +5,7 @@ use Rattle.nl_builds.specs.declared.build.Build.{Build}
 use Rattle.nl_builds.specs.declared.build.How.{How}
 use Rattle.nl_builds.specs.declared.build.How.TheVariants.{AsWritten, FoundAgain}
 use Rattle.nl_reports.specs.Numbers.{numbers_of}
-use Rattle.nl_reports.specs.declared.numbers.Numbers.{Numbers}
+use Rattle.nl_reports.specs.declared.job.Numbers.{Numbers}
 
 -- whether both borders of a build are sure; of one that was found again neither is
 abbrev pub border_word : How → Bool → List ℕ

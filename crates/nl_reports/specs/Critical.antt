@@ -9,7 +9,7 @@ use Rattle.nl_reports.specs.Outputs.{last_at, places_of}
 use Rattle.nl_reports.specs.Paths.{Graph, IsLongest, Node, length_of}
 use Rattle.nl_reports.specs.Spans.{time_of}
 use Rattle.nl_tool_texts.specs.Texts.{joined, line, time_text, told_moment, took_text}
-use Rattle.nl_reports.specs.declared.span.Span.{Span}
+use Rattle.nl_reports.specs.declared.moments.Span.{Span}
 
 -- the names of nodes, by their numbers
 abbrev pub names_of : List Node → List (List ℕ × List ℕ)

@@ -1,7 +1,7 @@
 -- The curve of how many commands run.
 use Rattle.std.specs.Prelude.{ℕ, zero, suc, ◌+◌, ◌-◌, ◌*◌, ◌/◌, List, [], ◌∷◌, ◌++◌, codes, decimal}
 use Rattle.nl_reports.specs.Sweep.{running}
-use Rattle.nl_reports.specs.declared.span.Span.{Span}
+use Rattle.nl_reports.specs.declared.moments.Span.{Span}
 use Rattle.nl_reports.specs.Frame.{foot_of}
 use Rattle.nl_tool_texts.specs.Texts.{joined}
 use Rattle.nl_reports.specs.declared.frame.Frame.{Frame}

@@ -12,7 +12,7 @@ use Rattle.nl_reports.specs.Jobs.{Job, first_name}
 use Rattle.nl_reports.specs.Spans.{time_of}
 use Rattle.nl_reports.specs.Sweep.{running}
 use Rattle.nl_reports.specs.declared.trace.BuildEvent.{BuildEvent}
-use Rattle.nl_reports.specs.declared.span.Span.{Span}
+use Rattle.nl_reports.specs.declared.moments.Span.{Span}
 
 -- a name as text, with U+FFFD for what isn't UTF-8
 abbrev pub shown : List ℕ → Data

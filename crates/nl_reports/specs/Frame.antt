@@ -2,7 +2,7 @@
 use Rattle.std.specs.Prelude.{ℕ, ◌+◌, ◌-◌, ◌*◌, ◌/◌, ◌%◌, ◌<◌, ◌^◌, max, min, Bool, nat_lt, if◌then◌else◌, List, [], ◌∷◌, ◌++◌, codes, decimal}
 use Rattle.std.specs.List.{fold}
 use Rattle.nl_reports.specs.Spans.{closed_of}
-use Rattle.nl_reports.specs.declared.span.Span.{Span}
+use Rattle.nl_reports.specs.declared.moments.Span.{Span}
 use Rattle.nl_reports.specs.declared.frame.Frame.{Frame}
 
 -- the commands are in the order of START

@@ -6,7 +6,7 @@ use Rattle.nl_reports.specs.Paths.{Graph, IsLongest, length_of}
 use Rattle.nl_tool_texts.specs.Falling.{falling}
 use Rattle.nl_reports.specs.Spans.{time_of}
 use Rattle.nl_tool_texts.specs.Texts.{took_text}
-use Rattle.nl_reports.specs.declared.span.Span.{Span}
+use Rattle.nl_reports.specs.declared.moments.Span.{Span}
 
 -- a command in half its time, rounded down, and commands of which the one at a place is so
 abbrev pub half_span : Span → Span

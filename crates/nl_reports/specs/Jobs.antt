@@ -7,7 +7,7 @@ use Rattle.nl_builds.specs.declared.build.Builds.{Builds}
 use Rattle.nl_builds.specs.declared.command.Command.{Command}
 use Rattle.nl_reports.specs.Spans.{span_of}
 use Rattle.nl_reports.specs.declared.job.Job.{Job as HeldJob}
-use Rattle.nl_reports.specs.declared.span.Span.{Span}
+use Rattle.nl_reports.specs.declared.moments.Span.{Span}
 
 -- a command: when it ran, its hash, and the entries of its outputs
 pub record Job : Type 0 where

@@ -5,9 +5,9 @@ use Rattle.std.specs.Map.{lookup}
 use Rattle.std.specs.Option.{option_map_or, unwrap_or}
 use Rattle.nl_table.specs.declared.output_key.NameKey.{NameKey}
 use Rattle.nl_reports.specs.Rows.{Told}
-use Rattle.nl_reports.specs.declared.kind.KindRule.{KindRule}
+use Rattle.nl_reports.specs.declared.kinds.KindRule.{KindRule}
 use Rattle.nl_reports.specs.Work.{extension_of, word, work_of}
-use Rattle.nl_reports.specs.declared.kind.KindRule.TheVariants.{Extension, Folder, Top, Work}
+use Rattle.nl_reports.specs.declared.kinds.KindRule.TheVariants.{Extension, Folder, Top, Work}
 use Rattle.nl_reports.specs.declared.rows.Sums.{Sums}
 
 -- the bytes up to the last `/`, with it; `found` are those before the rest, which stands at a place

@@ -1,7 +1,7 @@
 -- The lanes of commands, each of which begins where another is free (docs/CLI.md, "`trace`").
 use Rattle.std.specs.Prelude.{ℕ, zero, suc, ◌*◌, ◌/◌, ◌<◌, ◌≤◌, nat_le, List, [], ◌∷◌, length, slice_index, slice_index_or, if◌then◌else◌}
 use Rattle.nl_reports.specs.Spans.{closed_of}
-use Rattle.nl_reports.specs.declared.span.Span.{Span}
+use Rattle.nl_reports.specs.declared.moments.Span.{Span}
 use Rattle.nl_reports.specs.declared.lanes.Lanes.{Lanes}
 
 -- the first lane that is free at a moment, by the ends of the lanes' last commands; a new lane if none is free

@@ -4,7 +4,7 @@ use Rattle.std.specs.List.Sorted.{IsPermutation}
 use Rattle.nl_reports.specs.Spans.{began_of, closed_of}
 use Rattle.nl_reports.specs.SweepSteps.{Rises}
 use Rattle.nl_reports.specs.declared.moments.Moments.{Moments}
-use Rattle.nl_reports.specs.declared.span.Span.{Span}
+use Rattle.nl_reports.specs.declared.moments.Span.{Span}
 
 -- the starts of these commands are in order, and so are their ends
 pub record AreMoments (cs : List Span) (m : Moments) : Type 0 where

@@ -5,8 +5,8 @@ use Rattle.nl_builds.specs.Builds.{Told}
 use Rattle.nl_reports.specs.Jobs.{Job, build_jobs, commands_to, entries_to}
 use Rattle.nl_reports.specs.Rows.{spans}
 use Rattle.nl_reports.specs.Spans.{time_of}
-use Rattle.nl_reports.specs.declared.numbers.Numbers.{Numbers}
-use Rattle.nl_reports.specs.declared.span.Span.{Span}
+use Rattle.nl_reports.specs.declared.job.Numbers.{Numbers}
+use Rattle.nl_reports.specs.declared.moments.Span.{Span}
 
 abbrev pub spans_of : List Job → List Span
 spans_of js = spans js

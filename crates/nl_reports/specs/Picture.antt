@@ -25,7 +25,7 @@ use Rattle.nl_reports.specs.declared.choice.Scope.TheVariants.{Last, Numbered, A
 use Rattle.nl_reports.specs.declared.frame.Frame.{Frame}
 use Rattle.nl_reports.specs.declared.picture.Known.{Known}
 use Rattle.nl_reports.specs.declared.picture.Known.TheVariants.{AsWritten, FoundAgain, SomeAgain, Missing}
-use Rattle.nl_reports.specs.declared.span.Span.{Span}
+use Rattle.nl_reports.specs.declared.moments.Span.{Span}
 use Rattle.nl_reports.specs.declared.work.Times.{Times}
 use Rattle.nl_reports.specs.declared.work.Work.{Work}
 use Rattle.nl_reports.specs.declared.work.Work.TheVariants.{Compile, Link, Archive, Generate, Test, Other}

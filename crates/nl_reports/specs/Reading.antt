@@ -8,7 +8,7 @@ use Rattle.nl_reports.specs.Jobs.{Job}
 use Rattle.nl_reports.specs.Spans.{time_of}
 use Rattle.nl_reports.specs.Sweep.{running}
 use Rattle.nl_reports.specs.declared.trace.BuildEvent.{BuildEvent}
-use Rattle.nl_reports.specs.declared.span.Span.{Span}
+use Rattle.nl_reports.specs.declared.moments.Span.{Span}
 
 -- the count of outputs that later builds may have taken from a build has 64 bits
 abbrev pub FewTaken : How → Type 0

@@ -7,7 +7,7 @@ use Rattle.nl_reports.specs.Jobs.{Job, first_name}
 use Rattle.nl_reports.specs.Spans.{time_of}
 use Rattle.nl_reports.specs.Sweep.{parts, weight}
 use Rattle.nl_tool_texts.specs.Texts.{line, time_text}
-use Rattle.nl_reports.specs.declared.lists.Lists.{Lists}
+use Rattle.nl_reports.specs.declared.rows.Lists.{Lists}
 use Rattle.nl_reports.specs.declared.rows.Listed.{Listed}
 use Rattle.nl_reports.specs.declared.rows.Listed.TheVariants.{Commands, Kinds}
 use Rattle.nl_reports.specs.declared.rows.Rank.{Rank}
@@ -15,7 +15,7 @@ use Rattle.nl_reports.specs.declared.rows.Rank.TheVariants.{Time, Weight}
 use Rattle.nl_reports.specs.declared.rows.Row.{Row}
 use Rattle.nl_reports.specs.declared.rows.Sums.{Sums}
 use Rattle.nl_reports.specs.declared.rows.Weighed.{Weighed}
-use Rattle.nl_reports.specs.declared.span.Span.{Span}
+use Rattle.nl_reports.specs.declared.moments.Span.{Span}
 
 -- a command by its first output, or a kind
 pub record Told : Type 0 where

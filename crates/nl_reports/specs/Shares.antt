@@ -3,7 +3,7 @@ use Rattle.std.specs.Prelude.{◌≡◌, List, length}
 use Rattle.nl_reports.specs.Moments.{AreMoments}
 use Rattle.nl_reports.specs.SweepSteps.{IsSwept, Swept}
 use Rattle.nl_reports.specs.declared.shares.Shares.{Shares}
-use Rattle.nl_reports.specs.declared.span.Span.{Span}
+use Rattle.nl_reports.specs.declared.moments.Span.{Span}
 
 abbrev pub swept_of : Shares → Swept
 swept_of s = record { sums = s.sums; at_starts = s.at_starts.items; at_ends = s.at_ends.items }

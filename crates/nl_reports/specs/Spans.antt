@@ -1,7 +1,7 @@
 -- When commands ran (docs/FORMAT.md, "Entry line").
 use Rattle.std.specs.Prelude.{ℕ, ◌-◌, ◌<◌, ◌^◌, max}
 use Rattle.nl_builds.specs.declared.command.Command.{Command}
-use Rattle.nl_reports.specs.declared.span.Span.{Span}
+use Rattle.nl_reports.specs.declared.moments.Span.{Span}
 
 abbrev pub span_of : Command → Span
 span_of c = record { began = c.began; ended = c.ended }

@@ -18,11 +18,11 @@ use Rattle.nl_reports.specs.Sweep.{alone_time, busy_time, most_at_once}
 use Rattle.nl_reports.specs.declared.choice.Choice.{Choice}
 use Rattle.nl_reports.specs.declared.choice.Scope.{Scope}
 use Rattle.nl_reports.specs.declared.choice.Scope.TheVariants.{Last, Numbered, All}
-use Rattle.nl_reports.specs.declared.lists.Lists.{Lists}
+use Rattle.nl_reports.specs.declared.rows.Lists.{Lists}
 use Rattle.nl_reports.specs.declared.rows.Listed.TheVariants.{Commands, Kinds}
 use Rattle.nl_reports.specs.declared.rows.Rank.TheVariants.{Time, Weight}
-use Rattle.nl_reports.specs.declared.numbers.Numbers.{Numbers}
-use Rattle.nl_reports.specs.declared.span.Span.{Span}
+use Rattle.nl_reports.specs.declared.job.Numbers.{Numbers}
+use Rattle.nl_reports.specs.declared.moments.Span.{Span}
 use Rattle.nl_reports.specs.declared.summary.Totals.{Totals}
 
 -- ---- the numbers

@@ -1,7 +1,7 @@
 -- How many commands run at each moment, and what of it each one counts for.
 use Rattle.std.specs.Prelude.{ℕ, zero, suc, ◌+◌, ◌/◌, ◌%◌, ◌==◌, ◌&&◌, Bool, nat_le, nat_lt, List, max, count_by, if◌then◌else◌}
 use Rattle.std.specs.List.{fold}
-use Rattle.nl_reports.specs.declared.span.Span.{Span}
+use Rattle.nl_reports.specs.declared.moments.Span.{Span}
 
 -- the sum of a function at each moment before this one
 abbrev pub before : (ℕ → ℕ) → ℕ → ℕ

@@ -21,7 +21,7 @@ use Rattle.nl_reports.specs.declared.choice.Choice.{Choice}
 use Rattle.nl_reports.specs.declared.choice.Scope.{Scope}
 use Rattle.nl_reports.specs.declared.choice.Scope.TheVariants.{Last, Numbered, All}
 use Rattle.nl_reports.specs.declared.trace.BuildEvent.{BuildEvent}
-use Rattle.nl_reports.specs.declared.span.Span.{Span}
+use Rattle.nl_reports.specs.declared.moments.Span.{Span}
 
 -- the events of a command in its lane: the command, and how many run as it begins, and as it has ended
 abbrev pub events_of : BuildEvent → List Span → Job × ℕ → List Data

@@ -10,7 +10,7 @@ use Rattle.nl_reports.specs.Rows.{by_start, spans}
 use Rattle.nl_reports.specs.Spans.{closed_of}
 use Rattle.nl_reports.specs.declared.choice.Choice.{Choice}
 use Rattle.nl_reports.specs.declared.choice.Scope.{Scope}
-use Rattle.nl_reports.specs.declared.span.Span.{Span}
+use Rattle.nl_reports.specs.declared.moments.Span.{Span}
 
 -- a moment of a build that began at one moment, on a clock on which it begins at another: the clock stops after 2^32 milliseconds
 abbrev pub turned : ℕ → ℕ → ℕ → ℕ

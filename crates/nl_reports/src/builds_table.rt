@@ -2,7 +2,7 @@
 ghost use Rattle.std.specs.Prelude.{◌≡◌, ◌<◌, ◌++◌, List, ℕ, IfOk, OnOk, length};
 ghost use Rattle.nl_reports.specs.{BuildsTable.{IsBegun, IsBuildsScreen, IsRow, date_text, heading_for}, BuildsText.{border_word, build_line, builds_text}, Jobs.{told}};
 
-use crate::numbers::numbers_of;
+use crate::job::numbers_of;
 use jiff_core::Timestamp;
 use jiff_core::civil::DateTime;
 use jiff_tz::TimeZone;

@@ -3,7 +3,7 @@ ghost use Rattle.std.specs.Prelude.{◌≡◌, ◌<◌, ◌^◌, map, IfOk, IfSo
 ghost use Rattle.nl_reports.specs.{Jobs.{build_commands, is_manifest_alone, last_number, seen, told, build_jobs}, Choice.{chosen, chosen_jobs}, Spans.{IsEarly}, Frame.{first_began}, Rows.{by_start, spans}, Turns.{clock_behind, jobs_in_turn, turned, turned_jobs}};
 
 use crate::job::{Job, JobsResult, between, commands_between, jobs_by_start, jobs_in};
-use crate::span::Span;
+use crate::moments::Span;
 use nl_builds::Builds;
 use nl_tool_texts::AllocResult;
 use std::alloc::Global;

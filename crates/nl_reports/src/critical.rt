@@ -5,9 +5,8 @@ ghost use Rattle.nl_tool_texts.specs.Texts.{part_text};
 
 use crate::graph::NinjaGraph;
 use crate::job::Job;
-use crate::last_entries::any_named;
-use crate::outputs::{Outputs, outputs_of};
-use crate::span::Span;
+use crate::last_entries::{Outputs, any_named, outputs_of};
+use crate::moments::Span;
 use indexmap::IndexSet;
 use nl_fields::EntryRef;
 use nl_table::{NameKey, Secret};

@@ -1,9 +1,8 @@
 //! Where things stand in a picture, its axis of time and its curve, and how moments are told.
 ghost use Rattle.std.specs.Prelude.{◌≡◌, ◌<◌, ◌≤◌, ◌^◌, ◌++◌, List, OnOk, All};
-ghost use Rattle.nl_reports.specs.{Curve.{curve}, Frame.{IsFrame, first_began, foot_of, frame_of, height, line_at, pitch, seconds, x_at, x_of, y_at}, Moments.{AreMoments}, Spans.{IsEarly}, Ticks.{step_of, ticks}, declared.span.Span.{Span}};
+ghost use Rattle.nl_reports.specs.{Curve.{curve}, Frame.{IsFrame, first_began, foot_of, frame_of, height, line_at, pitch, seconds, x_at, x_of, y_at}, Moments.{AreMoments}, Spans.{IsEarly}, Ticks.{step_of, ticks}, declared.moments.Span.{Span}};
 
-use crate::moments::{Moments, Near};
-use crate::span::Span;
+use crate::moments::{Moments, Near, Span};
 use nl_tool_texts::{AllocResult, Part, put};
 
 /// `wall` is in milliseconds, and `top` is the highest lane.

@@ -1,18 +1,15 @@
-//! What so many commands at a time would take: estimates by a graph and by measured times.
+//! What a graph tells of a build: estimates for so many commands at a time, and what is gained if a command took half as long.
 ghost use Rattle.std.specs.Prelude.{◌≡◌, ◌≤◌, ◌<◌, ◌^◌, ◌++◌, ℕ, List, map, IfOk, IfSome, IsTrue, OnOk};
-ghost use Rattle.nl_reports.specs.{Found.{IsFound}, GraphText.{seen_graph}, Jobs.{Job as SeenJob, seen}, Numbers.{total_time}, Plans.{AreEstimates, HavePlan, IsToldBy, kept}, Reaches.{AreOf}, Sweep.{running}, declared.graph.NinjaGraph.{NinjaGraph as HeldGraph}};
+ghost use Rattle.nl_reports.specs.{Found.{IsFound}, GraphText.{seen_graph}, Jobs.{Job as SeenJob, seen}, Numbers.{total_time}, Plans.{AreEstimates, HavePlan, IsToldBy, kept}, Reaches.{AreOf, ran_seen}, Sweep.{running}, declared.graph.NinjaGraph.{NinjaGraph as HeldGraph}, Gains.{AreGainsOf, IsGain, IsHalfPath}, Spans.{time_of}};
 
-use crate::critical::{Critical, Reaches, append_keyed, critical_lines, critical_of};
-use crate::gains::gain_lines;
+use crate::critical::{Critical, Ran, Reaches, append_keyed, critical_lines, critical_of};
 use crate::graph::NinjaGraph;
-use crate::job::{Job, JobsResult};
+use crate::job::{Job, JobsResult, spans_of};
 use crate::last_entries::item_at;
-use crate::moments::rising;
-use crate::numbers::spans_of;
+use crate::moments::{Span, rising};
 use crate::simulation::{Priority, Waiting};
-use crate::span::Span;
 use nl_table::Secret;
-use nl_tool_texts::{AllocResult, Part, append};
+use nl_tool_texts::{AllocResult, Part, Ranking, append, highest, put};
 use std::alloc::{AllocError, Global};
 
 /// A graph, the numbers of commands at a time that estimates are asked for, and of how many commands at most it is told what is gained by them.
@@ -160,4 +157,50 @@ fn are_few(alloc: Global, plan: &[Span], count: usize) -> AllocResult<bool>
         }
     }
     Ok(true)
+}
+
+/// For so many commands of the critical path, those that took the longest, how much shorter it is if one of them took half.
+pub(crate) fn gain_lines(screen: bool, most: usize, found: &Critical) -> AllocResult<Vec<u8>>
+    ensures value { (g : HeldGraph) (js : List SeenJob) → IsFound g js found.now
+        → IfOk result (λ lines. AreGainsOf screen (seen_graph g) js most lines.items) }
+{
+    let commands = &found.path.commands;
+    let longest = highest(*commands.allocator(), &ByTime, most, commands.as_slice())?;
+    let mut lines = Vec::new(*commands.allocator());
+    if screen && most > 0 {
+        put!(&mut lines; b"\nSaved if a command took half\nSaved\tOutput\n")?;
+    }
+    for i in 0..longest.len() {
+        append_gain(screen, found, &longest[i], &mut lines)?;
+    }
+    Ok(lines)
+}
+
+fn append_gain(screen: bool, found: &Critical, ran: &Ran, lines: &mut Vec<u8>) -> AllocResult
+    ensures ok { (js : List SeenJob) → AreOf found.now.reaches.graph.now js found.now.reaches → OnOk result
+        (IsGain screen (seen_graph found.now.reaches.graph.now) js found.now.path.length (ran_seen ran.now) lines.old.items lines.new.items) }
+{
+    let half = half_length(&found.reaches, ran)?;
+    let gain = Part::Took(screen, found.path.length.saturating_sub(half));
+    let (key, name) = (Part::Text(b"gain"), Part::Text(ran.name));
+    append_keyed(screen, &[key, gain, name], lines)
+}
+
+fn half_length(reaches: &Reaches, ran: &Ran) -> AllocResult<u128>
+    ensures value { (js : List SeenJob) → AreOf reaches.now.graph.now js reaches.now
+        → IfOk result (IsHalfPath (seen_graph reaches.now.graph.now) js (ran_seen ran.now)) }
+{
+    let half = reaches.with_half(ran.place)?;
+    let found = half.path()?;
+    Ok(found.length)
+}
+
+struct ByTime;
+
+impl<'a> Ranking<Ran<'a>> for ByTime {
+    ghost rank = { λ by ran. time_of ran.span };
+
+    fn rank(&self, ran: &Ran<'a>) -> u128 {
+        u128::from(ran.span.time())
+    }
 }

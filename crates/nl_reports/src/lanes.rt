@@ -2,7 +2,7 @@
 ghost use Rattle.std.specs.Prelude.{◌≡◌, ◌++◌, ◌∷◌, [], ◌+◌, ◌*◌, ◌<◌, ◌≤◌, ℕ, length, slice_index, IfOk, IfSome, IsNone, OnOk};
 ghost use Rattle.nl_reports.specs.Lanes.{AreBusy, AreLow, first_free, given, lanes};
 
-use crate::span::Span;
+use crate::moments::Span;
 use nl_tool_texts::AllocResult;
 use std::alloc::Global;
 

@@ -1,8 +1,9 @@
-//! Builds without what later ones made again.
+//! Builds without what later ones made again, and which command has an output.
 ghost use Rattle.std.specs.{Prelude.{◌≡◌, ℕ, List, get_or, length, map, set, take, IfOk}, List.{list_any}};
-ghost use Rattle.nl_reports.specs.{Jobs.{told}, Lasting.{builds_left, commands_left, is_among, is_held, lasting, marked, marks, whole}};
+ghost use Rattle.nl_reports.specs.{Jobs.{told, seen}, Lasting.{builds_left, commands_left, is_among, is_held, lasting, marked, marks, whole}, Outputs.{HoldPlaces, places_of}};
 
-use indexmap::IndexSet;
+use crate::job::Job;
+use indexmap::{IndexMap, IndexSet};
 use nl_builds::{Build, Builds, Command, How};
 use nl_fields::EntryRef;
 use nl_table::{NameKey, Secret};
@@ -169,4 +170,25 @@ pub(crate) fn set_at<T: Copy>(items: &mut [T], place: usize, item: T)
     if place < items.len() {
         items[place] = item;
     }
+}
+
+/// Each output has the place of the last command that makes it.
+pub(crate) type Outputs<'a> = IndexMap<&'a [u8], usize, Secret>;
+
+/// Names are hashed under a secret.
+pub(crate) fn outputs_of<'a>(
+    alloc: Global,
+    secret: Secret,
+    jobs: &[Job<'_, 'a>],
+) -> AllocResult<Outputs<'a>>
+    ensures value { IfOk result (λ outputs. HoldPlaces (places_of (map seen jobs.now)) outputs.entries) }
+{
+    let mut places = IndexMap::with_hasher(alloc, secret);
+    for place in 0..jobs.len() {
+        let job = &jobs[place];
+        for entry in job.outputs {
+            places.insert(entry.name(), place)?;
+        }
+    }
+    Ok(places)
 }

@@ -2,7 +2,9 @@
 ghost use Rattle.std.specs.Prelude.{◌≡◌, ◌<◌, ◌^◌, ◌++◌, map, OnOk};
 ghost use Rattle.nl_reports.specs.Rows.{Told, heading, list_key, list_line, rank_told, row_lines, shown_name, told_command, told_row};
 
+use crate::kinds::KindRule;
 use crate::shares::PARTS;
+use nl_table::Secret;
 use nl_tool_texts::{AllocResult, Part, Ranking, append, append_line, percent, put, ratio};
 
 /// How many commands there are, the sum of their milliseconds, and that of their weighted times, in parts of a millisecond.
@@ -163,4 +165,15 @@ fn shown_name(listed: Listed, name: &[u8]) -> &[u8]
         Listed::Commands => name,
         Listed::Kinds => if name.is_empty() { b"(none)" } else { name },
     }
+}
+
+#[derive(Clone, Copy, Drop)]
+pub struct Lists {
+    /// Whether a person reads at a terminal.
+    pub screen: bool,
+    /// The most lines of a list.
+    pub most: usize,
+    pub rule: KindRule,
+    /// Kinds are hashed under it.
+    pub secret: Secret,
 }

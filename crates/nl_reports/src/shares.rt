@@ -1,10 +1,9 @@
 //! How much of the time of a build each command counts for, by a sweep over the moments at which commands begin and end.
 ghost use Rattle.std.specs.Prelude.{◌≡◌, List, IfOk, All, Contains, ◌⊎◌, ◌+◌, ◌*◌, ◌<◌, ◌≤◌, ◌^◌, ℕ, [], map, length, slice_index, EachIndex, IsTrue, MatchBool, OnOk};
-ghost use Rattle.nl_reports.specs.{Moments.{AreMoments}, Sweep.{alone_time, busy_time, most_at_once, weight, share_of, parts}, declared.span.Span.{Span}, Shares.{AreSharesOf}, SweepSteps.{AreSums, IsLow, Rises}};
+ghost use Rattle.nl_reports.specs.{Moments.{AreMoments}, Sweep.{alone_time, busy_time, most_at_once, weight, share_of, parts}, declared.moments.Span.{Span}, Shares.{AreSharesOf}, SweepSteps.{AreSums, IsLow, Rises}};
 
 use crate::last_entries::item_at;
-use crate::moments::{Moments, Near, up_to};
-use crate::span::Span;
+use crate::moments::{Moments, Near, Span, up_to};
 use nl_tool_texts::AllocResult;
 use std::alloc::Global;
 

@@ -3,8 +3,7 @@ ghost use Rattle.std.specs.Prelude.{◌≡◌, ◌++◌, [], ℕ, List, map, opt
 ghost use Rattle.nl_reports.specs.{Compare.{compared, compared_of, cost_of, fresh, held_side, job_at, new_time, of_class, old_time, or_unfinished, pair_of, pairs_from, partner, side_of, time_in, told_pair, waits, with_taken}, Jobs.{seen}, Lasting.{marked}, Outputs.{HoldPlaces, places_of}};
 
 use crate::job::{Job, jobs_from};
-use crate::last_entries::{any_named, item_at, names_of, set_at};
-use crate::outputs::{Outputs, outputs_of};
+use crate::last_entries::{Outputs, any_named, item_at, names_of, outputs_of, set_at};
 use indexmap::IndexSet;
 use nl_builds::Builds;
 use nl_table::{NameKey, Secret};

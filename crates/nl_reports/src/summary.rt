@@ -4,14 +4,11 @@ ghost use Rattle.nl_reports.specs.{Jobs.{build_jobs, told}, Numbers.{spans_of}, 
 ghost use Rattle.nl_tool_texts.specs.Falling.{falling};
 
 use crate::choice::{Choice, Scope, chosen};
-use crate::job::{between, commands_between, entries_to, job_of};
+use crate::job::{between, commands_between, entries_to, job_of, numbers_of, spans_in};
 use crate::kinds::kinds_of;
-use crate::lists::Lists;
-use crate::moments::{Moments, Near};
-use crate::numbers::{numbers_of, spans_in};
-use crate::rows::{Listed, Listing, Rank, Weighed, append_list};
+use crate::moments::{Moments, Near, Span};
+use crate::rows::{Listed, Listing, Lists, Rank, Weighed, append_list};
 use crate::shares::Shares;
-use crate::span::Span;
 use nl_builds::{Build, Builds, How};
 use nl_tool_texts::{AllocResult, Part, append_line, highest, put, ratio};
 use std::alloc::Global;

@@ -1,15 +1,14 @@
 //! The text of `trace`: the events of builds, as JSON.
 ghost use Rattle.std.specs.Prelude.{◌≡◌, ◌<◌, ◌^◌, ◌++◌, List, IfErr, OnOk, All, ◌∷◌, IfOk, IsTrue, map, string_bytes};
-ghost use Rattle.nl_reports.specs.{Jobs.{seen, told, first_name}, Moments.{AreMoments}, Spans.{IsEarly}, Lanes.{lanes}, Rows.{spans}, declared.span.Span.{Span}, Trace.{commands_text, how_in, number_in, scoped_text}, Events.{args_of, build_event, build_name, command_event, event_text, running_event, shown}};
+ghost use Rattle.nl_reports.specs.{Jobs.{seen, told, first_name}, Moments.{AreMoments}, Spans.{IsEarly}, Lanes.{lanes}, Rows.{spans}, declared.moments.Span.{Span}, Trace.{commands_text, how_in, number_in, scoped_text}, Events.{args_of, build_event, build_name, command_event, event_text, running_event, shown}};
 ghost use Rattle.nl_tool_texts.specs.{Writing.{IsWriteFault, Writes}, Escape.{IsBare}};
 
 use crate::choice::{Choice, Scope, chosen, jobs_in_turn, last_number};
 use crate::frame::first_began;
-use crate::job::{Job, between};
+use crate::job::{Job, between, spans_of};
 use crate::lanes::lanes_of;
 use crate::last_entries::item_at;
 use crate::moments::{Moments, Near};
-use crate::numbers::spans_of;
 use crate::summary::most_taken;
 use json::Writer;
 use nl_builds::{Builds, How};

@@ -3,7 +3,7 @@ ghost use Rattle.std.specs.Prelude.{◌≡◌, map, ◌+◌, ◌<◌, ◌^◌, �
 ghost use Rattle.nl_reports.specs.{Work.{is_in, place, word, work_of}, Jobs.{seen}, Spans.{IsEarly}, Times.{AreTimesOf, times_of, total}};
 
 use crate::job::Job;
-use crate::kind::extension_of;
+use crate::kinds::extension_of;
 
 #[derive(Clone, Copy, Drop)]
 pub enum Work {

@@ -56,10 +56,10 @@ pub use Rattle.nl_session.specs.Parts.{repaired_disk, RepairFailed, OpenLeaves, 
 pub use Rattle.nl_session.specs.Reopening.{Moved, IsCalm, Moves, IsTry, OpenedFrom}
 pub use Rattle.nl_session.specs.Runs.{BeginsAt, HeadlineOn, act_of, faults_of, Ran, RestsThrough, OpensAtLast, TakesMemory, HadMemory}
 pub use Rattle.nl_session.specs.States.{IsAt, Goes, EdgeDone, EdgeFails, Carries, IsReady, RepresentsState}
-pub use Rattle.nl_session.specs.declared.{events.Event.Event, events.Reply.Reply, fault.LogFault.LogFault, state.LogState.LogState}
+pub use Rattle.nl_session.specs.declared.{events.Event.Event, events.Reply.Reply, fault.LogFault.LogFault, fault.LogState.LogState}
 pub use Rattle.nl_session.specs.declared.{append.End.End, append.End.TheVariants.Log as OfLog, append.End.TheVariants.Scratch as OfScratch}
 pub use Rattle.nl_session.specs.declared.events.Event.TheVariants.{Open as OpenLog, Record, Sync, Recompact, Restat, Stop, Crash}
 pub use Rattle.nl_session.specs.declared.events.Reply.TheVariants.{Done, Refused}
 pub use Rattle.nl_session.specs.declared.fault.LogFault.TheVariants.{Fault, NotOpen, Broken as BrokenLog, NegativeTime, OutOfMemory}
-pub use Rattle.nl_session.specs.declared.state.LogState.TheVariants.{Closed, Open, Broken as IsBroken}
+pub use Rattle.nl_session.specs.declared.fault.LogState.TheVariants.{Closed, Open, Broken as IsBroken}
 pub use Rattle.nl_session.specs.Calls.{IsForOpen, IsCounted}

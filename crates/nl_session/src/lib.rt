@@ -9,10 +9,8 @@ pub mod laws;
 mod log;
 mod opening;
 mod rewrite;
-mod state;
 
 pub use events::{Event, Outcome, Reply, reply_to_event, run_events};
-pub use fault::LogFault;
+pub use fault::{LogFault, LogState};
 pub use intent::intent_hash;
 pub use log::{Log, first_negative};
-pub use state::LogState;

@@ -26,7 +26,7 @@ use Rattle.nl_reports.specs.Summary.{summary_text}
 use Rattle.nl_reports.specs.declared.choice.Scope.{Scope}
 use Rattle.nl_reports.specs.declared.jobs.ByGraph.{ByGraph}
 use Rattle.nl_reports.specs.Plans.{IsToldBy}
-use Rattle.nl_reports.specs.declared.lists.Lists.{Lists}
+use Rattle.nl_reports.specs.declared.rows.Lists.{Lists}
 use Rattle.nl_reports.specs.Picture.{IsPicture}
 use Rattle.nl_reports.specs.Trace.{scoped_text}
 use Rattle.nl_tool_texts.specs.Writing.{IsFoundFault, IsWriteFault, PrintsInPieces, Writes}

@@ -10,7 +10,7 @@ use Rattle.nl_versions.specs.VersionOf.{as_five, version_of}
 use Rattle.nl_builds.specs.Builds.{Told, builds_of}
 use Rattle.nl_builds.specs.Recorded.{recorded, unfinished}
 use Rattle.nl_builds.specs.Stamps.{stamps_of}
-use Rattle.nl_builds.specs.declared.log.LogBuilds.{LogBuilds}
+use Rattle.nl_builds.specs.declared.reading.LogBuilds.{LogBuilds}
 use Rattle.nl_tool_texts.specs.Output.{Prints}
 use Rattle.nl_tool_change.specs.RecordWords.{IsToldOf}
 use Rattle.nl_tool_change.specs.declared.line_fault.NumberOf.{NumberOf}
@@ -35,9 +35,9 @@ use Rattle.nl_tool_texts.specs.Writing.{PrintsInPieces}
 use Rattle.nl_reports.specs.declared.choice.Scope.{Scope}
 use Rattle.nl_reports.specs.declared.choice.Scope.TheVariants.{Last, Numbered, All}
 use Rattle.nl_reports.specs.declared.jobs.ByGraph.{ByGraph}
-use Rattle.nl_reports.specs.declared.kind.KindRule.{KindRule}
-use Rattle.nl_reports.specs.declared.kind.KindRule.TheVariants.{Extension, Folder, Top, Work}
-use Rattle.nl_reports.specs.declared.lists.Lists.{Lists}
+use Rattle.nl_reports.specs.declared.kinds.KindRule.{KindRule}
+use Rattle.nl_reports.specs.declared.kinds.KindRule.TheVariants.{Extension, Folder, Top, Work}
+use Rattle.nl_reports.specs.declared.rows.Lists.{Lists}
 use Rattle.nl_tool.specs.declared.reporting.Report.{Report}
 use Rattle.nl_tool.specs.declared.reporting.Report.TheVariants.{Builds, Picture, Summary, Trace}
 

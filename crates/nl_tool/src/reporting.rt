@@ -1,7 +1,7 @@
 //! The words that tell what the builds of a log did, over LOG or standard input, and `compare`, over two logs, with standard output for
 //! their text.
 ghost use Rattle.std.specs.Prelude.{◌≡◌, ℕ, List, map, Some, IfErr, IfOk, IsErrOf, OnOk, is_some};
-ghost use Rattle.nl_builds.specs.declared.log.LogBuilds.{LogBuilds};
+ghost use Rattle.nl_builds.specs.declared.reading.LogBuilds.{LogBuilds};
 ghost use Rattle.nl_tool_texts.specs.{Output.{Prints}, declared.fault.ToolFault.{ToolFault}, Writing.{IsFoundFault, IsWriteFault}};
 ghost use Rattle.nl_versions.specs.VersionOf.{as_five};
 ghost use Rattle.nl_table.specs.Log.{NotALog, OtherVersion, log_of};

@@ -9,7 +9,7 @@ use Rattle.nl_versions.specs.VersionFolder.{disk_as_version, seen_as_version}
 use Rattle.nl_versions.proofs.VersionFolderLemmas.{seen-twice}
 use Rattle.nl_session.specs.declared.fault.LogFault.{LogFault}
 use Rattle.nl_session.specs.declared.fault.LogFault.TheVariants as refusal
-use Rattle.nl_session.specs.declared.state.LogState.TheVariants.{Closed}
+use Rattle.nl_session.specs.declared.fault.LogState.TheVariants.{Closed}
 use Rattle.nl_session.specs.LogView.{LogView}
 use Rattle.nl_session.specs.Mending.{Mends}
 use Rattle.nl_tool_texts.specs.declared.fault.ToolFault.{ToolFault}

@@ -10,13 +10,13 @@ use Rattle.nl_folder.specs.DiskState.{Disk}
 use Rattle.nl_folder.specs.declared.folder.Folder.{Ghosts}
 use Rattle.nl_versions.specs.VersionOf.{version_of}
 use Rattle.nl_versions.specs.LogAs.{is_barred, is_four}
-use Rattle.nl_versions.specs.declared.log_version.FirstLine.{FirstLine}
+use Rattle.nl_versions.specs.declared.version.FirstLine.{FirstLine}
 use Rattle.nl_versions.proofs.LogAsLemmas.{seen_five}
 use Rattle.nl_versions.proofs.VersionOfLemmas.{named_free}
 use Rattle.nl_session.specs.declared.fault.LogFault.{LogFault}
 use Rattle.nl_session.specs.declared.fault.LogFault.TheVariants as refusal
 use Rattle.nl_session.specs.declared.log.Log.{Log}
-use Rattle.nl_session.specs.declared.state.LogState.TheVariants.{Closed}
+use Rattle.nl_session.specs.declared.fault.LogState.TheVariants.{Closed}
 use Rattle.nl_session.specs.LogView.{folder_of, view_of}
 use Rattle.nl_tool_change.specs.Calls.{IsFree, IsVersionFor, Looks}
 use Rattle.nl_folder.specs.FolderView.{FolderView, SameState, folder_view}

@@ -2,9 +2,9 @@
 use Rattle.std.proofs.Common.{◌≡◌, ◌∙◌, ℕ, List, Option, None, Some, ap, codes, refl, sym}
 use Rattle.std.specs.Prelude.{if◌then◌else◌}
 use Rattle.std.specs.Str.{IsUtf8, bytes_eq}
-use Rattle.nl_folder.specs.declared.fuse.Call.{Call}
-use Rattle.nl_folder.specs.declared.fuse.Call.TheVariants.{ReadLog, AppendLog, CutLog, SyncLog, StartScratch, AppendScratch, SyncScratch}
-use Rattle.nl_folder.specs.declared.fuse.Call.TheVariants.{Replace, Any}
+use Rattle.nl_folder.specs.declared.choices.Call.{Call}
+use Rattle.nl_folder.specs.declared.choices.Call.TheVariants.{ReadLog, AppendLog, CutLog, SyncLog, StartScratch, AppendScratch, SyncScratch}
+use Rattle.nl_folder.specs.declared.choices.Call.TheVariants.{Replace, Any}
 use Rattle.nl_tool_change.specs.Replay.{text_of_word, word_of}
 use Rattle.nl_tool_change.specs.declared.script.Word.{Word}
 use Rattle.nl_tool_change.specs.declared.script.Word.TheVariants as word

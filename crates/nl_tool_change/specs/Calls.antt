@@ -20,7 +20,7 @@ use Rattle.nl_versions.specs.VersionFolder.{seen_as_version}
 use Rattle.nl_folder.specs.declared.folder.Folder.{Ghosts}
 use Rattle.nl_session.specs.declared.fault.LogFault.{LogFault}
 use Rattle.nl_session.specs.declared.fault.LogFault.TheVariants as refusal
-use Rattle.nl_session.specs.declared.state.LogState.{LogState}
+use Rattle.nl_session.specs.declared.fault.LogState.{LogState}
 use Rattle.nl_session.specs.Calls as log
 use Rattle.nl_session.specs.Machine.{IsFirstNegative, State, all_of}
 use Rattle.nl_session.specs.Opened.{IsLog, survivors}

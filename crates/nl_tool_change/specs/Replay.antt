@@ -8,9 +8,9 @@ use Rattle.nl_fields.specs.EntryLine.{line_of}
 use Rattle.nl_table.specs.declared.log_user.KeepList.{KeepList}
 use Rattle.nl_table.specs.declared.log_user.KeepList.TheVariants.{All, Only}
 use Rattle.nl_table.specs.History.{Began}
-use Rattle.nl_folder.specs.declared.fuse.Call.{Call}
-use Rattle.nl_folder.specs.declared.fuse.Call.TheVariants.{ReadLog, AppendLog, CutLog, SyncLog, StartScratch, AppendScratch, SyncScratch}
-use Rattle.nl_folder.specs.declared.fuse.Call.TheVariants.{Replace, Any}
+use Rattle.nl_folder.specs.declared.choices.Call.{Call}
+use Rattle.nl_folder.specs.declared.choices.Call.TheVariants.{ReadLog, AppendLog, CutLog, SyncLog, StartScratch, AppendScratch, SyncScratch}
+use Rattle.nl_folder.specs.declared.choices.Call.TheVariants.{Replace, Any}
 use Rattle.nl_folder.specs.DiskState.{Disk}
 use Rattle.nl_session.specs.declared.events.Event.{Event}
 use Rattle.nl_session.specs.declared.events.Event.TheVariants.{Open as OpenLog, Record, Sync, Recompact, Restat, Stop, Crash}

@@ -4,7 +4,7 @@ use Rattle.nl_versions.specs.declared.version.LogVersion.{LogVersion}
 use Rattle.nl_versions.specs.declared.version.LogVersion.TheVariants.{Five, Six, Seven}
 use Rattle.nl_folder.specs.declared.folder.Folder.{Ghosts}
 use Rattle.nl_versions.specs.VersionFolder.{seen_as_version}
-use Rattle.nl_session.specs.declared.state.LogState.TheVariants.{Closed}
+use Rattle.nl_session.specs.declared.fault.LogState.TheVariants.{Closed}
 use Rattle.nl_session.specs.LogView.{LogView, view_of}
 use Rattle.nl_tool_change.specs.declared.seen.AnyLog.{AnyLog}
 use Rattle.nl_tool_change.specs.declared.seen.AnyLog.TheVariants.{OfFive, OfSix, OfSeven}

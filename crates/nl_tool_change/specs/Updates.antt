@@ -7,8 +7,8 @@ use Rattle.nl_table.specs.LogText.{text_of}
 use Rattle.nl_folder.specs.DiskState.{Disk}
 use Rattle.nl_folder.specs.CrashImages.{IsImage}
 use Rattle.nl_session.specs.declared.fault.LogFault.{LogFault}
-use Rattle.nl_session.specs.declared.state.LogState.{LogState}
-use Rattle.nl_session.specs.declared.state.LogState.TheVariants.{Open}
+use Rattle.nl_session.specs.declared.fault.LogState.{LogState}
+use Rattle.nl_session.specs.declared.fault.LogState.TheVariants.{Open}
 use Rattle.nl_session.specs.Machine.{State, MayHaveGained, all_of, durable_at, gained_state, history_opened}
 use Rattle.nl_session.specs.Opened.{IsLog, opened_bytes}
 use Rattle.nl_session.specs.Parts.{IsDurable}

@@ -4,7 +4,6 @@
 mod answers;
 mod apply;
 mod asked;
-mod change;
 mod files;
 pub mod laws;
 mod line_fault;

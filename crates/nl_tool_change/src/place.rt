@@ -1,18 +1,58 @@
 //! Where a log stands that is changed: in a folder, as it is, or as one of the version that is asked for.
-ghost use Rattle.std.specs.Prelude.{◌≡◌, Result, IfErr};
+ghost use Rattle.std.specs.Prelude.{◌≡◌, Result, IfErr, OnOk};
 ghost use Rattle.nl_tool_texts.specs.declared.fault.ToolFault.{ToolFault};
-ghost use Rattle.nl_tool_change.specs.{Calls.{ChangesLog, ChangesLogAs, ChangesLogFor, IsFaultBy, IsFree, Meaning, Repairs, RepairsFor, keeping_all}, Faults.{IsRecordFault}, Mending.{MendsLogAs}};
+ghost use Rattle.nl_tool_change.specs.{Calls.{ChangesLog, ChangesLogAs, ChangesLogFor, IsFaultBy, IsFree, Meaning, Repairs, RepairsFor, keeping_all, Makes}, Faults.{IsRecordFault, IsOpenOrChangeRefusal, of_log_answer, of_log_fault}, Mending.{MendsLogAs}};
 ghost use Rattle.nl_folder.specs.FolderView.{folder_view};
+ghost use Rattle.nl_session.specs.{LogView.{view_of}, declared.fault.LogState.{LogState}};
 
-use crate::change::{Change, of_log_fault};
 use crate::reading::look_for;
 use crate::seen::SeenLog;
 use nl_fields::Name;
 use nl_folder::Folder;
-use nl_table::{NO_SECRET, Secret};
-use nl_tool_texts::ToolResult;
+use nl_session::{Log, LogFault};
+use nl_table::{KeepAll, NO_SECRET, Secret};
+use nl_tool_texts::{ToolFault, ToolResult};
 use nl_versions::LogVersion;
 use std::alloc::Global;
+
+/// What a log answers.
+pub type LogResult<T = ()> = Result<T, LogFault>;
+
+pub trait Change {
+    ghost meaning: { Self → Meaning };
+
+    fn make<F: Folder>(&self, log: &mut Log<F>) -> LogResult
+        requires open { (view_of log.old).mode ≡ LogState.Open }
+        ensures call { Makes (meaning self.now) result (view_of log.old) (view_of log.new) };
+}
+
+/// The first refusal ends it, and what was done before stands.
+pub fn change_log<F: Folder, C: Change>(log: &mut Log<F>, change: &C) -> LogResult
+    requires closed { (view_of log.old).mode ≡ LogState.Closed }
+    ensures call { ChangesLog (C.meaning change.now) (of_log_answer result) (view_of log.old).folder (view_of log.new).folder }
+    ensures refusals { IfErr result IsOpenOrChangeRefusal }
+    ensures closed { OnOk result ((view_of log.new).mode ≡ LogState.Closed) }
+{
+    log.open(&KeepAll)?;
+    change.make(log)?;
+    log.sync()?;
+    log.stop()
+}
+
+/// The fault of a log, as the tool says it.
+pub fn of_log_fault(fault: LogFault) -> ToolFault
+    requires { IsOpenOrChangeRefusal fault }
+    ensures value { result ≡ of_log_fault fault }
+{
+    match fault {
+        LogFault::NegativeTime(index) => ToolFault::NegativeTime(index),
+        LogFault::NotALog => ToolFault::NotALog,
+        LogFault::OtherVersion => ToolFault::OtherVersion,
+        LogFault::OutOfMemory => ToolFault::Memory,
+        LogFault::Fault => ToolFault::Folder,
+        LogFault::NotOpen | LogFault::AlreadyOpen | LogFault::Broken => unreachable!(),
+    }
+}
 
 /// Each folder is a place, whose log is changed as it is.
 pub trait LogPlace: Sized {

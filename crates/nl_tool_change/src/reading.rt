@@ -6,7 +6,7 @@ ghost use Rattle.nl_session.specs.declared.fault.LogFault.{LogFault};
 ghost use Rattle.nl_folder.specs.FolderView.{folder_view};
 ghost use Rattle.nl_tool_change.specs.{Calls.{Looks}, Distrusts.{AreDistrusted, Distrusts}, Mending.{ReadsWhole}};
 
-use crate::change::{LogResult, of_log_fault};
+use crate::place::{LogResult, of_log_fault};
 use nl_distrust::distrusted;
 use nl_folder::{Folder, LogReader};
 use nl_lines::SliceSource;

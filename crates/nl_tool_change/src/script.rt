@@ -1,7 +1,7 @@
 //! The command `replay`, and reading its script: what a folder in memory is told, and then the events.
 ghost use Rattle.std.specs.{Prelude.{◌≡◌, ◌↔◌, ◌<◌, ◌++◌, ◌∷◌, ◌^◌, ℕ, [], pos, true, false, Some, length, IfErr, IfOk, IfSome, IsErr, IsErrAnd, IsErrOf, IsSome, OnOk, flat_map}, List.{All as Each}};
 ghost use Rattle.nl_fields.specs.{Digits.{IsDecimal}, Fields.{HasNoTab}, Name.{IsName}, declared.name.NameFault.{NameFault}, declared.entry.Entry.{Entry}};
-ghost use Rattle.nl_folder.specs.{declared.fuse.Call.{Call}, MemFolder.{durable_view, mem_view_of, failure_count, choices_of}};
+ghost use Rattle.nl_folder.specs.{declared.choices.Call.{Call}, MemFolder.{durable_view, mem_view_of, failure_count, choices_of}};
 ghost use Rattle.nl_tool_change.specs.{Faults.{IsBadLine, IsFaultOfLine, IsReplayFault, IsScriptFault}, declared.script.LineRefusal.TheVariants.{OutOfMemory}, declared.script.Word.{Word}, Reading.{HoldsNames, IsLineOf, IsReadable, LacksMemory, SaysNames, SaysTimes, fields_of_event, word_of_event}, Replay.{IsReplayOf, IsReplayText, IsScript, KeepsSome, NamesSome, SaysMore, TakesScriptLine, behind_tab, event_line, keep_fields, name_field, text_of_word, time_fields, told_by, word_of}};
 ghost use Rattle.nl_tool_texts.specs.{Files.{OfBytes, file_lines}, Output.{Prints}};
 ghost use Rattle.nl_session.specs.declared.events.Event.{Event};

@@ -1,11 +1,17 @@
-//! What is said of the files of outputs.
-ghost use Rattle.std.specs.Prelude.{◌≡◌, ℕ, List, Option, IfOk, IfSome};
-ghost use Rattle.nl_tool_doubt.specs.{Doubts.{AreLooked}, Judging.{is_present, is_written, was_moved}, declared.files.FileState.{FileState}};
+//! What the files of a log's outputs are: which are there, and when each was written.
+ghost use Rattle.std.specs.Prelude.{◌≡◌, ℕ, List, Option, IfOk, IfSome, ◌++◌, ◌≤◌, ◌⊎◌, [], length, IfErr, IsErrOf, OnOk, count_by, flat_map};
+ghost use Rattle.nl_tool_doubt.specs.{Doubts.{AreLooked}, Judging.{is_present, is_written, was_moved}, declared.files.FileState.{FileState}, There.{AddsFor, KeepsMost, LosesMost, is_kept, learned, name_by, pair_by}};
+ghost use Rattle.nl_table.specs.Log.{log_of};
+ghost use Rattle.nl_tool_texts.specs.declared.fault.ToolFault.{ToolFault};
+ghost use Rattle.nl_tool_print.specs.Faults.{IfNotALog, IfOtherVersion, IsLogFault};
+ghost use Rattle.nl_versions.specs.VersionOf.{as_five};
 
-use nl_fields::EntryRef;
-use nl_table::Table;
-use nl_tool_texts::AllocResult;
+use nl_fields::{Entry, EntryRef, Name, is_intent};
+use nl_table::{NameSet, Secret, Table};
+use nl_tool_print::load_read;
+use nl_tool_texts::{AllocResult, ToolFault, ToolResult};
 use std::alloc::Global;
+use std::io::Read;
 
 const SECOND: i128 = 1_000_000_000;
 
@@ -82,4 +88,83 @@ pub(crate) fn look_all<'a, F: OutputFiles>(
         }
     }
     Ok(looked)
+}
+
+/// The targets, and each output whose file isn't missing: the file of each is asked for, in the order of first appearance. If the log
+/// has more outputs that are neither than others, the folder is that of another build, and nothing is to be dropped (`Elsewhere`).
+pub fn names_there<R: Read + Drop, F: OutputFiles>(
+    alloc: Global,
+    secret: Secret,
+    reader: R,
+    files: &F,
+    targets: Vec<Name>,
+) -> ToolResult<NameSet>
+    ensures kept { IfOk result (KeepsMost (R.remaining reader) (F.states files.now) targets.items) }
+    ensures elsewhere { IsErrOf result ToolFault.Elsewhere → (set : List (List ℕ))
+        × LosesMost (R.remaining reader) (F.states files.now) targets.items set }
+    ensures not_a_log { IfNotALog result (λ bs. log_of (as_five bs)) (R.remaining reader) }
+    ensures other_version { IfOtherVersion result (λ bs. log_of (as_five bs)) (R.remaining reader) }
+    ensures faults { IfErr result (λ e. IsLogFault e ⊎ (e ≡ ToolFault.Elsewhere)) }
+{
+    let (_, loaded) = load_read(alloc, secret, None, reader)?;
+    let looked = look_all(alloc, &loaded.table, files)?;
+    let mut names = targets;
+    add_names(alloc, looked.as_slice(), &mut names)?;
+    let set = NameSet::of(alloc, secret, names)?;
+    let kept = count_kept(&set, looked.as_slice());
+    if kept < looked.len() - kept {
+        return Err(ToolFault::Elsewhere);
+    }
+    Ok(set)
+}
+
+fn count_kept(set: &NameSet, looked: &[Looked]) -> usize
+    ensures value { result ≡ count_by (is_kept set.now) looked.now }
+    ensures bound { result ≤ length looked.now }
+{
+    looked.iter().filter(|it| set.has(it.entry.name())).count()
+}
+
+/// It asks for the file of each output, in the order of first appearance, and gives the time of each that has one. An output whose last entry
+/// is an intent is passed over, because with a time stamp a command passes for it.
+pub fn times_there<R: Read + Drop, F: OutputFiles>(
+    alloc: Global,
+    secret: Secret,
+    reader: R,
+    files: &F,
+) -> ToolResult<Vec<(Name, i64)>>
+    ensures given { IfOk result (λ times. AddsFor pair_by (R.remaining reader) (F.states files.now) [] times.items) }
+    ensures not_a_log { IfNotALog result (λ bs. log_of (as_five bs)) (R.remaining reader) }
+    ensures other_version { IfOtherVersion result (λ bs. log_of (as_five bs)) (R.remaining reader) }
+    ensures faults { IfErr result IsLogFault }
+{
+    let (_, loaded) = load_read(alloc, secret, None, reader)?;
+    let looked = look_all(alloc, &loaded.table, files)?;
+    Ok(times_of(alloc, looked.as_slice())?)
+}
+
+fn add_names(alloc: Global, looked: &[Looked], names: &mut Vec<Name>) -> AllocResult
+    ensures items { OnOk result (names.new.items ≡ names.old.items ++ flat_map (learned name_by) looked.now) }
+{
+    for it in looked {
+        if !matches!(it.file, FileState::Missing) {
+            names.push(Entry::of(alloc, &it.entry)?.name)?;
+        }
+    }
+    Ok(())
+}
+
+fn times_of(alloc: Global, looked: &[Looked]) -> AllocResult<Vec<(Name, i64)>>
+    ensures items { IfOk result (λ times. times.items ≡ flat_map (learned pair_by) looked.now) }
+{
+    let mut times = Vec::new(alloc);
+    for it in looked {
+        let FileState::Written(at) = it.file else {
+            continue;
+        };
+        if !is_intent(&it.entry) {
+            times.push((Entry::of(alloc, &it.entry)?.name, at.written))?;
+        }
+    }
+    Ok(times)
 }

@@ -8,10 +8,8 @@ pub mod laws;
 mod mending;
 mod moments;
 mod spans;
-mod there;
 
 pub use doubts::{Doubted, Doubts, doubts_of, untrusted_of, write_doubts};
-pub use files::{FileState, FileTimes, Looked, OutputFiles};
+pub use files::{FileState, FileTimes, Looked, OutputFiles, names_there, times_there};
 pub use judge::Doubt;
 pub use mending::{How, Mended, mend_to};
-pub use there::{names_there, times_there};

@@ -1,16 +1,16 @@
-//! The command `show`, and the load of a log.
-ghost use Rattle.std.specs.{Prelude.{◌≡◌, ◌≤◌, [], map, vec_capacity, IfErr, IfOk, IsErrOf, OnErr, OnOk}, Io.KnownBytes.{Appends}};
+//! The commands `show` and `check`, and the load of a log.
+ghost use Rattle.std.specs.{Prelude.{◌≡◌, ◌≤◌, [], map, vec_capacity, IfErr, IfOk, IsErrOf, OnErr, OnOk, length, string_bytes}, Io.KnownBytes.{Appends}};
 ghost use Rattle.nl_fields.specs.EntryLine.{line_of};
 ghost use Rattle.nl_lines.specs.Split.{joined};
 ghost use Rattle.nl_table.specs.Log.{log_of};
-ghost use Rattle.nl_tool_print.specs.{Faults.{IfNotALog, IfOtherVersion, IsLogFault}, Output.{IsTextAsRead, show_text_of}, Versions.{show_text_for}};
+ghost use Rattle.nl_tool_print.specs.{Faults.{IfNotALog, IfOtherVersion, IsLogFault}, Output.{IsTextAsRead, show_text_of, check_text_of, report, yes_or_no}, Versions.{show_text_for, IsReportFor}};
 ghost use Rattle.nl_tool_texts.specs.{Output.{AppendsPrefixOf, Prints}, declared.fault.ToolFault.{ToolFault}};
 ghost use Rattle.nl_versions.specs.{Loading.{IsLoadFor}, LogAs.{log_for}};
 
 use nl_fields::{MAX_ENTRY_LINE, append_entry};
 use nl_lines::ReadSource;
-use nl_table::{Loaded, NO_SECRET, Secret, Table};
-use nl_tool_texts::{ToolResult, write_full, write_out};
+use nl_table::{Loaded, NO_SECRET, Secret, Table, is_due};
+use nl_tool_texts::{AllocResult, ToolResult, write_full, write_out};
 use nl_versions::{LogVersion, load_seen};
 use std::alloc::Global;
 use std::io::{Read, Write};
@@ -80,4 +80,52 @@ pub fn load_read<R: Read + Drop>(
     ensures write { IsErrOf result ToolFault.Write → ⊥ }
 {
     Ok(load_seen(alloc, secret, asked, ReadSource::new(reader))?)
+}
+
+/// Writes six lines: the log's version, its counts of entry lines, outputs, skipped lines and torn bytes, and whether it is due.
+pub fn check_to<R: Read + Drop, W: Write>(alloc: Global, reader: R, writer: &mut W) -> ToolResult
+    ensures prints { Prints (IsTextAsRead check_text_of (R.remaining reader)) (W.contents writer.old) (W.contents writer.new) result }
+    ensures not_a_log { IfNotALog result log_of (R.remaining reader) }
+    ensures other_version { IfOtherVersion result log_of (R.remaining reader) }
+    ensures faults { IfErr result IsLogFault }
+{
+    check_log(alloc, NO_SECRET, Some(LogVersion::Five), reader, writer)
+}
+
+/// As `check_to`, on a log of the version that is asked for, or else of the one that its first line names. Names are hashed under the
+/// secret.
+pub fn check_log<R: Read + Drop, W: Write>(
+    alloc: Global,
+    secret: Secret,
+    asked: Option<LogVersion>,
+    reader: R,
+    writer: &mut W,
+) -> ToolResult
+    ensures prints { Prints (IsReportFor asked (R.remaining reader)) (W.contents writer.old) (W.contents writer.new) result }
+    ensures not_a_log { IfNotALog result (log_for asked) (R.remaining reader) }
+    ensures other_version { IfOtherVersion result (log_for asked) (R.remaining reader) }
+    ensures faults { IfErr result IsLogFault }
+{
+    let (version, mut loaded) = load_read(alloc, secret, asked, reader)?;
+    loaded.version = version.number(loaded.version);
+    let report = report_text(alloc, &loaded)?;
+    write_out(report.as_bytes(), writer)
+}
+
+fn report_text(alloc: Global, loaded: &Loaded) -> AllocResult<String>
+    ensures value { IfOk result (λ text. string_bytes text ≡ report loaded.now.version
+        loaded.now.total (length loaded.now.table) loaded.now.skipped loaded.now.torn) }
+{
+    let unique = loaded.table.len() as u64;
+    let due = yes_or_no(is_due(loaded.version, loaded.total, unique));
+    format!(in alloc;
+        "version {}\ntotal {}\nunique {unique}\nskipped {}\ntorn {}\ndue {due}\n",
+        loaded.version, loaded.total, loaded.skipped, loaded.torn
+    )
+}
+
+fn yes_or_no(yes: bool) -> &'static str
+    ensures { result.now ≡ yes_or_no yes }
+{
+    if yes { "yes" } else { "no" }
 }

@@ -5,22 +5,17 @@
 mod columns;
 mod escape;
 mod fault;
-mod fraction;
 mod graph_line;
 pub mod laws;
-mod output;
 mod ranking;
-mod shown;
 mod text;
 
-pub use columns::{in_columns, lines_of};
+pub use columns::{append_number, in_columns, lines_of};
 pub use escape::{append_cut_name, append_label};
 pub use fault::{ToolFault, ToolResult, status_of};
-pub use fraction::{percent, ratio};
 pub use graph_line::{Line, line_in};
-pub use output::{write_full, write_out};
 pub use ranking::{Ranking, falling, highest};
-pub use shown::append_number;
 pub use text::{
-    AllocResult, BEGINNING, Part, append, append_line, append_parts, append_with, is_bare,
+    AllocResult, BEGINNING, Part, append, append_line, append_parts, append_with, is_bare, percent,
+    ratio, write_full, write_out,
 };

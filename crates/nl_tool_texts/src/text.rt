@@ -1,9 +1,11 @@
-//! Texts that are appended part by part.
-ghost use Rattle.std.specs.Prelude.{◌≡◌, ◌++◌, IsTrue, OnOk, map, All};
-ghost use Rattle.nl_tool_texts.specs.{Escape.{IsBare}, Texts.{change_text, line, part_text, parts_text, rest_text, sign, time_text, took_text, two_text}};
+//! Texts that are appended part by part, and written in as many writes as it takes, or piece by piece, as they are made.
+ghost use Rattle.std.specs.{Prelude.{◌≡◌, ◌++◌, IsTrue, OnOk, map, All, ◌<◌, ◌^◌, IfOk, string_bytes, ◌≤◌, length, vec_capacity, OnErr, IfErr}, Io.KnownBytes.{Appends}};
+ghost use Rattle.nl_tool_texts.specs.{Escape.{IsBare}, Texts.{change_text, line, part_text, parts_text, rest_text, sign, time_text, took_text, two_text}, Fraction.{percent, ratio}, Output.{AppendsPrefixOf}, Writing.{HoldsAllBut}};
 
+use crate::fault::{ToolFault, ToolResult};
 use itoa::{Buffer, Integer};
-use std::alloc::AllocError;
+use std::alloc::{AllocError, Global};
+use std::io::Write;
 
 /// What a function answers that is refused nothing but memory.
 pub type AllocResult<T = ()> = Result<T, AllocError>;
@@ -172,4 +174,65 @@ fn is_bare_byte(byte: u8) -> bool
     (32 <= byte && byte <= 126)
         && (byte != b'"' && byte != b'\\')
         && (byte != b'<' && byte != b'>' && byte != b'&')
+}
+
+// The part in a hundred of a whole, rounded down, and a hundred at most.
+pub fn percent(part: u128, whole: u128) -> u128
+    requires room { whole < 2 ^ 120 }
+    ensures value { result ≡ percent part whole }
+{
+    if whole == 0 {
+        return 0;
+    }
+    if part >= whole {
+        return 100;
+    }
+    part * 100 / whole
+}
+
+// A fraction with two digits after the point, rounded down.
+pub fn ratio(alloc: Global, part: u128, whole: u128) -> AllocResult<String>
+    requires room { whole < 2 ^ 120 }
+    ensures value { IfOk result (λ text. string_bytes text ≡ ratio part whole) }
+{
+    if whole == 0 {
+        return String::from_str(alloc, "0.00");
+    }
+    let times = part / whole;
+    let hundredths = part % whole * 100 / whole;
+    let tenth = hundredths / 10;
+    let hundredth = hundredths % 10;
+    format!(in alloc; "{times}.{tenth}{hundredth}")
+}
+
+/// It stops at the first write that fails or takes no byte. A write that was interrupted has failed.
+pub fn write_out<W: Write>(text: &[u8], writer: &mut W) -> ToolResult
+    ensures ok { OnOk result (Appends (W.contents writer.old) (W.contents writer.new) text.now) }
+    ensures prefix { OnErr result (AppendsPrefixOf (W.contents writer.old) (W.contents writer.new) text.now) }
+    ensures faults { IfErr result (λ e. e ≡ ToolFault.Write) }
+{
+    let mut rest = text;
+    while !rest.is_empty() {
+        match writer.write(rest) {
+            Ok(0) | Err(_) => return Err(ToolFault::Write),
+            Ok(n) => rest = &rest[n..],
+        }
+    }
+    Ok(())
+}
+
+/// Writes what is held of a text, if that is more than so many bytes.
+pub fn write_full<W: Write>(most: usize, held: &mut Vec<u8>, writer: &mut W) -> ToolResult
+    ensures few { OnOk result (length held.new.items ≤ most) }
+    ensures capacity { vec_capacity held.old ≤ vec_capacity held.new }
+    ensures moved { OnOk result (HoldsAllBut (W.contents writer.old) (W.contents writer.new) held.old.items held.new.items) }
+    ensures prefix { OnErr result (AppendsPrefixOf (W.contents writer.old) (W.contents writer.new) held.old.items) }
+    ensures faults { IfErr result (λ e. e ≡ ToolFault.Write) }
+{
+    if held.len() <= most {
+        return Ok(());
+    }
+    write_out(held.as_slice(), writer)?;
+    held.clear();
+    Ok(())
 }

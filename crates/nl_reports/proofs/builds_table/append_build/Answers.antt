@@ -3,7 +3,7 @@ use Rattle.std.proofs.lemmas.Result.{on_ok_weaker}
 use Rattle.std.specs.Prelude.{decimal}
 use Rattle.nl_builds.specs.declared.build.How.{How}
 use Rattle.nl_reports.specs.BuildsText.{border_word, numbers_line, told_line, taken_text}
-use Rattle.nl_reports.specs.declared.numbers.Numbers.{Numbers}
+use Rattle.nl_reports.specs.declared.job.Numbers.{Numbers}
 use Rattle.nl_tool_texts.specs.Texts.{joined}
 use Rattle.nl_reports.proofs.builds_table.append_build.Goals as goal
 

@@ -1,5 +1,5 @@
 use Rattle.std.proofs.Common.{◌≡◌, ◌++◌, List}
-use Rattle.nl_reports.specs.declared.span.Span.{Span}
+use Rattle.nl_reports.specs.declared.moments.Span.{Span}
 use Rattle.nl_reports.specs.Moments.{AreMoments}
 use Rattle.nl_reports.specs.Curve.{points}
 use Rattle.nl_reports.proofs.frame.append_curve.Given as goal

@@ -4,7 +4,7 @@ use Rattle.nl_reports.specs.Plans.{kept}
 use Rattle.nl_reports.specs.Rows.{spans}
 use Rattle.nl_reports.specs.Sweep.{last_moment, running}
 use Rattle.nl_reports.specs.declared.job.Job.{Job}
-use Rattle.nl_reports.specs.declared.span.Span.{Span}
+use Rattle.nl_reports.specs.declared.moments.Span.{Span}
 use Rattle.nl_reports.proofs.ReachesLemmas.{have_plan}
 use Rattle.nl_reports.proofs.jobs.wall_of.Goals as goal
 

@@ -9,7 +9,7 @@ use Rattle.nl_reports.specs.Rows.{weights_of}
 use Rattle.nl_reports.specs.Spans.{span_of}
 use Rattle.nl_reports.specs.Summary.{with_numbers}
 use Rattle.nl_reports.specs.Sweep.{weight}
-use Rattle.nl_reports.specs.declared.span.Span.{Span}
+use Rattle.nl_reports.specs.declared.moments.Span.{Span}
 use Rattle.nl_reports.proofs.JobLemmas.{spans_from}
 use Rattle.nl_reports.proofs.SharesLemmas.{contains_map}
 use Rattle.nl_reports.proofs.summary.add_numbers.Goals as goal

@@ -11,7 +11,7 @@ use Rattle.nl_reports.specs.Frame.{first_began}
 use Rattle.nl_reports.specs.Lanes.{lanes}
 use Rattle.nl_reports.specs.Moments.{AreMoments}
 use Rattle.nl_reports.specs.declared.trace.BuildEvent.{BuildEvent}
-use Rattle.nl_reports.specs.declared.span.Span.{Span}
+use Rattle.nl_reports.specs.declared.moments.Span.{Span}
 use Rattle.nl_reports.proofs.trace.trace_builds.Goals as goal
 
 pub returns-in_default-clause-writes : goal.returns-in_default-clause-writes

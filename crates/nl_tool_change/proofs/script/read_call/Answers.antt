@@ -1,8 +1,8 @@
 use Rattle.std.proofs.Common.{◌∙◌, subst, sym}
 use Rattle.std.specs.Str.{IsUtf8}
 use Rattle.nl_tool_change.proofs.WordLemmas.{call_is_text, no_call, one_call}
-use Rattle.nl_folder.specs.declared.fuse.Call.TheVariants.{ReadLog, AppendLog, CutLog, SyncLog, StartScratch, AppendScratch, SyncScratch}
-use Rattle.nl_folder.specs.declared.fuse.Call.TheVariants.{Replace, Any}
+use Rattle.nl_folder.specs.declared.choices.Call.TheVariants.{ReadLog, AppendLog, CutLog, SyncLog, StartScratch, AppendScratch, SyncScratch}
+use Rattle.nl_folder.specs.declared.choices.Call.TheVariants.{Replace, Any}
 use Rattle.nl_tool_change.proofs.script.read_call.Goals as goal
 
 pub returns-in-read_log : goal.returns-in-read_log

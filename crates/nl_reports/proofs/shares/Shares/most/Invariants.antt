@@ -2,7 +2,7 @@ use Rattle.std.proofs.Common.{◌≡◌, List, drop, max}
 use Rattle.std.specs.List.{fold}
 use Rattle.nl_reports.specs.Shares.{AreSharesOf}
 use Rattle.nl_reports.specs.Sweep.{running}
-use Rattle.nl_reports.specs.declared.span.Span.{Span}
+use Rattle.nl_reports.specs.declared.moments.Span.{Span}
 use Rattle.nl_reports.proofs.shares.Shares.most.Given as goal
 
 -- the most so far, and what is left
