@@ -10,6 +10,9 @@ from trials import read, write
 
 LOG = ".ninja_log"
 
+# A shell has what it runs in the background ignore an interruption, and each tool that is started here would, too.
+signal.signal(signal.SIGINT, signal.default_int_handler)
+
 
 class Builder:
     """A build tool, by the words that run it, in a folder of its own."""
