@@ -69,7 +69,8 @@ pub fn read_hex64(bytes: &[u8]) -> Option<u64>
     }
 }
 
-fn hex_digit(value: u64) -> u8
+/// In lower case.
+pub fn hex_digit(value: u64) -> u8
     requires { value < 16 }
     ensures { result ≡ digit_of value }
 {

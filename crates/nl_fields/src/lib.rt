@@ -12,7 +12,7 @@ mod name;
 mod rapid_hash;
 
 pub use decimal::{read_i32, read_i64};
-pub use digits::{append_hex64, read_hex64};
+pub use digits::{append_hex64, hex_digit, read_hex64};
 pub use entry::{Entry, EntryRef, Stamp, is_intent};
 pub use entry_line::{append_entry, read_entry, read_entry_v4};
 pub use hash::command_hash;

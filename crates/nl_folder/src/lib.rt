@@ -9,6 +9,6 @@ mod mem_file;
 mod mem_folder;
 
 pub use choices::{Call, Fuse};
-pub use folder::{Crashable, Fault, Folder};
+pub use folder::{Crashable, Fault, Folder, count_fault};
 pub use log_reader::LogReader;
 pub use mem_folder::MemFolder;

@@ -12,5 +12,5 @@ mod rewrite;
 
 pub use events::{Event, Outcome, Reply, reply_to_event, run_events};
 pub use fault::{LogFault, LogState};
-pub use intent::intent_hash;
+pub use intent::{intent_hash, lacks_intent};
 pub use log::{Log, first_negative};

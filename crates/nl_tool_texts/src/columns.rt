@@ -1,9 +1,9 @@
 //! The columns of a text at a terminal.
-ghost use Rattle.std.specs.Prelude.{◌≡◌, ◌++◌, length, map, IfOk, OnOk, ◌<◌};
+ghost use Rattle.std.specs.Prelude.{◌≡◌, ◌++◌, length, map, IfOk, OnOk};
 ghost use Rattle.nl_tool_texts.specs.Columns.{begins_one, cell, cells, end_of, field_at, fields_of, in_columns, last_cell, lines_of, newline_before, row_of, rows_up_to, spaces, widest, width, widths, by_number, is_control, shown, shown_byte};
-ghost use Rattle.nl_fields.specs.Digits.{digit_of};
 
 use crate::text::{AllocResult, append};
+use nl_fields::hex_digit;
 use std::alloc::Global;
 
 /// The text with its fields in columns, and its control characters by their numbers. Tabs part the fields of a line. Lines with as many fields
@@ -176,6 +176,7 @@ fn begins_one(byte: u8) -> bool
     !(128..192).contains(&byte)
 }
 
+/// The text without control characters.
 pub fn shown(alloc: Global, text: &[u8]) -> AllocResult<Vec<u8>>
     ensures value { IfOk result (λ out. out.items ≡ shown text.now) }
 {
@@ -197,6 +198,7 @@ pub fn append_number(byte: u8, out: &mut Vec<u8>) -> AllocResult
     ensures { OnOk result (out.new.items ≡ out.old.items ++ by_number byte) }
 {
     append(b"\\x", out)?;
+    let byte = u64::from(byte);
     append(&[hex_digit(byte / 16), hex_digit(byte % 16)], out)
 }
 
@@ -205,11 +207,4 @@ fn is_control(before: u8, byte: u8) -> bool
 {
     (byte < 32 && (byte != b'\t' && byte != b'\n'))
         || (byte == 127 || (before == 194 && (128 <= byte && byte < 160)))
-}
-
-fn hex_digit(value: u8) -> u8
-    requires { value < 16 }
-    ensures { result ≡ digit_of value }
-{
-    if value < 10 { 48 + value } else { 87 + value }
 }
