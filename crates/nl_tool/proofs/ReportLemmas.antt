@@ -32,7 +32,7 @@ use Rattle.nl_reports.specs.Trace.{scoped_text}
 use Rattle.nl_tool_texts.specs.Writing.{IsFoundFault, IsWriteFault, PrintsInPieces, Writes}
 use Rattle.nl_reports.specs.declared.graph.NinjaGraph.{NinjaGraph}
 use Rattle.nl_tool_texts.proofs.WritingLemmas.{pieces_of}
-use Rattle.nl_tool.specs.Answers.{RefusesLog}
+use Rattle.nl_tool_print.specs.Faults.{RefusesLog}
 use Rattle.nl_tool.specs.Faults.{IsGraphFault, IsPathFault, IsReportFault, IsToldFault}
 use Rattle.nl_tool.specs.Reports.{asked_told, IsLaidOut, IsReport, IsSummary, PrintsReport, laid_out}
 use Rattle.nl_tool.specs.declared.reporting.Report.{Report}

@@ -1,4 +1,4 @@
--- What a command that reads a log, a script or a command has to print, and for which bytes it refuses a log (docs/CLI.md).
+-- What a command that reads a log, a script or a command has to print (docs/CLI.md).
 use Rattle.std.specs.Prelude.{⊤, ◌≡◌, ◌↔◌, ◌<◌, ℕ, List, Option, Result, Ok, Err, IfSome, IsErrOf, length, unwrap_or}
 use Rattle.std.specs.Io.KnownBytes.{Appends}
 use Rattle.nl_versions.specs.declared.version.LogVersion.{LogVersion}
@@ -10,10 +10,8 @@ use Rattle.nl_versions.specs.LogAs.{log_for}
 use Rattle.nl_versions.specs.VersionOf.{as_five}
 use Rattle.nl_tool_change.specs.Replay.{IsReplayText}
 use Rattle.nl_table.specs.Log.{LogReading, log_of}
-use Rattle.nl_table.specs.Log as log_reading
 use Rattle.nl_tool_texts.specs.Output.{Prints}
 use Rattle.nl_tool_texts.specs.declared.fault.ToolFault.{ToolFault}
-use Rattle.nl_tool_texts.specs.declared.fault.ToolFault.TheVariants.{NotALog, OtherVersion}
 use Rattle.nl_tool.specs.declared.printing.Printing.{Printing}
 use Rattle.nl_tool.specs.declared.printing.Printing.TheVariants.{Show, Check, Hash, HashFile, Replay, Entries, Damage}
 use Rattle.nl_tool.specs.declared.program.Verdict.{Verdict}
@@ -28,11 +26,6 @@ IsAnswer asked HashFile known text = IsFileHashAs (unwrap_or asked Five) known t
 IsAnswer asked Replay known text = IsReplayText known text
 IsAnswer asked Entries known text = IsTextAsRead (λ bytes. entries_text_of (as_five bytes)) known text
 IsAnswer asked Damage known text = IsTextAsRead (λ bytes. damage_text_of (as_five bytes)) known text
-
--- a log is refused for what its bytes are, where they are known
-pub record RefusesLog {A : Type 0} (reading : List ℕ → LogReading) (known : Option (List ℕ)) (result : Result A ToolFault) : Type 0 where
-  pub not_a_log : IsErrOf result NotALog → IfSome known (λ bytes. reading bytes ≡ log_reading.NotALog)
-  pub other_version : IsErrOf result OtherVersion → IfSome known (λ bytes. reading bytes ≡ log_reading.OtherVersion)
 
 -- `entries` and `damage` go by the version that the log names
 abbrev pub reading_by : Printing → Option LogVersion → List ℕ → LogReading

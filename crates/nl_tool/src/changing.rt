@@ -3,9 +3,9 @@ ghost use Rattle.std.specs.Prelude.{◌≡◌, ◌<◌, ◌⊎◌, ℕ, ℤ, [],
 ghost use Rattle.nl_folder.specs.FolderView.{FolderView, folder_view};
 ghost use Rattle.nl_tool_change.specs.{Applying.{IsApplied}, Calls.{ChangesLogFor, adding, hashed, keeping, keeping_all, touching}, Faults.{IsApplyFault, IsEntryFault, IsFileFault, IsRecompactFault, IsRecordFault, IsRestatFault}, Files.{keep_of, times_of}, RecordWords.{GiveEntry}, Updates.{AsSaid}};
 ghost use Rattle.nl_tool_doubt.specs.There.{AddsFor, KeepsMost, pair_by};
-ghost use Rattle.nl_tool_print.specs.Faults.{IsLogFault};
+ghost use Rattle.nl_tool_print.specs.Faults.{IsLogFault, RefusesLog};
 ghost use Rattle.nl_versions.specs.LogAs.{log_for};
-ghost use Rattle.nl_tool.specs.{Answers.{RefusesLog}, Faults.{IsPruneFault, IsRepairFault, IsSettlingFault}};
+ghost use Rattle.nl_tool.specs.Faults.{IsPruneFault, IsRepairFault, IsSettlingFault};
 ghost use Rattle.nl_tool_texts.specs.declared.fault.ToolFault.{ToolFault};
 
 use crate::desk::{At, Desk, Disk, Host, close};
@@ -229,7 +229,7 @@ fn check_version<R: Read + Drop>(
     asked: Option<LogVersion>,
     log: R,
 ) -> ToolResult
-    ensures bytes { RefusesLog (log_for asked) (R.remaining log) result }
+    ensures refused { RefusesLog (log_for asked) (R.remaining log) result }
     ensures faults { IfErr result IsLogFault }
 {
     load_read(alloc, secret, asked, log).and(Ok(()))

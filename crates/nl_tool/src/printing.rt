@@ -1,6 +1,7 @@
 //! The words that print, over LOG, FILE, SCRIPT or standard input, with standard output for their text.
 ghost use Rattle.std.specs.Prelude.{◌≡◌, IfErr, IfOk};
-ghost use Rattle.nl_tool.specs.{Answers.{PrintsBy, RefusesLog, TellsDamage, reading_by}, Faults.{IsPrintingFault, IsReadingFault}};
+ghost use Rattle.nl_tool_print.specs.Faults.{RefusesLog};
+ghost use Rattle.nl_tool.specs.{Answers.{PrintsBy, TellsDamage, reading_by}, Faults.{IsPrintingFault, IsReadingFault}};
 
 use crate::desk::{Desk, Means};
 use crate::notes::{NotedReader, NotedWriter};
@@ -45,7 +46,7 @@ impl<R: Runtime> Desk<'_, R> {
         printing: Printing<'_>,
         reader: S,
     ) -> ToolResult<Verdict>
-        ensures bytes { RefusesLog (reading_by printing.entry self.old.asked) (S.remaining reader) result }
+        ensures refused { RefusesLog (reading_by printing.entry self.old.asked) (S.remaining reader) result }
         ensures faults { IfErr result (IsPrintingFault printing.entry) }
         ensures outcome { IfOk result (λ outcome. outcome ≡ Verdict.Found → TellsDamage printing.entry) }
     {
@@ -72,7 +73,7 @@ fn print_to<R: Read + Drop, W: Write>(
     told: &mut Told,
 ) -> ToolResult<Verdict>
     ensures prints { PrintsBy printing.entry asked (R.remaining reader) (W.contents writer.old) (W.contents writer.new) result }
-    ensures bytes { RefusesLog (reading_by printing.entry asked) (R.remaining reader) result }
+    ensures refused { RefusesLog (reading_by printing.entry asked) (R.remaining reader) result }
     ensures outcome { IfOk result (λ outcome. outcome ≡ Verdict.Found → TellsDamage printing.entry) }
     ensures faults { IfErr result (IsPrintingFault printing.entry) }
 {

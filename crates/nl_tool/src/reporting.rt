@@ -1,13 +1,13 @@
 //! The words that tell what the builds of a log did, over LOG or standard input, and `compare`, over two logs, with standard output for
 //! their text.
-ghost use Rattle.std.specs.Prelude.{◌≡◌, ℕ, List, map, Some, IfErr, IfOk, IsErrOf, OnOk, is_some};
+ghost use Rattle.std.specs.Prelude.{◌≡◌, ℕ, List, map, Some, IfErr, IfOk, OnOk, is_some};
 ghost use Rattle.nl_builds.specs.declared.reading.LogBuilds.{LogBuilds};
 ghost use Rattle.nl_tool_texts.specs.{Output.{Prints}, declared.fault.ToolFault.{ToolFault}, Writing.{IsFoundFault, IsWriteFault}};
 ghost use Rattle.nl_versions.specs.VersionOf.{as_five};
-ghost use Rattle.nl_table.specs.Log.{NotALog, OtherVersion, log_of};
+ghost use Rattle.nl_table.specs.Log.{log_of};
 ghost use Rattle.nl_reports.specs.{Compare.{are_comparable, compare_text, side_of}, Jobs.{told}, declared.choice.Scope.{Scope}};
-ghost use Rattle.nl_tool.specs.{Answers.{RefusesLog}, Faults.{IsBuildFault, IsCompareFault, IsPictureFault, IsReportFault, IsSummaryFault, IsToldFault}, Reports.{AreCounts, IsLaidOut, IsLastOf, IsLeast, IsMost, IsReport, IsReportOf, IsScope, IsSummary, PrintsReport, asked_told, laid_out, rule_of, waiting}};
-ghost use Rattle.nl_tool_print.specs.Faults.{IsLogFault};
+ghost use Rattle.nl_tool.specs.{Faults.{IsBuildFault, IsCompareFault, IsPictureFault, IsReportFault, IsSummaryFault, IsToldFault}, Reports.{AreCounts, IsLaidOut, IsLastOf, IsLeast, IsMost, IsReport, IsReportOf, IsScope, IsSummary, PrintsReport, asked_told, laid_out, rule_of, waiting}};
+ghost use Rattle.nl_tool_print.specs.Faults.{IsLogFault, RefusesLog};
 
 use crate::desk::{Desk, Means};
 use crate::notes::NotedWriter;
@@ -168,7 +168,7 @@ fn report_to<W: Write>(
 ) -> ToolResult
     ensures prints { PrintsReport means.columns report.entry (IsReportOf report.entry text.now)
         (W.contents writer.old) (W.contents writer.new) result }
-    ensures bytes { RefusesLog (λ bs. log_of (as_five bs)) (Some text.now) result }
+    ensures refused { RefusesLog (λ bs. log_of (as_five bs)) (Some text.now) result }
     ensures faults { IfErr result (IsReportFault report.entry) }
 {
     let log = read_builds(means.alloc, means.secret, text)?;
@@ -276,8 +276,7 @@ fn write_lines<W: Write>(means: Means, lines: Vec<u8>, writer: &mut W) -> ToolRe
 
 fn last_of(means: Means, text: &[u8]) -> ToolResult<Side<'_>>
     ensures value { IfOk result (IsLastOf text.now) }
-    ensures not_a_log { IsErrOf result ToolFault.NotALog → log_of (as_five text.now) ≡ NotALog }
-    ensures other_version { IsErrOf result ToolFault.OtherVersion → log_of (as_five text.now) ≡ OtherVersion }
+    ensures refused { RefusesLog (λ bs. log_of (as_five bs)) (Some text.now) result }
     ensures faults { IfErr result IsLogFault }
 {
     let log = read_builds(means.alloc, means.secret, text)?;

@@ -22,10 +22,7 @@ abbrev pub IsHashFileFault : ToolFault → Type 0
 IsHashFileFault Read = ⊤
 IsHashFileFault fault = IsHashFault fault
 
--- what is refused as no log is none, where the bytes are known
-abbrev pub IfNotALog : {T : Type 0} → Result T ToolFault → (List ℕ → LogReading) → Option (List ℕ) → Type 0
-IfNotALog result reading known = IsErrOf result NotALog → IfSome known (λ bs. reading bs ≡ log.NotALog)
-
--- what is refused as a log of another version is one, where the bytes are known
-abbrev pub IfOtherVersion : {T : Type 0} → Result T ToolFault → (List ℕ → LogReading) → Option (List ℕ) → Type 0
-IfOtherVersion result reading known = IsErrOf result OtherVersion → IfSome known (λ bs. reading bs ≡ log.OtherVersion)
+-- a log is refused for what its bytes are, where they are known
+pub record RefusesLog {A : Type 0} (reading : List ℕ → LogReading) (known : Option (List ℕ)) (result : Result A ToolFault) : Type 0 where
+  pub not_a_log : IsErrOf result NotALog → IfSome known (λ bytes. reading bytes ≡ log.NotALog)
+  pub other_version : IsErrOf result OtherVersion → IfSome known (λ bytes. reading bytes ≡ log.OtherVersion)

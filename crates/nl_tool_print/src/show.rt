@@ -3,7 +3,7 @@ ghost use Rattle.std.specs.{Prelude.{◌≡◌, ◌≤◌, [], map, vec_capacity
 ghost use Rattle.nl_fields.specs.EntryLine.{line_of};
 ghost use Rattle.nl_lines.specs.Split.{joined};
 ghost use Rattle.nl_table.specs.Log.{log_of};
-ghost use Rattle.nl_tool_print.specs.{Faults.{IfNotALog, IfOtherVersion, IsLogFault}, Output.{IsTextAsRead, show_text_of, check_text_of, report, yes_or_no}, Versions.{show_text_for, IsReportFor}};
+ghost use Rattle.nl_tool_print.specs.{Faults.{IsLogFault, RefusesLog}, Output.{IsTextAsRead, show_text_of, check_text_of, report, yes_or_no}, Versions.{show_text_for, IsReportFor}};
 ghost use Rattle.nl_tool_texts.specs.{Output.{AppendsPrefixOf, Prints}, declared.fault.ToolFault.{ToolFault}};
 ghost use Rattle.nl_versions.specs.{Loading.{IsLoadFor}, LogAs.{log_for}};
 
@@ -21,8 +21,7 @@ pub const PIECE: usize = 262_144;
 /// A line for the last entry of each output.
 pub fn show_to<R: Read + Drop, W: Write>(alloc: Global, reader: R, writer: &mut W) -> ToolResult
     ensures prints { Prints (IsTextAsRead show_text_of (R.remaining reader)) (W.contents writer.old) (W.contents writer.new) result }
-    ensures not_a_log { IfNotALog result log_of (R.remaining reader) }
-    ensures other_version { IfOtherVersion result log_of (R.remaining reader) }
+    ensures refused { RefusesLog log_of (R.remaining reader) result }
     ensures faults { IfErr result IsLogFault }
 {
     show_log(alloc, NO_SECRET, Some(LogVersion::Five), reader, writer)
@@ -38,8 +37,7 @@ pub fn show_log<R: Read + Drop, W: Write>(
 ) -> ToolResult
     ensures prints { Prints (IsTextAsRead (show_text_for asked) (R.remaining reader))
         (W.contents writer.old) (W.contents writer.new) result }
-    ensures not_a_log { IfNotALog result (log_for asked) (R.remaining reader) }
-    ensures other_version { IfOtherVersion result (log_for asked) (R.remaining reader) }
+    ensures refused { RefusesLog (log_for asked) (R.remaining reader) result }
     ensures faults { IfErr result IsLogFault }
 {
     let (_, loaded) = load_read(alloc, secret, asked, reader)?;
@@ -74,8 +72,7 @@ pub fn load_read<R: Read + Drop>(
     reader: R,
 ) -> ToolResult<(LogVersion, Loaded)>
     ensures loaded { IfOk result (λ both. IsLoadFor asked (R.remaining reader) both.0 both.1) }
-    ensures not_a_log { IfNotALog result (log_for asked) (R.remaining reader) }
-    ensures other_version { IfOtherVersion result (log_for asked) (R.remaining reader) }
+    ensures refused { RefusesLog (log_for asked) (R.remaining reader) result }
     ensures faults { IfErr result IsLogFault }
     ensures write { IsErrOf result ToolFault.Write → ⊥ }
 {
@@ -85,8 +82,7 @@ pub fn load_read<R: Read + Drop>(
 /// Writes six lines: the log's version, its counts of entry lines, outputs, skipped lines and torn bytes, and whether it is due.
 pub fn check_to<R: Read + Drop, W: Write>(alloc: Global, reader: R, writer: &mut W) -> ToolResult
     ensures prints { Prints (IsTextAsRead check_text_of (R.remaining reader)) (W.contents writer.old) (W.contents writer.new) result }
-    ensures not_a_log { IfNotALog result log_of (R.remaining reader) }
-    ensures other_version { IfOtherVersion result log_of (R.remaining reader) }
+    ensures refused { RefusesLog log_of (R.remaining reader) result }
     ensures faults { IfErr result IsLogFault }
 {
     check_log(alloc, NO_SECRET, Some(LogVersion::Five), reader, writer)
@@ -102,8 +98,7 @@ pub fn check_log<R: Read + Drop, W: Write>(
     writer: &mut W,
 ) -> ToolResult
     ensures prints { Prints (IsReportFor asked (R.remaining reader)) (W.contents writer.old) (W.contents writer.new) result }
-    ensures not_a_log { IfNotALog result (log_for asked) (R.remaining reader) }
-    ensures other_version { IfOtherVersion result (log_for asked) (R.remaining reader) }
+    ensures refused { RefusesLog (log_for asked) (R.remaining reader) result }
     ensures faults { IfErr result IsLogFault }
 {
     let (version, mut loaded) = load_read(alloc, secret, asked, reader)?;

@@ -19,8 +19,8 @@ returns-clause-prints g c =
       is_told = report_of c.args.report _ _ _ _ text held.4 (told_is log.told _ held.3) is;
     }) _ _ c.tell.result c.tell.ensures.prints
 
-pub returns-clause-bytes : goal.returns-clause-bytes
-returns-clause-bytes g c = not_refused c.args.report _ _ c.tell.result c.tell.ensures.faults
+pub returns-clause-refused : goal.returns-clause-refused
+returns-clause-refused g c = not_refused c.args.report _ _ c.tell.result c.tell.ensures.faults
 
 pub returns-clause-faults : goal.returns-clause-faults
 returns-clause-faults g c = report_fault_by c.args.report c.tell.result c.tell.ensures.faults

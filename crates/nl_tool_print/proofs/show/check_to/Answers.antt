@@ -6,10 +6,8 @@ pub returns-clause-prints : goal.returns-clause-prints
 returns-clause-prints g c =
     prints_as _ _ (checked_five (g.R.Read.remaining c.args.reader)) _ _ c.check_log.result c.check_log.ensures.prints
 
-pub returns-clause-not_a_log : goal.returns-clause-not_a_log
-returns-clause-not_a_log g c =
-    λ refused. refused_five (g.R.Read.remaining c.args.reader) NotALog (c.check_log.ensures.not_a_log refused)
-
-pub returns-clause-other_version : goal.returns-clause-other_version
-returns-clause-other_version g c =
-    λ refused. refused_five (g.R.Read.remaining c.args.reader) OtherVersion (c.check_log.ensures.other_version refused)
+pub returns-clause-refused : goal.returns-clause-refused
+returns-clause-refused g c = record {
+  not_a_log = λ refused. refused_five (g.R.Read.remaining c.args.reader) NotALog (c.check_log.ensures.refused.not_a_log refused);
+  other_version = λ refused. refused_five (g.R.Read.remaining c.args.reader) OtherVersion (c.check_log.ensures.refused.other_version refused);
+}
