@@ -11,7 +11,7 @@ use std::alloc::Global;
 #[derive(Drop)]
 pub struct Shares {
     moments: Moments,
-    sums: Sums,
+    pub sums: Sums,
     at_starts: Vec<u64>,
     at_ends: Vec<u64>,
 }
@@ -20,6 +20,7 @@ impl Shares {
     pub fn of(alloc: Global, moments: Moments) -> AllocResult<Shares>
         requires order { Rises moments.starts.items × Rises moments.ends.items }
         ensures value { (cs : List Span) → AreMoments cs moments → IfOk result (AreSharesOf cs) }
+        ensures sums { (cs : List Span) → AreMoments cs moments → IfOk result (λ s. (s.sums.busy ≡ busy_time cs) × (s.sums.alone ≡ alone_time cs)) }
     {
         let starts = moments.starts.as_slice();
         let ends = moments.ends.as_slice();
@@ -44,20 +45,6 @@ impl Shares {
             at_starts,
             at_ends,
         })
-    }
-
-    /// The milliseconds in which one command at least runs.
-    pub fn busy(&self) -> u64
-        ensures value { (cs : List Span) → AreSharesOf cs self.now → result ≡ busy_time cs }
-    {
-        self.sums.busy
-    }
-
-    /// The milliseconds in which one command alone runs.
-    pub fn alone(&self) -> u64
-        ensures value { (cs : List Span) → AreSharesOf cs self.now → result ≡ alone_time cs }
-    {
-        self.sums.alone
     }
 
     /// How many commands run at a time at most.
@@ -90,7 +77,7 @@ impl Shares {
 // The parts of a millisecond: up to 22 commands share them with nothing left.
 pub const PARTS: u64 = 232_792_560;
 
-// The sums over the milliseconds before `at`.
+/// The sums over the milliseconds before `at`: of the shares, and of the milliseconds in which one command at least runs, and one alone.
 #[derive(Clone, Copy, Default, Drop)]
 pub struct Sums {
     pub at: u64,

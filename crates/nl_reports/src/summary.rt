@@ -143,8 +143,8 @@ fn add_numbers(
     let numbers = numbers_of(from, number);
     totals.outputs += numbers.outputs as u128;
     totals.wall += u128::from(numbers.wall);
-    totals.busy += u128::from(shares.busy());
-    totals.alone += u128::from(shares.alone());
+    totals.busy += u128::from(shares.sums.busy);
+    totals.alone += u128::from(shares.sums.alone);
     totals.most = totals.most.max(shares.most());
     let mut near = Near::default();
     for command in commands {

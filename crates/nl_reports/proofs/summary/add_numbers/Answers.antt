@@ -40,15 +40,15 @@ returns-clause-totals c =
     let old = c.args.totals.now in
     let numbers = c.numbers_of-numbers.result in
     let are = subst (λ (cs : List Span). AreMoments cs c.in_ok-moments.moments) (c.as_slice.ensures.value ∙ c.in_ok-spans_in.ensures.value) c.in_ok-moments.ensures.value in
-    let shares = c.in_ok-shares.ensures.value _ are in
+    let shares = c.in_ok-shares.ensures.sums _ are in
     let is : map span_of c.commands_between-commands.result.now ≡ spans_of (build_jobs t n) = ap (map span_of) c.commands_between-commands.ensures
     ∙ sym (spans_from t.entries (entries_to (commands_to (n - 1) t.builds) t.commands) (build_commands t n)) in
     (λ i. record {
       outputs = old.outputs + numbers.outputs;
       wall = old.wall + c.from.ensures i;
-      busy = old.busy + (c.from-2.ensures ∙ c.busy.ensures.value _ shares) i;
-      alone = old.alone + (c.from-3.ensures ∙ c.alone.ensures.value _ shares) i;
-      most = (c.max-totals.ensures ∙ ap (max old.most) (c.most.ensures.value _ shares)) i;
+      busy = old.busy + (c.from-2.ensures ∙ shares.0) i;
+      alone = old.alone + (c.from-3.ensures ∙ shares.1) i;
+      most = (c.max-totals.ensures ∙ ap (max old.most) (c.most.ensures.value _ (c.in_ok-shares.ensures.value _ are))) i;
     }) ∙ (λ i. with_numbers old (c.numbers_of-numbers.ensures.value i) (is i))
 
 pub returns-clause-weights : goal.returns-clause-weights

@@ -1,6 +1,7 @@
 use Rattle.std.proofs.Common.{◌≡◌, ◌<◌, ◌≤◌, ℕ, List, ap, arith, get_or, length, refl, sym}
 use Rattle.nl_reports.proofs.SweepStepLemmas.{steady_until, swept_start, swept_end}
 use Rattle.nl_reports.specs.SweepSteps.{Rises, Swept, running_by}
+use Rattle.nl_reports.proofs.SharesLemmas.{busy_is, alone_is}
 use Rattle.nl_reports.proofs.shares.Shares.of.Goals as goal
 use Rattle.nl_reports.proofs.shares.Shares.of.Goals.{then-len-starts, else-len-starts+then-len-ends}
 
@@ -57,12 +58,15 @@ events-preserved c =
     (λ t low high. omega (arith, steady_until starts ends old c.events.invariant next begins later t low high, c.saturating_sub-running.ensures, at, until))
     c.events.invariant.sums) c.advance-in-events.ensures.at c.in_ok-push-2.ensures.items refl
 
-pub returns : goal.returns
-returns c = record {
-  value = λ cs are. record {
-    moments = are;
-    swept = rw (c.as_slice-starts.ensures.value, c.as_slice-ends.ensures.value) at c.events.invariant;
-    begun = omega (arith, c.events.invariant.begun, c.if-len-starts.false, c.len.ensures, ap (λ (l : List ℕ). length l) c.as_slice-starts.ensures.value);
-    ended = omega (arith, c.events.invariant.ended, c.if-len-ends.false, c.len-else-len-starts.ensures, ap (λ (l : List ℕ). length l) c.as_slice-ends.ensures.value);
-  };
+pub returns-clause-value : goal.returns-clause-value
+returns-clause-value c = λ cs are. record {
+  moments = are;
+  swept = rw (c.as_slice-starts.ensures.value, c.as_slice-ends.ensures.value) at c.events.invariant;
+  begun = omega (arith, c.events.invariant.begun, c.if-len-starts.false, c.len.ensures, ap (λ (l : List ℕ). length l) c.as_slice-starts.ensures.value);
+  ended = omega (arith, c.events.invariant.ended, c.if-len-ends.false, c.len-else-len-starts.ensures, ap (λ (l : List ℕ). length l) c.as_slice-ends.ensures.value);
 }
+
+pub returns-clause-sums : goal.returns-clause-sums
+returns-clause-sums c = λ cs are.
+    let shares = returns-clause-value c cs are in
+    (busy_is cs _ shares, alone_is cs _ shares)
