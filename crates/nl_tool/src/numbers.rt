@@ -6,7 +6,7 @@ ghost use Rattle.nl_tool.specs.Reports.{ArePositive, AreCounts, IsCount, IsNoCou
 
 use nl_fields::read_i64;
 use nl_reports::Scope;
-use nl_tool_change::{NumberOf, Told, WrongNumber, build_fault, count_fault};
+use nl_tool_change::{NumberFault, NumberOf, Told, WrongNumber, build_fault, number_fault};
 use nl_tool_texts::{ToolFault, ToolResult};
 use std::alloc::Global;
 
@@ -24,7 +24,8 @@ pub fn count_of(
         return Ok(usual);
     };
     let Some(count) = count_in(text.as_bytes()) else {
-        let (nth, why) = (None, count_fault(text.as_bytes()));
+        let why = number_fault(text.as_bytes(), NumberFault::Below, NumberFault::Past64);
+        let nth = None;
         return Err(told.refuse_number(WrongNumber { which, nth, why }));
     };
     Ok(count)

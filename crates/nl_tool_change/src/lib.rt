@@ -16,7 +16,8 @@ mod update;
 pub use apply::{Hears, Nobody, apply_on};
 pub use files::read_manifest;
 pub use line_fault::{
-    LineFault, NumberFault, NumberOf, Told, UNTOLD, WrongNumber, build_fault, count_fault, entry_of,
+    LineFault, NumberFault, NumberOf, Told, UNTOLD, WrongNumber, build_fault, entry_of,
+    number_fault,
 };
 pub use place::{AskedFolder, LogPlace, mend_on};
 pub use reading::read_log;

@@ -89,11 +89,6 @@ pub fn number_fault(text: &[u8], below: NumberFault, past: NumberFault) -> Numbe
     }
 }
 
-// The text isn't a number from 0 up to 2^63 - 1.
-pub fn count_fault(text: &[u8]) -> NumberFault {
-    number_fault(text, NumberFault::Below, NumberFault::Past64)
-}
-
 // The text isn't a number from 1 up to 2^63 - 1.
 pub fn build_fault(text: &[u8]) -> NumberFault {
     match text {
