@@ -7,12 +7,12 @@
 //! 2. LOG is written anew with an intent over the entry of each output that can't be trusted, in one change (`mend_on`). If
 //!    there is no such output, and no line is damaged, LOG stays as it is.
 //! 3. The outputs are printed.
-ghost use Rattle.std.specs.{Prelude.{◌≡◌, ◌<◌, ◌↔◌, None, IfErr, IfOk, IsErrOf, length, flat_map}, Io.KnownBytes.{Appends}};
-ghost use Rattle.nl_tool_doubt.specs.{Doubts.{IsDoubts, doubt_line, undamaged}, Mending.{IsMendFault, MendsFolder}, declared.doubts.Doubts.{Doubts}};
+ghost use Rattle.std.specs.{Prelude.{◌≡◌, ◌<◌, ◌↔◌, None, Some, false, IfErr, IfOk, length, flat_map}, Io.KnownBytes.{Appends}};
+ghost use Rattle.nl_tool_doubt.specs.{Doubts.{IsDoubts, damaged_by, doubt_line}, Mending.{IsMendFault, MendsFolder}, declared.doubts.Doubts.{Doubts}};
 ghost use Rattle.nl_folder.specs.FolderView.{FolderView, folder_view};
-ghost use Rattle.nl_tool_print.specs.Faults.{IsLogFault};
+ghost use Rattle.nl_tool_print.specs.Faults.{IsLogFault, RefusesLog};
 ghost use Rattle.nl_versions.specs.VersionOf.{as_five};
-ghost use Rattle.nl_table.specs.Log.{NotALog, OtherVersion, log_of};
+ghost use Rattle.nl_table.specs.Log.{log_of};
 ghost use Rattle.nl_tool_texts.specs.declared.fault.ToolFault.{ToolFault};
 ghost use Rattle.nl_tool.specs.declared.program.Verdict.{Verdict};
 
@@ -90,14 +90,13 @@ fn tell_doubts<F: OutputFiles, W: Write>(
     writer: &mut W,
 ) -> ToolResult<Verdict>
     ensures found { IfOk result
-        (λ outcome. (doubts : Doubts) × IsDoubts undamaged log.now (F.states files.now) doubts
+        (λ outcome. (doubts : Doubts) × IsDoubts (damaged_by false log.now) log.now (F.states files.now) doubts
         × Appends (W.contents writer.old) (W.contents writer.new) (flat_map doubt_line doubts.named.items)
         × ((outcome ≡ Verdict.Found) ↔ (0 < length doubts.named.items))) }
-    ensures not_a_log { IsErrOf result ToolFault.NotALog → log_of (as_five log.now) ≡ NotALog }
-    ensures other_version { IsErrOf result ToolFault.OtherVersion → log_of (as_five log.now) ≡ OtherVersion }
+    ensures refused { RefusesLog (λ bs. log_of (as_five bs)) (Some log.now) result }
     ensures faults { IfErr result IsLogFault }
 {
-    let doubts = doubts_of(alloc, secret, log, files)?;
+    let doubts = doubts_of(alloc, secret, false, log, files)?;
     let found = write_doubts(alloc, doubts.named.as_slice(), writer)?;
     Ok(if found { Verdict::Found } else { Verdict::Done })
 }

@@ -1,5 +1,5 @@
 -- The outputs of a log that can't be trusted, and the text of `doubt` (docs/CLI.md).
-use Rattle.std.specs.Prelude.{◌≡◌, ◌++◌, ◌∷◌, [], ◌/◌, ℕ, Bool, not, is_some, nat_lt, List, map, length, count_by, codes, Option, None, Some, IfSome, if◌then◌else◌}
+use Rattle.std.specs.Prelude.{◌≡◌, ◌++◌, ◌∷◌, [], ◌/◌, ℕ, Bool, false, true, not, is_some, nat_lt, List, map, length, count_by, codes, Option, None, Some, IfSome, if◌then◌else◌}
 use Rattle.std.specs.List.{All, flat_map}
 use Rattle.nl_fields.specs.declared.entry.Entry.{Entry}
 use Rattle.nl_table.specs.History.{logged, table}
@@ -75,11 +75,9 @@ pub record IsDoubts (damaged : List Entry → List Entry) (log : List ℕ) (stat
   pub are : AreDoubts (damaged (table (logged version lines))) (stamps_of log) lines (table (logged version lines)) states doubts
 
 -- `doubt` takes no output for damaged, and `mend` those that a damaged or torn line of the log may be about
-abbrev pub undamaged : List Entry → List Entry
-undamaged es = []
-
-abbrev pub damaged_in : List ℕ → List Entry → List Entry
-damaged_in log es = distrusted_in (lines_version log) log es
+abbrev pub damaged_by : Bool → List ℕ → List Entry → List Entry
+damaged_by false log es = []
+damaged_by true log es = distrusted_in (lines_version log) log es
 
 -- ---- the text
 

@@ -14,7 +14,7 @@ use Rattle.nl_tool_texts.specs.Output.{AppendsPrefixOf}
 use Rattle.nl_tool_texts.specs.declared.fault.ToolFault.{ToolFault}
 use Rattle.nl_tool_texts.specs.declared.fault.ToolFault.TheVariants.{NotALog, OtherVersion, Read, Memory, Write, Folder, Elsewhere}
 use Rattle.nl_tool_change.specs.Mending.{MendsLogAs, ReadsWhole}
-use Rattle.nl_tool_doubt.specs.Doubts.{IsDoubts, damaged_in, word_of}
+use Rattle.nl_tool_doubt.specs.Doubts.{IsDoubts, damaged_by, word_of}
 use Rattle.nl_tool_doubt.specs.declared.files.FileState.{FileState}
 use Rattle.nl_tool_doubt.specs.declared.judge.Doubt.{Doubt}
 use Rattle.nl_tool_doubt.specs.declared.judge.Doubt.TheVariants as doubt
@@ -153,7 +153,7 @@ abbrev pub MendsBytes : Option (List ℕ → FileState) → How → List ℕ →
     → FolderView → Type 0
 MendsBytes states how log from to result old new =
     ((fault : ToolFault) × (fault ≢ Elsewhere) × IsUnread log fault × NoMend from to result fault old new)
-    ⊎ ((doubts : Doubts) × IsDoubts (damaged_in log) log states doubts × Mends how log doubts from to result old new)
+    ⊎ ((doubts : Doubts) × IsDoubts (damaged_by true log) log states doubts × Mends how log doubts from to result old new)
 
 -- the log is read first
 abbrev pub MendsRead : Option (List ℕ → FileState) → How → Result (Vec ℕ) ToolFault → Option (List ℕ) → Option (List ℕ) → Result Mended ToolFault

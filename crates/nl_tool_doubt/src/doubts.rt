@@ -3,7 +3,7 @@ ghost use Rattle.std.specs.{Prelude.{◌≡◌, ◌⊎◌, ◌++◌, ℕ, count_
 ghost use Rattle.nl_table.specs.{History.{logged, table}, Log.{log_of, NotALog, OtherVersion}, declared.loader.LoadFault.{LoadFault}};
 ghost use Rattle.nl_versions.specs.VersionOf.{as_five};
 ghost use Rattle.nl_tool_texts.specs.{Output.{AppendsPrefixOf}, declared.fault.ToolFault.{ToolFault}};
-ghost use Rattle.nl_tool_doubt.specs.Doubts.{AreDoubts, IsDoubts, damaged_in, doubt_line, doubted, is_copied, is_file, is_moved, is_there, named_by, undamaged, why, word_of};
+ghost use Rattle.nl_tool_doubt.specs.Doubts.{AreDoubts, IsDoubts, damaged_by, doubt_line, doubted, is_copied, is_file, is_moved, is_there, named_by, why, word_of};
 
 use crate::files::{Looked, OutputFiles, look_all};
 use crate::judge::{Doubt, doubt_of};
@@ -37,44 +37,32 @@ pub struct Doubts {
     pub copied: bool,
 }
 
-/// The log is of whichever version its first line names, and each file is looked at once, in order. Names are hashed under a secret.
+/// The log is of whichever version its first line names, and each file is looked at once, in order. If damage counts, an output that a damaged
+/// or torn line may be about is damaged, whatever its file says. Names are hashed under a secret.
 pub fn doubts_of<F: OutputFiles>(
     alloc: Global,
     secret: Secret,
+    damage_counts: bool,
     log: &[u8],
     files: &F,
 ) -> Result<Doubts, LoadFault>
-    ensures value { IfOk result (IsDoubts undamaged log.now (F.states files.now)) }
+    ensures value { IfOk result (IsDoubts (damaged_by damage_counts log.now) log.now (F.states files.now)) }
     ensures not_a_log { IsErrOf result LoadFault.NotALog → log_of (as_five log.now) ≡ NotALog }
     ensures other_version { IsErrOf result LoadFault.OtherVersion → log_of (as_five log.now) ≡ OtherVersion }
     ensures read { ¬ IsErrOf result LoadFault.Read }
 {
     let lines = read_entries(alloc, log)?;
     let table = table_of(alloc, secret, lines.entries.as_slice())?;
-    Ok(name_all(alloc, lines, &table, &Table::new(alloc), files)?)
-}
-
-/// As `doubts_of`, but an output that a damaged or torn line may be about is damaged, whatever its file says.
-pub fn untrusted_of<F: OutputFiles>(
-    alloc: Global,
-    secret: Secret,
-    log: &[u8],
-    files: &F,
-) -> Result<Doubts, LoadFault>
-    ensures value { IfOk result (IsDoubts (damaged_in log.now) log.now (F.states files.now)) }
-    ensures not_a_log { IsErrOf result LoadFault.NotALog → log_of (as_five log.now) ≡ NotALog }
-    ensures other_version { IsErrOf result LoadFault.OtherVersion → log_of (as_five log.now) ≡ OtherVersion }
-    ensures read { ¬ IsErrOf result LoadFault.Read }
-{
-    let lines = read_entries(alloc, log)?;
-    let table = table_of(alloc, secret, lines.entries.as_slice())?;
-    let damaged = damaged_of(alloc, log, &table)?;
+    let damaged = damaged_of(alloc, damage_counts, log, &table)?;
     Ok(name_all(alloc, lines, &table, &damaged, files)?)
 }
 
-fn damaged_of(alloc: Global, log: &[u8], table: &Table) -> AllocResult<Table>
-    ensures value { IfOk result (λ found. found ≡ damaged_in log.now table.now) }
+fn damaged_of(alloc: Global, counts: bool, log: &[u8], table: &Table) -> AllocResult<Table>
+    ensures value { IfOk result (λ found. found ≡ damaged_by counts log.now table.now) }
 {
+    if !counts {
+        return Ok(Table::new(alloc));
+    }
     let version = lines_version(log);
     if is_whole(version, log) {
         a_whole_log_is_trusted();

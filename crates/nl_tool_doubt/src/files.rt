@@ -3,7 +3,7 @@ ghost use Rattle.std.specs.Prelude.{◌≡◌, ℕ, List, Option, IfOk, IfSome, 
 ghost use Rattle.nl_tool_doubt.specs.{Doubts.{AreLooked}, Judging.{is_present, is_written, was_moved}, declared.files.FileState.{FileState}, There.{AddsFor, KeepsMost, LosesMost, is_kept, learned, name_by, pair_by}};
 ghost use Rattle.nl_table.specs.Log.{log_of};
 ghost use Rattle.nl_tool_texts.specs.declared.fault.ToolFault.{ToolFault};
-ghost use Rattle.nl_tool_print.specs.Faults.{IfNotALog, IfOtherVersion, IsLogFault};
+ghost use Rattle.nl_tool_print.specs.Faults.{IsLogFault, RefusesLog};
 ghost use Rattle.nl_versions.specs.VersionOf.{as_five};
 
 use nl_fields::{Entry, EntryRef, Name, is_intent};
@@ -102,8 +102,7 @@ pub fn names_there<R: Read + Drop, F: OutputFiles>(
     ensures kept { IfOk result (KeepsMost (R.remaining reader) (F.states files.now) targets.items) }
     ensures elsewhere { IsErrOf result ToolFault.Elsewhere → (set : List (List ℕ))
         × LosesMost (R.remaining reader) (F.states files.now) targets.items set }
-    ensures not_a_log { IfNotALog result (λ bs. log_of (as_five bs)) (R.remaining reader) }
-    ensures other_version { IfOtherVersion result (λ bs. log_of (as_five bs)) (R.remaining reader) }
+    ensures refused { RefusesLog (λ bs. log_of (as_five bs)) (R.remaining reader) result }
     ensures faults { IfErr result (λ e. IsLogFault e ⊎ (e ≡ ToolFault.Elsewhere)) }
 {
     let (_, loaded) = load_read(alloc, secret, None, reader)?;
@@ -134,8 +133,7 @@ pub fn times_there<R: Read + Drop, F: OutputFiles>(
     files: &F,
 ) -> ToolResult<Vec<(Name, i64)>>
     ensures given { IfOk result (λ times. AddsFor pair_by (R.remaining reader) (F.states files.now) [] times.items) }
-    ensures not_a_log { IfNotALog result (λ bs. log_of (as_five bs)) (R.remaining reader) }
-    ensures other_version { IfOtherVersion result (λ bs. log_of (as_five bs)) (R.remaining reader) }
+    ensures refused { RefusesLog (λ bs. log_of (as_five bs)) (R.remaining reader) result }
     ensures faults { IfErr result IsLogFault }
 {
     let (_, loaded) = load_read(alloc, secret, None, reader)?;

@@ -9,7 +9,7 @@ mod mending;
 mod moments;
 mod spans;
 
-pub use doubts::{Doubted, Doubts, doubts_of, untrusted_of, write_doubts};
+pub use doubts::{Doubted, Doubts, doubts_of, write_doubts};
 pub use files::{FileState, FileTimes, Looked, OutputFiles, names_there, times_there};
 pub use judge::Doubt;
 pub use mending::{How, Mended, mend_to};

@@ -5,7 +5,7 @@ ghost use Rattle.nl_tool_change.specs.{Faults.{IsRecordFault}, Mending.{MendsLog
 ghost use Rattle.nl_versions.specs.VersionOf.{version_of};
 ghost use Rattle.nl_tool_doubt.specs.Mending.{EndsBy, IsIn, IsMendFault, IsSaid, Mends, MendsFolder, MendsSaid, cause_of, is_elsewhere};
 
-use crate::doubts::{Doubted, Doubts, untrusted_of, word_of};
+use crate::doubts::{Doubted, Doubts, doubts_of, word_of};
 use crate::files::OutputFiles;
 use crate::judge::Doubt;
 use nl_distrust::is_whole;
@@ -52,7 +52,7 @@ pub fn mend_to<D: Folder, F: OutputFiles, W: Write>(
 {
     let (folder, read) = read_log(alloc, folder);
     match read {
-        Ok(log) => match untrusted_of(alloc, secret, log.as_slice(), files) {
+        Ok(log) => match doubts_of(alloc, secret, true, log.as_slice(), files) {
             Ok(doubts) => mend_doubted(alloc, secret, folder, log.as_slice(), &doubts, how, writer),
             Err(fault) => (folder, Err(ToolFault::from(fault))),
         },
