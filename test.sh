@@ -40,34 +40,40 @@ part() {
     count "${PIPESTATUS[0]}" "$room/part" "$@"
 }
 
-# Runs each line of its input as a part, as many at one time as there are processors, and shows what they printed in the order of the lines.
+# Runs each of these lines as a part, as many at one time as there are processors. It says how each ends, and then shows what they printed in the order of
+# the lines.
 parts() {
-    local lines line at lanes
+    local lines=("$@") line at lanes
     lanes=$(nproc 2> /dev/null || echo 2)
-    mapfile -t lines
-    echo "== ${#lines[@]} trials, $lanes at a time"
+    (($# == 0)) || echo "== $# parts, at most $lanes at a time"
     for at in "${!lines[@]}"; do
         while (($(jobs -rp | wc -l) >= lanes)); do wait -n; done
-        read -ra line <<< "${lines[at]}"
-        ("${line[@]}" > "$room/$at" 2>&1 < /dev/null; echo $? > "$room/$at.status") &
+        eval "line=(${lines[at]})"
+        ("${line[@]}" > "$room/$at" 2>&1 < /dev/null; echo $? > "$room/$at.status"; echo "ended: ${lines[at]}: $(tail -n 1 "$room/$at")") &
     done
     wait
     for at in "${!lines[@]}"; do
         echo "== ${lines[at]}"
         cat "$room/$at"
-        count "$(cat "$room/$at.status")" "$room/$at" "${lines[at]}"
+        eval "line=(${lines[at]})"
+        count "$(cat "$room/$at.status")" "$room/$at" "${line[@]}"
     done
 }
 
-# Ninja, or samurai, on the library for C, where its source is in the folder that NLOG_NINJA_SOURCES names, or may be fetched.
-peer() {
-    local source=$1
-    shift
-    if [[ -n $strict || -n ${NLOG_NINJA_SOURCES-} && -e $NLOG_NINJA_SOURCES/$source ]]; then
-        part "$@" ${NLOG_NINJA_SOURCES:+"$NLOG_NINJA_SOURCES"}
+# Leaves a part out, and says why.
+skip() {
+    printf 'skipped: all of it: %s\n0 passed, 0 failed\n' "$1" > "$room/part"
+    count 0 "$room/part" "${@:2}"
+}
+
+# A part by which Ninja or samurai is tried on the library for C is put to others, where its source is in the folder that NLOG_NINJA_SOURCES names, or may
+# be fetched.
+peer() { # others, source, words
+    local -n others=$1
+    if [[ -n $strict || -n ${NLOG_NINJA_SOURCES-} && -e $NLOG_NINJA_SOURCES/$2 ]]; then
+        others+=("${*:3}${NLOG_NINJA_SOURCES:+ ${NLOG_NINJA_SOURCES@Q}}")
     else
-        printf 'skipped: all of it: NLOG_NINJA_SOURCES names no folder that has %s\n0 passed, 0 failed\n' "$source" > "$room/part"
-        count 0 "$room/part" "$@"
+        skip "NLOG_NINJA_SOURCES names no folder that has $2" "${@:3}"
     fi
 }
 
@@ -108,26 +114,29 @@ if [[ -n $strict && -z ${NLOG_ROOT-} ]]; then
     debootstrap --variant=minbase bookworm "$NLOG_ROOT" "${NLOG_MIRROR:-http://deb.debian.org/debian}" > "$room/part" 2>&1 || tail -n 3 "$room/part"
 fi
 
-# The libraries, and the program. Each says what it skips, and why: a formatter, strace, Ninja or a small disk may be missing.
-# Those that take the longest begin first.
-parts < <(
-    printf 'python3 tests/%s.py\n' library growths refusals builds_compared lines_read host
-    for trial in stops crash_states found_builds mended large terminal system_calls short_writes fuzz rivals files commands options apply apply_calls begun_builds scripts limits clib manual damaged closed_streams completions kept real_disks full_disk two_writers between reports release with_ninja; do
-        echo "python3 tests/$trial.py crates/nlog/out/nlog"
-    done
-)
-
-# The program and the library for ARM64, which a program that plays that processor runs.
-if [[ -n $strict ]]; then
-    part python3 tests/targets.py
-else
-    printf 'skipped: all of it: it takes a quarter of an hour, and --strict runs it\n0 passed, 0 failed\n' > "$room/part"
-    count 0 "$room/part" python3 tests/targets.py
-fi
+# The program and the library for ARM64, which a program that plays that processor runs; samurai; the libraries, and the program. Each says what it skips,
+# and why: a formatter, strace, Ninja or a small disk may be missing. Those that take the longest begin first.
 [[ -z $strict ]] || export NLOG_PARTS="own steps without cmake tests faults differ stale cost"
-peer ninja-1.11.1 integrations/ninja/try.sh 1.11.1
-peer ninja-1.13.2 integrations/ninja/try.sh 1.13.2
-peer muon-0.4.0 integrations/samurai/try.sh
+trials=()
+if [[ -n $strict ]]; then
+    trials+=("python3 tests/targets.py")
+else
+    skip "it takes a quarter of an hour, and --strict runs it" python3 tests/targets.py
+fi
+peer trials muon-0.4.0 integrations/samurai/try.sh
+for trial in library growths refusals builds_compared lines_read host; do
+    trials+=("python3 tests/$trial.py")
+done
+for trial in stops crash_states found_builds mended large terminal system_calls short_writes fuzz rivals files commands options apply apply_calls begun_builds scripts limits clib manual damaged closed_streams completions kept real_disks full_disk two_writers between reports release with_ninja; do
+    trials+=("python3 tests/$trial.py crates/nlog/out/nlog")
+done
+parts "${trials[@]}"
+
+# The Ninjas, which are measured too, so nothing runs beside the two.
+ninjas=()
+peer ninjas ninja-1.11.1 integrations/ninja/try.sh 1.11.1
+peer ninjas ninja-1.13.2 integrations/ninja/try.sh 1.13.2
+parts "${ninjas[@]}"
 part python3 tests/counts.py ${strict:+"$strict"} "$room/said"
 
 # What it cost: the clock, and the processor time of all that it started, user and system.
