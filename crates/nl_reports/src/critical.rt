@@ -8,7 +8,6 @@ use crate::job::Job;
 use crate::last_entries::{Outputs, any_named, outputs_of};
 use crate::moments::Span;
 use indexmap::IndexSet;
-use nl_fields::EntryRef;
 use nl_table::{NameKey, Secret};
 use nl_tool_texts::{AllocResult, BEGINNING, Part, append_line, put};
 use std::alloc::{AllocError, Global};

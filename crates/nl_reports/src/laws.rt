@@ -2,14 +2,16 @@
 ghost use Rattle.std.specs.Prelude.{◌≡◌, ◌+◌, ◌*◌, ◌/◌, ◌<◌, ◌≤◌, ◌^◌, ◌++◌, ◌∷◌, [], ℕ, Bool, true, false, IfSome, List, Some, count_by, length, map, slice_index, slice_index_or, take, All, filter, flat_map, sum_by, IsPermutation};
 ghost use Rattle.serde_json.specs.{Data.{Data, array}, Read.{read}, View.{items_of}};
 ghost use Rattle.nl_builds.specs.Builds.{Told as BuildsTold};
-ghost use Rattle.nl_reports.specs.{Bars.{drawn_width, long_bar, width_of}, Compare.{Compared, Log, classes, compared, is_of, new_of, of_class, old_of, pairs, told_pair}, Frame.{x_at}, Jobs.{Job, first_name, jobs_from}, Kinds.{kinds, named, of_kind}, Lanes.{Begin, lanes}, Lasting.{Rise, has_outputs, is_among, jobs_left, last_of, lasting, marked, of_name}, Numbers.{total_time}, Critical.{weight as node_weight}, Paths.{Graph, IsPath, length_of}, Picture.{bars_of}, Plans.{IsPlan}, Reading.{FewTaken, IsEvent}, Rows.{Told, by_start, spans, told_jobs}, Spans.{IsEarly, time_of}, declared.moments.Span.{Span}, Sweep.{busy_time, left_over, parts, runs_at, weight}, Ticks.{IsRound, step_of}, Times.{job_work, share_of, time_in, times_of, total}, Trace.{array_text, how_in, number_in, scoped_text, trace_events}, Turns.{jobs_in_turn}, Work.{is_same}, declared.work.Times.{Times}, declared.work.Work.{Work}, declared.work.Work.TheVariants.{Archive, Compile, Generate, Link, Other, Test}, declared.choice.Scope.{Scope}, declared.sides.Rules.{Rules}, declared.frame.Frame.{Frame}, declared.kinds.KindRule.{KindRule}};
+ghost use Rattle.nl_reports.specs.{Bars.{drawn_width, long_bar, width_of}, Compare.{Compared, Log, classes, compared, is_of, new_of, of_class, old_of, pairs, told_pair}, Frame.{x_at}, Jobs.{Job, first_name, jobs_from}, Kinds.{kinds, named, of_kind}, Lanes.{Begin, lanes}, Lasting.{Rise, has_outputs, is_among, jobs_left, last_of, lasting, marked, of_name}, Numbers.{total_time}, Critical.{weight as node_weight}, Paths.{Graph, IsPath, length_of}, Picture.{bars_of}, Plans.{IsPlan}, Reading.{FewTaken, IsEvent}, Rows.{Told, by_start, spans, told_jobs}, Shares.{AreSharesOf}, Spans.{IsEarly, time_of}, declared.moments.Span.{Span}, Sweep.{alone_time, busy_time, left_over, parts, runs_at, weight}, Ticks.{IsRound, step_of}, Times.{job_work, share_of, time_in, times_of, total}, Trace.{array_text, how_in, number_in, scoped_text, trace_events}, Turns.{jobs_in_turn}, Work.{is_same}, declared.work.Times.{Times}, declared.work.Work.{Work}, declared.work.Work.TheVariants.{Archive, Compile, Generate, Link, Other, Test}, declared.choice.Scope.{Scope}, declared.shares.Shares.{Shares}, declared.sides.Rules.{Rules}, declared.frame.Frame.{Frame}, declared.kinds.KindRule.{KindRule}};
 ghost use Rattle.nl_tool_texts.specs.Falling.{falling, ranked};
 
 /// The weighted times of commands, and what is left over, add up to the time in which one command at least runs. What is left over is no
-/// more parts of a millisecond than the commands' own times have milliseconds.
+/// more parts of a millisecond than the commands' own times have milliseconds. The sums of their shares are that time, and the time in which one
+/// command alone runs.
 pub fn weights_add_up()
     ensures weights { (cs : List Span) → sum_by (weight cs) cs + left_over cs ≡ parts * busy_time cs }
     ensures left { (cs : List Span) → left_over cs ≤ sum_by time_of cs }
+    ensures sums { (cs : List Span) (s : Shares) → AreSharesOf cs s → (s.sums.busy ≡ busy_time cs) × (s.sums.alone ≡ alone_time cs) }
 {}
 
 /// A list of commands or kinds is those that it is made of, each once; none is larger than one before it, by what the list goes by; and
