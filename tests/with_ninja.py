@@ -414,7 +414,9 @@ def try_joined_in_hash(trials, build):
         trials.check(f"{what}: repaired, Ninja lets it be", b"note" not in mirror.why(), repr(mirror.why()))
         trials.want(f"{what}: a stale file", read(f"{mirror.room}/note"), b"n2")
         others = {name: it for name, it in build.log().table.items() if name not in (b"note", b"a.o")}
-        trials.want(f"{what}: mend", build.nlog("mend"), (3, b"damaged\ta.o\ndamaged\tnote\n", b""))
+        # The two were first made side by side, so either may stand first.
+        both = b"".join(b"damaged\t%s\n" % name for name in build.log().table if name not in others)
+        trials.want(f"{what}: mend", build.nlog("mend"), (3, both, b""))
         trials.want(f"{what}: the other entries", {name: it for name, it in build.log().table.items() if name in others}, others)
         build.ninja()
         trials.want(f"{what}: the output is that of A", read(f"{build.room}/note"), b"n1")
