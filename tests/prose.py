@@ -24,7 +24,7 @@ from trials import Trials, usage
 TOP = os.path.dirname(os.path.dirname(os.path.abspath(__file__)))
 
 # What the pages are, and their words at the most: of a page, of several together, and of all.
-PAGES = ("*.md", "docs/*.md", "crates/*/README.md", "integrations/*/README.md", "man/*.[13]", "include/*.h")
+PAGES = ("*.md", "docs/*.md", "crates/*/README.md", "integrations/*/README.md", "tests/*/README.md", "man/*.[13]", "include/*.h")
 WORDS = {
     "README.md": 400,
     "CHANGELOG.md": 1500,
@@ -48,6 +48,7 @@ WORDS = {
     "docs/REPLAY.md": 800,
     "docs/SECURITY.md": 900,
     "integrations/*/README.md": 2500,
+    "tests/*/README.md": 300,
     "include/nlog.h": 4000,
     "man/nlog.1": 2000,
     "man/nlog.3": 2300,
@@ -81,6 +82,7 @@ LIMITS = {
     "docs/SECURITY.md": (100, 18, 25),
     "integrations/ninja/README.md": (115, 18, 25),
     "integrations/samurai/README.md": (125, 18, 25),
+    "tests/library/README.md": (100, 18, 25),
     "include/nlog.h": (80, 18, 25),
     "man/nlog.1": (80, 18, 25),
     "man/nlog.3": (80, 18, 25),
