@@ -40,8 +40,8 @@ part() {
     count "${PIPESTATUS[0]}" "$room/part" "$@"
 }
 
-# Runs each of these lines as a part, as many at one time as there are processors. It says how each ends, and then shows what they printed in the order of
-# the lines.
+# Runs each of these lines, words as the shell reads them, as a part, as many at one time as there are processors. It says how each ends, and then shows
+# what they printed in the order of the lines.
 parts() {
     local lines=("$@") line at lanes
     lanes=$(nproc 2> /dev/null || echo 2)
@@ -66,12 +66,12 @@ skip() {
     count 0 "$room/part" "${@:2}"
 }
 
-# A part by which Ninja or samurai is tried on the library for C is put to others, where its source is in the folder that NLOG_NINJA_SOURCES names, or may
+# Adds to a list of lines the one that tries Ninja or samurai on the library for C, where its source is in the folder that NLOG_NINJA_SOURCES names, or may
 # be fetched.
-peer() { # others, source, words
-    local -n others=$1
+peer() { # list, source, words
+    local -n list=$1
     if [[ -n $strict || -n ${NLOG_NINJA_SOURCES-} && -e $NLOG_NINJA_SOURCES/$2 ]]; then
-        others+=("${*:3}${NLOG_NINJA_SOURCES:+ ${NLOG_NINJA_SOURCES@Q}}")
+        list+=("${*:3}${NLOG_NINJA_SOURCES:+ ${NLOG_NINJA_SOURCES@Q}}")
     else
         skip "NLOG_NINJA_SOURCES names no folder that has $2" "${@:3}"
     fi
