@@ -39,14 +39,13 @@ OPTIONS = {
     "--graph": "GRAPH",
     "--jobs": "1,4",
     "--at-least": "5",
-    "--manifest": "TARGETS",
     "-C": ".",
 }
-FLAGS = ("--missing-ok", "--all", "--tabs", "--verbose", "--dry-run", "--files")
+FLAGS = ("--missing-ok", "--all", "--tabs", "--verbose", "--dry-run")
 # Two that can't be met together, with status 2, and one that wants another.
 APART = {frozenset(("--all", "--build"))}
 WANTS = {"--jobs": "--graph"}
-# The papers' words and `apply` take a LOG that is missing for an empty one by themselves.
+# These take a LOG that is missing for an empty one by themselves.
 MADE = ("show", "check", "record", "recompact", "restat", "apply", "mend")
 CHANGE = ("record", "recompact", "restat", "prune", "retime", "repair", "apply", "mend")
 
@@ -233,7 +232,7 @@ def try_streams(trials, program, room, word):
 SIZES = (1_001, 65_537, 1_000_001)
 
 
-def try_lists(trials, program, room, names):
+def try_lists(trials, program, room):
     """Lists of many lines: each line of them counts, the last ones too."""
     for size in SIZES:
         lines = [b"1\t2\t3\tout%d\t%x" % (it, it + 1) for it in range(size)]
@@ -243,12 +242,11 @@ def try_lists(trials, program, room, names):
         times = b"".join(b"%d\tout%d\n" % (it + 7, it) for it in range(size))
         kept = b"# ninja log v5\n" + NEWLINE.join(lines[1:]) + NEWLINE
         timed = b"# ninja log v5\n" + b"".join(b"1\t2\t%d\tout%d\t%x\n" % (it + 7, it, it + 1) for it in range(size))
-        prune = ["prune", "LOG", "FILE"] if "prune" in names else ["recompact", "LOG", "--manifest", "FILE"]
         apply = b"open\n" + b"".join(b"get\tout%d\n" % it for it in range(size)) + b"stop\n"
         answers = b"ok\n" + b"".join(it + NEWLINE for it in lines) + b"ok\n"
         for words, text, wanted in (
             (["recompact", "LOG", "FILE"], keep, (0, b"", b"", kept)),
-            (prune, targets, (0, b"", b"", kept)),
+            (["prune", "LOG", "FILE"], targets, (0, b"", b"", kept)),
             (["restat", "LOG", "FILE"], times, (0, b"", b"", timed)),
             (["apply", "LOG", "FILE"], apply, (0, answers, b"", log)),
             (["apply", "LOG", "FILE"], b"open" + b"".join(b"\tout%d" % it for it in range(min(size, 20_000))) + b"\nstop\n", None),
@@ -289,7 +287,7 @@ def trial(trials, program, room):
         try_streams(trials, program, room, word)
     lay_out(room)
     try_commands(trials, program, room)
-    try_lists(trials, program, room, [it.name for it in words])
+    try_lists(trials, program, room)
 
 
 if __name__ == "__main__":
