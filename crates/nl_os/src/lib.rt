@@ -18,4 +18,4 @@ pub use looks::{Look, escaped_of, look_of};
 pub use os_system::OsSystem;
 pub use paths::folder_part;
 pub use system_file::SystemFile;
-pub use telling::{Telling, Waiting};
+pub use telling::Telling;

@@ -1,9 +1,8 @@
 //! How long a lock is waited for, and how often it is asked for.
 ghost use Rattle.std.specs.Prelude.{◌≡◌, ◌≢◌, ◌≤◌, ◌<◌, ◌+◌, ◌-◌, ◌⊎◌, IfSome, None, Some};
 
-use crate::system_file::FileId;
+use crate::system_file::{ChangeTime, FileId};
 use std::fs::Metadata;
-use std::os::unix::fs::MetadataExt;
 
 // Milliseconds after which it waits no more for a log that nobody changes, and after which it waits for none.
 const STILL: u64 = 10_000;
@@ -21,8 +20,7 @@ pub const TURNS: u32 = 60_000;
 pub struct Sign {
     id: FileId,
     len: u64,
-    seconds: i64,
-    nanoseconds: i64,
+    changed: ChangeTime,
 }
 
 impl Sign {
@@ -30,8 +28,7 @@ impl Sign {
         Sign {
             id: FileId::of(metadata),
             len: metadata.len(),
-            seconds: metadata.mtime(),
-            nanoseconds: metadata.mtime_nsec(),
+            changed: ChangeTime::of(metadata),
         }
     }
 }
@@ -41,7 +38,7 @@ impl Sign {
 pub struct Wait {
     sign: Option<Sign>,
     // The moments in milliseconds at which the wait began, and at which the log was first seen with this sign.
-    began: u64,
+    pub began: u64,
     since: u64,
     // The next pause.
     pause: u64,

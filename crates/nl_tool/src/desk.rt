@@ -11,7 +11,7 @@ use crate::notes::{NotedReader, Notes};
 use crate::numbers::positive_of;
 use either::{Either, Left, Right};
 use nl_lines::ReadSource;
-use nl_os::{DiskFolder, SystemFile, Telling, Waiting};
+use nl_os::{DiskFolder, OsSystem, SystemFile, Telling};
 use nl_table::Secret;
 use nl_tool_change::AskedFolder;
 use nl_tool_print::read_all;
@@ -205,28 +205,27 @@ pub trait Host: Runtime<File: SystemFile> {}
 impl<R: Runtime<File: SystemFile>> Host for R {}
 
 /// What such a folder needs of it.
-pub trait Disk: Files<File: SystemFile> + Clock + Drop {}
+pub trait Disk: Files<File: SystemFile> + Clock + Eprint + Drop {}
 
-impl<R: Files<File: SystemFile> + Clock + Drop> Disk for R {}
+impl<R: Files<File: SystemFile> + Clock + Eprint + Drop> Disk for R {}
 
 /// Where a log stands.
 pub type At<D> = AskedFolder<DiskFolder<D>>;
 
-/// Where one stands that is waited for.
-pub type LogAt<'r, R> = At<Waiting<'r, R>>;
-
 impl<'r, R: Files<File: SystemFile> + Clock + Eprint> Desk<'r, R> {
     /// Where the log at this path stands. No file is touched.
-    pub fn log_at(&self, log: &'r str) -> ToolResult<LogAt<'r, R>>
+    pub fn log_at(&self, log: &str) -> ToolResult<At<&'r R>>
         ensures folder { IfOk result (λ at. ArePathsOf log.entry.now (paths_of (system_of at.folder.folder))) }
         ensures asked { IfOk result (λ at. at.asked ≡ self.entry.now.asked) }
         ensures faults { IfErr result (λ e. e ≡ ToolFault.Memory) }
     {
-        let waiting = Waiting::new(self.rt, log, self.notes.looks);
+        let alloc = self.notes.alloc;
+        let mut system = OsSystem::new(self.rt, alloc, log)?;
+        system.tells = self.notes.looks;
         Ok(AskedFolder {
             secret: self.notes.secret,
             asked: self.asked,
-            folder: DiskFolder::new(waiting, self.notes.alloc, log)?,
+            folder: DiskFolder::over(system, alloc)?,
         })
     }
 }

@@ -12,8 +12,8 @@ mod program;
 mod reason;
 mod reporting;
 
-pub use desk::{Desk, Disk, Host, LogAt, NO_SCREEN, Screen, number_of};
-pub use nl_os::{DiskFolder, Look, Telling, Waiting, look_of};
+pub use desk::{At, Desk, Disk, Host, NO_SCREEN, Screen, number_of};
+pub use nl_os::{DiskFolder, Look, Telling, look_of};
 pub use nl_tool_change::{
     AskedFolder, LineFault, LogPlace, Nobody, NumberFault, NumberOf, Told, UNTOLD, WrongNumber,
     apply_on, entry_of, recompact_on, record_command, record_on, repair_on, replay_to, restat_on,
