@@ -119,9 +119,10 @@ fi
 [[ -z $strict ]] || export NLOG_PARTS="own steps without cmake tests faults differ stale cost"
 trials=()
 if [[ -n $strict ]]; then
-    trials+=("python3 tests/targets.py")
+    trials+=("python3 tests/targets.py" "python3 tests/system_bugs.py")
 else
     skip "it takes a quarter of an hour, and --strict runs it" python3 tests/targets.py
+    skip "it takes some minutes, and --strict runs it" python3 tests/system_bugs.py
 fi
 peer trials muon-0.4.0 integrations/samurai/try.sh
 for trial in library growths refusals builds_compared lines_read host; do

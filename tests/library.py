@@ -59,6 +59,9 @@ def tests(trials, room, parts):
         for module, text in modules(trials, part).items():
             files[f"{part}/{module}"] = text.encode()
             names |= {f"{part}::{module}::{it}" for it in re.findall(TEST, text)}
+    if "system" in parts:
+        import system_bugs  # (it takes the crates from here)
+        trials.want("the places of bugs that aren't in the source", system_bugs.misplaced(read(f"{TOP}/crates/{system_bugs.SOURCE}").decode()), [])
     for file, text in files.items():
         write(f"{src}/{file}.rt", text)
     write(f"{src}/lib.rt", ("#![tactic(auto)]\n\n" + "".join(f"#[cfg(test)]\nmod {it};\n" for it in parts)).encode())

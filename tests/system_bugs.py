@@ -6,7 +6,7 @@ test of tests/library/system.
 
 All of them are put into one copy of the crates, each behind the question whether the file `planted/NUMBER` is there. It is built once, by
 `rt try`, and there is one test for each bug, which makes its file and then calls the tests of tests/library/system. Such a test has to fail;
-without a bug each test has to pass. The gate doesn't run this: it runs those tests alone. It takes some minutes, wants `rt`, and no proof.
+without a bug each test has to pass. `./test.sh --strict` runs it. It takes some minutes, and wants `rt`, and no proof.
 """
 import os
 import re
@@ -21,32 +21,34 @@ USES = "nl_lines nl_folder nl_files nl_tool_texts nl_os"
 SOURCE = "nl_os/src/os_system.rt"
 # A text that stands once in the source, the part of it that the bugs replace, and for each bug what it does and its code.
 SITES = [
-    ("let answer = file.file.sync_all();", "file.file.sync_all()", {
+    ("SystemCall::Sync, file.role, file.file.sync_all())", "file.file.sync_all()", {
         "a file is not synced": "Ok(())",
         "a file is synced without its length": "file.file.sync_data()",
         "a file is synced twice": "{ let _ = file.file.sync_all(); file.file.sync_all() }",
-        "a scratch gets its rights behind its sync": "{ let answer = file.file.sync_all(); if let Some(rights) = file.rights { self.give_rights(&file.file, rights)?; file.rights = None; } answer }",
+        "a scratch gets its rights behind its sync": "{ let answer = file.file.sync_all(); if let Some(rights) = file.rights { let _ = take_rights(&file.file, rights); file.rights = None; } answer }",
     }),
     ("let answer = folder.sync_all();", "folder.sync_all()", {"the folder is not synced": "Ok(())"}),
     ("self.folder = Some(folder);", "self.folder = Some(folder);", {"the folder is opened for each sync": "drop(folder);"}),
     ("match self.lock(file, FileRole::Log)? {", "self.lock(file, FileRole::Log)?", {"the log is not locked": "Lock::None"}),
-    ("Lock::Taken => self.hold_shown(file, id),", "self.hold_shown(file, id)", {
-        "a lock is taken, and the name not looked at": "{ let lock = self.note_lock(file, id, FileRole::Log)?; self.locks.clear(); self.hold(Some(lock))?; Ok(Some(changed)) }",
-        "a lock is let go of at once": "Ok(Some(changed))",
+    ("Lock::Taken => {}", "{}", {
+        "a lock is taken, and the name not looked at": "let answer = file.try_clone(); let handle = self.note_failure(SystemCall::Duplicate, FileRole::Log, answer)?; self.locks.clear(); self.hold(Some(Locked { handle, id }))?; return Ok(Some(changed));",
+        "a lock is let go of at once": "return Ok(Some(changed));",
     }),
-    ("Lock::Held => Ok(None),", "Ok(None)", {"a log that another has locked is taken": "Ok(Some(changed))"}),
+    ("Lock::Held => return Ok(None),", "None", {"a log that another has locked is taken": "Some(changed)"}),
     ("if FileId::of(&found) != id {", "FileId::of(&found) != id", {"a file that has lost the name is locked": "false"}),
-    ("self.locks.clear();\n        self.hold(Some(lock))?;", "self.locks.clear();", {"the lock of a file that has lost the name is kept": ""}),
-    ("self.hold(Some(lock))?;\n        Ok(Some(", "self.hold(Some(lock))?;", {"the handle of a lock is closed": "{ drop(lock); self.hold(None)?; }"}),
-    ("self.hold(lock)?;\n        let mut file", "self.hold(lock)?;", {"a log that was made is not locked": "drop(lock);"}),
+    ("self.locks.clear();\n        self.hold(Some(Locked { handle, id }))?;", "self.locks.clear();", {"the lock of a file that has lost the name is kept": ""}),
+    ("self.hold(Some(Locked { handle, id }))?;", "self.hold(Some(Locked { handle, id }))?;", {"the handle of a lock is closed": "drop(handle); self.hold(None)?;"}),
+    ("self.hold(lock)?;\n        Ok(OsFile::new(file, FileRole::Log,", "self.hold(lock)?;", {"a log that was made is not locked": "drop(lock);"}),
     ("self.scratch_lock = self.lock_new(&file, id, FileRole::Scratch)?;", "self.lock_new(&file, id, FileRole::Scratch)?", {
         "a scratch is not locked": "None",
         "the lock of a scratch is let go of": "{ drop(self.lock_new(&file, id, FileRole::Scratch)?); None }",
     }),
-    ("self.scratch_lock = None;\n        self.remove_scratch", "self.scratch_lock = None;", {"the lock of an old scratch is kept": ""}),
-    ("self.remove_scratch()?;", "self.remove_scratch()?;", {"an old scratch is not removed": ""}),
-    ("match self.rt.remove_file(&self.paths.scratch) {", "self.rt.remove_file(&self.paths.scratch)", {"the log is removed": "self.rt.remove_file(&self.paths.log)"}),
-    ("Err(error) if error.kind() == ErrorKind::NotFound => Ok(()),", "error.kind() == ErrorKind::NotFound", {"a missing scratch is a failure": "false"}),
+    ("self.scratch_lock = None;\n        match self.rt.remove_file", "self.scratch_lock = None;", {"the lock of an old scratch is kept": ""}),
+    ("match self.rt.remove_file(&self.paths.scratch) {", "self.rt.remove_file(&self.paths.scratch)", {
+        "an old scratch is not removed": "Ok(())",
+        "the log is removed": "self.rt.remove_file(&self.paths.log)",
+    }),
+    ("Err(error) if error.kind() != ErrorKind::NotFound => {", "error.kind() != ErrorKind::NotFound", {"a missing scratch is a failure": "true"}),
     ("let lock = self.scratch_lock.take();\n        let held", "self.scratch_lock.take()", {
         "the lock of the new log is forgotten": "{ self.scratch_lock = None; None }",
         "the lock of a scratch is forgotten if its rename failed": "if answer.is_ok() { self.scratch_lock.take() } else { self.scratch_lock = None; None }",
@@ -60,45 +62,50 @@ SITES = [
         "no rename is made": "Ok(())",
     }),
     (".create_new(true)", ".create_new(true)", {"whatever has the name of the scratch is opened": ".create_new(!IS).create(IS)"}),
-    (".mode(if is_own { OWN_MODE } else { NEW_MODE }),", "if is_own { OWN_MODE } else { NEW_MODE }", {"anyone may open a scratch": "NEW_MODE"}),
+    ("let mode = if rights.is_some() { OWN_MODE } else { NEW_MODE };", "if rights.is_some() { OWN_MODE } else { NEW_MODE }", {"anyone may open a scratch": "NEW_MODE"}),
     ("if let Some(rights) = file.rights {", "file.rights", {"a scratch keeps the rights of its own": "None", "a scratch gets its rights behind its sync": "None"}),
-    ("self.give_rights(&file.file, rights)?;", "self.give_rights(&file.file, rights)?;", {"a scratch keeps its mode if that can't be set": "{ let _ = self.give_rights(&file.file, rights); }"}),
+    ("let answer = take_rights(&file.file, rights);", "take_rights(&file.file, rights)", {"a scratch keeps its mode if that can't be set": "{ let _ = take_rights(&file.file, rights); Ok(()) }"}),
     ("file.rights = None;", "file.rights = None;", {"each sync of a scratch sets its mode": ""}),
     ("let id = FileId::of(&self.stat(&file, FileRole::Scratch)?);", "FileId::of(&self.stat(&file, FileRole::Scratch)?)", {
-        "a scratch gets its rights before it is whole": "{ let id = FileId::of(&self.stat(&file, FileRole::Scratch)?); if let Some(rights) = rights { self.give_rights(&file, rights)?; } id }",
+        "a scratch gets its rights before it is whole": "{ let id = FileId::of(&self.stat(&file, FileRole::Scratch)?); if let Some(rights) = rights { let answer = take_rights(&file, rights); self.note_failure(SystemCall::SetMode, FileRole::Scratch, answer)?; } id }",
     }),
-    ("if self.locks.is_empty() ||", "self.locks.is_empty()", {"a copy gets the rights of another file": "true"}),
-    ("        if self.is_begun {", "self.is_begun", {"a log that was removed is made again": "false", "a missing log is not made": "true"}),
-    ("OpenOptions::new().read(true).append(true).create(true),", ".append(true)", {
+    ("if !self.locks.is_empty() &&", "!self.locks.is_empty()", {"a copy gets the rights of another file": "false"}),
+    ("match self.open_or_read(!self.is_begun) {", "!self.is_begun", {"a log that was removed is made again": "true", "a missing log is not made": "false"}),
+    ("how.read(true).append(true).create(is_made);", ".append(true)", {
         "a log is not appended to": ".append(!IS).write(IS)",
         "a log is emptied": ".append(!IS).write(IS)",
     }),
-    (".create(true),", ".create(true)", {"a log is emptied": ".create(true).truncate(IS)"}),
-    ("Err(error) if error.kind() == ErrorKind::NotFound => Ok(None),\n            Err(error) => Err(self.fail(SystemCall::Open", "error.kind() == ErrorKind::NotFound", {
+    (".create(is_made);", ".create(is_made)", {"a log is emptied": ".create(is_made).truncate(IS)"}),
+    ("Err(error) if self.is_begun && error.kind() == ErrorKind::NotFound => {", "self.is_begun && error.kind() == ErrorKind::NotFound", {
         "a log that is gone is a failure": "false",
         "a log that can't be opened is gone": "true",
     }),
-    *((f"self.denial(file.role) {{\n            return Err(self.fail(SystemCall::{call},", "self.denial(file.role)", {f"a log that may only be read is asked for a {call.lower()}": "None"}) for call in ("Write", "Cut", "Sync")),
-    ("if shown == Some(file.id) && is_as_left {", "shown == Some(file.id) && is_as_left", {"a look finds no other file": "true", "a look finds no change": "shown == Some(file.id)"}),
-    ("let answer = file.cut_as_read(len);", "file.cut_as_read(len)", {"a log is cut that another changed": "file.file.set_len(len)"}),
+    *((f"self.check_denial(SystemCall::{call}, file.role)?;", f"self.check_denial(SystemCall::{call}, file.role)?;", {f"a log that may only be read is asked for a {call.lower()}": ""}) for call in ("Write", "Cut", "Sync")),
+    ("if shown == Some(file.id) && found.is_some_and(|it| file.is_as_left(&it)) {", "shown == Some(file.id) && found.is_some_and(|it| file.is_as_left(&it))", {
+        "a look finds no other file": "true",
+        "a look finds no change": "shown == Some(file.id)",
+    }),
+    ("Ok(found) if file.is_as_left(&found) => file.file.set_len(len),", "file.is_as_left(&found)", {"a log is cut that another changed": "true"}),
     ("SystemCall::Cut, file.role, answer);\n        file.changed = None;", "file.changed = None;", {"a cut is taken for that of another": ""}),
     ("file.read_to = file.read_to.min(len);", "file.read_to = file.read_to.min(len);", {"a log is as long as it was before a cut": ""}),
     ("file.len = if answer.is_ok() { Some(len) } else { None };", "file.len = if answer.is_ok() { Some(len) } else { None };", {"a log is longer than it was cut to": ""}),
     ("errno: error.raw_os_error(),", "error.raw_os_error()", {"the number of an error is lost": "None"}),
-    ("let answer = file.file.read_at(buf, at);", "file.file.read_at(buf, at)", {"a read begins at the first byte": "file.file.read_at(buf, 0)"}),
-    ("file.note_read(at, count, buf.len());", "file.note_read(at, count, buf.len());", {"the end of a log is forgotten": ""}),
-    ("let answer = write_some(&mut file.file, bytes);", "write_some(&mut file.file, bytes)", {"bytes are added twice": "{ let _ = write_some(&mut file.file, bytes); write_some(&mut file.file, bytes) }"}),
-    ("file.note_added(answer.ok());", "file.note_added(answer.ok());", {"an append is taken for that of another": ""}),
+    ("SystemCall::Read, file.role, file.file.read_at(buf, at))?;", "file.file.read_at(buf, at)", {"a read begins at the first byte": "file.file.read_at(buf, 0)"}),
+    ("if at == file.read_to && !buf.is_empty() {", "at == file.read_to && !buf.is_empty()", {"the end of a log is forgotten": "false"}),
+    ("let answer = match file.file.write(bytes) {", "file.file.write(bytes)", {"bytes are added twice": "{ let _ = file.file.write(bytes); file.file.write(bytes) }"}),
+    ("file.len = added.map(|(len, count)| len.saturating_add(count as u64));", "file.len = added.map(|(len, count)| len.saturating_add(count as u64));", {"an append is taken for that of another": ""}),
     ("self.is_begun = true;", "self.is_begun = true;", {"each open makes a missing log": ""}),
     ("if file.descriptor() > LAST_STREAM {", "file.descriptor() > LAST_STREAM", {"a file has the descriptor of a standard stream": "true"}),
-    ("OpenOptions::new().read(true), &self.paths.folder);", "&self.paths.folder", {"the log is synced as its folder": "&self.paths.log"}),
+    ("how.read(true), &self.paths.folder);", "&self.paths.folder", {"the log is synced as its folder": "&self.paths.log"}),
     ("if kind != ErrorKind::PermissionDenied && kind", "kind != ErrorKind::PermissionDenied", {"a log that can't be opened is opened for reading": "false"}),
-    ("if self.sync_file(file).is_err() {", "self.sync_file(file)", {"the look comes before the sync": "{ let _ = self.look(file); self.sync_file(file) }"}),
+    ("self.sync_file(file).map_err", "self.sync_file(file)", {"the look comes before the sync": "{ let _ = self.look(file); self.sync_file(file) }"}),
     ("let answer = self.look(file);\n        file.changed", "self.look(file)", {"the look comes before the sync": "Ok(())"}),
     ("let Some(pause) = wait.pause(Sign::of(&metadata), now) else {", "wait.pause(Sign::of(&metadata), now)", {
         "a wait has no end": "{ let _ = wait.pause(Sign::of(&metadata), now); Some(1) }",
         "no lock is waited for": "{ let _ = wait.pause(Sign::of(&metadata), now); None }",
     }),
+    ("now.saturating_sub(wait.began) >= PATIENCE", "now.saturating_sub(wait.began) >= PATIENCE", {"a short wait is told of": "true", "a long wait isn't told of": "false"}),
+    ("self.tells = false;", "self.tells = false;", {"a wait is told of at each turn": ""}),
     ("thread::sleep(&self.rt, Duration::from_millis(pause));", "thread::sleep(&self.rt, Duration::from_millis(pause));", {"a wait has no pauses": ""}),
     ("if error.kind() == ErrorKind::Unsupported\n", "error.kind() == ErrorKind::Unsupported", {"no lock can fail": "true", "a system call that is missing is a failure": "false"}),
     ("|| error.raw_os_error() == Some(NO_LOCKS)", "error.raw_os_error() == Some(NO_LOCKS)", {"a file system without locks is a failure": "false"}),
@@ -112,11 +119,16 @@ def ask(number, runtime="self.rt"):
     return f'{runtime}.metadata("planted/{number}").is_ok()'
 
 
+def misplaced(source):
+    """The texts that stand elsewhere than once in the source."""
+    return [text for text, _, _ in SITES if source.count(text) != 1]
+
+
 def planted(source):
     """The source with all bugs, and the name of each, whose place in the list is its number."""
     names, spans = [], []
     for text, part, bugs in SITES:
-        assert source.count(text) == 1 and part in text, f"{source.count(text)} times in {SOURCE}: {text}"
+        assert part in text and text not in misplaced(source), f"{source.count(text)} times in {SOURCE}: {text}"
         code = f"{{ {part} }}"
         if part.startswith("."):
             # (a word of a chain is no value by itself: one text is of each of its bugs)
@@ -128,7 +140,7 @@ def planted(source):
             # (one function has the runtime alone)
             runtime = "rt" if "LAST_STREAM" in text else "self.rt"
             code = f"if {ask(names.index(name), runtime)} {{ {bug} }} else {code}"
-        code = code if part[0] == "." or part[-1] == ";" else f"({code})"
+        code = f"{{ {code} }}" if part == "{}" else code if part[0] == "." or part[-1] == ";" else f"({code})"
         start = source.index(text) + text.index(part)
         spans.append((start, start + len(part), code))
     for start, end, code in sorted(spans, reverse=True):
