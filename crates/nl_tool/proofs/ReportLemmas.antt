@@ -1,13 +1,12 @@
 -- A text that is told of builds, laid out, or written piece by piece.
-use Rattle.std.proofs.Common.{◌≡◌, ◌⊎◌, ◌++◌, Bool, List, ℕ, Option, None, Some, Result, Ok, Err, inl, inr, refl, sym, subst, ap, ◌∙◌}
-use Rattle.std.specs.Prelude.{IfErr, IfSome, IsSome, length, option_map}
+use Rattle.std.proofs.Common.{◌≡◌, ◌⊎◌, ◌++◌, List, ℕ, Option, None, Some, Result, Ok, Err, inl, inr, refl, sym, subst, ap, ◌∙◌}
+use Rattle.std.specs.Prelude.{IfErr, IsSome, length, option_map}
 use Rattle.std.specs.Borrow.{Bor}
 use Rattle.std.specs.Global.{Vec}
-use Rattle.std.specs.Io.KnownBytes.{Consumes, Keeps}
-use Rattle.nl_table.specs.Log.{LogReading, NotALog, log_of}
+use Rattle.std.specs.Io.KnownBytes.{Keeps}
+use Rattle.nl_table.specs.Log.{LogReading, NotALog}
 use Rattle.nl_table.specs.declared.loader.LoadFault.{LoadFault}
 use Rattle.nl_table.specs.declared.loader.LoadFault.TheVariants as load
-use Rattle.nl_versions.specs.VersionOf.{as_five}
 use Rattle.nl_builds.specs.Builds.{IsTold, Told}
 use Rattle.nl_builds.specs.declared.build.Build.{Build}
 use Rattle.nl_builds.specs.declared.build.Builds.{Builds as Held}

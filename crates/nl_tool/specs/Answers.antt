@@ -1,5 +1,5 @@
 -- What a command that reads a log, a script or a command has to print (docs/CLI.md).
-use Rattle.std.specs.Prelude.{⊤, ◌≡◌, ◌↔◌, ◌<◌, ℕ, List, Option, Result, Ok, Err, IfSome, IsErrOf, length, unwrap_or}
+use Rattle.std.specs.Prelude.{⊤, ◌≡◌, ◌↔◌, ◌<◌, ℕ, List, Option, Result, Ok, Err, length, unwrap_or}
 use Rattle.std.specs.Io.KnownBytes.{Appends}
 use Rattle.nl_versions.specs.declared.version.LogVersion.{LogVersion}
 use Rattle.nl_versions.specs.declared.version.LogVersion.TheVariants.{Five}
