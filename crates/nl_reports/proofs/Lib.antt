@@ -1,5 +1,4 @@
 mod MomentLemmas
-mod StartLemmas
 mod SweepLemmas
 mod SweepStepLemmas
 mod SharesLemmas

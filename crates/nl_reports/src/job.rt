@@ -2,7 +2,7 @@
 ghost use Rattle.std.specs.Prelude.{◌≡◌, map, IfOk, All};
 ghost use Rattle.nl_reports.specs.{Jobs.{between, commands_between, commands_to, entries_to, first_name, job_of, jobs_between, jobs_from, seen, told}, Rows.{by_start}, Spans.{IsEarly, span_of}, Numbers.{IsSmall, numbers_of, spans_of}};
 
-use crate::moments::{MOVES, NO_MOMENT, Span};
+use crate::moments::{NO_MOMENT, Span};
 use nl_builds::{Build, Builds, Command};
 use nl_fields::EntryRef;
 use nl_tool_texts::AllocResult;
@@ -119,31 +119,12 @@ pub fn jobs_by_start<'s, 'a>(jobs: Vec<Job<'s, 'a>>) -> JobsResult<'s, 'a>
     ensures early { IfOk result (λ sorted. All (λ j. IsEarly j.span) sorted.items) }
 {
     let mut sorted = jobs;
-    settle(&mut sorted);
     sorted.sort_by(|a, b| {
         NO_MOMENT
             .saturating_sub(b.span.began)
             .cmp(&NO_MOMENT.saturating_sub(a.span.began))
     })?;
     Ok(sorted)
-}
-
-// Moves each command to before those next to it that began later. Commands that are nearly in order are then in order, and to sort them
-// takes little.
-fn settle(jobs: &mut Vec<Job>)
-    requires early { All (λ j. IsEarly j.span) jobs.old.items }
-    ensures early { All (λ j. IsEarly j.span) jobs.new.items }
-    ensures order { by_start (map seen jobs.new.items) ≡ by_start (map seen jobs.old.items) }
-{
-    let mut moves = jobs.len().saturating_mul(MOVES);
-    for i in 1..jobs.len() {
-        let mut at = i;
-        'moves: while at > 0 && moves > 0 && jobs[at].span.began < jobs[at - 1].span.began {
-            jobs.swap(at - 1, at);
-            at -= 1;
-            moves -= 1;
-        }
-    }
 }
 
 /// Times are in milliseconds.

@@ -43,9 +43,6 @@ impl Span {
     }
 }
 
-// So many moves of each moment are tried, on average.
-pub(crate) const MOVES: usize = 16;
-
 // A place that is so near is found without a search.
 const STEPS: u32 = 64;
 
@@ -88,16 +85,6 @@ pub(crate) fn rising(moments: Vec<u64>) -> Vec<u64>
     ensures order { All (λ m. m ≤ 2 ^ 32) moments.items → Rises result.items }
 {
     let mut sorted = moments;
-    // Each moment moves to before those next to it that are later. What is nearly in order is then in order, and to sort it takes little.
-    let mut moves = sorted.len().saturating_mul(MOVES);
-    for i in 1..sorted.len() {
-        let mut at = i;
-        'moves: while at > 0 && moves > 0 && sorted[at - 1] > sorted[at] {
-            sorted.swap(at - 1, at);
-            at -= 1;
-            moves -= 1;
-        }
-    }
     sorted.sort_unstable();
     sorted
 }

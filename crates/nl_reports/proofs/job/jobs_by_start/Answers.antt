@@ -13,9 +13,9 @@ returns-clause-value c =
     ap (map seen) (falling_from_sort (λ (j : Job). lead (seen j)) _ _
     (c.in_ok-sort_by.ensures.sorted _ (ranks_down (λ (j : Job). lead (seen j))) answers)
     (c.in_ok-sort_by.ensures.stable _ (ranks_down (λ (j : Job). lead (seen j))) answers))
-    ∙ map-falling seen lead c.settle.new.jobs.items ∙ c.settle.ensures.order
+    ∙ map-falling seen lead c.args.jobs.items
 
 pub returns-clause-early : goal.returns-clause-early
 returns-clause-early c =
     All-permutation (λ (j : Job). IsEarly j.span) _ c.sort_by.new.self.items c.in_ok-sort_by.ensures.permutation
-    c.settle.ensures.early
+    c.requires.early
