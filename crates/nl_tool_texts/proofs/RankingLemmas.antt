@@ -1,8 +1,9 @@
 -- Of many items the few that rank highest.
 use Rattle.std.proofs.Common.{◌≡◌, ◌∙◌, ℕ, ◌+◌, ◌<◌, ◌≤◌, true, false, cond, List, [], ◌∷◌, ◌++◌, get_or, length, take, zero, suc, refl, sym, ap, subst, arith}
-use Rattle.std.specs.Prelude.{nat_lt}
+use Rattle.std.specs.Prelude.{nat_le, nat_lt}
 use Rattle.std.specs.List.{insert}
-use Rattle.std.proofs.lemmas.Bool.{cond-false, cond-true, le-ltb, lt-ltb}
+use Rattle.std.specs.List.Sorted.{IsPartitionedBy}
+use Rattle.std.proofs.lemmas.Bool.{cond-false, cond-true, le-leb, leb-true, le-ltb, lt-ltb}
 use Rattle.std.proofs.lemmas.Bool.Decides.{nat_tests}
 use Rattle.std.proofs.lemmas.List.{take-take}
 use Rattle.nl_tool_texts.specs.Falling.{falling, put}
@@ -64,6 +65,12 @@ module _ {A : Type 0} (rank : A → ℕ) where
   falls_take (suc n) [] falls = tt
   falls_take zero (x ∷ xs) falls = tt
   falls_take (suc n) (x ∷ xs) falls = (up_to_take (rank x) n xs falls.0, falls_take n xs falls.1)
+
+  -- those that rank as high stand before the others
+  pub partitioned : (n t : ℕ) (xs ks : List A) → ks ≡ take n (falling rank xs) → IsPartitionedBy (λ y. nat_le t (rank y)) ks
+  partitioned n t xs ks is i j d order within high =
+      let falls : Falls rank ks = subst (Falls rank) (sym is) (falls_take n (falling rank xs) (falling_falls rank xs)) in
+      le-leb t (rank (get_or ks i d)) (omega (arith, leb-true t (rank (get_or ks j d)) high, falls_at rank ks falls i j d order within))
 
   put_at : (x : A) (at : ℕ) (ks : List A) → Falls rank ks → at ≤ length ks
       → ((k : ℕ) (d : A) → k + 1 ≡ at → rank x ≤ rank (get_or ks k d))

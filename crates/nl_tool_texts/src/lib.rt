@@ -14,7 +14,7 @@ pub use columns::{append_number, in_columns, lines_of};
 pub use escape::{append_cut_name, append_label};
 pub use fault::{ToolFault, ToolResult, status_of};
 pub use graph_line::{Line, line_in};
-pub use ranking::{Ranking, falling, highest};
+pub use ranking::{Ranking, highest};
 pub use text::{
     AllocResult, BEGINNING, Part, append, append_line, append_parts, append_with, is_bare, percent,
     ratio, write_full, write_out,
