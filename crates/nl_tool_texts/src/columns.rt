@@ -16,18 +16,16 @@ pub fn in_columns(alloc: Global, most: usize, text: &[u8]) -> AllocResult<Vec<u8
 {
     let text = shown(alloc, text)?;
     let lines = lines_of(alloc, text.as_slice())?;
+    // Keeps the columns of the line before, for a next line with as many fields.
     let mut found = Vec::new(alloc);
     let mut out = Vec::new(alloc);
     for i in 0..lines.len() {
         append_newline(i, &mut out)?;
-        append_row(
-            alloc,
-            most,
-            lines.as_slice(),
-            lines[i],
-            &mut found,
-            &mut out,
-        )?;
+        let count = count_fields(lines[i]);
+        if found.len() != count {
+            found = widths_of(alloc, lines.as_slice(), count)?;
+        }
+        append_cells(most, found.as_slice(), lines[i], &mut out)?;
     }
     Ok(out)
 }
@@ -47,26 +45,6 @@ pub fn lines_of(alloc: Global, text: &[u8]) -> AllocResult<Vec<&[u8]>>
     ensures value { IfOk result (λ lines. map (λ line. line.now) lines.items ≡ lines_of text.now) }
 {
     text.split(|b| *b == b'\n').collect(alloc)
-}
-
-// Keeps the columns of the line before, for a next line with as many fields.
-fn append_row(
-    alloc: Global,
-    most: usize,
-    lines: &[&[u8]],
-    line: &[u8],
-    found: &mut Vec<usize>,
-    out: &mut Vec<u8>,
-) -> AllocResult
-    requires found { found.old.items ≡ widths (length found.old.items) (map (λ line. line.now) lines.now) }
-    ensures found { OnOk result (found.new.items ≡ widths (length found.new.items) (map (λ line. line.now) lines.now)) }
-    ensures items { OnOk result (out.new.items ≡ out.old.items ++ row_of most (map (λ line. line.now) lines.now) line.now) }
-{
-    let count = count_fields(line);
-    if found.len() != count {
-        *found = widths_of(alloc, lines, count)?;
-    }
-    append_cells(most, found.as_slice(), line, out)
 }
 
 fn widths_of(alloc: Global, lines: &[&[u8]], count: usize) -> AllocResult<Vec<usize>>

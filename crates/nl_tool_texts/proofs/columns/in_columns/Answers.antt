@@ -1,8 +1,9 @@
 use Rattle.std.proofs.Common.{◌≡◌, ◌∙◌, ◌<◌, ◌++◌, [], Bor, List, ℕ, ap, arith, get_or, length, map, sym}
 use Rattle.std.proofs.lemmas.List.{get_or-map, length-map}
-use Rattle.nl_tool_texts.specs.Columns.{lines_of, newline_before, row_of, rows_up_to, shown, widths}
-use Rattle.nl_tool_texts.proofs.CellLemmas.{rows-more}
+use Rattle.nl_tool_texts.specs.Columns.{cells, fields_of, lines_of, newline_before, rows_up_to, shown, widths}
+use Rattle.nl_tool_texts.proofs.CellLemmas.{length-widths, rows-more}
 use Rattle.nl_tool_texts.proofs.columns.in_columns.Goals as goal
+use Rattle.nl_tool_texts.proofs.columns.in_columns.Goals.{then-len-count+in_ok-found, else-len-count}
 
 pub loop-i-preserved : goal.loop-i-preserved
 loop-i-preserved c =
@@ -10,16 +11,29 @@ loop-i-preserved c =
     let lines : List (List ℕ) = map (λ (line : Bor (List ℕ)). line.now) held in
     let i = c.loop-i.i in
     let most = c.args.most in
-    let slice : map (λ (line : Bor (List ℕ)). line.now) c.as_slice-in-loop-i.result.now ≡ lines =
-    ap (map (λ (line : Bor (List ℕ)). line.now)) c.as_slice-in-loop-i.ensures.value in
     let within : i < length held = omega (arith, c.loop-i-test.true, c.len-i-end.ensures, c.loop-i.auto.i-end) in
-    let line : c.index.result.now.now ≡ get_or lines i [] =
-    ap (λ (l : Bor (List ℕ)). l.now) c.index.ensures ∙ sym (get_or-map (λ (l : Bor (List ℕ)). l.now) held i _ [] within) in
+    let line : (l : Bor (List ℕ)) → l ≡ get_or held i l → l.now ≡ get_or lines i [] =
+    λ l is. ap (λ (l : Bor (List ℕ)). l.now) is ∙ sym (get_or-map (λ (l : Bor (List ℕ)). l.now) held i l [] within) in
+    let first : c.index.result.now.now ≡ get_or lines i [] = line c.index.result.now c.index.ensures in
+    let last : c.index-in-loop-i.result.now.now ≡ get_or lines i [] = line c.index-in-loop-i.result.now c.index-in-loop-i.ensures in
+    let fields : ℕ = length (fields_of (get_or lines i [])) in
+    let count : c.count_fields-count.result ≡ fields = c.count_fields-count.ensures.value ∙ ap (λ l. length (fields_of l)) first in
+    let found : c.if-len-count.found.items ≡ widths fields lines =
+    elim c.if-len-count.branch [
+      | then-len-count+in_ok-found w ↦
+          ap (λ v. v.items) w.found-is ∙ w.in_ok-found.ensures.value
+          ∙ (λ j. widths (count j) (map (λ (line : Bor (List ℕ)). line.now) (w.as_slice-then-len-count.ensures.value j)))
+      | else-len-count w ↦
+          let same : length c.loop-i.found.items ≡ fields = omega (arith, w.if-len-count.false, c.len.ensures, count) in
+          ap (λ v. v.items) w.found-is ∙ c.loop-i.invariant.found ∙ ap (λ n. widths n lines) same
+    ] in
+    let len : length c.if-len-count.found.items ≡ fields = ap (λ (l : List ℕ). length l) found ∙ length-widths fields fields lines in
     record {
-      told = c.in_ok-append_row.ensures.items
-          ∙ (λ j. (c.in_ok-append_newline.ensures.items ∙ ap (λ (l : List ℕ). l ++ newline_before i) c.loop-i.invariant.told) j ++ row_of most (slice j) (line j))
+      told = c.in_ok-append_cells.ensures.items
+          ∙ (λ j. (c.in_ok-append_newline.ensures.items ∙ ap (λ (l : List ℕ). l ++ newline_before i) c.loop-i.invariant.told) j
+          ++ cells most ((c.as_slice-in-loop-i.ensures.value ∙ found) j) (last j))
           ∙ sym (rows-more i most lines);
-      found = c.in_ok-append_row.ensures.found ∙ ap (widths (length c.append_row.new.found.items)) slice;
+      found = found ∙ ap (λ n. widths n lines) (sym len);
     }
 
 pub returns : goal.returns

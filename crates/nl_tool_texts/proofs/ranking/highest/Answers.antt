@@ -17,7 +17,7 @@ returns-then-most-gt-FEW g c =
     let answers = always_returns_same _ _ _ (λ a r f called. search (rules, of_calls)) in
     let sorted = falling_from_sort rank _ _ (c.in_ok-sort_by.ensures.sorted _ (ranks_down rank) answers)
     (c.in_ok-sort_by.ensures.stable _ (ranks_down rank) answers) in
-    record { value = c.truncate.ensures.items ∙ ap (take c.args.most) (sorted ∙ ap (falling rank) c.in_ok-sorted.ensures.items); }
+    record { value = c.truncate.ensures.items ∙ ap (take c.args.most) (sorted ∙ ap (falling rank) c.in_ok-sorted.ensures.items) }
 
 pub loop-item-preserved : goal.loop-item-preserved
 loop-item-preserved g c =
