@@ -50,7 +50,7 @@ pub(crate) fn append_bar(
         shorts[at].count = held.count.saturating_add(1);
         return Ok(());
     }
-    append_short(frame, lane, &held, out)?;
+    append_short(frame, lane, held, out)?;
     shorts[at] = Short {
         pixel,
         kind: kind_of(job),
@@ -60,13 +60,8 @@ pub(crate) fn append_bar(
 }
 
 /// Appends the bar of short commands; none, if there are none.
-pub(crate) fn append_short(
-    frame: &Frame,
-    lane: u64,
-    short: &Short,
-    out: &mut Vec<u8>,
-) -> AllocResult
-    ensures items { OnOk result (out.new.items ≡ out.old.items ++ short_bar frame.now lane short.now) }
+pub(crate) fn append_short(frame: &Frame, lane: u64, short: Short, out: &mut Vec<u8>) -> AllocResult
+    ensures items { OnOk result (out.new.items ≡ out.old.items ++ short_bar frame.now lane short) }
 {
     if short.count == 0 {
         return Ok(());
@@ -85,7 +80,13 @@ fn append_long(frame: &Frame, job: &Job, lane: u64, out: &mut Vec<u8>) -> AllocR
     put!(out; b"<rect class=\"k" {kind_of(job)} b"\" x=\"" {x} b"\" y=\"" {frame.y_at(lane)} b"\" width=\""
         {drawn_width(width)} b"\" height=\"" {frame.height()} b"\"><title>")?;
     append_title(frame, job, out)?;
-    append_name(frame, lane, x, width, job.name(), out)
+    let room = (width.saturating_sub(80) / LETTER).min(MOST);
+    if room < 4 || frame.top >= 64 {
+        return Ok(());
+    }
+    put!(out; b"<text x=\"" {x + 40} b"\" y=\"" {frame.y_at(lane) + 135} b"\">")?;
+    append_cut_name(*out.allocator(), room as usize, base_of(job.name()), out)?;
+    append(b"</text>\n", out)
 }
 
 fn width_of(frame: &Frame, job: &Job) -> u64
@@ -122,26 +123,6 @@ fn append_title(frame: &Frame, job: &Job, out: &mut Vec<u8>) -> AllocResult
     append(b" s from ", out)?;
     append_seconds(job.span.began.saturating_sub(frame.began), out)?;
     append(b" s</title></rect>\n", out)
-}
-
-fn append_name(
-    frame: &Frame,
-    lane: u64,
-    x: u64,
-    width: u64,
-    name: &[u8],
-    out: &mut Vec<u8>,
-) -> AllocResult
-    requires near { x ≤ 15400 }
-    ensures items { OnOk result (out.new.items ≡ out.old.items ++ name_text frame.now lane x width name.now) }
-{
-    let room = (width.saturating_sub(80) / LETTER).min(MOST);
-    if room < 4 || frame.top >= 64 {
-        return Ok(());
-    }
-    put!(out; b"<text x=\"" {x + 40} b"\" y=\"" {frame.y_at(lane) + 135} b"\">")?;
-    append_cut_name(*out.allocator(), room as usize, base_of(name), out)?;
-    append(b"</text>\n", out)
 }
 
 fn base_of(name: &[u8]) -> &[u8]

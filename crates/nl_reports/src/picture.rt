@@ -118,7 +118,7 @@ fn write_jobs<W: Write>(
     // The bars of short commands that aren't drawn yet, lane by lane.
     let shorts = shorts.as_slice();
     for lane in 0..shorts.len() {
-        append_short(&frame, lane as u64, &shorts[lane], &mut held)?;
+        append_short(&frame, lane as u64, shorts[lane], &mut held)?;
         write_full(FULL, &mut held, writer)?;
     }
     append(end.as_slice(), &mut held)?;

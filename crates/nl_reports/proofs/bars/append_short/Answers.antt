@@ -19,7 +19,7 @@ same kind x y height count = simp (append_assoc, append-nil)
 pub returns : goal.returns
 returns c =
     let old = c.args.out.now.items in
-    let s = c.args.short.now in
+    let s = c.args.short in
     let some : (s.count == 0) ≡ false = elim (eqb_tells s.count 0) [ inl h ↦ absurd (c.if-short-eq0.false h.1) | inr h ↦ h.0 ] in
     record {
       items = on_ok_weaker c.put.result (λ h. rw some (h
