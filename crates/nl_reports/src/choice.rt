@@ -1,11 +1,10 @@
 //! Which builds are told of, and their commands, one build after another on one clock.
-ghost use Rattle.std.specs.Prelude.{◌≡◌, ◌<◌, ◌^◌, map, IfOk, IfSome, All, ◌++◌};
-ghost use Rattle.nl_reports.specs.{Jobs.{build_commands, is_manifest_alone, last_number, seen, told, build_jobs}, Choice.{chosen, chosen_jobs}, Spans.{IsEarly}, Frame.{first_began}, Rows.{by_start, spans}, Turns.{clock_behind, jobs_in_turn, turned, turned_jobs}};
+ghost use Rattle.std.specs.Prelude.{◌≡◌, ◌<◌, ◌^◌, map, IfOk, IfSome, All};
+ghost use Rattle.nl_reports.specs.{Jobs.{build_commands, is_manifest_alone, last_number, seen, told, build_jobs}, Choice.{chosen, chosen_jobs}, Spans.{IsEarly}, Frame.{first_began}, Rows.{by_start, spans}, Turns.{jobs_in_turn, turned}};
 
 use crate::job::{Job, JobsResult, between, commands_between, jobs_by_start, jobs_in};
 use crate::moments::Span;
 use nl_builds::Builds;
-use nl_tool_texts::AllocResult;
 use std::alloc::Global;
 
 /// Which builds a report tells of.
@@ -90,40 +89,23 @@ pub fn jobs_in_turn<'s, 'a>(alloc: Global, scope: Scope, from: &'s Builds<'a>) -
     let mut clock = 0;
     let mut number = first;
     for _build in builds {
-        let jobs = jobs_by_start(jobs_in(alloc, from, number, number)?)?;
-        clock = push_build(jobs.as_slice(), clock, &mut all)?;
+        let sorted = jobs_by_start(jobs_in(alloc, from, number, number)?)?;
+        let jobs = sorted.as_slice();
+        let (start, began) = (clock, began_of(jobs));
+        for job in jobs {
+            let moved = Job {
+                span: Span {
+                    began: turned(job.span.began, began, start),
+                    ended: turned(job.span.ended, began, start),
+                },
+                ..*job
+            };
+            clock = clock.max(moved.span.closed());
+            all.push(moved)?;
+        }
         number += 1;
     }
     Ok(all)
-}
-
-fn push_build<'s, 'a>(
-    jobs: &[Job<'s, 'a>],
-    clock: u64,
-    all: &mut Vec<Job<'s, 'a>>,
-) -> AllocResult<u64>
-    requires jobs { All (λ j. IsEarly j.span) jobs.now }
-    requires clock { clock < 2 ^ 32 }
-    requires early { All (λ j. IsEarly j.span) all.old.items }
-    ensures jobs { IfOk result (λ last. map seen all.new.items ≡ map seen all.old.items ++ turned_jobs clock (map seen jobs.now)) }
-    ensures clock { IfOk result (λ last. last ≡ clock_behind clock (turned_jobs clock (map seen jobs.now))) }
-    ensures bound { IfOk result (λ last. last < 2 ^ 32) }
-    ensures early { IfOk result (λ last. All (λ j. IsEarly j.span) all.new.items) }
-{
-    let began = began_of(jobs);
-    let mut last = clock;
-    for job in jobs {
-        let moved = Job {
-            span: Span {
-                began: turned(job.span.began, began, clock),
-                ended: turned(job.span.ended, began, clock),
-            },
-            ..*job
-        };
-        last = last.max(moved.span.closed());
-        all.push(moved)?;
-    }
-    Ok(last)
 }
 
 fn began_of(jobs: &[Job]) -> u64
