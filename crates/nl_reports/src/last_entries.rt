@@ -20,16 +20,12 @@ pub fn lasting<'a>(
 ) -> AllocResult<Builds<'a>>
     ensures value { IfOk result (λ left. told left ≡ lasting (map (λ n. n.now) waiting.now) (told from.entry)) }
 {
-    let (commands, builds) = (from.commands, from.builds);
-    let marks = marks_of(alloc, secret, waiting, &from.entries)?;
-    let (entries, before) = entries_left(alloc, &marks, from.entries)?;
-    let (commands, before) = commands_left(alloc, entries.len(), &before, commands)?;
-    let builds = builds_left(alloc, commands.len(), &before, &builds)?;
-    Ok(Builds {
-        entries,
-        commands,
-        builds,
-    })
+    let mut left = from;
+    let marks = marks_of(alloc, secret, waiting, &left.entries)?;
+    let before = keep_entries(&marks, &mut left.entries)?;
+    let before = keep_commands(left.entries.len(), &before, &mut left.commands)?;
+    left.builds = builds_left(left.commands.len(), &before, &left.builds)?;
+    Ok(left)
 }
 
 // Whether each entry is left.
@@ -55,29 +51,24 @@ fn marks_of<'a>(
     Ok(found)
 }
 
-// Those that are marked, and for each place how many of them stand before it. They move within their list, which may be long.
-fn entries_left<'a>(
-    alloc: Global,
-    marks: &[bool],
-    entries: Vec<EntryRef<'a>>,
-) -> AllocResult<(Vec<EntryRef<'a>>, Vec<usize>)>
-    requires { length marks.now ≡ length entries.items }
-    ensures items { IfOk result (λ left. left.0.items ≡ marked marks.now entries.entry.items) }
-    ensures before { IfOk result (λ left. (place : ℕ) → get_or left.1.items place (length left.0.items)
-        ≡ length (marked marks.now (take place entries.entry.items))) }
+// Those that are marked stay. It tells for each place how many of them stood before it. They move within their list, which may be long.
+fn keep_entries(marks: &[bool], entries: &mut Vec<EntryRef>) -> AllocResult<Vec<usize>>
+    requires { length marks.now ≡ length entries.old.items }
+    ensures items { IfOk result (λ before. entries.new.items ≡ marked marks.now entries.old.items) }
+    ensures before { IfOk result (λ before. (place : ℕ) → get_or before.items place (length entries.new.items)
+        ≡ length (marked marks.now (take place entries.old.items))) }
 {
-    let mut left = entries;
-    let mut before = Vec::with_capacity(alloc, left.len())?;
+    let mut before = Vec::with_capacity(*entries.allocator(), entries.len())?;
     let mut count = 0;
     for place in 0..marks.len() {
         before.push(count)?;
         if item_at(marks, place, false) {
-            left.swap(count, place);
+            entries.swap(count, place);
             count += 1;
         }
     }
-    left.truncate(count);
-    Ok((left, before))
+    entries.truncate(count);
+    Ok(before)
 }
 
 /// Names are hashed under a secret.
@@ -105,42 +96,35 @@ pub(crate) fn any_named(names: &IndexSet<NameKey, Secret>, outputs: &[EntryRef])
 }
 
 // `entries` counts the entries that are left, and `before` those of them that stand before each place.
-fn commands_left(
-    alloc: Global,
+fn keep_commands(
     entries: usize,
     before: &[usize],
-    commands: Vec<Command>,
-) -> AllocResult<(Vec<Command>, Vec<usize>)>
-    ensures items { IfOk result (λ left. left.0.items ≡ commands_left (λ place. get_or before.now place entries) 0 commands.items) }
-    ensures before { IfOk result (λ left. (place : ℕ) → get_or left.1.items place (length left.0.items)
-        ≡ length (commands_left (λ place. get_or before.now place entries) 0 (take place commands.items))) }
+    commands: &mut Vec<Command>,
+) -> AllocResult<Vec<usize>>
+    ensures items { IfOk result (λ counts. commands.new.items ≡ commands_left (λ place. get_or before.now place entries) 0 commands.old.items) }
+    ensures before { IfOk result (λ counts. (place : ℕ) → get_or counts.items place (length commands.new.items)
+        ≡ length (commands_left (λ place. get_or before.now place entries) 0 (take place commands.old.items))) }
 {
-    let mut left = commands;
-    let mut counts = Vec::with_capacity(alloc, left.len())?;
+    let mut counts = Vec::with_capacity(*commands.allocator(), commands.len())?;
     let (mut from, mut count) = (0, 0);
-    for place in 0..left.len() {
+    for place in 0..commands.len() {
         counts.push(count)?;
-        let mut command = left[place];
+        let mut command = commands[place];
         command.to = item_at(before, command.to, entries);
         if from < command.to {
-            left[count] = command;
+            commands[count] = command;
             count += 1;
         }
         from = command.to;
     }
-    left.truncate(count);
-    Ok((left, counts))
+    commands.truncate(count);
+    Ok(counts)
 }
 
-fn builds_left(
-    alloc: Global,
-    commands: usize,
-    before: &[usize],
-    builds: &[Build],
-) -> AllocResult<Vec<Build>>
-    ensures value { IfOk result (λ left. left.items ≡ builds_left (λ place. get_or before.now place commands) 0 builds.now) }
+fn builds_left(commands: usize, before: &[usize], builds: &Vec<Build>) -> AllocResult<Vec<Build>>
+    ensures value { IfOk result (λ left. left.items ≡ builds_left (λ place. get_or before.now place commands) 0 builds.now.items) }
 {
-    let mut left = Vec::new(alloc);
+    let mut left = Vec::new(*builds.allocator());
     let mut from = 0;
     for build in builds {
         let to = item_at(before, build.to, commands);

@@ -1,13 +1,13 @@
 use Rattle.std.proofs.Common.{◌≡◌, ◌≤◌, ◌++◌, drop, length, take}
 use Rattle.nl_reports.specs.Lasting.{marked}
 use Rattle.nl_reports.proofs.LastingLemmas.{marks_before}
-use Rattle.nl_reports.proofs.last_entries.entries_left.Given as goal
+use Rattle.nl_reports.proofs.last_entries.keep_entries.Given as goal
 
 -- the entries so far, and those of what is left
 abbrev pub invariant-loop-place : goal.invariant-loop-place
 invariant-loop-place l = record {
-  told : take l.count l.left.items ++ marked (drop l.place l.marks) (drop l.place l.left.items) ≡ marked l.marks l.fn.entries.items;
+  told : take l.count l.entries.items ++ marked (drop l.place l.marks) (drop l.place l.entries.items) ≡ marked l.marks l.fn.entries.items;
   before : l.before.items ++ marks_before l.count (drop l.place l.marks) ≡ marks_before 0 l.marks;
   within : l.count ≤ l.place;
-  same : length l.marks ≡ length l.left.items;
+  same : length l.marks ≡ length l.entries.items;
 }

@@ -3,13 +3,13 @@ use Rattle.std.proofs.lemmas.List.{drop_all}
 use Rattle.std.proofs.lemmas.List.Edits.{length-swap}
 use Rattle.nl_reports.specs.Lasting.{marked}
 use Rattle.nl_reports.proofs.LastingLemmas.{kept_more, kept_same, marked_all, marks_before, marks_more}
-use Rattle.nl_reports.proofs.last_entries.entries_left.Goals.{then-item_at, else-item_at}
-use Rattle.nl_reports.proofs.last_entries.entries_left.Goals as goal
+use Rattle.nl_reports.proofs.last_entries.keep_entries.Goals.{then-item_at, else-item_at}
+use Rattle.nl_reports.proofs.last_entries.keep_entries.Goals as goal
 
 pub loop-place-preserved : goal.loop-place-preserved
 loop-place-preserved c =
     let bs = c.args.marks.now in
-    let xs = c.loop-place.left.items in
+    let xs = c.loop-place.entries.items in
     let k = c.loop-place.count in
     let i = c.loop-place.place in
     let b = c.item_at.result in
@@ -17,7 +17,7 @@ loop-place-preserved c =
     let here : i < length bs = c.loop-place-test.true in
     elim c.if-item_at.branch [
       | then-item_at w ↦
-          let left : c.if-item_at.left.items ≡ w.swap.new.self.items = (λ j. (w.left-is j).items) in
+          let left : c.if-item_at.entries.items ≡ w.swap.new.self.items = (λ j. (w.entries-is j).items) in
           record {
             told = (λ j. take c.if-item_at.count (left j) ++ marked (drop (i + 1) bs) (drop (i + 1) (left j)))
                 ∙ kept_more bs xs w.swap.new.self.items _ k c.if-item_at.count i b inv.within here inv.same c.item_at.ensures w.if-item_at.true
@@ -28,7 +28,7 @@ loop-place-preserved c =
             same = inv.same ∙ sym (length-swap xs k i) ∙ sym (ap length w.swap.ensures.items) ∙ sym (ap length left);
           }
       | else-item_at w ↦
-          let left : c.if-item_at.left.items ≡ xs = (λ j. (w.left-is j).items) in
+          let left : c.if-item_at.entries.items ≡ xs = (λ j. (w.entries-is j).items) in
           record {
             told = (λ j. take (w.count-is j) (left j) ++ marked (drop (i + 1) bs) (drop (i + 1) (left j)))
                 ∙ kept_same bs xs _ k i b here inv.same c.item_at.ensures w.if-item_at.false inv.told;
@@ -42,10 +42,10 @@ loop-place-preserved c =
 pub returns : goal.returns
 returns c =
     let bs = c.args.marks.now in
-    let es = c.args.entries.items in
+    let es = c.args.entries.now.items in
     let k = c.loop-place.count in
     let i = c.loop-place.place in
-    let xs = c.loop-place.left.items in
+    let xs = c.loop-place.entries.items in
     let counts = c.loop-place.before.items in
     let inv = c.loop-place.invariant in
     let none : [] ≡ drop i bs = sym (drop_all i bs (c.loop-place-test.false)) in
