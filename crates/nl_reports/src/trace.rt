@@ -1,6 +1,6 @@
 //! The text of `trace`: the events of builds, as JSON.
 ghost use Rattle.std.specs.Prelude.{◌≡◌, ◌<◌, ◌^◌, ◌++◌, List, IfErr, OnOk, All, ◌∷◌, IfOk, IsTrue, map, string_bytes};
-ghost use Rattle.nl_reports.specs.{Jobs.{seen, told, first_name}, Moments.{AreMoments}, Spans.{IsEarly}, Lanes.{lanes}, Rows.{spans}, declared.moments.Span.{Span}, Trace.{commands_text, how_in, number_in, scoped_text}, Events.{args_of, build_event, build_name, command_event, event_text, running_event, shown}};
+ghost use Rattle.nl_reports.specs.{Jobs.{seen, told, first_name}, Moments.{AreMoments}, Spans.{IsEarly}, Lanes.{lanes}, Rows.{spans}, Sweep.{running}, declared.moments.Span.{Span}, Trace.{commands_text, how_in, number_in, scoped_text}, Events.{args_of, build_event, build_name, command_event, event_text, running_event, shown}};
 ghost use Rattle.nl_tool_texts.specs.{Writing.{IsWriteFault, Writes}, Escape.{IsBare}};
 
 use crate::choice::{Choice, Scope, chosen, jobs_in_turn, last_number};
@@ -71,8 +71,10 @@ fn write_commands<W: Write>(
         let lane = item_at(lane_of, i, 0);
         let job = &jobs[i];
         append_command(build, lane, job, &mut held)?;
-        append_running(build, moments, &mut by_start, job.span.began, &mut held)?;
-        append_running(build, moments, &mut by_end, job.span.closed(), &mut held)?;
+        let begun = moments.running_near(&mut by_start, job.span.began);
+        append_running(build, begun, job.span.began, &mut held)?;
+        let ended = moments.running_near(&mut by_end, job.span.closed());
+        append_running(build, ended, job.span.closed(), &mut held)?;
         write_full(FULL, &mut held, writer)?;
     }
     append(b"]", &mut held)?;
@@ -196,19 +198,12 @@ fn append_shown(is_bare: bool, name: &[u8], out: &mut Vec<u8>) -> AllocResult
 }
 
 /// Appends how many commands run at a moment, after a comma.
-fn append_running(
-    build: BuildEvent,
-    moments: &Moments,
-    near: &mut Near,
-    at: u64,
-    out: &mut Vec<u8>,
-) -> AllocResult
+fn append_running(build: BuildEvent, count: u64, at: u64, out: &mut Vec<u8>) -> AllocResult
     requires early { at < 2 ^ 32 }
-    ensures items { (cs : List Span) → AreMoments cs moments.now → OnOk result
+    ensures items { (cs : List Span) → count ≡ running cs at → OnOk result
         (out.new.items ≡ out.old.items ++ 44 ∷ event_text (running_event build cs at)) }
 {
     let number = build.number;
-    let count = moments.running_near(near, at);
     let ts = at.saturating_sub(build.began) * 1000;
     append_with(b",{\"args\":{\"commands\":", count, out)?;
     append_with(b"},\"name\":\"running\",\"ph\":\"C\",\"pid\":", number, out)?;

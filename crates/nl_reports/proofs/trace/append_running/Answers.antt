@@ -9,15 +9,15 @@ pub returns : goal.returns
 returns c =
     let b = c.args.build in
     let old = c.args.out.now.items in
-    let count = codes ",{\"args\":{\"commands\":" ++ decimal c.running_near-count.result in
+    let count = codes ",{\"args\":{\"commands\":" ++ decimal c.args.count in
     let number = codes "},\"name\":\"running\",\"ph\":\"C\",\"pid\":" ++ decimal b.number in
     let ts = codes ",\"ts\":" ++ decimal (c.saturating_sub-ts.result * 1000) in
     let named = two_parts old _ _ count number c.in_ok-append_with.ensures.items c.in_ok-append_with-2.ensures.items in
     let timed = two_parts old _ _ (count ++ number) ts named c.in_ok-append_with-3.ensures.items in
     record {
-      items = λ cs are. on_ok_weaker c.append.result (λ h. two_parts old _ _ ((count ++ number) ++ ts) (codes "}") timed h
-          ∙ ap (λ (l : List ℕ). old ++ l) (three_pairs (codes ",{\"args\":{\"commands\":") (decimal c.running_near-count.result) (codes "},\"name\":\"running\",\"ph\":\"C\",\"pid\":") (decimal b.number)
+      items = λ cs is. on_ok_weaker c.append.result (λ h. two_parts old _ _ ((count ++ number) ++ ts) (codes "}") timed h
+          ∙ ap (λ (l : List ℕ). old ++ l) (three_pairs (codes ",{\"args\":{\"commands\":") (decimal c.args.count) (codes "},\"name\":\"running\",\"ph\":\"C\",\"pid\":") (decimal b.number)
           (codes ",\"ts\":") (decimal (c.saturating_sub-ts.result * 1000)) (codes "}")
-          ∙ (λ i. running_text b.number (c.running_near-count.ensures.value cs are i) (c.saturating_sub-ts.ensures i * 1000))
+          ∙ (λ i. running_text b.number (is i) (c.saturating_sub-ts.ensures i * 1000))
           ∙ running_is b cs c.args.at)) c.append.ensures.items;
     }

@@ -1,4 +1,4 @@
-use Rattle.std.proofs.Common.{◌≡◌, ◌∙◌, ℕ, List, ap, map, subst, ◌<◌, ◌≤◌, ◌++◌, ◌∷◌, [], arith, flat_map, get_or, length}
+use Rattle.std.proofs.Common.{◌≡◌, ◌∙◌, ℕ, List, ap, map, subst, sym, ◌<◌, ◌≤◌, ◌++◌, ◌∷◌, [], arith, flat_map, get_or, length}
 use Rattle.nl_reports.specs.Jobs.{seen}
 use Rattle.nl_reports.specs.Trace.{behind_commas, commands_text, events_of}
 use Rattle.nl_tool_texts.specs.Writing.{HoldsAllBut}
@@ -6,6 +6,7 @@ use Rattle.nl_reports.proofs.TraceLemmas.{end_some, three_more, told_next}
 use Rattle.nl_tool_texts.proofs.WritingLemmas.{all_held, err_writes, is_part, more_held, out_writes, part_on, rest_written, then_moved}
 use Rattle.std.proofs.lemmas.List.{get_or_default, length-map}
 use Rattle.nl_reports.specs.Rows.{spans}
+use Rattle.nl_reports.specs.Sweep.{running}
 use Rattle.nl_reports.proofs.LaneLemmas.{lane_below, lanes_length}
 use Rattle.nl_reports.proofs.PairLemmas.{pairs_done}
 use Rattle.nl_reports.proofs.trace.write_commands.Goals as goal
@@ -33,7 +34,9 @@ loop-i-preserved g c =
     let there : i < length ls = omega (arith, within, count, ap length c.requires.lanes, lanes_length ran []) in
     let more : c.append_running-in-loop-i.new.out.items ≡ c.loop-i.held.items ++ behind_commas (events_of b ran (seen c.index-jobs-i.result, c.item_at-lane.result)) =
     three_more c.loop-i.held.items c.append_command.new.out.items c.append_running.new.out.items c.append_running-in-loop-i.new.out.items _ _ _
-    c.in_ok-append_command.ensures.items (c.in_ok-append_running.ensures.items ran c.requires.moments) (rw c.closed.ensures.value at (c.in_ok-append_running-2.ensures.items ran c.requires.moments)) in
+    c.in_ok-append_command.ensures.items (c.in_ok-append_running.ensures.items ran (c.running_near-begun.ensures.value ran c.requires.moments))
+    (rw c.closed-in-loop-i.ensures.value at (c.in_ok-append_running-2.ensures.items ran
+    (c.running_near-ended.ensures.value ran c.requires.moments ∙ ap (running ran) (c.closed.ensures.value ∙ sym c.closed-in-loop-i.ensures.value)))) in
     then_moved _ _ _ _ _ _ _ (more_held _ _ _ _ _ _ _ _ (93 ∷ []) (told_next b ran ks ls i c.item_at-lane.result c.index-jobs-i.result within there
     c.index-jobs-i.is (c.item_at-lane.ensures ∙ get_or_default ls i 0 c.item_at-lane.result there)) more c.loop-i.invariant) c.in_ok-write_full.ensures.moved
 
@@ -61,7 +64,9 @@ returns-in_err-write_full-clause-writes g c =
     let there : i < length ls = omega (arith, within, count, ap length c.requires.lanes, lanes_length ran []) in
     let more : c.append_running-in-loop-i.new.out.items ≡ c.loop-i.held.items ++ behind_commas (events_of b ran (seen c.index-jobs-i.result, c.item_at-lane.result)) =
     three_more c.loop-i.held.items c.append_command.new.out.items c.append_running.new.out.items c.append_running-in-loop-i.new.out.items _ _ _
-    c.in_ok-append_command.ensures.items (c.in_ok-append_running.ensures.items ran c.requires.moments) (rw c.closed.ensures.value at (c.in_ok-append_running-2.ensures.items ran c.requires.moments)) in
+    c.in_ok-append_command.ensures.items (c.in_ok-append_running.ensures.items ran (c.running_near-begun.ensures.value ran c.requires.moments))
+    (rw c.closed-in-loop-i.ensures.value at (c.in_ok-append_running-2.ensures.items ran
+    (c.running_near-ended.ensures.value ran c.requires.moments ∙ ap (running ran) (c.closed.ensures.value ∙ sym c.closed-in-loop-i.ensures.value)))) in
     err_writes _ _ _ _ c.from_residual-in_err-write_full.ensures.0 (part_on _ _ _ _ _ _ (more_held _ _ _ _ _ _ _ _ (93 ∷ []) (told_next b ran ks ls i
     c.item_at-lane.result c.index-jobs-i.result within there c.index-jobs-i.is (c.item_at-lane.ensures ∙ get_or_default ls i 0 c.item_at-lane.result there)) more c.loop-i.invariant)
     c.in_err-write_full.ensures.prefix)
