@@ -1,6 +1,6 @@
 //! Lanes of commands: no two commands of a lane run at one time.
-ghost use Rattle.std.specs.Prelude.{◌≡◌, ◌++◌, ◌∷◌, [], ◌+◌, ◌*◌, ◌<◌, ◌≤◌, ℕ, length, slice_index, IfOk, IfSome, IsNone, OnOk};
-ghost use Rattle.nl_reports.specs.Lanes.{AreBusy, AreLow, first_free, given, lanes};
+ghost use Rattle.std.specs.Prelude.{◌≡◌, ◌≤◌, length, IfOk, OnOk};
+ghost use Rattle.nl_reports.specs.Lanes.{AreLow, first_free, given, lanes};
 
 use crate::moments::Span;
 use nl_tool_texts::AllocResult;
@@ -41,35 +41,19 @@ impl Lanes {
     {
         for block in 0..self.least.len() {
             if self.least[block] <= at {
-                if let Some(lane) = self.free_in(block, at) {
-                    return lane;
+                let from = block.saturating_mul(BLOCK);
+                let to = self.ends.len().min(from.saturating_add(BLOCK));
+                let mut least = u64::MAX;
+                for lane in from..to {
+                    if self.ends[lane] <= at {
+                        return lane;
+                    }
+                    least = least.min(self.ends[lane]);
                 }
+                self.least[block] = least;
             }
         }
         self.ends.len()
-    }
-
-    fn free_in(&mut self, block: usize, at: u64) -> Option<usize>
-        requires low { AreLow self.old }
-        requires block { block < length self.old.least.items }
-        ensures some { IfSome result (λ lane. (slice_index self.old.ends.items lane ≤ at) × (lane < length self.old.ends.items)) }
-        ensures first { IfSome result (λ lane. AreBusy at (block * 1024) lane self.old.ends.items) }
-        ensures none { IsNone result → AreBusy at (block * 1024) (block * 1024 + 1024) self.old.ends.items }
-        ensures ends { self.new.ends ≡ self.old.ends }
-        ensures blocks { length self.new.least.items ≡ length self.old.least.items }
-        ensures low { AreLow self.new }
-    {
-        let from = block.saturating_mul(BLOCK);
-        let to = self.ends.len().min(from.saturating_add(BLOCK));
-        let mut least = u64::MAX;
-        for lane in from..to {
-            if self.ends[lane] <= at {
-                return Some(lane);
-            }
-            least = least.min(self.ends[lane]);
-        }
-        self.least[block] = least;
-        None
     }
 
     fn give(&mut self, lane: usize, end: u64) -> AllocResult
