@@ -1,6 +1,6 @@
 //! The text of `trace`: the events of builds, as JSON.
 ghost use Rattle.std.specs.Prelude.{◌≡◌, ◌<◌, ◌^◌, ◌++◌, List, IfErr, OnOk, All, ◌∷◌, IfOk, IsTrue, map, string_bytes};
-ghost use Rattle.nl_reports.specs.{Jobs.{seen, told, first_name}, Moments.{AreMoments}, Spans.{IsEarly}, Lanes.{lanes}, Rows.{spans}, Sweep.{running}, declared.moments.Span.{Span}, Trace.{commands_text, how_in, number_in, scoped_text}, Events.{args_of, build_event, build_name, command_event, event_text, running_event, shown}};
+ghost use Rattle.nl_reports.specs.{Jobs.{seen, told, first_name}, Spans.{IsEarly}, Sweep.{running}, declared.moments.Span.{Span}, Trace.{how_in, number_in, scoped_text}, Events.{args_of, build_event, build_name, command_event, event_text, running_event, shown}};
 ghost use Rattle.nl_tool_texts.specs.{Writing.{IsWriteFault, Writes}, Escape.{IsBare}};
 
 use crate::choice::{Choice, Scope, chosen, jobs_in_turn, last_number};
@@ -43,32 +43,15 @@ pub fn trace_builds<W: Write>(
     let jobs = jobs.as_slice();
     let spans = spans_of(alloc, jobs)?;
     let lanes = lanes_of(alloc, spans.as_slice())?;
+    let lanes = lanes.as_slice();
     let moments = Moments::of(alloc, spans.as_slice())?;
     let began = first_began(spans.as_slice());
     let build = BuildEvent { number, began, how };
     let mut held = Vec::from_slice(alloc, b"[")?;
     append_build(build, &mut held)?;
-    write_commands(build, jobs, lanes.as_slice(), &moments, held, writer)
-}
-
-/// Writes what is held, the events of commands in their lanes, each after a comma, and the array's end.
-fn write_commands<W: Write>(
-    build: BuildEvent,
-    jobs: &[Job],
-    lane_of: &[u64],
-    moments: &Moments,
-    mut held: Vec<u8>,
-    writer: &mut W,
-) -> ToolResult
-    requires early { All (λ j. IsEarly j.span) jobs.now }
-    requires lanes { lane_of.now ≡ lanes (spans (map seen jobs.now)) }
-    requires moments { AreMoments (spans (map seen jobs.now)) moments.now }
-    ensures writes { Writes (W.contents writer.old) (W.contents writer.new) (held.items ++ commands_text build (map seen jobs.now) lane_of.now) result }
-    ensures faults { IfErr result IsWriteFault }
-{
     let (mut by_start, mut by_end) = (Near::default(), Near::default());
     for i in 0..jobs.len() {
-        let lane = item_at(lane_of, i, 0);
+        let lane = item_at(lanes, i, 0);
         let job = &jobs[i];
         append_command(build, lane, job, &mut held)?;
         let begun = moments.running_near(&mut by_start, job.span.began);
