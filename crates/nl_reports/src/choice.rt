@@ -93,15 +93,12 @@ pub fn jobs_in_turn<'s, 'a>(alloc: Global, scope: Scope, from: &'s Builds<'a>) -
         let jobs = sorted.as_slice();
         let (start, began) = (clock, began_of(jobs));
         for job in jobs {
-            let moved = Job {
-                span: Span {
-                    began: turned(job.span.began, began, start),
-                    ended: turned(job.span.ended, began, start),
-                },
-                ..*job
+            let span = Span {
+                began: turned(job.span.began, began, start),
+                ended: turned(job.span.ended, began, start),
             };
-            clock = clock.max(moved.span.closed());
-            all.push(moved)?;
+            clock = clock.max(span.closed());
+            all.push(Job { span, ..*job })?;
         }
         number += 1;
     }
