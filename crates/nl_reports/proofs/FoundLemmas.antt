@@ -2,16 +2,15 @@
 use Rattle.std.proofs.Common.{◌≡◌, ◌∙◌, ◌<◌, ℕ, Bool, List, [], ◌∷◌, Option, None, Some, ap, arith, is_some, length, map, option_and_then, option_map, refl, sym, true≢false}
 use Rattle.std.specs.Prelude.{slice_get}
 use Rattle.nl_reports.specs.Critical.{IsCritical, Ran, lacking, names_of, ran_at, ran_in_place, ran_named}
-use Rattle.nl_reports.specs.Found.{in_plan}
+use Rattle.nl_reports.specs.Found.{in_plan, made}
 use Rattle.nl_reports.specs.GraphText.{ids_of, nodes_of}
 use Rattle.nl_reports.specs.Jobs.{Job}
 use Rattle.nl_reports.specs.Outputs.{last_at, places_of}
 use Rattle.nl_reports.specs.Paths.{Graph, Node}
-use Rattle.nl_reports.specs.Plans.{kept}
 use Rattle.nl_reports.specs.Reaches.{AreOf, rans_seen}
 use Rattle.nl_reports.specs.declared.critical.Reaches.{Reaches}
 use Rattle.nl_reports.specs.declared.graph.NinjaGraph.{NinjaGraph}
-use Rattle.nl_reports.proofs.PlanLemmas.{get_kept, same_places}
+use Rattle.nl_reports.proofs.PlanLemmas.{get_mapped, same_places}
 
 pub all_lacking : (g : Graph) (js : List Job) → 0 < length js → length (lacking g js) ≡ length js → (screen : Bool) → IsCritical screen g js None
 all_lacking g [] some all screen = absurd (omega (arith, some))
@@ -21,18 +20,18 @@ pub none_there : (js : List Job) → length js ≡ 0 → js ≡ []
 none_there [] none = refl
 none_there (j ∷ js) none = absurd (omega (arith, none))
 
-module _ (plan js : List Job) (same : map kept plan ≡ map kept js) where
+module _ (plan js : List Job) (same : map made plan ≡ map made js) where
   in_place : (name : List ℕ) (k : ℕ) → option_and_then (in_plan plan) (ran_in_place js name k) ≡ ran_in_place plan name k
-  in_place name k = by (slice_get js k) (sym (get_kept plan k) ∙ ap (λ l. slice_get l k) same ∙ get_kept js k)
+  in_place name k = by (slice_get js k) (sym (get_mapped made plan k) ∙ ap (λ l. slice_get l k) same ∙ get_mapped made js k)
     where
       told : Job → Ran
       told j = record { span = j.span; name = name; place = k }
 
-      none : (o : Option Job) → option_map kept o ≡ None → None ≡ option_map told o
+      none : (o : Option Job) → option_map made o ≡ None → None ≡ option_map told o
       none None is = refl
       none (Some j) is = absurd (true≢false (ap is_some is))
 
-      by : (o : Option Job) → option_map kept (slice_get plan k) ≡ option_map kept o
+      by : (o : Option Job) → option_map made (slice_get plan k) ≡ option_map made o
           → option_and_then (in_plan plan) (option_map told o) ≡ option_map told (slice_get plan k)
       by None is = none (slice_get plan k) is
       by (Some j) is = refl

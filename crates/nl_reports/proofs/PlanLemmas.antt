@@ -12,6 +12,7 @@ use Rattle.std.proofs.lemmas.List.Sorted.{sum_by-IsPermutation}
 use Rattle.std.proofs.lemmas.List.Sums.{sum_by-cons}
 use Rattle.nl_fields.specs.declared.entry.Entry.{Entry}
 use Rattle.nl_reports.specs.Critical.{IsFoundPath, Ran, names_of, ran_in_place, ran_named, ran_time, weight}
+use Rattle.nl_reports.specs.Found.{made}
 use Rattle.nl_reports.specs.Jobs.{Job, seen}
 use Rattle.nl_reports.specs.Numbers.{total_time}
 use Rattle.nl_reports.specs.Outputs.{last_at, outputs_at, places_from, places_of}
@@ -78,28 +79,36 @@ kept_time None = 0
 kept_time (Some p) = p.0
 
 module _ where
-  pub same_places : (at : ℕ) (plan js : List Job) → map kept plan ≡ map kept js → places_from at plan ≡ places_from at js
+  pub same_places : (at : ℕ) (plan js : List Job) → map made plan ≡ map made js → places_from at plan ≡ places_from at js
   same_places at plan js same = by at plan ∙ ap (from at) same ∙ sym (by at js)
     where
-      from : ℕ → List Kept → List (List ℕ × ℕ)
+      from : ℕ → List (List Entry) → List (List ℕ × ℕ)
       from at [] = []
-      from at (k ∷ ks) = outputs_at at k.1 ++ from (at + 1) ks
+      from at (es ∷ more) = outputs_at at es ++ from (at + 1) more
 
-      by : (at : ℕ) (js : List Job) → places_from at js ≡ from at (map kept js)
+      by : (at : ℕ) (js : List Job) → places_from at js ≡ from at (map made js)
       by at [] = refl
       by at (j ∷ js) = ap (λ (l : List (List ℕ × ℕ)). outputs_at at j.outputs ++ l) (by (at + 1) js)
 
-pub get_kept : (js : List Job) (k : ℕ) → slice_get (map kept js) k ≡ option_map kept (slice_get js k)
-get_kept [] k = refl
-get_kept (j ∷ js) zero = refl
-get_kept (j ∷ js) (suc k) = get_kept js k
+pub get_mapped : {A B : Type 0} (f : A → B) (xs : List A) (k : ℕ) → slice_get (map f xs) k ≡ option_map f (slice_get xs k)
+get_mapped f [] k = refl
+get_mapped f (x ∷ xs) zero = refl
+get_mapped f (x ∷ xs) (suc k) = get_mapped f xs k
+
+made_as : (js : List Job) → map made js ≡ map (λ (k : Kept). k.1) (map kept js)
+made_as [] = refl
+made_as (j ∷ js) = ap (λ l. made j ∷ l) (made_as js)
+
+-- what keeps its time and its outputs makes the same
+pub made_kept : (plan js : List Job) → map kept plan ≡ map kept js → map made plan ≡ map made js
+made_kept plan js same = made_as plan ∙ ap (map (λ (k : Kept). k.1)) same ∙ sym (made_as js)
 
 -- how long the command at a place took
 time_at : (js : List Job) (name : List ℕ) (place : Option ℕ)
     → ran_time (option_and_then (ran_in_place js name) place) ≡ kept_time (option_and_then (slice_get (map kept js)) place)
 unfolding kept_time
 time_at js name None = refl
-time_at js name (Some k) = by (slice_get js k) ∙ sym (ap kept_time (get_kept js k))
+time_at js name (Some k) = by (slice_get js k) ∙ sym (ap kept_time (get_mapped kept js k))
   where
     by : (o : Option Job) → ran_time (option_map (λ (j : Job). record { span = j.span; name = name; place = k }) o) ≡ kept_time (option_map kept o)
     by None = refl
@@ -111,7 +120,7 @@ pub same_weight : (nodes : List Node) (plan js : List Job) (id : List ℕ) → m
 same_weight nodes plan js id same = by (last_at (names_of nodes) id)
   where
     place : (name : List ℕ) → last_at (places_of plan) name ≡ last_at (places_of js) name
-    place name = ap (λ (ps : List (List ℕ × ℕ)). last_at ps name) (same_places 0 plan js same)
+    place name = ap (λ (ps : List (List ℕ × ℕ)). last_at ps name) (same_places 0 plan js (made_kept plan js same))
 
     by : (name : Option (List ℕ)) → ran_time (option_and_then (ran_named plan) name) ≡ ran_time (option_and_then (ran_named js) name)
     by None = refl

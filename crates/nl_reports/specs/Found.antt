@@ -1,6 +1,7 @@
 -- What is found of commands by a graph.
 use Rattle.std.specs.Prelude.{◌≡◌, Bool, List, [], Option, None, Some, length, map}
 use Rattle.std.specs.List.{sum_by}
+use Rattle.nl_fields.specs.declared.entry.Entry.{Entry}
 use Rattle.nl_reports.specs.Critical.{IsCritical, IsFoundPath, Ran, lacking, ran_in_place}
 use Rattle.nl_reports.specs.GraphText.{seen_graph}
 use Rattle.nl_reports.specs.Jobs.{Job}
@@ -24,3 +25,7 @@ AreFound g js (Some c) = IsFound g js c
 -- a command as it runs in a plan
 abbrev pub in_plan : List Job → Ran → Option Ran
 in_plan plan r = ran_in_place plan r.name r.place
+
+-- what a command makes, whenever it runs
+abbrev pub made : Job → List Entry
+made j = j.outputs

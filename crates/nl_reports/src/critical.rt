@@ -1,6 +1,6 @@
 //! What `summary` tells of the critical path.
 ghost use Rattle.std.specs.{Prelude.{◌≡◌, ◌<◌, ◌≤◌, ◌+◌, ◌^◌, ◌++◌, ℕ, List, Some, IfOk, IfSome, IsTrue, OnOk, get_or, length, map, option_and_then, option_map, All, sum_by}, List.{list_any}};
-ghost use Rattle.nl_reports.specs.{Critical.{IsCritical, IsFoundPath, keyed_line, lacking, lacking_line, path_head, ran_line, took_time}, Found.{AreFound, IsFound, in_plan}, Gains.{half_ran, halved}, GraphText.{HeldNode, seen_graph}, Jobs.{Job as SeenJob, seen}, Lasting.{is_held}, Plans.{kept}, Outputs.{HoldPlaces, places_of}, Reaches.{AreOf, IsBegun, IsFarthest, IsFollowed, IsTight, behind_at, far_at, ran_in, ran_named_in, ran_seen}, Spans.{time_of}, declared.graph.NinjaGraph.{NinjaGraph as HeldGraph}};
+ghost use Rattle.nl_reports.specs.{Critical.{IsCritical, IsFoundPath, keyed_line, lacking, lacking_line, path_head, ran_line, took_time}, Found.{AreFound, IsFound, in_plan, made}, Gains.{half_ran, halved}, GraphText.{HeldNode, seen_graph}, Jobs.{Job as SeenJob, seen}, Lasting.{is_held}, Outputs.{HoldPlaces, places_of}, Reaches.{AreOf, IsBegun, IsFarthest, IsFollowed, IsTight, behind_at, far_at, ran_in, ran_named_in, ran_seen}, Spans.{time_of}, declared.graph.NinjaGraph.{NinjaGraph as HeldGraph}};
 ghost use Rattle.nl_tool_texts.specs.Texts.{part_text};
 
 use crate::graph::NinjaGraph;
@@ -37,11 +37,16 @@ pub(crate) fn critical_of<'g, 'a>(
 ) -> AllocResult<Option<Critical<'g, 'a>>>
     ensures value { IfOk result (AreFound graph.now (map seen jobs.now)) }
 {
-    let lacking = lacking_of(alloc, secret, graph, jobs)?;
+    let lacking = lacking_of(secret, graph, jobs)?;
     if lacking.count == jobs.len() && !jobs.is_empty() {
         return Ok(None);
     }
-    let reaches = Reaches::of(alloc, secret, graph, jobs)?;
+    let outputs = outputs_of(alloc, secret, jobs)?;
+    let mut ran = Vec::new(alloc);
+    for node in 0..graph.nodes.len() {
+        ran.push(ran_named(name_at(graph, node), &outputs, jobs))?;
+    }
+    let reaches = Reaches::by_ran(graph, ran)?;
     let path = reaches.path()?;
     Ok(Some(Critical {
         reaches,
@@ -77,16 +82,11 @@ pub(crate) struct Lacking {
     time: u128,
 }
 
-fn lacking_of(
-    alloc: Global,
-    secret: Secret,
-    graph: &NinjaGraph,
-    jobs: &[Job],
-) -> AllocResult<Lacking>
+fn lacking_of(secret: Secret, graph: &NinjaGraph, jobs: &[Job]) -> AllocResult<Lacking>
     ensures count { IfOk result (λ l. l.count ≡ length (lacking (seen_graph graph.now) (map seen jobs.now))) }
     ensures time { IfOk result (λ l. l.time ≡ sum_by (λ (j : SeenJob). time_of j.span) (lacking (seen_graph graph.now) (map seen jobs.now))) }
 {
-    let mut names = IndexSet::with_hasher(alloc, secret);
+    let mut names = IndexSet::with_hasher(*graph.edges.allocator(), secret);
     for node in 0..graph.nodes.len() {
         if let Some(name) = name_at(graph, node) {
             names.insert(NameKey { bytes: name })?;
@@ -180,29 +180,12 @@ fn append_lacking(screen: bool, lacking: Lacking, lines: &mut Vec<u8>) -> AllocR
 pub(crate) struct Reaches<'g, 'a> {
     pub(crate) graph: &'g NinjaGraph<'a>,
     ran: Vec<Option<Ran<'a>>>,
-    behind: Vec<u64>,
+    pub(crate) behind: Vec<u64>,
 }
 
 impl<'g, 'a> Reaches<'g, 'a> {
     pub(crate) fn allocator(&self) -> Global {
         *self.ran.allocator()
-    }
-
-    pub(crate) fn of(
-        alloc: Global,
-        secret: Secret,
-        graph: &'g NinjaGraph<'a>,
-        jobs: &[Job],
-    ) -> AllocResult<Reaches<'g, 'a>>
-        ensures value { IfOk result (AreOf graph.now (map seen jobs.now)) }
-    {
-        let outputs = outputs_of(alloc, secret, jobs)?;
-        let mut ran = Vec::new(alloc);
-        for node in 0..graph.nodes.len() {
-            ran.push(ran_named(name_at(graph, node), &outputs, jobs))?;
-        }
-        let reaches = Reaches::by_ran(graph, ran)?;
-        Ok(reaches)
     }
 
     // Takes the last edges first.
@@ -286,32 +269,17 @@ impl<'g, 'a> Reaches<'g, 'a> {
         Ok(half)
     }
 
-    /// It counts the commands on the way: each takes one millisecond.
-    pub(crate) fn in_commands(&self) -> AllocResult<Reaches<'g, 'a>> {
-        let span = Span { began: 0, ended: 1 };
-        let ran = self.ran.iter().map(|it| it.map(|ran| Ran { span, ..ran }));
-        Reaches::by_ran(self.graph, ran.collect(self.allocator())?)
-    }
-
-    /// The same in a plan that takes so long, in which nodes are there from these moments on.
-    pub(crate) fn with_plan(
-        &self,
-        plan: &[Job],
-        wall: u64,
-        there: &[u64],
-    ) -> AllocResult<Reaches<'g, 'a>>
-        ensures value { (g : HeldGraph) (js : List SeenJob) → AreOf g js self.now → map kept (map seen plan.now) ≡ map kept js
+    /// The same, if its commands ran as in a plan.
+    pub(crate) fn in_plan(&self, plan: &[Job]) -> AllocResult<Reaches<'g, 'a>>
+        ensures value { (g : HeldGraph) (js : List SeenJob) → AreOf g js self.now → map made (map seen plan.now) ≡ map made js
             → IfOk result (AreOf g (map seen plan.now)) }
     {
-        let alloc = self.allocator();
-        let mut ran = Vec::with_capacity(alloc, self.ran.len())?;
+        let mut ran = Vec::with_capacity(self.allocator(), self.ran.len())?;
         for node in 0..self.ran.len() {
             ran.push(planned(self.ran_at(node), plan))?;
         }
-        let left = there.iter().map(|at| wall.saturating_sub(*at));
-        let behind = left.collect(alloc)?;
-        let graph = self.graph;
-        Ok(Reaches { graph, ran, behind })
+        let reaches = Reaches::by_ran(self.graph, ran)?;
+        Ok(reaches)
     }
 
     /// Whether no node is begun before the beginning of a plan that takes so long, and those of commands as these begin.

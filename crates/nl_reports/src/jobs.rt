@@ -123,7 +123,9 @@ fn wall_of(
     let wall = spans
         .iter()
         .fold(0, |last: u64, span: &Span| last.max(span.ended));
-    let reaches = reaches.with_plan(plan, wall, nodes.as_slice())?;
+    let mut reaches = reaches.in_plan(plan)?;
+    let left = nodes.iter().map(|at| wall.saturating_sub(*at));
+    reaches.behind = left.collect(alloc)?;
     if few && reaches.are_tight() && reaches.are_begun(wall) {
         return Ok(Some(wall));
     }

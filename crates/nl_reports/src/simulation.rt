@@ -3,6 +3,7 @@
 use crate::critical::Reaches;
 use crate::job::{Job, between};
 use crate::last_entries::{item_at, set_at};
+use crate::moments::Span;
 use nl_tool_texts::AllocResult;
 use std::alloc::AllocError;
 use std::cmp::Reverse;
@@ -34,7 +35,11 @@ pub(crate) struct Waiting {
 impl Waiting {
     pub(crate) fn of(reaches: &Reaches, jobs: &[Job], priority: Priority) -> AllocResult<Waiting> {
         let alloc = reaches.allocator();
-        let chains = reaches.in_commands()?;
+        // How far it is in commands: each takes one millisecond.
+        let span = Span { began: 0, ended: 1 };
+        let steps = jobs.iter().map(|job| Job { span, ..*job });
+        let steps = steps.collect::<Vec<_>>(alloc)?;
+        let chains = reaches.in_plan(steps.as_slice())?;
         let nodes = reaches.graph.nodes.len();
         let mut keys = (0..jobs.len())
             .map(|command| (u128::MAX, NONE, command))

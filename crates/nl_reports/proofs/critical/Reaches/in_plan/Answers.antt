@@ -1,12 +1,14 @@
-use Rattle.std.proofs.Common.{◌∙◌, ◌<◌, ◌≤◌, List, Option, ap, arith, length, map, option_and_then, option_map, refl}
+use Rattle.std.proofs.Common.{◌∙◌, ◌<◌, ◌≤◌, List, Option, ap, arith, length, map, option_and_then, option_map}
+use Rattle.std.specs.Global.{Vec}
 use Rattle.std.proofs.lemmas.List.{length-map, take_all}
 use Rattle.nl_reports.specs.Critical.{Ran as Told}
 use Rattle.nl_reports.specs.Found.{in_plan}
 use Rattle.nl_reports.specs.Jobs.{seen}
 use Rattle.nl_reports.specs.Reaches.{ran_seen, rans_seen}
+use Rattle.nl_reports.specs.declared.critical.Ran.{Ran}
 use Rattle.nl_reports.proofs.FoundLemmas.{are_planned}
 use Rattle.nl_reports.proofs.GainLemmas.{ran_changed}
-use Rattle.nl_reports.proofs.critical.Reaches.with_plan.Goals as goal
+use Rattle.nl_reports.proofs.critical.Reaches.in_plan.Goals as goal
 
 pub loop-node-preserved : goal.loop-node-preserved
 loop-node-preserved c =
@@ -24,5 +26,6 @@ returns c = record {
       let i = c.loop-node.node in
       let move : List (Option Told) → List (Option Told) = map (option_and_then (in_plan (map seen c.args.plan.now))) in
       let all : length (rans_seen r.ran.items) ≤ i = omega (arith, c.loop-node-test.false, c.len-node-end.ensures, length-map r.ran.items (option_map ran_seen)) in
-      are_planned (map seen c.args.plan.now) js same g r _ are refl (c.loop-node.invariant ∙ ap move (take_all i (rans_seen r.ran.items) all));
+      are_planned (map seen c.args.plan.now) js same g r c.in_ok-reaches.reaches are c.in_ok-reaches.ensures.graph
+      (ap (λ (v : Vec (Option Ran)). rans_seen v.items) c.in_ok-reaches.ensures.ran ∙ c.loop-node.invariant ∙ ap move (take_all i (rans_seen r.ran.items) all));
 }

@@ -2,7 +2,7 @@ use Rattle.std.proofs.Common.{◌≡◌, map, option_and_then, take}
 use Rattle.nl_reports.specs.Found.{in_plan}
 use Rattle.nl_reports.specs.Jobs.{seen}
 use Rattle.nl_reports.specs.Reaches.{rans_seen}
-use Rattle.nl_reports.proofs.critical.Reaches.with_plan.Given as goal
+use Rattle.nl_reports.proofs.critical.Reaches.in_plan.Given as goal
 
 -- what ran at the nodes so far
 abbrev pub invariant-loop-node : goal.invariant-loop-node

@@ -3,7 +3,7 @@ use Rattle.nl_reports.specs.Critical.{ran_at}
 use Rattle.nl_reports.specs.GraphText.{ids_of, nodes_of}
 use Rattle.nl_reports.specs.Jobs.{seen}
 use Rattle.nl_reports.specs.Reaches.{rans_seen}
-use Rattle.nl_reports.proofs.critical.Reaches.of.Given as goal
+use Rattle.nl_reports.proofs.critical.critical_of.Given as goal
 
 -- what ran at the nodes so far
 abbrev pub invariant-loop-node : goal.invariant-loop-node
