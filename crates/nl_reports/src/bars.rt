@@ -1,5 +1,5 @@
 //! The bars of commands, and those of commands that are too short for one of their own.
-ghost use Rattle.std.specs.Prelude.{◌≡◌, ◌≤◌, ◌++◌, set, OnOk};
+ghost use Rattle.std.specs.Prelude.{◌≡◌, ◌++◌, set, OnOk};
 ghost use Rattle.nl_reports.specs.{Bars.{bar, bar_before, base_of, drawn_width, kind_of, long_bar, name_text, opened, short_bar, short_in, title, width_of, with_short}, Jobs.{seen}, Spans.{IsEarly}};
 
 use crate::frame::{Frame, append_seconds};
