@@ -124,19 +124,16 @@ fn append_command(build: BuildEvent, lane: u64, job: &Job, out: &mut Vec<u8>) ->
     requires lane { lane < 2 ^ 63 }
     ensures items { OnOk result (out.new.items ≡ out.old.items ++ 44 ∷ event_text (command_event build lane (seen job.now))) }
 {
-    let number = build.number;
-    let dur = job.span.time() * 1000;
-    let tid = lane + 1;
     let ts = job.span.began.saturating_sub(build.began) * 1000;
     let name = job.name();
     let is_bare = is_bare(name);
     append(b",{\"args\":", out)?;
     append_args(is_bare, job, out)?;
-    append_with(b",\"dur\":", dur, out)?;
+    append_with(b",\"dur\":", job.span.time() * 1000, out)?;
     append(b",\"name\":", out)?;
     append_shown(is_bare, name, out)?;
-    append_with(b",\"ph\":\"X\",\"pid\":", number, out)?;
-    append_with(b",\"tid\":", tid, out)?;
+    append_with(b",\"ph\":\"X\",\"pid\":", build.number, out)?;
+    append_with(b",\"tid\":", lane + 1, out)?;
     append_with(b",\"ts\":", ts, out)?;
     append(b"}", out)
 }

@@ -21,7 +21,7 @@ returns c =
     let j = seen c.args.job.now in
     let old = c.args.out.now.items in
     let args = event_text (args_of j) in
-    let dur = codes ",\"dur\":" ++ decimal (c.time-dur.result * 1000) in
+    let dur = codes ",\"dur\":" ++ decimal (c.time.result * 1000) in
     let name = event_text (shown c.name-name.result.now) in
     let number = codes ",\"ph\":\"X\",\"pid\":" ++ decimal b.number in
     let tid = codes ",\"tid\":" ++ decimal (c.args.lane + 1) in
@@ -33,8 +33,8 @@ returns c =
     let begun = three_parts _ _ _ _ number tid ts c.in_ok-append_with-2.ensures.items c.in_ok-append_with-3.ensures.items c.in_ok-append_with-4.ensures.items in
     record {
       items = on_ok_weaker c.append-3.result (λ h. three_parts old _ _ _ second (number ++ tid ++ ts) (codes "}") named begun h
-          ∙ ap (λ (l : List ℕ). old ++ l) (in_order (codes ",{\"args\":") args (codes ",\"dur\":") (decimal (c.time-dur.result * 1000)) (codes ",\"name\":") name (codes ",\"ph\":\"X\",\"pid\":")
+          ∙ ap (λ (l : List ℕ). old ++ l) (in_order (codes ",{\"args\":") args (codes ",\"dur\":") (decimal (c.time.result * 1000)) (codes ",\"name\":") name (codes ",\"ph\":\"X\",\"pid\":")
           (decimal b.number) (codes ",\"tid\":") (decimal (c.args.lane + 1)) (codes ",\"ts\":") (decimal (c.saturating_sub-ts.result * 1000)) (codes "}")
-          ∙ (λ i. told args (c.time-dur.ensures.value i * 1000) (event_text (shown (c.name-name.ensures i))) (end_text b.number (c.args.lane + 1) (c.saturating_sub-ts.ensures i * 1000)))
+          ∙ (λ i. told args (c.time.ensures.value i * 1000) (event_text (shown (c.name-name.ensures i))) (end_text b.number (c.args.lane + 1) (c.saturating_sub-ts.ensures i * 1000)))
           ∙ command_is b c.args.lane j)) c.append-3.ensures.items;
     }
