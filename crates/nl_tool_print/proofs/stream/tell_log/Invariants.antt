@@ -1,7 +1,7 @@
 use Rattle.std.proofs.Common.{◌-◌}
 use Rattle.nl_lines.specs.Lines.{max_log}
 use Rattle.nl_tool_print.proofs.StreamLemmas.{Telling}
-use Rattle.nl_tool_print.proofs.stream.tell_lines.Given as goal
+use Rattle.nl_tool_print.proofs.stream.tell_log.Given as goal
 
 abbrev pub invariant-lines : goal.invariant-lines
 invariant-lines g l = record {
