@@ -1,5 +1,5 @@
 -- A log that is seen as of a version, and the folder below it.
-use Rattle.std.proofs.Common.{◌≡◌, ◌≢◌, ◌≤◌, ◌∙◌, ℕ, true, false, List, Option, None, Some, Result, Ok, Err, refl, sym, ap, arith, subst}
+use Rattle.std.proofs.Common.{◌≡◌, ◌≢◌, ◌≤◌, ◌∙◌, ℕ, true, false, List, Option, None, Some, Result, Ok, Err, refl, sym, ap, arith, inl, inr, subst}
 use Rattle.std.specs.Prelude.{IfOk, IsTrue, OnErr, OnOk}
 use Rattle.nl_fields.specs.declared.entry.Entry.{Entry}
 use Rattle.nl_lines.specs.Source.{FailedBetween}
@@ -20,7 +20,13 @@ use Rattle.nl_session.specs.declared.fault.LogState.TheVariants.{Closed}
 use Rattle.nl_session.specs.LogView.{folder_of, view_of}
 use Rattle.nl_tool_change.specs.Calls.{IsFree, IsVersionFor, Looks}
 use Rattle.nl_folder.specs.FolderView.{FolderView, SameState, folder_view}
-use Rattle.nl_tool_change.specs.Distrusts.{Distrusts}
+use Rattle.std.specs.Global.{Vec}
+use Rattle.std.specs.Prelude.{◌⊎◌, IfErr, IsErrOf}
+use Rattle.nl_table.specs.Log.{NotALog, OtherVersion}
+use Rattle.nl_versions.specs.LogAs.{log_for}
+use Rattle.nl_tool_texts.specs.declared.fault.ToolFault.{ToolFault}
+use Rattle.nl_tool_change.specs.Mending.{ReadsWhole}
+use Rattle.nl_tool_change.specs.Distrusts.{AreDistrusted, Distrusts, IsUntold}
 use Rattle.nl_tool_change.specs.Seen.{Begins, HandsBack, Seen}
 use Rattle.nl_tool_change.specs.Applying.{IsSeenAnew, IsTold, IsTurnedAway}
 
@@ -144,3 +150,33 @@ is_told asked old new between found r closed hands distrusts begins named = reco
   version = named;
   distrusts = distrusts;
 }
+
+-- its bytes tell what can't be trusted, or what is wrong with them
+pub distrusts_read : {asked : Option LogVersion} {old new : FolderView} {bytes : Vec ℕ} → ReadsWhole old new (Ok bytes)
+    → (r : Result (List Entry) LogFault) → IfOk r (AreDistrusted asked bytes.items)
+    → (IsErrOf r refusal.NotALog → log_for asked bytes.items ≡ NotALog)
+    → (IsErrOf r refusal.OtherVersion → log_for asked bytes.items ≡ OtherVersion)
+    → IfErr r (λ why. (why ≡ refusal.NotALog) ⊎ (why ≡ refusal.OtherVersion) ⊎ (why ≡ refusal.OutOfMemory)) → Distrusts asked old new r
+distrusts_read {asked} reads (Ok es) found none other refusals = record {
+  same = reads.same;
+  rises = reads.rises;
+  found = λ d is. subst (λ (bs : List ℕ). AreDistrusted asked bs es) (sym (reads.value d is)) found;
+  refusals = tt;
+}
+distrusts_read {asked} {old} {new} reads (Err why) found none other refusals = record {
+  same = reads.same;
+  rises = reads.rises;
+  found = tt;
+  refusals = elim refusals [
+    | inl is ↦ subst (IsUntold asked old.disk old.failures new.failures) (sym is) (λ d at. ap (log_for asked) (reads.value d at) ∙ none (ap Err is))
+    | inr rest ↦ elim rest [
+      | inl is ↦ subst (IsUntold asked old.disk old.failures new.failures) (sym is) (λ d at. ap (log_for asked) (reads.value d at) ∙ other (ap Err is))
+      | inr is ↦ subst (IsUntold asked old.disk old.failures new.failures) (sym is) tt
+    ]
+  ];
+}
+
+-- the log wasn't read
+pub distrusts_refused : {asked : Option LogVersion} {old new : FolderView} {read : Result (Vec ℕ) ToolFault} (why : LogFault)
+    → ReadsWhole old new read → IsUntold asked old.disk old.failures new.failures why → Distrusts asked old new (Err why)
+distrusts_refused why reads untold = record { same = reads.same; rises = reads.rises; found = tt; refusals = untold }

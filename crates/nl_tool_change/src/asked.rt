@@ -1,11 +1,11 @@
 //! What a line of `apply` asks for. An event has the names that it keeps as a set, which takes its memory before the log is touched.
 ghost use Rattle.std.specs.Prelude.{◌≡◌, ◌++◌, ◌∷◌, ◌≢◌, codes, IfOk, IfSome, IsErr, IsErrAnd};
 ghost use Rattle.nl_session.specs.{declared.events.Event.{Event}, Machine.{reply_of}, LogView.{view_of}, Answers.{Answered}};
-ghost use Rattle.nl_tool_change.specs.{declared.script.LineRefusal.{LineRefusal}, declared.asked.Asked.{Asked}, Applying.{Asks, BeginsBy, BeginsNone}, Deeds.{HasNames, IsDeadBut, KeepsNames, SetsFor}};
+ghost use Rattle.nl_tool_change.specs.{declared.script.LineRefusal.{LineRefusal}, declared.asked.Asked.{Asked}, Applying.{Asks, BeginsBy, BeginsNone}, Deeds.{HasNames, IsDeadBut, KeepsNames}};
 
 use crate::files::why_no_name;
 use crate::line_fault::LineFault;
-use crate::script::{LineRefusal, read_event_line, read_names, split_tab};
+use crate::script::{LineRefusal, Word, read_event_line, read_names, read_word, split_tab};
 use nl_fields::{Name, name_fault, read_hex64, read_i32};
 use nl_folder::Folder;
 use nl_session::{Event, Log, LogFault, Reply, reply_to_event};
@@ -79,18 +79,13 @@ fn read_other(alloc: Global, secret: Secret, line: &[u8]) -> Asked<'_>
 // Behind a word of `apply` the fields are wrong.
 fn why_none(line: &[u8]) -> LineFault {
     match split_tab(line).0 {
-        b"open"
-        | b"record"
-        | b"sync"
-        | b"recompact"
-        | b"restat"
-        | b"stop"
-        | b"begin"
-        | b"get"
-        | b"hash"
-        | b"table"
-        | b"distrusted" => LineFault::Fields,
-        _ => LineFault::NoEvent,
+        b"begin" | b"get" | b"hash" | b"table" | b"distrusted" => LineFault::Fields,
+        word => match read_word(word) {
+            None | Some(Word::Writes | Word::Fates | Word::Tails | Word::Fuse | Word::Crash) => {
+                LineFault::NoEvent
+            }
+            Some(_) => LineFault::Fields,
+        },
     }
 }
 
@@ -136,7 +131,10 @@ impl Deed {
         ensures value { IfOk result (λ deed. deed ≡ event) }
         ensures memory { IsErr result → KeepsNames event }
     {
-        let kept = set_for(alloc, secret, &event)?;
+        let kept = match &event {
+            Event::Open(keep) | Event::Recompact(keep) => kept_by(alloc, secret, keep)?,
+            _ => None,
+        };
         Ok(Deed { event, kept })
     }
 
@@ -156,16 +154,6 @@ impl Deed {
             (Event::Recompact(_), Some(kept)) => reply_of(log.recompact(kept)),
             _ => reply_to_event(log, &self.event),
         }
-    }
-}
-
-fn set_for(alloc: Global, secret: Secret, event: &Event) -> AllocResult<Option<NameSet>>
-    ensures value { IfOk result (SetsFor event.now) }
-    ensures memory { IsErr result → KeepsNames event.now }
-{
-    match event {
-        Event::Open(keep) | Event::Recompact(keep) => kept_by(alloc, secret, keep),
-        _ => Ok(None),
     }
 }
 

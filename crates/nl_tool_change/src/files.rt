@@ -1,8 +1,7 @@
 //! Files that say something line by line: KEEP and TIMES, and the targets of a build.
 ghost use Rattle.std.specs.{Prelude.{◌≡◌, ◌⊎◌, ℕ, ◌+◌, ◌<◌, ◌≤◌, ◌^◌, List, Option, None, IfOk, IfErr, IsErrAnd, IsSome, OnOk, length, option_map}, Result.{result_ok}};
 ghost use Rattle.nl_lines.specs.Lines.{lent_rest, max_line};
-ghost use Rattle.nl_table.specs.History.{holds};
-ghost use Rattle.nl_tool_change.specs.{Faults.{IsBadLine, IsFileFault}, Files.{IfBadLine, IfSaid, Says, before_rule, keep_of, manifest_of, name_on, pair_on, said_after, said_by, said_so_far, target_on}};
+ghost use Rattle.nl_tool_change.specs.{Faults.{IsBadLine, IsFileFault}, Files.{IfBadLine, IfSaid, before_rule, manifest_of, name_on, pair_on, said_after, said_by, said_so_far, target_on}};
 ghost use Rattle.nl_tool_texts.specs.{Files.{OfBytes}, declared.fault.ToolFault.{ToolFault}};
 
 use crate::line_fault::{LineFault, NumberFault, Told, number_fault};
@@ -10,7 +9,6 @@ use crate::script::split_tab;
 use memchr::memrchr;
 use nl_fields::{Name, NameFault, read_i64};
 use nl_lines::{Line, Lines, MAX_LINE, ReadSource, Source};
-use nl_table::{NameSet, Secret};
 use nl_tool_texts::{AllocResult, ToolResult};
 use std::alloc::{AllocError, Global};
 use std::io::Read;
@@ -140,23 +138,6 @@ pub fn why_no_name(bytes: &[u8], fault: NameFault) -> LineFault {
         NameFault::BadByte(_) if bytes.contains(&0) => LineFault::Zero,
         NameFault::BadByte(_) | NameFault::OutOfMemory => LineFault::Tab,
     }
-}
-
-/// KEEP: the names of the outputs to keep, one a line. It takes the memory of the names, and of an index over them, by hashes under the secret.
-pub fn read_keep<R: Read + Drop>(
-    alloc: Global,
-    secret: Secret,
-    reader: R,
-    told: &mut Told,
-) -> ToolResult<NameSet>
-    ensures value { IfOk result (λ set. OfBytes (R.remaining reader) (λ bytes. (names : List (List ℕ)) × (keep_of bytes ≡ Says names)
-        × ((name : List ℕ) → holds set name ≡ holds names name))) }
-    ensures bad_line { IfBadLine result keep_of (R.remaining reader) }
-    ensures why { IsErrAnd result IsBadLine → IsSome told.new.why }
-    ensures faults { IfErr result IsFileFault }
-{
-    let names: Vec<Name> = read_parts(alloc, reader, told)?;
-    Ok(NameSet::of(alloc, secret, names)?)
 }
 
 // A line of TIMES: an mtime and the name of an output, with a tab between them.

@@ -4,7 +4,7 @@ ghost use Rattle.nl_table.specs.Log.{NotALog, OtherVersion};
 ghost use Rattle.nl_versions.specs.LogAs.{log_for};
 ghost use Rattle.nl_session.specs.declared.fault.LogFault.{LogFault};
 ghost use Rattle.nl_folder.specs.FolderView.{folder_view};
-ghost use Rattle.nl_tool_change.specs.{Calls.{Looks}, Distrusts.{AreDistrusted, Distrusts}, Mending.{ReadsWhole}};
+ghost use Rattle.nl_tool_change.specs.{Calls.{Looks}, Distrusts.{AreDistrusted}, Mending.{ReadsWhole}};
 
 use crate::place::{LogResult, of_log_fault};
 use nl_distrust::distrusted;
@@ -13,7 +13,7 @@ use nl_lines::SliceSource;
 use nl_session::LogFault;
 use nl_table::{LoadFault, Secret, Table};
 use nl_tool_print::read_all;
-use nl_tool_texts::{ToolFault, ToolResult};
+use nl_tool_texts::ToolResult;
 use nl_versions::{LogVersion, first_line_in, load_seen};
 use std::alloc::Global;
 
@@ -47,30 +47,8 @@ pub fn read_log<F: Folder>(alloc: Global, folder: F) -> (F, ToolResult<Vec<u8>>)
     (reader.folder, read)
 }
 
-/// Which outputs of the log in a folder can't be trusted, by a read of all of it, while the folder stays as it is.
-///
-/// The log is one of the version that is asked for, or else of the one that its first line names. It takes the memory of the log's bytes,
-/// and of its table.
-pub fn distrusted_for<F: Folder>(
-    alloc: Global,
-    secret: Secret,
-    asked: Option<LogVersion>,
-    folder: F,
-) -> (F, LogResult<Table>)
-    ensures distrusts { Distrusts asked (folder_view F.Folder folder) (folder_view F.Folder result.0) result.1 }
-{
-    let (folder, read) = read_log(alloc, folder);
-    match read {
-        Ok(bytes) => (
-            folder,
-            distrusted_of(alloc, secret, asked, bytes.as_slice()),
-        ),
-        Err(ToolFault::Folder) => (folder, Err(LogFault::Fault)),
-        Err(_) => (folder, Err(LogFault::OutOfMemory)),
-    }
-}
-
-fn distrusted_of(
+/// Which outputs of a log can't be trusted. The log is one of the version that is asked for, or else of the one that its first line names.
+pub fn distrusted_of(
     alloc: Global,
     secret: Secret,
     asked: Option<LogVersion>,

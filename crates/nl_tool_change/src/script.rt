@@ -175,7 +175,7 @@ pub fn split_tab(text: &[u8]) -> (&[u8], Option<&[u8]>)
     }
 }
 
-fn read_word(text: &[u8]) -> Option<Word>
+pub fn read_word(text: &[u8]) -> Option<Word>
     ensures value { IfSome result (λ word. text.now ≡ text_of_word word) }
     ensures accepts { (word : Word) → text.now ≡ text_of_word word → result ≡ Some word }
 {
