@@ -1,8 +1,11 @@
 -- A mend of a log, by the answers of what it calls.
-use Rattle.std.proofs.Common.{◌≡◌, ◌≢◌, ◌∙◌, ◌↔◌, inl, inr, [], refl, sym, subst, List, ℕ, Result, Ok, Err}
-use Rattle.std.specs.Prelude.{Bool, true, false, Option, None, Some, IfErr, OnErr, OnOk}
+use Rattle.std.proofs.Common.{◌≡◌, ◌≢◌, ◌≤◌, ◌∙◌, ◌↔◌, ◌++◌, ◌&&◌, ◌||◌, not, inl, inr, [], ap, drop, length, refl, sym, subst, List, ℕ, Result, Ok, Err}
+use Rattle.std.specs.Global.{Vec}
+use Rattle.std.specs.Prelude.{Bool, true, false, Option, None, Some, IfErr, IsErrOf, OnErr, OnOk}
+use Rattle.std.specs.Result.{result_and}
 use Rattle.std.specs.Io.KnownBytes.{Appends, Keeps}
-use Rattle.std.proofs.lemmas.List.{append-nil}
+use Rattle.std.specs.List.{flat_map}
+use Rattle.std.proofs.lemmas.List.{append-nil, drop_all}
 use Rattle.nl_folder.specs.DiskState.{Disk}
 use Rattle.nl_folder.specs.FolderView.{FolderView}
 use Rattle.nl_versions.specs.LogAs.{is_barred}
@@ -13,8 +16,10 @@ use Rattle.nl_tool_texts.specs.declared.fault.ToolFault.{ToolFault}
 use Rattle.nl_tool_texts.specs.declared.fault.ToolFault.TheVariants.{Write, Elsewhere}
 use Rattle.nl_tool_change.specs.Calls.{IsFree}
 use Rattle.nl_tool_change.specs.Faults.{IsRecordFault}
-use Rattle.nl_tool_change.specs.Mending.{MendsLogAs}
-use Rattle.nl_tool_doubt.specs.Mending.{IsIn, IsSaid, Mends, MendsIfDue, MendsSaid, is_due, is_elsewhere, mend_lines, taken}
+use Rattle.nl_tool_change.specs.Mending.{MendsLogAs, ReadsWhole}
+use Rattle.nl_tool_doubt.specs.Mending.{IsIn, IsSaid, Mends, MendsFolder, MendsIfDue, Writes, is_due, is_elsewhere, mend_lines, taken}
+use Rattle.nl_tool_doubt.specs.Doubts.{IsDoubts, damaged_by}
+use Rattle.nl_tool_doubt.specs.declared.files.FileState.{FileState}
 use Rattle.nl_tool_doubt.specs.declared.doubts.Doubted.{Doubted}
 use Rattle.nl_tool_doubt.specs.declared.doubts.Doubts.{Doubts}
 use Rattle.nl_tool_doubt.specs.declared.mending.How.{How}
@@ -29,7 +34,35 @@ keeps_same (Some bytes) = refl
 pub free_as_named : (disk : Option Disk) (log : List ℕ) → IsIn disk log → IsFree disk (version_of log)
 free_as_named disk log here = λ d is. subst (λ (bytes : List ℕ). is_barred (version_of log) bytes ≡ false) (sym (here d is)) (named_free log)
 
+-- ---- what is said
+
+-- all of a list was passed through
+pub all_passed : {A B : Type 0} (f : A → List B) (n : ℕ) (l : List A) (xs : List B) → length l ≤ n → xs ++ flat_map f (drop n l) ≡ flat_map f l
+    → xs ≡ flat_map f l
+all_passed {A} f n l xs done is = sym (append-nil xs) ∙ ap (λ (ys : List A). xs ++ flat_map f ys) (sym (drop_all n l done)) ∙ is
+
+-- whether a change is due, as the tests come
+pub due_some : (dry none whole due : Bool) → dry ≡ false → none ≡ false → due ≡ true → due ≡ (not dry && (not none || not whole))
+due_some false false whole due d n is = is
+due_some false true whole due d n is = absurd (cc n)
+due_some true none whole due d n is = absurd (cc d)
+
+pub due_broken : (dry none whole due : Bool) → dry ≡ false → none ≡ true → due ≡ not whole → due ≡ (not dry && (not none || not whole))
+due_broken false true whole due d n is = is
+due_broken false false whole due d n is = absurd (cc n)
+due_broken true none whole due d n is = absurd (cc d)
+
+pub due_dry : (dry none whole due : Bool) → dry ≡ true → due ≡ false → due ≡ (not dry && (not none || not whole))
+due_dry true none whole due d is = is
+due_dry false none whole due d is = absurd (cc d)
+
 -- ---- what was said
+
+-- what was said is done, and then it is said
+pub record MendsSaid (log : List ℕ) (said : Said) (from to : Option (List ℕ)) (result : Result (Unit {0}) ToolFault) (old new : FolderView) : Type 0 where
+  pub writes : Writes said.text.items from to result
+  pub mends : MendsIfDue said.is_due log said.names.items result old new
+  pub here : IsErrOf result Elsewhere → ⊥
 
 -- a change that failed
 pub said_failed : {log : List ℕ} {said : Said} {known : Option (List ℕ)} {old new : FolderView} (fault : ToolFault) → IsRecordFault fault
@@ -107,3 +140,25 @@ module _ {how : How} {log : List ℕ} {doubts : Doubts} {from to : Option (List 
     writes = call.writes;
     mends = mends_as said_so call.mends;
   }
+
+  -- as the writer answers
+  pub mends_and : (m : Mended) → m.is_told ≡ said.is_told → (m.outputs ≡ doubts.outputs) × (m.there ≡ doubts.there)
+      → (r : Result (Unit {0}) ToolFault) → MendsSaid log said from to r old new → Mends how log doubts from to (result_and r (Ok m)) old new
+  mends_and m told outputs (Ok done) call = mended m told outputs call
+  mends_and m told outputs (Err fault) call = mend_failed fault call
+
+-- the log that was read is mended
+pub mends_found : {states : Option (List ℕ → FileState)} {how : How} {log : Vec ℕ} {from to : Option (List ℕ)} {result : Result Mended ToolFault}
+    {old between new : FolderView} (bytes : List ℕ) (doubts : Doubts) → bytes ≡ log.items → ReadsWhole old between (Ok log)
+    → IsDoubts (damaged_by true bytes) bytes states doubts → Mends how bytes doubts from to result between new
+    → MendsFolder states how from to result old new
+mends_found {states} {how} {log} {from} {to} {result} {old} {between} {new} bytes doubts is reads found mends = record {
+  read = Ok log;
+  between = between;
+  reads = reads;
+  mends = inr (
+    doubts,
+    subst (λ (l : List ℕ). IsDoubts (damaged_by true l) l states doubts) is found,
+    subst (λ (l : List ℕ). Mends how l doubts from to result between new) is mends,
+  );
+}

@@ -103,12 +103,6 @@ pub record MendsIfDue (due : Bool) (log : List ℕ) (names : List (List ℕ)) (r
   pub stays : due ≡ false → new ≡ old
   pub refused : IfErr result (λ fault. (fault ≡ Write) ⊎ ((new ≡ old) ⊎ MendsLogAs (version_of log) names (Err fault) old new))
 
--- what was said is done, and then it is said
-pub record MendsSaid (log : List ℕ) (said : Said) (from to : Option (List ℕ)) (result : Result (Unit {0}) ToolFault) (old new : FolderView) : Type 0 where
-  pub writes : Writes said.text.items from to result
-  pub mends : MendsIfDue said.is_due log said.names.items result old new
-  pub here : IsErrOf result Elsewhere → ⊥
-
 -- the log has outputs, and none has a file
 abbrev pub is_elsewhere : Doubts → Bool
 is_elsewhere doubts = doubts.there == 0 && not (doubts.outputs == 0)

@@ -3,7 +3,7 @@ ghost use Rattle.std.specs.Prelude.{◌≡◌, ◌++◌, true, false, Ok, IfErr,
 ghost use Rattle.nl_folder.specs.FolderView.{folder_view};
 ghost use Rattle.nl_tool_change.specs.{Faults.{IsRecordFault}, Mending.{MendsLogAs}};
 ghost use Rattle.nl_versions.specs.VersionOf.{version_of};
-ghost use Rattle.nl_tool_doubt.specs.Mending.{EndsBy, IsIn, IsMendFault, IsSaid, Mends, MendsFolder, MendsSaid, cause_of, is_elsewhere};
+ghost use Rattle.nl_tool_doubt.specs.Mending.{EndsBy, IsIn, IsMendFault, IsSaid, Mends, MendsFolder, cause_of, is_elsewhere};
 
 use crate::doubts::{Doubted, Doubts, doubts_of, word_of};
 use crate::files::OutputFiles;
@@ -51,42 +51,36 @@ pub fn mend_to<D: Folder, F: OutputFiles, W: Write>(
     ensures faults { IfErr result.1 IsMendFault }
 {
     let (folder, read) = read_log(alloc, folder);
-    match read {
-        Ok(log) => match doubts_of(alloc, secret, true, log.as_slice(), files) {
-            Ok(doubts) => mend_doubted(alloc, secret, folder, log.as_slice(), &doubts, how, writer),
-            Err(fault) => (folder, Err(ToolFault::from(fault))),
-        },
-        Err(fault) => (folder, Err(fault)),
-    }
-}
-
-fn mend_doubted<D: Folder, W: Write>(
-    alloc: Global,
-    secret: Secret,
-    folder: D,
-    log: &[u8],
-    doubts: &Doubts,
-    how: How,
-    writer: &mut W,
-) -> (D, ToolResult<Mended>)
-    ensures call { IsIn (D.disk folder) log.now → Mends how log.now doubts.now (W.contents writer.old) (W.contents writer.new)
-        result.1 (folder_view D.Folder folder) (folder_view D.Folder result.0) }
-    ensures faults { IfErr result.1 IsMendFault }
-{
-    if is_elsewhere(doubts) {
+    let log = match read {
+        Ok(log) => log,
+        Err(fault) => return (folder, Err(fault)),
+    };
+    let log = log.as_slice();
+    let doubts = match doubts_of(alloc, secret, true, log, files) {
+        Ok(doubts) => doubts,
+        Err(fault) => return (folder, Err(ToolFault::from(fault))),
+    };
+    if is_elsewhere(&doubts) {
         return (folder, Err(ToolFault::Elsewhere));
     }
-    match said_of(alloc, log, doubts, how) {
-        Ok(said) => {
-            let (folder, answer) = mend_said(alloc, secret, folder, log, &said, writer);
-            let mended = Mended {
-                is_told: said.is_told,
-                outputs: doubts.outputs,
-                there: doubts.there,
-            };
-            (folder, answer.map(|()| mended))
-        }
-        Err(_) => (folder, Err(ToolFault::Memory)),
+    let Ok(said) = said_of(alloc, log, &doubts, how) else {
+        return (folder, Err(ToolFault::Memory));
+    };
+    let mended = Mended {
+        is_told: said.is_told,
+        outputs: doubts.outputs,
+        there: doubts.there,
+    };
+    let text = said.text.as_slice();
+    if !said.is_due {
+        return (folder, write_out(text, writer).and(Ok(mended)));
+    }
+    let names = said.names.as_slice();
+    // It comes before the text, because a change that failed must not be told as done.
+    let (folder, changed) = mend_on(alloc, secret, version_of(log), folder, names);
+    match changed {
+        Ok(()) => (folder, write_out(text, writer).and(Ok(mended))),
+        Err(fault) => (folder, Err(fault)),
     }
 }
 
@@ -124,7 +118,19 @@ fn said_of(alloc: Global, log: &[u8], doubts: &Doubts, how: How) -> AllocResult<
     }
     let is_told = !text.is_empty();
     let is_due = !how.dry_run && (!names.is_empty() || !is_whole(lines_version(log), log));
-    append_end(how, is_told, names.len(), is_due, &mut text)?;
+    // A terminal is told what was done, unless nothing was told of or done.
+    if how.at_terminal && (is_told || is_due) {
+        let taken = names.len();
+        let outputs = if taken == 1 { "output" } else { "outputs" };
+        let will = if how.dry_run { "would" } else { "will" };
+        let done = if is_due {
+            "was repaired"
+        } else {
+            "is as it was"
+        };
+        let line = format!(in alloc; "{taken} {outputs} {will} be built again; LOG {done}\n")?;
+        text.extend_from_slice(line.as_bytes())?;
+    }
     Ok(Said {
         text,
         is_told,
@@ -144,56 +150,5 @@ fn cause_of(it: &Doubted) -> Option<Doubt>
         Doubt::Damaged | Doubt::Newer => Some(it.why),
         Doubt::Unsure | Doubt::Folder | Doubt::NoTime | Doubt::Untold => Some(Doubt::Unsure),
         Doubt::Gone => None,
-    }
-}
-
-// A terminal is told what was done, unless nothing was told of or done.
-fn append_end(
-    how: How,
-    is_told: bool,
-    taken: usize,
-    is_due: bool,
-    text: &mut Vec<u8>,
-) -> AllocResult
-    ensures ends { OnOk result (EndsBy how.at_terminal text.old.items text.new.items) }
-{
-    if !how.at_terminal || !is_told && !is_due {
-        return Ok(());
-    }
-    let outputs = if taken == 1 { "output" } else { "outputs" };
-    let will = if how.dry_run { "would" } else { "will" };
-    let done = if is_due {
-        "was repaired"
-    } else {
-        "is as it was"
-    };
-    let line = format!(in *text.allocator();
-        "{taken} {outputs} {will} be built again; LOG {done}\n"
-    )?;
-    text.extend_from_slice(line.as_bytes())?;
-    Ok(())
-}
-
-// The change comes before the text, because a change that failed must not be told as done.
-fn mend_said<D: Folder, W: Write>(
-    alloc: Global,
-    secret: Secret,
-    folder: D,
-    log: &[u8],
-    said: &Said,
-    writer: &mut W,
-) -> (D, ToolResult)
-    ensures call { IsIn (D.disk folder) log.now → MendsSaid log.now said.now (W.contents writer.old) (W.contents writer.new)
-        result.1 (folder_view D.Folder folder) (folder_view D.Folder result.0) }
-    ensures faults { IfErr result.1 IsMendFault }
-{
-    if !said.is_due {
-        return (folder, write_out(said.text.as_slice(), writer));
-    }
-    let names = said.names.as_slice();
-    let (folder, changed) = mend_on(alloc, secret, version_of(log), folder, names);
-    match changed {
-        Ok(()) => (folder, write_out(said.text.as_slice(), writer)),
-        Err(fault) => (folder, Err(fault)),
     }
 }
