@@ -3,12 +3,12 @@ ghost use Rattle.std.specs.{Prelude.{◌≡◌, ◌⊎◌, ◌++◌, ℕ, count_
 ghost use Rattle.nl_table.specs.{History.{logged, table}, Log.{log_of, NotALog, OtherVersion}, declared.loader.LoadFault.{LoadFault}};
 ghost use Rattle.nl_versions.specs.VersionOf.{as_five};
 ghost use Rattle.nl_tool_texts.specs.{Output.{AppendsPrefixOf}, declared.fault.ToolFault.{ToolFault}};
-ghost use Rattle.nl_tool_doubt.specs.Doubts.{AreDoubts, IsDoubts, damaged_by, doubt_line, doubted, is_copied, is_file, is_moved, is_there, named_by, why, word_of};
+ghost use Rattle.nl_tool_doubt.specs.Doubts.{IsDoubts, damaged_by, doubt_line, doubted, is_copied, is_file, is_moved, is_there, named_by, why, word_of};
 
 use crate::files::{Looked, OutputFiles, look_all};
 use crate::judge::{Doubt, doubt_of};
 use crate::moments::Moments;
-use nl_builds::{LogEntries, Stamps, read_entries};
+use nl_builds::{Stamps, read_entries};
 use nl_distrust::laws::a_whole_log_is_trusted;
 use nl_distrust::{distrusted, is_whole};
 use nl_fields::{Entry, EntryRef};
@@ -54,7 +54,17 @@ pub fn doubts_of<F: OutputFiles>(
     let lines = read_entries(alloc, log)?;
     let table = table_of(alloc, secret, lines.entries.as_slice())?;
     let damaged = damaged_of(alloc, damage_counts, log, &table)?;
-    Ok(name_all(alloc, lines, &table, &damaged, files)?)
+    let moments = Moments::of(alloc, lines.stamps, lines.entries)?;
+    let looked = look_all(alloc, &table, files)?;
+    let all = looked.as_slice();
+    let copied = is_copied(all);
+    let named = name_looked(alloc, !copied, lines.stamps, &moments, all, &damaged)?;
+    Ok(Doubts {
+        named,
+        outputs: looked.len(),
+        there: all.iter().filter(|it| it.file.is_there()).count(),
+        copied,
+    })
 }
 
 fn damaged_of(alloc: Global, counts: bool, log: &[u8], table: &Table) -> AllocResult<Table>
@@ -79,28 +89,6 @@ fn table_of(alloc: Global, secret: Secret, entries: &[EntryRef]) -> AllocResult<
         table.enter(entry)?;
     }
     Ok(table)
-}
-
-fn name_all<F: OutputFiles>(
-    alloc: Global,
-    lines: LogEntries,
-    table: &Table,
-    damaged: &Table,
-    files: &F,
-) -> AllocResult<Doubts>
-    ensures value { IfOk result (AreDoubts damaged.now lines.entry.stamps lines.entry.entries.items table.now (F.states files.now)) }
-{
-    let LogEntries { stamps, entries } = lines;
-    let moments = Moments::of(alloc, stamps, entries)?;
-    let looked = look_all(alloc, table, files)?;
-    let copied = is_copied(looked.as_slice());
-    let named = name_looked(alloc, !copied, stamps, &moments, looked.as_slice(), damaged)?;
-    Ok(Doubts {
-        named,
-        outputs: looked.len(),
-        there: looked.iter().filter(|it| it.file.is_there()).count(),
-        copied,
-    })
 }
 
 fn name_looked(
