@@ -1,6 +1,6 @@
 //! What the files of a log's outputs are: which are there, and when each was written.
-ghost use Rattle.std.specs.Prelude.{◌≡◌, ℕ, List, Option, IfOk, IfSome, ◌++◌, ◌≤◌, ◌⊎◌, [], length, IfErr, IsErrOf, OnOk, count_by, flat_map};
-ghost use Rattle.nl_tool_doubt.specs.{Doubts.{AreLooked}, Judging.{is_present, is_written, was_moved}, declared.files.FileState.{FileState}, There.{AddsFor, KeepsMost, LosesMost, is_kept, learned, name_by, pair_by}};
+ghost use Rattle.std.specs.Prelude.{◌≡◌, ℕ, List, Option, IfOk, IfSome, ◌++◌, ◌⊎◌, [], IfErr, IsErrOf, OnOk, flat_map};
+ghost use Rattle.nl_tool_doubt.specs.{Doubts.{AreLooked}, Judging.{is_present, is_written, was_moved}, declared.files.FileState.{FileState}, There.{AddsFor, KeepsMost, LosesMost, learned, name_by, pair_by}};
 ghost use Rattle.nl_table.specs.Log.{log_of};
 ghost use Rattle.nl_tool_texts.specs.declared.fault.ToolFault.{ToolFault};
 ghost use Rattle.nl_tool_print.specs.Faults.{IsLogFault, RefusesLog};
@@ -110,18 +110,11 @@ pub fn names_there<R: Read + Drop, F: OutputFiles>(
     let mut names = targets;
     add_names(alloc, looked.as_slice(), &mut names)?;
     let set = NameSet::of(alloc, secret, names)?;
-    let kept = count_kept(&set, looked.as_slice());
+    let kept = looked.iter().filter(|it| set.has(it.entry.name())).count();
     if kept < looked.len() - kept {
         return Err(ToolFault::Elsewhere);
     }
     Ok(set)
-}
-
-fn count_kept(set: &NameSet, looked: &[Looked]) -> usize
-    ensures value { result ≡ count_by (is_kept set.now) looked.now }
-    ensures bound { result ≤ length looked.now }
-{
-    looked.iter().filter(|it| set.has(it.entry.name())).count()
 }
 
 /// It asks for the file of each output, in the order of first appearance, and gives the time of each that has one. An output whose last entry

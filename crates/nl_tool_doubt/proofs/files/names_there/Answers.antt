@@ -1,5 +1,8 @@
-use Rattle.std.proofs.Common.{rules, arith, ◌≡◌, ◌∙◌, ◌≤◌, ◌<◌, ◌*◌, ap, length}
+use Rattle.std.proofs.Common.{rules, tests, arith, ap, ◌≡◌, ◌∙◌, ◌≤◌, ◌<◌, ◌*◌, length}
 use Rattle.std.specs.List.{count_by}
+use Rattle.std.proofs.lemmas.Iterator.{YieldsList-from_slice}
+use Rattle.std.proofs.lemmas.Iterator.Consumers.{YieldsList-from_filter, count_from_yields_List}
+use Rattle.std.proofs.lemmas.List.Sums.{count_by-le-length, length-filter}
 use Rattle.nl_tool_doubt.specs.There.{is_kept}
 use Rattle.nl_tool_doubt.proofs.files.names_there.Goals as goal
 
@@ -8,8 +11,13 @@ returns-then-kept-len-clause-elsewhere g c = λ is.
     let loads = c.in_ok-loaded.ensures.loaded in
     let looked = c.in_ok-looked.looked.items in
     let set = c.in_ok-set.set in
-    let count : c.count_kept-kept.result ≡ count_by (is_kept set) looked = c.count_kept-kept.ensures.value ∙ ap (count_by (is_kept set)) c.as_slice-2.ensures.value in
-    let few : 2 * count_by (is_kept set) looked < length looked = omega (arith, count, c.count_kept-kept.ensures.bound, c.len.ensures, c.if-kept-len.true) in (
+    let by : c.count-kept.result ≡ count_by (is_kept set) c.deref.result.now =
+    count_from_yields_List c.filter.result c.count-kept.result c.count-kept.ensures.ran
+    (YieldsList-from_filter _ (is_kept set) (YieldsList-from_slice c.deref.result.now (cc)) c.filter.ensures.closure (λ x r q k. search (rules, tests)))
+    ∙ length-filter (is_kept set) c.deref.result.now in
+    let count : c.count-kept.result ≡ count_by (is_kept set) looked = by ∙ ap (count_by (is_kept set)) c.deref.ensures.value in
+    let bound = count_by-le-length (is_kept set) looked in
+    let few : 2 * count_by (is_kept set) looked < length looked = omega (arith, count, bound, c.len.ensures, c.if-kept-len.true) in (
       set,
       record {
         is = record {
@@ -34,8 +42,13 @@ returns-clause-kept g c =
     let loads = c.in_ok-loaded.ensures.loaded in
     let looked = c.in_ok-looked.looked.items in
     let set = c.in_ok-set.set in
-    let count : c.count_kept-kept.result ≡ count_by (is_kept set) looked = c.count_kept-kept.ensures.value ∙ ap (count_by (is_kept set)) c.as_slice-2.ensures.value in
-    let most : length looked ≤ 2 * count_by (is_kept set) looked = omega (arith, count, c.count_kept-kept.ensures.bound, c.len.ensures, c.if-kept-len.false) in
+    let by : c.count-kept.result ≡ count_by (is_kept set) c.deref.result.now =
+    count_from_yields_List c.filter.result c.count-kept.result c.count-kept.ensures.ran
+    (YieldsList-from_filter _ (is_kept set) (YieldsList-from_slice c.deref.result.now (cc)) c.filter.ensures.closure (λ x r q k. search (rules, tests)))
+    ∙ length-filter (is_kept set) c.deref.result.now in
+    let count : c.count-kept.result ≡ count_by (is_kept set) looked = by ∙ ap (count_by (is_kept set)) c.deref.ensures.value in
+    let bound = count_by-le-length (is_kept set) looked in
+    let most : length looked ≤ 2 * count_by (is_kept set) looked = omega (arith, count, bound, c.len.ensures, c.if-kept-len.false) in
     record {
       is = record {
         names = c.add_names.new.names.items;
