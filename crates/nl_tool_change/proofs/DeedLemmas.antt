@@ -1,5 +1,5 @@
 -- The names that an event keeps, as a set.
-use Rattle.std.proofs.Common.{◌≡◌, ◌<◌, ◌++◌, ◌∷◌, ◌∙◌, ℕ, List, [], ap, arith, inl, inr, length, refl}
+use Rattle.std.proofs.Common.{◌≡◌, ◌≢◌, ◌<◌, ◌++◌, ◌∷◌, ◌∙◌, ℕ, List, [], ap, arith, inl, inr, length, refl}
 use Rattle.std.specs.Prelude.{Bool, codes, not}
 use Rattle.std.specs.List.{flat_map}
 use Rattle.nl_table.specs.History.{holds}
@@ -8,8 +8,14 @@ use Rattle.nl_table.proofs.NameSetLemmas.{held_once}
 use Rattle.nl_table.specs.declared.log_user.KeepList.TheVariants.{All, Only}
 use Rattle.nl_session.specs.declared.events.Event.{Event}
 use Rattle.nl_session.specs.declared.events.Event.TheVariants.{Open as OpenLog, Record, Sync, Recompact, Restat, Stop, Crash}
+use Rattle.nl_session.specs.declared.events.Reply.{Reply}
+use Rattle.nl_session.specs.declared.fault.LogState.TheVariants.{Open}
+use Rattle.nl_session.specs.Answers.{Answered}
+use Rattle.nl_session.specs.Headline.{Exchange}
+use Rattle.nl_session.specs.LogView.{LogView}
+use Rattle.nl_tool_change.specs.Applying.{DoesEvent}
 use Rattle.nl_tool_change.specs.Reading.{HoldsNames}
-use Rattle.nl_tool_change.specs.Replay.{KeepsSome, event_line, name_field}
+use Rattle.nl_tool_change.specs.Replay.{KeepsSome, event_line, name_field, reply_line}
 use Rattle.nl_tool_change.specs.Deeds.{KeepsNames}
 
 -- a set of names is found to hold what they are
@@ -35,3 +41,9 @@ holds_names Sync keeps some = absurd keeps
 holds_names (Restat times) keeps some = absurd keeps
 holds_names Stop keeps some = absurd keeps
 holds_names Crash keeps some = absurd keeps
+
+-- an event that is no stop of an open log is done as it is answered
+pub does_so : {old new : LogView} {reply : Reply} (event : Event) → Answered event reply old new → (event ≡ Stop → old.mode ≢ Open)
+    → (exchanges : List Exchange) × DoesEvent event old new exchanges (reply_line reply)
+does_so {reply = reply} event answered other =
+    ((event, reply) ∷ [], inl (record { reply = reply; answered = answered; are = refl; is = refl; other = other }))

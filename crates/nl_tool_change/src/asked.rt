@@ -1,14 +1,15 @@
 //! What a line of `apply` asks for. An event has the names that it keeps as a set, which takes its memory before the log is touched.
-ghost use Rattle.std.specs.Prelude.{◌≡◌, ◌++◌, ◌∷◌, ◌≢◌, codes, IfOk, IfSome, IsErr, IsErrAnd};
-ghost use Rattle.nl_session.specs.{declared.events.Event.{Event}, Machine.{reply_of}, LogView.{view_of}, Answers.{Answered}};
-ghost use Rattle.nl_tool_change.specs.{declared.script.LineRefusal.{LineRefusal}, declared.asked.Asked.{Asked}, Applying.{Asks, BeginsBy, BeginsNone}, Deeds.{HasNames, IsDeadBut, KeepsNames}};
+ghost use Rattle.std.specs.Prelude.{◌≡◌, ◌++◌, ◌∷◌, ◌≢◌, List, codes, IfOk, IfSome, IsErr, IsErrAnd};
+ghost use Rattle.nl_session.specs.{declared.events.Event.{Event}, Machine.{reply_of}, LogView.{view_of}, Headline.{Exchange}};
+ghost use Rattle.nl_tool_change.specs.{Replay.{reply_line}, declared.script.LineRefusal.{LineRefusal}, declared.asked.Asked.{Asked}, Applying.{Asks, BeginsBy, BeginsNone, DoesEvent}, Deeds.{HasNames, IsDeadBut, KeepsNames}};
 
+use crate::answers::sync_first;
 use crate::files::why_no_name;
 use crate::line_fault::LineFault;
 use crate::script::{LineRefusal, Word, read_event_line, read_names, read_word, split_tab};
 use nl_fields::{Name, name_fault, read_hex64, read_i32};
 use nl_folder::Folder;
-use nl_session::{Event, Log, LogFault, Reply, reply_to_event};
+use nl_session::{Event, Log, LogFault, LogState, Reply, reply_to_event};
 use nl_table::{KeepList, NameSet, Secret};
 use nl_tool_texts::AllocResult;
 use std::alloc::Global;
@@ -147,11 +148,13 @@ impl Deed {
     /// It looks names up in the set, because it would take too long to compare each with each.
     pub(crate) fn ask<F: Folder>(&self, log: &mut Log<F>) -> Reply
         requires no_crash { self.now ≢ Event.Crash }
-        ensures answered { Answered self.now result (view_of log.old) (view_of log.new) }
+        ensures answered { (exchanges : List Exchange) × DoesEvent self.now (view_of log.old) (view_of log.new) exchanges (reply_line result) }
     {
-        match (&self.event, &self.kept) {
-            (Event::Open(_), Some(kept)) => reply_of(log.open(kept)),
-            (Event::Recompact(_), Some(kept)) => reply_of(log.recompact(kept)),
+        match (&self.event, &self.kept, log.state()) {
+            (Event::Open(_), Some(kept), _) => reply_of(log.open(kept)),
+            (Event::Recompact(_), Some(kept), _) => reply_of(log.recompact(kept)),
+            // The reply of an open log is that of the sync, which comes first.
+            (Event::Stop, _, LogState::Open) => sync_first(log),
             _ => reply_to_event(log, &self.event),
         }
     }
