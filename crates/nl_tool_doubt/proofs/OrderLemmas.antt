@@ -9,7 +9,7 @@ use Rattle.std.proofs.lemmas.List.Elements.{All-push, All-take}
 use Rattle.std.proofs.Math.Seq.{take-append_seam}
 use Rattle.std.proofs.lemmas.List.Sorted.{IsNonDecreasingBy-push, IsNonDecreasingBy-take}
 use Rattle.nl_tool_doubt.specs.Moments.{least_from}
-use Rattle.nl_tool_doubt.specs.Spans.{Joins, Rises, both, greatest_of, if_within, sums, within}
+use Rattle.nl_tool_doubt.specs.Spans.{Rises, both, greatest_of, if_within, sums, within}
 use Rattle.nl_tool_doubt.specs.declared.spans.Span.{Span}
 use Rattle.nl_tool_doubt.proofs.SpanLemmas.{both_assoc, is_before, is_behind, is_there, joined, within-append}
 
@@ -155,6 +155,12 @@ both_none (Some x) = refl
 -- where one at a place is behind a moment, those from there on are
 pub rises_behind : (to : ℕ) (ss : List Span) (i : ℕ) (d : Span) → Rises ss → to < (get_or ss i d).first → From i (to + 1) ss
 rises_behind to ss i d rise above k e after there = omega (arith, above, rises_from ss i d rise k e after there)
+
+-- the span comes after those of earlier places, or joins that of its own
+pub record Joins (old : List Span) (span : Span) (new : List Span) : Type 0 where
+  pub alike : (from to : ℕ) → within from to new ≡ both (within from to old) (if_within from to span)
+  pub rises : Rises old → All (λ (s : Span). s.first ≤ span.first) old → Rises new
+  pub last : All (λ (s : Span). s.first ≤ span.first) old → All (λ (s : Span). s.first ≤ span.first) new
 
 -- a span was put behind some
 pub joins_more : (old : List Span) (span : Span) (new : List Span) → new ≡ old ++ span ∷ [] → Joins old span new

@@ -1,6 +1,5 @@
 -- What spans span together, each of which stands at a place: the first place, the least value and the greatest.
-use Rattle.std.specs.Prelude.{◌≡◌, ◌≤◌, ℕ, ◌&&◌, nat_le, min, max, List, [], ◌∷◌, Option, None, Some, if◌then◌else◌}
-use Rattle.std.specs.List.{All}
+use Rattle.std.specs.Prelude.{◌≡◌, ℕ, ◌&&◌, nat_le, min, max, List, [], ◌∷◌, Option, None, Some, if◌then◌else◌}
 use Rattle.std.specs.List.Sorted.{IsNonDecreasingBy}
 use Rattle.nl_tool_doubt.specs.declared.spans.Span.{Span}
 
@@ -34,9 +33,3 @@ sums most (s ∷ ss) = record s { greatest = max most s.greatest } ∷ sums (max
 abbrev pub greatest_of : Option Span → ℕ
 greatest_of None = 0
 greatest_of (Some s) = s.greatest
-
--- the span comes after those of earlier places, or joins that of its own
-pub record Joins (old : List Span) (span : Span) (new : List Span) : Type 0 where
-  pub alike : (from to : ℕ) → within from to new ≡ both (within from to old) (if_within from to span)
-  pub rises : Rises old → All (λ (s : Span). s.first ≤ span.first) old → Rises new
-  pub last : All (λ (s : Span). s.first ≤ span.first) old → All (λ (s : Span). s.first ≤ span.first) new

@@ -1,6 +1,6 @@
 //! Spans of values that stand at places.
-ghost use Rattle.std.specs.Prelude.{◌≡◌, ◌-◌, IfOk, List, OnOk, Some, map};
-ghost use Rattle.nl_tool_doubt.specs.{Moments.{least_from}, Spans.{Alike, Joins, Rises, both, greatest_of, one, sums, within}, declared.spans.Span.{Span}};
+ghost use Rattle.std.specs.Prelude.{◌≡◌, ◌-◌, IfOk, List, Some, map};
+ghost use Rattle.nl_tool_doubt.specs.{Moments.{least_from}, Spans.{Alike, Rises, both, greatest_of, one, sums, within}, declared.spans.Span.{Span}};
 
 use nl_tool_texts::AllocResult;
 use std::alloc::Global;
@@ -65,24 +65,17 @@ pub fn merged(alloc: Global, spans: &[Span]) -> AllocResult<Vec<Span>>
 {
     let mut all = Vec::new(alloc);
     for span in spans {
-        join(*span, &mut all)?;
-    }
-    Ok(all)
-}
-
-// The span comes after those of earlier places, or joins that of its own.
-fn join(span: Span, all: &mut Vec<Span>) -> AllocResult
-    ensures ok { OnOk result (Joins all.old.items span all.new.items) }
-{
-    match all.pop() {
-        None => all.push(span)?,
-        Some(last) if last.first == span.first => all.push(both(Some(last), span))?,
-        Some(last) => {
-            all.push(last)?;
-            all.push(span)?;
+        // The span comes after those of earlier places, or joins that of its own.
+        match all.pop() {
+            None => all.push(*span)?,
+            Some(last) if last.first == span.first => all.push(both(Some(last), *span))?,
+            Some(last) => {
+                all.push(last)?;
+                all.push(*span)?;
+            }
         }
     }
-    Ok(())
+    Ok(all)
 }
 
 fn both(a: Option<Span>, b: Span) -> Span
