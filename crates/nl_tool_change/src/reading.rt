@@ -48,7 +48,7 @@ pub fn read_log<F: Folder>(alloc: Global, folder: F) -> (F, ToolResult<Vec<u8>>)
 }
 
 /// Which outputs of a log can't be trusted. The log is one of the version that is asked for, or else of the one that its first line names.
-pub fn distrusted_of(
+pub(crate) fn distrusted_of(
     alloc: Global,
     secret: Secret,
     asked: Option<LogVersion>,
