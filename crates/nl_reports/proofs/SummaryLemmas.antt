@@ -4,7 +4,7 @@ use Rattle.std.specs.Prelude.{slice_get}
 use Rattle.nl_builds.specs.Builds.{Told as BuildsTold}
 use Rattle.nl_builds.specs.declared.build.Build.{Build}
 use Rattle.nl_reports.specs.Rows.{Told, told_command}
-use Rattle.nl_reports.specs.Summary.{again_in, builds_told, first_of, no_totals, rows_from, text_of, title, totals_from}
+use Rattle.nl_reports.specs.Summary.{again_in, builds_told, first_of, no_totals, rows_from, text_of, title, totals_from, unfinished_line}
 use Rattle.nl_reports.specs.declared.choice.Scope.{Scope}
 use Rattle.nl_reports.specs.declared.rows.Lists.{Lists}
 use Rattle.nl_reports.specs.declared.rows.Weighed.{Weighed}
@@ -19,9 +19,15 @@ pub some_told : (scope : Scope) (lists : Lists) (unfinished : ℕ) (t : BuildsTo
 some_told scope lists unfinished t number [] some = absurd (some refl)
 some_told scope lists unfinished t number (b ∷ bs) some = refl
 
--- six parts behind what stood before
-pub parts_in_order : (o h n s a u l : List ℕ) → (((((o ++ h) ++ n) ++ s) ++ a) ++ u) ++ l ≡ o ++ (h ++ (n ++ (s ++ (a ++ (u ++ l)))))
-parts_in_order o h n s a u l = simp append_assoc
+-- of none
+pub none_told : (scope : Scope) (lists : Lists) (unfinished : ℕ) (t : BuildsTold) (number : ℕ) (bs : List Build) → length bs ≡ 0
+    → builds_told scope lists unfinished t number bs ≡ unfinished_line lists.screen unfinished
+none_told scope lists unfinished t number [] none = refl
+none_told scope lists unfinished t number (b ∷ bs) none = absurd (omega (arith, none))
+
+-- six parts, of which two come at once
+pub parts_in_order : (h n s a u l : List ℕ) → (((h ++ (n ++ s)) ++ a) ++ u) ++ l ≡ h ++ (n ++ (s ++ (a ++ (u ++ l))))
+parts_in_order h n s a u l = simp append_assoc
 
 -- those that rank highest, as they are told
 pub highest_are : {A : Type 0} (told : A → Told) (rank : Told → ℕ) (n : ℕ) (rows kept : List A) → kept ≡ take n (falling (λ r. rank (told r)) rows)

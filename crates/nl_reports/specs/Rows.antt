@@ -7,11 +7,11 @@ use Rattle.nl_reports.specs.Jobs.{Job, first_name}
 use Rattle.nl_reports.specs.Spans.{time_of}
 use Rattle.nl_reports.specs.Sweep.{parts, weight}
 use Rattle.nl_tool_texts.specs.Texts.{line, time_text}
-use Rattle.nl_reports.specs.declared.rows.Lists.{Lists}
 use Rattle.nl_reports.specs.declared.rows.Listed.{Listed}
 use Rattle.nl_reports.specs.declared.rows.Listed.TheVariants.{Commands, Kinds}
 use Rattle.nl_reports.specs.declared.rows.Rank.{Rank}
 use Rattle.nl_reports.specs.declared.rows.Rank.TheVariants.{Time, Weight}
+use Rattle.nl_reports.specs.declared.rows.Ranked.{Ranked}
 use Rattle.nl_reports.specs.declared.rows.Row.{Row}
 use Rattle.nl_reports.specs.declared.rows.Sums.{Sums}
 use Rattle.nl_reports.specs.declared.rows.Weighed.{Weighed}
@@ -85,18 +85,17 @@ heading true Commands = codes "\nSlowest commands\nTime\tShare\tOutput\n"
 heading true Kinds = codes "\nKinds of commands\nTime\tShare\tCommands\tKind\n"
 
 -- in a pipe: the milliseconds, the weighted ones with two digits, rounded down, and the first output or the kind
-abbrev pub list_line : Bool → ℕ → Listed → Rank → Told → List ℕ
-list_line screen total listed rank t = if screen then screen_row listed total t else
-    list_key listed rank t.sums.commands ++ decimal t.sums.time ++ codes "\t" ++ ratio t.sums.weight parts ++ codes "\t"
-    ++ shown_name listed t.name ++ codes "\n"
-
--- all commands take so long together
-abbrev pub row_lines : Bool → ℕ → Listed → Rank → List Told → List ℕ
-row_lines screen total listed rank ts = heading screen listed ++ flat_map (list_line screen total listed rank) ts
+abbrev pub list_line : Ranked → Rank → Told → List ℕ
+list_line r rank t = if r.lists.screen then screen_row r.listed r.total t else
+    list_key r.listed rank t.sums.commands ++ line (decimal t.sums.time ∷ ratio t.sums.weight parts ∷ shown_name r.listed t.name ∷ [])
 
 -- the highest rank comes first
 abbrev pub highest_told : ℕ → Rank → List Told → List Told
 highest_told most rank ts = take most (falling (rank_told rank) ts)
 
-abbrev pub list_lines : Lists → ℕ → Listed → Rank → List Told → List ℕ
-list_lines lists total listed rank ts = row_lines lists.screen total listed rank (highest_told lists.most rank ts)
+abbrev pub list_lines : Ranked → Rank → List Told → List ℕ
+list_lines r rank ts = heading r.lists.screen r.listed ++ flat_map (list_line r rank) (highest_told r.lists.most rank ts)
+
+-- by time, and in a pipe also by weight
+abbrev pub both_lists : Ranked → List Told → List ℕ
+both_lists r ts = list_lines r Time ts ++ (if r.lists.screen then [] else list_lines r Weight ts)

@@ -10,9 +10,8 @@ use Rattle.nl_tool_texts.specs.Fraction.{ratio}
 use Rattle.nl_reports.specs.Jobs.{between, build_jobs}
 use Rattle.nl_reports.specs.Kinds.{kinds}
 use Rattle.nl_reports.specs.Numbers.{numbers_of, spans_of}
-use Rattle.nl_reports.specs.Rows.{Told, list_lines, rank_told, told_jobs}
+use Rattle.nl_reports.specs.Rows.{Told, both_lists, rank_told, told_jobs}
 use Rattle.nl_tool_texts.specs.Falling.{falling}
-use Rattle.nl_reports.specs.declared.rows.Listed.{Listed}
 use Rattle.nl_tool_texts.specs.Texts.{joined, line, time_text}
 use Rattle.nl_reports.specs.Sweep.{alone_time, busy_time, most_at_once}
 use Rattle.nl_reports.specs.declared.choice.Choice.{Choice}
@@ -20,7 +19,7 @@ use Rattle.nl_reports.specs.declared.choice.Scope.{Scope}
 use Rattle.nl_reports.specs.declared.choice.Scope.TheVariants.{Last, Numbered, All}
 use Rattle.nl_reports.specs.declared.rows.Lists.{Lists}
 use Rattle.nl_reports.specs.declared.rows.Listed.TheVariants.{Commands, Kinds}
-use Rattle.nl_reports.specs.declared.rows.Rank.TheVariants.{Time, Weight}
+use Rattle.nl_reports.specs.declared.rows.Rank.TheVariants.{Time}
 use Rattle.nl_reports.specs.declared.job.Numbers.{Numbers}
 use Rattle.nl_reports.specs.declared.moments.Span.{Span}
 use Rattle.nl_reports.specs.declared.summary.Totals.{Totals}
@@ -73,9 +72,9 @@ title true Last number count = build_title number count
 title true (Numbered asked) number count = build_title number count
 
 abbrev pub told_lines : ℕ → ℕ → ℕ → ℕ → ℕ → ℕ → List ℕ → List ℕ
-told_lines commands outputs wall total busy alone parallel = codes "commands\t" ++ decimal commands ++ codes "\noutputs\t" ++ decimal outputs
-    ++ codes "\nwall\t" ++ decimal wall ++ codes "\ntotal\t" ++ decimal total ++ codes "\nbusy\t" ++ decimal busy
-    ++ codes "\nalone\t" ++ decimal alone ++ codes "\nparallel\t" ++ parallel ++ codes "\n"
+told_lines commands outputs wall total busy alone parallel = joined (codes "commands\t" ∷ decimal commands ∷ codes "\noutputs\t" ∷ decimal outputs
+    ∷ codes "\nwall\t" ∷ decimal wall ∷ codes "\ntotal\t" ∷ decimal total ∷ codes "\nbusy\t" ∷ decimal busy
+    ∷ codes "\nalone\t" ∷ decimal alone ∷ codes "\nparallel\t" ∷ parallel ∷ codes "\n" ∷ [])
 
 -- commands and outputs, the milliseconds from the first START to the last END, the sum of the commands' times, the milliseconds in which one
 -- command at least ran, and one alone, and how many ran at a time in the mean
@@ -146,15 +145,12 @@ again_line screen taken = count_line screen (codes "again") (codes "outputs lost
 abbrev pub unfinished_line : Bool → ℕ → List ℕ
 unfinished_line screen count = if count == 0 then [] else count_line screen (codes "unfinished") (codes "outputs have yet to be made") (Some count)
 
--- by time, and in a pipe also by weight
-abbrev pub both_lists : Lists → ℕ → Listed → List Told → List ℕ
-both_lists lists total listed ts = list_lines lists total listed Time ts ++ (if lists.screen then [] else list_lines lists total listed Weight ts)
-
-abbrev pub all_lists : Lists → List Told → List Told → List ℕ
-all_lists lists ts ks = both_lists lists (total_of ts) Commands ts ++ both_lists lists (total_of ts) Kinds ks
+abbrev pub all_lists : Lists → ℕ → List Told → List Told → List ℕ
+all_lists lists total ts ks = both_lists (record { lists = lists; listed = Commands; total = total }) ts
+    ++ both_lists (record { lists = lists; listed = Kinds; total = total }) ks
 
 abbrev pub lists_text : Lists → List Told → List ℕ
-lists_text lists ts = if lists.most == 0 then [] else all_lists lists ts (kinds lists.rule ts)
+lists_text lists ts = if lists.most == 0 then [] else all_lists lists (total_of ts) ts (kinds lists.rule ts)
 
 -- ---- the text
 

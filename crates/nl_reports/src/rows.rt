@@ -1,11 +1,13 @@
 //! Commands and kinds of commands, the largest first.
 ghost use Rattle.std.specs.Prelude.{◌≡◌, ◌<◌, ◌^◌, ◌++◌, map, OnOk};
-ghost use Rattle.nl_reports.specs.Rows.{Told, heading, list_key, list_line, rank_told, row_lines, shown_name, told_command, told_row};
+ghost use Rattle.nl_reports.specs.Rows.{Told, both_lists, heading, list_key, list_line, list_lines, rank_told, shown_name, told_command, told_row};
 
 use crate::kinds::KindRule;
 use crate::shares::PARTS;
 use nl_table::Secret;
-use nl_tool_texts::{AllocResult, Part, Ranking, append, append_line, percent, put, ratio};
+use nl_tool_texts::{
+    AllocResult, Part, Ranking, append, append_line, highest, percent, put, ratio,
+};
 
 /// How many commands there are, the sum of their milliseconds, and that of their weighted times, in parts of a millisecond.
 #[derive(Clone, Copy, Default, Drop)]
@@ -87,23 +89,59 @@ impl<T: Listing> Ranking<T> for Rank {
     }
 }
 
-/// Appends a line for each, under a heading at a terminal. All commands take so long together.
-pub(crate) fn append_list<T: Listing>(
-    screen: bool,
-    total: u128,
-    listed: Listed,
-    rank: Rank,
-    items: &[T],
-    lines: &mut Vec<u8>,
-) -> AllocResult
-    requires room { total < 2 ^ 120 }
-    ensures items { OnOk result (lines.new.items ≡ lines.old.items ++ row_lines screen total listed rank (map T.told items.now)) }
-{
-    append(heading(screen, listed), lines)?;
-    for item in items {
-        append_row(screen, total, listed, rank, &item.row(), lines)?;
+/// Lists of the commands or kinds that rank highest. All commands take so long together.
+#[derive(Clone, Copy, Drop)]
+pub(crate) struct Ranked {
+    pub(crate) lists: Lists,
+    pub(crate) listed: Listed,
+    pub(crate) total: u128,
+}
+
+impl Ranked {
+    /// Appends those by time, and in a pipe also those by weight.
+    pub(crate) fn append<T: Listing>(&self, all: &[T], lines: &mut Vec<u8>) -> AllocResult
+        requires room { self.now.total < 2 ^ 120 }
+        ensures items { OnOk result (lines.new.items ≡ lines.old.items ++ both_lists self.now (map T.told all.now)) }
+    {
+        self.append_list(Rank::Time, all, lines)?;
+        if self.lists.screen {
+            return Ok(());
+        }
+        self.append_list(Rank::Weight, all, lines)
     }
-    Ok(())
+
+    // Appends a line for each, under a heading at a terminal.
+    fn append_list<T: Listing>(&self, rank: Rank, all: &[T], lines: &mut Vec<u8>) -> AllocResult
+        requires room { self.now.total < 2 ^ 120 }
+        ensures items { OnOk result (lines.new.items ≡ lines.old.items ++ list_lines self.now rank (map T.told all.now)) }
+    {
+        append(heading(self.lists.screen, self.listed), lines)?;
+        let items = highest(*lines.allocator(), &rank, self.lists.most, all)?;
+        for item in &items {
+            self.append_row(rank, &item.row(), lines)?;
+        }
+        Ok(())
+    }
+
+    fn append_row(&self, rank: Rank, row: &Row, lines: &mut Vec<u8>) -> AllocResult
+        requires room { self.now.total < 2 ^ 120 }
+        ensures items { OnOk result (lines.new.items ≡ lines.old.items ++ list_line self.now rank (told_row row.now)) }
+    {
+        let name = Part::Text(shown_name(self.listed, row.name));
+        if self.lists.screen {
+            let time = Part::Took(true, row.sums.time);
+            let share = Part::Percent(percent(row.sums.time, self.total));
+            let commands = Part::Number(row.sums.commands);
+            return match self.listed {
+                Listed::Commands => append_line(&[time, share, name], lines),
+                Listed::Kinds => append_line(&[time, share, commands, name], lines),
+            };
+        }
+        append_key(self.listed, rank, row.sums.commands, lines)?;
+        let weighted = ratio(*lines.allocator(), row.sums.weight, u128::from(PARTS))?;
+        put!(lines; {row.sums.time} b"\t" [Part::Text(weighted.as_bytes())] b"\t")?;
+        append_line(&[name], lines)
+    }
 }
 
 fn heading(screen: bool, listed: Listed) -> &'static [u8]
@@ -114,35 +152,6 @@ fn heading(screen: bool, listed: Listed) -> &'static [u8]
         (true, Listed::Commands) => b"\nSlowest commands\nTime\tShare\tOutput\n",
         (true, Listed::Kinds) => b"\nKinds of commands\nTime\tShare\tCommands\tKind\n",
     }
-}
-
-fn append_row(
-    screen: bool,
-    total: u128,
-    listed: Listed,
-    rank: Rank,
-    row: &Row,
-    lines: &mut Vec<u8>,
-) -> AllocResult
-    requires room { total < 2 ^ 120 }
-    ensures items { OnOk result (lines.new.items ≡ lines.old.items ++ list_line screen total listed rank (told_row row.now)) }
-{
-    if screen {
-        let time = Part::Took(true, row.sums.time);
-        let share = Part::Percent(percent(row.sums.time, total));
-        let name = Part::Text(shown_name(listed, row.name));
-        return match listed {
-            Listed::Commands => append_line(&[time, share, name], lines),
-            Listed::Kinds => {
-                append_line(&[time, share, Part::Number(row.sums.commands), name], lines)
-            }
-        };
-    }
-    append_key(listed, rank, row.sums.commands, lines)?;
-    let weighted = ratio(*lines.allocator(), row.sums.weight, u128::from(PARTS))?;
-    put!(lines; {row.sums.time} b"\t" [Part::Text(weighted.as_bytes())] b"\t")?;
-    append(shown_name(listed, row.name), lines)?;
-    append(b"\n", lines)
 }
 
 fn append_key(listed: Listed, rank: Rank, commands: u128, lines: &mut Vec<u8>) -> AllocResult

@@ -1,13 +1,13 @@
 //! The text of `summary`.
-ghost use Rattle.std.specs.Prelude.{◌≡◌, ◌+◌, ◌++◌, ◌<◌, ◌^◌, ℕ, List, None, Some, map, max, option_map, slice_get, IfOk, OnOk};
-ghost use Rattle.nl_reports.specs.{Jobs.{build_jobs, told}, Numbers.{spans_of}, Rows.{highest_told, rank_told, told_command, told_jobs, weights_of}, Summary.{AreTotalsOf, again_in, both_lists, chosen_text, count_line, few_text, first_of, lists_text, most_taken, no_totals, number_lines, rows_from, slowest_line, slowest_time, summary_text, taken_in, title, total_of, totals_from, unfinished_line, with_build}, declared.rows.Rank.TheVariants.{Time}};
+ghost use Rattle.std.specs.Prelude.{◌≡◌, ◌+◌, ◌++◌, ◌<◌, ◌^◌, ℕ, map, IfOk, OnOk};
+ghost use Rattle.nl_reports.specs.{Jobs.{build_jobs, told}, Numbers.{spans_of}, Rows.{rank_told, told_command, told_jobs, weights_of}, Summary.{AreTotalsOf, again_in, count_line, first_of, lists_text, most_taken, no_totals, number_lines, rows_from, slowest_line, summary_text, taken_in, title, total_of, totals_from, unfinished_line, with_build}, declared.rows.Rank.TheVariants.{Time}};
 ghost use Rattle.nl_tool_texts.specs.Falling.{falling};
 
-use crate::choice::{Choice, Scope, chosen};
+use crate::choice::{Scope, chosen};
 use crate::job::{between, commands_between, entries_to, job_of, numbers_of, spans_in};
 use crate::kinds::kinds_of;
 use crate::moments::{Moments, Near, Span};
-use crate::rows::{Listed, Listing, Lists, Rank, Weighed, append_list};
+use crate::rows::{Listed, Lists, Rank, Ranked, Weighed};
 use crate::shares::Shares;
 use nl_builds::{Build, Builds, How};
 use nl_tool_texts::{AllocResult, Part, append_line, highest, put, ratio};
@@ -25,6 +25,67 @@ pub struct Totals {
     pub most: u64,
 }
 
+impl Totals {
+    // The weights of the commands of a build, whose numbers are added.
+    fn add(&mut self, alloc: Global, from: &Builds, number: usize) -> AllocResult<Vec<u64>>
+        requires few { (n : ℕ) × ((n < 2 ^ 63) × AreTotalsOf n self.old) }
+        ensures totals { OnOk result (self.new ≡ with_build self.old (told from.now) number) }
+        ensures few { (n : ℕ) → AreTotalsOf n self.old → OnOk result (AreTotalsOf (n + 1) self.new) }
+        ensures weights { IfOk result (λ found. found.items ≡ weights_of (spans_of (build_jobs (told from.now) number))) }
+    {
+        let commands = commands_between(from, number, number);
+        // They are taken before what is given back here, so that all of that goes back to the system.
+        let mut weights = Vec::with_capacity(alloc, commands.len())?;
+        let moments = Moments::of(alloc, spans_in(alloc, commands)?.as_slice())?;
+        let shares = Shares::of(alloc, moments)?;
+        let numbers = numbers_of(from, number);
+        self.outputs += numbers.outputs as u128;
+        self.wall += u128::from(numbers.wall);
+        self.busy += u128::from(shares.sums.busy);
+        self.alone += u128::from(shares.sums.alone);
+        self.most = self.most.max(shares.most());
+        let mut near = Near::default();
+        for command in commands {
+            weights.push(shares.weight(&mut near, &Span::of(command)))?;
+        }
+        Ok(weights)
+    }
+
+    // The slowest command comes last. At a terminal it heads the list.
+    fn append(&self, screen: bool, commands: &[Weighed], lines: &mut Vec<u8>) -> AllocResult
+        requires room { self.now.wall < 2 ^ 120 }
+        ensures items { OnOk result (lines.new.items ≡ lines.old.items ++ (number_lines screen self.now (map told_command commands.now)
+            ++ slowest_line screen (first_of (falling (rank_told Time) (map told_command commands.now))))) }
+    {
+        let alloc = *lines.allocator();
+        let count = commands.len();
+        let total = total_of(commands);
+        let parallel = ratio(alloc, total, self.wall)?;
+        let parallel = Part::Text(parallel.as_bytes());
+        let slowest = highest(alloc, &Rank::Time, 1, commands)?;
+        let slowest = slowest.as_slice().first();
+        if screen {
+            let most = u128::from(self.most);
+            // They take no less, if no more run at a time: the slowest takes as long as it takes.
+            let best = (total / most.max(1)).max(slowest.map_or(0, |it| u128::from(it.time)));
+            let none = self.wall.saturating_sub(self.busy);
+            return put!(lines; [Part::Took(true, self.wall)] b"\telapsed\n" [Part::Took(true, total)]
+                b"\tof work\n" {count} b"\tcommands\n" {self.outputs} b"\toutputs\n" [parallel]
+                b"\tat a time on average\n" {most} b"\tat a time at most\n"
+                [Part::Took(true, best)] b"\tat best with " {most} b" at a time\n"
+                [Part::Took(true, self.alone)] b"\twith one command alone\n"
+                [Part::Took(true, none)] b"\twith none\n");
+        }
+        put!(lines; b"commands\t" {count} b"\noutputs\t" {self.outputs} b"\nwall\t" {self.wall}
+            b"\ntotal\t" {total} b"\nbusy\t" {self.busy} b"\nalone\t" {self.alone}
+            b"\nparallel\t" [parallel] b"\n")?;
+        match slowest {
+            Some(it) => put!(lines; b"slowest\t" {it.time} b"\t" [Part::Text(it.name)] b"\n"),
+            None => Ok(()),
+        }
+    }
+}
+
 /// What `summary` tells of the builds that are asked for, where so many outputs wait for a command that didn't end: eight lines, how
 /// many outputs later builds may have taken if they were found again, how many outputs wait, and the lists. If there are fewer builds
 /// than the number that is asked for, it tells how many there are. At a terminal each number stands before what it is of.
@@ -38,48 +99,28 @@ pub fn summary_lines(
     ensures value { IfOk result (λ lines. lines.items ≡ summary_text scope lists unfinished (told from.now)) }
 {
     let mut lines = Vec::new(alloc);
-    match chosen(scope, from) {
-        Some(choice) => append_chosen(scope, choice, lists, unfinished, from, &mut lines)?,
-        None => append_few(lists.screen, from.builds.len(), unfinished, &mut lines)?,
-    }
-    Ok(lines)
-}
-
-fn append_few(screen: bool, builds: usize, unfinished: usize, lines: &mut Vec<u8>) -> AllocResult
-    ensures items { OnOk result (lines.new.items ≡ lines.old.items ++ few_text screen builds unfinished) }
-{
-    append_count(screen, b"builds", b"builds in LOG", Some(builds), lines)?;
-    append_unfinished(screen, unfinished, lines)
-}
-
-fn append_chosen(
-    scope: Scope,
-    choice: Choice,
-    lists: Lists,
-    unfinished: usize,
-    from: &Builds,
-    lines: &mut Vec<u8>,
-) -> AllocResult
-    requires small { choice.first < 2 ^ 63 }
-    ensures items { OnOk result (lines.new.items ≡ lines.old.items ++ chosen_text scope (Some choice) lists unfinished (told from.now)) }
-{
+    let screen = lists.screen;
+    let Some(choice) = chosen(scope, from) else {
+        let (words, count) = (b"builds in LOG", from.builds.len());
+        append_count(screen, b"builds", words, Some(count), &mut lines)?;
+        append_unfinished(screen, unfinished, &mut lines)?;
+        return Ok(lines);
+    };
     let before = choice.first.saturating_sub(1);
     let told = between(before, choice.last, from.builds.as_slice());
     if told.is_empty() {
-        return append_unfinished(lists.screen, unfinished, lines);
+        append_unfinished(screen, unfinished, &mut lines)?;
+        return Ok(lines);
     }
-    let alloc = *lines.allocator();
     let (totals, commands) = all_of(alloc, from, choice.first, told)?;
     let commands = commands.as_slice();
-    let by_time = highest(alloc, &Rank::Time, lists.most.max(1), commands)?;
-    let by_time = by_time.as_slice();
-    append_title(lists.screen, scope, choice.first, from.builds.len(), lines)?;
-    append_totals(lists.screen, &totals, by_time, commands, lines)?;
-    append_slowest(lists.screen, by_time, lines)?;
+    append_title(screen, scope, choice.first, from.builds.len(), &mut lines)?;
+    totals.append(screen, commands, &mut lines)?;
     let words = b"outputs lost to later builds";
-    append_count(lists.screen, b"again", words, again_in(scope, told), lines)?;
-    append_unfinished(lists.screen, unfinished, lines)?;
-    append_lists(lists, by_time, commands, lines)
+    append_count(screen, b"again", words, again_in(scope, told), &mut lines)?;
+    append_unfinished(screen, unfinished, &mut lines)?;
+    append_lists(lists, commands, &mut lines)?;
+    Ok(lines)
 }
 
 fn append_title(
@@ -116,41 +157,11 @@ fn all_of<'a>(
     let mut commands = Vec::new(alloc);
     let mut number = first;
     for _build in builds {
-        let weights = add_numbers(alloc, from, number, &mut totals)?;
+        let weights = totals.add(alloc, from, number)?;
         push_commands(from, number, weights.as_slice(), &mut commands)?;
         number += 1;
     }
     Ok((totals, commands))
-}
-
-// The weights of the commands of a build, whose numbers are added.
-fn add_numbers(
-    alloc: Global,
-    from: &Builds,
-    number: usize,
-    totals: &mut Totals,
-) -> AllocResult<Vec<u64>>
-    requires few { (n : ℕ) × ((n < 2 ^ 63) × AreTotalsOf n totals.old) }
-    ensures totals { OnOk result (totals.new ≡ with_build totals.old (told from.now) number) }
-    ensures few { (n : ℕ) → AreTotalsOf n totals.old → OnOk result (AreTotalsOf (n + 1) totals.new) }
-    ensures weights { IfOk result (λ found. found.items ≡ weights_of (spans_of (build_jobs (told from.now) number))) }
-{
-    let commands = commands_between(from, number, number);
-    // They are taken before what is given back here, so that all of that goes back to the system.
-    let mut weights = Vec::with_capacity(alloc, commands.len())?;
-    let moments = Moments::of(alloc, spans_in(alloc, commands)?.as_slice())?;
-    let shares = Shares::of(alloc, moments)?;
-    let numbers = numbers_of(from, number);
-    totals.outputs += numbers.outputs as u128;
-    totals.wall += u128::from(numbers.wall);
-    totals.busy += u128::from(shares.sums.busy);
-    totals.alone += u128::from(shares.sums.alone);
-    totals.most = totals.most.max(shares.most());
-    let mut near = Near::default();
-    for command in commands {
-        weights.push(shares.weight(&mut near, &Span::of(command)))?;
-    }
-    Ok(weights)
 }
 
 fn push_commands<'a>(
@@ -177,43 +188,6 @@ fn push_commands<'a>(
     Ok(())
 }
 
-// `by_time` begins with the slowest.
-fn append_totals(
-    screen: bool,
-    totals: &Totals,
-    by_time: &[Weighed],
-    commands: &[Weighed],
-    lines: &mut Vec<u8>,
-) -> AllocResult
-    requires first { option_map told_command (slice_get by_time.now 0) ≡ first_of (falling (rank_told Time) (map told_command commands.now)) }
-    requires room { totals.now.wall < 2 ^ 120 }
-    ensures items { OnOk result (lines.new.items ≡ lines.old.items ++ number_lines screen totals.now (map told_command commands.now)) }
-{
-    let alloc = *lines.allocator();
-    let count = commands.len();
-    let total = total_of(commands);
-    let parallel = ratio(alloc, total, totals.wall)?;
-    if screen {
-        let most = u128::from(totals.most);
-        // They take no less, if no more run at a time: the slowest takes as long as it takes.
-        let best = (total / most.max(1)).max(slowest_time(by_time));
-        let none = totals.wall.saturating_sub(totals.busy);
-        return put!(lines; [Part::Took(true, totals.wall)] b"\telapsed\n" [Part::Took(true, total)]
-            b"\tof work\n" {count} b"\tcommands\n" {totals.outputs} b"\toutputs\n"
-            [Part::Text(parallel.as_bytes())] b"\tat a time on average\n" {most}
-            b"\tat a time at most\n" [Part::Took(true, best)] b"\tat best with " {most}
-            b" at a time\n" [Part::Took(true, totals.alone)] b"\twith one command alone\n"
-            [Part::Took(true, none)] b"\twith none\n");
-    }
-    let (outputs, wall) = (totals.outputs, totals.wall);
-    let (busy, alone) = (totals.busy, totals.alone);
-    let text = format!(in alloc;
-        "commands\t{count}\noutputs\t{outputs}\nwall\t{wall}\ntotal\t{total}\nbusy\t{busy}\nalone\t{alone}\nparallel\t{parallel}\n"
-    )?;
-    lines.extend_from_slice(text.as_bytes())?;
-    Ok(())
-}
-
 fn total_of(commands: &[Weighed]) -> u128
     ensures value { result ≡ total_of (map told_command commands.now) }
     ensures room { result < 2 ^ 120 }
@@ -223,23 +197,6 @@ fn total_of(commands: &[Weighed]) -> u128
         total += u128::from(command.time);
     }
     total
-}
-
-fn slowest_time(by_time: &[Weighed]) -> u128
-    ensures { result ≡ slowest_time (option_map told_command (slice_get by_time.now 0)) }
-{
-    by_time.first().map_or(0, |it| u128::from(it.time))
-}
-
-// At a terminal it heads the list.
-fn append_slowest(screen: bool, by_time: &[Weighed], lines: &mut Vec<u8>) -> AllocResult
-    ensures items { OnOk result (lines.new.items ≡ lines.old.items ++ slowest_line screen (option_map told_command (slice_get by_time.now 0))) }
-{
-    let (false, Some(first)) = (screen, by_time.first()) else {
-        return Ok(());
-    };
-    let (time, name) = (Part::Number(u128::from(first.time)), Part::Text(first.name));
-    append_line(&[Part::Text(b"slowest"), time, name], lines)
 }
 
 // None for all builds, because what later ones took is told of there.
@@ -304,45 +261,19 @@ fn append_count(
     append_line(&[Part::Text(key), Part::Number(count as u128)], lines)
 }
 
-// `by_time` has those that took the longest.
-fn append_lists(
-    lists: Lists,
-    by_time: &[Weighed],
-    commands: &[Weighed],
-    lines: &mut Vec<u8>,
-) -> AllocResult
-    requires by_time { map told_command by_time.now ≡ highest_told (max lists.most 1) Time (map told_command commands.now) }
+fn append_lists(lists: Lists, commands: &[Weighed], lines: &mut Vec<u8>) -> AllocResult
     ensures items { OnOk result (lines.new.items ≡ lines.old.items ++ lists_text lists (map told_command commands.now)) }
 {
     if lists.most == 0 {
         return Ok(());
     }
-    let alloc = *lines.allocator();
-    let total = total_of(commands);
-    append_both(lists, total, Listed::Commands, by_time, commands, lines)?;
-    let kinds = kinds_of(alloc, lists.secret, lists.rule, commands)?;
-    let kinds = kinds.as_slice();
-    let by_time = highest(alloc, &Rank::Time, lists.most, kinds)?;
-    append_both(lists, total, Listed::Kinds, &by_time, kinds, lines)
-}
-
-fn append_both<T: Listing>(
-    lists: Lists,
-    total: u128,
-    listed: Listed,
-    by_time: &[T],
-    all: &[T],
-    lines: &mut Vec<u8>,
-) -> AllocResult
-    requires by_time { map T.told by_time.now ≡ highest_told lists.most Time (map T.told all.now) }
-    requires room { total < 2 ^ 120 }
-    ensures items { OnOk result (lines.new.items ≡ lines.old.items ++ both_lists lists total listed (map T.told all.now)) }
-{
-    let screen = lists.screen;
-    append_list(screen, total, listed, Rank::Time, by_time, lines)?;
-    if screen {
-        return Ok(());
-    }
-    let by_weight = highest(*lines.allocator(), &Rank::Weight, lists.most, all)?;
-    append_list(screen, total, listed, Rank::Weight, &by_weight, lines)
+    let ranked = Ranked {
+        lists,
+        listed: Listed::Commands,
+        total: total_of(commands),
+    };
+    ranked.append(commands, lines)?;
+    let kinds = kinds_of(*lines.allocator(), lists.secret, lists.rule, commands)?;
+    let listed = Listed::Kinds;
+    Ranked { listed, ..ranked }.append(kinds.as_slice(), lines)
 }

@@ -2,7 +2,7 @@ use Rattle.std.proofs.Common.{◌≡◌, ◌++◌, drop, map}
 use Rattle.nl_reports.specs.Rows.{weights_of}
 use Rattle.nl_reports.specs.Spans.{span_of}
 use Rattle.nl_reports.specs.Sweep.{weight}
-use Rattle.nl_reports.proofs.summary.add_numbers.Given as goal
+use Rattle.nl_reports.proofs.summary.Totals.add.Given as goal
 
 -- the weights so far, and those of what is left
 abbrev pub invariant-loop-command : goal.invariant-loop-command

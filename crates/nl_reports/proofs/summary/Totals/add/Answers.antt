@@ -12,7 +12,7 @@ use Rattle.nl_reports.specs.Sweep.{weight}
 use Rattle.nl_reports.specs.declared.moments.Span.{Span}
 use Rattle.nl_reports.proofs.JobLemmas.{spans_from}
 use Rattle.nl_reports.proofs.SharesLemmas.{contains_map}
-use Rattle.nl_reports.proofs.summary.add_numbers.Goals as goal
+use Rattle.nl_reports.proofs.summary.Totals.add.Goals as goal
 
 pub loop-command-preserved : goal.loop-command-preserved
 loop-command-preserved c =
@@ -37,7 +37,7 @@ pub returns-clause-totals : goal.returns-clause-totals
 returns-clause-totals c =
     let t = told c.args.from.now in
     let n = c.args.number in
-    let old = c.args.totals.now in
+    let old = c.args.self.now in
     let numbers = c.numbers_of-numbers.result in
     let are = subst (λ (cs : List Span). AreMoments cs c.in_ok-moments.moments) (c.as_slice.ensures.value ∙ c.in_ok-spans_in.ensures.value) c.in_ok-moments.ensures.value in
     let shares = c.in_ok-shares.ensures.sums _ are in
@@ -48,7 +48,7 @@ returns-clause-totals c =
       wall = old.wall + c.from.ensures i;
       busy = old.busy + (c.from-2.ensures ∙ shares.0) i;
       alone = old.alone + (c.from-3.ensures ∙ shares.1) i;
-      most = (c.max-totals.ensures ∙ ap (max old.most) (c.most.ensures.value _ (c.in_ok-shares.ensures.value _ are))) i;
+      most = (c.max-self.ensures ∙ ap (max old.most) (c.most.ensures.value _ (c.in_ok-shares.ensures.value _ are))) i;
     }) ∙ (λ i. with_numbers old (c.numbers_of-numbers.ensures.value i) (is i))
 
 pub returns-clause-weights : goal.returns-clause-weights

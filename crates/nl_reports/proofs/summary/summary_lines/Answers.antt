@@ -1,0 +1,70 @@
+use Rattle.std.proofs.Common.{◌≡◌, ◌∙◌, ◌-◌, ◌++◌, List, Option, Some, ℕ, ap, codes, length, map, sym, true≢false}
+use Rattle.std.proofs.lemmas.Bool.{eq-eqb, eqb-true}
+use Rattle.nl_builds.specs.declared.build.Build.{Build}
+use Rattle.nl_reports.specs.Jobs.{between, told}
+use Rattle.nl_reports.specs.Rows.{rank_told, told_command}
+use Rattle.nl_tool_texts.specs.Falling.{falling}
+use Rattle.nl_reports.specs.Summary.{again_line, builds_told, chosen_text, count_line, first_of, lists_text, number_lines, slowest_line, text_of, title, unfinished_line}
+use Rattle.nl_reports.specs.declared.choice.Choice.{Choice}
+use Rattle.nl_reports.specs.declared.rows.Rank.TheVariants.{Time}
+use Rattle.nl_reports.proofs.SummaryLemmas.{none_told, parts_in_order, some_told}
+use Rattle.nl_reports.proofs.summary.summary_lines.Goals as goal
+
+pub returns-in_default : goal.returns-in_default
+returns-in_default c =
+    let screen = c.args.lists.screen in
+    let last = unfinished_line screen c.args.unfinished in
+    let count = c.len-count.ensures ∙ c.args.from.now.builds.ok.0 in
+    let first : List ℕ → ℕ → List ℕ = λ l n. l ++ count_line screen (codes "builds") (codes "builds in LOG") (Some n) in
+    record {
+      value = c.in_ok-append_unfinished.ensures.items
+          ∙ (λ i. (c.in_ok-append_count.ensures.items ∙ (λ k. first (c.new-lines.ensures.items k) (count k))) i ++ last)
+          ∙ ap (λ (o : Option Choice). chosen_text c.args.scope o c.args.lists c.args.unfinished (told c.args.from.now)) c.in_default.ensures.value;
+    }
+
+pub returns-then-is_empty : goal.returns-then-is_empty
+returns-then-is_empty c =
+    let t = told c.args.from.now in
+    let choice = c.in-Some.choice in
+    let bs = c.between-told.result.now in
+    let chosen : bs ≡ between (choice.first - 1) choice.last c.args.from.now.builds.items =
+    c.between-told.ensures ∙ (λ i. between (c.saturating_sub-before.ensures i) choice.last (c.as_slice.ensures.value i)) in
+    let none : length bs ≡ 0 = eqb-true (length bs) 0 (sym c.is_empty.ensures ∙ c.if-is_empty.true) in
+    record {
+      value = c.in_ok-append_unfinished-2.ensures.items ∙ ap (λ (l : List ℕ). l ++ unfinished_line c.args.lists.screen c.args.unfinished) c.new-lines.ensures.items
+          ∙ sym (none_told c.args.scope c.args.lists c.args.unfinished t choice.first bs none)
+          ∙ ap (λ (l : List Build). builds_told c.args.scope c.args.lists c.args.unfinished t choice.first l) chosen
+          ∙ ap (λ (o : Option Choice). chosen_text c.args.scope o c.args.lists c.args.unfinished t) c.in-Some.ensures.value;
+    }
+
+pub returns : goal.returns
+returns c =
+    let t = told c.args.from.now in
+    let choice = c.in-Some.choice in
+    let first = choice.first in
+    let bs = c.between-told.result.now in
+    let ts = c.in_ok-totals.totals in
+    let us = map told_command c.as_slice-commands.result.now in
+    let taken = c.again_in.result in
+    let screen = c.args.lists.screen in
+    let count = c.len.ensures ∙ c.args.from.now.builds.ok.0 in
+    let head = title screen c.args.scope first c.len.result in
+    let slow = slowest_line screen (first_of (falling (rank_told Time) us)) in
+    let last = unfinished_line screen c.args.unfinished in
+    let chosen : bs ≡ between (first - 1) choice.last c.args.from.now.builds.items =
+    c.between-told.ensures ∙ (λ i. between (c.saturating_sub-before.ensures i) choice.last (c.as_slice.ensures.value i)) in
+    let whole : c.append_lists.new.lines.items ≡ text_of head c.args.lists c.args.unfinished ts us taken =
+    c.in_ok-append_lists.ensures.items ∙ ap (λ (l : List ℕ). l ++ lists_text c.args.lists us)
+    (c.in_ok-append_unfinished-3.ensures.items ∙ ap (λ (l : List ℕ). l ++ last)
+    (c.in_ok-append_count-2.ensures.items ∙ ap (λ (l : List ℕ). l ++ again_line screen taken)
+    (c.in_ok-append.ensures.items ∙ ap (λ (l : List ℕ). l ++ (number_lines screen ts us ++ slow))
+    (c.in_ok-append_title.ensures.items ∙ ap (λ (l : List ℕ). l ++ head) c.new-lines.ensures.items))))
+    ∙ parts_in_order head (number_lines screen ts us) slow (again_line screen taken) last (lists_text c.args.lists us) in
+    record {
+      value = whole
+          ∙ (λ i. text_of (title screen c.args.scope first (count i)) c.args.lists c.args.unfinished (c.in_ok-totals.ensures.totals i)
+          ((ap (map told_command) c.as_slice-commands.ensures.value ∙ c.in_ok-totals.ensures.commands) i) (c.again_in.ensures i))
+          ∙ sym (some_told c.args.scope c.args.lists c.args.unfinished t first bs (λ none. true≢false (sym (eq-eqb _ 0 none) ∙ sym c.is_empty.ensures ∙ c.if-is_empty.false)))
+          ∙ ap (λ (l : List Build). builds_told c.args.scope c.args.lists c.args.unfinished t first l) chosen
+          ∙ ap (λ (o : Option Choice). chosen_text c.args.scope o c.args.lists c.args.unfinished t) c.in-Some.ensures.value;
+    }
