@@ -32,6 +32,17 @@ counted-insert (p ∷ ps) kind t =
       | false ↦ ap (λ (l : List Told). kind_pair p ∷ l) rest
     ]
 
+-- with the sums as they are added
+pub counted_now : (rows : List Weighed) (i : ℕ) (d : Weighed) (ps new : List (NameKey × Sums)) (kind : NameKey) (s : Sums) (time weight : ℕ)
+    → s ≡ sums_in ps kind.bytes.now → time ≡ (get_or rows i d).time → weight ≡ (get_or rows i d).weight
+    → new ≡ insert_entry same_bytes ps kind (record { commands = s.commands + 1; time = s.time + time; weight = s.weight + weight })
+    → map kind_pair new ≡ counted kind.bytes.now (map kind_pair ps) (told_command (get_or rows i d))
+counted_now rows i d ps new kind s time weight before took weighs is =
+    let t = told_command (get_or rows i d) in
+    ap (map kind_pair) is
+    ∙ (λ j. map kind_pair (insert_entry same_bytes ps kind (record { commands = (before j).commands + 1; time = (before j).time + took j; weight = (before j).weight + weighs j })))
+    ∙ counted-insert ps kind t
+
 -- no sums are too large
 no_larger : (n : ℕ) (s : Sums) → IsSumOf n s → IsSumOf (n + 1) s
 no_larger n s is = record {

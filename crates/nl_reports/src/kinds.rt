@@ -1,6 +1,6 @@
 //! The kind of an output, by its name, and commands by kind.
-ghost use Rattle.std.specs.Prelude.{◌≡◌, ◌+◌, ◌<◌, ◌^◌, ℕ, map, IfOk, OnOk, [], MatchOption, length, take};
-ghost use Rattle.nl_reports.specs.{Kinds.{AreSumsOf, counted, kind_pair, kinds, kind_of}, Rows.{told_command, told_row}, Work.{extension_of}};
+ghost use Rattle.std.specs.Prelude.{◌≡◌, ◌+◌, ◌<◌, map, IfOk, [], MatchOption, length, take};
+ghost use Rattle.nl_reports.specs.{Kinds.{kinds, kind_of}, Rows.{told_command, told_row}, Work.{extension_of}};
 
 use crate::rows::{Row, Sums, Weighed};
 use crate::work::{word, work_of};
@@ -62,9 +62,17 @@ pub fn kinds_of<'a>(
 ) -> AllocResult<Vec<Row<'a>>>
     ensures value { IfOk result (λ found. map told_row found.items ≡ kinds rule (map told_command commands.now)) }
 {
-    let mut sums = IndexMap::with_hasher(alloc, secret);
+    let mut sums: IndexMap<NameKey, Sums, Secret> = IndexMap::with_hasher(alloc, secret);
     for command in commands {
-        count_command(kind_of(rule, command.name), command, &mut sums)?;
+        let bytes = kind_of(rule, command.name);
+        let kind = NameKey { bytes };
+        let before = sums.get(&kind).copied().unwrap_or(Sums::default());
+        let now = Sums {
+            commands: before.commands + 1,
+            time: before.time + u128::from(command.time),
+            weight: before.weight + u128::from(command.weight),
+        };
+        sums.insert(kind, now)?;
     }
     let held = &sums;
     let mut rows = Vec::new(alloc);
@@ -75,24 +83,4 @@ pub fn kinds_of<'a>(
         }
     }
     Ok(rows)
-}
-
-fn count_command<'a>(
-    kind: &'a [u8],
-    command: &Weighed,
-    sums: &mut IndexMap<NameKey<'a>, Sums, Secret>,
-) -> AllocResult
-    requires few { (n : ℕ) × ((n < 2 ^ 63) × AreSumsOf n (map kind_pair sums.old.entries)) }
-    ensures value { OnOk result (map kind_pair sums.new.entries ≡ counted kind.now (map kind_pair sums.old.entries) (told_command command.now)) }
-    ensures few { (n : ℕ) → AreSumsOf n (map kind_pair sums.old.entries) → OnOk result (AreSumsOf (n + 1) (map kind_pair sums.new.entries)) }
-{
-    let key = NameKey { bytes: kind };
-    let before = sums.get(&key).copied().unwrap_or(Sums::default());
-    let now = Sums {
-        commands: before.commands + 1,
-        time: before.time + u128::from(command.time),
-        weight: before.weight + u128::from(command.weight),
-    };
-    sums.insert(key, now)?;
-    Ok(())
 }
