@@ -210,16 +210,17 @@ row_of screen class old new output =
 abbrev pub row_line : Bool → Compared → List ℕ
 row_line screen c = row_of screen c.class c.old c.new c.output
 
--- so many commands of a class at most, the largest differences first, and equal ones in order; at a terminal under a heading
-abbrev pub class_heading : Bool → Class → List ℕ
-class_heading screen class = if screen then joined (codes "\nCommands: " ∷ class_text class ∷ codes "\nChange\tOld\tNew\tOutput\n" ∷ []) else []
+-- at a terminal a heading stands before the commands of a class, if there are some
+abbrev pub class_heading : Bool → Class → List Compared → List ℕ
+class_heading screen class [] = []
+class_heading screen class (c ∷ cs) = if screen then joined (codes "\nCommands: " ∷ class_text class ∷ codes "\nChange\tOld\tNew\tOutput\n" ∷ []) else []
 
-abbrev pub lines_of : Bool → ℕ → Class → List Compared → List ℕ
-lines_of screen most class cs = if most == 0 || length cs == 0 then [] else
-    class_heading screen class ++ flat_map (row_line screen) (take most (falling cost cs))
+abbrev pub listed_lines : Bool → Class → List Compared → List ℕ
+listed_lines screen class cs = class_heading screen class cs ++ flat_map (row_line screen) cs
 
+-- so many commands of a class at most, the largest differences first, and equal ones in order
 abbrev pub class_lines : Bool → ℕ → List Compared → Class → List ℕ
-class_lines screen most cs class = lines_of screen most class (of_class class cs)
+class_lines screen most cs class = listed_lines screen class (take most (falling cost (of_class class cs)))
 
 abbrev pub head : Bool → Bool → List ℕ
 head false true = codes "hashes\tcompared\n"

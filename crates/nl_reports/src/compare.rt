@@ -1,6 +1,6 @@
 //! The text of `compare`.
-ghost use Rattle.std.specs.Prelude.{◌≡◌, ◌++◌, map, IfOk, OnOk, flat_map};
-ghost use Rattle.nl_reports.specs.Compare.{are_comparable, class_heading, class_lines, class_text, compare_text, compared_of, head, row_line, side_of, total_line};
+ghost use Rattle.std.specs.Prelude.{◌≡◌, ◌++◌, map, IfOk, OnOk};
+ghost use Rattle.nl_reports.specs.Compare.{are_comparable, class_text, compare_text, compared_of, head, listed_lines, row_line, side_of, total_line};
 
 use crate::critical::append_keyed;
 use crate::sides::{
@@ -42,7 +42,14 @@ pub fn compare_lines(
     let mut lines = Vec::new(alloc);
     append(head(screen, hashes), &mut lines)?;
     let all = CLASSES.as_slice();
-    append_classes(screen, most, all, &all[..6], rows.as_slice(), &mut lines)?;
+    for class in all {
+        append_total(screen, *class, rows.as_slice(), &mut lines)?;
+    }
+    for class in &all[..6] {
+        let kept = of_class(alloc, *class, rows.as_slice())?;
+        let listed = highest(alloc, &ByCost, most, kept.as_slice())?;
+        append_class(screen, *class, listed.as_slice(), &mut lines)?;
+    }
     Ok(lines)
 }
 
@@ -55,26 +62,6 @@ fn head(screen: bool, hashes: bool) -> &'static [u8]
         (true, true) => b"Commands\tChange\tOld\tNew\tClass\n",
         (true, false) => b"Hashes weren't compared\nCommands\tChange\tOld\tNew\tClass\n",
     }
-}
-
-fn append_classes(
-    screen: bool,
-    most: usize,
-    all: &[Class],
-    listed: &[Class],
-    rows: &[ComparedRow],
-    lines: &mut Vec<u8>,
-) -> AllocResult
-    ensures items { OnOk result (lines.new.items ≡ (lines.old.items ++ flat_map (total_line screen (map compared_of rows.now)) all.now)
-        ++ flat_map (class_lines screen most (map compared_of rows.now)) listed.now) }
-{
-    for class in all {
-        append_total(screen, *class, rows, lines)?;
-    }
-    for one in listed {
-        append_class(screen, most, *one, rows, lines)?;
-    }
-    Ok(())
 }
 
 fn append_total(screen: bool, class: Class, rows: &[ComparedRow], out: &mut Vec<u8>) -> AllocResult
@@ -94,35 +81,17 @@ fn append_total(screen: bool, class: Class, rows: &[ComparedRow], out: &mut Vec<
     append_line(&[Part::Text(b"total"), class, count, change, old, new], out)
 }
 
-fn append_class(
-    screen: bool,
-    most: usize,
-    class: Class,
-    rows: &[ComparedRow],
-    lines: &mut Vec<u8>,
-) -> AllocResult
-    ensures items { OnOk result (lines.new.items ≡ lines.old.items ++ class_lines screen most (map compared_of rows.now) class) }
+fn append_class(screen: bool, class: Class, rows: &[ComparedRow], out: &mut Vec<u8>) -> AllocResult
+    ensures items { OnOk result (out.new.items ≡ out.old.items ++ listed_lines screen class (map compared_of rows.now)) }
 {
-    let kept = of_class(*lines.allocator(), class, rows)?;
-    if most == 0 || kept.len() == 0 {
-        return Ok(());
+    if screen && !rows.is_empty() {
+        put!(out; b"\nCommands: " [Part::Text(class_text(class))]
+            b"\nChange\tOld\tNew\tOutput\n")?;
     }
-    append_heading(screen, class, lines)?;
-    let listed = highest(*lines.allocator(), &ByCost, most, kept.as_slice())?;
-    for i in 0..listed.len() {
-        append_row(screen, &listed[i], lines)?;
+    for row in rows {
+        append_row(screen, row, out)?;
     }
     Ok(())
-}
-
-fn append_heading(screen: bool, class: Class, lines: &mut Vec<u8>) -> AllocResult
-    ensures items { OnOk result (lines.new.items ≡ lines.old.items ++ class_heading screen class) }
-{
-    if !screen {
-        return Ok(());
-    }
-    put!(lines; b"\nCommands: " [Part::Text(class_text(class))]
-        b"\nChange\tOld\tNew\tOutput\n")
 }
 
 fn append_row(screen: bool, row: &ComparedRow, lines: &mut Vec<u8>) -> AllocResult

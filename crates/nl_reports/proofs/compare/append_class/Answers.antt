@@ -1,39 +1,45 @@
-use Rattle.std.proofs.Common.{◌≡◌, ◌∙◌, ◌<◌, ◌≤◌, ◌++◌, ◌==◌, ◌||◌, false, [], List, ℕ, ap, append_assoc, arith, length, map, sym, take}
-use Rattle.std.proofs.lemmas.Bool.{cond-false, ne_eqb}
-use Rattle.std.proofs.lemmas.List.{length-map}
-use Rattle.std.specs.List.{flat_map}
-use Rattle.nl_reports.specs.Compare.{class_heading, compared_of, cost, of_class, row_line}
-use Rattle.nl_tool_texts.specs.Falling.{falling}
-use Rattle.nl_tool_texts.proofs.ListedLemmas.{line_more, list_told}
+use Rattle.std.proofs.Common.{◌≡◌, ◌∙◌, ◌++◌, ◌∷◌, [], Bool, List, ℕ, ap, append-nil, arith, codes, false, length, map, refl, sym, true, true≢false}
+use Rattle.std.proofs.lemmas.Bool.{cond-false, cond-true, eq-eqb, eqb-true}
+use Rattle.nl_tool_texts.specs.Texts.{joined}
+use Rattle.nl_reports.specs.Compare.{class_heading, class_text, compared_of}
+use Rattle.nl_reports.specs.declared.sides.Class.{Class}
+use Rattle.nl_reports.specs.declared.sides.ComparedRow.{ComparedRow}
+use Rattle.nl_reports.proofs.compare.append_class.Goals.{then-screen+then-not-is_empty+in_ok-put, else-screen, else-screen-via-then-screen+else-not-is_empty, else-screen-via-else-screen}
 use Rattle.nl_reports.proofs.compare.append_class.Goals as goal
 
-none_is : (a b : ℕ) → 0 < a → 0 < b → (a == 0 || b == 0) ≡ false
-none_is a b some more = λ i. ne_eqb a 0 (λ none. omega (arith, none, some)) i || ne_eqb b 0 (λ none. omega (arith, none, more)) i
+abbrev shown : Class → List ℕ
+shown class = joined (codes "\nCommands: " ∷ class_text class ∷ codes "\nChange\tOld\tNew\tOutput\n" ∷ [])
 
-pub loop-i-preserved : goal.loop-i-preserved
-loop-i-preserved c =
-    let listed = c.in_ok-listed.listed.items in
-    let within : c.loop-i.i < length listed = omega (arith, c.loop-i-test.true, c.len-i-end.ensures) in
-    line_more compared_of (row_line c.args.screen) (c.args.lines.now.items ++ class_heading c.args.screen c.args.class) c.loop-i.lines.items c.append_row.new.lines.items listed c.loop-i.i c.index.result.now
-    c.index.result.now within c.index.ensures c.loop-i.invariant c.in_ok-append_row.ensures.items
+heading_there : (screen : Bool) (class : Class) (rows : List ComparedRow) → screen ≡ true → (length rows ≡ 0 → ⊥)
+    → class_heading screen class (map compared_of rows) ≡ shown class
+heading_there screen class [] is some = absurd (some refl)
+heading_there screen class (r ∷ rows) is some = cond-true screen (shown class) [] is
 
-pub returns : goal.returns
-returns c =
-    let old = c.args.lines.now.items in
+no_rows : (screen : Bool) (class : Class) (rows : List ComparedRow) → length rows ≡ 0 → class_heading screen class (map compared_of rows) ≡ []
+no_rows screen class [] none = refl
+no_rows screen class (r ∷ rows) none = absurd (omega (arith, none))
+
+no_screen : (screen : Bool) (class : Class) (rows : List ComparedRow) → screen ≡ false → class_heading screen class (map compared_of rows) ≡ []
+no_screen screen class [] is = refl
+no_screen screen class (r ∷ rows) is = cond-false screen (shown class) [] is
+
+pub loop-row-init : goal.loop-row-init
+loop-row-init c =
+    let old = c.args.out.now.items in
     let screen = c.args.screen in
-    let most = c.args.most in
-    let first = class_heading screen c.args.class in
-    let listed = c.in_ok-listed.listed.items in
-    let all : length listed ≤ c.loop-i.i = omega (arith, c.loop-i-test.false, c.loop-i.auto.i-end, c.len-i-end.ensures) in
-    let told = list_told compared_of (row_line screen) (old ++ first) cost c.loop-i.lines.items most c.loop-i.i c.as_slice.result.now listed
-    c.in_ok-listed.ensures.value all c.loop-i.invariant in
-    let ks = of_class c.args.class (map compared_of c.args.rows.now) in
-    let kept : map compared_of c.as_slice.result.now ≡ ks = ap (map compared_of) c.as_slice.ensures.value ∙ c.in_ok-kept.ensures.value in
-    let count : length ks ≡ length c.in_ok-kept.kept.items = sym (ap length c.in_ok-kept.ensures.value) ∙ length-map c.in_ok-kept.kept.items compared_of in
-    let some : (most == 0 || length ks == 0) ≡ false = none_is most (length ks) (omega (arith, c.if-most-eq0.false))
-    (omega (arith, c.if-len-eq0.false, c.len.ensures, count)) in
-    let rest : List ℕ = flat_map (row_line screen) (take most (falling cost ks)) in
-    record {
-      items = told ∙ append_assoc old first _ ∙ (λ i. old ++ (first ++ flat_map (row_line screen) (take most (falling cost (kept i)))))
-          ∙ ap (λ (l : List ℕ). old ++ l) (sym (cond-false (most == 0 || length ks == 0) [] (first ++ rest) some));
-    }
+    let class = c.args.class in
+    let rows = c.args.rows.now in
+    let head : c.if-screen.out.items ≡ old ++ class_heading screen class (map compared_of rows) =
+    elim c.if-screen.branch [
+      | then-screen+then-not-is_empty+in_ok-put w ↦
+          ap (λ v. v.items) w.out-is ∙ w.in_ok-put.ensures.items
+          ∙ (λ i. old ++ (codes "\nCommands: " ++ (w.class_text.ensures i ++ (codes "\nChange\tOld\tNew\tOutput\n" ++ []))))
+          ∙ ap (λ (l : List ℕ). old ++ l) (sym (heading_there screen class rows w.if-screen.true (λ none. true≢false (sym (eq-eqb _ 0 none) ∙ sym w.is_empty.ensures ∙ w.if-not-is_empty.true))))
+      | else-screen w ↦
+          ap (λ v. v.items) w.out-is ∙ sym (append-nil old)
+          ∙ ap (λ (l : List ℕ). old ++ l) (sym (elim w.else-screen.branch as (λ _. class_heading screen class (map compared_of rows) ≡ []) [
+            | else-screen-via-then-screen+else-not-is_empty v ↦ no_rows screen class rows (eqb-true _ 0 (sym v.is_empty.ensures ∙ v.if-not-is_empty.false))
+            | else-screen-via-else-screen v ↦ no_screen screen class rows v.if-screen.false
+          ]))
+    ] in
+    head ∙ sym (append-nil (old ++ class_heading screen class (map compared_of rows)))
