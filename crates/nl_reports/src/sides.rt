@@ -1,6 +1,6 @@
 //! The commands of two logs, side by side.
-ghost use Rattle.std.specs.Prelude.{◌≡◌, ◌++◌, [], ℕ, List, map, option_map, IfOk, OnOk};
-ghost use Rattle.nl_reports.specs.{Compare.{compared, compared_of, cost_of, fresh, held_side, job_at, new_time, of_class, old_time, or_unfinished, pair_of, pairs_from, partner, side_of, time_in, told_pair, waits, with_taken}, Jobs.{seen}, Lasting.{marked}, Outputs.{HoldPlaces, places_of}};
+ghost use Rattle.std.specs.Prelude.{◌≡◌, ℕ, List, map, option_map, IfOk};
+ghost use Rattle.nl_reports.specs.{Compare.{compared, compared_of, cost_of, held_side, job_at, new_time, of_class, old_time, or_unfinished, pair_of, partner, side_of, time_in, told_pair, waits, with_taken}, Jobs.{seen}, Outputs.{HoldPlaces}};
 
 use crate::job::{Job, jobs_from};
 use crate::last_entries::{Outputs, any_named, item_at, names_of, outputs_of, set_at};
@@ -94,83 +94,56 @@ pub fn compared<'a>(
 {
     let before = Held::of(alloc, secret, old)?;
     let after = Held::of(alloc, secret, new)?;
-    let outputs = outputs_of(alloc, secret, after.jobs.as_slice())?;
-    let mut left = vec![in alloc; true; after.jobs.len()]?;
-    let mut rows = Vec::new(alloc);
-    push_pairs(rules, &before, &after, &outputs, &mut left, &mut rows)?;
-    push_fresh(&before, &after, left.as_slice(), &mut rows)?;
-    Ok(rows)
+    rows_of(alloc, secret, rules, &before, &after)
 }
 
-// The commands of the old log, each with the one that it meets, which is then left no more.
-fn push_pairs<'a>(
+fn rows_of<'a>(
+    alloc: Global,
+    secret: Secret,
     rules: Rules,
     old: &Held<'_, 'a>,
     new: &Held<'_, 'a>,
-    outputs: &Outputs<'a>,
-    left: &mut Vec<bool>,
-    rows: &mut Vec<ComparedRow<'a>>,
-) -> AllocResult
-    requires held { HoldPlaces (places_of (map seen new.now.jobs.items)) outputs.now.entries }
-    ensures rows { OnOk result (map compared_of rows.new.items
-        ++ map (told_pair rules (held_side old.now) (held_side new.now)) (pairs_from (map seen new.now.jobs.items) left.new.items [])
-        ≡ map compared_of rows.old.items ++ map (told_pair rules (held_side old.now) (held_side new.now))
-        (pairs_from (map seen new.now.jobs.items) left.old.items (map seen old.now.jobs.items))) }
+) -> AllocResult<Vec<ComparedRow<'a>>>
+    ensures value { IfOk result (λ rows. map compared_of rows.items ≡ compared rules (held_side old.now) (held_side new.now)) }
 {
+    let outputs = outputs_of(alloc, secret, new.jobs.as_slice())?;
+    let mut left = vec![in alloc; true; new.jobs.len()]?;
+    let mut rows = Vec::new(alloc);
     for job in &old.jobs {
-        let place = partner(outputs, left.as_slice(), job);
-        let other = take_out(place, new.jobs.as_slice(), left.as_mut_slice());
+        let other = take_partner(&outputs, new.jobs.as_slice(), left.as_mut_slice(), job);
         rows.push(met(rules, old, new, job, other))?;
     }
-    Ok(())
-}
-
-// The commands that only the new log has.
-fn push_fresh<'a>(
-    old: &Held<'_, 'a>,
-    new: &Held<'_, 'a>,
-    left: &[bool],
-    rows: &mut Vec<ComparedRow<'a>>,
-) -> AllocResult
-    ensures rows { OnOk result (map compared_of rows.new.items ≡ map compared_of rows.old.items
-        ++ map (fresh (held_side old.now) (held_side new.now)) (marked left.now (map seen new.now.jobs.items))) }
-{
     let mut place = 0;
     for other in &new.jobs {
-        if item_at(left, place, false) {
+        if item_at(left.as_slice(), place, false) {
             let (waits, time) = (old.waits(other), new.time(other));
             rows.push(row(Class::New, waits, 0, time, other.name()))?;
         }
         place += 1;
     }
-    Ok(())
+    Ok(rows)
 }
 
-fn partner(outputs: &Outputs, left: &[bool], job: &Job) -> Option<usize>
-    ensures value { (ps : List (List ℕ × ℕ)) → HoldPlaces ps outputs.now.entries → result ≡ partner ps left.now job.now.outputs.now }
+// The first command that is left and has one of the outputs of another. It is then left no more.
+fn take_partner<'j, 's, 'a>(
+    outputs: &Outputs,
+    jobs: &'j [Job<'s, 'a>],
+    left: &mut [bool],
+    job: &Job,
+) -> Option<&'j Job<'s, 'a>>
+    ensures value { (ps : List (List ℕ × ℕ)) → HoldPlaces ps outputs.now.entries
+        → option_map (λ k. seen k.now) result ≡ job_at (map seen jobs.now) (partner ps left.old job.now.outputs.now) }
+    ensures left { (ps : List (List ℕ × ℕ)) → HoldPlaces ps outputs.now.entries → left.new ≡ with_taken left.old (partner ps left.old job.now.outputs.now) }
 {
     for entry in job.outputs {
         if let Some(place) = outputs.get(entry.name()) {
             if item_at(left, *place, false) {
-                return Some(*place);
+                set_at(left, *place, false);
+                return jobs.get(*place);
             }
         }
     }
     None
-}
-
-// The command at the place is then left no more.
-fn take_out<'j, 's, 'a>(
-    place: Option<usize>,
-    jobs: &'j [Job<'s, 'a>],
-    left: &mut [bool],
-) -> Option<&'j Job<'s, 'a>>
-    ensures value { option_map (λ k. seen k.now) result ≡ job_at (map seen jobs.now) place }
-    ensures left { left.new ≡ with_taken left.old place }
-{
-    let at = place?;
-    set_at(left, at, false);
-    jobs.get(at)
 }
 
 fn met<'a>(
