@@ -3,9 +3,7 @@ ghost use Rattle.std.specs.Prelude.{◌≡◌, ◌++◌, map, IfOk, OnOk};
 ghost use Rattle.nl_reports.specs.Compare.{are_comparable, class_text, compare_text, compared_of, head, listed_lines, row_line, side_of, total_line};
 
 use crate::critical::append_keyed;
-use crate::sides::{
-    ByCost, Class, ComparedRow, Rules, Side, compared, new_time, of_class, old_time,
-};
+use crate::sides::{ByCost, Class, ComparedRow, Rules, Side, compared, of_class, times};
 use nl_table::Secret;
 use nl_tool_texts::{AllocResult, Part, append, append_line, highest, put};
 use std::alloc::Global;
@@ -68,8 +66,7 @@ fn append_total(screen: bool, class: Class, rows: &[ComparedRow], out: &mut Vec<
     ensures items { OnOk result (out.new.items ≡ out.old.items ++ total_line screen (map compared_of rows.now) class) }
 {
     let kept = of_class(*out.allocator(), class, rows)?;
-    let old = old_time(kept.as_slice());
-    let new = new_time(kept.as_slice());
+    let (old, new) = times(kept.as_slice());
     let class = Part::Text(class_text(class));
     let count = Part::Number(kept.len() as u128);
     let change = Part::Change(screen, old, new);

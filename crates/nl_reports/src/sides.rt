@@ -202,18 +202,14 @@ pub(crate) fn of_class<'a>(
     Ok(kept)
 }
 
-/// In milliseconds.
-pub(crate) fn old_time(rows: &[ComparedRow]) -> u128
-    ensures { result ≡ old_time (map compared_of rows.now) }
+/// How long commands took in the old log and in the new one, in milliseconds.
+pub(crate) fn times(rows: &[ComparedRow]) -> (u128, u128)
+    ensures old { result.0 ≡ old_time (map compared_of rows.now) }
+    ensures new { result.1 ≡ new_time (map compared_of rows.now) }
 {
-    rows.iter().map(|row| u128::from(row.old)).sum()
-}
-
-/// In milliseconds.
-pub(crate) fn new_time(rows: &[ComparedRow]) -> u128
-    ensures { result ≡ new_time (map compared_of rows.now) }
-{
-    rows.iter().map(|row| u128::from(row.new)).sum()
+    let old = rows.iter().map(|row| u128::from(row.old)).sum();
+    let new = rows.iter().map(|row| u128::from(row.new)).sum();
+    (old, new)
 }
 
 #[derive(Clone, Copy, Drop)]
