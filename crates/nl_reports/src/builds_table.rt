@@ -1,6 +1,6 @@
 //! The text of `builds`, and what it tells at a terminal.
-ghost use Rattle.std.specs.Prelude.{◌≡◌, ◌<◌, ◌++◌, List, ℕ, IfOk, OnOk, length};
-ghost use Rattle.nl_reports.specs.{BuildsTable.{IsBegun, IsBuildsScreen, IsRow, date_text, heading_for}, BuildsText.{border_word, build_line, builds_text}, Jobs.{told}};
+ghost use Rattle.std.specs.Prelude.{◌≡◌, IfOk};
+ghost use Rattle.nl_reports.specs.{BuildsTable.{IsBegun, IsBuildsScreen, heading_for}, BuildsText.{border_word, builds_text}, Jobs.{told}};
 
 use crate::job::numbers_of;
 use jiff_core::Timestamp;
@@ -20,7 +20,13 @@ pub fn builds_screen(alloc: Global, zone: &TimeZone, from: &Builds) -> AllocResu
 {
     let mut lines = Vec::from_slice(alloc, heading_for(zone))?;
     for place in 0..from.builds.len() {
-        append_row(zone, from, place, &mut lines)?;
+        let build = from.builds[place];
+        let number = place + 1;
+        let numbers = numbers_of(from, number);
+        let began = began_text(alloc, zone, build.began)?;
+        put!(&mut lines; {number} b"\t" [Part::Text(began.as_slice())] b"\t")?;
+        put!(&mut lines; [Part::Time(numbers.wall)] b"\t" {numbers.commands} b"\t"
+            {numbers.outputs} b"\t" [Part::Text(border_word(&build))] b"\n")?;
     }
     Ok(lines)
 }
@@ -38,19 +44,6 @@ fn heading_for(zone: &TimeZone) -> &'static [u8]
     }
 }
 
-fn append_row(zone: &TimeZone, from: &Builds, place: usize, rows: &mut Vec<u8>) -> AllocResult
-    requires there { place < length from.now.builds.items }
-    ensures row { OnOk result ((row : List ℕ) × (IsRow zone.now (told from.now) place row × (rows.new.items ≡ rows.old.items ++ row))) }
-{
-    let build = from.builds[place];
-    let number = place + 1;
-    let numbers = numbers_of(from, number);
-    let began = began_text(*rows.allocator(), zone, build.began)?;
-    put!(rows; {number} b"\t" [Part::Text(began.as_slice())] b"\t" [Part::Time(numbers.wall)])?;
-    put!(rows; b"\t" {numbers.commands} b"\t" {numbers.outputs} b"\t"
-        [Part::Text(border_word(&build))] b"\n")
-}
-
 fn began_text(alloc: Global, zone: &TimeZone, began: Option<u64>) -> AllocResult<Vec<u8>>
     ensures value { IfOk result (λ text. IsBegun zone.now began text.items) }
 {
@@ -59,20 +52,12 @@ fn began_text(alloc: Global, zone: &TimeZone, began: Option<u64>) -> AllocResult
         append(b"unknown", &mut text)?;
         return Ok(text);
     };
-    let shown = zone.to_datetime(Timestamp {
-        nanosecond: i128::from(began) - ZERO,
-    });
-    append_date(&shown, &mut text)?;
-    Ok(text)
-}
-
-fn append_date(shown: &DateTime, out: &mut Vec<u8>) -> AllocResult
-    ensures items { OnOk result (out.new.items ≡ out.old.items ++ date_text shown.now) }
-{
-    let DateTime { date, time } = *shown;
-    put!(out; {date.year.unsigned_abs()} b"-" {date.month / 10} {date.month % 10} b"-"
+    let nanosecond = i128::from(began) - ZERO;
+    let DateTime { date, time } = zone.to_datetime(Timestamp { nanosecond });
+    put!(&mut text; {date.year.unsigned_abs()} b"-" {date.month / 10} {date.month % 10} b"-"
         {date.day / 10} {date.day % 10} b" " {time.hour / 10} {time.hour % 10} b":"
-        {time.minute / 10} {time.minute % 10} b":" {time.second / 10} {time.second % 10})
+        {time.minute / 10} {time.minute % 10} b":" {time.second / 10} {time.second % 10})?;
+    Ok(text)
 }
 
 /// A line for each build: its number, how many commands and outputs it has, the milliseconds from its first START to its last END, the
@@ -85,21 +70,15 @@ pub fn builds_lines(alloc: Global, from: &Builds) -> AllocResult<Vec<u8>>
     let mut number = 0;
     for build in &from.builds {
         number += 1;
-        append_build(from, number, build, &mut lines)?;
+        let numbers = numbers_of(from, number);
+        put!(&mut lines; {number} b"\t" {numbers.commands} b"\t" {numbers.outputs} b"\t"
+            {numbers.wall} b"\t" {numbers.total} b"\t" [Part::Text(border_word(build))])?;
+        match build.how {
+            How::FoundAgain { taken } => put!(&mut lines; b"\t" {taken} b"\n")?,
+            How::AsWritten => append(b"\n", &mut lines)?,
+        }
     }
     Ok(lines)
-}
-
-fn append_build(from: &Builds, number: usize, build: &Build, out: &mut Vec<u8>) -> AllocResult
-    ensures items { OnOk result (out.new.items ≡ out.old.items ++ build_line (told from.now) number build.now) }
-{
-    let numbers = numbers_of(from, number);
-    put!(out; {number} b"\t" {numbers.commands} b"\t" {numbers.outputs} b"\t" {numbers.wall} b"\t"
-        {numbers.total} b"\t" [Part::Text(border_word(build))])?;
-    match build.how {
-        How::FoundAgain { taken } => put!(out; b"\t" {taken} b"\n"),
-        How::AsWritten => append(b"\n", out),
-    }
 }
 
 pub(crate) fn border_word(build: &Build) -> &'static [u8]
