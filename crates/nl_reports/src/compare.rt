@@ -1,6 +1,6 @@
 //! The text of `compare`.
 ghost use Rattle.std.specs.Prelude.{◌≡◌, ◌++◌, map, IfOk, OnOk};
-ghost use Rattle.nl_reports.specs.Compare.{are_comparable, class_text, compare_text, compared_of, head, listed_lines, row_line, side_of, total_line};
+ghost use Rattle.nl_reports.specs.Compare.{are_comparable, class_text, compare_text, compared_of, head, listed_lines, side_of, total_line};
 
 use crate::critical::append_keyed;
 use crate::sides::{ByCost, Class, ComparedRow, Rules, Side, compared, of_class, times};
@@ -86,20 +86,14 @@ fn append_class(screen: bool, class: Class, rows: &[ComparedRow], out: &mut Vec<
             b"\nChange\tOld\tNew\tOutput\n")?;
     }
     for row in rows {
-        append_row(screen, row, out)?;
+        let change = Part::Change(screen, u128::from(row.old), u128::from(row.new));
+        let old = Part::Took(screen, u128::from(row.old));
+        let new = Part::Took(screen, u128::from(row.new));
+        let class = Part::Text(class_text(row.class));
+        let output = Part::Text(row.output);
+        append_keyed(screen, &[class, change, old, new, output], out)?;
     }
     Ok(())
-}
-
-fn append_row(screen: bool, row: &ComparedRow, lines: &mut Vec<u8>) -> AllocResult
-    ensures items { OnOk result (lines.new.items ≡ lines.old.items ++ row_line screen (compared_of row.now)) }
-{
-    let change = Part::Change(screen, u128::from(row.old), u128::from(row.new));
-    let old = Part::Took(screen, u128::from(row.old));
-    let new = Part::Took(screen, u128::from(row.new));
-    let class = Part::Text(class_text(row.class));
-    let output = Part::Text(row.output);
-    append_keyed(screen, &[class, change, old, new, output], lines)
 }
 
 fn class_text(class: Class) -> &'static [u8]
