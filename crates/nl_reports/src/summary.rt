@@ -1,5 +1,5 @@
 //! The text of `summary`.
-ghost use Rattle.std.specs.Prelude.{◌≡◌, ◌+◌, ◌++◌, ◌<◌, ◌^◌, ℕ, map, IfOk, OnOk};
+ghost use Rattle.std.specs.Prelude.{◌≡◌, ◌+◌, ◌++◌, ◌<◌, ◌^◌, ℕ, true, map, IfOk, OnOk};
 ghost use Rattle.nl_reports.specs.{Jobs.{build_jobs, told}, Numbers.{spans_of}, Rows.{rank_told, told_command, told_jobs, weights_of}, Summary.{AreTotalsOf, again_in, count_line, first_of, lists_text, most_taken, no_totals, number_lines, rows_from, slowest_line, summary_text, taken_in, title, total_of, totals_from, unfinished_line, with_build}, declared.rows.Rank.TheVariants.{Time}};
 ghost use Rattle.nl_tool_texts.specs.Falling.{falling};
 
@@ -114,7 +114,9 @@ pub fn summary_lines(
     }
     let (totals, commands) = all_of(alloc, from, choice.first, told)?;
     let commands = commands.as_slice();
-    append_title(screen, scope, choice.first, from.builds.len(), &mut lines)?;
+    if screen {
+        append_title(scope, choice.first, from.builds.len(), &mut lines)?;
+    }
     totals.append(screen, commands, &mut lines)?;
     let words = b"outputs lost to later builds";
     append_count(screen, b"again", words, again_in(scope, told), &mut lines)?;
@@ -123,20 +125,13 @@ pub fn summary_lines(
     Ok(lines)
 }
 
-fn append_title(
-    screen: bool,
-    scope: Scope,
-    number: usize,
-    count: usize,
-    lines: &mut Vec<u8>,
-) -> AllocResult
-    ensures items { OnOk result (lines.new.items ≡ lines.old.items ++ title screen scope number count) }
+fn append_title(scope: Scope, number: usize, count: usize, lines: &mut Vec<u8>) -> AllocResult
+    ensures items { OnOk result (lines.new.items ≡ lines.old.items ++ title true scope number count) }
 {
     let count = Part::Number(count as u128);
-    match (screen, scope) {
-        (false, _) => Ok(()),
-        (true, Scope::All) => put!(lines; b"All " [count] b" builds, each output once\n"),
-        (true, Scope::Last | Scope::Numbered(_)) => {
+    match scope {
+        Scope::All => put!(lines; b"All " [count] b" builds, each output once\n"),
+        Scope::Last | Scope::Numbered(_) => {
             put!(lines; b"Build " {number} b" of " [count] b"\n")
         }
     }

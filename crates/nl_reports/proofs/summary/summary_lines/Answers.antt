@@ -8,6 +8,7 @@ use Rattle.nl_reports.specs.Summary.{again_line, builds_told, chosen_text, count
 use Rattle.nl_reports.specs.declared.choice.Choice.{Choice}
 use Rattle.nl_reports.specs.declared.rows.Rank.TheVariants.{Time}
 use Rattle.nl_reports.proofs.SummaryLemmas.{none_told, parts_in_order, some_told}
+use Rattle.nl_reports.proofs.summary.summary_lines.Goals.{then-screen+in_ok-append_title, else-screen}
 use Rattle.nl_reports.proofs.summary.summary_lines.Goals as goal
 
 pub returns-in_default : goal.returns-in_default
@@ -47,8 +48,14 @@ returns c =
     let us = map told_command c.as_slice-commands.result.now in
     let taken = c.again_in.result in
     let screen = c.args.lists.screen in
-    let count = c.len.ensures ∙ c.args.from.now.builds.ok.0 in
-    let head = title screen c.args.scope first c.len.result in
+    let head = title screen c.args.scope first (length c.args.from.now.builds.items) in
+    let headed : c.if-screen.lines.items ≡ head =
+    elim c.if-screen.branch [
+      | then-screen+in_ok-append_title w ↦
+          ap (λ v. v.items) w.lines-is ∙ w.in_ok-append_title.ensures.items
+          ∙ (λ i. c.new-lines.ensures.items i ++ title (sym w.if-screen.true i) c.args.scope first ((w.len.ensures ∙ c.args.from.now.builds.ok.0) i))
+      | else-screen w ↦ ap (λ v. v.items) w.lines-is ∙ c.new-lines.ensures.items ∙ (λ i. title (sym w.if-screen.false i) c.args.scope first (length c.args.from.now.builds.items))
+    ] in
     let slow = slowest_line screen (first_of (falling (rank_told Time) us)) in
     let last = unfinished_line screen c.args.unfinished in
     let chosen : bs ≡ between (first - 1) choice.last c.args.from.now.builds.items =
@@ -58,11 +65,11 @@ returns c =
     (c.in_ok-append_unfinished-3.ensures.items ∙ ap (λ (l : List ℕ). l ++ last)
     (c.in_ok-append_count-2.ensures.items ∙ ap (λ (l : List ℕ). l ++ again_line screen taken)
     (c.in_ok-append.ensures.items ∙ ap (λ (l : List ℕ). l ++ (number_lines screen ts us ++ slow))
-    (c.in_ok-append_title.ensures.items ∙ ap (λ (l : List ℕ). l ++ head) c.new-lines.ensures.items))))
+    headed)))
     ∙ parts_in_order head (number_lines screen ts us) slow (again_line screen taken) last (lists_text c.args.lists us) in
     record {
       value = whole
-          ∙ (λ i. text_of (title screen c.args.scope first (count i)) c.args.lists c.args.unfinished (c.in_ok-totals.ensures.totals i)
+          ∙ (λ i. text_of head c.args.lists c.args.unfinished (c.in_ok-totals.ensures.totals i)
           ((ap (map told_command) c.as_slice-commands.ensures.value ∙ c.in_ok-totals.ensures.commands) i) (c.again_in.ensures i))
           ∙ sym (some_told c.args.scope c.args.lists c.args.unfinished t first bs (λ none. true≢false (sym (eq-eqb _ 0 none) ∙ sym c.is_empty.ensures ∙ c.if-is_empty.false)))
           ∙ ap (λ (l : List Build). builds_told c.args.scope c.args.lists c.args.unfinished t first l) chosen
