@@ -7,7 +7,8 @@ use crate::graph::NinjaGraph;
 use crate::job::{Job, JobsResult, spans_of};
 use crate::last_entries::item_at;
 use crate::moments::{Span, rising};
-use crate::simulation::{Priority, Waiting};
+use crate::simulation::Waiting;
+use nl_builds::Stamps;
 use nl_table::Secret;
 use nl_tool_texts::{AllocResult, Part, Ranking, append, highest, put};
 use std::alloc::{AllocError, Global};
@@ -29,7 +30,7 @@ pub fn graph_lines(
     alloc: Global,
     secret: Secret,
     by: &ByGraph,
-    priority: Priority,
+    stamps: Stamps,
     jobs: &[Job],
 ) -> AllocResult<Option<Vec<u8>>>
     ensures value { IfOk result (IsToldBy by.now.screen (seen_graph by.now.graph.now) by.now.most by.now.counts.now (map seen jobs.now)) }
@@ -43,7 +44,7 @@ pub fn graph_lines(
     if by.counts.is_empty() {
         return Ok(Some(lines));
     }
-    let Some(estimates) = estimate_lines(by, priority, &found, jobs)? else {
+    let Some(estimates) = estimate_lines(by, stamps, &found, jobs)? else {
         return Ok(None);
     };
     lines.extend_from_slice(estimates.as_slice())?;
@@ -52,7 +53,7 @@ pub fn graph_lines(
 
 fn estimate_lines(
     by: &ByGraph,
-    priority: Priority,
+    stamps: Stamps,
     found: &Critical,
     jobs: &[Job],
 ) -> AllocResult<Option<Vec<u8>>>
@@ -60,7 +61,7 @@ fn estimate_lines(
         (λ lines. AreEstimates by.now.screen (seen_graph g) (map seen jobs.now) by.now.counts.now lines.items)) }
 {
     let (screen, path) = (by.screen, found.path.length);
-    let waiting = Waiting::of(&found.reaches, jobs, priority)?;
+    let waiting = Waiting::of(&found.reaches, jobs, stamps)?;
     let total = total_of(jobs);
     let mut lines = Vec::new(found.reaches.allocator());
     if by.counts.len() > 0 && screen {

@@ -39,7 +39,6 @@ pub use picture::{Known, draw_builds};
 pub use rows::{Listed, Lists, Rank, Row, Sums, Weighed};
 pub use shares::Shares;
 pub use sides::{Class, ComparedRow, Rules, Side, compared};
-pub use simulation::Priority;
 pub use summary::{Totals, summary_lines, taken_in};
 pub use trace::trace_builds;
 pub use work::{Times, Work, work_of};

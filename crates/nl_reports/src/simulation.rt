@@ -4,21 +4,13 @@ use crate::critical::Reaches;
 use crate::job::{Job, between};
 use crate::last_entries::{item_at, set_at};
 use crate::moments::Span;
+use nl_builds::Stamps;
 use nl_tool_texts::AllocResult;
 use std::alloc::AllocError;
 use std::cmp::Reverse;
 use std::collections::BinaryHeap;
 
 const NONE: usize = usize::MAX;
-
-/// Which of the commands that are ready is taken first, as Ninja does.
-#[derive(Clone, Copy, Drop)]
-pub enum Priority {
-    /// The one after which the most commands wait for each other: from Ninja 1.12 on.
-    Critical,
-    /// The one whose output the graph names first: before.
-    Graph,
-}
 
 /// Which parts wait for which. A part is a command with all its nodes, or else a node that no command makes: those stand behind all commands.
 #[derive(Drop)]
@@ -33,7 +25,7 @@ pub(crate) struct Waiting {
 }
 
 impl Waiting {
-    pub(crate) fn of(reaches: &Reaches, jobs: &[Job], priority: Priority) -> AllocResult<Waiting> {
+    pub(crate) fn of(reaches: &Reaches, jobs: &[Job], stamps: Stamps) -> AllocResult<Waiting> {
         let alloc = reaches.allocator();
         // How far it is in commands: each takes one millisecond.
         let span = Span { began: 0, ended: 1 };
@@ -49,9 +41,11 @@ impl Waiting {
             let command = reaches.ran_at(node).map_or(NONE, |ran| ran.place);
             if command < keys.len() {
                 let (least, first, _) = keys[command];
-                let key = match priority {
-                    Priority::Critical => least.min(u128::MAX - chains.far_at(node)),
-                    Priority::Graph => least,
+                // Ninja takes the command first after which the most wait for each other, from the version on whose logs tell when
+                // a command started. Before, it took the one whose output the graph names first.
+                let key = match stamps {
+                    Stamps::OfStart => least.min(u128::MAX - chains.far_at(node)),
+                    Stamps::OfEnd | Stamps::Unknown => least,
                 };
                 keys[command] = (key, first.min(node), command);
                 parts.push(command)?;

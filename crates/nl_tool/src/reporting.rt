@@ -15,9 +15,9 @@ use crate::numbers::{count_of, counts_of, scope_of};
 use jiff_tz::{SystemTimeZone, TimeZone, TimeZoneDatabase};
 use nl_builds::{Builds, LogBuilds, Stamps, read_builds};
 use nl_reports::{
-    ByGraph, KindRule, Lists, NinjaGraph, Priority, Scope, Side, builds_lines, builds_screen,
-    chosen_jobs, compare_lines, draw_builds, graph_lines, lasting, read_graph, summary_lines,
-    taken_in, trace_builds,
+    ByGraph, KindRule, Lists, NinjaGraph, Scope, Side, builds_lines, builds_screen, chosen_jobs,
+    compare_lines, draw_builds, graph_lines, lasting, read_graph, summary_lines, taken_in,
+    trace_builds,
 };
 use nl_tool_change::NumberOf;
 use nl_tool_texts::{AllocResult, ToolFault, ToolResult, in_columns, write_out};
@@ -230,18 +230,13 @@ fn tell_summary<W: Write>(
         (W.contents writer.old) (W.contents writer.new) result }
     ensures faults { IfErr result (IsFoundFault graph.entry) }
 {
-    // The order in which Ninja takes commands: from the version on that tells when they started, it goes by the critical path.
-    let priority = match stamps {
-        Stamps::OfStart => Priority::Critical,
-        Stamps::OfEnd | Stamps::Unknown => Priority::Graph,
-    };
     let alloc = means.alloc;
     let mut lines = summary_lines(alloc, scope, lists, unfinished, from)?;
     let Some(by) = graph else {
         return write_lines(means, lines, writer);
     };
     let jobs = chosen_jobs(alloc, scope, from)?;
-    let told = graph_lines(alloc, lists.secret, &by, priority, jobs.as_slice())?;
+    let told = graph_lines(alloc, lists.secret, &by, stamps, jobs.as_slice())?;
     let Some(told) = told else {
         return Err(ToolFault::OtherGraph);
     };
