@@ -38,10 +38,10 @@ SITES = [
     ("if FileId::of(&found) != id {", "FileId::of(&found) != id", {"a file that has lost the name is locked": "false"}),
     ("self.locks.clear();\n        self.hold(Some(Locked { handle, id }))?;", "self.locks.clear();", {"the lock of a file that has lost the name is kept": ""}),
     ("self.hold(Some(Locked { handle, id }))?;", "self.hold(Some(Locked { handle, id }))?;", {"the handle of a lock is closed": "drop(handle); self.hold(None)?;"}),
-    ("self.hold(lock)?;\n        Ok(OsFile::new(file, FileRole::Log,", "self.hold(lock)?;", {"a log that was made is not locked": "drop(lock);"}),
-    ("self.scratch_lock = self.lock_new(&file, id, FileRole::Scratch)?;", "self.lock_new(&file, id, FileRole::Scratch)?", {
+    ("self.hold(lock)?;\n        Ok(file)", "self.hold(lock)?;", {"a log that was made is not locked": "drop(lock);"}),
+    ("self.scratch_lock = self.lock_new(&file)?;", "self.lock_new(&file)?", {
         "a scratch is not locked": "None",
-        "the lock of a scratch is let go of": "{ drop(self.lock_new(&file, id, FileRole::Scratch)?); None }",
+        "the lock of a scratch is let go of": "{ drop(self.lock_new(&file)?); None }",
     }),
     ("self.scratch_lock = None;\n        match self.rt.remove_file", "self.scratch_lock = None;", {"the lock of an old scratch is kept": ""}),
     ("match self.rt.remove_file(&self.paths.scratch) {", "self.rt.remove_file(&self.paths.scratch)", {
