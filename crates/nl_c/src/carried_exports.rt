@@ -3,6 +3,7 @@ ghost use Rattle.std.specs.Prelude.{◌≡◌, ◌≢◌, ◌⊎◌, ◌++◌, �
 ghost use Rattle.nl_c.specs.{LoadedLogs.{IsLoadedAs}, CarriedLogs.{IsNewCarried, CarriedOpened, Keeps, Anew, CarriedWritten, CarriedText, CarriedHeader, CarriedLine, Ends, Planned, Withdrawn, LooseLine, intent_stamp}, Held.{InCarried, IsCarriedAnd, all_of, loaded_in, loaded_of}, Written.{Recorded, Begun, Synced, Stopped, Recompacted, Restatted, DeadMarked, TimeMarked, Cleared}, Statuses.{ok, no_handle, out_of_memory}};
 
 use crate::carried_log::CarriedLog;
+use crate::exports::lent;
 use crate::handle::{Handle, Held};
 use crate::loaded_log::CStamp;
 use crate::marks::Marks;
@@ -12,17 +13,9 @@ use std::alloc::Global;
 
 // Gives the log that a handle carries to a call, and puts it back. Where there is none, nothing is changed.
 macro_rules! carried {
-    ($handle:ident, $alloc:ident, $log:ident => $call:expr) => {{
-        let Some(mut held) = $handle.take($alloc) else {
-            return status::NO_HANDLE;
-        };
-        let answer = match &mut *held {
-            Held::Loaded(_) => status::NO_HANDLE,
-            Held::Carried($log) => $call,
-        };
-        *$handle = Handle::of(held);
-        answer
-    }};
+    ($handle:ident, $alloc:ident, $log:ident => $call:expr) => {
+        lent!($handle, $alloc, as_mut, Held::Carried($log) => $call)
+    };
 }
 
 /// Call it after a load whose bytes ended in a newline, or after another call of this. If it fails, it frees the log.
@@ -73,10 +66,7 @@ pub extern "C" fn carried_open(
     ensures other { option_and_then all_of found.old.kept.log ≡ None → (result ≡ no_handle) × (handle.new.kept.log ≡ handle.old.kept.log) }
     ensures used { found.new.kept.log ≡ None }
 {
-    let Some(held) = found.take(alloc) else {
-        return status::NO_HANDLE;
-    };
-    let Held::Loaded(log) = Box::into_inner(held) else {
+    let Some(Held::Loaded(log)) = found.take(alloc).map(Box::into_inner) else {
         return status::NO_HANDLE;
     };
     if !log.is_all {

@@ -14,18 +14,20 @@ use std::alloc::Global;
 
 // Gives what a handle has to a call, and puts it back.
 macro_rules! lent {
-    ($handle:ident, $alloc:ident, $what:ident, $it:ident => $call:expr) => {{
-        let Some(held) = $handle.take($alloc) else {
+    ($handle:ident, $alloc:ident, $what:ident, $it:pat => $call:expr) => {{
+        let Some(mut held) = $handle.take($alloc) else {
             return status::NO_HANDLE;
         };
         let answer = match held.$what() {
-            Some($it) => $call,
-            None => status::NO_HANDLE,
+            $it => $call,
+            _ => status::NO_HANDLE,
         };
         *$handle = Handle::of(held);
         answer
     }};
 }
+
+pub(crate) use lent;
 
 /// The version of the library: 1000000 times the first number, 1000 times the second, and the third.
 #[unsafe(no_mangle)]
@@ -101,7 +103,7 @@ pub extern "C" fn nlog_get_facts(handle: &mut Handle, alloc: Global, facts: &mut
     ensures same { handle.new.kept.log ≡ handle.old.kept.log }
     ensures value { (result, facts.new) ≡ answered_facts (loaded_in handle.old.kept.log) facts.old }
 {
-    lent!(handle, alloc, loaded, log => {
+    lent!(handle, alloc, as_mut, Held::Loaded(log) => {
         let unique = log.loaded.table.len() as u64;
         *facts = Facts {
             version: log.version.number(log.loaded.version) as u32,
@@ -121,7 +123,7 @@ pub extern "C" fn nlog_count(handle: &mut Handle, alloc: Global, count: &mut usi
     ensures same { handle.new.kept.log ≡ handle.old.kept.log }
     ensures value { (result, count.new) ≡ answered_count (table_in handle.old.kept.log) count.old }
 {
-    lent!(handle, alloc, table, table => {
+    lent!(handle, alloc, table, Some(table) => {
         *count = table.len();
         status::OK
     })
@@ -141,7 +143,9 @@ pub extern "C" fn nlog_at(
     ensures value { (result, record { stamp = stamp.new; name = name.new; len = name_len.new })
         ≡ answered_at (table_in handle.old.kept.log) place (record { stamp = stamp.old; name = name.old; len = name_len.old }) }
 {
-    lent!(handle, alloc, table, table => look_up::fill(table.at(place), stamp, name, name_len))
+    lent!(handle, alloc, table, Some(table) => {
+        look_up::fill(table.at(place), stamp, name, name_len)
+    })
 }
 
 #[unsafe(no_mangle)]
@@ -154,7 +158,7 @@ pub extern "C" fn nlog_find(
     ensures same { handle.new.kept.log ≡ handle.old.kept.log }
     ensures value { (result, stamp.new) ≡ answered_find (table_in handle.old.kept.log) name.now stamp.old }
 {
-    lent!(handle, alloc, table, table => look_up::find(table, name, stamp))
+    lent!(handle, alloc, table, Some(table) => look_up::find(table, name, stamp))
 }
 
 /// The line is passed without its newline. A buffer that is too short for the name is left alone.

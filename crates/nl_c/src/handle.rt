@@ -1,6 +1,6 @@
 //! The handle that a caller in C has: memory of zeros is a handle without a log.
 ghost use Rattle.std.specs.Prelude.{◌≡◌, ◌≢◌, ◌↔◌, ◌⊎◌, Option, IsSome, Some, None, option_map};
-ghost use Rattle.nl_c.specs.{Kept.{made as made_mark, owned_if}, Held.{loaded_of, table_of}, declared.handle.Held.{Held}, Statuses.{ok, out_of_memory}};
+ghost use Rattle.nl_c.specs.{Kept.{made as made_mark, owned_if}, Held.{table_of}, declared.handle.Held.{Held}, Statuses.{ok, out_of_memory}};
 
 use crate::carried_log::CarriedLog;
 use crate::loaded_log::LoadedLog;
@@ -112,15 +112,6 @@ impl Held {
         match self {
             Held::Loaded(log) => Some(&log.loaded.table),
             Held::Carried(log) => log.written.log.table(),
-        }
-    }
-
-    pub(crate) fn loaded(&self) -> Option<&LoadedLog>
-        ensures { option_map (λ l. l.now) result ≡ loaded_of self.now }
-    {
-        match self {
-            Held::Loaded(log) => Some(log),
-            Held::Carried(_) => None,
         }
     }
 }
