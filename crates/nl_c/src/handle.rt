@@ -37,11 +37,8 @@ impl Handle {
         ensures held { self.old.kept.log ≡ option_map (λ log. log.value) result }
         ensures empty { self.new.kept.log ≡ None }
     {
-        let empty = Handle {
-            made: 0,
-            kept: Kept::empty(),
-        };
-        let Handle { made, kept } = replace(self, empty);
+        let made = replace(&mut self.made, 0);
+        let kept = replace(&mut self.kept, Kept::empty());
         if made == MADE {
             Some(kept.into_box(alloc))
         } else {
