@@ -41,12 +41,8 @@ impl<R: Host> Desk<'_, R> {
         let told = &mut self.notes.told;
         let entry = entry_of(given.start, given.end, given.mtime, given.name, told)?;
         self.note_missing(given.log);
-        record_at(
-            self.log_at(given.log)?,
-            entry,
-            given.command,
-            &mut self.notes,
-        )
+        let at = self.log_at(given.log)?;
+        record_at(at, entry, given.command, &mut self.notes)
     }
 
     pub fn recompact_in(&mut self, log: &str, keep: &str) -> ToolResult

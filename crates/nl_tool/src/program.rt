@@ -2,7 +2,7 @@
 ghost use Rattle.std.specs.{Prelude.{◌≡◌, ◌≢◌, ◌≤◌, Option, map, string_bytes, IfErr, IfOk, OnOk}, IoError.{error_kind}, declared.io.ErrorKind.TheVariants.{OutOfMemory}};
 ghost use Rattle.clap.specs.Words.{kind_of};
 ghost use Rattle.nl_tool_change.specs.declared.line_fault.WrongNumber.{WrongNumber};
-ghost use Rattle.nl_tool.specs.{Ending.{status_after, IsStatusBy, IsStatusOfKind}, Faults.{CanBeDone, CanBeRead, CanFind, FindsBy, IsChangeFault, IsFaultOf, IsReadFault, StopsAtDamage}, Meant.{meant}};
+ghost use Rattle.nl_tool.specs.{Ending.{status_after, IsStatusBy, IsStatusOfKind}, Faults.{CanBeDone, CanFind, IsFaultOf}, Meant.{meant}};
 ghost use Rattle.nl_tool_words.specs.CommandLine.{entered_of, fault_in};
 
 use crate::desk::{Desk, Host, NO_SCREEN, Screen};
@@ -13,7 +13,7 @@ use clap::Error;
 use clap::error::ErrorKind;
 use nl_table::{NO_SECRET, Secret};
 use nl_tool_texts::{ToolFault, ToolResult, status_of};
-use nl_tool_words::{Changing, Choices, CommandLine, Reading, Words, path_in_place, read_words};
+use nl_tool_words::{Changing, CommandLine, Reading, Words, path_in_place, read_words};
 use std::alloc::Global;
 use std::random::RandomSource;
 use std::{env, io};
@@ -94,63 +94,29 @@ pub fn run_at<R: Host>(desk: &mut Desk<'_, R>, line: &CommandLine<'_>) -> ToolRe
     ensures outcome { IfOk result (λ outcome. outcome ≡ Verdict.Found → CanFind line.now.words) }
     ensures faults { IfErr result (IsFaultOf line.now.words desk.new.notes.told.number) }
 {
-    let done = match line.words {
+    match line.words {
         Words::Show(log) => return desk.print_in(Printing::Show, log),
         Words::Check(log) => return desk.print_in(Printing::Check, log),
         Words::Hash(command) => return desk.print_from(Printing::Hash(command), io::empty()),
         Words::HashFile(file) => return desk.print_in(Printing::HashFile, file),
         Words::Replay(script) => return desk.print_in(Printing::Replay, script),
-        Words::Read(what, log, choices) => return read_at(desk, what, log, choices),
-        Words::Change(what, log, file) => return change_at(desk, what, log, file),
+        Words::Read(Reading::Entries, log, _) => return desk.print_in(Printing::Entries, log),
+        Words::Read(Reading::Damage, log, _) => return desk.print_in(Printing::Damage, log),
+        Words::Read(Reading::Doubt, log, _) => return desk.doubt_in(log),
+        Words::Read(Reading::Builds, log, _) => desk.builds_in(log)?,
+        Words::Read(Reading::Summary, log, choices) => desk.summary_in(log, choices)?,
+        Words::Read(Reading::Trace, log, choices) => desk.trace_in(log, choices)?,
+        Words::Read(Reading::Picture, log, choices) => desk.picture_in(log, choices)?,
+        Words::Compare(old, new, choices) => desk.compare_in(old, new, choices)?,
         Words::Mend(log, choices) => return desk.mend_in(log, choices),
-        Words::Compare(old, new, choices) => desk.compare_in(old, new, choices),
-        Words::Record(entry) => desk.record_in(entry),
-        Words::Recompact(log, keep) => desk.recompact_in(log, keep),
-        Words::Restat(log, times) => desk.restat_in(log, times),
-    };
-    done?;
-    Ok(Verdict::Done)
-}
-
-fn read_at<R: Host>(
-    desk: &mut Desk<'_, R>,
-    what: Reading,
-    log: Option<&str>,
-    choices: Choices<'_>,
-) -> ToolResult<Verdict>
-    ensures accepts { OnOk result (CanBeRead what choices.entry) }
-    ensures outcome { IfOk result (λ outcome. outcome ≡ Verdict.Found → FindsBy what) }
-    ensures faults { IfErr result (IsReadFault what choices.entry desk.new.notes.told.number) }
-{
-    let done = match what {
-        Reading::Entries => return desk.print_in(Printing::Entries, log),
-        Reading::Damage => return desk.print_in(Printing::Damage, log),
-        Reading::Doubt => return desk.doubt_in(log),
-        Reading::Builds => desk.builds_in(log),
-        Reading::Summary => desk.summary_in(log, choices),
-        Reading::Trace => desk.trace_in(log, choices),
-        Reading::Picture => desk.picture_in(log, choices),
-    };
-    done?;
-    Ok(Verdict::Done)
-}
-
-fn change_at<R: Host>(
-    desk: &mut Desk<'_, R>,
-    what: Changing,
-    log: &str,
-    file: Option<&str>,
-) -> ToolResult<Verdict>
-    ensures outcome { IfOk result (λ outcome. outcome ≡ Verdict.Found → StopsAtDamage what) }
-    ensures faults { IfErr result (IsChangeFault what) }
-{
-    let done = match what {
-        Changing::Prune => return desk.prune_in(log, file),
-        Changing::Retime => return desk.settle_in(log, None),
-        Changing::Repair => desk.repair_in(log),
-        Changing::Apply => desk.apply_in(log, file),
-    };
-    done?;
+        Words::Record(entry) => desk.record_in(entry)?,
+        Words::Recompact(log, keep) => desk.recompact_in(log, keep)?,
+        Words::Restat(log, times) => desk.restat_in(log, times)?,
+        Words::Change(Changing::Prune, log, file) => return desk.prune_in(log, file),
+        Words::Change(Changing::Retime, log, _) => return desk.settle_in(log, None),
+        Words::Change(Changing::Repair, log, _) => desk.repair_in(log)?,
+        Words::Change(Changing::Apply, log, file) => desk.apply_in(log, file)?,
+    }
     Ok(Verdict::Done)
 }
 

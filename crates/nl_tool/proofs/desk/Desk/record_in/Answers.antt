@@ -13,10 +13,10 @@ returns-in_err-entry-clause-faults g c =
     let fault = err_from_is_err_and c.from_residual.result c.from_residual.ensures.1 in
     rw (fault.1, fault.2) (inl c.in_err-entry.ensures.faults)
 
-pub returns-in_err-log_at-clause-faults : goal.returns-in_err-log_at-clause-faults
-returns-in_err-log_at-clause-faults g c =
-    let fault = err_from_is_err_and c.from_residual-in_err-log_at.result c.from_residual-in_err-log_at.ensures.1 in
-    rw (fault.1, fault.2, c.in_err-log_at.ensures.faults) (inr (c.in_ok-entry.ensures.accepts, tt))
+pub returns-in_err-at-clause-faults : goal.returns-in_err-at-clause-faults
+returns-in_err-at-clause-faults g c =
+    let fault = err_from_is_err_and c.from_residual-in_err-at.result c.from_residual-in_err-at.ensures.1 in
+    rw (fault.1, fault.2, c.in_err-at.ensures.faults) (inr (c.in_ok-entry.ensures.accepts, tt))
 
 pub returns-clause-accepts : goal.returns-clause-accepts
 returns-clause-accepts g c = at_ok c.record_at.result c.in_ok-entry.ensures.accepts
