@@ -26,8 +26,8 @@ use std::{env, fs};
 // How many characters a line of a terminal has where COLUMNS doesn't tell.
 const USUAL: usize = 80;
 
-/// Which of the standard streams are terminals.
-#[derive(Clone, Copy, Debug, PartialEq, Eq, Drop)]
+/// Which of the standard streams are terminals; by default none is.
+#[derive(Clone, Copy, Debug, Default, PartialEq, Eq, Drop)]
 pub struct Screen {
     /// Standard input is: a person types there, if anyone does.
     pub input: bool,
@@ -36,13 +36,6 @@ pub struct Screen {
     /// Standard error is: it is told why something was refused, and how far a log is read, where that takes long.
     pub errors: bool,
 }
-
-/// None is a terminal.
-pub const NO_SCREEN: Screen = Screen {
-    input: false,
-    output: false,
-    errors: false,
-};
 
 #[derive(Drop)]
 pub struct Desk<'r, R> {

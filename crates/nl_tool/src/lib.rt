@@ -12,7 +12,7 @@ mod program;
 mod reason;
 mod reporting;
 
-pub use desk::{At, Desk, Disk, Host, NO_SCREEN, Screen, number_of};
+pub use desk::{At, Desk, Disk, Host, Screen, number_of};
 pub use nl_os::{DiskFolder, Look, Telling, look_of};
 pub use nl_tool_change::{
     AskedFolder, LineFault, LogPlace, Nobody, NumberFault, NumberOf, Told, UNTOLD, WrongNumber,

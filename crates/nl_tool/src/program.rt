@@ -5,7 +5,7 @@ ghost use Rattle.nl_tool_change.specs.declared.line_fault.WrongNumber.{WrongNumb
 ghost use Rattle.nl_tool.specs.{Ending.{status_after, IsStatusBy, IsStatusOfKind}, Faults.{CanBeDone, CanFind, IsFaultOf}, Meant.{meant}};
 ghost use Rattle.nl_tool_words.specs.CommandLine.{entered_of, fault_in};
 
-use crate::desk::{Desk, Host, NO_SCREEN, Screen};
+use crate::desk::{Desk, Host, Screen};
 use crate::notes::Notes;
 use crate::printing::Printing;
 use crate::reason::{Note, Refusal, notes_of, reads_input, refusal_of, unsynced_note};
@@ -84,7 +84,7 @@ pub fn run<R: Host>(rt: &R, alloc: Global, line: &CommandLine<'_>) -> ToolResult
     ensures outcome { IfOk result (λ outcome. outcome ≡ Verdict.Found → CanFind line.now.words) }
     ensures faults { IfErr result (λ fault. (told : Option WrongNumber) × IsFaultOf line.now.words told fault) }
 {
-    let notes = Notes::new(alloc, false, NO_SCREEN, NO_SECRET);
+    let notes = Notes::new(alloc, false, Screen::default(), NO_SECRET);
     run_at(&mut Desk::of(rt, line, notes), line)
 }
 
