@@ -8,7 +8,7 @@ use Rattle.std.proofs.lemmas.Grind.{pow_more}
 use Rattle.std.proofs.lemmas.Nat.{mul-add-lt}
 use Rattle.std.proofs.Math.Nat.{mul_comm, pow-le-pow_right}
 use Rattle.nl_fields.specs.Digits.{IsDigit}
-use Rattle.nl_fields.specs.declared.digits.TheConstants.{VALUES}
+use Rattle.nl_fields.specs.declared.numbers.TheConstants.{VALUES}
 
 -- the value of a byte as a hexadecimal digit, and 255 of one that is none
 value_at : ℕ → ℕ

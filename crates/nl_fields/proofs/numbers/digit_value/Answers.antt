@@ -1,6 +1,6 @@
 use Rattle.std.proofs.Common.{◌∙◌, ap, arith, Some}
 use Rattle.nl_fields.proofs.ReadLemmas.{digit_fits, digit_found, digit_there}
-use Rattle.nl_fields.proofs.digits.digit_value.Goals as goal
+use Rattle.nl_fields.proofs.numbers.digit_value.Goals as goal
 
 -- no digit is above `f`
 pub returns-then-digit-gt102-clause-accepts : goal.returns-then-digit-gt102-clause-accepts

@@ -4,7 +4,7 @@ use Rattle.nl_fields.specs.Digits.{IsDigits, one, more}
 use Rattle.nl_fields.proofs.DigitLemmas.{taken_one, taken_more}
 use Rattle.nl_fields.proofs.LeadingLemmas.{none_leads, stops_at}
 use Rattle.nl_fields.proofs.ReadLemmas.{bound_more, bound_left}
-use Rattle.nl_fields.proofs.decimal.leading_digits.Goals as goal
+use Rattle.nl_fields.proofs.numbers.leading_digits.Goals as goal
 
 -- the first byte is no digit
 pub returns-in_default-decimal_digit-clause-longest : goal.returns-in_default-decimal_digit-clause-longest

@@ -1,5 +1,5 @@
 use Rattle.std.proofs.Common.{◌≡◌, ◌<◌, ◌^◌, drop, length}
-use Rattle.nl_fields.proofs.digits.hex_digits.Given as goal
+use Rattle.nl_fields.proofs.numbers.append_hex64.Given as goal
 use Rattle.nl_fields.proofs.HexLemmas.{Completes}
 
 -- There is room for what is left, whose digits complete the number.

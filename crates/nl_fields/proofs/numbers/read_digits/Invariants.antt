@@ -1,6 +1,6 @@
 use Rattle.std.proofs.Common.{◌+◌, ◌<◌, ◌≤◌, ◌^◌, take}
 use Rattle.nl_fields.specs.Digits.{IsDigits}
-use Rattle.nl_fields.proofs.digits.read_digits.Given as goal
+use Rattle.nl_fields.proofs.numbers.read_digits.Given as goal
 
 -- The digits so far are the number so far, which has room for those that are left.
 abbrev pub invariant-loop-digit : goal.invariant-loop-digit

@@ -6,7 +6,7 @@ use Rattle.nl_fields.specs.Digits.{IsDigits, one, more}
 use Rattle.nl_fields.proofs.DigitLemmas.{first_of, taken_one, taken_more, all_taken, next_taken, same_value}
 use Rattle.nl_fields.proofs.ReadLemmas.{bound_more, bound_left}
 use Rattle.nl_fields.proofs.NumberLemmas.{length_within, pow-one}
-use Rattle.nl_fields.proofs.digits.read_digits.Goals as goal
+use Rattle.nl_fields.proofs.numbers.read_digits.Goals as goal
 
 pub returns-then-digits-longest-clause-accepts : goal.returns-then-digits-longest-clause-accepts
 returns-then-digits-longest-clause-accepts c n fits spelled =

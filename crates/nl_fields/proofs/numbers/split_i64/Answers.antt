@@ -3,7 +3,7 @@ use Rattle.std.proofs.lemmas.Int.{to_z-of_z}
 use Rattle.std.proofs.lemmas.Option.{none-some}
 use Rattle.nl_fields.proofs.DigitLemmas.{magnitude_fits, negation_answered}
 use Rattle.nl_fields.proofs.LeadingLemmas.{behind_minus_begins, minus_begins, not_ok, not_some, plain_begins, plain_fits, same_begun}
-use Rattle.nl_fields.proofs.decimal.split_i64.Goals as goal
+use Rattle.nl_fields.proofs.numbers.split_i64.Goals as goal
 
 pub returns-in_err-magnitude-clause-accepts : goal.returns-in_err-magnitude-clause-accepts
 returns-in_err-magnitude-clause-accepts c n rest fits begins =

@@ -1,7 +1,7 @@
 use Rattle.std.proofs.Common.{arith}
 use Rattle.std.proofs.lemmas.Option.{none-some}
 use Rattle.nl_fields.proofs.DigitLemmas.{behind_minus, same_value, magnitude_fits, negation_answered}
-use Rattle.nl_fields.proofs.decimal.read_i64.Goals as goal
+use Rattle.nl_fields.proofs.numbers.read_i64.Goals as goal
 
 pub returns-in_err-magnitude-in-45-clause-accepts : goal.returns-in_err-magnitude-in-45-clause-accepts
 returns-in_err-magnitude-in-45-clause-accepts c n fits whole =

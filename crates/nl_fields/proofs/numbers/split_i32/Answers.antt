@@ -1,7 +1,7 @@
 use Rattle.std.proofs.Common.{FitsSigned, rules, subst, sym, w32, w64, ℤ, ◌∙◌}
 use Rattle.std.proofs.lemmas.Int.{to_z-of_z}
 use Rattle.nl_fields.proofs.LeadingLemmas.{not_ok, same_decimal_begun}
-use Rattle.nl_fields.proofs.decimal.split_i32.Goals as goal
+use Rattle.nl_fields.proofs.numbers.split_i32.Goals as goal
 
 pub returns-in_err-ok-clause-accepts : goal.returns-in_err-ok-clause-accepts
 returns-in_err-ok-clause-accepts c n rest fits begins =

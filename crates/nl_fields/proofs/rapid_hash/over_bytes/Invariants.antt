@@ -1,7 +1,7 @@
 use Rattle.std.proofs.Common.{◌≡◌, take}
 use Rattle.std.specs.Prelude.{fold}
 use Rattle.nl_fields.specs.RapidHash.{with_sixteen, secret_0, secret_1, secret_2}
-use Rattle.nl_fields.proofs.rapid_hash.with_groups.Given as goal
+use Rattle.nl_fields.proofs.rapid_hash.over_bytes.Given as goal
 
 -- Each number is that of the groups so far.
 abbrev pub invariant-loop-group : goal.invariant-loop-group
