@@ -1,6 +1,6 @@
 //! The hash of a name, which has a secret: two numbers that whoever chooses names doesn't know.
 ghost use Rattle.std.specs.{Prelude.{◌≡◌, ◌+◌, ◌≤◌, length}, Hash.FoldHasher.{folded_multiply, read_short, read_u32, read_u64}};
-ghost use Rattle.nl_table.specs.Hash.{mixed, mixed_blocks, hashed};
+ghost use Rattle.nl_table.specs.Hash.{mixed, hashed};
 
 use std::hash::{BuildHasher, Hasher};
 
