@@ -1,6 +1,6 @@
 //! What a folder in memory is told: which call fails, and how much a write, a failure and a crash leave.
 ghost use Rattle.std.specs.Prelude.{◌≡◌, ◌≤◌, List, ℕ, length, drop, slice_get};
-ghost use Rattle.nl_folder.specs.Amounts.{amount_of, kept_len, tail_len};
+ghost use Rattle.nl_folder.specs.Amounts.{amount_of, kept_len};
 
 use std::marker::Model;
 
@@ -102,19 +102,8 @@ pub fn amount(number: Option<u64>, least: u64, most: usize) -> usize
 pub fn kept_len(number: Option<u64>, len: u64, old: usize) -> usize
     ensures { result ≡ kept_len number len old }
 {
-    match number {
-        Some(number) => len.saturating_add(number).min(old as u64) as usize,
-        None => old,
-    }
-}
-
-/// How many zero bytes stand behind the first `kept` of a text of `old` bytes.
-pub fn tail(number: Option<u64>, durable: usize, kept: usize, old: usize) -> usize
-    requires { kept ≤ old }
-    ensures { result ≡ tail_len number durable kept old }
-{
-    match number {
-        Some(number) if durable > 0 => number.min((old - kept) as u64) as usize,
-        _ => 0,
-    }
+    number.map_or(
+        old,
+        |number| len.saturating_add(number).min(old as u64) as usize,
+    )
 }
