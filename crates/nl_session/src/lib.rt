@@ -7,7 +7,6 @@ mod fault;
 mod intent;
 pub mod laws;
 mod log;
-mod opening;
 mod rewrite;
 
 pub use events::{Event, Outcome, Reply, reply_to_event, run_events};
