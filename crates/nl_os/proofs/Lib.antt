@@ -1,2 +1,3 @@
 mod PathLemmas
+mod RightsLemmas
 mod RenewalLemmas

@@ -15,14 +15,12 @@ impl Paths {
     pub fn new(alloc: Global, path: &str) -> Result<Paths, AllocError>
         ensures value { IfOk result (ArePathsOf path.now) }
     {
-        let log = String::from_str(alloc, path)?;
         let mut scratch = String::from_str(alloc, path)?;
         scratch.push_str(".recompact")?;
-        let folder = String::from_str(alloc, folder_part(path))?;
         Ok(Paths {
-            log,
+            log: String::from_str(alloc, path)?,
             scratch,
-            folder,
+            folder: String::from_str(alloc, folder_part(path))?,
         })
     }
 }

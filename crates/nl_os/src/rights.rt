@@ -1,4 +1,6 @@
 //! Who may read and write a log, and what of that a new file in its place keeps.
+#![tactic(auto, using(crate::proofs::RightsLemmas::within_one, crate::proofs::RightsLemmas::within_other))]
+
 ghost use Rattle.std.specs.Prelude.{◌≡◌, ◌<◌, ◌+◌, ◌*◌, ◌/◌, ◌%◌, false, true};
 ghost use Rattle.nl_os.specs.Rights.{IsWithin};
 
@@ -52,7 +54,7 @@ impl Mode {
     pub fn is_group_apart(self) -> bool
         ensures no { result ≡ false → IsWithin self.group self.others }
     {
-        common(self.group, self.others) != self.group
+        self.group & self.others != self.group
     }
 
     /// The mode of a new file in the place of one of this mode. Nobody may do more: who was in the old group may be one of the others now,
@@ -68,20 +70,13 @@ impl Mode {
     {
         let mut mode = self;
         if !is_group_kept {
-            mode.group = common(self.group, self.others);
+            mode.group &= self.others;
             mode.others = mode.group;
         }
         if !is_owner_kept {
-            mode.group = common(mode.group, self.owner);
-            mode.others = common(mode.others, self.owner);
+            mode.group &= self.owner;
+            mode.others &= self.owner;
         }
         mode
     }
-}
-
-fn common(one: u32, other: u32) -> u32
-    ensures one { IsWithin result one }
-    ensures other { IsWithin result other }
-{
-    one & other
 }

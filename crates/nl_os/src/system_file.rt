@@ -46,15 +46,6 @@ pub struct FileId {
     pub number: u64,
 }
 
-impl FileId {
-    pub fn of(metadata: &Metadata) -> FileId {
-        FileId {
-            device: metadata.dev(),
-            number: metadata.ino(),
-        }
-    }
-}
-
 /// When the system says that a file was last changed: its bytes, its rights or its names. No call sets it.
 #[derive(Clone, Copy, Debug, PartialEq, Eq, Drop)]
 pub struct ChangeTime {
@@ -62,11 +53,26 @@ pub struct ChangeTime {
     nanoseconds: i64,
 }
 
-impl ChangeTime {
-    pub fn of(metadata: &Metadata) -> ChangeTime {
-        ChangeTime {
-            seconds: metadata.ctime(),
-            nanoseconds: metadata.ctime_nsec(),
+/// It shows that whoever has the lock changes the log: a record makes it longer, and a rewriting puts another file in its place.
+#[derive(Clone, Copy, Debug, PartialEq, Eq, Drop)]
+pub struct Sign {
+    pub id: FileId,
+    pub len: u64,
+    pub changed: ChangeTime,
+}
+
+impl Sign {
+    pub fn of(metadata: &Metadata) -> Sign {
+        Sign {
+            id: FileId {
+                device: metadata.dev(),
+                number: metadata.ino(),
+            },
+            len: metadata.len(),
+            changed: ChangeTime {
+                seconds: metadata.ctime(),
+                nanoseconds: metadata.ctime_nsec(),
+            },
         }
     }
 }

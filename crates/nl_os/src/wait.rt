@@ -1,8 +1,7 @@
 //! How long a lock is waited for, and how often it is asked for.
 ghost use Rattle.std.specs.Prelude.{◌≡◌, ◌≢◌, ◌≤◌, ◌<◌, ◌+◌, ◌-◌, ◌⊎◌, IfSome, None, Some};
 
-use crate::system_file::{ChangeTime, FileId};
-use std::fs::Metadata;
+use crate::system_file::Sign;
 
 // Milliseconds after which it waits no more for a log that nobody changes, and after which it waits for none.
 const STILL: u64 = 10_000;
@@ -14,24 +13,6 @@ const LONGEST_PAUSE: u64 = 20;
 
 /// It asks for a lock at most so many times: once a millisecond.
 pub const TURNS: u32 = 60_000;
-
-/// Shows that whoever has the lock changes the log: a record makes it longer, and a rewriting puts another file in its place.
-#[derive(Clone, Copy, Debug, PartialEq, Eq, Drop)]
-pub struct Sign {
-    id: FileId,
-    len: u64,
-    changed: ChangeTime,
-}
-
-impl Sign {
-    pub fn of(metadata: &Metadata) -> Sign {
-        Sign {
-            id: FileId::of(metadata),
-            len: metadata.len(),
-            changed: ChangeTime::of(metadata),
-        }
-    }
-}
 
 /// It begins when the lock is found held for the first time.
 #[derive(Drop)]
