@@ -1,5 +1,5 @@
 //! Runs of events on a log over the files of a system that can lose its power.
-ghost use Rattle.std.specs.{Prelude.{◌≡◌, false, [], IfOk, IsSomeAnd, Some, option_map, slice_get, zip}, Option.{ForSome}};
+ghost use Rattle.std.specs.{Prelude.{◌≡◌, [], IfOk, IsSomeAnd, Some, option_map, slice_get, zip}, Option.{ForSome}};
 ghost use Rattle.nl_table.specs.{History.{History}, Log.{history_of}};
 ghost use Rattle.nl_folder.specs.DiskState.{Disk};
 ghost use Rattle.nl_session.specs.{Reopening.{Moved}, Runs.{BeginsAt, Ran, HeadlineOn, TakesMemory}};
