@@ -1,4 +1,5 @@
 mod CutLemmas
+mod AgainLemmas
 mod RowLemmas
 mod FallingLemmas
 mod RecordedLemmas

@@ -1,6 +1,6 @@
 //! The builds of a log's entries.
-ghost use Rattle.std.specs.{List.{list_any}, Prelude.{◌≡◌, [], drop, take, ◌<◌, false, true, map, IfOk}};
-ghost use Rattle.nl_builds.specs.{Builds.{again, builds_of, counts_names, entries_of, falls_at, found_build, IsTold, new_commands, new_names, whole_commands, written_builds}, Seen.{doubts}, Sorted.{by_moment, moment_rank, span_rank}};
+ghost use Rattle.std.specs.{List.{list_any}, Prelude.{◌≡◌, [], false, true, map, IfOk}};
+ghost use Rattle.nl_builds.specs.{Builds.{again, builds_of, found_build, IsTold, new_names, whole_commands, written_builds}, Seen.{doubts}, Sorted.{moment_rank, span_rank}};
 
 use crate::command::{Command, Row, commands_of, latest, moment, with_rows, with_waits};
 use crate::reading::Stamps;
@@ -55,8 +55,12 @@ pub fn builds_of<'a>(
     let (all, rows) = (commands.as_slice(), rows.as_slice());
     let seen = walk(alloc, Order::Written, stamps, 0, true, all, rows)?;
     let back = first_back(stamps, seen.as_slice());
-    let counts = counts_names(stamps, back, seen.as_slice());
-    let count = new_commands(alloc, secret, counts, entries.as_slice(), all)?;
+    // Where no border may hide, it doesn't matter how many names are new.
+    let counts = back.is_some() || stamps.is_end() && any_doubts(stamps, seen.as_slice());
+    let mut count = 0;
+    if counts {
+        count = whole_commands(new_names(alloc, secret, entries.as_slice())?, all);
+    }
     if back.is_some_and(|place| place < count) {
         return again(alloc, stamps, count, entries, commands, rows);
     }
@@ -68,34 +72,11 @@ pub fn builds_of<'a>(
     })
 }
 
-// Where no border may hide, it doesn't matter how many names are new.
-fn counts_names(stamps: Stamps, back: Option<usize>, seen: &[Seen]) -> bool
-    ensures { result ≡ counts_names stamps back seen.now }
-{
-    back.is_some() || stamps.is_end() && any_doubts(stamps, seen)
-}
-
 // Whether a border may hide in one of them, if its lines may be in another order.
 fn any_doubts(stamps: Stamps, seen: &[Seen]) -> bool
     ensures { result ≡ list_any (doubts stamps true) seen.now }
 {
     seen.iter().any(|build| build.doubts(stamps, true))
-}
-
-// How many commands are of new names, if that counts.
-fn new_commands(
-    alloc: Global,
-    secret: Secret,
-    counts: bool,
-    entries: &[EntryRef],
-    commands: &[Command],
-) -> Result<usize, AllocError>
-    ensures value { IfOk result (λ count. count ≡ new_commands counts entries.now commands.now) }
-{
-    if !counts {
-        return Ok(0);
-    }
-    Ok(whole_commands(new_names(alloc, secret, entries)?, commands))
 }
 
 // How many entries stand before the first whose name came before: a log that was written anew has no name twice.
@@ -140,15 +121,21 @@ fn again<'a>(
 ) -> Result<Builds<'a>, AllocError>
     ensures value { IfOk result (λ told. IsTold (again stamps count entries.entry.items commands.items rows.now) told.entries.items told.commands.items told.builds.items) }
 {
-    let k = entries_of(count, commands.as_slice());
-    let (front, mut rest) = split(alloc, k, entries)?;
-    let mut moved = by_moment(stamps, front)?;
+    let last = commands.get(count.saturating_sub(1));
+    let k = last.map_or(0, |it| it.to);
+    let is_sure = last
+        .zip(commands.get(count))
+        .is_some_and(|(a, b)| b.ended < a.ended);
+    let mut moved = entries;
+    let mut rest = moved.split_off(k.min(moved.len()))?;
+    // By the moments at which their builds began; those of one moment by END and hash.
+    moved.sort_by(|a, b| span_rank(b).cmp(&span_rank(a)))?;
+    moved.sort_by(|a, b| moment_rank(stamps, b).cmp(&moment_rank(stamps, a)))?;
     let mut found = commands_of(alloc, moved.as_slice())?;
     let (place, all) = (found.len(), found.as_slice());
     let before = walk(alloc, Order::ByMoment, stamps, 0, true, all, &[])?;
-    let is_sure = falls_at(count, commands.as_slice());
-    let later = items_from(count, commands.as_slice());
-    let rows = items_from(count, rows);
+    let later = &commands[count.min(commands.len())..];
+    let rows = &rows[count.min(rows.len())..];
     let behind = walk(alloc, Order::Written, stamps, place, is_sure, later, rows)?;
     let mut builds = found_builds(alloc, k, before.as_slice())?;
     let mut written = written_builds(alloc, stamps, 0, place, behind.as_slice())?;
@@ -160,43 +147,6 @@ fn again<'a>(
         commands: found,
         builds,
     })
-}
-
-fn split<'a>(
-    alloc: Global,
-    place: usize,
-    entries: Vec<EntryRef<'a>>,
-) -> Result<(Vec<EntryRef<'a>>, Vec<EntryRef<'a>>), AllocError>
-    ensures front { IfOk result (λ both. both.0.items ≡ take place entries.entry.items) }
-    ensures rest { IfOk result (λ both. both.1.items ≡ drop place entries.entry.items) }
-{
-    if place >= entries.len() {
-        return Ok((entries, Vec::new(alloc)));
-    }
-    let mut front = entries;
-    let rest = front.split_off(place)?;
-    Ok((front, rest))
-}
-
-fn entries_of(count: usize, commands: &[Command]) -> usize
-    ensures { result ≡ entries_of count commands.now }
-{
-    commands.get(count.saturating_sub(1)).map_or(0, |it| it.to)
-}
-
-fn items_from<T>(count: usize, items: &[T]) -> &[T]
-    ensures { result.now ≡ drop count items.now }
-{
-    &items[count.min(items.len())..]
-}
-
-fn falls_at(place: usize, commands: &[Command]) -> bool
-    ensures { result ≡ falls_at place commands.now }
-{
-    match (commands.get(place.saturating_sub(1)), commands.get(place)) {
-        (Some(a), Some(b)) => a.falls(b),
-        _ => false,
-    }
 }
 
 fn found_builds(alloc: Global, count: usize, seen: &[Seen]) -> Result<Vec<Build>, AllocError>
@@ -213,16 +163,6 @@ fn found_builds(alloc: Global, count: usize, seen: &[Seen]) -> Result<Vec<Build>
     builds.collect(alloc)
 }
 
-// By the moments at which their builds began; those of one moment by END and hash.
-fn by_moment(stamps: Stamps, entries: Vec<EntryRef>) -> Result<Vec<EntryRef>, AllocError>
-    ensures value { IfOk result (λ sorted. sorted.items ≡ by_moment stamps entries.entry.items) }
-{
-    let mut sorted = entries;
-    sorted.sort_by(|a, b| span_rank(b).cmp(&span_rank(a)))?;
-    sorted.sort_by(|a, b| moment_rank(stamps, b).cmp(&moment_rank(stamps, a)))?;
-    Ok(sorted)
-}
-
 fn span_rank(entry: &EntryRef) -> u128
     ensures { result ≡ span_rank entry.now }
 {
@@ -233,28 +173,24 @@ fn span_rank(entry: &EntryRef) -> u128
 fn moment_rank(stamps: Stamps, entry: &EntryRef) -> u64
     ensures { result ≡ moment_rank stamps entry.now }
 {
-    let ms = match stamps {
-        Stamps::OfEnd => u32::MAX,
-        Stamps::Unknown | Stamps::OfStart => moment(entry.start_ms),
-    };
+    let began = moment(entry.start_ms);
+    let ms = if stamps.is_end() { u32::MAX } else { began };
     u64::MAX - latest(entry.mtime, ms).unwrap_or(0)
 }
 
-// The builds stand behind a place. So many commands are of new names.
+// The builds stand behind place `from`. So many commands are of new names.
 fn written_builds(
     alloc: Global,
     stamps: Stamps,
     new: usize,
-    place: usize,
-    seen: &[Seen],
+    mut from: usize,
+    mut seen: &[Seen],
 ) -> Result<Vec<Build>, AllocError>
-    ensures value { IfOk result (λ builds. builds.items ≡ written_builds stamps new place false seen.now) }
+    ensures value { IfOk result (λ builds. builds.items ≡ written_builds stamps new from false seen.now) }
 {
     let mut builds = Vec::with_capacity(alloc, seen.len())?;
-    let mut from = place;
     let mut beside = false;
-    let mut rest = seen;
-    'builds: while let Some((build, later)) = rest.split_first() {
+    'builds: while let Some((build, later)) = seen.split_first() {
         let doubts = build.doubts(stamps, from < new);
         // If MTIME is of the end, what hides beside a build counts only where the log may have been written anew.
         let counts = stamps.is_start() || from < new;
@@ -272,7 +208,7 @@ fn written_builds(
         })?;
         beside = doubts;
         from = build.to;
-        rest = later;
+        seen = later;
     }
     Ok(builds)
 }

@@ -1,6 +1,6 @@
 //! The commands of a log, as the entries of their outputs tell them.
-ghost use Rattle.std.specs.{Prelude.{◌≡◌, [], drop, nat_lt, false, IfOk}, List.{list_any}, List.Sorted.{IsNonDecreasing}};
-ghost use Rattle.nl_builds.specs.{Commands.{commands, falls, is_more, is_same, latest, longer, moment, one, row_or, row_to, row_with, tells, waited, waits_from, with_next, with_rows}};
+ghost use Rattle.std.specs.Prelude.{◌≡◌, [], drop, IfOk};
+ghost use Rattle.nl_builds.specs.{Commands.{commands, is_same, latest, moment, one, row_or, row_with, tells, waits_from, with_rows}};
 
 use nl_fields::EntryRef;
 use std::alloc::{AllocError, Global};
@@ -40,29 +40,6 @@ impl Command {
         }
     }
 
-    // `first` and `last` are the names of its first output and of its last.
-    fn is_more(&self, first: &[u8], last: &[u8], entry: &EntryRef) -> bool
-        ensures { result ≡ is_more self.now first.now last.now entry.now }
-    {
-        self.began == moment(entry.start_ms)
-            && self.ended == moment(entry.end_ms)
-            && self.hash == entry.hash
-            && !(entry.name() == first || entry.name() == last)
-    }
-
-    // The entry stands before place `to`.
-    fn longer(self, to: usize, entry: &EntryRef) -> Command
-        ensures value { result ≡ longer self to entry.now }
-    {
-        let agrees = self.mtime == entry.mtime;
-        Command {
-            mtime: if agrees { self.mtime } else { 0 },
-            to,
-            is_manifest: self.is_manifest || entry.name() == MANIFEST.as_slice(),
-            ..self
-        }
-    }
-
     /// Its build began at this moment or before: MTIME less START, in nanoseconds from 2^31 milliseconds before MTIME's zero, so that none is
     /// negative. None unless MTIME is above 0.
     pub fn latest(&self) -> Option<u64>
@@ -85,13 +62,6 @@ impl Command {
         self.mtime > 0
     }
 
-    // END falls from this one to the other.
-    pub(crate) fn falls(&self, other: &Command) -> bool
-        ensures { result ≡ falls self.now other.now }
-    {
-        other.ended < self.ended
-    }
-
     pub(crate) fn is_same(&self, other: &Command) -> bool
         ensures { result ≡ is_same self.now other.now }
     {
@@ -110,10 +80,7 @@ pub fn moment(ms: i32) -> u32
 pub(crate) fn latest(mtime: i64, ms: u32) -> Option<u64>
     ensures value { result ≡ latest mtime ms }
 {
-    if mtime <= 0 {
-        return None;
-    }
-    Some(mtime.unsigned_abs() + ((1 << 32) - u64::from(ms)) * NANOS)
+    (mtime > 0).then(|| mtime.unsigned_abs() + ((1 << 32) - u64::from(ms)) * NANOS)
 }
 
 pub fn commands_of(alloc: Global, entries: &[EntryRef]) -> Result<Vec<Command>, AllocError>
@@ -129,11 +96,16 @@ pub fn commands_of(alloc: Global, entries: &[EntryRef]) -> Result<Vec<Command>, 
     let mut last = first;
     for entry in later {
         place += 1;
-        if current.is_more(first, last, entry) {
-            current = current.longer(place, entry);
+        let alone = Command::one(place, entry);
+        if current.is_same(&alone) && !(entry.name() == first || entry.name() == last) {
+            if current.mtime != alone.mtime {
+                current.mtime = 0;
+            }
+            current.to = place;
+            current.is_manifest = current.is_manifest || alone.is_manifest;
         } else {
             found.push(current)?;
-            current = Command::one(place, entry);
+            current = alone;
             first = entry.name();
         }
         last = entry.name();
@@ -170,20 +142,6 @@ impl Row {
             },
         }
     }
-
-    // The next one has what it and those behind it in its row tell.
-    fn with_next(self, next: Option<Row>) -> Row
-        ensures value { result ≡ with_next self next }
-    {
-        match next {
-            Some(other) if self.ended <= other.ended => Row {
-                up: self.up.min(other.up),
-                wait: self.wait.min(other.wait),
-                ..self
-            },
-            _ => self,
-        }
-    }
 }
 
 /// Each with its START, if it waited for one before it in its row.
@@ -193,56 +151,35 @@ pub(crate) fn with_waits(alloc: Global, commands: &[Command]) -> Result<Vec<Row>
     let mut found = Vec::with_capacity(alloc, commands.len())?;
     let mut row = Vec::new(alloc);
     for command in commands {
-        cut_row(&mut row, command.ended);
-        let has_waited = waited(row.as_slice(), command);
+        // A row ends where END falls.
+        if row.last().is_some_and(|last| *last > command.ended) {
+            row.clear();
+        }
+        // Whether it waited for one of the row, in which ENDs rise.
+        let began = u64::from(command.began);
+        let at = row.partition_point(|ended| u64::from(*ended) + 1 < began);
+        let has_waited = row.get(at).is_some_and(|ended| *ended <= command.began);
         found.push(Row::of(command, has_waited))?;
         row.push(command.ended)?;
     }
     Ok(found)
 }
 
-// A row ends where END falls.
-fn cut_row(row: &mut Vec<u32>, ended: u32)
-    requires { IsNonDecreasing row.old.items }
-    ensures row { row.new.items ≡ row_to row.old.items ended }
-    ensures none_behind { list_any (nat_lt ended) row.new.items ≡ false }
-{
-    if row.is_empty() {
-        return;
-    }
-    if row[row.len() - 1] <= ended {
-        return;
-    }
-    row.clear();
-}
-
-// It waited for one of the row. ENDs in a row rise.
-fn waited(row: &[u32], command: &Command) -> bool
-    requires { IsNonDecreasing row.now }
-    ensures value { result ≡ waited row.now command.now }
-{
-    let began = u64::from(command.began);
-    let at = row.partition_point(|ended| u64::from(*ended) + 1 < began);
-    if at == row.len() {
-        return false;
-    }
-    row[at] <= command.began
-}
-
 /// Each with what it and those behind it in its row tell.
-pub(crate) fn with_rows(rows: Vec<Row>) -> Vec<Row>
+pub(crate) fn with_rows(mut rows: Vec<Row>) -> Vec<Row>
     ensures value { result.items ≡ with_rows rows.items }
 {
-    let mut found = rows;
-    let mut next = None;
-    let mut at = found.len();
-    'commands: while at > 0 {
+    let mut at = rows.len();
+    'commands: while at > 1 {
         at -= 1;
-        let told = found[at].with_next(next);
-        found[at] = told;
-        next = Some(told);
+        let next = rows[at];
+        let row = &mut rows[at - 1];
+        if row.ended <= next.ended {
+            row.up = row.up.min(next.up);
+            row.wait = row.wait.min(next.wait);
+        }
     }
-    found
+    rows
 }
 
 /// What the first of some rows tells, and those behind it. If there is none, the command tells alone, as in a log that was written anew.

@@ -1,6 +1,6 @@
 //! What is known of a build so far, and where another begins.
 ghost use Rattle.std.specs.Prelude.{◌≡◌, ◌+◌, ◌<◌, ◌^◌, length, IfOk, None};
-ghost use Rattle.nl_builds.specs.{Builds.{first_back, walk}, Moments.{is_past, reaches}, Seen.{begun, doubts, is_after, is_back, is_behind, is_moment_of, is_tied, known, mark, past_by, told, with_command}};
+ghost use Rattle.nl_builds.specs.{Builds.{first_back, walk}, Moments.{is_past, reaches}, Seen.{begun, doubts, is_after, is_back, is_behind, is_doubtful, is_tied, known, mark, past_by, told, with_command}};
 
 use crate::command::{Command, NANOS, Row, split_row};
 use crate::reading::Stamps;
@@ -35,6 +35,13 @@ pub(crate) enum Mark {
     Doubtful,
     Unsure,
     Sure,
+}
+
+// A command behind a build, and what its row tells.
+#[derive(Drop)]
+struct Next<'c> {
+    command: &'c Command,
+    row: Row,
 }
 
 /// A moment, and an END that counts from it.
@@ -73,23 +80,17 @@ pub(crate) struct Seen {
 
 impl Seen {
     /// The command stands before place `to`.
-    pub(crate) fn begun(
-        stamps: Stamps,
-        to: usize,
-        is_sure: bool,
-        past: Option<Past>,
-        command: &Command,
-        row: &Row,
-    ) -> Seen
-        ensures value { result ≡ begun stamps to is_sure past command.now row.now }
+    fn begun(stamps: Stamps, to: usize, is_sure: bool, past: Option<Past>, next: &Next) -> Seen
+        ensures value { result ≡ begun stamps to is_sure past next.now.command.now next.now.row }
     {
+        let command = next.command;
         let (earliest, latest) = (command.earliest().unwrap_or(0), command.latest());
         let until = latest.unwrap_or(u64::MAX);
         Seen {
             to,
             is_sure,
             is_doubtful: !command.tells(),
-            began: told(stamps, past, command, row),
+            began: told(stamps, past, next),
             past,
             earliest,
             latest: until,
@@ -98,31 +99,24 @@ impl Seen {
             last: *command,
             piece: earliest,
             pieces: u64::MAX,
-            oldest: if row.has_waited { u64::MAX } else { until },
+            oldest: if next.row.has_waited { u64::MAX } else { until },
         }
     }
 
     /// The command stands before place `to`.
-    pub(crate) fn add(
-        &mut self,
-        stamps: Stamps,
-        to: usize,
-        is_doubtful: bool,
-        moment: Option<u64>,
-        command: &Command,
-        row: &Row,
-    )
-        requires told { moment ≡ told stamps self.old.past command.now row.now }
-        ensures value { self.new ≡ with_command self.old stamps to is_doubtful command.now row.now }
+    fn add(&mut self, stamps: Stamps, to: usize, mark: Mark, moment: Option<u64>, next: &Next)
+        requires told { moment ≡ told stamps self.old.past next.now.command.now next.now.row }
+        ensures value { self.new ≡ with_command self.old stamps to (is_doubtful mark) next.now.command.now next.now.row }
     {
+        let command = next.command;
         let (earliest, latest) = (command.earliest().unwrap_or(0), command.latest());
         let until = latest.unwrap_or(u64::MAX);
-        if !self.is_tied(row) {
+        if !self.is_tied(&next.row) {
             self.pieces = self.pieces.min(self.piece);
             self.piece = 0;
         }
         self.to = to;
-        self.is_doubtful = self.is_doubtful || is_doubtful || !command.tells();
+        self.is_doubtful = self.is_doubtful || matches!(mark, Mark::Doubtful) || !command.tells();
         self.began = match (self.began, moment) {
             (Some(a), Some(b)) => Some(if stamps.is_start() {
                 a.min(b)
@@ -136,35 +130,30 @@ impl Seen {
         self.top = self.top.max(latest.unwrap_or(0));
         self.ended = self.ended.max(command.ended);
         self.piece = self.piece.max(earliest);
-        if !row.has_waited {
+        if !next.row.has_waited {
             self.oldest = self.oldest.min(until);
         }
         self.last = *command;
     }
 
     /// What stands before a command behind this build.
-    pub(crate) fn mark(
-        &self,
-        order: Order,
-        stamps: Stamps,
-        moment: Option<u64>,
-        command: &Command,
-        row: &Row,
-    ) -> Mark
-        requires told { moment ≡ told stamps self.now.past command.now row.now }
-        ensures { result ≡ mark order stamps self.now command.now row.now }
+    fn mark(&self, order: Order, stamps: Stamps, moment: Option<u64>, next: &Next) -> Mark
+        requires told { moment ≡ told stamps self.now.past next.now.command.now next.now.row }
+        ensures { result ≡ mark order stamps self.now next.now.command.now next.now.row }
     {
+        let command = next.command;
         if matches!(order, Order::ByMoment) {
             return if self.last.is_manifest
                 || command.is_manifest
-                || self.is_behind(told(stamps, None, command, row))
+                || self.is_behind(told(stamps, None, next))
             {
                 Mark::Unsure
             } else {
                 Mark::Inside
             };
         }
-        if self.last.falls(command) || self.last.is_same(command) {
+        // END falls, or the command ran again.
+        if command.ended < self.last.ended || self.last.is_same(command) {
             return Mark::Sure;
         }
         if self.last.is_manifest {
@@ -174,7 +163,7 @@ impl Seen {
         if self.is_behind(moment) {
             return if stamps.is_start() && self.is_behind(command.earliest()) {
                 Mark::Sure
-            } else if self.is_tied(row) {
+            } else if self.is_tied(&next.row) {
                 Mark::Doubtful
             } else {
                 Mark::Unsure
@@ -234,7 +223,8 @@ impl Seen {
         match stamps {
             Stamps::Unknown => false,
             Stamps::OfEnd => !is_after(before, known(self.top))
-                || is_moment_of(before, known(self.earliest)),
+                || before.zip(known(self.earliest)).is_some_and(|(past, at)| past.ended >= LASTED
+                    && past.began.abs_diff(at) <= ONE_MOMENT),
             Stamps::OfStart => is_past(SLACK, self.latest, self.earliest)
                 || !is_after(before, Some(self.latest)),
         }
@@ -256,22 +246,13 @@ fn is_after(end: Option<Past>, moment: Option<u64>) -> bool
         .is_none_or(|(past, at)| reaches(past.began, past.ended, at))
 }
 
-// The build with this end began at this moment, and took long enough.
-fn is_moment_of(end: Option<Past>, moment: Option<u64>) -> bool
-    ensures { result ≡ is_moment_of end moment }
-{
-    end.zip(moment).is_some_and(|(past, at)| past.ended >= LASTED
-        && !is_past(ONE_MOMENT, past.began, at)
-        && !is_past(ONE_MOMENT, at, past.began))
-}
-
 // When its build began, as borders go by it.
-fn told(stamps: Stamps, past: Option<Past>, command: &Command, row: &Row) -> Option<u64>
-    ensures value { result ≡ told stamps past command.now row.now }
+fn told(stamps: Stamps, past: Option<Past>, next: &Next) -> Option<u64>
+    ensures value { result ≡ told stamps past next.now.command.now next.now.row }
 {
     match stamps {
-        Stamps::OfStart if command.tells() => Some(row.up),
-        Stamps::OfEnd if is_after(past, command.latest()) => command.earliest(),
+        Stamps::OfStart if next.command.tells() => Some(next.row.up),
+        Stamps::OfEnd if is_after(past, next.command.latest()) => next.command.earliest(),
         _ => None,
     }
 }
@@ -311,12 +292,17 @@ pub(crate) fn walk(
     };
     let mut to = place + 1;
     let (row, mut rest) = split_row(start, rows);
-    let mut current = Seen::begun(stamps, to, is_sure, None, start, &row);
+    let next = Next {
+        command: start,
+        row,
+    };
+    let mut current = Seen::begun(stamps, to, is_sure, None, &next);
     for command in later {
         to += 1;
         let (row, behind) = split_row(command, rest);
-        let moment = told(stamps, current.past, command, &row);
-        let mark = current.mark(order, stamps, moment, command, &row);
+        let next = Next { command, row };
+        let moment = told(stamps, current.past, &next);
+        let mark = current.mark(order, stamps, moment, &next);
         if matches!(mark, Mark::Unsure | Mark::Sure) {
             found.push(current)?;
             // It tells of the next build only if they stand as Ninja wrote them.
@@ -325,10 +311,9 @@ pub(crate) fn walk(
                 Order::ByMoment => None,
             };
             let is_sure = matches!(mark, Mark::Sure);
-            current = Seen::begun(stamps, to, is_sure, past, command, &row);
+            current = Seen::begun(stamps, to, is_sure, past, &next);
         } else {
-            let is_doubtful = matches!(mark, Mark::Doubtful);
-            current.add(stamps, to, is_doubtful, moment, command, &row);
+            current.add(stamps, to, mark, moment, &next);
         }
         rest = behind;
     }

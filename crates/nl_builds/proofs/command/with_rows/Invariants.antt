@@ -1,14 +1,13 @@
-use Rattle.std.proofs.Common.{◌≡◌, ◌≤◌, drop, length, take}
-use Rattle.nl_builds.specs.Commands.{first_of, with_rows}
+use Rattle.std.proofs.Common.{◌≡◌, ◌≤◌, ◌-◌, drop, length, take}
+use Rattle.nl_builds.specs.Commands.{with_rows}
 use Rattle.nl_builds.proofs.RowLemmas.{rows_onto}
 use Rattle.nl_builds.proofs.command.with_rows.Given as goal
 
--- those behind a place have theirs
+-- those from a place on have theirs
 abbrev pub invariant-commands : goal.invariant-commands
 invariant-commands l = record {
-  told : rows_onto (take l.at l.found.items) (drop l.at l.found.items) ≡ with_rows l.fn.rows.items;
-  next : l.next ≡ first_of (drop l.at l.found.items);
-  within : l.at ≤ length l.found.items;
+  told : rows_onto (take (l.at - 1) l.rows.items) (drop (l.at - 1) l.rows.items) ≡ with_rows l.fn.rows.items;
+  within : l.at ≤ length l.rows.items;
 }
 
 abbrev pub decreases-commands : goal.decreases-commands
