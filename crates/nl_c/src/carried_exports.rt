@@ -2,12 +2,13 @@
 ghost use Rattle.std.specs.Prelude.{◌≡◌, ◌≢◌, ◌⊎◌, ◌++◌, ℕ, List, None, IsSomeAnd, option_and_then};
 ghost use Rattle.nl_c.specs.{LoadedLogs.{IsLoadedAs}, CarriedLogs.{IsNewCarried, CarriedOpened, Keeps, Anew, CarriedWritten, CarriedText, CarriedHeader, CarriedLine, Ends, Planned, Withdrawn, LooseLine, intent_stamp}, Held.{InCarried, IsCarriedAnd, all_of, loaded_in, loaded_of}, Written.{Recorded, Begun, Synced, Stopped, Recompacted, Restatted, DeadMarked, TimeMarked, Cleared}, Statuses.{ok, no_handle, out_of_memory}};
 
-use crate::carried_log::CarriedLog;
+use crate::carried_log::{CarriedLog, all_of};
 use crate::exports::lent;
 use crate::handle::{Handle, Held};
-use crate::loaded_log::CStamp;
-use crate::marks::Marks;
-use crate::status;
+use crate::marks::{Marks, is_planned};
+use crate::{look_up, status};
+use nl_fields::{EntryRef, Name, NameFault, Stamp};
+use nl_session::LogState;
 use nl_table::Secret;
 use std::alloc::Global;
 
@@ -81,7 +82,7 @@ pub extern "C" fn carried_record(
     handle: &mut Handle,
     alloc: Global,
     name: &[u8],
-    stamp: &CStamp,
+    stamp: &Stamp,
 ) -> u32
     ensures call { InCarried (Ends name.now (Recorded name.now stamp.now)) result handle.old.kept.log handle.new.kept.log }
 {
@@ -111,7 +112,7 @@ pub extern "C" fn carried_plan(
     moment_ms: i32,
     hash: u64,
     anew: bool,
-    before: &mut CStamp,
+    before: &mut Stamp,
 ) -> u32
     ensures call { InCarried (Planned name.now (intent_stamp moment_ms hash) anew (before.old, before.new)) result handle.old.kept.log handle.new.kept.log }
 {
@@ -124,12 +125,12 @@ pub extern "C" fn carried_withdraw(
     handle: &mut Handle,
     alloc: Global,
     name: &[u8],
-    before: &CStamp,
+    before: &Stamp,
 ) -> u32
     ensures call { InCarried (Withdrawn name.now before.now) result handle.old.kept.log handle.new.kept.log }
 {
     carried!(handle, alloc, log => {
-        if log.plans.stands(name) { log.record(name, before) } else { status::NOT_FOUND }
+        if is_planned(&log.plans, name) { log.record(name, before) } else { status::NOT_FOUND }
     })
 }
 
@@ -139,7 +140,7 @@ pub extern "C" fn carried_loose_line(
     handle: &mut Handle,
     alloc: Global,
     name: &[u8],
-    stamp: &CStamp,
+    stamp: &Stamp,
     bytes: &mut [u8],
     len: &mut usize,
 ) -> u32
@@ -153,7 +154,16 @@ pub extern "C" fn carried_loose_line(
 pub extern "C" fn carried_written(handle: &mut Handle, alloc: Global, len: u64) -> u32
     ensures call { InCarried (CarriedWritten len) result handle.old.kept.log handle.new.kept.log }
 {
-    carried!(handle, alloc, log => log.note_written(len))
+    carried!(handle, alloc, log => {
+        if log.written.log.state() != LogState::Open {
+            status::NOT_OPEN
+        } else if log.written.log.folder().len() != len {
+            status::NOT_FOUND
+        } else {
+            log.carried = all_of(&log.written, &mut log.waits);
+            status::OK
+        }
+    })
 }
 
 /// Call it after the file was synced.
@@ -191,7 +201,10 @@ pub extern "C" fn carried_close(handle: &mut Handle, alloc: Global) -> u32
 pub extern "C" fn carried_mark_dead(handle: &mut Handle, alloc: Global, name: &[u8]) -> u32
     ensures call { InCarried (Keeps (DeadMarked name.now)) result handle.old.kept.log handle.new.kept.log }
 {
-    carried!(handle, alloc, log => log.written.marks.add_dead(name))
+    carried!(handle, alloc, log => match EntryRef::new(0, 0, 0, name, 0) {
+        Ok(entry) => status::of_room(log.written.marks.dead.enter(&entry)),
+        Err(_) => status::BAD_NAME,
+    })
 }
 
 #[unsafe(no_mangle)]
@@ -203,7 +216,11 @@ pub extern "C" fn carried_mark_time(
 ) -> u32
     ensures call { InCarried (Keeps (TimeMarked name.now mtime)) result handle.old.kept.log handle.new.kept.log }
 {
-    carried!(handle, alloc, log => log.written.marks.add_time(alloc, name, mtime))
+    carried!(handle, alloc, log => match Name::read(alloc, name) {
+        Ok(name) => status::of_room(log.written.marks.times.push((name, mtime))),
+        Err(NameFault::OutOfMemory) => status::OUT_OF_MEMORY,
+        Err(_) => status::BAD_NAME,
+    })
 }
 
 #[unsafe(no_mangle)]
@@ -247,5 +264,11 @@ pub extern "C" fn carried_line(
 ) -> u32
     ensures call { InCarried (CarriedLine place (bytes.old, bytes.new) (len.old, len.new)) result handle.old.kept.log handle.new.kept.log }
 {
-    carried!(handle, alloc, log => log.entry_line(place, bytes, len))
+    carried!(handle, alloc, log => match log.written.log.table() {
+        Some(table) => match table.at(place) {
+            Some(entry) => look_up::spell(&entry, &mut log.line, bytes, len),
+            None => status::NOT_FOUND,
+        },
+        None => status::NOT_OPEN,
+    })
 }

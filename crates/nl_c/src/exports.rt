@@ -6,9 +6,12 @@ ghost use Rattle.nl_versions.specs.VersionOf.{as_five};
 ghost use Rattle.nl_c.specs.{LoadedLogs.{IsDistrustedFrom, IsLoadedAs}, Answers.{answered_at, answered_count, answered_facts, answered_find, answer_line}, Held.{LoadsInto, loaded_in, table_in}, Written.{NamesNoLog, NamesOther}, Statuses.{ok, bad_name, text_in, status_text}};
 
 use crate::handle::{Handle, Held};
-use crate::loaded_log::{CStamp, Facts, LoadedLog};
+use crate::loaded_log::{Facts, LoadedLog};
 use crate::{look_up, status};
-use nl_fields::{MAX_LINE, command_hash, command_hash_v7, name_fault, read_entry, read_entry_v4};
+use nl_distrust::distrusted;
+use nl_fields::{
+    MAX_LINE, Stamp, command_hash, command_hash_v7, name_fault, read_entry, read_entry_v4,
+};
 use nl_table::{OLDEST_VERSION, Secret, is_due};
 use std::alloc::Global;
 
@@ -84,10 +87,16 @@ pub extern "C" fn nlog_load_distrusted(
     ensures { LoadsInto (IsDistrustedFrom bytes.now) (log_of (as_five bytes.now) ≡ NotALog) (log_of (as_five bytes.now) ≡ OtherVersion) result
         handle.old.kept.log handle.new.kept.log }
 {
-    match LoadedLog::load_distrusted(alloc, Secret::of(key0, key1), bytes) {
-        Ok(log) => handle.put(alloc, Held::Loaded(log)),
-        Err(refused) => status::of_log_fault(refused.into()),
-    }
+    let mut log = match LoadedLog::load(alloc, 0, Secret::of(key0, key1), bytes) {
+        Ok(log) => log,
+        Err(refused) => return status::of_log_fault(refused.into()),
+    };
+    let Ok(table) = distrusted(alloc, log.loaded.version, bytes, &log.loaded.table) else {
+        return status::OUT_OF_MEMORY;
+    };
+    log.loaded.table = table;
+    log.is_all = false;
+    handle.put(alloc, Held::Loaded(log))
 }
 
 /// A handle without a log stays as it is.
@@ -135,7 +144,7 @@ pub extern "C" fn nlog_at(
     handle: &mut Handle,
     alloc: Global,
     place: usize,
-    stamp: &mut CStamp,
+    stamp: &mut Stamp,
     name: &mut [u8],
     name_len: &mut usize,
 ) -> u32
@@ -153,7 +162,7 @@ pub extern "C" fn nlog_find(
     handle: &mut Handle,
     alloc: Global,
     name: &[u8],
-    stamp: &mut CStamp,
+    stamp: &mut Stamp,
 ) -> u32
     ensures same { handle.new.kept.log ≡ handle.old.kept.log }
     ensures value { (result, stamp.new) ≡ answered_find (table_in handle.old.kept.log) name.now stamp.old }
@@ -166,7 +175,7 @@ pub extern "C" fn nlog_find(
 pub extern "C" fn nlog_read_line(
     version: u32,
     line: &[u8],
-    stamp: &mut CStamp,
+    stamp: &mut Stamp,
     name: &mut [u8],
     name_len: &mut usize,
 ) -> u32

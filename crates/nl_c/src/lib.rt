@@ -11,5 +11,4 @@ mod loaded_log;
 mod look_up;
 mod marks;
 mod more;
-mod opening;
 mod status;

@@ -4,26 +4,23 @@ ghost use Rattle.nl_fields.specs.EntryLine.{line_of};
 ghost use Rattle.nl_lines.specs.Split.{with_newline};
 ghost use Rattle.nl_c.specs.{CarriedLogs.{holds_line}, Statuses.{ok, no_room, out_of_memory}, Answers.{answer_find, entry_in}};
 
-use crate::loaded_log::CStamp;
 use crate::status;
-use nl_fields::{EntryRef, append_entry};
+use nl_fields::{EntryRef, Stamp, append_entry};
 use nl_table::Table;
 
-pub(crate) fn find(table: &Table, name: &[u8], stamp: &mut CStamp) -> u32
+pub(crate) fn find(table: &Table, name: &[u8], stamp: &mut Stamp) -> u32
     ensures { (result, stamp.new) ≡ answer_find table.now name.now stamp.old }
 {
-    match table.get(name) {
-        Some(entry) => {
-            *stamp = CStamp::of(&entry);
-            status::OK
-        }
-        None => status::NOT_FOUND,
-    }
+    let Some(entry) = table.get(name) else {
+        return status::NOT_FOUND;
+    };
+    *stamp = entry.stamp();
+    status::OK
 }
 
 pub(crate) fn fill(
     found: Option<EntryRef>,
-    stamp: &mut CStamp,
+    stamp: &mut Stamp,
     name: &mut [u8],
     name_len: &mut usize,
 ) -> u32
@@ -33,7 +30,7 @@ pub(crate) fn fill(
     let Some(entry) = found else {
         return status::NOT_FOUND;
     };
-    *stamp = CStamp::of(&entry);
+    *stamp = entry.stamp();
     let bytes = entry.name();
     *name_len = bytes.len();
     if bytes.len() > name.len() {

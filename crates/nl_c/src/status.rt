@@ -62,10 +62,7 @@ pub(crate) fn of_answer(answer: Result<(), LogFault>) -> u32
 pub(crate) fn of_room<E: Drop>(answer: Result<(), E>) -> u32
     ensures { result ≡ if_room answer }
 {
-    match answer {
-        Ok(()) => OK,
-        Err(_) => OUT_OF_MEMORY,
-    }
+    if answer.is_ok() { OK } else { OUT_OF_MEMORY }
 }
 
 pub(crate) fn text(status: u32) -> &'static [u8]
