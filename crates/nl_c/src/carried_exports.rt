@@ -5,11 +5,11 @@ ghost use Rattle.nl_c.specs.{LoadedLogs.{IsLoadedAs}, CarriedLogs.{IsNewCarried,
 use crate::carried_log::{CarriedLog, all_of};
 use crate::exports::lent;
 use crate::handle::{Handle, Held};
-use crate::marks::{Marks, is_planned};
+use crate::marks::is_planned;
 use crate::{look_up, status};
 use nl_fields::{EntryRef, Name, NameFault, Stamp};
 use nl_session::LogState;
-use nl_table::Secret;
+use nl_table::{Secret, Table};
 use std::alloc::Global;
 
 // Gives the log that a handle carries to a call, and puts it back. Where there is none, nothing is changed.
@@ -228,7 +228,9 @@ pub extern "C" fn carried_clear_marks(handle: &mut Handle, alloc: Global) -> u32
     ensures call { InCarried (Keeps Cleared) result handle.old.kept.log handle.new.kept.log }
 {
     carried!(handle, alloc, log => {
-        log.written.marks = Marks::new(alloc, log.written.marks.dead.secret());
+        let secret = log.written.marks.dead.secret();
+        log.written.marks.dead = Table::with_secret(alloc, secret);
+        log.written.marks.times = Vec::new(alloc);
         status::OK
     })
 }

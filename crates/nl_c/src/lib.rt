@@ -10,5 +10,4 @@ mod laws;
 mod loaded_log;
 mod look_up;
 mod marks;
-mod more;
 mod status;
