@@ -17,9 +17,9 @@ use Rattle.nl_reports.specs.Ticks.{IsRound, IsStep, step_in, step_of, steps}
 use Rattle.nl_reports.specs.Times.{job_work, no_times, share_of, time_in, times_of, total, with_job, with_time}
 use Rattle.nl_reports.specs.Work.{is_same, place}
 use Rattle.nl_reports.specs.declared.frame.Frame.{Frame}
-use Rattle.nl_reports.specs.declared.work.Times.{Times}
-use Rattle.nl_reports.specs.declared.work.Work.{Work}
-use Rattle.nl_reports.specs.declared.work.Work.TheVariants.{Compile, Link, Archive, Generate, Test, Other}
+use Rattle.nl_reports.specs.declared.kinds.Times.{Times}
+use Rattle.nl_reports.specs.declared.kinds.Work.{Work}
+use Rattle.nl_reports.specs.declared.kinds.Work.TheVariants.{Compile, Link, Archive, Generate, Test, Other}
 
 -- ---- the times of kinds
 

@@ -11,7 +11,7 @@ use Rattle.std.proofs.lemmas.List.Elements.{All-cons, All-contains, All-from_get
 use Rattle.std.proofs.lemmas.List.Sorted.{All-permutation, Contains-permutation, IsPermutation-sym, sum_by-IsPermutation}
 use Rattle.std.proofs.lemmas.List.Sums.{sum_by-cons}
 use Rattle.nl_reports.specs.declared.moments.Span.{Span}
-use Rattle.nl_reports.specs.declared.shares.Shares.{Shares}
+use Rattle.nl_reports.specs.declared.moments.Shares.{Shares}
 use Rattle.nl_reports.specs.Sweep.{before, runs_at, running, share_of, any_of, alone_of, last_moment, busy_time, alone_time, most_at_once, weight}
 use Rattle.nl_reports.specs.SweepSteps.{Rises, running_by, shares_before}
 use Rattle.nl_reports.specs.Shares.{AreSharesOf}

@@ -8,7 +8,7 @@ use Rattle.std.proofs.lemmas.List.{length-append, map_more}
 use Rattle.std.proofs.lemmas.List.Sums.{sum_by-cons}
 use Rattle.nl_reports.specs.Sweep.{before, share_of, any_of, alone_of}
 use Rattle.nl_reports.specs.SweepSteps.{AreSums, IsLow, IsSwept, Rises, Swept, running_by, shares_before}
-use Rattle.nl_reports.specs.declared.shares.Sums.{Sums}
+use Rattle.nl_reports.specs.declared.moments.Sums.{Sums}
 use Rattle.nl_reports.proofs.SweepLemmas.{before-constant}
 
 -- the sums at a moment up to which so many run

@@ -26,9 +26,9 @@ use Rattle.nl_reports.specs.declared.frame.Frame.{Frame}
 use Rattle.nl_reports.specs.declared.picture.Known.{Known}
 use Rattle.nl_reports.specs.declared.picture.Known.TheVariants.{AsWritten, FoundAgain, SomeAgain, Missing}
 use Rattle.nl_reports.specs.declared.moments.Span.{Span}
-use Rattle.nl_reports.specs.declared.work.Times.{Times}
-use Rattle.nl_reports.specs.declared.work.Work.{Work}
-use Rattle.nl_reports.specs.declared.work.Work.TheVariants.{Compile, Link, Archive, Generate, Test, Other}
+use Rattle.nl_reports.specs.declared.kinds.Times.{Times}
+use Rattle.nl_reports.specs.declared.kinds.Work.{Work}
+use Rattle.nl_reports.specs.declared.kinds.Work.TheVariants.{Compile, Link, Archive, Generate, Test, Other}
 
 -- what was built: how many commands, how long it took, and how many ran at a time, with one digit after the point
 abbrev pub commands_word : ℕ → List ℕ

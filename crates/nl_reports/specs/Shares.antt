@@ -2,7 +2,7 @@
 use Rattle.std.specs.Prelude.{◌≡◌, List, length}
 use Rattle.nl_reports.specs.Moments.{AreMoments}
 use Rattle.nl_reports.specs.SweepSteps.{IsSwept, Swept}
-use Rattle.nl_reports.specs.declared.shares.Shares.{Shares}
+use Rattle.nl_reports.specs.declared.moments.Shares.{Shares}
 use Rattle.nl_reports.specs.declared.moments.Span.{Span}
 
 abbrev pub swept_of : Shares → Swept

@@ -1,7 +1,7 @@
 -- The steps of a sweep.
 use Rattle.std.specs.Prelude.{◌≡◌, ℕ, ◌-◌, ◌*◌, ◌<◌, ◌≤◌, ◌^◌, nat_le, List, length, map, take, count_by, slice_index}
 use Rattle.nl_reports.specs.Sweep.{before, share_of, any_of, alone_of, parts}
-use Rattle.nl_reports.specs.declared.shares.Sums.{Sums}
+use Rattle.nl_reports.specs.declared.moments.Sums.{Sums}
 
 -- the moments are in order, and none is above 2 ^ 32
 pub record Rises (moments : List ℕ) : Type 0 where

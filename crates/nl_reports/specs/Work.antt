@@ -1,7 +1,7 @@
 -- What a command does, by the extension of its first output (docs/CLI.md, "`picture`").
 use Rattle.std.specs.Prelude.{bytes_eq, Bool, true, false, ℕ, List, [], ◌∷◌, codes, ◌==◌, if◌then◌else◌}
-use Rattle.nl_reports.specs.declared.work.Work.{Work}
-use Rattle.nl_reports.specs.declared.work.Work.TheVariants.{Compile, Link, Archive, Generate, Test, Other}
+use Rattle.nl_reports.specs.declared.kinds.Work.{Work}
+use Rattle.nl_reports.specs.declared.kinds.Work.TheVariants.{Compile, Link, Archive, Generate, Test, Other}
 
 -- from the last dot on, if no `/` follows; `found` is from what stands before the rest
 abbrev pub extension_behind : List ℕ → List ℕ → List ℕ

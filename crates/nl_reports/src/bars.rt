@@ -4,8 +4,7 @@ ghost use Rattle.nl_reports.specs.{Bars.{bar, bar_before, base_of, drawn_width, 
 
 use crate::frame::{Frame, append_seconds};
 use crate::job::Job;
-use crate::kinds::{KindRule, kind_of as kind_by};
-use crate::work::{place, work_of};
+use crate::kinds::{KindRule, kind_of as kind_by, place, work_of};
 use nl_tool_texts::{AllocResult, append, append_cut_name, append_label, put};
 
 // A command whose bar would be narrower shares one with others.

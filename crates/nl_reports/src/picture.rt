@@ -9,12 +9,12 @@ use crate::critical::{FoundPath, critical_of};
 use crate::frame::{Frame, append_curve, append_ticks};
 use crate::graph::NinjaGraph;
 use crate::job::{Job, spans_of};
+use crate::kinds::{Times, Work, place, word};
 use crate::lanes::lanes_of;
 use crate::last_entries::item_at;
 use crate::moments::Moments;
 use crate::summary::taken_in;
 use crate::trace::FULL;
-use crate::work::{Times, Work, place, word};
 use nl_builds::Builds;
 use nl_table::Secret;
 use nl_tool_texts::{

@@ -3,7 +3,7 @@ ghost use Rattle.std.specs.Prelude.{◌≡◌, ◌<◌, ◌^◌, ◌++◌, map, 
 ghost use Rattle.nl_reports.specs.Rows.{Told, both_lists, heading, list_key, list_line, list_lines, rank_told, shown_name, told_command, told_row};
 
 use crate::kinds::KindRule;
-use crate::shares::PARTS;
+use crate::moments::PARTS;
 use nl_table::Secret;
 use nl_tool_texts::{
     AllocResult, Part, Ranking, append, append_line, highest, percent, put, ratio,
@@ -115,7 +115,12 @@ impl Ranked {
         requires room { self.now.total < 2 ^ 120 }
         ensures items { OnOk result (lines.new.items ≡ lines.old.items ++ list_lines self.now rank (map T.told all.now)) }
     {
-        append(heading(self.lists.screen, self.listed), lines)?;
+        let heading: &[u8] = match (self.lists.screen, self.listed) {
+            (false, _) => b"",
+            (true, Listed::Commands) => b"\nSlowest commands\nTime\tShare\tOutput\n",
+            (true, Listed::Kinds) => b"\nKinds of commands\nTime\tShare\tCommands\tKind\n",
+        };
+        append(heading, lines)?;
         let items = highest(*lines.allocator(), &rank, self.lists.most, all)?;
         for item in &items {
             self.append_row(rank, &item.row(), lines)?;
@@ -127,7 +132,15 @@ impl Ranked {
         requires room { self.now.total < 2 ^ 120 }
         ensures items { OnOk result (lines.new.items ≡ lines.old.items ++ list_line self.now rank (told_row row.now)) }
     {
-        let name = Part::Text(shown_name(self.listed, row.name));
+        let name = match self.listed {
+            Listed::Commands => row.name,
+            Listed::Kinds => if row.name.is_empty() {
+                b"(none)"
+            } else {
+                row.name
+            },
+        };
+        let name = Part::Text(name);
         if self.lists.screen {
             let time = Part::Took(true, row.sums.time);
             let share = Part::Percent(percent(row.sums.time, self.total));
@@ -137,42 +150,17 @@ impl Ranked {
                 Listed::Kinds => append_line(&[time, share, commands, name], lines),
             };
         }
-        append_key(self.listed, rank, row.sums.commands, lines)?;
+        let by: &[u8] = match rank {
+            Rank::Time => b"by-time\t",
+            Rank::Weight => b"by-weight\t",
+        };
+        match self.listed {
+            Listed::Commands => append(by, lines)?,
+            Listed::Kinds => put!(lines; b"kinds-" [Part::Text(by)] {row.sums.commands} b"\t")?,
+        }
         let weighted = ratio(*lines.allocator(), row.sums.weight, u128::from(PARTS))?;
         put!(lines; {row.sums.time} b"\t" [Part::Text(weighted.as_bytes())] b"\t")?;
         append_line(&[name], lines)
-    }
-}
-
-fn heading(screen: bool, listed: Listed) -> &'static [u8]
-    ensures { result.now ≡ heading screen listed }
-{
-    match (screen, listed) {
-        (false, _) => b"",
-        (true, Listed::Commands) => b"\nSlowest commands\nTime\tShare\tOutput\n",
-        (true, Listed::Kinds) => b"\nKinds of commands\nTime\tShare\tCommands\tKind\n",
-    }
-}
-
-fn append_key(listed: Listed, rank: Rank, commands: u128, lines: &mut Vec<u8>) -> AllocResult
-    ensures items { OnOk result (lines.new.items ≡ lines.old.items ++ list_key listed rank commands) }
-{
-    let by: &[u8] = match rank {
-        Rank::Time => b"by-time\t",
-        Rank::Weight => b"by-weight\t",
-    };
-    match listed {
-        Listed::Commands => append(by, lines),
-        Listed::Kinds => put!(lines; b"kinds-" [Part::Text(by)] {commands} b"\t"),
-    }
-}
-
-fn shown_name(listed: Listed, name: &[u8]) -> &[u8]
-    ensures { result.now ≡ shown_name listed name.now }
-{
-    match listed {
-        Listed::Commands => name,
-        Listed::Kinds => if name.is_empty() { b"(none)" } else { name },
     }
 }
 

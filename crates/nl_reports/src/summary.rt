@@ -6,9 +6,8 @@ ghost use Rattle.nl_tool_texts.specs.Falling.{falling};
 use crate::choice::{Scope, chosen};
 use crate::job::{between, commands_between, entries_to, job_of, numbers_of, spans_in};
 use crate::kinds::kinds_of;
-use crate::moments::{Moments, Near, Span};
+use crate::moments::{Moments, Near, Shares, Span};
 use crate::rows::{Listed, Lists, Rank, Ranked, Weighed};
-use crate::shares::Shares;
 use nl_builds::{Build, Builds, How};
 use nl_tool_texts::{AllocResult, Part, append_line, highest, put, ratio};
 use std::alloc::Global;
@@ -26,13 +25,19 @@ pub struct Totals {
 }
 
 impl Totals {
-    // The weights of the commands of a build, whose numbers are added.
-    fn add(&mut self, alloc: Global, from: &Builds, number: usize) -> AllocResult<Vec<u64>>
+    // Adds the numbers of a build, and puts its commands behind others.
+    fn add<'a>(
+        &mut self,
+        from: &Builds<'a>,
+        number: usize,
+        found: &mut Vec<Weighed<'a>>,
+    ) -> AllocResult
         requires few { (n : ℕ) × ((n < 2 ^ 63) × AreTotalsOf n self.old) }
         ensures totals { OnOk result (self.new ≡ with_build self.old (told from.now) number) }
         ensures few { (n : ℕ) → AreTotalsOf n self.old → OnOk result (AreTotalsOf (n + 1) self.new) }
-        ensures weights { IfOk result (λ found. found.items ≡ weights_of (spans_of (build_jobs (told from.now) number))) }
+        ensures commands { OnOk result (map told_command found.new.items ≡ map told_command found.old.items ++ told_jobs (build_jobs (told from.now) number)) }
     {
+        let alloc = *found.allocator();
         let commands = commands_between(from, number, number);
         // They are taken before what is given back here, so that all of that goes back to the system.
         let mut weights = Vec::with_capacity(alloc, commands.len())?;
@@ -48,7 +53,19 @@ impl Totals {
         for command in commands {
             weights.push(shares.weight(&mut near, &Span::of(command)))?;
         }
-        Ok(weights)
+        drop(shares);
+        let mut start = entries_to(number.saturating_sub(1), from);
+        found.reserve(commands.len())?;
+        for place in 0..commands.len() {
+            let command = &commands[place];
+            found.push(Weighed {
+                name: job_of(start, command, from.entries.as_slice()).name(),
+                weight: weights.get(place).copied().unwrap_or(0),
+                time: command.ended.saturating_sub(command.began),
+            })?;
+            start = command.to;
+        }
+        Ok(())
     }
 
     // The slowest command comes last. At a terminal it heads the list.
@@ -112,7 +129,11 @@ pub fn summary_lines(
         append_unfinished(screen, unfinished, &mut lines)?;
         return Ok(lines);
     }
-    let (totals, commands) = all_of(alloc, from, choice.first, told)?;
+    let mut totals = Totals::default();
+    let mut commands = Vec::new(alloc);
+    for place in 0..told.len() {
+        totals.add(from, choice.first + place, &mut commands)?;
+    }
     let commands = commands.as_slice();
     if screen {
         append_title(scope, choice.first, from.builds.len(), &mut lines)?;
@@ -135,52 +156,6 @@ fn append_title(scope: Scope, number: usize, count: usize, lines: &mut Vec<u8>) 
             put!(lines; b"Build " {number} b" of " [count] b"\n")
         }
     }
-}
-
-fn all_of<'a>(
-    alloc: Global,
-    from: &Builds<'a>,
-    first: usize,
-    builds: &[Build],
-) -> AllocResult<(Totals, Vec<Weighed<'a>>)>
-    requires small { first < 2 ^ 63 }
-    ensures totals { IfOk result (λ all. all.0 ≡ totals_from no_totals (told from.now) first builds.now) }
-    ensures commands { IfOk result (λ all. map told_command all.1.items ≡ rows_from (told from.now) first builds.now) }
-    ensures room { IfOk result (λ all. all.0.wall < 2 ^ 120) }
-{
-    let mut totals = Totals::default();
-    let mut commands = Vec::new(alloc);
-    let mut number = first;
-    for _build in builds {
-        let weights = totals.add(alloc, from, number)?;
-        push_commands(from, number, weights.as_slice(), &mut commands)?;
-        number += 1;
-    }
-    Ok((totals, commands))
-}
-
-fn push_commands<'a>(
-    from: &Builds<'a>,
-    number: usize,
-    weights: &[u64],
-    found: &mut Vec<Weighed<'a>>,
-) -> AllocResult
-    requires weights { weights.now ≡ weights_of (spans_of (build_jobs (told from.now) number)) }
-    ensures commands { OnOk result (map told_command found.new.items ≡ map told_command found.old.items ++ told_jobs (build_jobs (told from.now) number)) }
-{
-    let mut start = entries_to(number.saturating_sub(1), from);
-    let commands = commands_between(from, number, number);
-    found.reserve(commands.len())?;
-    for place in 0..commands.len() {
-        let command = &commands[place];
-        found.push(Weighed {
-            name: job_of(start, command, from.entries.as_slice()).name(),
-            weight: weights.get(place).copied().unwrap_or(0),
-            time: command.ended.saturating_sub(command.began),
-        })?;
-        start = command.to;
-    }
-    Ok(())
 }
 
 fn total_of(commands: &[Weighed]) -> u128
@@ -219,11 +194,9 @@ pub(crate) fn most_taken(builds: &[Build]) -> Option<usize>
 {
     let mut most: Option<usize> = None;
     for build in builds {
-        most = match (most, build.how) {
-            (Some(before), How::FoundAgain { taken }) => Some(before.max(taken)),
-            (None, How::FoundAgain { taken }) => Some(taken),
-            (before, How::AsWritten) => before,
-        };
+        if let How::FoundAgain { taken } = build.how {
+            most = Some(most.unwrap_or(0).max(taken));
+        }
     }
     most
 }

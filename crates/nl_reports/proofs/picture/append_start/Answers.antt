@@ -5,7 +5,7 @@ use Rattle.nl_reports.specs.Frame.{line_at}
 use Rattle.nl_reports.specs.Jobs.{seen}
 use Rattle.nl_reports.specs.Picture.{known_line, legend, legend_kind, name, root_start, start_with, style}
 use Rattle.nl_reports.specs.Ticks.{ticks}
-use Rattle.nl_reports.specs.declared.work.Work.TheVariants.{Compile, Link, Archive, Generate, Test, Other}
+use Rattle.nl_reports.specs.declared.kinds.Work.TheVariants.{Compile, Link, Archive, Generate, Test, Other}
 use Rattle.nl_tool_texts.proofs.TextLemmas.{two_parts}
 use Rattle.nl_reports.proofs.picture.append_start.Goals as goal
 
