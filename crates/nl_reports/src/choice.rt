@@ -2,7 +2,9 @@
 ghost use Rattle.std.specs.Prelude.{◌≡◌, ◌<◌, ◌^◌, map, IfOk, IfSome, All};
 ghost use Rattle.nl_reports.specs.{Jobs.{build_commands, is_manifest_alone, last_number, seen, told, build_jobs}, Choice.{chosen, chosen_jobs}, Spans.{IsEarly}, Frame.{first_began}, Rows.{by_start, spans}, Turns.{jobs_in_turn, turned}};
 
-use crate::job::{Job, JobsResult, between, commands_between, jobs_by_start, jobs_in};
+use crate::job::{
+    Job, JobsResult, between, commands_between, entries_to, jobs_by_start, jobs_from,
+};
 use crate::moments::Span;
 use nl_builds::Builds;
 use std::alloc::Global;
@@ -49,10 +51,12 @@ pub fn chosen_jobs<'s, 'a>(alloc: Global, scope: Scope, from: &'s Builds<'a>) ->
     ensures value { IfOk result (λ jobs. map seen jobs.items ≡ chosen_jobs scope (told from.now)) }
     ensures early { IfOk result (λ jobs. All (λ j. IsEarly j.span) jobs.items) }
 {
-    match chosen(scope, from) {
-        Some(choice) => jobs_by_start(jobs_in(alloc, from, choice.first, choice.last)?),
-        None => Ok(Vec::new(alloc)),
-    }
+    let Some(Choice { first, last }) = chosen(scope, from) else {
+        return Ok(Vec::new(alloc));
+    };
+    let place = entries_to(first.saturating_sub(1), from);
+    let commands = commands_between(from, first, last);
+    jobs_by_start(jobs_from(alloc, place, commands, from.entries.as_slice())?)
 }
 
 /// The number of the last build that isn't the manifest's alone, or else of the last; 0 if there is none.
@@ -89,7 +93,10 @@ pub fn jobs_in_turn<'s, 'a>(alloc: Global, scope: Scope, from: &'s Builds<'a>) -
     let mut clock = 0;
     let mut number = first;
     for _build in builds {
-        let sorted = jobs_by_start(jobs_in(alloc, from, number, number)?)?;
+        let place = entries_to(number.saturating_sub(1), from);
+        let commands = commands_between(from, number, number);
+        let unsorted = jobs_from(alloc, place, commands, from.entries.as_slice())?;
+        let sorted = jobs_by_start(unsorted)?;
         let jobs = sorted.as_slice();
         let (start, began) = (clock, began_of(jobs));
         for job in jobs {

@@ -30,20 +30,6 @@ impl<'a> Job<'_, 'a> {
 pub type JobsResult<'s, 'a> = AllocResult<Vec<Job<'s, 'a>>>;
 
 /// Builds are numbered from 1. No commands of those that aren't there.
-pub(crate) fn jobs_in<'s, 'a>(
-    alloc: Global,
-    from: &'s Builds<'a>,
-    first: usize,
-    last: usize,
-) -> JobsResult<'s, 'a>
-    ensures value { IfOk result (λ jobs. map seen jobs.items ≡ jobs_between (told from.now) first last) }
-    ensures early { IfOk result (λ jobs. All (λ j. IsEarly j.span) jobs.items) }
-{
-    let place = entries_to(first.saturating_sub(1), from);
-    let commands = commands_between(from, first, last);
-    jobs_from(alloc, place, commands, from.entries.as_slice())
-}
-
 pub(crate) fn commands_between<'s>(from: &'s Builds, first: usize, last: usize) -> &'s [Command]
     ensures { result.now ≡ commands_between (told from.now) first last }
 {
@@ -98,11 +84,12 @@ pub(crate) fn commands_to(count: usize, builds: &[Build]) -> usize
 pub(crate) fn entries_to(count: usize, from: &Builds) -> usize
     ensures { result ≡ entries_to (commands_to count from.now.builds.items) from.now.commands.items }
 {
-    let commands = commands_to(count, from.builds.as_slice());
-    if commands == 0 {
-        return 0;
-    }
-    from.commands.get(commands - 1).map_or(0, |it| it.to)
+    let (count, commands) = (
+        commands_to(count, from.builds.as_slice()),
+        from.commands.as_slice(),
+    );
+    let last = count.checked_sub(1).and_then(|at| commands.get(at));
+    last.map_or(0, |command| command.to)
 }
 
 pub(crate) fn between<T>(from: usize, to: usize, items: &[T]) -> &[T]

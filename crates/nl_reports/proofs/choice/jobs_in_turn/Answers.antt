@@ -1,8 +1,8 @@
-use Rattle.std.proofs.Common.{◌≡◌, ◌∙◌, ◌+◌, ◌++◌, ℕ, List, [], None, false, ap, append-nil, append_assoc, arith, drop, map, max, subst, sym}
+use Rattle.std.proofs.Common.{◌≡◌, ◌∙◌, ◌+◌, ◌-◌, ◌++◌, ℕ, List, [], None, false, ap, append-nil, append_assoc, arith, drop, map, max, subst, sym}
 use Rattle.std.proofs.lemmas.List.{at_drop_more, drop_all}
 use Rattle.nl_builds.specs.declared.build.Build.{Build}
 use Rattle.nl_builds.specs.declared.build.How.TheVariants.{AsWritten}
-use Rattle.nl_reports.specs.Jobs.{Job, build_jobs, seen, told}
+use Rattle.nl_reports.specs.Jobs.{Job, build_jobs, commands_to, entries_to, jobs_from, seen, told}
 use Rattle.nl_reports.specs.Rows.{by_start}
 use Rattle.nl_reports.specs.Turns.{clock_behind, jobs_turned, turned_job, turned_jobs, turned_span}
 use Rattle.nl_reports.specs.Spans.{IsEarly, closed_of}
@@ -47,8 +47,11 @@ loop-build-preserved c =
     let new = map seen c.loop-job.all.items in
     let began = c.began_of-began.result in
     let done : drop c.loop-job.job-index xs ≡ [] = drop_all c.loop-job.job-index xs (omega (arith, c.loop-job-test.false)) in
+    let before : entries_to (commands_to c.saturating_sub-in-loop-build.result t.builds) t.commands ≡ entries_to (commands_to (n - 1) t.builds) t.commands =
+    ap (λ (m : ℕ). entries_to (commands_to m t.builds) t.commands) c.saturating_sub-in-loop-build.ensures in
     let ran : map seen xs ≡ by_start (build_jobs t n) =
-    ap (map seen) c.as_slice-jobs.ensures.value ∙ c.in_ok-sorted.ensures.value ∙ ap by_start c.in_ok-jobs_in.ensures.value in
+    ap (map seen) c.as_slice-jobs.ensures.value ∙ c.in_ok-sorted.ensures.value ∙ ap by_start (c.in_ok-unsorted.ensures.value
+    ∙ (λ k. jobs_from (c.as_slice-in-loop-build.ensures.value k) ((c.entries_to-place.ensures ∙ before) k) (c.commands_between-commands.ensures k))) in
     let js = turned_jobs clock (by_start (build_jobs t n)) in
     let rest : ℕ → List Job = λ k. jobs_turned k t (n + 1) (drop (i + 1) bs) in
     let now : new ≡ old ++ js = sym (append-nil new) ∙ ap (λ (l : List Held). new ++ map (turned_job began clock) (map seen l)) (sym done)
