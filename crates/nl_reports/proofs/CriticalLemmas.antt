@@ -1,9 +1,9 @@
 -- The text of a critical path, the names of a graph's nodes as a map holds them, and the commands that it lacks.
-use Rattle.std.proofs.Common.{◌≡◌, ◌<◌, ◌∙◌, ◌++◌, ℕ, true, false, List, [], ◌∷◌, Option, Some, append-nil, ap, cond, refl, sym, ◌+◌, ◌||◌, Bool, None, bytes_eq, drop, get_or, length, map, not, take}
-use Rattle.std.proofs.lemmas.List.{at_drop_more, map-append, take_more}
+use Rattle.std.proofs.Common.{◌≡◌, ◌<◌, ◌≤◌, ◌∙◌, ◌++◌, ℕ, true, false, List, [], ◌∷◌, Option, Some, append-nil, ap, arith, cond, refl, sym, ◌+◌, ◌||◌, Bool, None, bytes_eq, drop, get_or, length, map, not, take}
+use Rattle.std.proofs.lemmas.List.{at_drop_all, at_drop_more, map-append, take_more}
 use Rattle.std.proofs.lemmas.List.Concat.{flat_map-append}
 use Rattle.std.specs.Global.{Vec}
-use Rattle.std.specs.List.{list_any}
+use Rattle.std.specs.List.{list_any, sum_by}
 use Rattle.nl_table.specs.declared.output_key.NameKey.{NameKey}
 use Rattle.nl_fields.specs.declared.entry.Entry.{Entry}
 use Rattle.nl_reports.specs.Critical.{IsCritical, IsCriticalText, IsFoundPath, IsPathText, Ran, told_path, any_named, lacking}
@@ -11,6 +11,7 @@ use Rattle.nl_reports.specs.GraphText.{HeldNode, node_of, nodes_of}
 use Rattle.nl_reports.specs.Jobs.{Job, seen}
 use Rattle.nl_reports.specs.Lasting.{is_among, is_held}
 use Rattle.nl_reports.specs.Paths.{Graph, Node}
+use Rattle.nl_reports.specs.Spans.{time_of}
 use Rattle.nl_reports.specs.declared.job.Job.{Job as HeldJob}
 use Rattle.nl_reports.proofs.GraphLemmas.{Name}
 
@@ -88,3 +89,11 @@ lacking_more g jobs i j b inside is any =
     at_drop_more (λ (l : List HeldJob). lacking g (map seen l)) jobs i j inside
     ∙ ap (λ (x : HeldJob). lacking g (seen x ∷ map seen (drop (i + 1) jobs))) (sym is)
     ∙ ap (λ a. cond (not a) (seen j ∷ lacking g (map seen (drop (i + 1) jobs))) (lacking g (map seen (drop (i + 1) jobs)))) (sym any)
+
+pub all_counted : (g : Graph) (jobs : List HeldJob) (i count time : ℕ) → length jobs ≤ i
+    → count + length (lacking g (map seen (drop i jobs))) ≡ length (lacking g (map seen jobs))
+    → time + sum_by (λ (j : Job). time_of j.span) (lacking g (map seen (drop i jobs))) ≡ sum_by (λ (j : Job). time_of j.span) (lacking g (map seen jobs))
+    → (count ≡ length (lacking g (map seen jobs))) × (time ≡ sum_by (λ (j : Job). time_of j.span) (lacking g (map seen jobs)))
+all_counted g jobs i count time all counted summed =
+    let none : lacking g (map seen (drop i jobs)) ≡ [] = at_drop_all (λ (l : List HeldJob). lacking g (map seen l)) jobs i all in
+    (omega (arith, counted, ap length none), omega (arith, summed, ap (sum_by (λ (j : Job). time_of j.span)) none))

@@ -1,88 +1,45 @@
 -- Commands of which one takes half its time, and the lines of gains.
-use Rattle.std.proofs.Common.{◌≡◌, ◌∙◌, ◌==◌, ◌<◌, ℕ, Bool, zero, suc, ◌+◌, drop, List, [], ◌∷◌, ◌++◌, Option, None, Some, ap, arith, get_or, length, map, option_and_then, option_map, refl, subst, sym, take}
-use Rattle.std.proofs.lemmas.List.{at_drop_more, length-map, map-append, take_more}
-use Rattle.std.specs.Prelude.{slice_get}
-use Rattle.nl_reports.specs.Critical.{IsFoundPath, Ran, names_of, ran_at, ran_in_place, ran_named, weight}
-use Rattle.nl_reports.specs.Gains.{AreGains, AreGainsOf, IsGain, IsHalfPath, heading, half_ran, halved, halved_from, job_if, longest_rans}
-use Rattle.nl_reports.specs.GraphText.{ids_of, nodes_of}
+use Rattle.std.proofs.Common.{◌≡◌, ◌∙◌, ◌<◌, ℕ, Bool, zero, suc, ◌+◌, drop, List, [], ◌∷◌, ap, arith, get_or, inl, inr, length, map, refl, set, subst, sym, take}
+use Rattle.std.proofs.lemmas.Bool.Decides.{eqb_tells}
+use Rattle.std.proofs.lemmas.List.{at_drop_more}
+use Rattle.nl_reports.specs.Critical.{IsFoundPath, Ran, weight}
+use Rattle.nl_reports.specs.Found.{made}
+use Rattle.nl_reports.specs.Gains.{AreGains, AreGainsOf, IsGain, IsHalfPath, half_span, halved, halved_from, heading, longest_rans, span_if}
 use Rattle.nl_reports.specs.Jobs.{Job}
-use Rattle.nl_reports.specs.Outputs.{last_at, outputs_at, places_from, places_of}
-use Rattle.nl_reports.specs.Paths.{Graph, Node, length_of}
-use Rattle.nl_reports.specs.Reaches.{AreOf, ran_seen, rans_seen}
+use Rattle.nl_reports.specs.Paths.{Graph, length_of}
+use Rattle.nl_reports.specs.Reaches.{ran_seen}
+use Rattle.nl_reports.specs.Rows.{spans}
 use Rattle.nl_tool_texts.specs.Falling.{falling}
 use Rattle.nl_reports.specs.Spans.{time_of}
 use Rattle.nl_reports.specs.declared.critical.Ran.{Ran as HeldRan}
-use Rattle.nl_reports.specs.declared.critical.Reaches.{Reaches}
-use Rattle.nl_reports.specs.declared.graph.NinjaGraph.{NinjaGraph}
+use Rattle.nl_reports.specs.declared.moments.Span.{Span}
 use Rattle.nl_tool_texts.proofs.FallingLemmas.{map-falling}
 use Rattle.nl_tool_texts.proofs.ListedLemmas.{map-take}
 
 -- it keeps its outputs
-same_places : (at from place : ℕ) (js : List Job) → places_from at (halved_from from place js) ≡ places_from at js
-same_places at from place [] = refl
-same_places at from place (j ∷ js) = ap (λ (l : List (List ℕ × ℕ)). outputs_at at j.outputs ++ l) (same_places (at + 1) (from + 1) place js)
+pub made_half : (from place : ℕ) (js : List Job) → map made (halved_from from place js) ≡ map made js
+made_half from place [] = refl
+made_half from place (j ∷ js) = ap (λ l. made j ∷ l) (made_half (from + 1) place js)
 
--- the command at a place
-get_half : (from place : ℕ) (js : List Job) (k : ℕ) → slice_get (halved_from from place js) k ≡ option_map (job_if (from + k == place)) (slice_get js k)
-get_half from place [] k = refl
-get_half from place (j ∷ js) zero =
-    let same : from ≡ from + 0 = omega arith in
-    ap (λ (n : ℕ). Some (job_if (n == place) j)) same
-get_half from place (j ∷ js) (suc k) =
-    let same : (from + 1) + k ≡ from + suc k = omega arith in
-    get_half (from + 1) place js k ∙ ap (λ (n : ℕ). option_map (job_if (n == place)) (slice_get js k)) same
+-- and its span is half as long
+spans_off : (js : List Job) (from place : ℕ) → place < from → spans (halved_from from place js) ≡ spans js
+spans_off [] from place off = refl
+spans_off (j ∷ js) from place off = elim (eqb_tells from place) [
+  | inl h ↦ absurd (omega (arith, off, h.1))
+  | inr h ↦ λ i. span_if (h.0 i) j.span ∷ spans_off js (from + 1) place (omega (arith, off)) i
+]
 
-half_in_place : (js : List Job) (place : ℕ) (name : List ℕ) (k : ℕ)
-    → option_map (half_ran place) (ran_in_place js name k) ≡ ran_in_place (halved place js) name k
-half_in_place js place name k =
-    let same : 0 + k ≡ k = omega arith in
-    by (slice_get js k)
-    ∙ sym (ap (option_map (λ (j : Job). record { span = j.span; name = name; place = k }))
-    (get_half 0 place js k ∙ ap (λ (n : ℕ). option_map (job_if (n == place)) (slice_get js k)) same))
-  where
-    by : (o : Option Job) → option_map (half_ran place) (option_map (λ (j : Job). record { span = j.span; name = name; place = k }) o)
-        ≡ option_map (λ (j : Job). record { span = j.span; name = name; place = k }) (option_map (job_if (k == place)) o)
-    by None = refl
-    by (Some j) = refl
-
-half_named : (js : List Job) (place : ℕ) (name : List ℕ) → option_map (half_ran place) (ran_named js name) ≡ ran_named (halved place js) name
-half_named js place name =
-    by (last_at (places_of js) name)
-    ∙ ap (λ (ps : List (List ℕ × ℕ)). option_and_then (ran_in_place (halved place js) name) (last_at ps name)) (sym (same_places 0 0 place js))
-  where
-    by : (o : Option ℕ) → option_map (half_ran place) (option_and_then (ran_in_place js name) o) ≡ option_and_then (ran_in_place (halved place js) name) o
-    by None = refl
-    by (Some k) = half_in_place js place name k
-
-half_at : (nodes : List Node) (js : List Job) (place : ℕ) (id : List ℕ)
-    → option_map (half_ran place) (ran_at nodes js id) ≡ ran_at nodes (halved place js) id
-half_at nodes js place id = by (last_at (names_of nodes) id)
-  where
-    by : (o : Option (List ℕ)) → option_map (half_ran place) (option_and_then (ran_named js) o) ≡ option_and_then (ran_named (halved place js)) o
-    by None = refl
-    by (Some name) = half_named js place name
-
-pub halved_at : (nodes : List Node) (js : List Job) (place : ℕ) (ids : List (List ℕ)) → map (option_map (half_ran place)) (map (ran_at nodes js) ids)
-    ≡ map (ran_at nodes (halved place js)) ids
-halved_at nodes js place [] = refl
-halved_at nodes js place (id ∷ ids) = λ i. half_at nodes js place id i ∷ halved_at nodes js place ids i
-
--- one more node was looked at
-pub ran_changed : (g : Option Ran → Option Ran) (xs hs : List (Option HeldRan)) (h : Option HeldRan) (i : ℕ) → i < length xs
-    → option_map ran_seen h ≡ g (get_or (rans_seen xs) i None)
-    → rans_seen hs ≡ map g (take i (rans_seen xs)) → rans_seen (hs ++ h ∷ []) ≡ map g (take (i + 1) (rans_seen xs))
-ran_changed g xs hs h i inside is so_far =
-    let there : i < length (rans_seen xs) = omega (arith, inside, length-map xs (option_map ran_seen)) in
-    map-append (option_map ran_seen) hs (h ∷ []) ∙ (λ k. so_far k ++ is k ∷ [])
-    ∙ sym (ap (map g) (take_more (rans_seen xs) i None there) ∙ map-append g (take i (rans_seen xs)) (get_or (rans_seen xs) i None ∷ []))
-
-pub are_half : (g : NinjaGraph) (js : List Job) (place : ℕ) (r s : Reaches) → AreOf g js r → s.graph.now ≡ r.graph.now
-    → rans_seen s.ran.items ≡ map (option_map (half_ran place)) (rans_seen r.ran.items) → AreOf g (halved place js) s
-are_half g js place r s are graph ran = record {
-  graph = graph ∙ are.graph;
-  distinct = are.distinct;
-  ran = ran ∙ ap (map (option_map (half_ran place))) are.ran ∙ halved_at (nodes_of g.nodes.entries) js place (ids_of g.nodes.entries);
-}
+pub spans_half : (js : List Job) (from place k : ℕ) (d : Span) → place ≡ from + k
+    → set (spans js) k (half_span (get_or (spans js) k d)) ≡ spans (halved_from from place js)
+spans_half [] from place k d is = refl
+spans_half (j ∷ js) from place zero d is = elim (eqb_tells from place) [
+  | inl h ↦ λ i. span_if (sym h.0 i) j.span ∷ sym (spans_off js (from + 1) place (omega (arith, is))) i
+  | inr h ↦ absurd (h.1 (omega (arith, is)))
+]
+spans_half (j ∷ js) from place (suc k) d is = elim (eqb_tells from place) [
+  | inl h ↦ absurd (omega (arith, is, h.1))
+  | inr h ↦ λ i. span_if (sym h.0 i) j.span ∷ spans_half js (from + 1) place k d (omega (arith, is)) i
+]
 
 pub half_path : (g : Graph) (js : List Job) (r : Ran) (n : ℕ) (rans : List Ran) → IsFoundPath g (halved r.place js) n rans → IsHalfPath g js r n
 half_path g js r n rans found = record { path = found.path; longest = found.longest; length_is = found.length_is }

@@ -216,6 +216,15 @@ ran_more ps js hs h i d inside distinct is so_far =
     map-append (option_map ran_seen) hs (h ∷ []) ∙ (λ j. so_far j ++ (is ∙ ran_here ps js i d inside distinct) j ∷ [])
     ∙ sym (ap (map f) (take_more ids i [] count) ∙ map-append f (take i ids) (get_or ids i [] ∷ []))
 
+-- one more node was looked at
+pub ran_changed : (g : Option Ran → Option Ran) (xs hs : List (Option HeldRan)) (h : Option HeldRan) (i : ℕ) → i < length xs
+    → option_map ran_seen h ≡ g (get_or (rans_seen xs) i None)
+    → rans_seen hs ≡ map g (take i (rans_seen xs)) → rans_seen (hs ++ h ∷ []) ≡ map g (take (i + 1) (rans_seen xs))
+ran_changed g xs hs h i inside is so_far =
+    let there : i < length (rans_seen xs) = omega (arith, inside, length-map xs (option_map ran_seen)) in
+    map-append (option_map ran_seen) hs (h ∷ []) ∙ (λ k. so_far k ++ is k ∷ [])
+    ∙ sym (ap (map g) (take_more (rans_seen xs) i None there) ∙ map-append g (take i (rans_seen xs)) (get_or (rans_seen xs) i None ∷ []))
+
 -- what ran at a place, as it is held
 pub ran_found : (hs : List (Option HeldRan)) (i : ℕ) (h : Option HeldRan) → i < length hs → h ≡ get_or hs i h
     → option_map ran_seen h ≡ get_or (rans_seen hs) i None

@@ -25,9 +25,6 @@ halved_from at place (j ∷ js) = job_if (at == place) j ∷ halved_from (at + 1
 abbrev pub halved : ℕ → List Job → List Job
 halved place js = halved_from 0 place js
 
-abbrev pub half_ran : ℕ → Ran → Ran
-half_ran place r = record { span = span_if (r.place == place) r.span; name = r.name; place = r.place }
-
 -- a line: by how much the critical path gets shorter, and the output
 abbrev pub gain_line : Bool → ℕ → Ran → List ℕ
 gain_line screen gain r = keyed_line screen (codes "gain" ∷ took_text screen gain ∷ r.name ∷ [])

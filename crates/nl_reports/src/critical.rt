@@ -1,6 +1,6 @@
 //! What `summary` tells of the critical path.
-ghost use Rattle.std.specs.{Prelude.{◌≡◌, ◌<◌, ◌≤◌, ◌+◌, ◌^◌, ◌++◌, ℕ, List, Some, IfOk, IfSome, IsTrue, OnOk, get_or, length, map, option_and_then, option_map, All, sum_by}, List.{list_any}};
-ghost use Rattle.nl_reports.specs.{Critical.{IsCritical, IsFoundPath, keyed_line, lacking, lacking_line, path_head, ran_line, took_time}, Found.{AreFound, IsFound, in_plan, made}, Gains.{half_ran, halved}, GraphText.{HeldNode, seen_graph}, Jobs.{Job as SeenJob, seen}, Lasting.{is_held}, Outputs.{HoldPlaces, places_of}, Reaches.{AreOf, IsBegun, IsFarthest, IsFollowed, IsTight, behind_at, far_at, ran_in, ran_named_in, ran_seen}, Spans.{time_of}, declared.graph.NinjaGraph.{NinjaGraph as HeldGraph}};
+ghost use Rattle.std.specs.{Prelude.{◌≡◌, ◌<◌, ◌^◌, ◌++◌, ℕ, List, Some, IfOk, IsTrue, OnOk, get_or, length, map, option_and_then, option_map, All}};
+ghost use Rattle.nl_reports.specs.{Critical.{IsCritical, IsFoundPath, keyed_line, ran_line, took_time}, Found.{AreFound, IsFound, in_plan, made}, GraphText.{HeldNode, seen_graph}, Jobs.{Job as SeenJob, seen}, Lasting.{is_held}, Numbers.{spans_of}, Outputs.{HoldPlaces, places_of}, Reaches.{AreOf, IsBegun, IsFarthest, IsFollowed, IsTight, behind_at, far_at, ran_in, ran_named_in, ran_seen}, Spans.{time_of}, declared.graph.NinjaGraph.{NinjaGraph as HeldGraph}};
 ghost use Rattle.nl_tool_texts.specs.Texts.{part_text};
 
 use crate::graph::NinjaGraph;
@@ -25,7 +25,8 @@ pub(crate) struct Ran<'a> {
 pub(crate) struct Critical<'g, 'a> {
     pub(crate) reaches: Reaches<'g, 'a>,
     pub(crate) path: FoundPath<'a>,
-    lacking: Lacking,
+    lacking: usize,
+    lacking_time: u128,
 }
 
 /// None, where the graph lacks all commands: then it isn't this build's. Names are hashed under a secret.
@@ -37,8 +38,20 @@ pub(crate) fn critical_of<'g, 'a>(
 ) -> AllocResult<Option<Critical<'g, 'a>>>
     ensures value { IfOk result (AreFound graph.now (map seen jobs.now)) }
 {
-    let lacking = lacking_of(secret, graph, jobs)?;
-    if lacking.count == jobs.len() && !jobs.is_empty() {
+    let mut names = IndexSet::with_hasher(alloc, secret);
+    for place in 0..graph.nodes.len() {
+        if let Some(name) = name_at(graph, place) {
+            names.insert(NameKey { bytes: name })?;
+        }
+    }
+    let (mut lacking, mut lacking_time) = (0, 0);
+    for job in jobs {
+        if !any_named(&names, job.outputs) {
+            lacking += 1;
+            lacking_time += u128::from(job.span.time());
+        }
+    }
+    if lacking == jobs.len() && !jobs.is_empty() {
         return Ok(None);
     }
     let outputs = outputs_of(alloc, secret, jobs)?;
@@ -52,6 +65,7 @@ pub(crate) fn critical_of<'g, 'a>(
         reaches,
         path,
         lacking,
+        lacking_time,
     }))
 }
 
@@ -66,40 +80,31 @@ pub(crate) fn critical_lines(screen: bool, found: &Critical, jobs: &[Job]) -> Al
         return Ok(Vec::new(alloc));
     }
     let mut lines = Vec::new(alloc);
-    append_head(screen, found.path.length, &mut lines)?;
+    let length = found.path.length;
+    if screen {
+        put!(&mut lines; b"\nCritical path: " [Part::Took(true, length)] b"\nTime\tWaited\tBegan\tOutput\n")?;
+    } else {
+        append_line(
+            &[Part::Text(b"critical-path"), Part::Number(length)],
+            &mut lines,
+        )?;
+    }
     let mut before = BEGINNING;
     for ran in found.path.commands.as_slice() {
         append_ran(screen, before, ran, &mut lines)?;
         before = ran.span.ended;
     }
-    append_lacking(screen, found.lacking, &mut lines)?;
+    if found.lacking == 0 {
+        return Ok(lines);
+    }
+    let count = Part::Number(found.lacking as u128);
+    let time = Part::Took(screen, found.lacking_time);
+    if screen {
+        put!(&mut lines; b"Commands that the graph lacks: " [count] b" (" [time] b")\n")?;
+    } else {
+        append_line(&[Part::Text(b"not-in-graph"), count, time], &mut lines)?;
+    }
     Ok(lines)
-}
-
-#[derive(Clone, Copy, Drop)]
-pub(crate) struct Lacking {
-    count: usize,
-    time: u128,
-}
-
-fn lacking_of(secret: Secret, graph: &NinjaGraph, jobs: &[Job]) -> AllocResult<Lacking>
-    ensures count { IfOk result (λ l. l.count ≡ length (lacking (seen_graph graph.now) (map seen jobs.now))) }
-    ensures time { IfOk result (λ l. l.time ≡ sum_by (λ (j : SeenJob). time_of j.span) (lacking (seen_graph graph.now) (map seen jobs.now))) }
-{
-    let mut names = IndexSet::with_hasher(*graph.edges.allocator(), secret);
-    for node in 0..graph.nodes.len() {
-        if let Some(name) = name_at(graph, node) {
-            names.insert(NameKey { bytes: name })?;
-        }
-    }
-    let mut lacking = Lacking { count: 0, time: 0 };
-    for job in jobs {
-        if !any_named(&names, job.outputs) {
-            lacking.count += 1;
-            lacking.time += u128::from(job.span.time());
-        }
-    }
-    Ok(lacking)
 }
 
 pub(crate) fn name_at<'a>(graph: &NinjaGraph<'a>, node: usize) -> Option<&'a [u8]>
@@ -126,15 +131,6 @@ pub(crate) struct FoundPath<'a> {
     pub(crate) commands: Vec<Ran<'a>>,
 }
 
-fn append_head(screen: bool, length: u128, lines: &mut Vec<u8>) -> AllocResult
-    ensures items { OnOk result (lines.new.items ≡ lines.old.items ++ path_head screen length) }
-{
-    if !screen {
-        return append_line(&[Part::Text(b"critical-path"), Part::Number(length)], lines);
-    }
-    put!(lines; b"\nCritical path: " [Part::Took(true, length)] b"\nTime\tWaited\tBegan\tOutput\n")
-}
-
 // The command before it on the path ended at that moment.
 fn append_ran(screen: bool, before: u64, ran: &Ran, lines: &mut Vec<u8>) -> AllocResult
     ensures items { OnOk result (lines.new.items ≡ lines.old.items ++ ran_line screen before (ran_seen ran.now)) }
@@ -158,21 +154,6 @@ pub(crate) fn append_keyed(screen: bool, fields: &[Part<'_>], lines: &mut Vec<u8
         [_, rest @ ..] if screen => append_line(rest, lines),
         _ => append_line(fields, lines),
     }
-}
-
-fn append_lacking(screen: bool, lacking: Lacking, lines: &mut Vec<u8>) -> AllocResult
-    ensures items { OnOk result (lines.new.items ≡ lines.old.items ++ lacking_line screen lacking.count lacking.time) }
-{
-    let Lacking { count, time } = lacking;
-    if count == 0 {
-        return Ok(());
-    }
-    let count = Part::Number(count as u128);
-    let time = Part::Took(screen, time);
-    if !screen {
-        return append_line(&[Part::Text(b"not-in-graph"), count, time], lines);
-    }
-    put!(lines; b"Commands that the graph lacks: " [count] b" (" [time] b")\n")
 }
 
 /// What ran at each node of a graph, and how far it is said to be behind each.
@@ -251,32 +232,35 @@ impl<'g, 'a> Reaches<'g, 'a> {
                 start = node;
             }
         }
-        let mut commands = Vec::new(self.allocator());
-        self.append_path(start, &mut commands)?;
         let length = self.far_at(start);
+        let mut commands = Vec::new(self.allocator());
+        let mut node = start;
+        for place in &self.graph.order {
+            if let Some(edge) = self.graph.edges.get(*place) {
+                if edge.from == node
+                    && edge.to < self.ran.len()
+                    && self.far_at(edge.to) == self.behind_at(node)
+                {
+                    self.push_ran(node, &mut commands)?;
+                    node = edge.to;
+                }
+            }
+        }
+        if self.behind_at(node) != 0 {
+            return Err(AllocError);
+        }
+        self.push_ran(node, &mut commands)?;
         Ok(FoundPath { length, commands })
     }
 
-    /// The same, if the command at a place took half as long.
-    pub(crate) fn with_half(&self, place: usize) -> AllocResult<Reaches<'g, 'a>>
-        ensures value { (js : List SeenJob) → AreOf self.now.graph.now js self.now → IfOk result (AreOf self.now.graph.now (halved place js)) }
+    /// The same, if the commands ran so.
+    pub(crate) fn in_plan(&self, spans: &[Span]) -> AllocResult<Reaches<'g, 'a>>
+        ensures value { (g : HeldGraph) (js plan : List SeenJob) → AreOf g js self.now → map made plan ≡ map made js → spans.now ≡ spans_of plan
+            → IfOk result (AreOf g plan) }
     {
         let mut ran = Vec::with_capacity(self.allocator(), self.ran.len())?;
         for node in 0..self.ran.len() {
-            ran.push(halved(self.ran_at(node), place))?;
-        }
-        let half = Reaches::by_ran(self.graph, ran)?;
-        Ok(half)
-    }
-
-    /// The same, if its commands ran as in a plan.
-    pub(crate) fn in_plan(&self, plan: &[Job]) -> AllocResult<Reaches<'g, 'a>>
-        ensures value { (g : HeldGraph) (js : List SeenJob) → AreOf g js self.now → map made (map seen plan.now) ≡ map made js
-            → IfOk result (AreOf g (map seen plan.now)) }
-    {
-        let mut ran = Vec::with_capacity(self.allocator(), self.ran.len())?;
-        for node in 0..self.ran.len() {
-            ran.push(planned(self.ran_at(node), plan))?;
+            ran.push(planned(self.ran_at(node), spans))?;
         }
         let reaches = Reaches::by_ran(self.graph, ran)?;
         Ok(reaches)
@@ -294,28 +278,6 @@ impl<'g, 'a> Reaches<'g, 'a> {
         })
     }
 
-    fn append_path(&self, start: usize, commands: &mut Vec<Ran<'a>>) -> AllocResult
-        ensures ok { (js : List SeenJob) → AreOf self.now.graph.now js self.now → IsFarthest self.now start → OnOk result
-            (IsFollowed (seen_graph self.now.graph.now) js (far_at self.now start) (map ran_seen commands.old.items) (map ran_seen commands.new.items)) }
-    {
-        let mut node = start;
-        for place in &self.graph.order {
-            if let Some(edge) = self.graph.edges.get(*place) {
-                if edge.from == node
-                    && edge.to < self.ran.len()
-                    && self.far_at(edge.to) == self.behind_at(node)
-                {
-                    self.push_ran(node, commands)?;
-                    node = edge.to;
-                }
-            }
-        }
-        if self.behind_at(node) != 0 {
-            return Err(AllocError);
-        }
-        self.push_ran(node, commands)
-    }
-
     fn push_ran(&self, node: usize, commands: &mut Vec<Ran<'a>>) -> AllocResult
         ensures items { OnOk result (map ran_seen commands.new.items ≡ map ran_seen commands.old.items ++ took_time (ran_in self.now node)) }
     {
@@ -327,20 +289,10 @@ impl<'g, 'a> Reaches<'g, 'a> {
     }
 }
 
-fn halved<'a>(found: Option<Ran<'a>>, place: usize) -> Option<Ran<'a>>
-    ensures value { option_map ran_seen result ≡ option_map (half_ran place) (option_map ran_seen found.entry) }
+fn planned<'a>(found: Option<Ran<'a>>, spans: &[Span]) -> Option<Ran<'a>>
+    ensures value { option_map ran_seen result ≡ option_and_then (in_plan spans.now) (option_map ran_seen found.entry) }
 {
     let ran = found?;
-    let ended = ran.span.began + ran.span.time() / 2;
-    let half = Span { ended, ..ran.span };
-    let span = if ran.place == place { half } else { ran.span };
-    Some(Ran { span, ..ran })
-}
-
-fn planned<'a>(found: Option<Ran<'a>>, plan: &[Job]) -> Option<Ran<'a>>
-    ensures value { option_map ran_seen result ≡ option_and_then (in_plan (map seen plan.now)) (option_map ran_seen found.entry) }
-{
-    let ran = found?;
-    let span = plan.get(ran.place)?.span;
+    let span = *spans.get(ran.place)?;
     Some(Ran { span, ..ran })
 }

@@ -92,7 +92,7 @@ impl<'a> NinjaGraph<'a> {
 }
 
 // No place.
-const NONE: usize = usize::MAX;
+pub(crate) const NONE: usize = usize::MAX;
 
 /// The places of all edges between so many nodes, each after those that lead to where it begins. An edge of a cycle is refused by its
 /// line. An edge that is taken for one of a cycle and isn't would be refused for want of memory: no such case is known.

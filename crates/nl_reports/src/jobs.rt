@@ -1,11 +1,11 @@
 //! What a graph tells of a build: estimates for so many commands at a time, and what is gained if a command took half as long.
-ghost use Rattle.std.specs.Prelude.{◌≡◌, ◌≤◌, ◌<◌, ◌^◌, ◌++◌, ℕ, List, map, IfOk, IfSome, IsTrue, OnOk};
-ghost use Rattle.nl_reports.specs.{Found.{IsFound}, GraphText.{seen_graph}, Jobs.{Job as SeenJob, seen}, Numbers.{total_time}, Plans.{AreEstimates, HavePlan, IsToldBy, kept}, Reaches.{AreOf, ran_seen}, Sweep.{running}, declared.graph.NinjaGraph.{NinjaGraph as HeldGraph}, Gains.{AreGainsOf, IsGain, IsHalfPath}, Spans.{time_of}};
+ghost use Rattle.std.specs.Prelude.{◌≡◌, ◌≤◌, ◌<◌, ◌^◌, ℕ, map, IfOk, IfSome, IsTrue};
+ghost use Rattle.nl_reports.specs.{Found.{IsFound}, GraphText.{seen_graph}, Jobs.{seen}, Numbers.{total_time}, Plans.{AreEstimates, HavePlan, IsToldBy, kept}, Reaches.{AreOf, ran_seen}, Sweep.{running}, declared.graph.NinjaGraph.{NinjaGraph as HeldGraph}, Gains.{AreGainsOf, IsHalfPath}, Spans.{time_of}};
 
 use crate::critical::{Critical, Ran, Reaches, append_keyed, critical_lines, critical_of};
 use crate::graph::NinjaGraph;
 use crate::job::{Job, JobsResult, spans_of};
-use crate::last_entries::item_at;
+use crate::last_entries::{item_at, set_at};
 use crate::moments::{Span, rising};
 use crate::simulation::Waiting;
 use nl_builds::Stamps;
@@ -39,7 +39,7 @@ pub fn graph_lines(
         return Ok(None);
     };
     let mut lines = critical_lines(by.screen, &found, jobs)?;
-    let gains = gain_lines(by.screen, by.most, &found)?;
+    let gains = gain_lines(by.screen, by.most, &found, jobs)?;
     lines.extend_from_slice(gains.as_slice())?;
     if by.counts.is_empty() {
         return Ok(Some(lines));
@@ -116,7 +116,7 @@ fn wall_of(
         → IfOk result (λ o. IfSome o (HavePlan (seen_graph g) (map seen jobs.now) count)) }
 {
     let alloc = reaches.allocator();
-    let (there, nodes) = waiting.run(jobs, count)?;
+    let there = waiting.run(jobs, count)?;
     let planned = planned_jobs(alloc, jobs, there.as_slice())?;
     let plan = planned.as_slice();
     let spans = spans_of(alloc, plan)?;
@@ -124,8 +124,9 @@ fn wall_of(
     let wall = spans
         .iter()
         .fold(0, |last: u64, span: &Span| last.max(span.ended));
-    let mut reaches = reaches.in_plan(plan)?;
-    let left = nodes.iter().map(|at| wall.saturating_sub(*at));
+    let mut reaches = reaches.in_plan(spans.as_slice())?;
+    let ends = waiting.parts.iter().map(|part| item_at(&there, *part, 0));
+    let left = ends.map(|at| wall.saturating_sub(at));
     reaches.behind = left.collect(alloc)?;
     if few && reaches.are_tight() && reaches.are_begun(wall) {
         return Ok(Some(wall));
@@ -163,9 +164,14 @@ fn are_few(alloc: Global, plan: &[Span], count: usize) -> AllocResult<bool>
 }
 
 /// For so many commands of the critical path, those that took the longest, how much shorter it is if one of them took half.
-pub(crate) fn gain_lines(screen: bool, most: usize, found: &Critical) -> AllocResult<Vec<u8>>
-    ensures value { (g : HeldGraph) (js : List SeenJob) → IsFound g js found.now
-        → IfOk result (λ lines. AreGainsOf screen (seen_graph g) js most lines.items) }
+pub(crate) fn gain_lines(
+    screen: bool,
+    most: usize,
+    found: &Critical,
+    jobs: &[Job],
+) -> AllocResult<Vec<u8>>
+    ensures value { (g : HeldGraph) → IsFound g (map seen jobs.now) found.now
+        → IfOk result (λ lines. AreGainsOf screen (seen_graph g) (map seen jobs.now) most lines.items) }
 {
     let commands = &found.path.commands;
     let longest = highest(*commands.allocator(), &ByTime, most, commands.as_slice())?;
@@ -174,26 +180,25 @@ pub(crate) fn gain_lines(screen: bool, most: usize, found: &Critical) -> AllocRe
         put!(&mut lines; b"\nSaved if a command took half\nSaved\tOutput\n")?;
     }
     for i in 0..longest.len() {
-        append_gain(screen, found, &longest[i], &mut lines)?;
+        let ran = &longest[i];
+        let half = half_length(&found.reaches, jobs, ran)?;
+        let gain = Part::Took(screen, found.path.length.saturating_sub(half));
+        let (key, name) = (Part::Text(b"gain"), Part::Text(ran.name));
+        append_keyed(screen, &[key, gain, name], &mut lines)?;
     }
     Ok(lines)
 }
 
-fn append_gain(screen: bool, found: &Critical, ran: &Ran, lines: &mut Vec<u8>) -> AllocResult
-    ensures ok { (js : List SeenJob) → AreOf found.now.reaches.graph.now js found.now.reaches → OnOk result
-        (IsGain screen (seen_graph found.now.reaches.graph.now) js found.now.path.length (ran_seen ran.now) lines.old.items lines.new.items) }
+// How long the critical path is, if the command took half as long.
+fn half_length(reaches: &Reaches, jobs: &[Job], ran: &Ran) -> AllocResult<u128>
+    ensures value { (g : HeldGraph) → AreOf g (map seen jobs.now) reaches.now
+        → IfOk result (IsHalfPath (seen_graph g) (map seen jobs.now) (ran_seen ran.now)) }
 {
-    let half = half_length(&found.reaches, ran)?;
-    let gain = Part::Took(screen, found.path.length.saturating_sub(half));
-    let (key, name) = (Part::Text(b"gain"), Part::Text(ran.name));
-    append_keyed(screen, &[key, gain, name], lines)
-}
-
-fn half_length(reaches: &Reaches, ran: &Ran) -> AllocResult<u128>
-    ensures value { (js : List SeenJob) → AreOf reaches.now.graph.now js reaches.now
-        → IfOk result (IsHalfPath (seen_graph reaches.now.graph.now) js (ran_seen ran.now)) }
-{
-    let half = reaches.with_half(ran.place)?;
+    let mut spans = spans_of(reaches.allocator(), jobs)?;
+    let span = item_at(&spans, ran.place, ran.span);
+    let ended = span.began + span.time() / 2;
+    set_at(&mut spans, ran.place, Span { ended, ..span });
+    let half = reaches.in_plan(spans.as_slice())?;
     let found = half.path()?;
     Ok(found.length)
 }

@@ -1,6 +1,7 @@
 //! When commands would begin, if so many ran at a time: a hint, which is checked by those who use it.
 
 use crate::critical::Reaches;
+use crate::graph::NONE;
 use crate::job::{Job, between};
 use crate::last_entries::{item_at, set_at};
 use crate::moments::Span;
@@ -10,47 +11,39 @@ use std::alloc::AllocError;
 use std::cmp::Reverse;
 use std::collections::BinaryHeap;
 
-const NONE: usize = usize::MAX;
-
 /// Which parts wait for which. A part is a command with all its nodes, or else a node that no command makes: those stand behind all commands.
 #[derive(Drop)]
 pub(crate) struct Waiting {
-    // The part of each node.
-    parts: Vec<usize>,
+    /// The part of each node.
+    pub(crate) parts: Vec<usize>,
     // From part to part, in order, and how many lead to each.
     edges: Vec<(usize, usize)>,
     waits: Vec<usize>,
     // Of the commands that are ready, that with the least key is taken.
-    keys: Vec<(u128, usize, usize)>,
+    keys: Vec<(u128, usize)>,
 }
 
 impl Waiting {
     pub(crate) fn of(reaches: &Reaches, jobs: &[Job], stamps: Stamps) -> AllocResult<Waiting> {
         let alloc = reaches.allocator();
         // How far it is in commands: each takes one millisecond.
-        let span = Span { began: 0, ended: 1 };
-        let steps = jobs.iter().map(|job| Job { span, ..*job });
-        let steps = steps.collect::<Vec<_>>(alloc)?;
+        let steps = vec![in alloc; Span { began: 0, ended: 1 }; jobs.len()]?;
         let chains = reaches.in_plan(steps.as_slice())?;
         let nodes = reaches.graph.nodes.len();
-        let mut keys = (0..jobs.len())
-            .map(|command| (u128::MAX, NONE, command))
-            .collect::<Vec<_>>(alloc)?;
+        let mut keys = vec![in alloc; (u128::MAX, NONE); jobs.len()]?;
         let mut parts = Vec::with_capacity(alloc, nodes)?;
         for node in 0..nodes {
             let command = reaches.ran_at(node).map_or(NONE, |ran| ran.place);
+            parts.push(command.min(keys.len().saturating_add(node)))?;
             if command < keys.len() {
-                let (least, first, _) = keys[command];
+                let (least, first) = keys[command];
                 // Ninja takes the command first after which the most wait for each other, from the version on whose logs tell when
                 // a command started. Before, it took the one whose output the graph names first.
                 let key = match stamps {
                     Stamps::OfStart => least.min(u128::MAX - chains.far_at(node)),
                     Stamps::OfEnd | Stamps::Unknown => least,
                 };
-                keys[command] = (key, first.min(node), command);
-                parts.push(command)?;
-            } else {
-                parts.push(keys.len().saturating_add(node))?;
+                keys[command] = (key, first.min(node));
             }
         }
         let mut waits = vec![in alloc; 0_usize; keys.len().saturating_add(nodes)]?;
@@ -58,9 +51,8 @@ impl Waiting {
         for edge in &reaches.graph.edges {
             let to = item_at(&parts, edge.to, NONE);
             edges.push((item_at(&parts, edge.from, NONE), to))?;
-            if to < waits.len() {
-                waits[to] = waits[to].saturating_add(1);
-            }
+            let count = item_at(&waits, to, 0).saturating_add(1);
+            set_at(&mut waits, to, count);
         }
         edges.sort_unstable();
         Ok(Waiting {
@@ -71,9 +63,9 @@ impl Waiting {
         })
     }
 
-    /// From when on each part is there, and each node, if so many run at a time at most. Each command that is ready is taken as soon as fewer
-    /// run; what waits for itself is never taken.
-    pub(crate) fn run(&self, jobs: &[Job], count: usize) -> AllocResult<(Vec<u64>, Vec<u64>)> {
+    /// From when on each part is there, if so many run at a time at most. Each command that is ready is taken as soon as fewer run; what waits
+    /// for itself is never taken.
+    pub(crate) fn run(&self, jobs: &[Job], count: usize) -> AllocResult<Vec<u64>> {
         let alloc = *self.parts.allocator();
         let mut waits = Vec::from_slice(alloc, self.waits.as_slice())?;
         let mut there = vec![in alloc; 0_u64; waits.len()]?;
@@ -90,7 +82,7 @@ impl Waiting {
         for _ in 0..u64::MAX {
             if let Some((part, is_there)) = met.pop() {
                 if let (false, Some(key)) = (is_there, self.keys.get(part)) {
-                    ready.push(Reverse(*key)).map_err(AllocError::from)?;
+                    ready.push(Reverse((*key, part))).map_err(AllocError::from)?;
                     continue;
                 }
                 set_at(&mut there, part, now);
@@ -109,7 +101,7 @@ impl Waiting {
             }
             let is_free = running.len() < count;
             let next = if is_free { ready.pop() } else { None };
-            if let Some(Reverse((_, _, command))) = next {
+            if let Some(Reverse((_, command))) = next {
                 let time = jobs.get(command).map_or(0, |job| job.span.time());
                 let end = Reverse((now.saturating_add(time), command));
                 running.push(end).map_err(AllocError::from)?;
@@ -120,8 +112,6 @@ impl Waiting {
                 break;
             }
         }
-        let nodes = self.parts.iter().map(|part| item_at(&there, *part, 0));
-        let nodes = nodes.collect(alloc)?;
-        Ok((there, nodes))
+        Ok(there)
     }
 }

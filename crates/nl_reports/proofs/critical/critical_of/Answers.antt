@@ -1,17 +1,87 @@
-use Rattle.std.proofs.Common.{◌∙◌, ◌<◌, ◌≤◌, ℕ, List, Option, [], None, ap, arith, length, map, option_map, take}
+use Rattle.std.proofs.Common.{◌≡◌, ◌∙◌, ◌<◌, ◌≤◌, ◌+◌, ◌∷◌, ℕ, List, Option, [], None, ap, arith, cond, drop, length, map, not, option_map, subst, sym, take}
 use Rattle.std.specs.Borrow.{Bor}
+use Rattle.std.specs.List.{sum_by}
 use Rattle.std.specs.Global.{Vec}
 use Rattle.std.proofs.lemmas.List.{length-map, take_all}
-use Rattle.nl_reports.specs.Critical.{IsFoundPath, Ran as Told, ran_at}
+use Rattle.std.proofs.lemmas.List.Sums.{sum_by-cons}
+use Rattle.nl_table.specs.declared.output_key.NameKey.{NameKey}
+use Rattle.nl_reports.specs.Critical.{IsFoundPath, Ran as Told, lacking, ran_at}
 use Rattle.nl_reports.specs.GraphText.{HeldNode, ids_of, nodes_of, seen_graph}
-use Rattle.nl_reports.specs.Jobs.{seen}
+use Rattle.nl_reports.specs.Jobs.{Job, seen}
 use Rattle.nl_reports.specs.Reaches.{AreOf, ran_named_in, ran_seen, rans_seen}
+use Rattle.nl_reports.specs.Spans.{time_of}
 use Rattle.nl_reports.specs.declared.critical.Ran.{Ran}
 use Rattle.nl_reports.specs.declared.graph.NinjaGraph.{NinjaGraph}
+use Rattle.nl_reports.proofs.CriticalLemmas.{HoldNames, all_counted, any_held, hold_named, hold_unnamed, lacking_more}
 use Rattle.nl_reports.proofs.FoundLemmas.{all_lacking, none_there}
 use Rattle.nl_reports.proofs.ReachesLemmas.{by_graph, ran_more}
 use Rattle.nl_reports.proofs.critical.critical_of.Goals as goal
-use Rattle.nl_reports.proofs.critical.critical_of.Goals.{else-lacking-jobs-via-then-lacking-jobs+else-not-is_empty, else-lacking-jobs-via-else-lacking-jobs}
+use Rattle.nl_reports.proofs.critical.critical_of.Goals.{in-Some+in_ok-insert, in_default, then-not-any_named, else-not-any_named, else-lacking-jobs-via-then-lacking-jobs+else-not-is_empty, else-lacking-jobs-via-else-lacking-jobs}
+
+pub loop-place-preserved : goal.loop-place-preserved
+loop-place-preserved c =
+    let ps = c.args.graph.now.nodes.entries in
+    let i = c.loop-place.place in
+    let inside : i < length ps = omega (arith, c.loop-place-test.true, c.len-place-end.ensures.len) in
+    let n : Bor (List ℕ) = record { ref_ptr = c.args.graph.ref_ptr; now = [] } in
+    let d : HeldNode = (n, None) in
+    let es = c.loop-place.names.keys in
+    let P : List NameKey → Type 0 = λ l. HoldNames (nodes_of (take (i + 1) ps)) l in
+    elim c.match-name_at.branch [
+      | in-Some+in_ok-insert w ↦
+          let same : c.match-name_at.names.keys ≡ w.insert.new.self.keys = (λ j. (w.names-is j).keys) in
+          subst P (sym same) (hold_named ps i d inside es w.insert.new.self.keys c.loop-place.invariant w.in-Some.name
+          (w.in-Some.ensures.value d inside)
+          (λ q. w.in_ok-insert.ensures.updates.0 (record { bytes = record { ref_ptr = (0, 0); now = q } })))
+      | in_default w ↦
+          let same : c.match-name_at.names.keys ≡ es = (λ j. (w.names-is j).keys) in
+          subst P (sym same) (hold_unnamed ps i d inside es es c.loop-place.invariant (w.in_default.ensures.value d inside))
+    ]
+
+pub loop-job-preserved : goal.loop-job-preserved
+loop-job-preserved c =
+    let g = seen_graph c.args.graph.now in
+    let jobs = c.args.jobs.now in
+    let i = c.loop-job.job-index in
+    let j = c.job-item.result in
+    let inv = c.loop-job.invariant in
+    let before = c.loop-job in
+    let after = c.if-not-any_named in
+    let all = lacking g (map seen (drop i jobs)) in
+    let rest = lacking g (map seen (drop (i + 1) jobs)) in
+    let f : Job → ℕ = λ x. time_of x.span in
+    let ps = c.args.graph.now.nodes.entries in
+    let names = c.loop-place.names.keys in
+    let past : length ps ≤ c.loop-place.place = omega (arith, c.loop-place-test.false, c.len-place-end.ensures.len) in
+    let hold : HoldNames g.nodes names = subst (λ l. HoldNames (nodes_of l) names) (take_all c.loop-place.place ps past) c.loop-place.invariant in
+    let more = lacking_more g jobs i j c.any_named.result c.loop-job-test.true c.job-item.is
+    (c.any_named.ensures ∙ any_held g names hold j.outputs.now) in
+    elim c.if-not-any_named.branch [
+      | then-not-any_named w ↦
+          let is : all ≡ seen j ∷ rest = more ∙ ap (λ b. cond (not b) (seen j ∷ rest) rest) w.if-not-any_named.true in
+          let many : length all ≡ length (seen j ∷ rest) = ap (λ (l : List Job). length l) is in
+          let long : sum_by f all ≡ f (seen j) + sum_by f rest = ap (sum_by f) is ∙ sum_by-cons f (seen j) rest in
+          let count : after.lacking ≡ before.lacking + 1 = w.lacking-is in
+          let time : after.lacking_time ≡ before.lacking_time + w.from-lacking_time.result = w.lacking_time-is in
+          record {
+            count = omega (arith, count, many, inv.count);
+            time = omega (arith, time, long, inv.time, w.from-lacking_time.ensures, w.time.ensures.value);
+            few = omega (arith, count, inv.few);
+            short = omega (arith, time, inv.short, w.from-lacking_time.ensures, w.time.type_inv);
+          }
+      | else-not-any_named w ↦
+          let is : all ≡ rest = more ∙ ap (λ b. cond (not b) (seen j ∷ rest) rest) w.if-not-any_named.false in
+          let many : length all ≡ length rest = ap (λ (l : List Job). length l) is in
+          let long : sum_by f all ≡ sum_by f rest = ap (sum_by f) is in
+          let count : after.lacking ≡ before.lacking = w.lacking-is in
+          let time : after.lacking_time ≡ before.lacking_time = w.lacking_time-is in
+          record {
+            count = omega (arith, count, many, inv.count);
+            time = omega (arith, time, long, inv.time);
+            few = omega (arith, count, inv.few);
+            short = omega (arith, time, inv.short);
+          }
+    ]
 
 pub loop-node-preserved : goal.loop-node-preserved
 loop-node-preserved c =
@@ -21,7 +91,7 @@ loop-node-preserved c =
     let inside : i < length ps = omega (arith, c.loop-node-test.true, c.len-node-end.ensures.len) in
     let n : Bor (List ℕ) = record { ref_ptr = c.args.graph.ref_ptr; now = [] } in
     let d : HeldNode = (n, None) in
-    let is = c.ran_named.ensures.value c.in_ok-outputs.ensures.value ∙ ap (ran_named_in js) (c.name_at.ensures.value d inside) in
+    let is = c.ran_named.ensures.value c.in_ok-outputs.ensures.value ∙ ap (ran_named_in js) (c.name_at-in-loop-node.ensures.value d inside) in
     ap rans_seen c.in_ok-push.ensures.items
     ∙ ran_more ps js c.loop-node.ran.items c.ran_named.result i d inside c.len-node-end.ensures.unique is c.loop-node.invariant
 
@@ -38,16 +108,18 @@ returns c =
       distinct = c.len-node-end.ensures.unique;
       ran = ap (λ (v : Vec (Option Ran)). rans_seen v.items) c.in_ok-reaches.ensures.ran ∙ c.loop-node.invariant ∙ ap ran (take_all i (ids_of ps) all);
     } in
+    let counted = all_counted (seen_graph c.args.graph.now) c.args.jobs.now c.loop-job.job-index c.loop-job.lacking c.loop-job.lacking_time (omega (arith, c.loop-job-test.false))
+    c.loop-job.invariant.count c.loop-job.invariant.time in
     record {
       value = record {
         are = are;
         is_path = by_graph c.args.graph.now js c.in_ok-reaches.reaches are
             (λ (x : NinjaGraph). IsFoundPath (seen_graph x) js path.length (map ran_seen path.commands.items)) (λ there. c.in_ok-path.ensures.value js there);
-        count = c.in_ok-lacking.ensures.count;
-        time = c.in_ok-lacking.ensures.time;
+        count = counted.0;
+        time = counted.1;
         some = λ e. elim c.else-lacking-jobs.branch [
           | else-lacking-jobs-via-then-lacking-jobs+else-not-is_empty w ↦ none_there js (search (arith, w.is_empty, w.if-not-is_empty.false, length-map c.args.jobs.now seen))
-          | else-lacking-jobs-via-else-lacking-jobs w ↦ absurd (search (arith, w.if-lacking-jobs.false, e, c.in_ok-lacking.ensures.count, length-map c.args.jobs.now seen))
+          | else-lacking-jobs-via-else-lacking-jobs w ↦ absurd (search (arith, w.if-lacking-jobs.false, e, counted.0, length-map c.args.jobs.now seen))
         ];
       };
     }
@@ -55,7 +127,9 @@ returns c =
 pub returns-then-not-is_empty : goal.returns-then-not-is_empty
 returns-then-not-is_empty c =
     let count = length-map c.args.jobs.now seen in
+    let counted = all_counted (seen_graph c.args.graph.now) c.args.jobs.now c.loop-job.job-index c.loop-job.lacking c.loop-job.lacking_time (omega (arith, c.loop-job-test.false))
+    c.loop-job.invariant.count c.loop-job.invariant.time in
     record {
       value = all_lacking (seen_graph c.args.graph.now) (map seen c.args.jobs.now) (search (arith, count, c.is_empty, c.if-not-is_empty.true))
-          (search (arith, c.in_ok-lacking.ensures.count, c.if-lacking-jobs.true, count));
+          (search (arith, counted.0, c.if-lacking-jobs.true, count));
     }

@@ -1,9 +1,27 @@
-use Rattle.std.proofs.Common.{◌≡◌, map, take}
-use Rattle.nl_reports.specs.Critical.{ran_at}
-use Rattle.nl_reports.specs.GraphText.{ids_of, nodes_of}
-use Rattle.nl_reports.specs.Jobs.{seen}
+use Rattle.std.proofs.Common.{◌≡◌, ◌≤◌, ◌+◌, ◌*◌, ◌^◌, drop, length, map, take}
+use Rattle.std.specs.List.{sum_by}
+use Rattle.nl_reports.specs.Critical.{lacking, ran_at}
+use Rattle.nl_reports.specs.GraphText.{ids_of, nodes_of, seen_graph}
+use Rattle.nl_reports.specs.Jobs.{Job, seen}
 use Rattle.nl_reports.specs.Reaches.{rans_seen}
+use Rattle.nl_reports.specs.Spans.{time_of}
+use Rattle.nl_reports.proofs.CriticalLemmas.{HoldNames}
 use Rattle.nl_reports.proofs.critical.critical_of.Given as goal
+
+-- the names of the nodes so far
+abbrev pub invariant-loop-place : goal.invariant-loop-place
+invariant-loop-place l = HoldNames (nodes_of (take l.place l.graph.nodes.entries)) l.names.keys
+
+-- those so far, and those of the commands that follow
+abbrev pub invariant-loop-job : goal.invariant-loop-job
+invariant-loop-job l = record {
+  count : l.lacking + length (lacking (seen_graph l.graph) (map seen (drop l.job-index l.jobs)))
+      ≡ length (lacking (seen_graph l.graph) (map seen l.jobs));
+  time : l.lacking_time + sum_by (λ (j : Job). time_of j.span) (lacking (seen_graph l.graph) (map seen (drop l.job-index l.jobs)))
+      ≡ sum_by (λ (j : Job). time_of j.span) (lacking (seen_graph l.graph) (map seen l.jobs));
+  few : l.lacking ≤ l.job-index;
+  short : l.lacking_time ≤ l.job-index * 2 ^ 64;
+}
 
 -- what ran at the nodes so far
 abbrev pub invariant-loop-node : goal.invariant-loop-node

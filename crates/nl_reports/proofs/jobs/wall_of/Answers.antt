@@ -15,8 +15,8 @@ returns-then-are_begun c = record {
       let ks = map seen c.args.jobs.now in
       let js = map seen c.as_slice-plan.result.now in
       let same : map kept js ≡ map kept ks = ap (λ (l : List Job). map kept (map seen l)) c.as_slice-plan.ensures.value ∙ c.in_ok-planned.ensures.value in
-      let are = c.in_ok-reaches.ensures.value g ks there (made_kept js ks same) in
       let ran : c.as_slice-2.result.now ≡ spans js = c.as_slice-2.ensures.value ∙ c.in_ok-spans.ensures.value in
+      let are = c.in_ok-reaches.ensures.value g ks js there (made_kept js ks same) (c.as_slice-3.ensures.value ∙ c.in_ok-spans.ensures.value) in
       let last : c.fold-wall.result ≡ last_moment c.in_ok-spans.spans.items = search rules in
       have_plan g js ks c.args.count c.fold-wall.result _ (record { graph = are.graph; distinct = are.distinct; ran = are.ran }) same
       (subst (λ (cs : List Span). (t : ℕ) → running cs t ≤ c.args.count) ran (c.in_ok-few.ensures.value c.if-few.true))
