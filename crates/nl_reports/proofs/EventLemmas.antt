@@ -6,6 +6,7 @@ use Rattle.std.proofs.lemmas.Bool.{lt-ltb}
 use Rattle.std.proofs.lemmas.Grind.{flat_map-append}
 use Rattle.json.specs.Print.{escape, escape_byte}
 use Rattle.json.proofs.Printed.Strings.{escape_byte_plain}
+use Rattle.nl_builds.specs.declared.build.How.{How}
 use Rattle.nl_builds.specs.declared.build.How.TheVariants.{AsWritten, FoundAgain}
 use Rattle.nl_reports.specs.Events.{args_of, build_event, build_name, command_event, event_text, micros, running_event, shown}
 use Rattle.nl_reports.specs.Jobs.{Job, first_name}
@@ -49,21 +50,21 @@ name_told d e m n is =
 abbrev process : ℕ → List ℕ
 process number = codes ",\"name\":\"process_name\",\"ph\":\"M\",\"pid\":" ++ (decimal number ++ codes "}")
 
-abbrev pub written_text : List ℕ → ℕ → List ℕ
+abbrev written_text : List ℕ → ℕ → List ℕ
 written_text name number = codes "{\"args\":{\"name\":\"" ++ (name ++ (codes "\",\"rewritten\":false},\"name\":\"process_name\",\"ph\":\"M\",\"pid\":"
     ++ (decimal number ++ codes "}")))
 
-pub written_is : (number began : ℕ) → written_text (build_name number) number ≡ event_text (build_event (record { number = number; began = began; how = AsWritten }))
+written_is : (number began : ℕ) → written_text (build_name number) number ≡ event_text (build_event (record { number = number; began = began; how = AsWritten }))
 unfolding event_text escape_byte
 written_is number began =
     ap (λ (l : List ℕ). codes "{\"args\":{\"name\":\"" ++ l)
     (sym (name_told (build_name number) (escape (build_name number)) (codes ",\"rewritten\":false}") (process number) (name_plain number)))
 
-abbrev pub again_text : List ℕ → ℕ → ℕ → List ℕ
+abbrev again_text : List ℕ → ℕ → ℕ → List ℕ
 again_text name number taken = codes "{\"args\":{\"name\":\"" ++ (name ++ (codes ", found again\",\"rewritten\":true,\"taken\":"
     ++ (decimal taken ++ (codes "},\"name\":\"process_name\",\"ph\":\"M\",\"pid\":" ++ (decimal number ++ codes "}")))))
 
-pub again_is : (number began taken : ℕ)
+again_is : (number began taken : ℕ)
     → again_text (build_name number) number taken ≡ event_text (build_event (record { number = number; began = began; how = FoundAgain taken }))
 unfolding event_text escape_byte
 again_is number began taken =
@@ -75,6 +76,21 @@ again_is number began taken =
     (sym (name_told (build_name number ++ found) (escape (build_name number ++ found)) (told ++ (decimal taken ++ 125 ∷ [])) (process number) plain
     ∙ append_assoc (build_name number) found (34 ∷ (told ++ ((decimal taken ++ 125 ∷ []) ++ process number)))
     ∙ ap (λ (l : List ℕ). build_name number ++ (found ++ (34 ∷ (told ++ l)))) (append_assoc (decimal taken) (125 ∷ []) (process number))))
+
+-- how a build is known, behind its name; and its event
+abbrev pub known_text : How → List ℕ
+known_text AsWritten = codes "\",\"rewritten\":false"
+known_text (FoundAgain taken) = codes ", found again\",\"rewritten\":true,\"taken\":" ++ decimal taken
+
+pub build_told : (b : BuildEvent) → codes "{\"args\":{\"name\":\"" ++ (build_name b.number ++ (known_text b.how
+    ++ ((codes "},\"name\":\"process_name\",\"ph\":\"M\",\"pid\":" ++ decimal b.number) ++ codes "}"))) ≡ event_text (build_event b)
+build_told b = by b.how
+  where
+    by : (h : How) → codes "{\"args\":{\"name\":\"" ++ (build_name b.number ++ (known_text h
+        ++ ((codes "},\"name\":\"process_name\",\"ph\":\"M\",\"pid\":" ++ decimal b.number) ++ codes "}")))
+        ≡ event_text (build_event (record { number = b.number; began = b.began; how = h }))
+    by AsWritten = written_is b.number b.began
+    by (FoundAgain taken) = again_is b.number b.began taken
 
 abbrev pub end_text : ℕ → ℕ → ℕ → List ℕ
 end_text number tid ts = codes ",\"ph\":\"X\",\"pid\":" ++ (decimal number ++ (codes ",\"tid\":" ++ (decimal tid ++ (codes ",\"ts\":" ++ (decimal ts ++ codes "}")))))

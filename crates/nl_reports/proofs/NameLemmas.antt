@@ -32,14 +32,14 @@ unfolding event_text
 names_are [] = refl
 names_are (e ∷ es) = ap (λ (l : List ℕ). event_text (shown e.name) ++ l) (names_behind 0 es)
 
-pub args_are : (j : Job) → codes "{\"hash\":" ++ (event_text (shown (digits_of 16 j.hash)) ++ (codes ",\"outputs\":[" ++ (names_text 0 j.outputs ++ 125 ∷ [])))
+args_are : (j : Job) → codes "{\"hash\":" ++ (event_text (shown (digits_of 16 j.hash)) ++ (codes ",\"outputs\":[" ++ (names_text 0 j.outputs ++ 125 ∷ [])))
     ≡ event_text (args_of j)
 unfolding event_text escape_byte
 args_are j =
     ap (λ (l : List ℕ). codes "{\"hash\":" ++ (event_text (shown (digits_of 16 j.hash)) ++ (codes ",\"outputs\":[" ++ (l ++ 125 ∷ [])))) (names_are j.outputs)
 
 -- the hash between its quotes
-pub hash_told : (old : List ℕ) (hash : ℕ) → ((old ++ codes "{\"hash\":\"") ++ digits_of 16 hash) ++ codes "\",\"outputs\":["
+hash_told : (old : List ℕ) (hash : ℕ) → ((old ++ codes "{\"hash\":\"") ++ digits_of 16 hash) ++ codes "\",\"outputs\":["
     ≡ ((old ++ codes "{\"hash\":") ++ event_text (shown (digits_of 16 hash))) ++ codes ",\"outputs\":["
 hash_told old hash =
     let d = digits_of 16 hash in
@@ -49,6 +49,18 @@ hash_told old hash =
     ∙ ap (λ (l : List ℕ). old ++ (key ++ 34 ∷ l)) (sym (append_assoc d (34 ∷ []) next))
     ∙ sym (append_assoc (old ++ key) (34 ∷ (d ++ 34 ∷ [])) next ∙ append_assoc old key ((34 ∷ (d ++ 34 ∷ [])) ++ next))
     ∙ ap (λ (l : List ℕ). ((old ++ key) ++ l) ++ next) (hash_quoted hash)
+
+-- all of them, and what stands behind
+in_line : (o k h u n m : List ℕ) → ((((o ++ k) ++ h) ++ u) ++ n) ++ (125 ∷ m) ≡ (o ++ (k ++ (h ++ (u ++ (n ++ 125 ∷ []))))) ++ m
+in_line o k h u n m = simp append_assoc
+
+pub args_told : (old first told more : List ℕ) (j : Job) → first ≡ ((old ++ codes "{\"hash\":\"") ++ digits_of 16 j.hash) ++ codes "\",\"outputs\":["
+    → told ++ 93 ∷ [] ≡ first ++ names_text 0 j.outputs → told ++ (93 ∷ 125 ∷ more) ≡ (old ++ event_text (args_of j)) ++ more
+args_told old first told more j begun named =
+    let names = names_text 0 j.outputs in
+    sym (append_assoc told (93 ∷ []) (125 ∷ more)) ∙ ap (λ (l : List ℕ). l ++ (125 ∷ more)) (named ∙ ap (λ (l : List ℕ). l ++ names) (begun ∙ hash_told old j.hash))
+    ∙ in_line old (codes "{\"hash\":") (event_text (shown (digits_of 16 j.hash))) (codes ",\"outputs\":[") names more
+    ∙ ap (λ (l : List ℕ). (old ++ l) ++ more) (args_are j)
 
 -- a name before which no comma stands is the first
 pub first_bare : (es : List Entry) (i : ℕ) (comma name : List ℕ) (e d : Entry) → All IsBare (first_name es) → comma ≡ comma_before i → true ≡ (length comma == 0)

@@ -1,11 +1,12 @@
 -- The text of a trace, event by event.
-use Rattle.std.proofs.Common.{◌≡◌, ◌∙◌, ℕ, ◌+◌, ◌<◌, true, List, [], ◌∷◌, ◌++◌, Option, Result, length, get_or, map, drop, refl, sym, ap, arith, append_assoc, append-nil, length-append}
+use Rattle.std.proofs.Common.{◌≡◌, ◌∙◌, ℕ, ◌+◌, ◌<◌, true, List, [], ◌∷◌, ◌++◌, Option, None, Some, option_map, Result, length, get_or, map, drop, refl, sym, ap, arith, append_assoc, append-nil, length-append}
 use Rattle.std.specs.List.{flat_map, zip}
 use Rattle.std.specs.Result.{IsErr}
 use Rattle.std.proofs.lemmas.Grind.{flat_map-append}
 use Rattle.serde_json.specs.Data.{Data}
 use Rattle.serde_json.specs.View.{items_of}
 use Rattle.serde_json.specs.Written.{compact_text, items_text}
+use Rattle.nl_builds.specs.Builds.{Told}
 use Rattle.nl_builds.specs.declared.build.How.{How}
 use Rattle.nl_tool_texts.specs.declared.fault.ToolFault.{ToolFault}
 use Rattle.nl_reports.specs.Events.{build_event, event_text}
@@ -13,7 +14,9 @@ use Rattle.nl_reports.specs.Frame.{first_began}
 use Rattle.nl_reports.specs.Jobs.{Job, seen}
 use Rattle.nl_reports.specs.Lanes.{lanes}
 use Rattle.nl_reports.specs.Rows.{spans}
-use Rattle.nl_reports.specs.Trace.{array_text, behind_commas, build_events, events_of}
+use Rattle.nl_reports.specs.Trace.{array_text, behind_commas, build_in, events_of, how_in, named_events, number_in, numbered_events, scoped_text}
+use Rattle.nl_reports.specs.Turns.{jobs_in_turn}
+use Rattle.nl_reports.specs.declared.choice.Scope.{Scope}
 use Rattle.nl_tool_texts.specs.Writing.{Writes}
 use Rattle.nl_reports.specs.declared.trace.BuildEvent.{BuildEvent}
 use Rattle.nl_reports.specs.declared.job.Job.{Job as HeldJob}
@@ -44,18 +47,32 @@ pub array_some : (ds : List Data) → 0 < length (array_text ds)
 array_some [] = omega (arith, ap length (sym none_is))
 array_some (d ∷ ds) = omega (arith, ap length (array_is d ds), end_some (91 ∷ event_text d) (behind_commas ds))
 
+-- the events of builds that are there, and of their commands
+abbrev pub events_by : Option BuildEvent → List Job → List Data
+events_by None js = []
+events_by (Some b) js = named_events b js
+
+pub events_as : (scope : Scope) (t : Told) (js : List Job) → events_by (build_in scope t (spans js)) js ≡ numbered_events (number_in scope t) (how_in scope t) js
+events_as scope t js = by (how_in scope t)
+  where
+    by : (o : Option How) → events_by (option_map (λ (how : How). record { number = number_in scope t; began = first_began (spans js); how = how }) o) js
+        ≡ numbered_events (number_in scope t) o js
+    by None = refl
+    by (Some how) = refl
+
+-- the text of what is asked for, if that is there
+pub asked : (scope : Scope) (t : Told) (cs : List Span) (js : List Job) (o : Option BuildEvent) → o ≡ build_in scope t cs → cs ≡ spans js
+    → js ≡ jobs_in_turn scope t → array_text (events_by o js) ≡ scoped_text scope t
+asked scope t cs js o is ran there =
+    ap (λ (o : Option BuildEvent). array_text (events_by o js)) (is ∙ ap (build_in scope t) ran) ∙ ap array_text (events_as scope t js)
+    ∙ ap (λ (js : List Job). array_text (numbered_events (number_in scope t) (how_in scope t) js)) there
+
 -- an array by its beginning, the events of all commands, and its end
-pub all_told : (number began : ℕ) (how : How) (js : List Job) (found held : List ℕ) → began ≡ first_began (spans js) → found ≡ lanes (spans js)
-    → held ≡ 91 ∷ event_text (build_event (record { number = number; began = began; how = how }))
-    → array_text (build_events number how js)
-    ≡ held ++ (behind_commas (flat_map (events_of (record { number = number; began = began; how = how }) (spans js)) (zip js found)) ++ 93 ∷ [])
-all_told number began how js found held begins is starts =
-    let b : ℕ → BuildEvent = λ n. record { number = number; began = n; how = how } in
-    let told : ℕ → List ℕ = λ n. behind_commas (flat_map (events_of (b n) (spans js)) (zip js (lanes (spans js)))) ++ 93 ∷ [] in
-    array_is (build_event (b (first_began (spans js)))) (flat_map (events_of (b (first_began (spans js))) (spans js)) (zip js (lanes (spans js))))
-    ∙ ap (λ (n : ℕ). (91 ∷ event_text (build_event (b n))) ++ told n) (sym begins)
-    ∙ ap (λ (l : List ℕ). l ++ told began) (sym starts)
-    ∙ ap (λ (ls : List ℕ). held ++ (behind_commas (flat_map (events_of (b began) (spans js)) (zip js ls)) ++ 93 ∷ [])) (sym is)
+pub all_told : (b : BuildEvent) (js : List Job) (found held : List ℕ) → found ≡ lanes (spans js) → held ≡ 91 ∷ event_text (build_event b)
+    → array_text (named_events b js) ≡ held ++ (behind_commas (flat_map (events_of b (spans js)) (zip js found)) ++ 93 ∷ [])
+all_told b js found held is starts =
+    let told : List ℕ → List ℕ = λ ls. behind_commas (flat_map (events_of b (spans js)) (zip js ls)) ++ 93 ∷ [] in
+    array_is (build_event b) (flat_map (events_of b (spans js)) (zip js (lanes (spans js)))) ∙ (λ i. sym starts i ++ told (sym is i))
 
 -- the events of the commands from one on
 pub told_next : (b : BuildEvent) (cs : List Span) (ks : List HeldJob) (found : List ℕ) (i lane : ℕ) (k : HeldJob) → i < length ks

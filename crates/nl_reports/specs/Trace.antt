@@ -1,5 +1,5 @@
 -- The text of `trace`: the events of builds, as a JSON array (docs/CLI.md, "trace").
-use Rattle.std.specs.Prelude.{ℕ, ◌-◌, List, [], ◌∷◌, ◌++◌, Option, None, Some, option_and_then}
+use Rattle.std.specs.Prelude.{ℕ, ◌-◌, List, [], ◌∷◌, ◌++◌, Option, None, Some, option_and_then, option_map}
 use Rattle.std.specs.List.{flat_map, zip}
 use Rattle.serde_json.specs.Data.{Data, array}
 use Rattle.serde_json.specs.View.{items_of}
@@ -50,6 +50,10 @@ abbrev pub number_in : Scope → Told → ℕ
 number_in Last t = last_number t
 number_in (Numbered number) t = number
 number_in All t = 0
+
+-- what is told of the builds that are asked for, if these are their commands
+abbrev pub build_in : Scope → Told → List Span → Option BuildEvent
+build_in scope t cs = option_map (λ (how : How). record { number = number_in scope t; began = first_began cs; how = how }) (how_in scope t)
 
 -- the events of the builds that are asked for, one after another; none, where there is no such build
 abbrev pub numbered_events : ℕ → Option How → List Job → List Data

@@ -1,20 +1,19 @@
 //! The text of `trace`: the events of builds, as JSON.
-ghost use Rattle.std.specs.Prelude.{◌≡◌, ◌<◌, ◌^◌, ◌++◌, List, IfErr, OnOk, All, ◌∷◌, IfOk, IsTrue, map, string_bytes};
-ghost use Rattle.nl_reports.specs.{Jobs.{seen, told, first_name}, Spans.{IsEarly}, Sweep.{running}, declared.moments.Span.{Span}, Trace.{how_in, number_in, scoped_text}, Events.{args_of, build_event, build_name, command_event, event_text, running_event, shown}};
+ghost use Rattle.std.specs.Prelude.{◌≡◌, ◌<◌, ◌^◌, ◌++◌, List, IfErr, OnOk, All, ◌∷◌, IsTrue, map};
+ghost use Rattle.nl_reports.specs.{Jobs.{seen, told}, Spans.{IsEarly}, Sweep.{running}, declared.moments.Span.{Span}, Trace.{build_in, scoped_text}, Events.{build_event, command_event, event_text, running_event, shown}};
 ghost use Rattle.nl_tool_texts.specs.{Writing.{IsWriteFault, Writes}, Escape.{IsBare}};
 
-use crate::choice::{Choice, Scope, chosen, jobs_in_turn, last_number};
-use crate::frame::first_began;
+use crate::choice::{Choice, Scope, chosen, jobs_in_turn};
 use crate::job::{Job, between, spans_of};
 use crate::lanes::lanes_of;
 use crate::last_entries::item_at;
-use crate::moments::{Moments, Near};
+use crate::moments::{Moments, Near, Span};
 use crate::summary::most_taken;
 use json::Writer;
 use nl_builds::{Builds, How};
 use nl_fields::append_hex64;
 use nl_tool_texts::{
-    AllocResult, Part, ToolResult, append, append_with, is_bare, put, write_full, write_out,
+    AllocResult, ToolResult, append, append_with, is_bare, put, write_full, write_out,
 };
 use std::alloc::Global;
 use std::io::Write;
@@ -35,18 +34,15 @@ pub fn trace_builds<W: Write>(
     ensures writes { Writes (W.contents writer.old) (W.contents writer.new) (scoped_text scope (told from.now)) result }
     ensures faults { IfErr result IsWriteFault }
 {
-    let Some(how) = how_in(scope, from) else {
-        return write_out(b"[]", writer);
-    };
-    let number = number_in(scope, from);
     let jobs = jobs_in_turn(alloc, scope, from)?;
     let jobs = jobs.as_slice();
     let spans = spans_of(alloc, jobs)?;
     let lanes = lanes_of(alloc, spans.as_slice())?;
     let lanes = lanes.as_slice();
     let moments = Moments::of(alloc, spans.as_slice())?;
-    let began = first_began(spans.as_slice());
-    let build = BuildEvent { number, began, how };
+    let Some(build) = build_in(scope, from, spans.as_slice()) else {
+        return write_out(b"[]", writer);
+    };
     let mut held = Vec::from_slice(alloc, b"[")?;
     append_build(build, &mut held)?;
     let (mut by_start, mut by_end) = (Near::default(), Near::default());
@@ -64,27 +60,6 @@ pub fn trace_builds<W: Write>(
     write_out(held.as_slice(), writer)
 }
 
-fn number_in(scope: Scope, from: &Builds) -> u64
-    ensures { result ≡ number_in scope (told from.now) }
-{
-    match scope {
-        Scope::Last => last_number(from) as u64,
-        Scope::Numbered(number) => number,
-        Scope::All => 0,
-    }
-}
-
-fn how_in(scope: Scope, from: &Builds) -> Option<How>
-    ensures { result ≡ how_in scope (told from.now) }
-{
-    let Choice { first, last } = chosen(scope, from)?;
-    let builds = between(first.saturating_sub(1), last, from.builds.as_slice());
-    if builds.is_empty() {
-        return None;
-    }
-    Some(most_taken(builds).map_or(How::AsWritten, |taken| How::FoundAgain { taken }))
-}
-
 /// The builds that a trace is of: their number, which is 0 of all, when they began, and how they are known.
 #[derive(Clone, Copy, Drop)]
 pub(crate) struct BuildEvent {
@@ -93,29 +68,46 @@ pub(crate) struct BuildEvent {
     pub how: How,
 }
 
+// None, where there is no such build. The commands stand in the order of START.
+fn build_in(scope: Scope, from: &Builds, spans: &[Span]) -> Option<BuildEvent>
+    ensures { result ≡ build_in scope (told from.now) spans.now }
+{
+    let Choice { first, last } = chosen(scope, from)?;
+    let builds = between(first.saturating_sub(1), last, from.builds.as_slice());
+    if builds.is_empty() {
+        return None;
+    }
+    Some(BuildEvent {
+        number: match scope {
+            Scope::Last | Scope::Numbered(_) => last as u64,
+            Scope::All => 0,
+        },
+        began: spans.first().map_or(0, |first| first.began),
+        how: most_taken(builds).map_or(How::AsWritten, |taken| How::FoundAgain { taken }),
+    })
+}
+
 /// Appends the name of a build, which says whether it was found again, and how many of its outputs later builds may have taken.
 fn append_build(build: BuildEvent, out: &mut Vec<u8>) -> AllocResult
     ensures items { OnOk result (out.new.items ≡ out.old.items ++ event_text (build_event build)) }
 {
-    let number = build.number;
-    let name = build_name(*out.allocator(), number)?;
+    append(b"{\"args\":{\"name\":\"", out)?;
+    if build.number == 0 {
+        append(b"all builds", out)?;
+    } else {
+        append_with(b"build ", build.number, out)?;
+    }
     match build.how {
-        How::AsWritten => put!(out; b"{\"args\":{\"name\":\"" [Part::Text(name.as_bytes())]
-            b"\",\"rewritten\":false},\"name\":\"process_name\",\"ph\":\"M\",\"pid\":" {number} b"}"),
+        How::AsWritten => append(b"\",\"rewritten\":false", out)?,
         How::FoundAgain { taken } =>
-            put!(out; b"{\"args\":{\"name\":\"" [Part::Text(name.as_bytes())]
-            b", found again\",\"rewritten\":true,\"taken\":" {taken}
-            b"},\"name\":\"process_name\",\"ph\":\"M\",\"pid\":" {number} b"}"),
+            put!(out; b", found again\",\"rewritten\":true,\"taken\":" {taken})?,
     }
-}
-
-fn build_name(alloc: Global, number: u64) -> AllocResult<String>
-    ensures value { IfOk result (λ name. string_bytes name ≡ build_name number) }
-{
-    if number == 0 {
-        return format!(in alloc; "all builds");
-    }
-    format!(in alloc; "build {number}")
+    append_with(
+        b"},\"name\":\"process_name\",\"ph\":\"M\",\"pid\":",
+        build.number,
+        out,
+    )?;
+    append(b"}", out)
 }
 
 /// Appends a command in a lane, after a comma.
@@ -126,24 +118,8 @@ fn append_command(build: BuildEvent, lane: u64, job: &Job, out: &mut Vec<u8>) ->
 {
     let ts = job.span.began.saturating_sub(build.began) * 1000;
     let name = job.name();
-    let is_bare = is_bare(name);
-    append(b",{\"args\":", out)?;
-    append_args(is_bare, job, out)?;
-    append_with(b",\"dur\":", job.span.time() * 1000, out)?;
-    append(b",\"name\":", out)?;
-    append_shown(is_bare, name, out)?;
-    append_with(b",\"ph\":\"X\",\"pid\":", build.number, out)?;
-    append_with(b",\"tid\":", lane + 1, out)?;
-    append_with(b",\"ts\":", ts, out)?;
-    append(b"}", out)
-}
-
-// The name of its first output is looked at by the caller.
-fn append_args(is_first_bare: bool, job: &Job, out: &mut Vec<u8>) -> AllocResult
-    requires bare { IsTrue is_first_bare → All IsBare (first_name job.now.outputs.now) }
-    ensures items { OnOk result (out.new.items ≡ out.old.items ++ event_text (args_of (seen job.now))) }
-{
-    append(b"{\"hash\":\"", out)?;
+    let is_first_bare = is_bare(name);
+    append(b",{\"args\":{\"hash\":\"", out)?;
     append_hex64(job.hash, out)?;
     append(b"\",\"outputs\":[", out)?;
     let mut comma: &[u8] = b"";
@@ -157,7 +133,13 @@ fn append_args(is_first_bare: bool, job: &Job, out: &mut Vec<u8>) -> AllocResult
         append_shown(is_bare, entry.name(), out)?;
         comma = b",";
     }
-    append(b"]}", out)
+    append_with(b"]},\"dur\":", job.span.time() * 1000, out)?;
+    append(b",\"name\":", out)?;
+    append_shown(is_first_bare, name, out)?;
+    append_with(b",\"ph\":\"X\",\"pid\":", build.number, out)?;
+    append_with(b",\"tid\":", lane + 1, out)?;
+    append_with(b",\"ts\":", ts, out)?;
+    append(b"}", out)
 }
 
 // A name as JSON, with U+FFFD for what isn't UTF-8.

@@ -1,49 +1,41 @@
-use Rattle.std.proofs.Common.{◌≡◌, ◌∙◌, ◌<◌, ◌≤◌, ◌++◌, ◌∷◌, [], ℕ, List, Option, None, Some, ap, arith, flat_map, get_or, length, map, subst, sym}
+use Rattle.std.proofs.Common.{◌≡◌, ◌∙◌, ◌<◌, ◌≤◌, ◌++◌, ◌∷◌, [], ℕ, List, None, Some, ap, arith, flat_map, get_or, length, map, subst, sym}
 use Rattle.std.proofs.lemmas.List.{get_or_default, length-map}
-use Rattle.nl_builds.specs.declared.build.How.{How}
 use Rattle.nl_reports.specs.Events.{build_event, event_text}
-use Rattle.nl_reports.specs.Frame.{first_began}
 use Rattle.nl_reports.specs.Jobs.{seen, told}
 use Rattle.nl_reports.specs.Lanes.{lanes}
 use Rattle.nl_reports.specs.Moments.{AreMoments}
 use Rattle.nl_reports.specs.Rows.{spans}
 use Rattle.nl_reports.specs.Sweep.{running}
-use Rattle.nl_reports.specs.Trace.{array_text, behind_commas, build_events, commands_text, events_of, how_in, number_in, numbered_events, scoped_text}
-use Rattle.nl_reports.specs.Turns.{jobs_in_turn}
+use Rattle.nl_reports.specs.Trace.{behind_commas, commands_text, events_of, scoped_text}
 use Rattle.nl_reports.specs.declared.moments.Span.{Span}
-use Rattle.nl_reports.specs.declared.trace.BuildEvent.{BuildEvent}
 use Rattle.nl_reports.proofs.LaneLemmas.{lane_below, lanes_length}
 use Rattle.nl_reports.proofs.PairLemmas.{pairs_done}
-use Rattle.nl_reports.proofs.TraceLemmas.{all_told, end_some, none_is, three_more, told_next}
+use Rattle.nl_reports.proofs.TraceLemmas.{all_told, asked, end_some, none_is, three_more, told_next}
 use Rattle.nl_tool_texts.specs.Writing.{HoldsAllBut, Writes}
 use Rattle.nl_tool_texts.proofs.WritingLemmas.{all_held, err_writes, is_part, more_held, out_writes, part_on, rest_written, then_moved}
 use Rattle.nl_reports.proofs.trace.trace_builds.Goals as goal
 
 pub returns-in_default-clause-writes : goal.returns-in_default-clause-writes
 returns-in_default-clause-writes g c =
-    let t = told c.args.from.now in
-    let none : None ≡ how_in c.args.scope t = sym c.in_default.is ∙ c.how_in.ensures in
+    let js = map seen c.as_slice-jobs.result.now in
     subst (λ (l : List ℕ). Writes (g.W.Write.contents c.args.writer.now) (g.W.Write.contents c.write_out.new.writer) l c.write_out.result)
-    (none_is ∙ ap (λ (o : Option How). array_text (numbered_events (number_in c.args.scope t) o (jobs_in_turn c.args.scope t))) none)
+    (none_is ∙ asked c.args.scope (told c.args.from.now) _ js None (sym c.in_default.is ∙ c.build_in.ensures) (c.as_slice-3.ensures.value ∙ c.in_ok-spans.ensures.value)
+    (ap (map seen) c.as_slice-jobs.ensures.value ∙ c.in_ok-jobs.ensures.value))
     (out_writes _ _ _ c.write_out.result c.write_out.ensures.ok c.write_out.ensures.prefix)
 
 pub loop-i-init : goal.loop-i-init
 loop-i-init g c =
     let js = map seen c.as_slice-jobs.result.now in
-    let b : BuildEvent = record { number = c.number_in-number.result; began = c.first_began-began.result; how = c.in-Some.how } in
-    let t = told c.args.from.now in
+    let b = c.in-Some.build in
     let held = c.append_build.new.out.items in
     let old = g.W.Write.contents c.args.writer.now in
     let ls = c.as_slice-lanes.result.now in
-    let some : Some c.in-Some.how ≡ how_in c.args.scope t = sym c.in-Some.is ∙ c.how_in.ensures in
-    let ran : js ≡ jobs_in_turn c.args.scope t = ap (map seen) c.as_slice-jobs.ensures.value ∙ c.in_ok-jobs.ensures.value in
-    let same : scoped_text c.args.scope t ≡ array_text (build_events c.number_in-number.result c.in-Some.how js) =
-    sym (λ i. array_text (numbered_events (c.number_in-number.ensures i) (some i) (ran i))) in
     subst (λ (l : List ℕ). HoldsAllBut old old l (held ++ commands_text b js ls))
-    (sym (same ∙ all_told c.number_in-number.result c.first_began-began.result c.in-Some.how js ls held
-    (c.first_began-began.ensures.value ∙ ap first_began (c.as_slice-3.ensures.value ∙ c.in_ok-spans.ensures.value))
+    (sym (all_told b js ls held
     (c.as_slice-lanes.ensures.value ∙ c.in_ok-lanes.ensures.value ∙ ap lanes (c.as_slice.ensures.value ∙ c.in_ok-spans.ensures.value))
-    (c.in_ok-append_build.ensures.items ∙ ap (λ (l : List ℕ). l ++ event_text (build_event b)) c.in_ok-held.ensures.items)))
+    (c.in_ok-append_build.ensures.items ∙ ap (λ (l : List ℕ). l ++ event_text (build_event b)) c.in_ok-held.ensures.items))
+    ∙ asked c.args.scope (told c.args.from.now) _ js (Some b) (sym c.in-Some.is ∙ c.build_in.ensures) (c.as_slice-3.ensures.value ∙ c.in_ok-spans.ensures.value)
+    (ap (map seen) c.as_slice-jobs.ensures.value ∙ c.in_ok-jobs.ensures.value))
     (all_held _ _)
 
 pub append_command-requires-clause-lane : goal.append_command-requires-clause-lane
@@ -60,7 +52,7 @@ loop-i-preserved g c =
     let ran = spans (map seen ks) in
     let i = c.loop-i.i in
     let ls = c.as_slice-lanes.result.now in
-    let b : BuildEvent = record { number = c.number_in-number.result; began = c.first_began-began.result; how = c.in-Some.how } in
+    let b = c.in-Some.build in
     let moments = subst (λ (cs : List Span). AreMoments cs c.in_ok-moments.moments) (c.as_slice-2.ensures.value ∙ c.in_ok-spans.ensures.value) c.in_ok-moments.ensures.value in
     let count : length ran ≡ length ks = omega (arith, length-map (map seen ks) (λ j. j.span), length-map ks seen) in
     let within : i < length ks = omega (arith, c.loop-i-test.true) in
@@ -91,7 +83,7 @@ returns-in_err-write_full-clause-writes g c =
     let ran = spans (map seen ks) in
     let i = c.loop-i.i in
     let ls = c.as_slice-lanes.result.now in
-    let b : BuildEvent = record { number = c.number_in-number.result; began = c.first_began-began.result; how = c.in-Some.how } in
+    let b = c.in-Some.build in
     let moments = subst (λ (cs : List Span). AreMoments cs c.in_ok-moments.moments) (c.as_slice-2.ensures.value ∙ c.in_ok-spans.ensures.value) c.in_ok-moments.ensures.value in
     let count : length ran ≡ length ks = omega (arith, length-map (map seen ks) (λ j. j.span), length-map ks seen) in
     let within : i < length ks = omega (arith, c.loop-i-test.true) in
@@ -114,7 +106,7 @@ returns-clause-writes g c =
     let ks = c.as_slice-jobs.result.now in
     let js = map seen ks in
     let ls = c.as_slice-lanes.result.now in
-    let b : BuildEvent = record { number = c.number_in-number.result; began = c.first_began-began.result; how = c.in-Some.how } in
+    let b = c.in-Some.build in
     let all : length ks ≤ c.loop-i.i = omega (arith, c.loop-i-test.false) in
     let over = ap behind_commas (pairs_done (flat_map (events_of b (spans js))) ks ls c.loop-i.i all) in
     rest_written _ _ _ _ _ c.write_out-2.result (rw (c.as_slice-4.ensures.value, c.in_ok-append.ensures.items) (subst (λ (l : List ℕ). HoldsAllBut (g.W.Write.contents c.args.writer.now)

@@ -1,6 +1,6 @@
 use Rattle.std.proofs.Common.{◌≡◌, ◌++◌, drop}
 use Rattle.nl_reports.proofs.NameLemmas.{comma_before, names_text}
-use Rattle.nl_reports.proofs.trace.append_args.Given as goal
+use Rattle.nl_reports.proofs.trace.append_command.Given as goal
 
 -- a comma stands before each name but the first; the names so far, and those that follow
 abbrev pub invariant-loop-entry : goal.invariant-loop-entry
