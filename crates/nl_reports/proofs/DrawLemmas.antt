@@ -19,7 +19,7 @@ use Rattle.nl_reports.specs.Spans.{time_of}
 use Rattle.nl_tool_texts.specs.Writing.{AppendsSomeOf, HoldsAllBut, Writes}
 use Rattle.nl_tool_texts.specs.Output.{AppendsPrefixOf}
 use Rattle.nl_reports.specs.declared.critical.Ran.{Ran as HeldRan}
-use Rattle.nl_reports.specs.declared.bars.Short.{Short}
+use Rattle.nl_reports.specs.declared.frame.Short.{Short}
 use Rattle.nl_reports.specs.declared.frame.Frame.{Frame}
 use Rattle.nl_reports.specs.declared.picture.Known.{Known}
 use Rattle.nl_reports.specs.declared.job.Job.{Job as HeldJob}

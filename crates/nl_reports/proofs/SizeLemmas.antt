@@ -27,7 +27,7 @@ use Rattle.nl_reports.specs.Picture.{bars_of}
 use Rattle.nl_reports.specs.Rows.{by_start, lead, spans}
 use Rattle.nl_reports.specs.Spans.{IsEarly, closed_of, time_of}
 use Rattle.nl_reports.specs.Work.{place, work_of}
-use Rattle.nl_reports.specs.declared.bars.Short.{Short}
+use Rattle.nl_reports.specs.declared.frame.Short.{Short}
 use Rattle.nl_reports.specs.declared.kinds.Work.{Work}
 use Rattle.nl_reports.specs.declared.kinds.Work.TheVariants.{Compile, Link, Archive, Generate, Test, Other}
 use Rattle.nl_tool_texts.proofs.FallingLemmas.{falling_moves}

@@ -9,7 +9,7 @@ use Rattle.nl_reports.specs.Work.{place, work_of}
 use Rattle.nl_tool_texts.specs.Texts.{rest_text}
 use Rattle.nl_tool_texts.specs.Texts.{joined as parts}
 use Rattle.nl_reports.specs.declared.frame.Frame.{Frame}
-use Rattle.nl_reports.specs.declared.bars.Short.{Short}
+use Rattle.nl_reports.specs.declared.frame.Short.{Short}
 
 abbrev pub kind_of : Job → ℕ
 kind_of j = place (work_of (first_name j.outputs))

@@ -1,9 +1,11 @@
-//! Where things stand in a picture, its axis of time and its curve, and how moments are told.
-ghost use Rattle.std.specs.Prelude.{◌≡◌, ◌<◌, ◌≤◌, ◌^◌, ◌++◌, List, OnOk, All};
-ghost use Rattle.nl_reports.specs.{Curve.{curve}, Frame.{IsFrame, first_began, foot_of, frame_of, height, line_at, pitch, seconds, x_at, x_of, y_at}, Moments.{AreMoments}, Spans.{IsEarly}, Ticks.{step_of, ticks}, declared.moments.Span.{Span}};
+//! Where things stand in a picture, its axis of time and its curve, the bars of commands, and how moments are told.
+ghost use Rattle.std.specs.Prelude.{◌≡◌, ◌<◌, ◌≤◌, ◌^◌, ◌++◌, List, OnOk, All, set};
+ghost use Rattle.nl_reports.specs.{Bars.{bar, bar_before, base_of, kind_of, long_bar, name_text, opened, short_bar, short_in, width_of, with_short}, Curve.{curve}, Frame.{IsFrame, foot_of, frame_of, height, line_at, pitch, seconds, x_at, y_at}, Jobs.{seen}, Moments.{AreMoments}, Spans.{IsEarly}, Ticks.{step_of, ticks}, declared.moments.Span.{Span}};
 
+use crate::job::Job;
+use crate::kinds::{KindRule, kind_of as kind_by, place, work_of};
 use crate::moments::{Moments, Near, Span};
-use nl_tool_texts::{AllocResult, Part, put};
+use nl_tool_texts::{AllocResult, Part, append, append_cut_name, append_label, put};
 
 /// `wall` is in milliseconds, and `top` is the highest lane.
 #[derive(Clone, Copy, Drop)]
@@ -20,7 +22,7 @@ impl Frame {
         ensures value { result ≡ frame_of spans.now lanes.now }
         ensures early { IsFrame result }
     {
-        let began = first_began(spans);
+        let began = spans.first().map_or(0, |first| first.began);
         let mut last = 0;
         for span in spans {
             last = last.max(span.closed());
@@ -32,21 +34,14 @@ impl Frame {
         }
     }
 
-    /// In tenths of a pixel, as all places and sizes in a picture. `ms` counts from the beginning of the build.
-    pub(crate) fn x_of(&self, ms: u64) -> u64
-        requires early { ms < 2 ^ 32 }
-        ensures value { result ≡ x_of self.now ms }
-        ensures bound { result ≤ 15400 }
-    {
-        1000 + (ms * 14400 / self.wall.max(1)).min(14400)
-    }
-
+    /// In tenths of a pixel, as all places and sizes in a picture.
     pub(crate) fn x_at(&self, at: u64) -> u64
-        requires early { at < 2 ^ 32 }
+        requires early { at < 2 ^ 33 }
         ensures value { result ≡ x_at self.now at }
         ensures bound { result ≤ 15400 }
     {
-        self.x_of(at.saturating_sub(self.began))
+        let ms = at.saturating_sub(self.began);
+        1000 + (ms * 14400 / self.wall.max(1)).min(14400)
     }
 
     // The distance of two lanes: up to 64 are high enough for names, and more are as high together as a screen.
@@ -90,16 +85,7 @@ impl Frame {
     }
 }
 
-/// The commands stand in the order of START. 0 if there is none.
-pub(crate) fn first_began(spans: &[Span]) -> u64
-    requires early { All IsEarly spans.now }
-    ensures value { result ≡ first_began spans.now }
-    ensures bound { result < 2 ^ 32 }
-{
-    spans.first().map_or(0, |first| first.began)
-}
-
-pub(crate) fn append_seconds(ms: u64, out: &mut Vec<u8>) -> AllocResult
+fn append_seconds(ms: u64, out: &mut Vec<u8>) -> AllocResult
     ensures items { OnOk result (out.new.items ≡ out.old.items ++ seconds ms) }
 {
     put!(out; {ms / 1000} b"." {ms % 1000 / 100} {ms % 100 / 10} {ms % 10})
@@ -134,7 +120,7 @@ pub(crate) fn append_ticks(frame: &Frame, out: &mut Vec<u8>) -> AllocResult
     let step = step_of(frame.wall);
     for i in 0..frame.wall / step + 1 {
         let ms = i * step;
-        let x = u128::from(frame.x_of(ms));
+        let x = u128::from(frame.x_at(frame.began + ms));
         put!(out; b"<path class=\"g\" d=\"M" {x} b" 1000V" {frame.foot()} b"\"/><text class=\"m\" x=\""
             {x} b"\" y=\"950\" text-anchor=\"middle\">" [Part::Time(ms)] b"</text>\n")?;
     }
@@ -158,4 +144,118 @@ pub(crate) fn append_curve(frame: &Frame, moments: &Moments, out: &mut Vec<u8>) 
         b"\" text-anchor=\"end\">" {most}
         b" at a time</text>\n<text class=\"m\" x=\"950\" y=\"" {foot}
         b"\" text-anchor=\"end\">0</text>\n")
+}
+
+// A command whose bar would be narrower shares one with others.
+const NARROW: u64 = 5;
+
+// So wide is a letter, and so many bytes of a name stand in a bar.
+const LETTER: u64 = 70;
+
+const MOST: u64 = 22;
+
+/// Commands of one lane that begin at one pixel and are too short for a bar: the kind of the first, and how many there are.
+#[derive(Clone, Copy, Default, Drop)]
+pub struct Short {
+    pub pixel: u64,
+    pub kind: u32,
+    pub count: u64,
+}
+
+/// Appends the bar of a command in its lane. One that is too short for a bar is put to those of its lane that aren't drawn yet, or has these
+/// drawn if they begin at another pixel.
+pub(crate) fn append_bar(
+    frame: &Frame,
+    job: &Job,
+    lane: u64,
+    shorts: &mut Vec<Short>,
+    out: &mut Vec<u8>,
+) -> AllocResult
+    requires early { IsEarly job.now.span }
+    ensures items { OnOk result (out.new.items ≡ out.old.items ++ bar frame.now shorts.old.items (seen job.now, lane)) }
+    ensures shorts { OnOk result (shorts.new.items ≡ opened frame.now shorts.old.items (seen job.now, lane)) }
+{
+    if width_of(frame, job) >= NARROW {
+        return append_long(frame, job, lane, out);
+    }
+    let pixel = frame.x_at(job.span.began) / 10;
+    let at = lane as usize;
+    if at >= shorts.len() {
+        return Ok(());
+    }
+    let held = shorts[at];
+    if held.pixel == pixel {
+        shorts[at].count = held.count.saturating_add(1);
+        return Ok(());
+    }
+    append_short(frame, lane, held, out)?;
+    shorts[at] = Short {
+        pixel,
+        kind: kind_of(job),
+        count: 1,
+    };
+    Ok(())
+}
+
+/// Appends the bar of short commands; none, if there are none.
+pub(crate) fn append_short(frame: &Frame, lane: u64, short: Short, out: &mut Vec<u8>) -> AllocResult
+    ensures items { OnOk result (out.new.items ≡ out.old.items ++ short_bar frame.now lane short) }
+{
+    if short.count == 0 {
+        return Ok(());
+    }
+    put!(out; b"<rect class=\"k" {short.kind} b"\" x=\"" {u128::from(short.pixel) * 10} b"\" y=\""
+        {frame.y_at(lane)} b"\" width=\"" {10} b"\" height=\"" {frame.height()} b"\"><title>" {short.count}
+        b" short</title></rect>\n")
+}
+
+fn append_long(frame: &Frame, job: &Job, lane: u64, out: &mut Vec<u8>) -> AllocResult
+    requires early { IsEarly job.now.span }
+    ensures items { OnOk result (out.new.items ≡ out.old.items ++ long_bar frame.now (seen job.now) lane) }
+{
+    let name = job.name();
+    let x = frame.x_at(job.span.began);
+    let width = width_of(frame, job);
+    // A bar that is wide enough has a gap behind it.
+    let drawn = if width < 20 { width } else { width - 6 };
+    put!(out; b"<rect class=\"k" {kind_of(job)} b"\" x=\"" {x} b"\" y=\"" {frame.y_at(lane)}
+        b"\" width=\"" {drawn} b"\" height=\"" {frame.height()} b"\"><title>")?;
+    append_label(*out.allocator(), name, out)?;
+    let more = job.outputs.len().saturating_sub(1);
+    if more > 0 {
+        put!(out; b" and " {more} b" more")?;
+    }
+    append(b"\n", out)?;
+    append_seconds(job.span.time(), out)?;
+    append(b" s from ", out)?;
+    append_seconds(job.span.began.saturating_sub(frame.began), out)?;
+    append(b" s</title></rect>\n", out)?;
+    let room = (width.saturating_sub(80) / LETTER).min(MOST);
+    if room < 4 || frame.top >= 64 {
+        return Ok(());
+    }
+    put!(out; b"<text x=\"" {x + 40} b"\" y=\"" {frame.y_at(lane) + 135} b"\">")?;
+    append_cut_name(*out.allocator(), room as usize, base_of(name), out)?;
+    append(b"</text>\n", out)
+}
+
+fn width_of(frame: &Frame, job: &Job) -> u64
+    requires early { IsEarly job.now.span }
+    ensures value { result ≡ width_of frame.now (seen job.now) }
+{
+    let x = frame.x_at(job.span.began);
+    frame.x_at(job.span.closed()).saturating_sub(x)
+}
+
+fn kind_of(job: &Job) -> u32
+    ensures value { result ≡ kind_of (seen job.now) }
+{
+    place(work_of(job.name()))
+}
+
+fn base_of(name: &[u8]) -> &[u8]
+    ensures { result.now ≡ base_of name.now }
+{
+    let folder = kind_by(KindRule::Folder, name);
+    &name[folder.len().min(name.len())..]
 }

@@ -1,7 +1,6 @@
 //! What the builds of a log did: texts, JSON and SVG over any writer, each a function of the builds.
 #![tactic(auto)]
 
-mod bars;
 mod builds_table;
 mod choice;
 mod critical;

@@ -1,12 +1,11 @@
 //! The text of `picture`: builds as SVG.
 ghost use Rattle.std.specs.Prelude.{◌≡◌, ℕ, ◌<◌, ◌+◌, ◌^◌, ◌++◌, ◌*◌, ◌/◌, Some, map, max, option_map, replicate, IfErr, IfOk, OnOk, All};
-ghost use Rattle.nl_reports.specs.{Bars.{no_short}, Frame.{IsFrame}, GraphText.{seen_graph}, Jobs.{seen, told}, Picture.{IsPicture, bars, end, known_in, known_line, legend_text, longest, name_of, outlined, picture, start}, Reaches.{rans_of}, Spans.{IsEarly, time_of}, Work.{place, word}};
+ghost use Rattle.nl_reports.specs.{Bars.{no_short}, Frame.{IsFrame}, GraphText.{seen_graph}, Jobs.{seen, told}, Picture.{IsPicture, bars, end, known_in, known_line, legend_text, longest, outlined, picture, start}, Reaches.{rans_of}, Spans.{IsEarly, time_of}, Work.{place, word}};
 ghost use Rattle.nl_tool_texts.specs.Writing.{IsFoundFault, IsWriteFault, PrintsInPieces, Writes};
 
-use crate::bars::{Short, append_bar, append_short};
 use crate::choice::{LAST, Scope, chosen, jobs_in_turn};
 use crate::critical::{FoundPath, critical_of};
-use crate::frame::{Frame, append_curve, append_ticks};
+use crate::frame::{Frame, Short, append_bar, append_curve, append_short, append_ticks};
 use crate::graph::NinjaGraph;
 use crate::job::{Job, spans_of};
 use crate::kinds::{Times, Work, place, word};
@@ -133,14 +132,21 @@ fn append_start(frame: &Frame, known: Known, jobs: &[Job], out: &mut Vec<u8>) ->
     let times = Times::of(jobs);
     let total = times.total();
     let commands = jobs.len() as u64;
+    let tenths = total * 10 / u128::from(frame.wall.max(1));
+    let word: &[u8] = if commands == 1 {
+        b" command in "
+    } else {
+        b" commands in "
+    };
+    let mut name = Vec::new(*out.allocator());
+    put!(&mut name; {commands} [Part::Text(word)] [Part::Time(frame.wall)] b", " {tenths / 10} b"."
+        {tenths % 10} b" at a time")?;
+    let name = Part::Text(name.as_slice());
     let height = frame.line_at(commands.min(LISTED) + 1);
     put!(out; b"<svg xmlns=\"http://www.w3.org/2000/svg\" width=\"1600\" height=\"" {height / 10}
         b"\" viewBox=\"0 0 16000 " {height}
-        b"\" role=\"img\" aria-labelledby=\"t\" font-family=\"sans-serif\" font-size=\"120\">\n<title id=\"t\">")?;
-    append_name(frame, total, commands, out)?;
-    append(STYLE, out)?;
-    append_name(frame, total, commands, out)?;
-    append(b"</text>\n", out)?;
+        b"\" role=\"img\" aria-labelledby=\"t\" font-family=\"sans-serif\" font-size=\"120\">\n<title id=\"t\">"
+        [name] [Part::Text(STYLE)] [name] b"</text>\n")?;
     append_known(known, out)?;
     append_kind(total, times.by_place[0], Work::Compile, out)?;
     append_kind(total, times.by_place[1], Work::Link, out)?;
@@ -182,20 +188,6 @@ fn none_short(alloc: Global, top: u64) -> AllocResult<Vec<Short>>
     let mut shorts = vec![in alloc; Short::default(); top as usize]?;
     shorts.push(Short::default())?;
     Ok(shorts)
-}
-
-fn append_name(frame: &Frame, total: u128, commands: u64, out: &mut Vec<u8>) -> AllocResult
-    requires room { total < 2 ^ 120 }
-    ensures items { OnOk result (out.new.items ≡ out.old.items ++ name_of commands frame.now.wall (total * 10 / max 1 frame.now.wall)) }
-{
-    let tenths = total * 10 / u128::from(frame.wall.max(1));
-    let word: &[u8] = if commands == 1 {
-        b" command in "
-    } else {
-        b" commands in "
-    };
-    put!(out; {commands} [Part::Text(word)] [Part::Time(frame.wall)] b", " {tenths / 10} b"."
-        {tenths % 10} b" at a time")
 }
 
 fn append_known(known: Known, out: &mut Vec<u8>) -> AllocResult

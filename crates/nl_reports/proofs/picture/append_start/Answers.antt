@@ -1,13 +1,28 @@
-use Rattle.std.proofs.Common.{◌≡◌, ◌∙◌, ◌+◌, ◌++◌, ℕ, ap, arith, codes, length, map}
+use Rattle.std.proofs.Common.{◌≡◌, ◌∙◌, ◌+◌, ◌*◌, ◌/◌, ◌%◌, ◌++◌, ◌∷◌, [], ℕ, List, ap, append-nil, append_assoc, arith, codes, inl, inr, length, map, max, min, refl}
+use Rattle.std.specs.Borrow.{Bor}
+use Rattle.std.specs.Prelude.{decimal}
+use Rattle.std.proofs.lemmas.Bool.Decides.{eqb_tells}
 use Rattle.std.proofs.lemmas.List.{length-map}
 use Rattle.std.proofs.lemmas.Result.{on_ok_weaker}
 use Rattle.nl_reports.specs.Frame.{line_at}
 use Rattle.nl_reports.specs.Jobs.{seen}
-use Rattle.nl_reports.specs.Picture.{known_line, legend, legend_kind, name, root_start, start_with, style}
+use Rattle.nl_reports.specs.Picture.{commands_word, known_line, legend, legend_kind, name, name_of, root, start_with, style}
 use Rattle.nl_reports.specs.Ticks.{ticks}
+use Rattle.nl_reports.specs.Times.{total as total_of}
+use Rattle.nl_tool_texts.specs.Texts.{joined, time_text}
 use Rattle.nl_reports.specs.declared.kinds.Work.TheVariants.{Compile, Link, Archive, Generate, Test, Other}
 use Rattle.nl_tool_texts.proofs.TextLemmas.{two_parts}
 use Rattle.nl_reports.proofs.picture.append_start.Goals as goal
+use Rattle.nl_reports.proofs.picture.append_start.Goals.{then-commands-eq1, else-commands-eq1}
+
+opened : (a b c d e n s z : List ℕ) → joined (a ∷ b ∷ c ∷ d ∷ e ∷ n ∷ s ∷ n ∷ z ∷ []) ≡ joined (a ∷ b ∷ c ∷ d ∷ e ∷ []) ++ n ++ s ++ n ++ z
+opened a b c d e n s z = simp (append_assoc, append-nil)
+
+one_word : (n : ℕ) → n ≡ 1 → codes " command in " ≡ commands_word n
+one_word n is = elim (eqb_tells n 1) [ inl h ↦ rw h.0 refl | inr h ↦ absurd (h.1 is) ]
+
+more_words : (n : ℕ) → (n ≡ 1 → ⊥) → codes " commands in " ≡ commands_word n
+more_words n is = elim (eqb_tells n 1) [ inl h ↦ absurd (is h.1) | inr h ↦ rw h.0 refl ]
 
 pub returns : goal.returns
 returns c =
@@ -19,11 +34,18 @@ returns c =
     let count : n ≡ length (map seen c.args.jobs.now) = omega (arith, length-map c.args.jobs.now seen) in
     let text = name f t n in
     let height = c.line_at-height.ensures.value ∙ ap (λ (k : ℕ). line_at f (k + 1)) c.min.ensures in
-    let first = c.in_ok-put.ensures.items ∙ (λ i. old ++ root_start (height i)) in
-    let named = two_parts old _ _ _ text first (rw total at c.in_ok-append_name.ensures.items) in
-    let styled = two_parts old _ _ _ style named c.in_ok-append.ensures.items in
-    let shown = two_parts old _ _ _ text styled (rw total at c.in_ok-append_name-2.ensures.items) in
-    let closed = two_parts old _ _ _ (codes "</text>\n") shown c.in_ok-append-2.ensures.items in
+    let word : c.if-commands-eq1.word.now ≡ commands_word n = elim c.if-commands-eq1.branch [
+      | then-commands-eq1 w ↦ ap (λ (b : Bor (List ℕ)). b.now) w.word-is ∙ one_word n w.if-commands-eq1.true
+      | else-commands-eq1 w ↦ ap (λ (b : Bor (List ℕ)). b.now) w.word-is ∙ more_words n w.if-commands-eq1.false
+    ] in
+    let wide : c.from.result ≡ max 1 f.wall = omega (arith, c.from.ensures, c.max.ensures) in
+    let tenths : c.total-total.result * 10 / c.from.result ≡ total_of t * 10 / max 1 f.wall = λ i. total i * 10 / wide i in
+    let told : c.as_slice.result.now ≡ text = c.as_slice.ensures.value ∙ c.in_ok-put.ensures.items
+    ∙ (λ i. c.new-name.ensures.items i ++ joined (decimal n ∷ word i ∷ time_text f.wall ∷ codes ", " ∷ decimal (tenths i / 10) ∷ codes "." ∷ decimal (tenths i % 10) ∷ codes " at a time" ∷ [])) in
+    let closed = c.in_ok-put-2.ensures.items ∙ (λ i. old ++ joined (codes "<svg xmlns=\"http://www.w3.org/2000/svg\" width=\"1600\" height=\"" ∷ decimal (height i / 10)
+    ∷ codes "\" viewBox=\"0 0 16000 " ∷ decimal (height i) ∷ root ∷ told i ∷ style ∷ told i ∷ codes "</text>\n" ∷ []))
+    ∙ ap (λ (l : List ℕ). old ++ l) (opened (codes "<svg xmlns=\"http://www.w3.org/2000/svg\" width=\"1600\" height=\"") (decimal (line_at f (min n 10 + 1) / 10)) (codes "\" viewBox=\"0 0 16000 ")
+    (decimal (line_at f (min n 10 + 1))) root text style (codes "</text>\n")) in
     let headed = two_parts old _ _ _ (known_line c.args.known) closed c.in_ok-append_known.ensures.items in
     let before = c.append_known.new.out.items in
     let second = two_parts before _ _ (legend_kind t Compile) (legend_kind t Link) (rw total at c.in_ok-append_kind.ensures.items) (rw total at c.in_ok-append_kind-2.ensures.items) in
@@ -34,6 +56,6 @@ returns c =
     let told = two_parts old _ _ _ (legend t) headed last in
     let ticked = two_parts old _ _ _ (ticks f) told c.in_ok-append_ticks.ensures.items in
     record {
-      items = on_ok_weaker c.append-3.result (λ h. two_parts old _ _ _ (codes "<g class=\"t\" font-size=\"110\">\n") ticked h
-          ∙ (λ i. old ++ start_with f c.args.known (c.of-times.ensures.value i) (count i))) c.append-3.ensures.items;
+      items = on_ok_weaker c.append.result (λ h. two_parts old _ _ _ (codes "<g class=\"t\" font-size=\"110\">\n") ticked h
+          ∙ (λ i. old ++ start_with f c.args.known (c.of-times.ensures.value i) (count i))) c.append.ensures.items;
     }

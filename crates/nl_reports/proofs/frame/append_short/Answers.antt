@@ -3,7 +3,7 @@ use Rattle.std.specs.Prelude.{decimal}
 use Rattle.std.proofs.lemmas.Bool.Decides.{eqb_tells}
 use Rattle.std.proofs.lemmas.Result.{on_ok_weaker}
 use Rattle.nl_tool_texts.specs.Texts.{joined}
-use Rattle.nl_reports.proofs.bars.append_short.Goals as goal
+use Rattle.nl_reports.proofs.frame.append_short.Goals as goal
 
 abbrev told : ℕ → ℕ → ℕ → ℕ → ℕ → List ℕ
 told kind x y height count = joined (codes "<rect class=\"k" ∷ decimal kind ∷ codes "\" x=\"" ∷ decimal x ∷ codes "\" y=\"" ∷ decimal y
