@@ -20,42 +20,25 @@ pub fn in_columns(alloc: Global, most: usize, text: &[u8]) -> AllocResult<Vec<u8
     let mut found = Vec::new(alloc);
     let mut out = Vec::new(alloc);
     for i in 0..lines.len() {
-        append_newline(i, &mut out)?;
+        if i > 0 {
+            out.push(b'\n')?;
+        }
         let count = count_fields(lines[i]);
         if found.len() != count {
-            found = widths_of(alloc, lines.as_slice(), count)?;
+            found.clear();
+            for place in 0..count {
+                found.push(widest(lines.as_slice(), count, place))?;
+            }
         }
         append_cells(most, found.as_slice(), lines[i], &mut out)?;
     }
     Ok(out)
 }
 
-// What parts a line from those before it.
-fn append_newline(before: usize, out: &mut Vec<u8>) -> AllocResult
-    ensures items { OnOk result (out.new.items ≡ out.old.items ++ newline_before before) }
-{
-    if before == 0 {
-        return Ok(());
-    }
-    out.push(b'\n')?;
-    Ok(())
-}
-
 pub fn lines_of(alloc: Global, text: &[u8]) -> AllocResult<Vec<&[u8]>>
     ensures value { IfOk result (λ lines. map (λ line. line.now) lines.items ≡ lines_of text.now) }
 {
     text.split(|b| *b == b'\n').collect(alloc)
-}
-
-fn widths_of(alloc: Global, lines: &[&[u8]], count: usize) -> AllocResult<Vec<usize>>
-    ensures value { IfOk result (λ found. found.items ≡ widths count (map (λ line. line.now) lines.now)) }
-    ensures len { IfOk result (λ found. length found.items ≡ count) }
-{
-    let mut found = Vec::new(alloc);
-    for place in 0..count {
-        found.push(widest(lines, count, place))?;
-    }
-    Ok(found)
 }
 
 fn widest(lines: &[&[u8]], count: usize, place: usize) -> usize
@@ -76,26 +59,17 @@ fn append_cells(most: usize, widths: &[usize], line: &[u8], out: &mut Vec<u8>) -
     let last = widths.len().saturating_sub(1);
     let mut room = most;
     for place in 0..last {
-        append_cell(widths[place], field_at(line, place), out)?;
+        let field = field_at(line, place);
+        'spaces: for _ in 0..widths[place].saturating_sub(width(field)) {
+            out.push(b' ')?;
+        }
+        append(field, out)?;
+        append(b"  ", out)?;
         room = room.saturating_sub(widths[place]).saturating_sub(2);
     }
-    append_last(last, room, field_at(line, last), out)
-}
-
-// Adds a field that others follow.
-fn append_cell(wide: usize, field: &[u8], out: &mut Vec<u8>) -> AllocResult
-    ensures items { OnOk result (out.new.items ≡ out.old.items ++ cell wide field.now) }
-{
-    append_spaces(wide.saturating_sub(width(field)), out)?;
-    append(field, out)?;
-    append_spaces(2, out)
-}
-
-// Adds the last field, before which so many stand: whole, or an ellipsis and its end.
-fn append_last(before: usize, room: usize, field: &[u8], out: &mut Vec<u8>) -> AllocResult
-    ensures items { OnOk result (out.new.items ≡ out.old.items ++ last_cell before room field.now) }
-{
-    if before == 0 || width(field) <= room {
+    // The last field stands whole, or as an ellipsis and its end.
+    let field = field_at(line, last);
+    if last == 0 || width(field) <= room {
         return append(field, out);
     }
     append(b"\xe2\x80\xa6", out)?;
@@ -118,15 +92,6 @@ fn end_of(room: usize, field: &[u8]) -> &[u8]
         at += 1;
     }
     &field[at..]
-}
-
-fn append_spaces(count: usize, out: &mut Vec<u8>) -> AllocResult
-    ensures items { OnOk result (out.new.items ≡ out.old.items ++ spaces count) }
-{
-    for _ in 0..count {
-        out.push(b' ')?;
-    }
-    Ok(())
 }
 
 fn count_fields(line: &[u8]) -> usize
@@ -161,7 +126,9 @@ pub fn shown(alloc: Global, text: &[u8]) -> AllocResult<Vec<u8>>
     let mut out = Vec::new(alloc);
     let mut before = 0;
     for byte in text {
-        if is_control(before, *byte) {
+        let is_control = (*byte < 32 && (*byte != b'\t' && *byte != b'\n'))
+            || (*byte == 127 || (before == 194 && (128 <= *byte && *byte < 160)));
+        if is_control {
             append_number(*byte, &mut out)?;
         } else {
             out.push(*byte)?;
@@ -178,11 +145,4 @@ pub fn append_number(byte: u8, out: &mut Vec<u8>) -> AllocResult
     append(b"\\x", out)?;
     let byte = u64::from(byte);
     append(&[hex_digit(byte / 16), hex_digit(byte % 16)], out)
-}
-
-fn is_control(before: u8, byte: u8) -> bool
-    ensures value { result ≡ is_control before byte }
-{
-    (byte < 32 && (byte != b'\t' && byte != b'\n'))
-        || (byte == 127 || (before == 194 && (128 <= byte && byte < 160)))
 }
