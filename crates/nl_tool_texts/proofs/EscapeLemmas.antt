@@ -1,10 +1,14 @@
 -- What bytes become in the text of XML.
-use Rattle.std.proofs.Common.{◌≡◌, ◌≢◌, ◌-◌, zero, suc, ℕ, ◌<◌, ◌≤◌, ◌==◌, ◌&&◌, cond, true, false, List, [], ◌∷◌, ◌++◌, length, min, refl, sym, ap, subst, arith, inl, inr, Bool}
+use Rattle.std.proofs.Common.{◌≡◌, ◌∙◌, take, ◌≢◌, ◌-◌, zero, suc, ℕ, ◌<◌, ◌≤◌, ◌==◌, ◌&&◌, cond, true, false, List, [], ◌∷◌, ◌++◌, length, min, refl, sym, ap, subst, arith, inl, inr, Bool}
 use Rattle.std.specs.Prelude.{nat_le}
 use Rattle.std.specs.List.{All}
-use Rattle.std.proofs.lemmas.Bool.Decides.{eqb_tells, leb_tells}
+use Rattle.std.specs.Str.{IsCharBoundary}
+use Rattle.std.specs.Str.Lossy.{utf8_lossy}
+use Rattle.std.proofs.lemmas.Bool.{cases_lt, cond-false, false_from_ne_true, lt-leb}
+use Rattle.std.proofs.lemmas.Option.{slice_get-get_or, slice_get_past}
+use Rattle.std.proofs.lemmas.Bool.Decides.{eqb_tells, leb_tells, nat_tests}
 use Rattle.std.proofs.lemmas.List.Elements.{All-append, All-cons, All-nil}
-use Rattle.nl_tool_texts.specs.Escape.{IsMadeOfPieces, IsPiece, IsPlain, IsQuiet, begins_character, cut_at, escaped_behind, last_begin, piece}
+use Rattle.nl_tool_texts.specs.Escape.{IsMadeOfPieces, IsPiece, IsPlain, IsQuiet, begins_character, cut_at, cut_name, cut_text, escaped, escaped_behind, last_begin, piece}
 
 plain : (c : ℕ) → 63 ≤ c → IsPlain c
 plain c high = ((omega (arith, high), ((λ e. omega (arith, high, e)), ((λ e. omega (arith, high, e)), (λ e. omega (arith, high, e))))), λ e. omega (arith, high, e))
@@ -97,22 +101,40 @@ text_quiet a b (c ∷ cs) =
 
 -- ---- where a character begins
 
-pub begun_here : (at : ℕ) (text : List ℕ) → begins_character at text ≡ true → last_begin at text ≡ at
+-- the last place up to another at which one begins
+last_begin_is : (k at : ℕ) (text : List ℕ) → at ≤ k → begins_character at text ≡ true
+    → ((i : ℕ) → at < i → i ≤ k → begins_character i text ≡ false) → last_begin k text ≡ at
 unfolding last_begin
-begun_here zero text is = refl
-begun_here (suc k) text is = rw is refl
+last_begin_is zero at text low here none = omega (arith, low)
+last_begin_is (suc k) at text low here none =
+    elim (cases_lt k at) [
+      | inl h ↦
+          let is : suc k ≡ at = omega (arith, h, low) in
+          rw (ap (λ (n : ℕ). begins_character n text) is ∙ here) is
+      | inr h ↦
+          rw (none (suc k) (omega (arith, h)) (omega arith)) (last_begin_is k at text h here (λ i more within. none i more (omega (arith, within))))
+    ]
 
-pub begun_before : (at : ℕ) (text : List ℕ) → 0 < at → begins_character at text ≡ false → last_begin at text ≡ last_begin (at - 1) text
-unfolding last_begin
-begun_before zero text some not = absurd (omega (arith, some))
-begun_before (suc k) text some not =
-    let one : k ≡ suc k - 1 = omega arith in
-    rw not (ap (λ (n : ℕ). last_begin n text) one)
+begins_boundary : (i : ℕ) (text : List ℕ) → IsCharBoundary text i → begins_character i text ≡ true
+begins_boundary i text is = elim (cases_lt i (length text)) [
+  | inl h ↦ let lead = is.1 h in rw (slice_get-get_or text i 0 h) (grind (arith, nat_tests))
+  | inr h ↦ rw (slice_get_past text i h) refl
+]
 
-pub none_begun : (at : ℕ) (text : List ℕ) → at ≡ 0 → last_begin at text ≡ at
-unfolding last_begin
-none_begun zero text is = refl
-none_begun (suc k) text is = absurd (omega (arith, is))
+boundary_begins : (i : ℕ) (text : List ℕ) → i ≤ length text → begins_character i text ≡ true → IsCharBoundary text i
+boundary_begins i text low is = (low, λ less high. let t = rw (slice_get-get_or text i 0 less) at is in grind (arith, nat_tests))
+
+pub floor_cut : (most at : ℕ) (text : List ℕ) → at ≤ most → IsCharBoundary text at
+    → ((i : ℕ) → at < i → i ≤ most → ¬ IsCharBoundary text i) → at ≡ cut_at most text
+floor_cut most at text low here none =
+    sym (last_begin_is (min most (length text)) at text (omega (arith, low, here.0)) (begins_boundary at text here)
+    (λ i more within. false_from_ne_true (begins_character i text) (λ is. none i more (omega (arith, within)) (boundary_begins i text (omega (arith, within)) is))))
+
+pub name_cut : (most at : ℕ) (name text : List ℕ) → text ≡ utf8_lossy name → most < length text → at ≡ cut_at (most - 1) text
+    → escaped (take at text) ++ 226 ∷ 128 ∷ 166 ∷ [] ≡ cut_name most name
+name_cut most at name text is long cut =
+    ap (λ (n : ℕ). escaped (take n text) ++ 226 ∷ 128 ∷ 166 ∷ []) cut
+    ∙ sym (cond-false (nat_le (length text) most) (escaped text) _ (lt-leb (length text) most long)) ∙ ap (cut_text most) is
 
 -- ---- where names are cut
 

@@ -10,20 +10,19 @@ const WHOLE: usize = 100;
 
 const START: usize = 20;
 
-const ELLIPSIS: &[u8] = b"\xE2\x80\xA6";
-
 pub fn append_label(alloc: Global, name: &[u8], out: &mut Vec<u8>) -> AllocResult
     ensures items { OnOk result (out.new.items ≡ out.old.items ++ label name.now) }
 {
     if name.len() <= WHOLE && is_bare(name) {
         return append(name, out);
     }
-    let whole = shown(alloc, name)?;
+    let mut whole = Vec::new(alloc);
+    append_escaped(String::from_utf8_lossy(alloc, name)?.as_bytes(), &mut whole)?;
     if whole.len() <= WHOLE {
         return append(whole.as_slice(), out);
     }
-    let start = shown(alloc, &name[..name.len().min(START)])?;
-    append(start.as_slice(), out)?;
+    let start = String::from_utf8_lossy(alloc, &name[..name.len().min(START)])?;
+    append_escaped(start.as_bytes(), out)?;
     append(b"..", out)
 }
 
@@ -36,38 +35,9 @@ pub fn append_cut_name(alloc: Global, most: usize, name: &[u8], out: &mut Vec<u8
     if bytes.len() <= most {
         return append_escaped(bytes, out);
     }
-    append_escaped(&bytes[..cut_at(most.saturating_sub(1), bytes)], out)?;
-    append(ELLIPSIS, out)
-}
-
-// It tears no character.
-fn cut_at(most: usize, text: &[u8]) -> usize
-    ensures value { result ≡ cut_at most text.now }
-    ensures within { result ≤ length text.now }
-{
-    let mut at = most.min(text.len());
-    'bytes: while at > 0 && !begins_character(at, text) {
-        at -= 1;
-    }
-    at
-}
-
-fn begins_character(at: usize, text: &[u8]) -> bool
-    ensures { result ≡ begins_character at text.now }
-{
-    match text.get(at) {
-        Some(byte) => *byte < 128 || *byte >= 192,
-        None => true,
-    }
-}
-
-fn shown(alloc: Global, name: &[u8]) -> AllocResult<Vec<u8>>
-    ensures value { IfOk result (λ out. out.items ≡ shown name.now) }
-{
-    let text = String::from_utf8_lossy(alloc, name)?;
-    let mut out = Vec::new(alloc);
-    append_escaped(text.as_bytes(), &mut out)?;
-    Ok(out)
+    let at = text.floor_char_boundary(most.saturating_sub(1));
+    append_escaped(&bytes[..at], out)?;
+    append(b"\xE2\x80\xA6", out)
 }
 
 fn append_escaped(text: &[u8], out: &mut Vec<u8>) -> AllocResult
