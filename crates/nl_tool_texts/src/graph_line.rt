@@ -23,11 +23,12 @@ pub fn line_in(ended: bool, number: u64, line: &[u8]) -> Option<Line<'_>>
         line.is_empty()
     } else if line == b"}".as_slice() {
         true
+    } else if let Some((id, rest)) = quoted(line) {
+        return read_behind(id, rest);
     } else {
-        return match quoted(line) {
-            Some((id, rest)) => read_behind(id, rest),
-            None => is_setting(line).then_some(Line::Passed),
-        };
+        line.strip_prefix(b"rankdir=").is_some()
+            || line.strip_prefix(b"node [").is_some()
+            || line.strip_prefix(b"edge [").is_some()
     };
     is_passed.then_some(Line::Passed)
 }
@@ -43,21 +44,9 @@ fn read_behind<'a>(id: &'a [u8], rest: &'a [u8]) -> Option<Line<'a>>
         return Some(Line::Passed);
     }
     let (to, more) = quoted(rest.strip_prefix(b" -> ")?)?;
-    are_attributes(more).then_some(Line::Joined { from: id, to })
-}
-
-fn are_attributes(bytes: &[u8]) -> bool
-    ensures value { result ≡ are_attributes bytes.now }
-{
-    bytes.is_empty() || bytes.strip_prefix(b" [").is_some() && bytes.strip_suffix(b"]").is_some()
-}
-
-fn is_setting(line: &[u8]) -> bool
-    ensures value { result ≡ is_setting line.now }
-{
-    line.strip_prefix(b"rankdir=").is_some()
-        || line.strip_prefix(b"node [").is_some()
-        || line.strip_prefix(b"edge [").is_some()
+    let is_edge = more.is_empty()
+        || more.strip_prefix(b" [").is_some() && more.strip_suffix(b"]").is_some();
+    is_edge.then_some(Line::Joined { from: id, to })
 }
 
 // The bytes in quotes with which a text begins, and what follows them.
