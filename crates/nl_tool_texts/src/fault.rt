@@ -97,10 +97,8 @@ impl From<LoadFault> for ToolFault {
     }
 }
 
-const REFUSED: u8 = 1;
-
 pub fn status_of(_fault: &ToolFault) -> u8
     ensures value { result ≡ 1 }
 {
-    REFUSED
+    1
 }

@@ -17,8 +17,7 @@ pub const BEGINNING: u64 = 2_147_483_648;
 pub fn append(text: &[u8], out: &mut Vec<u8>) -> AllocResult
     ensures items { OnOk result (out.new.items ≡ out.old.items ++ text.now) }
 {
-    out.extend_from_slice(text)?;
-    Ok(())
+    out.extend_from_slice(text)
 }
 
 /// Appends a text and a number after the text.
@@ -26,8 +25,7 @@ pub fn append_with<I: Integer>(text: &[u8], number: I, out: &mut Vec<u8>) -> All
     ensures items { OnOk result (out.new.items ≡ out.old.items ++ (text.now ++ I.text number)) }
 {
     out.extend_from_slice(text)?;
-    out.extend_from_slice(Buffer::new().format(number).as_bytes())?;
-    Ok(())
+    out.extend_from_slice(Buffer::new().format(number).as_bytes())
 }
 
 /// A part of a text: one that stands there, a number, so many in a hundred, a time in words, one in words or in milliseconds, and by how
@@ -73,10 +71,14 @@ fn append_part(part: &Part<'_>, out: &mut Vec<u8>) -> AllocResult
             append_with(b"", *number, out)?;
             append(b"%", out)
         }
-        Part::Time(ms) => append_time(u128::from(*ms), out),
+        Part::Time(ms) => append_took(true, u128::from(*ms), out),
         Part::Took(words, ms) => append_took(*words, *ms, out),
         Part::Change(words, old, new) => {
-            append(sign(*words, *old, *new), out)?;
+            if new < old {
+                append(b"-", out)?;
+            } else if *words && old < new {
+                append(b"+", out)?;
+            }
             append_took(*words, old.abs_diff(*new), out)
         }
         Part::Moment(words, at) if *at < BEGINNING => {
@@ -100,31 +102,13 @@ pub fn append_line(fields: &[Part<'_>], out: &mut Vec<u8>) -> AllocResult
     append(b"\n", out)
 }
 
+// Words have two units at most, and what is less is dropped.
 fn append_took(words: bool, ms: u128, out: &mut Vec<u8>) -> AllocResult
     ensures items { OnOk result (out.new.items ≡ out.old.items ++ took_text words ms) }
 {
-    if words {
-        return append_time(ms, out);
+    if !words {
+        return append_with(b"", ms, out);
     }
-    append_with(b"", ms, out)
-}
-
-fn sign(words: bool, old: u128, new: u128) -> &'static [u8]
-    ensures { result.now ≡ sign words old new }
-{
-    if new < old {
-        b"-"
-    } else if words && old < new {
-        b"+"
-    } else {
-        b""
-    }
-}
-
-// Appends so many milliseconds in words: in two units at most, and what is less is dropped.
-fn append_time(ms: u128, out: &mut Vec<u8>) -> AllocResult
-    ensures items { OnOk result (out.new.items ≡ out.old.items ++ time_text ms) }
-{
     if ms == 0 {
         return append(b"0 s", out);
     }
@@ -137,18 +121,13 @@ fn append_time(ms: u128, out: &mut Vec<u8>) -> AllocResult
         return append(b" s", out);
     }
     if ms < 3_600_000 {
-        return append_two(ms / 60_000, b" min", ms % 60_000 / 1000, b" s", out);
+        append_with(b"", ms / 60_000, out)?;
+        append(b" min", out)?;
+        return append_rest(b" ", ms % 60_000 / 1000, b" s", out);
     }
-    append_two(ms / 3_600_000, b" h", ms % 3_600_000 / 60_000, b" min", out)
-}
-
-// Appends a number of a unit, and what is left in a smaller one.
-fn append_two(first: u128, unit: &[u8], rest: u128, small: &[u8], out: &mut Vec<u8>) -> AllocResult
-    ensures items { OnOk result (out.new.items ≡ out.old.items ++ two_text first unit.now rest small.now) }
-{
-    append_with(b"", first, out)?;
-    append(unit, out)?;
-    append_rest(b" ", rest, small, out)
+    append_with(b"", ms / 3_600_000, out)?;
+    append(b" h", out)?;
+    append_rest(b" ", ms % 3_600_000 / 60_000, b" min", out)
 }
 
 fn append_rest(before: &[u8], number: u128, unit: &[u8], out: &mut Vec<u8>) -> AllocResult
@@ -165,15 +144,11 @@ fn append_rest(before: &[u8], number: u128, unit: &[u8], out: &mut Vec<u8>) -> A
 pub fn is_bare(name: &[u8]) -> bool
     ensures bare { IsTrue result → All IsBare name.now }
 {
-    name.iter().all(|byte| is_bare_byte(*byte))
-}
-
-fn is_bare_byte(byte: u8) -> bool
-    ensures bare { IsTrue result → IsBare byte }
-{
-    (32 <= byte && byte <= 126)
-        && (byte != b'"' && byte != b'\\')
-        && (byte != b'<' && byte != b'>' && byte != b'&')
+    name.iter().all(|byte| {
+        (32 <= *byte && *byte <= 126)
+            && (*byte != b'"' && *byte != b'\\')
+            && (*byte != b'<' && *byte != b'>' && *byte != b'&')
+    })
 }
 
 // The part in a hundred of a whole, rounded down, and a hundred at most.
@@ -181,13 +156,8 @@ pub fn percent(part: u128, whole: u128) -> u128
     requires room { whole < 2 ^ 120 }
     ensures value { result ≡ percent part whole }
 {
-    if whole == 0 {
-        return 0;
-    }
-    if part >= whole {
-        return 100;
-    }
-    part * 100 / whole
+    let hundredfold = part.min(whole) * 100;
+    hundredfold.checked_div(whole).unwrap_or(0)
 }
 
 // A fraction with two digits after the point, rounded down.
@@ -198,11 +168,8 @@ pub fn ratio(alloc: Global, part: u128, whole: u128) -> AllocResult<String>
     if whole == 0 {
         return String::from_str(alloc, "0.00");
     }
-    let times = part / whole;
     let hundredths = part % whole * 100 / whole;
-    let tenth = hundredths / 10;
-    let hundredth = hundredths % 10;
-    format!(in alloc; "{times}.{tenth}{hundredth}")
+    format!(in alloc; "{}.{}{}", part / whole, hundredths / 10, hundredths % 10)
 }
 
 /// It stops at the first write that fails or takes no byte. A write that was interrupted has failed.
@@ -229,10 +196,9 @@ pub fn write_full<W: Write>(most: usize, held: &mut Vec<u8>, writer: &mut W) -> 
     ensures prefix { OnErr result (AppendsPrefixOf (W.contents writer.old) (W.contents writer.new) held.old.items) }
     ensures faults { IfErr result (λ e. e ≡ ToolFault.Write) }
 {
-    if held.len() <= most {
-        return Ok(());
+    if held.len() > most {
+        write_out(held.as_slice(), writer)?;
+        held.clear();
     }
-    write_out(held.as_slice(), writer)?;
-    held.clear();
     Ok(())
 }
