@@ -5,7 +5,6 @@ use Rattle.std.specs.Prelude.{decimal, slice_get}
 use Rattle.nl_fields.specs.declared.entry.Entry.{Entry}
 use Rattle.nl_fields.specs.EntryLine.{line_of}
 use Rattle.nl_lines.specs.Split.{joined}
-use Rattle.std.specs.Io.KnownBytes.{Appends}
 use Rattle.std.proofs.KnownBytes.{Appends-nil, Appends-trans}
 use Rattle.nl_tool_texts.specs.Output.{AppendsPrefixOf}
 use Rattle.nl_tool_texts.specs.Writing.{HoldsAllBut}

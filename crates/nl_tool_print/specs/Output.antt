@@ -1,6 +1,5 @@
 -- What the commands print (docs/CLI.md), and what a writer holds after them.
 use Rattle.std.specs.Prelude.{◌≡◌, ◌++◌, ◌∷◌, [], Bool, List, ℕ, Option, None, Some, IfSome, codes, decimal, if◌then◌else◌, length, map}
-use Rattle.std.specs.Io.KnownBytes.{Appends}
 use Rattle.nl_fields.specs.CommandHash.{IsHash}
 use Rattle.nl_fields.specs.Digits.{digits_of}
 use Rattle.nl_fields.specs.EntryLine.{line_of}

@@ -103,20 +103,13 @@ pub fn check_log<R: Read + Drop, W: Write>(
 {
     let (version, mut loaded) = load_read(alloc, secret, asked, reader)?;
     loaded.version = version.number(loaded.version);
-    let report = report_text(alloc, &loaded)?;
-    write_out(report.as_bytes(), writer)
-}
-
-fn report_text(alloc: Global, loaded: &Loaded) -> AllocResult<String>
-    ensures value { IfOk result (λ text. string_bytes text ≡ report loaded.now.version
-        loaded.now.total (length loaded.now.table) loaded.now.skipped loaded.now.torn) }
-{
     let unique = loaded.table.len() as u64;
     let due = yes_or_no(is_due(loaded.version, loaded.total, unique));
-    format!(in alloc;
+    let report = format!(in alloc;
         "version {}\ntotal {}\nunique {unique}\nskipped {}\ntorn {}\ndue {due}\n",
         loaded.version, loaded.total, loaded.skipped, loaded.torn
-    )
+    )?;
+    write_out(report.as_bytes(), writer)
 }
 
 fn yes_or_no(yes: bool) -> &'static str
