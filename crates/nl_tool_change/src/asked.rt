@@ -177,8 +177,5 @@ fn kept_by(alloc: Global, secret: Secret, keep: &KeepList) -> AllocResult<Option
 pub fn reply_of(answer: Result<(), LogFault>) -> Reply
     ensures value { result ≡ reply_of answer }
 {
-    match answer {
-        Ok(()) => Reply::Done,
-        Err(why) => Reply::Refused(why),
-    }
+    answer.map_or_else(Reply::Refused, |()| Reply::Done)
 }

@@ -143,7 +143,10 @@ impl Script {
             (Word::Fates, Some(text)) if may_set => set_numbers(&mut self.fates, text)?,
             (Word::Tails, Some(text)) if may_set => set_numbers(&mut self.tails, text)?,
             (Word::Fuse, Some(text)) if may_set && self.fuse.is_none() => {
-                self.fuse = Some(read_fuse(text)?);
+                let (word, nth) = split_tab(text);
+                let call = read_call(word).ok_or(LineRefusal::BadLine)?;
+                let nth = nth.and_then(read_number).ok_or(LineRefusal::BadLine)?;
+                self.fuse = Some(Fuse { call, nth });
             }
             _ => self.events.push(read_event(alloc, word, rest)?)?,
         }
@@ -274,13 +277,6 @@ fn set_numbers(numbers: &mut Vec<u64>, text: &[u8]) -> Result<(), LineRefusal> {
         numbers.push(read_number(number).ok_or(LineRefusal::BadLine)?)?;
     }
     Ok(())
-}
-
-fn read_fuse(text: &[u8]) -> Result<Fuse, LineRefusal> {
-    let (word, rest) = split_tab(text);
-    let call = read_call(word).ok_or(LineRefusal::BadLine)?;
-    let nth = rest.and_then(read_number).ok_or(LineRefusal::BadLine)?;
-    Ok(Fuse { call, nth })
 }
 
 fn read_call(word: &[u8]) -> Option<Call>

@@ -28,8 +28,8 @@ returns-in_ok-set_numbers-in-Tails-Some c =
     ∙ ap (λ (r : Option (Bor (List ℕ))). codes "tails" ++ behind_tab r) c.in-Tails-Some.is-1 in
     record { ok = inl ((c.in-Tails-Some.text.now, inr (inr (inl is))), none, none) }
 
-pub returns-in_ok-read_fuse-in-Fuse-Some : goal.returns-in_ok-read_fuse-in-Fuse-Some
-returns-in_ok-read_fuse-in-Fuse-Some c =
+pub returns-in_ok-nth-in-Fuse-Some : goal.returns-in_ok-nth-in-Fuse-Some
+returns-in_ok-nth-in-Fuse-Some c =
     let none : c.args.self.now.events.items ≡ [] = grind (arith, common_steps) in
     let word = c.in-Some.ensures.value ∙ ap text_of_word c.in-Fuse-Some.is-0 in
     let is = c.split_tab.ensures.line ∙ ap (λ (w : List ℕ). w ++ behind_tab c.split_tab.result.1) word
