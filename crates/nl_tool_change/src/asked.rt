@@ -42,18 +42,8 @@ pub enum Asked<'a> {
 pub fn read_asked(alloc: Global, secret: Secret, line: &[u8]) -> Asked<'_>
     ensures asks { Asks line.now result }
 {
-    if line == b"distrusted".as_slice() {
-        Asked::Doubts
-    } else {
-        read_other(alloc, secret, line)
-    }
-}
-
-fn read_other(alloc: Global, secret: Secret, line: &[u8]) -> Asked<'_>
-    requires other { line.now ≢ codes "distrusted" }
-    ensures asks { Asks line.now result }
-{
     match line {
+        b"distrusted" => Asked::Doubts,
         b"table" => Asked::Lists,
         [b'g', b'e', b't', b'\t', name @ ..] => match name_fault(name) {
             None => Asked::Gets(name),

@@ -210,15 +210,9 @@ pub fn read_manifest<R: Read + Drop>(
     if targets.is_empty() {
         return Err(told.refuse(1, LineFault::NoTarget));
     }
-    Ok(names_of(alloc, targets)?)
-}
-
-fn names_of(alloc: Global, targets: Vec<Target>) -> AllocResult<Vec<Name>>
-    ensures value { IfOk result (λ names. names.items ≡ targets.items) }
-{
     let mut names = Vec::new(alloc);
     for target in targets {
-        names.push(target.name)?;
+        names.push(target.name).map_err(|_| AllocError)?;
     }
     Ok(names)
 }
