@@ -6,7 +6,7 @@ use Rattle.std.proofs.lemmas.List.{length-map}
 use Rattle.std.proofs.lemmas.Result.{on_ok_weaker}
 use Rattle.nl_reports.specs.Frame.{line_at}
 use Rattle.nl_reports.specs.Jobs.{seen}
-use Rattle.nl_reports.specs.Picture.{commands_word, known_line, legend, legend_kind, name, name_of, root, start_with, style}
+use Rattle.nl_reports.specs.Picture.{commands_word, known_line, legend, legend_kind, name, root, start_with, style}
 use Rattle.nl_reports.specs.Ticks.{ticks}
 use Rattle.nl_reports.specs.Times.{total as total_of}
 use Rattle.nl_tool_texts.specs.Texts.{joined, time_text}

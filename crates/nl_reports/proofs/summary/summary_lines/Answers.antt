@@ -6,7 +6,7 @@ use Rattle.nl_builds.specs.declared.build.How.TheVariants.{AsWritten}
 use Rattle.nl_reports.specs.Jobs.{between, build_jobs, told}
 use Rattle.nl_reports.specs.Rows.{Told, rank_told, told_command, told_jobs}
 use Rattle.nl_tool_texts.specs.Falling.{falling}
-use Rattle.nl_reports.specs.Summary.{again_in, again_line, builds_told, chosen_text, count_line, first_of, lists_text, no_totals, number_lines, rows_from, slowest_line, text_of, title, totals_from, unfinished_line}
+use Rattle.nl_reports.specs.Summary.{again_line, builds_told, chosen_text, count_line, first_of, lists_text, no_totals, number_lines, rows_from, slowest_line, text_of, title, totals_from, unfinished_line}
 use Rattle.nl_reports.specs.declared.choice.Choice.{Choice}
 use Rattle.nl_reports.specs.declared.rows.Rank.TheVariants.{Time}
 use Rattle.nl_reports.specs.declared.summary.Totals.{Totals}

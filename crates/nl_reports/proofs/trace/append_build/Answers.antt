@@ -1,9 +1,8 @@
-use Rattle.std.proofs.Common.{◌≡◌, ◌∙◌, ◌==◌, ◌++◌, ℕ, List, ap, append-nil, append_assoc, codes, inl, inr, refl, sym}
+use Rattle.std.proofs.Common.{◌≡◌, ◌∙◌, ◌++◌, ℕ, List, ap, append-nil, append_assoc, codes, inl, inr, refl, sym}
 use Rattle.std.specs.Global.{Vec}
 use Rattle.std.proofs.lemmas.Bool.Decides.{eqb_tells}
 use Rattle.std.proofs.lemmas.Result.{on_ok_weaker}
 use Rattle.std.specs.Prelude.{decimal}
-use Rattle.nl_builds.specs.declared.build.How.{How}
 use Rattle.nl_reports.specs.Events.{build_name}
 use Rattle.nl_reports.proofs.EventLemmas.{build_told, known_text}
 use Rattle.nl_reports.proofs.trace.append_build.Goals as goal

@@ -7,7 +7,6 @@ use Rattle.nl_tool_texts.specs.Texts.{joined, line}
 use Rattle.nl_reports.specs.Rows.{list_key, named_kind, rank_key, screen_row, shown_name, told_row}
 use Rattle.nl_reports.specs.Sweep.{parts}
 use Rattle.nl_reports.specs.declared.rows.Listed.{Listed}
-use Rattle.nl_reports.specs.declared.rows.Rank.{Rank}
 use Rattle.nl_reports.proofs.rows.Ranked.append_row.Goals.{in-Commands, in-Kinds+then-is_empty, in-Kinds+else-is_empty, in-Time, in-Weight, in-Commands-listed-2+in_ok-append-in-Commands-listed-2, in-Kinds-listed-2+in_ok-put-in-Kinds-listed-2}
 use Rattle.nl_reports.proofs.rows.Ranked.append_row.Goals as goal
 
