@@ -35,7 +35,7 @@ SITES = [
         "a lock is let go of at once": "return Ok(Some(changed));",
     }),
     ("Lock::Held => return Ok(None),", "None", {"a log that another has locked is taken": "Some(changed)"}),
-    ("if FileId::of(&found) != id {", "FileId::of(&found) != id", {"a file that has lost the name is locked": "false"}),
+    ("if Sign::of(&found).id != id {", "Sign::of(&found).id != id", {"a file that has lost the name is locked": "false"}),
     ("self.locks.clear();\n        self.hold(Some(Locked { handle, id }))?;", "self.locks.clear();", {"the lock of a file that has lost the name is kept": ""}),
     ("self.hold(Some(Locked { handle, id }))?;", "self.hold(Some(Locked { handle, id }))?;", {"the handle of a lock is closed": "drop(handle); self.hold(None)?;"}),
     ("self.hold(lock)?;\n        Ok(file)", "self.hold(lock)?;", {"a log that was made is not locked": "drop(lock);"}),
@@ -66,8 +66,8 @@ SITES = [
     ("if let Some(rights) = file.rights {", "file.rights", {"a scratch keeps the rights of its own": "None", "a scratch gets its rights behind its sync": "None"}),
     ("let answer = take_rights(&file.file, rights);", "take_rights(&file.file, rights)", {"a scratch keeps its mode if that can't be set": "{ let _ = take_rights(&file.file, rights); Ok(()) }"}),
     ("file.rights = None;", "file.rights = None;", {"each sync of a scratch sets its mode": ""}),
-    ("let id = FileId::of(&self.stat(&file, FileRole::Scratch)?);", "FileId::of(&self.stat(&file, FileRole::Scratch)?)", {
-        "a scratch gets its rights before it is whole": "{ let id = FileId::of(&self.stat(&file, FileRole::Scratch)?); if let Some(rights) = rights { let answer = take_rights(&file, rights); self.note_failure(SystemCall::SetMode, FileRole::Scratch, answer)?; } id }",
+    ("let made = self.note_failure(SystemCall::Stat, FileRole::Scratch, file.metadata())?;", "self.note_failure(SystemCall::Stat, FileRole::Scratch, file.metadata())?", {
+        "a scratch gets its rights before it is whole": "{ let made = self.note_failure(SystemCall::Stat, FileRole::Scratch, file.metadata())?; if let Some(rights) = rights { let answer = take_rights(&file, rights); self.note_failure(SystemCall::SetMode, FileRole::Scratch, answer)?; } made }",
     }),
     ("if !self.locks.is_empty() &&", "!self.locks.is_empty()", {"a copy gets the rights of another file": "false"}),
     ("match self.open_or_read(!self.is_begun) {", "!self.is_begun", {"a log that was removed is made again": "true", "a missing log is not made": "false"}),
