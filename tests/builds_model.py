@@ -163,10 +163,17 @@ class Seen:
     def end(self):
         return self.past if self.began is None else self.began + self.ended * MS
 
+    def close(self):
+        """Whether it began less than 10 ms behind the end of the build before it, or before that."""
+        return self.past is not None and self.began is not None and self.began < self.past + ONE_MOMENT
+
     def doubtful(self, late, early):
-        """Whether a border may hide in it, and early, where the log may have been written anew, also another build's command."""
-        if self.hides or late is not False:
-            return self.hides
+        """Whether a border may hide in it, and early, where the log may have been written anew, also another build's command, or whether it is
+        a part of the build before it."""
+        if self.hides or early and self.close():
+            return True
+        if late is not False:
+            return False
         return any(max(map(lo, it)) + ONE_MOMENT < self.lo for it in self.pieces) or early and any(hi(c) + ONE_MOMENT < self.lo for c in self.alone)
 
 
@@ -240,16 +247,31 @@ def whole_commands(commands, count):
     return found
 
 
+def moments(late, commands):
+    """When the build of each began, of commands by their moments. In version 5 the last build began at the greatest `lo`, and has those whose
+    MTIME is of then or later, but for the slack; and so on with those before. The manifest parts those before it from those behind."""
+    if late:
+        return [hi(c) for c in commands]
+    tops, top, found, began = [], None, [], None
+    for c in commands:
+        top = greatest(top, lo(c)) if not c.manifest else None
+        tops.append(top)
+    for c, top in zip(reversed(commands), reversed(tops)):
+        began = top if began is None or c.mtime + SLACK < began else began
+        found.append(lo(c) if c.manifest else began)
+        began = began if not c.manifest else None
+    return found[::-1]
+
+
 def again(late, entries):
     """The entries by their moments, and the builds of their commands."""
     of = sorted(entries, key=lambda it: (it.end, it.hash))
     of.sort(key=lambda it: (it.mtime > 0, it.mtime - (it.start * MS if late else 0) if it.mtime > 0 else 0))
     commands, found = commands_of(of), []
-    for i, c in enumerate(commands):
-        m = None if c.mtime <= 0 else hi(c) if late else lo(c)
-        if not found or found[-1].last.manifest or c.manifest or found[-1].behind(m):
+    for i, (c, m) in enumerate(zip(commands, moments(late, commands))):
+        if not found or found[-1].last.manifest or c.manifest or c.mtime > 0 and found[-1].behind(m):
             found.append(Seen(i, False, None))
-        found[-1].take(late, c, hi(c))
+        found[-1].take(True, c, m)
     return of, commands, found
 
 

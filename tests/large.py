@@ -492,9 +492,9 @@ def try_damaged(trials, program, room):
 
 
 def try_builds(trials, program, room):
-    """A million builds, each of one command: END falls from each line to the next."""
+    """A million builds, each of one command, and each a second behind the end of the one before: END falls from each line to the next."""
     large = Large(trials, program, room, f"a log of {ENTRIES:,} builds")
-    make(large.log, chain([HEADER], (line_of(name_of(it), (-it, ENTRIES - it, (it + 1) * 1_000_000_000, it % 7)) for it in range(ENTRIES))))
+    make(large.log, chain([HEADER], (line_of(name_of(it), (-it, ENTRIES - it, (it + 1) * (ENTRIES + 1_000) * 1_000_000, it % 7)) for it in range(ENTRIES))))
     large.want_sizes(large.log)
     large.want_printed("builds", (b"%d\t1\t1\t%d\t%d\tsure\n" % (it + 1, ENTRIES, ENTRIES) for it in range(ENTRIES)))
     row, last = (ENTRIES, b"%d.00" % ENTRIES, name_of(ENTRIES - 1)), (ENTRIES - 1) % 7

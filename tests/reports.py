@@ -74,6 +74,12 @@ LOGS = {
     # The same, and a build behind it, by which END falls and `a` comes again.
     "written anew and added to": HEADER
     + line_of(b"a", (5, 55, NANO + 100_000_000_000, 1)) + line_of(b"b", (10, 50, NANO, 2)) + line_of(b"a", (0, 20, NANO + 200_000_000_000, 3)),
+    # All began at one moment, so they are of one build, and END falls because the log was written anew in another order.
+    "one build in another order": HEADER + line_of(b"a", (0, 9, NANO, 1)) + line_of(b"b", (0, 5, NANO, 2)) + line_of(b"c", (0, 7, NANO, 3)),
+    # Two builds of two commands, half a second apart. One command of the second wrote its output when it had just begun.
+    "an early output": HEADER
+    + line_of(b"y", (0, 50, NANO + 550_000_000, 1)) + line_of(b"a", (0, 100, NANO + 100_000_000, 2))
+    + line_of(b"x", (0, 450, NANO + 502_000_000, 3)) + line_of(b"b", (0, 120, NANO + 120_000_000, 4)),
     # Two builds of two commands, 500 seconds apart, whose lines take turns.
     "taking turns": HEADER + b"0\t100\t1000000000000\ta\t1\n0\t50\t1500000000000\tb\t2\n60\t90\t1000060000000\tc\t3\n40\t80\t1500040000000\td\t4\n",
     "the manifest last": HEADER + line_of(b"a", (0, 40, NANO, 1)) + line_of(b"build.ninja", (0, 30, NANO + 100_000_000_000, 9)),
@@ -96,6 +102,8 @@ BUILT = {
     "a later build": b"1\t1\t1\t90\t90\tsure\n2\t2\t2\t45\t80\tunsure\n3\t1\t1\t45\t45\tunsure\n",
     "written anew": b"1\t1\t1\t40\t40\tagain\t1\n2\t1\t1\t50\t50\tagain\t0\n",
     "written anew and added to": b"1\t1\t1\t40\t40\tagain\t1\n2\t1\t1\t50\t50\tagain\t0\n3\t1\t1\t20\t20\tsure\n",
+    "one build in another order": b"1\t1\t1\t9\t9\tunsure\n2\t2\t2\t7\t12\tunsure\n",
+    "an early output": b"1\t2\t2\t120\t220\tagain\t2\n2\t2\t2\t450\t500\tagain\t0\n",
     "taking turns": b"1\t2\t2\t100\t130\tagain\t2\n2\t2\t2\t80\t90\tagain\t0\n",
     "the manifest last": b"1\t1\t1\t40\t40\tsure\n2\t1\t1\t30\t30\tsure\n",
     "many builds": b"".join(b"%d\t10\t10\t14\t50\tsure\n" % it for it in range(1, 100)) + b"100\t5\t5\t9\t25\tsure\n",
@@ -120,6 +128,10 @@ SUMMED = {
     "a later build": (1, 1, 45, 45, 45, 45, b"1.00", 45, b"a"),
     "written anew": (1, 1, 50, 50, 50, 50, b"1.00", 50, b"a", 0),
     "written anew and added to": (1, 1, 20, 20, 20, 20, b"1.00", 20, b"a"),
+    # 0 to 5 two run, and to 7 one.
+    "one build in another order": (2, 2, 7, 12, 7, 2, b"1.71", 7, b"c"),
+    # 0 to 50 two run, and to 450 one.
+    "an early output": (2, 2, 450, 500, 450, 400, b"1.11", 450, b"x", 0),
     # 0 to 40 one runs, to 50 two, and to 80 one.
     "taking turns": (2, 2, 80, 90, 80, 70, b"1.12", 50, b"b", 0),
     "the manifest last": (1, 1, 40, 40, 40, 40, b"1.00", 40, b"a"),
@@ -139,6 +151,8 @@ SUMMED_ALL = {
     "written anew": (2, 2, 90, 90, 90, 90, b"1.00", 50, b"a"),
     # Its second build has no output left.
     "written anew and added to": (2, 2, 60, 60, 60, 60, b"1.00", 40, b"b"),
+    "one build in another order": (3, 3, 16, 21, 16, 11, b"1.31", 9, b"a"),
+    "an early output": (4, 4, 570, 720, 570, 420, b"1.26", 450, b"x"),
     "taking turns": (4, 4, 180, 220, 180, 140, b"1.22", 100, b"a"),
     "the manifest last": (2, 2, 70, 70, 70, 70, b"1.00", 40, b"a"),
     # Two of its last build but one, from 8 to 14, and the five of its last.
@@ -158,6 +172,8 @@ DRAWN = {
     "a later build": (1, []),
     "written anew": (1, []),
     "written anew and added to": (1, []),
+    "one build in another order": (2, []),
+    "an early output": (2, []),
     "taking turns": (2, []),
     "the manifest last": (1, []),
     "many builds": (5, []),

@@ -5,31 +5,32 @@ use Rattle.std.specs.List.{list_any}
 use Rattle.std.proofs.lemmas.Bool.{cond-false}
 use Rattle.nl_fields.specs.declared.entry.Entry.{Entry}
 use Rattle.nl_builds.specs.Builds.{IsTold, Told, again, as_written, beside_doubts, counts_names, is_before, new_commands, next_doubts, next_is_sure, told_at, told_with, written_build, written_builds}
-use Rattle.nl_builds.specs.Seen.{doubts}
-use Rattle.nl_builds.specs.Stamps.{is_end, is_start}
+use Rattle.nl_builds.specs.Seen.{doubts, is_close}
 use Rattle.nl_builds.specs.declared.build.Build.{Build}
 use Rattle.nl_builds.specs.declared.build.How.TheVariants.{AsWritten}
 use Rattle.nl_builds.specs.declared.command.Command.{Command}
 use Rattle.nl_builds.specs.declared.command.Row.{Row}
 use Rattle.nl_builds.specs.declared.seen.Seen.{Seen}
-use Rattle.nl_builds.specs.declared.reading.Stamps.{Stamps}
+use Rattle.nl_versions.specs.Stamps.{is_end, is_start}
+use Rattle.nl_versions.specs.declared.entries.Stamps.{Stamps}
 
 neither : (a b : Bool) → (a || b) ≡ false → (a ≡ false) × (b ≡ false)
 neither true b is = absurd (cc is)
 neither false b is = (refl, is)
 
-early_most : (d e p q early : Bool) → (d || e && (p || true && q)) ≡ false → (d || e && (p || early && q)) ≡ false
-early_most d e p q true is = is
-early_most true e p q false is = absurd (cc is)
-early_most false false p q false is = refl
-early_most false true true q false is = absurd (cc is)
-early_most false true false q false is = refl
+early_most : (d c e p q early : Bool) → (d || true && c || e && (p || true && q)) ≡ false → (d || early && c || e && (p || early && q)) ≡ false
+early_most d c e p q true is = is
+early_most true c e p q false is = absurd (cc is)
+early_most false true e p q false is = absurd (cc is)
+early_most false false false p q false is = refl
+early_most false false true true q false is = absurd (cc is)
+early_most false false true false q false is = refl
 
 module _ (stamps : Stamps) where
   -- what doesn't doubt where its lines may be in another order doubts nowhere
   never : (early : Bool) (s : Seen) → doubts stamps true s ≡ false → doubts stamps early s ≡ false
   never true s is = is
-  never false s is = early_most s.is_doubtful (is_end stamps) _ _ false is
+  never false s is = early_most s.is_doubtful (is_close s) (is_end stamps) _ _ false is
 
   next_never : (new from : ℕ) (ss : List Seen) → list_any (doubts stamps true) ss ≡ false → next_doubts stamps new from ss ≡ false
   next_never new from [] none = refl
@@ -73,15 +74,14 @@ module _ (stamps : Stamps) where
   told_alike : (es : List Entry) (cs : List Command) (rs : List Row) (seen : List Seen) (back : Option ℕ)
       → told_with stamps es cs rs seen back ≡ told_at stamps (new_commands (counts_names stamps back seen) es cs) es cs rs seen back
   told_alike es cs rs seen (Some place) = refl
-  told_alike es cs rs seen None = go (is_end stamps) (list_any (doubts stamps true) seen) refl
+  told_alike es cs rs seen None = go (list_any (doubts stamps true) seen) refl
     where
       written : ℕ → Told
       written count = as_written stamps count es cs seen
 
-      go : (ends hides : Bool) → list_any (doubts stamps true) seen ≡ hides → written (new_commands ends es cs) ≡ written (new_commands (ends && hides) es cs)
-      go false hides is = refl
-      go true true is = refl
-      go true false is =
+      go : (hides : Bool) → list_any (doubts stamps true) seen ≡ hides → written (new_commands true es cs) ≡ written (new_commands hides es cs)
+      go true is = refl
+      go false is =
           ap (λ (bs : List Build). record { entries = es; commands = cs; builds = bs }) (builds_alike (new_commands true es cs) 0 seen is)
 
   pub told_written : (es : List Entry) (cs : List Command) (rs : List Row) (seen : List Seen) (back : Option ℕ) (count : ℕ)

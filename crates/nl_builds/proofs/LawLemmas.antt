@@ -2,17 +2,15 @@
 use Rattle.std.proofs.Common.{◌≡◌, ℕ, ◌+◌, ◌-◌, ◌<◌, ◌≤◌, ◌||◌, ◌&&◌, not, Bool, true, false, cond, List, [], ◌∷◌, ◌++◌, length, map, take, drop, refl, sym, ◌∙◌, ap, arith, subst, inl, inr, zero, suc}
 use Rattle.std.specs.Prelude.{nat_le, nat_lt, slice_get, Option, None, Some}
 use Rattle.std.specs.List.Sorted.{IsPermutation}
-use Rattle.std.specs.Option.{is_some}
 use Rattle.std.proofs.lemmas.Bool.{cases_Bool, cond-false, cond-true, ltb-true}
 use Rattle.std.proofs.lemmas.List.{length-append, length-take-le, take-append-drop}
 use Rattle.std.proofs.lemmas.List.Sorted.{IsPermutation-append_left, IsPermutation-refl, IsPermutation-trans, length_permutation}
 use Rattle.nl_fields.specs.declared.entry.Entry.{Entry}
 use Rattle.nl_builds.specs.Builds.{Told, again, as_written, beside_doubts, builds_of, entries_of, entries_to, falls_at, first_back, found_build, is_before, new_commands, new_names, next_is_sure, past_in, told_with, walk, walk_from, whole_commands, written_build, written_builds}
-use Rattle.nl_builds.specs.Commands.{commands, commands_from, falls, is_more, is_same, longer, one, row_or, rows}
+use Rattle.nl_builds.specs.Commands.{commands, commands_from, falls, is_more, is_same, longer, moved_rows, one, row_or, rows}
 use Rattle.nl_builds.specs.Laws.{AreModest, PlacesRise, Share, ShareCommands, ShareEntries}
 use Rattle.nl_builds.specs.Seen.{begun, doubts, is_border, is_doubtful, is_sure, mark, mark_told, mark_written, with_command}
 use Rattle.nl_builds.specs.Sorted.{by_moment, falling, moment_rank, span_rank}
-use Rattle.nl_builds.specs.Stamps.{is_end, is_start}
 use Rattle.nl_builds.specs.declared.build.Build.{Build}
 use Rattle.nl_builds.specs.declared.command.Command.{Command}
 use Rattle.nl_builds.specs.declared.command.Row.{Row}
@@ -20,8 +18,10 @@ use Rattle.nl_builds.specs.declared.seen.Mark.TheVariants.{Sure, Unsure}
 use Rattle.nl_builds.specs.declared.seen.Order.{Order}
 use Rattle.nl_builds.specs.declared.seen.Order.TheVariants.{Written, ByMoment}
 use Rattle.nl_builds.specs.declared.seen.Seen.{Seen}
-use Rattle.nl_builds.specs.declared.reading.Stamps.{Stamps}
+use Rattle.nl_versions.specs.declared.entries.Stamps.TheVariants.{OfStart}
 use Rattle.nl_builds.proofs.FallingLemmas.{falling_moves}
+use Rattle.nl_versions.specs.Stamps.{is_end, is_start}
+use Rattle.nl_versions.specs.declared.entries.Stamps.{Stamps}
 
 -- ---- entries and commands
 
@@ -69,7 +69,7 @@ module _ (order : Order) (stamps : Stamps) where
       → ShareCommands place (walk order stamps place sure cs rs) (place + length cs)
   commands_shared place sure [] rs = omega arith
   commands_shared place sure (c ∷ cs) rs =
-      let first = begun stamps (place + 1) sure None c (row_or c rs) in
+      let first = begun stamps (place + 1) sure 0 c (row_or c rs) in
       let end : place + 1 + length cs ≡ place + length (c ∷ cs) = omega arith in
       subst (ShareCommands place (walk_from order stamps (place + 1) first cs (drop 1 rs))) end
       (walked place (place + 1) first cs (drop 1 rs) (omega arith) refl)
@@ -111,11 +111,10 @@ told_either P stamps es written moved = go (first_back stamps None 0 seen)
 
     go : (back : Option ℕ) → P (told_with stamps es cs rs seen back)
     go back =
-        let counts = is_some back || is_end stamps in
-        let count = new_commands counts es cs in
+        let count = new_commands true es cs in
         elim (cases_Bool (is_before back count)) [
           | inl less ↦ subst P (sym (cond-true (is_before back count) (again stamps count es cs rs) (as_written stamps count es cs seen) less))
-              (moved count (some_before back count less) (new_within counts es cs))
+              (moved count (some_before back count less) (new_within true es cs))
           | inr more ↦ subst P (sym (cond-false (is_before back count) (again stamps count es cs rs) (as_written stamps count es cs seen) more)) (written count)
         ]
 
@@ -175,11 +174,11 @@ again_rises stamps es count some within =
     let later = walk Written stamps (length fs) (falls_at count cs) rest behind_rows in (
       share_append (λ (c : Command). c.to) 0 k (length es) fs rest (subst (ShareEntries 0 fs) all (entries_shared moved))
           (subst (λ (n : ℕ). ShareEntries k (drop n cs) (length es)) place behind.0),
-      subst (Share (λ (b : Build). b.to) 0 (map (found_build k) (walk ByMoment stamps 0 true fs []) ++ written_builds stamps 0 (length fs) false later))
+      subst (Share (λ (b : Build). b.to) 0 (map (found_build k) (walk ByMoment OfStart 0 true fs (moved_rows stamps fs)) ++ written_builds stamps 0 (length fs) false later))
           (sym (length-append fs rest))
-          (share_append (λ (b : Build). b.to) 0 (length fs) (length fs + length rest) (map (found_build k) (walk ByMoment stamps 0 true fs []))
+          (share_append (λ (b : Build). b.to) 0 (length fs) (length fs + length rest) (map (found_build k) (walk ByMoment OfStart 0 true fs (moved_rows stamps fs)))
           (written_builds stamps 0 (length fs) false later)
-          (found_rise k 0 (walk ByMoment stamps 0 true fs []) (length fs) (from_first ByMoment stamps fs []))
+          (found_rise k 0 (walk ByMoment OfStart 0 true fs (moved_rows stamps fs)) (length fs) (from_first ByMoment OfStart fs (moved_rows stamps fs)))
           (written_rise stamps 0 false (length fs) later (length fs + length rest)
           (commands_shared Written stamps (length fs) (falls_at count cs) rest behind_rows))),
     )
@@ -210,7 +209,7 @@ builds_modest stamps es =
     let k = entries_of count cs in
     let fs = commands (by_moment stamps (take k es)) in
     let later = walk Written stamps (length fs) (falls_at count cs) (drop count cs) (drop count (rows cs)) in
-    found_modest k (walk ByMoment stamps 0 true fs []) (written_builds stamps 0 (length fs) false later) (written_modest stamps 0 (length fs) false later))
+    found_modest k (walk ByMoment OfStart 0 true fs (moved_rows stamps fs)) (written_builds stamps 0 (length fs) false later) (written_modest stamps 0 (length fs) false later))
 
 -- ---- sure borders
 

@@ -1,9 +1,8 @@
 mod CutLemmas
 mod AgainLemmas
 mod RowLemmas
+mod WalkLemmas
 mod FallingLemmas
 mod RecordedLemmas
-mod ReadingLemmas
-mod MarkLemmas
 mod LawLemmas
 mod HiddenLemmas

@@ -1,9 +1,9 @@
 -- What the commands of a row tell of each other: from the last one on, and of ENDs that rise.
-use Rattle.std.proofs.Common.{◌≡◌, ◌∙◌, ℕ, ◌+◌, ◌-◌, ◌<◌, ◌≤◌, ◌&&◌, Bool, true, false, List, [], ◌∷◌, ◌++◌, length, get_or, min, set, take, drop, zero, suc, Some, append_assoc, refl, subst, sym, ap, arith, inl, inr, true≢false}
+use Rattle.std.proofs.Common.{◌≡◌, ◌∙◌, ℕ, ◌+◌, ◌-◌, ◌<◌, ◌≤◌, ◌&&◌, Bool, true, false, List, [], ◌∷◌, ◌++◌, length, get_or, max, min, set, take, drop, zero, suc, Some, append_assoc, refl, subst, sym, ap, arith, inl, inr, true≢false}
 use Rattle.std.specs.Prelude.{nat_le, nat_lt, slice_get, Option, None, IfSome}
 use Rattle.std.specs.Borrow.{Bor}
 use Rattle.std.specs.List.{list_any}
-use Rattle.std.specs.Option.{MatchOption, is_some, option_copied}
+use Rattle.std.specs.Option.{MatchOption, is_some, option_copied, unwrap_or}
 use Rattle.std.specs.List.Sorted.{IsNonDecreasing, IsPartitionPoint, IsPartitionedBy}
 use Rattle.std.proofs.lemmas.Bool.{cases_Bool, cases_lt, cond-false, cond-true, le-leb, le-ltb, lt-leb, lt-ltb, ltb-false, ltb-true}
 use Rattle.std.proofs.lemmas.Grind.{common_steps}
@@ -11,9 +11,10 @@ use Rattle.std.proofs.lemmas.Option.{get_or_from_slice_get, slice_get-get_or, sl
 use Rattle.std.proofs.lemmas.List.{drop-set, get_or_default, take-set, take_more}
 use Rattle.std.proofs.lemmas.List.Sorted.{IsNonDecreasingBy-push}
 use Rattle.std.proofs.lemmas.List.Folds.{list_any_at, list_any_none}
-use Rattle.nl_builds.specs.Commands.{first_of, is_at_once, row_to, row_with, waited, waits_from, with_next, with_rows}
+use Rattle.nl_builds.specs.Commands.{first_of, is_at_once, next_top, row_to, row_with, top_row, tops, waited, waits_from, with_next, with_rows}
 use Rattle.nl_builds.specs.declared.command.Command.{Command}
 use Rattle.nl_builds.specs.declared.command.Row.{Row}
+use Rattle.nl_builds.specs.declared.seen.Order.{Order}
 
 -- ---- what a slice gives
 
@@ -40,22 +41,22 @@ got xs i (Some x) some is = sym (slice_get-get_or xs i x.now (ltb-true i (length
 -- ---- from the last one on
 
 -- what each tells with those behind it, where these have theirs
-abbrev pub rows_onto : List Row → List Row → List Row
-rows_onto [] told = told
-rows_onto (c ∷ cs) told = with_next c (first_of (rows_onto cs told)) ∷ rows_onto cs told
+abbrev pub rows_onto : Order → List Row → List Row → List Row
+rows_onto order [] told = told
+rows_onto order (c ∷ cs) told = with_next order c (first_of (rows_onto order cs told)) ∷ rows_onto order cs told
 
 -- the last one tells alone
-pub rows_onto_all : (cs : List Row) (at : ℕ) → length cs ≤ at + 1 → rows_onto (take at cs) (drop at cs) ≡ with_rows cs
-rows_onto_all [] zero le = refl
-rows_onto_all (c ∷ []) zero le = refl
-rows_onto_all (c ∷ d ∷ cs) zero le = absurd (omega (arith, le))
-rows_onto_all [] (suc at) le = refl
-rows_onto_all (c ∷ cs) (suc at) le = ap (λ (r : List Row). with_next c (first_of r) ∷ r) (rows_onto_all cs at (omega (arith, le)))
+pub rows_onto_all : (order : Order) (cs : List Row) (at : ℕ) → length cs ≤ at + 1 → rows_onto order (take at cs) (drop at cs) ≡ with_rows order cs
+rows_onto_all order [] zero le = refl
+rows_onto_all order (c ∷ []) zero le = refl
+rows_onto_all order (c ∷ d ∷ cs) zero le = absurd (omega (arith, le))
+rows_onto_all order [] (suc at) le = refl
+rows_onto_all order (c ∷ cs) (suc at) le = ap (λ (r : List Row). with_next order c (first_of r) ∷ r) (rows_onto_all order cs at (omega (arith, le)))
 
-pub rows_onto_last : (cs : List Row) (d : Row) (told : List Row)
-    → rows_onto (cs ++ d ∷ []) told ≡ rows_onto cs (with_next d (first_of told) ∷ told)
-rows_onto_last [] d told = refl
-rows_onto_last (c ∷ cs) d told = ap (λ (r : List Row). with_next c (first_of r) ∷ r) (rows_onto_last cs d told)
+pub rows_onto_last : (order : Order) (cs : List Row) (d : Row) (told : List Row)
+    → rows_onto order (cs ++ d ∷ []) told ≡ rows_onto order cs (with_next order d (first_of told) ∷ told)
+rows_onto_last order [] d told = refl
+rows_onto_last order (c ∷ cs) d told = ap (λ (r : List Row). with_next order c (first_of r) ∷ r) (rows_onto_last order cs d told)
 
 first_at : (cs : List Row) (at : ℕ) (d : Row) → at < length cs → first_of (drop at cs) ≡ Some (get_or cs at d)
 first_at [] at d within = absurd (omega (arith, within))
@@ -63,20 +64,20 @@ first_at (c ∷ cs) zero d within = refl
 first_at (c ∷ cs) (suc at) d within = first_at cs at d (omega (arith, within))
 
 -- one more has what the next one tells
-pub rows_onto_back : (cs all : List Row) (at : ℕ) (d n r : Row) → 1 < at → at ≤ length cs → d ≡ get_or cs (at - 1 - 1) d → n ≡ get_or cs (at - 1) n
-    → r ≡ with_next d (Some n) → rows_onto (take (at - 1) cs) (drop (at - 1) cs) ≡ all
-    → rows_onto (take (at - 1 - 1) (set cs (at - 1 - 1) r)) (drop (at - 1 - 1) (set cs (at - 1 - 1) r)) ≡ all
-rows_onto_back cs all at d n r more within d_is n_is is told =
+pub rows_onto_back : (order : Order) (cs all : List Row) (at : ℕ) (d n r : Row) → 1 < at → at ≤ length cs → d ≡ get_or cs (at - 1 - 1) d → n ≡ get_or cs (at - 1) n
+    → r ≡ with_next order d (Some n) → rows_onto order (take (at - 1) cs) (drop (at - 1) cs) ≡ all
+    → rows_onto order (take (at - 1 - 1) (set cs (at - 1 - 1) r)) (drop (at - 1 - 1) (set cs (at - 1 - 1) r)) ≡ all
+rows_onto_back order cs all at d n r more within d_is n_is is told =
     let k = at - 1 - 1 in
     let same : k + 1 ≡ at - 1 = omega (arith, more) in
     let inside : k < length cs = omega (arith, more, within) in
     let next : first_of (drop (k + 1) cs) ≡ Some n =
     first_at cs (k + 1) n (omega (arith, more, within)) ∙ ap (λ (m : ℕ). Some (get_or cs m n)) same ∙ ap Some (sym n_is) in
-    (λ i. rows_onto (take-set cs k r i) (drop-set cs k r inside i))
-    ∙ ap (λ (told : Row). rows_onto (take k cs) (told ∷ drop (k + 1) cs)) (is ∙ ap (with_next d) (sym next))
-    ∙ sym (rows_onto_last (take k cs) d (drop (k + 1) cs))
-    ∙ ap (λ (l : List Row). rows_onto l (drop (k + 1) cs)) ((λ i. take k cs ++ d_is i ∷ []) ∙ sym (take_more cs k d inside))
-    ∙ ap (λ (m : ℕ). rows_onto (take m cs) (drop m cs)) same ∙ told
+    (λ i. rows_onto order (take-set cs k r i) (drop-set cs k r inside i))
+    ∙ ap (λ (told : Row). rows_onto order (take k cs) (told ∷ drop (k + 1) cs)) (is ∙ ap (with_next order d) (sym next))
+    ∙ sym (rows_onto_last order (take k cs) d (drop (k + 1) cs))
+    ∙ ap (λ (l : List Row). rows_onto order l (drop (k + 1) cs)) ((λ i. take k cs ++ d_is i ∷ []) ∙ sym (take_more cs k d inside))
+    ∙ ap (λ (m : ℕ). rows_onto order (take m cs) (drop m cs)) same ∙ told
 
 -- ---- of ENDs that rise
 
@@ -132,6 +133,15 @@ waits_more found new row now next c cs more r all told cs_is cut r_is new_is nex
     ∙ ap (λ (r : Row). found ++ r ∷ waits_from (now ++ c.ended ∷ []) more) r_is
     ∙ (λ i. found ++ row_with c (waited (cut i) c) ∷ waits_from (cut i ++ c.ended ∷ []) more)
     ∙ ap (λ (l : List Command). found ++ waits_from row l) (sym cs_is) ∙ told
+
+pub tops_more : (found new : List Row) (top now : ℕ) (c : Command) (cs more : List Command) (r : Row) (all : List Row)
+    → found ++ tops top cs ≡ all → cs ≡ c ∷ more → now ≡ next_top c top → r ≡ top_row c now → new ≡ found ++ r ∷ []
+    → new ++ tops now more ≡ all
+tops_more found new top now c cs more r all told cs_is now_is r_is new_is =
+    (λ i. new_is i ++ tops now more) ∙ append_assoc found (r ∷ []) (tops now more)
+    ∙ ap (λ (r : Row). found ++ r ∷ tops now more) r_is
+    ∙ ap (λ (n : ℕ). found ++ top_row c n ∷ tops n more) now_is
+    ∙ ap (λ (l : List Command). found ++ tops top l) (sym cs_is) ∙ told
 
 -- an END that is too early to wait for
 abbrev pub is_early : ℕ → ℕ → Bool

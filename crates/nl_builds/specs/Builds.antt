@@ -5,26 +5,26 @@ use Rattle.std.specs.Option.{is_some}
 use Rattle.nl_fields.specs.declared.entry.Entry.{Entry}
 use Rattle.nl_table.specs.History.{holds}
 use Rattle.nl_table.specs.Table.{with_name}
-use Rattle.nl_builds.specs.Commands.{commands, falls, row_or, rows}
-use Rattle.nl_builds.specs.Seen.{before, begun, doubts, is_back, is_border, is_doubtful, is_sure, mark, past_of, with_command}
+use Rattle.nl_builds.specs.Commands.{commands, falls, moved_rows, row_or, rows}
+use Rattle.nl_builds.specs.Seen.{begun, doubts, is_back, is_border, is_doubtful, is_sure, mark, past_of, telling, with_command}
 use Rattle.nl_builds.specs.Sorted.{by_moment}
-use Rattle.nl_builds.specs.Stamps.{is_end, is_start}
 use Rattle.nl_builds.specs.declared.build.Build.{Build}
 use Rattle.nl_builds.specs.declared.build.How.TheVariants.{AsWritten, FoundAgain}
 use Rattle.nl_builds.specs.declared.command.Command.{Command}
 use Rattle.nl_builds.specs.declared.command.Row.{Row}
 use Rattle.nl_builds.specs.declared.seen.Order.{Order}
 use Rattle.nl_builds.specs.declared.seen.Order.TheVariants.{Written, ByMoment}
-use Rattle.nl_builds.specs.declared.seen.Past.{Past}
 use Rattle.nl_builds.specs.declared.seen.Seen.{Seen}
-use Rattle.nl_builds.specs.declared.reading.Stamps.{Stamps}
+use Rattle.nl_versions.specs.declared.entries.Stamps.TheVariants.{OfStart}
+use Rattle.nl_versions.specs.Stamps.{is_end, is_start}
+use Rattle.nl_versions.specs.declared.entries.Stamps.{Stamps}
 
 -- ---- the builds of commands that stand in an order
 
 -- it tells of the next build only if they stand as Ninja wrote them
-abbrev pub past_in : Order → Seen → Option Past
+abbrev pub past_in : Order → Seen → ℕ
 past_in Written s = past_of s
-past_in ByMoment s = None
+past_in ByMoment s = 0
 
 -- a command behind a border begins another build, and any other is of the build so far
 abbrev pub walk_from : Order → Stamps → ℕ → Seen → List Command → List Row → List Seen
@@ -38,14 +38,14 @@ walk_from order stamps place s (c ∷ cs) rs =
 -- behind a place, with a border before the first command that is sure or not; each command with what its row tells
 abbrev pub walk : Order → Stamps → ℕ → Bool → List Command → List Row → List Seen
 walk order stamps place sure [] rs = []
-walk order stamps place sure (c ∷ cs) rs = walk_from order stamps (place + 1) (begun stamps (place + 1) sure None c (row_or c rs)) cs (drop 1 rs)
+walk order stamps place sure (c ∷ cs) rs = walk_from order stamps (place + 1) (begun stamps (place + 1) sure 0 c (row_or c rs)) cs (drop 1 rs)
 
 -- ---- whether the log was written anew, and how far
 
 -- before the first build that can't stand behind the one before it
-abbrev pub first_back : Stamps → Option Past → ℕ → List Seen → Option ℕ
-first_back stamps end place [] = None
-first_back stamps end place (s ∷ ss) = if is_back stamps end s then Some place else first_back stamps (before s) s.to ss
+abbrev pub first_back : Stamps → Option Seen → ℕ → List Seen → Option ℕ
+first_back stamps before place [] = None
+first_back stamps before place (s ∷ ss) = if is_back stamps before s then Some place else first_back stamps (telling s) s.to ss
 
 -- before the first whose name came before, because no more entries were written anew
 abbrev pub new_names : List (List ℕ) → List Entry → ℕ
@@ -123,7 +123,7 @@ abbrev pub again_with : Stamps → ℕ → ℕ → List Entry → List Command �
 again_with stamps count k es cs rs moved fs = record {
   entries = moved ++ drop k es;
   commands = fs ++ drop count cs;
-  builds = map (found_build k) (walk ByMoment stamps 0 true fs [])
+  builds = map (found_build k) (walk ByMoment OfStart 0 true fs (moved_rows stamps fs))
       ++ written_builds stamps 0 (length fs) false (walk Written stamps (length fs) (falls_at count cs) (drop count cs) (drop count rs));
 }
 
@@ -142,14 +142,14 @@ is_before (Some back) count = nat_lt back count
 
 -- where no border may hide, it doesn't matter how many names are new
 abbrev pub counts_names : Stamps → Option ℕ → List Seen → Bool
-counts_names stamps back seen = is_some back || is_end stamps && list_any (doubts stamps true) seen
+counts_names stamps back seen = is_some back || list_any (doubts stamps true) seen
 
 -- so many commands were written anew, if the first build that contradicts the order begins among them
 abbrev pub told_at : Stamps → ℕ → List Entry → List Command → List Row → List Seen → Option ℕ → Told
 told_at stamps count es cs rs seen back = if is_before back count then again stamps count es cs rs else as_written stamps count es cs seen
 
 abbrev pub told_with : Stamps → List Entry → List Command → List Row → List Seen → Option ℕ → Told
-told_with stamps es cs rs seen back = told_at stamps (new_commands (is_some back || is_end stamps) es cs) es cs rs seen back
+told_with stamps es cs rs seen back = told_at stamps (new_commands true es cs) es cs rs seen back
 
 abbrev pub told_by : Stamps → List Entry → List Command → List Row → Told
 told_by stamps es cs rs =

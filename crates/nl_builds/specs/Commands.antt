@@ -1,13 +1,17 @@
 -- The commands of a log, as its entries tell them (docs/FORMAT.md, "For a reporter: builds, commands and order").
-use Rattle.std.specs.Prelude.{ℕ, ℤ, pos, negsuc, ◌-ℤ◌, ◌+◌, ◌-◌, ◌^◌, ◌==◌, ◌&&◌, ◌||◌, Bool, false, not, bytes_eq, codes, int_lt, min, nat_le, nat_lt, List, [], ◌∷◌, ◌++◌, Option, None, Some, if◌then◌else◌}
+use Rattle.std.specs.Prelude.{ℕ, ℤ, pos, negsuc, ◌-ℤ◌, ◌+◌, ◌-◌, ◌^◌, ◌==◌, ◌&&◌, ◌||◌, Bool, false, not, bytes_eq, codes, int_lt, max, min, nat_le, nat_lt, List, [], ◌∷◌, ◌++◌, Option, None, Some, if◌then◌else◌}
 use Rattle.std.specs.Int.RustNames.{unsigned_abs}
 use Rattle.std.specs.List.{list_any}
 use Rattle.std.specs.Option.{unwrap_or}
 use Rattle.std.specs.Ordering.{int_eq}
 use Rattle.nl_fields.specs.declared.entry.Entry.{Entry}
-use Rattle.nl_builds.specs.Moments.{moment_at}
+use Rattle.nl_builds.specs.Moments.{moment_at, slack}
 use Rattle.nl_builds.specs.declared.command.Command.{Command}
 use Rattle.nl_builds.specs.declared.command.Row.{Row}
+use Rattle.nl_builds.specs.declared.seen.Order.{Order}
+use Rattle.nl_versions.specs.declared.entries.Stamps.{Stamps}
+use Rattle.nl_versions.specs.Stamps.{is_end}
+use Rattle.nl_builds.specs.declared.seen.Order.TheVariants.{Written, ByMoment}
 
 -- milliseconds from the earliest START that an entry can have
 abbrev pub moment : ℤ → ℕ
@@ -95,8 +99,8 @@ row_to row ended = if list_any (nat_lt ended) row then [] else row
 abbrev pub row_with : Command → Bool → Row
 row_with c waits = record {
   ended = c.ended;
+  alone = if waits then never else unwrap_or (hi c) never;
   up = unwrap_or (hi c) never;
-  has_waited = waits;
   wait = if waits then c.began else never;
 }
 
@@ -107,22 +111,53 @@ waits_from row (c ∷ cs) =
     let before = row_to row c.ended in
     row_with c (waited before c) ∷ waits_from (before ++ c.ended ∷ []) cs
 
--- of it and of those behind it in its row the least `hi`, and the least START of one that waited
-abbrev pub with_next : Row → Option Row → Row
-with_next r None = r
-with_next r (Some s) = if nat_lt s.ended r.ended then r else record r { up = min r.up s.up; wait = min r.wait s.wait }
+-- of it and of those behind it in its row the least `hi`, and the least START of one that waited; in the order of MTIME, the moment of the build
+-- of the next one, unless its own MTIME is of before that
+abbrev pub with_next : Order → Row → Option Row → Row
+with_next order r None = r
+with_next Written r (Some s) = if nat_lt s.ended r.ended then r else record r { up = min r.up s.up; wait = min r.wait s.wait }
+with_next ByMoment r (Some s) = if nat_lt r.alone s.wait then r else record r { up = s.up; wait = s.wait }
 
 abbrev pub first_of : List Row → Option Row
 first_of [] = None
 first_of (r ∷ rs) = Some r
 
-abbrev pub with_rows : List Row → List Row
-with_rows [] = []
-with_rows (r ∷ rs) = with_next r (first_of (with_rows rs)) ∷ with_rows rs
+abbrev pub with_rows : Order → List Row → List Row
+with_rows order [] = []
+with_rows order (r ∷ rs) = with_next order r (first_of (with_rows order rs)) ∷ with_rows order rs
 
 -- what each tells with those beside it in its row
 abbrev pub rows : List Command → List Row
-rows cs = with_rows (waits_from [] cs)
+rows cs = with_rows Written (waits_from [] cs)
+
+abbrev pub written : Command → ℕ
+written c = unwrap_or (latest c.mtime (2 ^ 31)) 0
+
+abbrev pub lo_or_none : Command → ℕ
+lo_or_none c = unwrap_or (lo c) 0
+
+-- the manifest is a build of its own, and parts those before it from those behind
+abbrev pub top_row : Command → ℕ → Row
+top_row c top =
+    if c.is_manifest then record { ended = c.ended; alone = 0; up = lo_or_none c; wait = never }
+    else record { ended = c.ended; alone = written c; up = top; wait = top - slack }
+
+abbrev pub next_top : Command → ℕ → ℕ
+next_top c top = if c.is_manifest then 0 else max top (lo_or_none c)
+
+-- the greatest `lo` of each and of those before it, and its MTIME
+abbrev pub tops : ℕ → List Command → List Row
+tops top [] = []
+tops top (c ∷ cs) = top_row c (next_top c top) ∷ tops (next_top c top) cs
+
+-- when the build of each began, of commands in the order of MTIME, which is of the end: the last build began at the greatest `lo`, and has those
+-- whose MTIME is of then or of behind, but for the slack; and so on with those before them
+abbrev pub moments : List Command → List Row
+moments cs = with_rows ByMoment (tops 0 cs)
+
+-- what commands tell that stand by their moments
+abbrev pub moved_rows : Stamps → List Command → List Row
+moved_rows stamps cs = if is_end stamps then moments cs else []
 
 -- where no more is told of rows, a command tells alone
 abbrev pub row_or : Command → List Row → Row

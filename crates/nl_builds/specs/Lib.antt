@@ -1,5 +1,3 @@
-pub mod Stamps
-pub mod Reading
 pub mod Recorded
 pub mod Moments
 pub mod Commands

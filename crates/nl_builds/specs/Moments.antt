@@ -22,6 +22,10 @@ moment_at mtime ms = mtime + nanos (2 ^ 32 - ms)
 abbrev pub is_past : ℕ → ℕ → ℕ → Bool
 is_past much from to = nat_lt (from + much) to
 
--- a moment and the slack reach the END of a build that began then
-abbrev pub reaches : ℕ → ℕ → ℕ → Bool
-reaches began ended moment = nat_lt (began + nanos ended) (moment + nanos (2 ^ 31) + slack)
+-- the END of a build that began then, from as long before as START and END count
+abbrev pub end_of : ℕ → ℕ → ℕ
+end_of began ended = began + nanos ended
+
+-- a moment and the slack reach it
+abbrev pub reaches : ℕ → ℕ → Bool
+reaches end moment = nat_lt end (moment + nanos (2 ^ 31) + slack)

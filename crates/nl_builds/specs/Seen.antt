@@ -1,7 +1,7 @@
 -- Where another build begins (docs/BUILDS.md, "The rule").
-use Rattle.std.specs.Prelude.{ℕ, ◌+◌, ◌^◌, ◌==◌, ◌&&◌, ◌||◌, Bool, true, false, not, nat_le, max, min, Option, None, Some, if◌then◌else◌}
+use Rattle.std.specs.Prelude.{ℕ, ◌+◌, ◌-◌, ◌^◌, ◌==◌, ◌&&◌, ◌||◌, Bool, true, false, not, nat_le, max, min, Option, None, Some, option_map, if◌then◌else◌, nat_lt}
 use Rattle.std.specs.Option.{unwrap_or}
-use Rattle.nl_builds.specs.Moments.{agreement, is_past, one_moment, reaches, slack}
+use Rattle.nl_builds.specs.Moments.{agreement, is_past, one_moment, reaches, slack, end_of}
 use Rattle.nl_builds.specs.Commands.{falls, hi, is_same, lo, never, tells}
 use Rattle.nl_builds.specs.declared.command.Command.{Command}
 use Rattle.nl_builds.specs.declared.command.Row.{Row}
@@ -9,11 +9,10 @@ use Rattle.nl_builds.specs.declared.seen.Mark.{Mark}
 use Rattle.nl_builds.specs.declared.seen.Mark.TheVariants.{Inside, Doubtful, Unsure, Sure}
 use Rattle.nl_builds.specs.declared.seen.Order.{Order}
 use Rattle.nl_builds.specs.declared.seen.Order.TheVariants.{Written, ByMoment}
-use Rattle.nl_builds.specs.declared.seen.Past.{Past}
 use Rattle.nl_builds.specs.declared.seen.Seen.{Seen}
-use Rattle.nl_builds.specs.Stamps.{is_end, is_start}
-use Rattle.nl_builds.specs.declared.reading.Stamps.{Stamps}
-use Rattle.nl_builds.specs.declared.reading.Stamps.TheVariants.{Unknown, OfEnd, OfStart}
+use Rattle.nl_versions.specs.Stamps.{is_end, is_start}
+use Rattle.nl_versions.specs.declared.entries.Stamps.{Stamps}
+use Rattle.nl_versions.specs.declared.entries.Stamps.TheVariants.{Unknown, OfEnd, OfStart}
 
 abbrev pub is_border : Mark → Bool
 is_border Inside = false
@@ -35,20 +34,19 @@ is_doubtful Sure = false
 
 -- ---- what a command tells
 
--- or one of the two isn't known
-abbrev pub is_after : Option Past → Option ℕ → Bool
-is_after (Some p) (Some m) = reaches p.began p.ended m
-is_after (Some p) None = true
-is_after None m = true
+-- not before an end, which is 0 if none is known; or it isn't known
+abbrev pub is_after : ℕ → Option ℕ → Bool
+is_after end (Some m) = reaches end m
+is_after end None = true
 
 -- when its build began, as borders go by it: if MTIME is of the start, the earliest `hi` from it to where END next falls; if it is of the end,
 -- `lo`, unless `hi` is before the end of the build before
-abbrev pub told_by : Stamps → Option Past → Command → Row → Option ℕ
+abbrev pub told_by : Stamps → ℕ → Command → Row → Option ℕ
 told_by Unknown past c r = None
 told_by OfStart past c r = Some r.up
 told_by OfEnd past c r = if is_after past (hi c) then lo c else None
 
-abbrev pub told : Stamps → Option Past → Command → Row → Option ℕ
+abbrev pub told : Stamps → ℕ → Command → Row → Option ℕ
 told stamps past c r = if tells c then told_by stamps past c r else None
 
 -- of two such moments; the one that is known, if only one is
@@ -57,34 +55,26 @@ better stamps (Some a) (Some b) = Some (if is_start stamps then min a b else max
 better stamps (Some a) None = Some a
 better stamps None b = b
 
--- what no command tells is 0 where the greatest is asked for, and behind each moment where the least is
+-- what no command tells is 0
 abbrev pub or_none : Option ℕ → ℕ
 or_none m = unwrap_or m 0
 
-abbrev pub or_never : Option ℕ → ℕ
-or_never m = unwrap_or m never
-
-abbrev pub known : ℕ → Option ℕ
-known m = if m == 0 then None else Some m
-
 -- ---- a build so far
 
--- the command stands before a place
-abbrev pub begun : Stamps → ℕ → Bool → Option Past → Command → Row → Seen
-begun stamps to sure past c r = record {
-  to = to;
+-- before its first command
+abbrev pub empty : Bool → ℕ → Command → Seen
+empty sure past c = record {
+  to = 0;
   is_sure = sure;
-  is_doubtful = not (tells c);
-  began = told stamps past c r;
+  is_doubtful = false;
+  began = None;
   past = past;
-  earliest = or_none (lo c);
-  latest = or_never (hi c);
-  top = or_none (hi c);
-  ended = c.ended;
+  earliest = 0;
+  latest = None;
   last = c;
-  piece = or_none (lo c);
+  piece = 0;
   pieces = never;
-  oldest = if r.has_waited then never else or_never (hi c);
+  oldest = never;
 }
 
 -- it, or a command behind it in its row, waited, and began 1 ms after the command before it ended, or earlier
@@ -92,7 +82,10 @@ abbrev pub is_tied : Seen → Row → Bool
 is_tied s r = nat_le r.wait (s.last.ended + 1)
 
 -- a command that isn't tied begins a piece of the build, whose moment is its greatest `lo`; `pieces` is the least moment of those before
+abbrev pub begins_piece : Seen → Row → Bool
+begins_piece s r = nat_lt 0 s.piece && not (is_tied s r)
 
+-- the command stands before a place, and `latest` is the least `hi` if MTIME is of the start, and else the greatest
 abbrev pub with_command : Seen → Stamps → ℕ → Bool → Command → Row → Seen
 with_command s stamps to doubtful c r = record {
   to = to;
@@ -101,25 +94,23 @@ with_command s stamps to doubtful c r = record {
   began = better stamps s.began (told stamps s.past c r);
   past = s.past;
   earliest = max s.earliest (or_none (lo c));
-  latest = min s.latest (or_never (hi c));
-  top = max s.top (or_none (hi c));
-  ended = max s.ended c.ended;
-  last = c;
-  piece = max (if is_tied s r then s.piece else 0) (or_none (lo c));
-  pieces = if is_tied s r then s.pieces else min s.pieces s.piece;
-  oldest = if r.has_waited then s.oldest else min s.oldest (or_never (hi c));
+  latest = better stamps s.latest (hi c);
+  last = record c { ended = max s.last.ended c.ended };
+  piece = max (if begins_piece s r then 0 else s.piece) (or_none (lo c));
+  pieces = if begins_piece s r then min s.pieces s.piece else s.pieces;
+  oldest = min s.oldest r.alone;
 }
 
--- or of the last build before of which that is known
-abbrev pub past_by : Option ℕ → ℕ → Option Past → Option Past
+abbrev pub begun : Stamps → ℕ → Bool → ℕ → Command → Row → Seen
+begun stamps to sure past c r = with_command (empty sure past c) stamps to false c r
+
+-- its end, or that of the last build before of which that is known
+abbrev pub past_by : Option ℕ → ℕ → ℕ → ℕ
 past_by None ended past = past
-past_by (Some began) ended past = Some (record { began = began; ended = ended })
+past_by (Some began) ended past = end_of began ended
 
-abbrev pub past_of : Seen → Option Past
-past_of s = past_by s.began s.ended s.past
-
-abbrev pub before : Seen → Option Past
-before s = past_by (known s.earliest) s.ended None
+abbrev pub past_of : Seen → ℕ
+past_of s = past_by s.began s.last.ended s.past
 
 -- ---- whether another build begins
 
@@ -130,13 +121,8 @@ differs_by much (Some x) None = false
 differs_by much None y = false
 
 -- a moment tells of another build if it is behind the beginning of this one, and behind its end
-abbrev pub is_behind_by : ℕ → Option ℕ → Option ℕ → Bool
-is_behind_by ended (Some began) (Some m) = is_past slack began m && reaches began ended m
-is_behind_by ended (Some began) None = false
-is_behind_by ended None m = false
-
 abbrev pub is_behind : Seen → Option ℕ → Bool
-is_behind s m = is_behind_by s.ended s.began m
+is_behind s m = differs_by slack s.began m && is_after (past_by s.began s.last.ended 0) m
 
 -- a border is sure only if MTIME is of the start, and `lo` tells of another build too; before a tied command only a sure one is taken
 abbrev pub mark_behind : Stamps → Seen → Command → Row → Mark
@@ -159,7 +145,7 @@ mark_written stamps s c r =
 
 -- between commands by their moments: the manifest is a build
 abbrev pub mark_by_moment : Stamps → Seen → Command → Row → Mark
-mark_by_moment stamps s c r = if s.last.is_manifest || c.is_manifest || is_behind s (told stamps None c r) then Unsure else Inside
+mark_by_moment stamps s c r = if s.last.is_manifest || c.is_manifest || is_behind s (told stamps s.past c r) then Unsure else Inside
 
 abbrev pub mark : Order → Stamps → Seen → Command → Row → Mark
 mark Written stamps s c r = mark_written stamps s c r
@@ -169,26 +155,38 @@ mark ByMoment stamps s c r = mark_by_moment stamps s c r
 
 -- its commands have no moment in common, to so much
 abbrev pub is_disjoint : ℕ → Seen → Bool
-is_disjoint much s = is_past much s.latest s.earliest
+is_disjoint much s = is_past much (or_none s.latest) s.earliest
 
 -- if MTIME is of the end: a piece doesn't tell the build's moment, or, if the lines may be in another order, a command that waited for none
 -- has an MTIME of before it
 abbrev pub is_mixed : Bool → Seen → Bool
 is_mixed early s = is_past one_moment (min s.pieces s.piece) s.earliest || early && is_past one_moment s.oldest s.earliest
 
--- a border may hide in it
-abbrev pub doubts : Stamps → Bool → Seen → Bool
-doubts stamps early s = s.is_doubtful || is_end stamps && is_mixed early s
+-- it began less than 10 ms behind the end of the last build before of which that is known, or before that: what was written anew may be lines
+-- of one build in another order
+abbrev pub is_close : Seen → Bool
+is_close s = not (is_after s.past (option_map (λ m. m - 30000000) s.began))
 
--- of a build with this end, which took 10 ms at the least
-abbrev pub is_moment_of : Option Past → Option ℕ → Bool
-is_moment_of (Some p) (Some m) = nat_le (2 ^ 31 + 10) p.ended && not (is_past one_moment p.began m) && not (is_past one_moment m p.began)
-is_moment_of (Some p) None = false
+-- a border may hide in it, or it may be a part of the build before
+abbrev pub doubts : Stamps → Bool → Seen → Bool
+doubts stamps early s = s.is_doubtful || early && is_close s || is_end stamps && is_mixed early s
+
+-- at the earliest
+abbrev pub ends : Option Seen → ℕ
+ends None = 0
+ends (Some s) = end_of s.earliest s.last.ended
+
+-- that of the build before, which took 10 ms at the least
+abbrev pub is_moment_of : Option Seen → ℕ → Bool
+is_moment_of (Some s) m = nat_le (2 ^ 31 + 10) s.last.ended && not (is_past one_moment s.earliest m) && not (is_past one_moment m s.earliest)
 is_moment_of None m = false
 
--- behind one with this earliest end; if MTIME is of the end, a command may tell of before its build, but not all do, and no two builds have
--- one moment
-abbrev pub is_back : Stamps → Option Past → Seen → Bool
-is_back Unknown end s = false
-is_back OfEnd end s = not (is_after end (known s.top)) || is_moment_of end (known s.earliest)
-is_back OfStart end s = is_disjoint slack s || not (is_after end (Some s.latest))
+-- behind a build that tells when it began; if MTIME is of the end, a command may tell of before its build, but not all do, and no two builds
+-- have one moment
+abbrev pub is_back : Stamps → Option Seen → Seen → Bool
+is_back Unknown before s = false
+is_back OfEnd before s = not (is_after (ends before) s.latest) || nat_lt 0 s.earliest && is_moment_of before s.earliest
+is_back OfStart before s = not (is_after (ends before) s.latest) || is_disjoint slack s
+
+abbrev pub telling : Seen → Option Seen
+telling s = if nat_lt 0 s.earliest then Some s else None

@@ -3,8 +3,8 @@ use Rattle.std.specs.Prelude.{ℕ, ◌+◌, ◌-◌, ◌*◌, ◌^◌, ◌==◌,
 use Rattle.std.specs.List.{filter}
 use Rattle.nl_fields.specs.declared.entry.Entry.{Entry}
 use Rattle.nl_builds.specs.Commands.{latest, moment}
-use Rattle.nl_builds.specs.declared.reading.Stamps.{Stamps}
-use Rattle.nl_builds.specs.declared.reading.Stamps.TheVariants.{Unknown, OfEnd, OfStart}
+use Rattle.nl_versions.specs.declared.entries.Stamps.{Stamps}
+use Rattle.nl_versions.specs.declared.entries.Stamps.TheVariants.{Unknown, OfEnd, OfStart}
 
 -- before the first element that ranks no higher
 abbrev pub put : {A : Type 0} → (A → ℕ) → A → List A → List A

@@ -1,13 +1,13 @@
 //! The builds of a log's entries.
 ghost use Rattle.std.specs.{List.{list_any}, Prelude.{◌≡◌, [], false, true, map, IfOk}};
-ghost use Rattle.nl_builds.specs.{Builds.{again, builds_of, found_build, IsTold, new_names, whole_commands, written_builds}, Seen.{doubts}, Sorted.{moment_rank, span_rank}};
+ghost use Rattle.nl_builds.specs.{Builds.{again, builds_of, found_build, IsTold, new_names, written_builds}, Seen.{doubts}, Sorted.{moment_rank, span_rank}};
 
-use crate::command::{Command, Row, commands_of, latest, moment, with_rows, with_waits};
-use crate::reading::Stamps;
+use crate::command::{Command, Row, commands_of, latest, moment, moved_rows, rows_of};
 use crate::seen::{Order, Seen, first_back, walk};
 use indexmap::IndexSet;
 use nl_fields::EntryRef;
 use nl_table::{NameKey, Secret};
+use nl_versions::Stamps;
 use std::alloc::{AllocError, Global};
 
 /// How a build is known.
@@ -39,7 +39,6 @@ pub struct Builds<'a> {
     pub builds: Vec<Build>,
 }
 
-#[tactic(auto, using(crate::proofs::HiddenLemmas::told_written))]
 /// It takes time in proportion to the entries, and if the log was written anew also that of sorting them. It hashes names, under the secret, only
 /// then, and if a border may hide where MTIME is of the end.
 pub fn builds_of<'a>(
@@ -51,25 +50,26 @@ pub fn builds_of<'a>(
     ensures value { IfOk result (λ told. IsTold (builds_of stamps entries.entry.items) told.entries.items told.commands.items told.builds.items) }
 {
     let commands = commands_of(alloc, entries.as_slice())?;
-    let rows = with_rows(with_waits(alloc, commands.as_slice())?);
+    let rows = rows_of(alloc, commands.as_slice())?;
     let (all, rows) = (commands.as_slice(), rows.as_slice());
     let seen = walk(alloc, Order::Written, stamps, 0, true, all, rows)?;
     let back = first_back(stamps, seen.as_slice());
     // Where no border may hide, it doesn't matter how many names are new.
-    let counts = back.is_some() || stamps.is_end() && any_doubts(stamps, seen.as_slice());
+    let counts = back.is_some() || any_doubts(stamps, seen.as_slice());
     let mut count = 0;
     if counts {
-        count = whole_commands(new_names(alloc, secret, entries.as_slice())?, all);
+        let names = new_names(alloc, secret, entries.as_slice())?;
+        count = all.partition_point(|command| command.to <= names);
     }
-    if back.is_some_and(|place| place < count) {
-        return again(alloc, stamps, count, entries, commands, rows);
+    if !back.is_some_and(|place| place < count) {
+        let builds = written_builds(alloc, stamps, count, 0, seen.as_slice())?;
+        return Ok(Builds {
+            entries,
+            commands,
+            builds,
+        });
     }
-    let builds = written_builds(alloc, stamps, count, 0, seen.as_slice())?;
-    Ok(Builds {
-        entries,
-        commands,
-        builds,
-    })
+    again(alloc, stamps, count, entries, commands, rows)
 }
 
 // Whether a border may hide in one of them, if its lines may be in another order.
@@ -96,20 +96,6 @@ fn new_names(alloc: Global, secret: Secret, entries: &[EntryRef]) -> Result<usiz
     Ok(count)
 }
 
-// How many commands are whole within so many entries.
-fn whole_commands(count: usize, commands: &[Command]) -> usize
-    ensures { result ≡ whole_commands count commands.now }
-{
-    let mut whole = 0;
-    for command in commands {
-        if command.to > count {
-            return whole;
-        }
-        whole += 1;
-    }
-    whole
-}
-
 // The entries of so many commands were written anew.
 fn again<'a>(
     alloc: Global,
@@ -133,7 +119,8 @@ fn again<'a>(
     moved.sort_by(|a, b| moment_rank(stamps, b).cmp(&moment_rank(stamps, a)))?;
     let mut found = commands_of(alloc, moved.as_slice())?;
     let (place, all) = (found.len(), found.as_slice());
-    let before = walk(alloc, Order::ByMoment, stamps, 0, true, all, &[])?;
+    let (order, told) = (Order::ByMoment, moved_rows(alloc, stamps, all)?);
+    let before = walk(alloc, order, Stamps::OfStart, 0, true, all, told.as_slice())?;
     let later = &commands[count.min(commands.len())..];
     let rows = &rows[count.min(rows.len())..];
     let behind = walk(alloc, Order::Written, stamps, place, is_sure, later, rows)?;

@@ -1,8 +1,10 @@
 //! The commands of a log, as the entries of their outputs tell them.
-ghost use Rattle.std.specs.Prelude.{◌≡◌, [], drop, IfOk};
-ghost use Rattle.nl_builds.specs.{Commands.{commands, is_same, latest, moment, one, row_or, row_with, tells, waits_from, with_rows}};
+ghost use Rattle.std.specs.Prelude.{◌≡◌, IfOk, Some};
+ghost use Rattle.nl_builds.specs.Commands.{commands, is_same, latest, moment, one, row_with, tells, moved_rows, with_next, with_rows, written, rows};
 
+use crate::seen::{Order, SLACK};
 use nl_fields::EntryRef;
+use nl_versions::Stamps;
 use std::alloc::{AllocError, Global};
 
 pub(crate) const NANOS: u64 = 1_000_000;
@@ -53,6 +55,13 @@ impl Command {
         ensures value { result ≡ latest self.now.mtime self.now.ended }
     {
         latest(self.mtime, self.ended)
+    }
+
+    // MTIME, as if that were a build's beginning; 0 if it tells nothing.
+    fn written(&self) -> u64
+        ensures { result ≡ written self.now }
+    {
+        latest(self.mtime, 1 << 31).unwrap_or(0)
     }
 
     /// Whether it has such moments.
@@ -119,36 +128,57 @@ pub fn commands_of(alloc: Global, entries: &[EntryRef]) -> Result<Vec<Command>, 
 pub(crate) struct Row {
     /// END of the command.
     pub ended: u32,
-    /// Whether it began as one before it in its row ended.
-    pub has_waited: bool,
-    /// The least [`latest`](Command::latest) of it and of those behind it in its row. `u64::MAX` if none has one.
+    /// Its [`latest`](Command::latest), unless it began as one before it in its row ended. `u64::MAX` if it has none. In the order of MTIME
+    /// it is MTIME, as if that were a build's beginning.
+    pub alone: u64,
+    /// The least [`latest`](Command::latest) of it and of those behind it in its row. `u64::MAX` if none has one. In the order of MTIME it
+    /// is when its build began.
     pub up: u64,
-    /// The least START of those that so waited, of it and of those behind it in its row. `u64::MAX` if none waited.
+    /// The least START of those that so waited, of it and of those behind it in its row. `u64::MAX` if none waited. In the order of MTIME
+    /// those of then or of behind are of its build.
     pub wait: u64,
 }
 
 impl Row {
-    fn of(command: &Command, has_waited: bool) -> Row
+    pub(crate) fn of(command: &Command, has_waited: bool) -> Row
         ensures value { result ≡ row_with command.now has_waited }
     {
+        let (began, up) = (
+            u64::from(command.began),
+            command.latest().unwrap_or(u64::MAX),
+        );
         Row {
             ended: command.ended,
-            has_waited,
-            up: command.latest().unwrap_or(u64::MAX),
-            wait: if has_waited {
-                u64::from(command.began)
-            } else {
-                u64::MAX
-            },
+            alone: if has_waited { u64::MAX } else { up },
+            up,
+            wait: if has_waited { began } else { u64::MAX },
+        }
+    }
+
+    // What it tells with the next one, which has what those behind it tell.
+    fn join(&mut self, order: Order, next: Row)
+        ensures value { self.new ≡ with_next order self.old (Some next) }
+    {
+        match order {
+            Order::Written if self.ended <= next.ended => {
+                self.up = self.up.min(next.up);
+                self.wait = self.wait.min(next.wait);
+            }
+            // Its output is of a time in the build of the next one.
+            Order::ByMoment if self.alone >= next.wait => {
+                self.up = next.up;
+                self.wait = next.wait;
+            }
+            _ => {}
         }
     }
 }
 
-/// Each with its START, if it waited for one before it in its row.
-pub(crate) fn with_waits(alloc: Global, commands: &[Command]) -> Result<Vec<Row>, AllocError>
-    ensures value { IfOk result (λ found. found.items ≡ waits_from [] commands.now) }
+/// What each tells with those beside it in its row.
+pub(crate) fn rows_of(alloc: Global, commands: &[Command]) -> Result<Vec<Row>, AllocError>
+    ensures value { IfOk result (λ found. found.items ≡ rows commands.now) }
 {
-    let mut found = Vec::with_capacity(alloc, commands.len())?;
+    let mut rows = Vec::with_capacity(alloc, commands.len())?;
     let mut row = Vec::new(alloc);
     for command in commands {
         // A row ends where END falls.
@@ -159,36 +189,56 @@ pub(crate) fn with_waits(alloc: Global, commands: &[Command]) -> Result<Vec<Row>
         let began = u64::from(command.began);
         let at = row.partition_point(|ended| u64::from(*ended) + 1 < began);
         let has_waited = row.get(at).is_some_and(|ended| *ended <= command.began);
-        found.push(Row::of(command, has_waited))?;
+        rows.push(Row::of(command, has_waited))?;
         row.push(command.ended)?;
     }
-    Ok(found)
+    Ok(with_rows(Order::Written, rows))
 }
 
-/// Each with what it and those behind it in its row tell.
-pub(crate) fn with_rows(mut rows: Vec<Row>) -> Vec<Row>
-    ensures value { result.items ≡ with_rows rows.items }
+/// What commands tell that stand by their moments. If MTIME is of the end, the last build of them began at the greatest
+/// [`earliest`](Command::earliest), and has those whose MTIME is of then or of behind, and so on with those before; else each tells alone.
+pub(crate) fn moved_rows(
+    alloc: Global,
+    stamps: Stamps,
+    commands: &[Command],
+) -> Result<Vec<Row>, AllocError>
+    ensures value { IfOk result (λ found. found.items ≡ moved_rows stamps commands.now) }
+{
+    let mut found = Vec::new(alloc);
+    if !stamps.is_end() {
+        return Ok(found);
+    }
+    let mut top = 0;
+    for command in commands {
+        let (row, own) = (Row::of(command, false), command.earliest().unwrap_or(0));
+        // The manifest is a build of its own, and parts those before it from those behind.
+        if command.is_manifest {
+            let (alone, up) = (0, own);
+            found.push(Row { alone, up, ..row })?;
+            top = 0;
+            continue;
+        }
+        top = top.max(own);
+        let (alone, up, wait) = (command.written(), top, top.saturating_sub(SLACK));
+        found.push(Row {
+            alone,
+            up,
+            wait,
+            ..row
+        })?;
+    }
+    Ok(with_rows(Order::ByMoment, found))
+}
+
+// Each with what it and those behind it tell.
+fn with_rows(order: Order, mut rows: Vec<Row>) -> Vec<Row>
+    ensures value { result.items ≡ with_rows order rows.items }
 {
     let mut at = rows.len();
     'commands: while at > 1 {
         at -= 1;
         let next = rows[at];
-        let row = &mut rows[at - 1];
-        if row.ended <= next.ended {
-            row.up = row.up.min(next.up);
-            row.wait = row.wait.min(next.wait);
-        }
+        rows[at - 1].join(order, next);
     }
     rows
-}
-
-/// What the first of some rows tells, and those behind it. If there is none, the command tells alone, as in a log that was written anew.
-pub(crate) fn split_row<'r>(command: &Command, rows: &'r [Row]) -> (Row, &'r [Row])
-    ensures row { result.0 ≡ row_or command.now rows.now }
-    ensures rest { result.1.now ≡ drop 1 rows.now }
-{
-    match rows.split_first() {
-        Some((row, rest)) => (*row, rest),
-        None => (Row::of(command, false), rows),
-    }
 }

@@ -1,7 +1,8 @@
 //! Laws of commands and builds. Each is the contract of a function that does nothing.
 ghost use Rattle.std.specs.Prelude.{◌≡◌, ◌+◌, ℕ, Bool, List, false, length, true, IsPermutation};
 ghost use Rattle.nl_fields.specs.declared.entry.Entry.{Entry};
-ghost use Rattle.nl_builds.specs.{Builds.{builds_of, next_is_sure, walk, written_build}, Commands.{commands, falls, is_same}, Laws.{AreModest, PlacesRise, ShareCommands, ShareEntries}, Recorded.{any_intent, recorded}, Seen.{mark_written}, declared.command.Command.{Command}, declared.command.Row.{Row}, declared.seen.Mark.TheVariants.{Sure}, declared.seen.Order.{Order}, declared.seen.Seen.{Seen}, declared.reading.Stamps.{Stamps}};
+ghost use Rattle.nl_builds.specs.{Builds.{builds_of, next_is_sure, walk, written_build}, Commands.{commands, falls, is_same}, Laws.{AreModest, PlacesRise, ShareCommands, ShareEntries}, Recorded.{any_intent, recorded}, Seen.{mark_written}, declared.command.Command.{Command}, declared.command.Row.{Row}, declared.seen.Mark.TheVariants.{Sure}, declared.seen.Order.{Order}, declared.seen.Seen.{Seen}};
+ghost use Rattle.nl_versions.specs.declared.entries.Stamps.{Stamps};
 
 /// The first commands have the first entries, the first builds have the first commands, and so on to the last; also if the log was written
 /// anew. No entry is lost or made, and entries without intents are of commands.

@@ -9,6 +9,4 @@ mod seen;
 
 pub use build::{Build, Builds, How, builds_of};
 pub use command::{Command, commands_of, moment};
-pub use reading::{
-    LogBuilds, LogEntries, Recorded, Stamps, keep_recorded, may_be_log, read_builds, read_entries,
-};
+pub use reading::{LogBuilds, Recorded, keep_recorded, read_builds};

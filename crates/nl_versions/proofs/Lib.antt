@@ -5,3 +5,5 @@ pub mod LogAsLemmas
 pub mod VersionOfLemmas
 pub mod NamedLemmas
 mod BeginningLemmas
+mod EntriesLemmas
+mod MarkLemmas

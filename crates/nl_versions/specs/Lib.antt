@@ -1,6 +1,7 @@
 pub mod Version
 pub mod Shape
 pub mod VersionOf
+pub mod Stamps
 pub mod LogAs
 pub mod Loading
 pub mod VersionFolder

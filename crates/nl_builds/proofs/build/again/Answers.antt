@@ -1,9 +1,10 @@
-use Rattle.std.proofs.Common.{◌≡◌, ◌∙◌, ◌++◌, List, [], ap, drop, false, length, map, min, of_calls, rules, sym, take, true}
+use Rattle.std.proofs.Common.{◌≡◌, ◌∙◌, ◌++◌, List, ap, drop, false, length, map, min, of_calls, rules, sym, take, true}
 use Rattle.std.specs.Prelude.{slice_get}
 use Rattle.std.proofs.lemmas.Fn.{always_returns_same}
 use Rattle.std.proofs.lemmas.List.Sorted.{answers_always}
 use Rattle.nl_builds.specs.Builds.{entries_of, found_build, walk, written_builds}
-use Rattle.nl_builds.specs.Commands.{commands}
+use Rattle.nl_builds.specs.Commands.{commands, moved_rows}
+use Rattle.nl_versions.specs.declared.entries.Stamps.TheVariants.{OfStart}
 use Rattle.nl_builds.specs.Sorted.{by_moment, falling, moment_rank, span_rank}
 use Rattle.nl_builds.specs.declared.seen.Order.TheVariants.{Written, ByMoment}
 use Rattle.nl_builds.specs.declared.command.Command.{Command}
@@ -39,9 +40,10 @@ returns c =
     c.in_ok-found.ensures.value ∙ ap commands (c.as_slice.ensures.value ∙ moved) in
     let place = c.len-place.ensures ∙ c.in_ok-found.found.ok.0 ∙ ap length found in
     let behind = later ∙ ap (drop count) c.deref-3.ensures.value in
-    let before = c.as_slice-2.ensures.value ∙ c.in_ok-before.ensures.value
-    ∙ ap (λ (l : List Command). walk ByMoment c.args.stamps 0 true l []) (c.as_slice-all.ensures.value ∙ found) in
-    let next = c.as_slice-3.ensures.value ∙ c.in_ok-behind.ensures.value ∙ (λ i. walk Written c.args.stamps (place i) (sure i) (behind i) (rows i)) in
+    let all : c.as_slice-all.result.now ≡ commands (by_moment c.args.stamps (take (entries_of count cs) es)) = c.as_slice-all.ensures.value ∙ found in
+    let before = c.as_slice-3.ensures.value ∙ c.in_ok-before.ensures.value
+    ∙ (λ i. walk ByMoment OfStart 0 true (all i) ((c.as_slice-2.ensures.value ∙ c.in_ok-told.ensures.value ∙ ap (moved_rows c.args.stamps) all) i)) in
+    let next = c.as_slice-4.ensures.value ∙ c.in_ok-behind.ensures.value ∙ (λ i. walk Written c.args.stamps (place i) (sure i) (behind i) (rows i)) in
     record {
       value = (
         cc (c.in_ok-append-2.ensures.items, moved, c.in_ok-rest.ensures.tail, both.1, k),

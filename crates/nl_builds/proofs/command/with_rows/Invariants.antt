@@ -6,7 +6,7 @@ use Rattle.nl_builds.proofs.command.with_rows.Given as goal
 -- those from a place on have theirs
 abbrev pub invariant-commands : goal.invariant-commands
 invariant-commands l = record {
-  told : rows_onto (take (l.at - 1) l.rows.items) (drop (l.at - 1) l.rows.items) ≡ with_rows l.fn.rows.items;
+  told : rows_onto l.fn.order (take (l.at - 1) l.rows.items) (drop (l.at - 1) l.rows.items) ≡ with_rows l.fn.order l.fn.rows.items;
   within : l.at ≤ length l.rows.items;
 }
 

@@ -2,7 +2,7 @@ use Rattle.std.proofs.Common.{List, subst}
 use Rattle.nl_fields.specs.declared.entry.Entry.{Entry}
 use Rattle.nl_builds.specs.Builds.{IsTold, builds_of}
 use Rattle.nl_builds.specs.Recorded.{recorded}
-use Rattle.nl_builds.specs.declared.reading.Stamps.{Stamps}
+use Rattle.nl_versions.specs.declared.entries.Stamps.{Stamps}
 use Rattle.nl_builds.proofs.reading.read_builds.Goals as goal
 
 pub returns-clause-value : goal.returns-clause-value

@@ -1,12 +1,16 @@
-use Rattle.std.proofs.Common.{◌≡◌, ◌+◌, ◌++◌, drop, length}
-use Rattle.nl_builds.specs.Builds.{walk, walk_from}
+use Rattle.std.proofs.Common.{◌≡◌, ◌++◌, drop}
+use Rattle.nl_builds.specs.Builds.{walk}
+use Rattle.nl_builds.specs.Seen.{empty}
+use Rattle.nl_builds.specs.declared.seen.Order.TheVariants.{ByMoment}
+use Rattle.nl_builds.proofs.WalkLemmas.{IsFirst, walk_on}
 use Rattle.nl_builds.proofs.seen.walk.Given as goal
 
 -- the builds so far, and those of what is left
-abbrev pub invariant-loop-command : goal.invariant-loop-command
-invariant-loop-command l = record {
-  told : l.found.items ++ walk_from l.order l.stamps l.to l.current (drop l.command-index l.later) l.rest
+abbrev pub invariant-loop-at : goal.invariant-loop-at
+invariant-loop-at l = record {
+  told : l.found.items ++ walk_on l.at l.order l.stamps l.place l.is_sure l.current (drop l.at l.commands) (drop l.at l.rows)
       ≡ walk l.fn.order l.fn.stamps l.fn.place l.fn.is_sure l.fn.commands l.fn.rows;
-  to : l.to ≡ l.fn.place + 1 + l.command-index;
-  all : length l.later + 1 ≡ length l.fn.commands;
+  first : IsFirst l.at l.is_sure l.current (drop l.at l.commands);
+  empty : l.empty ≡ empty l.empty.is_sure l.empty.past l.empty.last;
+  by_moment : l.order ≡ ByMoment → l.empty.past ≡ 0;
 }

@@ -5,7 +5,7 @@ use Rattle.std.proofs.lemmas.Fn.{always_returns_same}
 use Rattle.std.proofs.lemmas.List.{drop_more}
 use Rattle.nl_builds.specs.Commands.{row_with, waited}
 use Rattle.nl_builds.proofs.RowLemmas.{cut_rises, early_first, got, is_early, last_tells, rises_more, waited_tells, waits_more, weaker}
-use Rattle.nl_builds.proofs.command.with_waits.Goals as goal
+use Rattle.nl_builds.proofs.command.rows_of.Goals as goal
 
 pub loop-command-preserved : goal.loop-command-preserved
 loop-command-preserved c =
@@ -26,7 +26,7 @@ loop-command-preserved c =
     let waits = waited_tells it held rises c.partition_point-at.result point c.get.result c.is_some_and-has_waited.result first
     (weaker _ _ _ c.get.result (λ x k. search rules) c.is_some_and-has_waited.ensures) in
     record {
-      told = waits_more c.loop-command.found.items _ row c.if-is_some_and.row.items _ it (drop at cs) (drop (at + 1) cs) _ _ c.loop-command.invariant.told
+      told = waits_more c.loop-command.rows.items _ row c.if-is_some_and.row.items _ it (drop at cs) (drop (at + 1) cs) _ _ c.loop-command.invariant.told
           (drop_more cs at _ (omega (arith, c.loop-command-test.true))) now
           (c.of.ensures.value ∙ ap (row_with it) (waits ∙ ap (λ (l : List ℕ). waited l it) c.deref-in-loop-command.ensures.value))
           c.in_ok-push.ensures.items c.in_ok-push-2.ensures.items;

@@ -3,8 +3,8 @@ use Rattle.std.specs.Prelude.{ℕ, Bool, true, false, List, if◌then◌else◌}
 use Rattle.nl_versions.specs.Version.{has_starts}
 use Rattle.nl_versions.specs.VersionOf.{names_four, version_of}
 use Rattle.nl_versions.specs.declared.version.LogVersion.{LogVersion}
-use Rattle.nl_builds.specs.declared.reading.Stamps.{Stamps}
-use Rattle.nl_builds.specs.declared.reading.Stamps.TheVariants.{Unknown, OfEnd, OfStart}
+use Rattle.nl_versions.specs.declared.entries.Stamps.{Stamps}
+use Rattle.nl_versions.specs.declared.entries.Stamps.TheVariants.{Unknown, OfEnd, OfStart}
 
 -- nobody knows in a log of version 4
 abbrev pub stamps_by : Bool → LogVersion → Stamps

@@ -1,5 +1,5 @@
 -- Bytes that don't begin as the first line of a log does are none, whatever follows.
-use Rattle.std.proofs.Common.{◌≡◌, ◌∙◌, ℕ, ◌≤◌, ◌||◌, ◌&&◌, Bool, true, false, List, [], ◌∷◌, ◌++◌, length, take, drop}
+use Rattle.std.proofs.Common.{◌≡◌, ◌∙◌, ℕ, ◌≤◌, ◌&&◌, Bool, true, false, List, [], ◌∷◌, ◌++◌, length, take, drop}
 use Rattle.std.proofs.Common.{refl, sym, ap, arith, inl, inr, true≢false}
 use Rattle.std.specs.Prelude.{bytes_eq, codes, nat_eq, nat_le, nat_lt}
 use Rattle.std.specs.List.{starts_with}
@@ -13,9 +13,13 @@ use Rattle.nl_fields.specs.declared.header.Header.TheVariants.{NotALog as NoHead
 use Rattle.nl_fields.specs.Header.{header_of, version_five, version_four, is_version}
 use Rattle.nl_lines.specs.Split.{joined, lines_of, rest_of}
 use Rattle.nl_table.specs.Log.{Log, NotALog, log_of}
-use Rattle.nl_versions.specs.VersionOf.{as_five}
-use Rattle.nl_builds.specs.Reading.{is_seen, is_torn_header, lines_version_by, reading_by, reading_of_lines}
-use Rattle.nl_builds.proofs.ReadingLemmas.{begins, reading_is}
+use Rattle.nl_versions.specs.Version.{has_starts}
+use Rattle.nl_versions.specs.VersionOf.{as_five, version_of}
+use Rattle.nl_versions.specs.declared.version.LogVersion.{LogVersion}
+use Rattle.nl_versions.specs.declared.version.LogVersion.TheVariants.{Five, Six, Seven}
+use Rattle.nl_versions.proofs.EntriesLemmas.{line_reads, torn_reads}
+use Rattle.nl_versions.proofs.NamedLemmas.{names, seven_other, six_other}
+use Rattle.nl_versions.proofs.VersionOfLemmas.{begins}
 
 abbrev mark : List ℕ
 mark = codes "# ninja log v"
@@ -54,36 +58,33 @@ no_header line more other =
     ] in
     cond-false (bytes_eq line version_five) _ _ not_five ∙ cond-false (bytes_eq line version_four) _ _ not_four ∙ cond-false (is_version line) _ _ not_any
 
-not_torn : (bs : List ℕ) → 14 ≤ length bs → is_marked bs ≡ false → is_torn_header bs ≡ false
-not_torn bs long other =
-    let differs : (l : List ℕ) → is_marked l ≡ true → bs ≡ l → false ≡ true = λ l h is. sym other ∙ ap is_marked is ∙ h in
-    let not_five : starts_with nat_eq version_five bs ≡ false = elim (cases_Bool (starts_with nat_eq version_five bs)) [
-      | inl h ↦
-          let whole = (starts_is Decides-eqb version_five bs _ refl).0 h in
-          let none : length (drop (length bs) version_five) ≡ 0 = omega (arith, length-drop (length bs) version_five, long) in
-          absurd (true≢false (sym (differs version_five refl (sym (whole ∙ ap (λ (l : List ℕ). bs ++ l) (empty _ none) ∙ append-nil bs)))))
-      | inr h ↦ h
-    ] in
-    let not_seen : is_seen bs ≡ false = elim (cases_Bool (is_seen bs)) [
-      | inl h ↦ elim (cases_Bool (bytes_eq bs (codes "# ninja log v6"))) [
-        | inl g ↦ absurd (true≢false (sym (differs (codes "# ninja log v6") refl ((bytes_eq-Decides bs (codes "# ninja log v6")).0 g))))
-        | inr g ↦ absurd (true≢false (sym (differs (codes "# ninja log v7") refl ((bytes_eq-Decides bs (codes "# ninja log v7")).0
-            (sym (ap (λ (x : Bool). x || bytes_eq bs (codes "# ninja log v7")) g) ∙ h)))))
-      ]
-      | inr h ↦ h
-    ] in
-    ap (λ (x : Bool). x || is_seen bs) not_five ∙ not_seen
-  where
-    empty : (l : List ℕ) → length l ≡ 0 → l ≡ []
-    empty [] e = refl
-    empty (x ∷ l) e = absurd (omega (arith, e))
+module _ (bs : List ℕ) (long : 14 ≤ length bs) (other : is_marked bs ≡ false) where
+  differs : (l : List ℕ) → is_marked l ≡ true → bs ≡ l → ⊥
+  differs l h is = true≢false (sym (ap is_marked is ∙ h) ∙ other)
 
-no_log_by : (bs : List ℕ) (lines : List (List ℕ)) → lines_of bs ≡ lines → 14 ≤ length bs → is_marked bs ≡ false → reading_of_lines bs lines ≡ NotALog
-no_log_by bs [] is long other = cond-false (is_torn_header bs) (Log 5 []) NotALog (not_torn bs long other)
-no_log_by bs (line ∷ later) is long other =
-    let whole = begins bs line later is in
-    let header : header_of line ≡ NoHeader = no_header line (10 ∷ (joined later ++ rest_of bs)) (ap is_marked (sym whole) ∙ other) in
-    ap (λ h. reading_by (lines_version_by h line) (length bs) later) header
+  names_none : (v : LogVersion) → version_of bs ≡ v → false ≡ has_starts v
+  names_none Five is = refl
+  names_none Six is = elim (names Six six_other bs is) [ inl whole ↦ absurd (differs _ refl whole.1) | inr torn ↦ absurd (differs _ refl torn) ]
+  names_none Seven is = elim (names Seven seven_other bs is) [ inl whole ↦ absurd (differs _ refl whole.1) | inr torn ↦ absurd (differs _ refl torn) ]
+
+  not_torn : starts_with nat_eq version_five bs ≡ false
+  not_torn = elim (cases_Bool (starts_with nat_eq version_five bs)) [
+    | inl h ↦
+        let whole = (starts_is Decides-eqb version_five bs _ refl).0 h in
+        let none : length (drop (length bs) version_five) ≡ 0 = omega (arith, length-drop (length bs) version_five, long) in
+        absurd (differs version_five refl (sym (whole ∙ ap (λ (l : List ℕ). bs ++ l) (empty _ none) ∙ append-nil bs)))
+    | inr h ↦ h
+  ]
+    where
+      empty : (l : List ℕ) → length l ≡ 0 → l ≡ []
+      empty [] e = refl
+      empty (x ∷ l) e = absurd (omega (arith, e))
+
+  no_log_by : (lines : List (List ℕ)) → lines_of bs ≡ lines → log_of (as_five bs) ≡ NotALog
+  no_log_by [] is = torn_reads bs false (names_none (version_of bs) refl) is ∙ cond-false (starts_with nat_eq version_five bs) (Log 5 []) NotALog not_torn
+  no_log_by (line ∷ later) is =
+      let header = no_header line (10 ∷ (joined later ++ rest_of bs)) (ap is_marked (sym (begins bs line later is)) ∙ other) in
+      line_reads bs line later false NoHeader (names_none (version_of bs) refl) (sym header) is
 
 pub no_log : (text more : List ℕ) → 14 ≤ length text → starts_with nat_eq text (codes "# ninja log v") ≡ false
     → log_of (as_five (text ++ more)) ≡ NotALog
@@ -92,7 +93,4 @@ no_log text more long other =
       | inl h ↦ absurd (true≢false (sym (was_marked text more (omega (arith, long)) h) ∙ other))
       | inr h ↦ h
     ] in
-    sym (reading_is (text ++ more)) ∙ no_log_by (text ++ more) (lines_of (text ++ more)) refl (longer text more long) still
-  where
-    longer : (xs ys : List ℕ) → 14 ≤ length xs → 14 ≤ length (xs ++ ys)
-    longer xs ys h = omega (arith, h, length-append xs ys)
+    no_log_by (text ++ more) (omega (arith, long, length-append text more)) still (lines_of (text ++ more)) refl
