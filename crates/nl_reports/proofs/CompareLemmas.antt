@@ -8,7 +8,8 @@ use Rattle.nl_fields.specs.declared.entry.Entry.{Entry}
 use Rattle.nl_reports.specs.Compare.{Compared, Log, NewAlone, fresh, is_left, job_at, new_of, old_of, pair_of, pairs, pairs_from, partner, told_pair, with_taken}
 use Rattle.nl_reports.specs.Jobs.{Job, first_name}
 use Rattle.nl_reports.specs.Lasting.{marked}
-use Rattle.nl_reports.specs.Outputs.{last_at, places_of}
+use Rattle.nl_tool_texts.specs.Lists.{last_at}
+use Rattle.nl_reports.specs.Outputs.{places_of}
 use Rattle.nl_reports.specs.declared.sides.Rules.{Rules}
 
 -- ---- rows

@@ -7,13 +7,13 @@ use Rattle.std.specs.List.{list_any, sum_by}
 use Rattle.nl_table.specs.declared.output_key.NameKey.{NameKey}
 use Rattle.nl_fields.specs.declared.entry.Entry.{Entry}
 use Rattle.nl_reports.specs.Critical.{IsCritical, IsCriticalText, IsFoundPath, IsPathText, Ran, told_path, any_named, lacking}
-use Rattle.nl_reports.specs.GraphText.{HeldNode, node_of, nodes_of}
+use Rattle.nl_tool_texts.specs.GraphText.{HeldNode, node_of, nodes_of}
 use Rattle.nl_reports.specs.Jobs.{Job, seen}
 use Rattle.nl_reports.specs.Lasting.{is_among, is_held}
-use Rattle.nl_reports.specs.Paths.{Graph, Node}
+use Rattle.nl_tool_texts.specs.Graphs.{Graph, Node}
 use Rattle.nl_reports.specs.Spans.{time_of}
 use Rattle.nl_reports.specs.declared.job.Job.{Job as HeldJob}
-use Rattle.nl_reports.proofs.GraphLemmas.{Name}
+use Rattle.nl_tool_texts.proofs.GraphLemmas.{Name}
 
 -- of some commands
 pub critical_told : (screen : Bool) (g : Graph) (js : List Job) (text : Vec ℕ) → IsCriticalText screen g js text.items → IsCritical screen g js (Some text)

@@ -21,7 +21,6 @@ use Rattle.nl_tool_texts.specs.Output.{AppendsPrefixOf}
 use Rattle.nl_reports.specs.declared.critical.Ran.{Ran as HeldRan}
 use Rattle.nl_reports.specs.declared.frame.Short.{Short}
 use Rattle.nl_reports.specs.declared.frame.Frame.{Frame}
-use Rattle.nl_reports.specs.declared.picture.Known.{Known}
 use Rattle.nl_reports.specs.declared.job.Job.{Job as HeldJob}
 use Rattle.nl_reports.specs.declared.moments.Span.{Span}
 use Rattle.nl_tool_texts.proofs.FallingLemmas.{map-falling}
@@ -37,7 +36,7 @@ end_some f ls path cs js = omega (
   length-append (codes "</g>\n") (curve f cs),
 )
 
-picture_some : (known : Known) (path : Option (List Ran)) (js : List Job) → 0 < length (picture known path js)
+picture_some : (known : List ℕ) (path : Option (List Ran)) (js : List Job) → 0 < length (picture known path js)
 picture_some known path js = omega (
   arith,
   end_some (frame_in js) (lanes (spans js)) path (spans js) js,
@@ -75,7 +74,7 @@ shorts_held old mid whole held more f shorts i d within told holds =
 
 -- ---- the whole
 
-pub picture_is : (js : List Job) (known : Known) (path : Option (List Ran)) (cs : List Span) (ls : List ℕ) (f : Frame) (first last : List ℕ)
+pub picture_is : (js : List Job) (known : List ℕ) (path : Option (List Ran)) (cs : List Span) (ls : List ℕ) (f : Frame) (first last : List ℕ)
     → cs ≡ spans js → ls ≡ lanes cs → f ≡ frame_of cs ls → first ≡ start f known js → last ≡ end f ls path cs js
     → first ++ bars f (zip js ls) ++ last ≡ picture known path js
 picture_is js known path cs ls f first last ran found frame begins ends =
@@ -84,7 +83,7 @@ picture_is js known path cs ls f first last ran found frame begins ends =
     ∙ (λ i. start ((frame ∙ (λ n. frame_of (ran n) (lane n))) i) known js ++ bars ((frame ∙ (λ n. frame_of (ran n) (lane n))) i) (zip js (lane i))
     ++ end ((frame ∙ (λ n. frame_of (ran n) (lane n))) i) (lane i) path (ran i) js)
 
-pub none_drawn : (bytes : Option (List ℕ)) (known : Known) (path : Option (List Ran)) (js : List Job) (r : Result (Unit {0}) ToolFault) → IsErr r
+pub none_drawn : (bytes : Option (List ℕ)) (known : List ℕ) (path : Option (List Ran)) (js : List Job) (r : Result (Unit {0}) ToolFault) → IsErr r
     → Writes bytes bytes (picture known path js) r
 none_drawn bytes known path js r is =
     err_writes bytes bytes (picture known path js) r is (none_written bytes (picture known path js) (picture_some known path js))

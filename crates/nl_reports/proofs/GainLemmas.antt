@@ -6,7 +6,8 @@ use Rattle.nl_reports.specs.Critical.{IsFoundPath, Ran, weight}
 use Rattle.nl_reports.specs.Found.{made}
 use Rattle.nl_reports.specs.Gains.{AreGains, AreGainsOf, IsGain, IsHalfPath, half_span, halved, halved_from, heading, longest_rans, span_if}
 use Rattle.nl_reports.specs.Jobs.{Job}
-use Rattle.nl_reports.specs.Paths.{Graph, length_of}
+use Rattle.nl_tool_texts.specs.Graphs.{Graph}
+use Rattle.nl_reports.specs.Paths.{length_of}
 use Rattle.nl_reports.specs.Reaches.{ran_seen}
 use Rattle.nl_reports.specs.Rows.{spans}
 use Rattle.nl_tool_texts.specs.Falling.{falling}

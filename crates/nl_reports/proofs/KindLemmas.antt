@@ -1,47 +1,72 @@
 -- The kinds of commands.
-use Rattle.std.proofs.Common.{◌≡◌, ◌∙◌, ℕ, ◌+◌, ◌<◌, true, false, cond, Option, None, Some, List, [], ◌∷◌, ◌++◌, get_or, length, map, zero, suc, refl, sym, ap, arith}
-use Rattle.std.specs.Prelude.{bytes_eq, slice_get, take}
-use Rattle.std.specs.Map.{lookup}
-use Rattle.std.specs.Option.{unwrap_or}
+use Rattle.std.proofs.Common.{◌≡◌, ◌∙◌, ℕ, ◌+◌, ◌<◌, true, false, cond, Option, None, Some, List, [], ◌∷◌, ◌++◌, get_or, length, map, zero, suc, refl, sym, ap, arith, Bool, subst}
+use Rattle.std.specs.Prelude.{bytes_eq, take}
+use Rattle.std.specs.Map.{lookup, values_of}
 use Rattle.std.proofs.lemmas.List.{map-append, take_more}
 use Rattle.std.proofs.lemmas.List.Sums.{fold_push}
-use Rattle.std.proofs.lemmas.Option.{get_or_from_slice_get, slice_get_within}
 use Rattle.indexmap.specs.IndexMap.{insert_entry}
 use Rattle.nl_table.specs.declared.output_key.NameKey.{NameKey}
-use Rattle.nl_reports.specs.Kinds.{AreSumsOf, IsSumOf, added, counted, kind_of, kind_pair, kinds, no_sums, same_bytes, sums_in, with_sums}
-use Rattle.nl_reports.specs.Rows.{Told, told_command, told_row}
-use Rattle.nl_reports.specs.declared.kinds.KindRule.{KindRule}
+use Rattle.nl_reports.specs.Kinds.{AreSumsOf, IsSumOf, added, counted, kind_pair, kinds, no_sums, same_bytes, with_sums, AreNamed, sums_of}
+use Rattle.nl_reports.specs.Rows.{Told, told_row, Sums}
+use Rattle.nl_tool_texts.specs.Kind.{kind_of}
+use Rattle.nl_tool_texts.specs.declared.kind.KindRule.{KindRule}
 use Rattle.nl_reports.specs.declared.rows.Row.{Row}
-use Rattle.nl_reports.specs.declared.rows.Sums.{Sums}
-use Rattle.nl_reports.specs.declared.rows.Weighed.{Weighed}
+use Rattle.std.specs.Borrow.{Bor}
+use Rattle.std.proofs.lemmas.Slice.Eq.{bytes_eq-Decides}
 
 -- ---- a command more
 
-abbrev pub found_sums : Option Sums → Sums
-found_sums found = unwrap_or found no_sums
+abbrev pub row_of : Bor (List ℕ) → Sums → Row
+row_of n s = record { name = n; commands = s.commands; time = s.time; weight = s.weight }
 
-pub counted-insert : (ps : List (NameKey × Sums)) (kind : NameKey) (t : Told)
-    → map kind_pair (insert_entry same_bytes ps kind (added (sums_in ps kind.bytes.now) t.sums)) ≡ counted kind.bytes.now (map kind_pair ps) t
-counted-insert [] kind t = refl
-counted-insert (p ∷ ps) kind t =
-    let rest = counted-insert ps kind t in
-    elim (bytes_eq kind.bytes.now p.0.bytes.now) as (λ b. map kind_pair (cond b ((p.0, added (found_sums (cond b (Some p.1) (lookup (λ (k : NameKey). bytes_eq kind.bytes.now k.bytes.now) ps))) t.sums) ∷ ps)
-    (p ∷ insert_entry same_bytes ps kind (added (found_sums (cond b (Some p.1) (lookup (λ (k : NameKey). bytes_eq kind.bytes.now k.bytes.now) ps))) t.sums)))
+abbrev sums_found : Option Row → Sums
+sums_found None = no_sums
+sums_found (Some r) = sums_of r
+
+-- a kind that isn't there yet has no sums
+abbrev pub row_in : List (NameKey × Row) → List ℕ → Option Row
+row_in ps kind = lookup (λ (k : NameKey). bytes_eq kind k.bytes.now) ps
+
+counted-insert : (ps : List (NameKey × Row)) (kind : NameKey) (n : Bor (List ℕ)) (t : Told)
+    → map kind_pair (insert_entry same_bytes ps kind (row_of n (added (sums_found (row_in ps kind.bytes.now)) t.sums))) ≡ counted kind.bytes.now (map kind_pair ps) t
+counted-insert [] kind n t = refl
+counted-insert (p ∷ ps) kind n t =
+    let rest = counted-insert ps kind n t in
+    elim (bytes_eq kind.bytes.now p.0.bytes.now) as (λ b. map kind_pair (cond b ((p.0, row_of n (added (sums_found (cond b (Some p.1) (row_in ps kind.bytes.now))) t.sums)) ∷ ps)
+    (p ∷ insert_entry same_bytes ps kind (row_of n (added (sums_found (cond b (Some p.1) (row_in ps kind.bytes.now))) t.sums))))
     ≡ cond b (with_sums (kind_pair p) t.sums ∷ map kind_pair ps) (kind_pair p ∷ counted kind.bytes.now (map kind_pair ps) t)) [
       | true ↦ refl
       | false ↦ ap (λ (l : List Told). kind_pair p ∷ l) rest
     ]
 
 -- with the sums as they are added
-pub counted_now : (rows : List Weighed) (i : ℕ) (d : Weighed) (ps new : List (NameKey × Sums)) (kind : NameKey) (s : Sums) (time weight : ℕ)
-    → s ≡ sums_in ps kind.bytes.now → time ≡ (get_or rows i d).time → weight ≡ (get_or rows i d).weight
-    → new ≡ insert_entry same_bytes ps kind (record { commands = s.commands + 1; time = s.time + time; weight = s.weight + weight })
-    → map kind_pair new ≡ counted kind.bytes.now (map kind_pair ps) (told_command (get_or rows i d))
-counted_now rows i d ps new kind s time weight before took weighs is =
-    let t = told_command (get_or rows i d) in
-    ap (map kind_pair) is
-    ∙ (λ j. map kind_pair (insert_entry same_bytes ps kind (record { commands = (before j).commands + 1; time = (before j).time + took j; weight = (before j).weight + weighs j })))
-    ∙ counted-insert ps kind t
+added_none : (n : Bor (List ℕ)) (s : Sums) → row_of n s ≡ row_of n (added no_sums s)
+added_none n s =
+    let commands : s.commands ≡ 0 + s.commands = omega arith in
+    let time : s.time ≡ 0 + s.time = omega arith in
+    let weight : s.weight ≡ 0 + s.weight = omega arith in
+    λ j. record { name = n; commands = commands j; time = time j; weight = weight j }
+
+added_some : (n : Bor (List ℕ)) (s b : Sums) → row_of n (added s b) ≡ row_of n (added b s)
+added_some n s b =
+    let commands : s.commands + b.commands ≡ b.commands + s.commands = omega arith in
+    let time : s.time + b.time ≡ b.time + s.time = omega arith in
+    let weight : s.weight + b.weight ≡ b.weight + s.weight = omega arith in
+    λ j. record { name = n; commands = commands j; time = time j; weight = weight j }
+
+pub counted_none : (ps new : List (NameKey × Row)) (kind : NameKey) (n : Bor (List ℕ)) (t : Told)
+    → row_in ps kind.bytes.now ≡ None → new ≡ insert_entry same_bytes ps kind (row_of n t.sums)
+    → map kind_pair new ≡ counted kind.bytes.now (map kind_pair ps) t
+counted_none ps new kind n t none is =
+    ap (map kind_pair) (is ∙ ap (insert_entry same_bytes ps kind) (added_none n t.sums ∙ ap (λ (o : Option Row). row_of n (added (sums_found o) t.sums)) (sym none)))
+    ∙ counted-insert ps kind n t
+
+pub counted_some : (ps new : List (NameKey × Row)) (kind : NameKey) (n : Bor (List ℕ)) (t : Told) (r : Row)
+    → row_in ps kind.bytes.now ≡ Some r → new ≡ insert_entry same_bytes ps kind (row_of n (added t.sums (sums_of r)))
+    → map kind_pair new ≡ counted kind.bytes.now (map kind_pair ps) t
+counted_some ps new kind n t r some is =
+    ap (map kind_pair) (is ∙ ap (insert_entry same_bytes ps kind) (added_some n t.sums (sums_of r) ∙ ap (λ (o : Option Row). row_of n (added (sums_found o) t.sums)) (sym some)))
+    ∙ counted-insert ps kind n t
 
 -- no sums are too large
 no_larger : (n : ℕ) (s : Sums) → IsSumOf n s → IsSumOf (n + 1) s
@@ -55,14 +80,13 @@ none_larger : (n : ℕ) (ks : List Told) → AreSumsOf n ks → AreSumsOf (n + 1
 none_larger n [] are = tt
 none_larger n (k ∷ ks) are = (no_larger n k.sums are.0, none_larger n ks are.1)
 
-pub found_within : (n : ℕ) (ps : List (NameKey × Sums)) (kind : List ℕ) → AreSumsOf n (map kind_pair ps) → IsSumOf n (sums_in ps kind)
-found_within n [] kind are = record { commands = omega arith; time = omega arith; weight = omega arith }
-found_within n (p ∷ ps) kind are =
-    let rest = found_within n ps kind are.1 in
-    elim (bytes_eq kind p.0.bytes.now) as (λ b. IsSumOf n (found_sums (cond b (Some p.1) (lookup (λ (k : NameKey). bytes_eq kind k.bytes.now) ps)))) [
-      | true ↦ are.0
-      | false ↦ rest
-    ]
+pub found_within : (n : ℕ) (ps : List (NameKey × Row)) (kind : List ℕ) (r : Row) → row_in ps kind ≡ Some r → AreSumsOf n (map kind_pair ps) → IsSumOf n (sums_of r)
+found_within n [] kind r found are = cc found
+found_within n (p ∷ ps) kind r found are = here (bytes_eq kind p.0.bytes.now) found (λ is. found_within n ps kind r is are.1)
+  where
+    here : (b : Bool) → cond b (Some p.1) (row_in ps kind) ≡ Some r → (row_in ps kind ≡ Some r → IsSumOf n (sums_of r)) → IsSumOf n (sums_of r)
+    here true is rest = subst (λ (o : Option Row). IsSumOf n (sums_found o)) is are.0
+    here false is rest = rest is
 
 one_larger : (n : ℕ) (s t : Sums) → IsSumOf 1 t → IsSumOf n s → IsSumOf (n + 1) (added s t)
 one_larger n s t one is = record {
@@ -82,29 +106,41 @@ counted_within n (k ∷ ks) kind t one are =
     ]
 
 -- the kinds of one command more
-pub kinds_more : (rule : KindRule) (rows : List Weighed) (i : ℕ) (d : Weighed) (old new : List Told) (kind : List ℕ) → i < length rows
-    → kind ≡ kind_of rule (get_or rows i d).name.now → new ≡ counted kind old (told_command (get_or rows i d))
-    → old ≡ kinds rule (map told_command (take i rows)) → new ≡ kinds rule (map told_command (take (i + 1) rows))
+pub kinds_more : (rule : KindRule) (rows : List Row) (i : ℕ) (d : Row) (old new : List Told) (kind : List ℕ) → i < length rows
+    → kind ≡ kind_of rule (get_or rows i d).name.now → new ≡ counted kind old (told_row (get_or rows i d))
+    → old ≡ kinds rule (map told_row (take i rows)) → new ≡ kinds rule (map told_row (take (i + 1) rows))
 kinds_more rule rows i d old new kind within is after before =
     let x = get_or rows i d in
-    after ∙ (λ j. counted (is j) (before j) (told_command x))
-    ∙ sym (fold_push (λ (ks : List Told) (t : Told). counted (kind_of rule t.name) ks t) [] (map told_command (take i rows)) (told_command x))
-    ∙ ap (kinds rule) (sym (ap (map told_command) (take_more rows i d within) ∙ map-append told_command (take i rows) (x ∷ [])))
+    after ∙ (λ j. counted (is j) (before j) (told_row x))
+    ∙ sym (fold_push (λ (ks : List Told) (t : Told). counted (kind_of rule t.name) ks t) [] (map told_row (take i rows)) (told_row x))
+    ∙ ap (kinds rule) (sym (ap (map told_row) (take_more rows i d within) ∙ map-append told_row (take i rows) (x ∷ [])))
+
+-- what stands where there is no row
+abbrev pub no_row : Row
+no_row = record { name = record { ref_ptr = (0, 0); now = [] }; commands = 0; time = 0; weight = 0 }
+
+-- each command is no more than one
+pub one_within : (n : ℕ) (rows : List Row) (i : ℕ) (d : Row) → AreSumsOf n (map told_row rows) → i < length rows → IsSumOf n (sums_of (get_or rows i d))
+one_within n [] i d are within = absurd (omega (arith, within))
+one_within n (r ∷ rs) zero d are within = are.0
+one_within n (r ∷ rs) (suc i) d are within = one_within n rs i d are.1 (omega (arith, within))
+
+pub all_within : (n : ℕ) (xs ys : List Told) → AreSumsOf n xs → AreSumsOf n ys → AreSumsOf n (xs ++ ys)
+all_within n [] ys are more = more
+all_within n (x ∷ xs) ys are more = (are.0, all_within n xs ys are.1 more)
 
 -- ---- the rows of the kinds
 
--- a row more
-pub row_more : (ps : List (NameKey × Sums)) (rows new : List Row) (r : Row) (i : ℕ) (p : NameKey × Sums)
-    → slice_get ps i ≡ Some p → told_row r ≡ kind_pair p → new ≡ rows ++ r ∷ [] → map told_row rows ≡ map kind_pair (take i ps)
-    → map told_row new ≡ map kind_pair (take (i + 1) ps)
-row_more ps rows new r i p there is pushed before =
-    ap (map told_row) pushed ∙ map-append told_row rows (r ∷ []) ∙ (λ j. before j ++ is j ∷ [])
-    ∙ sym (map-append kind_pair (take i ps) (p ∷ []))
-    ∙ sym (ap (map kind_pair) (take_more ps i p (slice_get_within ps i p there)
-    ∙ ap (λ (x : NameKey × Sums). take i ps ++ x ∷ []) (get_or_from_slice_get ps i p p there)))
+pub named_more : (ps : List (NameKey × Row)) (kind : NameKey) (r : Row) → kind.bytes.now ≡ r.name.now → AreNamed ps → AreNamed (insert_entry same_bytes ps kind r)
+named_more [] kind r is all = (is, tt)
+named_more (p ∷ ps) kind r is all = here (bytes_eq kind.bytes.now p.0.bytes.now) refl (named_more ps kind r is all.1)
+  where
+    here : (b : Bool) → bytes_eq kind.bytes.now p.0.bytes.now ≡ b → AreNamed (insert_entry same_bytes ps kind r)
+        → AreNamed (cond b ((p.0, r) ∷ ps) (p ∷ insert_entry same_bytes ps kind r))
+    here true same rest = (sym ((bytes_eq-Decides kind.bytes.now p.0.bytes.now).0 same) ∙ is, all.1)
+    here false other rest = (all.0, rest)
 
--- there is one at each place
-pub one_there : {A : Type 0} (xs : List A) (i : ℕ) → None ≡ slice_get xs i → i < length xs → ⊥
-one_there [] i none within = omega (arith, within)
-one_there (x ∷ xs) zero none within = cc none
-one_there (x ∷ xs) (suc i) none within = one_there xs i none (omega (arith, within))
+-- as they stand
+pub rows_are : (ps : List (NameKey × Row)) → AreNamed ps → map told_row (values_of ps) ≡ map kind_pair ps
+rows_are [] all = refl
+rows_are (p ∷ ps) all = λ j. record { name = sym all.0 j; sums = sums_of p.1 } ∷ rows_are ps all.1 j

@@ -7,11 +7,12 @@ use Rattle.std.proofs.lemmas.List.Sums.{sum_by-cons}
 use Rattle.std.proofs.lemmas.Slice.Eq.{bytes_eq-Decides}
 use Rattle.nl_table.proofs.NameLemmas.{bytes_eq_comm}
 use Rattle.nl_reports.specs.Jobs.{Job}
-use Rattle.nl_reports.specs.Kinds.{counted, kind_of, kinds, named, no_sums, of_kind, with_sums}
+use Rattle.nl_reports.specs.Kinds.{counted, kinds, named, no_sums, of_kind, with_sums}
 use Rattle.nl_reports.specs.Numbers.{total_time}
 use Rattle.nl_reports.specs.Rows.{Told, spans, told_job, told_jobs}
 use Rattle.nl_reports.specs.Sweep.{busy_time, left_over, parts, weight}
-use Rattle.nl_reports.specs.declared.kinds.KindRule.{KindRule}
+use Rattle.nl_tool_texts.specs.Kind.{kind_of}
+use Rattle.nl_tool_texts.specs.declared.kind.KindRule.{KindRule}
 use Rattle.nl_reports.specs.declared.moments.Span.{Span}
 use Rattle.nl_reports.proofs.SweepLemmas.{weights_add_up}
 

@@ -38,12 +38,13 @@ free_behind at from lane ends now same before after free there =
 pub none_behind : (at to : ℕ) (ends : List ℕ) → AreBusy at 0 to ends → length ends ≤ to → length ends ≡ first_free at ends
 none_behind at to ends busy all = sym (none_free at ends (λ i within. busy i (omega arith) (omega (arith, within, all)) within))
 
-pub given_new : (ends : List ℕ) (lane end : ℕ) → lane ≡ length ends → given lane end ends ≡ ends ++ end ∷ []
-given_new [] lane end is = refl
+pub given_new : (ends : List ℕ) (lane end : ℕ) → lane ≡ length ends → set (ends ++ end ∷ []) lane end ≡ given lane end ends
+given_new [] zero end is = refl
+given_new [] (suc lane) end is = absurd (omega (arith, is))
 given_new (e ∷ ends) zero end is = absurd (omega (arith, is))
 given_new (e ∷ ends) (suc lane) end is = ap (λ l. e ∷ l) (given_new ends lane end (omega (arith, is)))
 
-pub given_old : (ends : List ℕ) (lane end : ℕ) → lane < length ends → given lane end ends ≡ set ends lane end
+pub given_old : (ends : List ℕ) (lane end : ℕ) → lane < length ends → set ends lane end ≡ given lane end ends
 given_old [] lane end within = absurd (omega arith)
 given_old (e ∷ ends) zero end within = refl
 given_old (e ∷ ends) (suc lane) end within = ap (λ l. e ∷ l) (given_old ends lane end (omega (arith, within)))

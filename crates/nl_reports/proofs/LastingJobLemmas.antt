@@ -7,7 +7,8 @@ use Rattle.std.proofs.lemmas.List.{drop_at, length-append, map-append, take-appe
 use Rattle.nl_fields.specs.declared.entry.Entry.{Entry}
 use Rattle.nl_table.specs.Table.{entry_names}
 use Rattle.nl_builds.specs.declared.command.Command.{Command}
-use Rattle.nl_reports.specs.Jobs.{Job, between, jobs_from}
+use Rattle.nl_tool_texts.specs.Lists.{between}
+use Rattle.nl_reports.specs.Jobs.{Job, jobs_from}
 use Rattle.nl_reports.specs.Lasting.{Rise, commands_left, entries_left, has_outputs, is_among, jobs_left, last_entries}
 use Rattle.nl_reports.specs.Spans.{span_of}
 

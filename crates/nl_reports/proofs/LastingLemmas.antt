@@ -1,14 +1,15 @@
 -- What is left of builds, step by step.
-use Rattle.std.proofs.Common.{◌≡◌, ◌∙◌, ℕ, zero, suc, ◌+◌, ◌<◌, ◌≤◌, Bool, true, false, cond, ◌||◌, Bor, List, [], ◌∷◌, ◌++◌, drop, get_or, length, map, take, append_assoc, arith, ap, inl, inr, refl, sym}
-use Rattle.std.specs.Prelude.{bytes_eq, nat_lt, not, set, if◌then◌else◌}
+use Rattle.std.proofs.Common.{◌≡◌, ◌∙◌, ℕ, zero, suc, ◌+◌, ◌<◌, ◌≤◌, Bool, true, false, cond, ◌||◌, Bor, List, [], ◌∷◌, ◌++◌, drop, get_or, length, map, take, append-nil, append_assoc, arith, ap, inl, inr, refl, sym}
+use Rattle.std.specs.Prelude.{bytes_eq, nat_lt, not, reverse, set, if◌then◌else◌}
 use Rattle.std.specs.List.{SwappedAt}
 use Rattle.std.proofs.lemmas.Bool.{cases_lt}
-use Rattle.std.proofs.lemmas.List.{at_drop_more, drop-set-lt, map-append, set-set, take-set-le, take_more, take_more_set}
+use Rattle.std.proofs.lemmas.List.{at_drop_more, drop_all, drop-set-lt, map-append, set-set, take-set-le, take_all, take_more, take_more_set}
 use Rattle.std.proofs.lemmas.List.Folds.{list_any-append}
 use Rattle.nl_fields.specs.declared.entry.Entry.{Entry}
 use Rattle.nl_table.specs.Table.{entry_names}
+use Rattle.nl_builds.specs.declared.build.Build.{Build}
 use Rattle.nl_builds.specs.declared.command.Command.{Command}
-use Rattle.nl_reports.specs.Lasting.{commands_left, entries_left, is_among, last_entries, marked, marks}
+use Rattle.nl_reports.specs.Lasting.{builds_left, commands_left, entries_left, is_among, last_entries, marked, marks, whole}
 
 -- ---- a set of names
 
@@ -84,6 +85,11 @@ pub left_place : (others : List (List ℕ)) (es : List Entry) (place : ℕ)
     → length (marked (marks others es) (take place es)) ≡ entries_left others es place
 left_place others es place = omega (arith, left_both others es place)
 
+-- once all are marked, from the last on
+pub marked_is : (others : List (List ℕ)) (es : List Entry) (at : ℕ) (found turned : List Bool) → at ≡ 0 → turned ≡ reverse found
+    → reverse found ≡ marks others (drop at es) → turned ≡ marks others es
+marked_is others es at found turned first turns are = turns ∙ are ∙ ap (λ n. marks others (drop n es)) first
+
 pub length-marks : (others : List (List ℕ)) (es : List Entry) → length (marks others es) ≡ length es
 length-marks others [] = refl
 length-marks others (e ∷ es) = ap suc (length-marks others es)
@@ -149,84 +155,71 @@ marks_more bs i count n b old new all within is more pushed told =
     ∙ ap (λ c. old ++ (count ∷ marks_before (cond c (count + 1) count) (drop (i + 1) bs))) is
     ∙ sym (at_drop_more (λ (l : List Bool). old ++ marks_before count l) bs i false within) ∙ told
 
--- ---- commands
+-- ---- commands and builds
 
--- of each place, how many commands are left before it, where so many are before the first
-abbrev pub counts_before : (ℕ → ℕ) → ℕ → ℕ → List Command → List ℕ
-counts_before left count from [] = []
-counts_before left count from (c ∷ cs) =
-    count ∷ counts_before left (if nat_lt from (left c.to) then count + 1 else count) (left c.to) cs
+-- whether each of some is left, by where it ends, and the one before the first
+abbrev pub ends_apart : {A : Type 0} → (A → ℕ) → ℕ → List A → List Bool
+ends_apart end from [] = []
+ends_apart end from (x ∷ xs) = nat_lt from (end x) ∷ ends_apart end (end x) xs
 
-before_place : (left : ℕ → ℕ) (count from : ℕ) (cs : List Command) (place : ℕ)
-    → get_or (counts_before left count from cs) place (count + length (commands_left left from cs))
-    ≡ count + length (commands_left left from (take place cs))
-before_place left count from [] zero = refl
-before_place left count from [] (suc place) = refl
-before_place left count from (c ∷ cs) zero = omega arith
-before_place left count from (c ∷ cs) (suc place) =
-    here (nat_lt from (left c.to)) (before_place left (count + 1) (left c.to) cs place) (before_place left count (left c.to) cs place)
-  where
-    here : (b : Bool)
-        → get_or (counts_before left (count + 1) (left c.to) cs) place ((count + 1) + length (commands_left left (left c.to) cs))
-        ≡ (count + 1) + length (commands_left left (left c.to) (take place cs))
-        → get_or (counts_before left count (left c.to) cs) place (count + length (commands_left left (left c.to) cs))
-        ≡ count + length (commands_left left (left c.to) (take place cs))
-        → get_or (counts_before left (cond b (count + 1) count) (left c.to) cs) place
-        (count + length (cond b (record c { to = left c.to } ∷ commands_left left (left c.to) cs) (commands_left left (left c.to) cs)))
-        ≡ count + length (cond b (record c { to = left c.to } ∷ commands_left left (left c.to) (take place cs))
-        (commands_left left (left c.to) (take place cs)))
-    here true more same =
-        ap (get_or (counts_before left (count + 1) (left c.to) cs) place) (one_more count (length (commands_left left (left c.to) cs)))
-        ∙ more ∙ sym (one_more count (length (commands_left left (left c.to) (take place cs))))
-    here false more same = same
+pub length-ends : {A : Type 0} (end : A → ℕ) (from : ℕ) (xs : List A) → length (ends_apart end from xs) ≡ length xs
+length-ends end from [] = refl
+length-ends end from (x ∷ xs) = ap suc (length-ends end (end x) xs)
 
-pub before_all : (left : ℕ → ℕ) (cs : List Command) (place : ℕ)
-    → get_or (counts_before left 0 0 cs) place (length (commands_left left 0 cs)) ≡ length (commands_left left 0 (take place cs))
-before_all left cs place =
-    ap (get_or (counts_before left 0 0 cs) place) (none_more (length (commands_left left 0 cs)))
-    ∙ before_place left 0 0 cs place ∙ sym (none_more (length (commands_left left 0 (take place cs))))
+-- where all are read
+pub all_ends : {A : Type 0} (end : A → ℕ) (from : ℕ) (xs : List A) (i : ℕ) (old all : List Bool) → length xs ≤ i
+    → old ++ ends_apart end from (drop i xs) ≡ all → old ≡ all
+all_ends end from xs i old all done told =
+    sym (append-nil old) ∙ ap (λ l. old ++ ends_apart end from l) (sym (drop_all i xs done)) ∙ told
 
-module _ (left : ℕ → ℕ) (from to : ℕ) (cs : List Command) (i : ℕ) (c : Command) (within : i < length cs) (is : c ≡ get_or cs i c) (goes : to ≡ left c.to) where
-  goes_test : (b : Bool) → nat_lt from to ≡ b → nat_lt from (left c.to) ≡ b
-  goes_test b test = ap (nat_lt from) (sym goes) ∙ test
+pub all_moved : {A : Type 0} (move : A → A) (xs : List A) (i : ℕ) (all : List A) → length xs ≤ i → take i xs ++ map move (drop i xs) ≡ all → xs ≡ all
+all_moved move xs i all done told =
+    sym (append-nil xs) ∙ (λ j. sym (take_all i xs done) j ++ map move (sym (drop_all i xs done) j)) ∙ told
 
-  -- the command at a place is kept, and goes to the end of those before it
-  pub command_kept : (k n : ℕ) (zs all : List Command) → k ≤ i → n ≡ k + 1 → zs ≡ set cs k (record c { to = to }) → nat_lt from to ≡ true
-      → take k cs ++ commands_left left from (drop i cs) ≡ all → take n zs ++ commands_left left to (drop (i + 1) zs) ≡ all
-  command_kept k n zs all le more put test told =
-      let t : Command = record c { to = to } in
-      let rest = commands_left left to (drop (i + 1) cs) in
-      (λ j. take (more j) (put j) ++ commands_left left to (drop (i + 1) (put j)))
-      ∙ (λ j. take_more_set cs k t (omega (arith, le, within)) j ++ commands_left left to (drop-set-lt (i + 1) cs k t (omega (arith, le)) j))
-      ∙ append_assoc (take k cs) (t ∷ []) rest
-      ∙ (λ j. take k cs ++ (record c { to = goes j } ∷ commands_left left (goes j) (drop (i + 1) cs)))
-      ∙ ap (λ b. take k cs ++ cond b (record c { to = left c.to } ∷ commands_left left (left c.to) (drop (i + 1) cs))
-      (commands_left left (left c.to) (drop (i + 1) cs))) (sym (goes_test true test))
-      ∙ ap (λ (x : Command). take k cs ++ commands_left left from (x ∷ drop (i + 1) cs)) is
-      ∙ sym (at_drop_more (λ (l : List Command). take k cs ++ commands_left left from l) cs i c within) ∙ told
+abbrev pub moved_command : (ℕ → ℕ) → Command → Command
+moved_command left c = record c { to = left c.to }
 
-  pub command_gone : (k n : ℕ) (zs all : List Command) → n ≡ k → zs ≡ cs → nat_lt from to ≡ false
-      → take k cs ++ commands_left left from (drop i cs) ≡ all → take n zs ++ commands_left left to (drop (i + 1) zs) ≡ all
-  command_gone k n zs all less put test told =
-      (λ j. take (less j) (put j) ++ commands_left left (goes j) (drop (i + 1) (put j)))
-      ∙ ap (λ b. take k cs ++ cond b (record c { to = left c.to } ∷ commands_left left (left c.to) (drop (i + 1) cs))
-      (commands_left left (left c.to) (drop (i + 1) cs))) (sym (goes_test false test))
-      ∙ ap (λ (x : Command). take k cs ++ commands_left left from (x ∷ drop (i + 1) cs)) is
-      ∙ sym (at_drop_more (λ (l : List Command). take k cs ++ commands_left left from l) cs i c within) ∙ told
+abbrev pub moved_build : (ℕ → ℕ) → Build → Build
+moved_build left b = record b { to = left b.to; how = whole b.how }
 
-  pub counts_more : (k count n : ℕ) (b : Bool) (t : Command) (zs : List Command) (old new all : List ℕ) → k ≤ i → zs ≡ cond b (set cs k t) cs
-      → nat_lt from to ≡ b → n ≡ cond b (count + 1) count → new ≡ old ++ count ∷ []
-      → old ++ counts_before left count from (drop i cs) ≡ all → new ++ counts_before left n to (drop (i + 1) zs) ≡ all
-  counts_more k count n b t zs old new all le put test more pushed told =
-      (λ j. pushed j ++ counts_before left (more j) (goes j) (behind j))
-      ∙ append_assoc old (count ∷ []) (counts_before left (cond b (count + 1) count) (left c.to) (drop (i + 1) cs))
-      ∙ ap (λ d. old ++ (count ∷ counts_before left (cond d (count + 1) count) (left c.to) (drop (i + 1) cs))) (sym (goes_test b test))
-      ∙ ap (λ (x : Command). old ++ counts_before left count from (x ∷ drop (i + 1) cs)) is
-      ∙ sym (at_drop_more (λ (l : List Command). old ++ counts_before left count from l) cs i c within) ∙ told
-    where
-      either : (b : Bool) → drop (i + 1) (cond b (set cs k t) cs) ≡ drop (i + 1) cs
-      either true = drop-set-lt (i + 1) cs k t (omega (arith, le))
-      either false = refl
+pub commands_marked : (left : ℕ → ℕ) (from : ℕ) (cs : List Command)
+    → marked (ends_apart (λ (c : Command). left c.to) from cs) (map (moved_command left) cs) ≡ commands_left left from cs
+commands_marked left from [] = refl
+commands_marked left from (c ∷ cs) =
+    ap (λ (l : List Command). if nat_lt from (left c.to) then moved_command left c ∷ l else l) (commands_marked left (left c.to) cs)
 
-      behind : drop (i + 1) zs ≡ drop (i + 1) cs
-      behind = ap (drop (i + 1)) put ∙ either b
+pub commands_before : (left : ℕ → ℕ) (from : ℕ) (cs : List Command) (place : ℕ)
+    → marked (ends_apart (λ (c : Command). left c.to) from cs) (take place (map (moved_command left) cs)) ≡ commands_left left from (take place cs)
+commands_before left from [] zero = refl
+commands_before left from [] (suc place) = refl
+commands_before left from (c ∷ cs) zero = refl
+commands_before left from (c ∷ cs) (suc place) =
+    ap (λ (l : List Command). if nat_lt from (left c.to) then moved_command left c ∷ l else l) (commands_before left (left c.to) cs place)
+
+pub builds_marked : (left : ℕ → ℕ) (from : ℕ) (bs : List Build)
+    → marked (ends_apart (λ (b : Build). left b.to) from bs) (map (moved_build left) bs) ≡ builds_left left from bs
+builds_marked left from [] = refl
+builds_marked left from (b ∷ bs) =
+    ap (λ (l : List Build). if nat_lt from (left b.to) then moved_build left b ∷ l else l) (builds_marked left (left b.to) bs)
+
+module _ {A : Type 0} (xs ys : List A) (i : ℕ) (x y : A) (within : i < length xs) (is : x ≡ get_or xs i x) (put : ys ≡ set xs i y) where
+  behind : drop (i + 1) ys ≡ drop (i + 1) xs
+  behind = ap (drop (i + 1)) put ∙ drop-set-lt (i + 1) xs i y (omega arith)
+
+  -- the item at a place is moved
+  pub moved_more : (move : A → A) (all : List A) → y ≡ move x → take i xs ++ map move (drop i xs) ≡ all → take (i + 1) ys ++ map move (drop (i + 1) ys) ≡ all
+  moved_more move all moves told =
+      (λ j. (ap (take (i + 1)) put ∙ take_more_set xs i y within) j ++ map move (behind j))
+      ∙ append_assoc (take i xs) (y ∷ []) (map move (drop (i + 1) xs))
+      ∙ (λ j. take i xs ++ (moves ∙ ap move is) j ∷ map move (drop (i + 1) xs))
+      ∙ sym (at_drop_more (λ (l : List A). take i xs ++ map move l) xs i x within) ∙ told
+
+  pub ends_more : (end : A → ℕ) (from to : ℕ) (b : Bool) (old new all : List Bool) → to ≡ end x → b ≡ nat_lt from to → new ≡ old ++ b ∷ []
+      → old ++ ends_apart end from (drop i xs) ≡ all → new ++ ends_apart end to (drop (i + 1) ys) ≡ all
+  ends_more end from to b old new all goes test pushed told =
+      let to_is : to ≡ end (get_or xs i x) = goes ∙ ap end is in
+      (λ j. pushed j ++ ends_apart end to (behind j))
+      ∙ append_assoc old (b ∷ []) (ends_apart end to (drop (i + 1) xs))
+      ∙ ap (λ c. old ++ c ∷ ends_apart end to (drop (i + 1) xs)) test
+      ∙ ap (λ n. old ++ nat_lt from n ∷ ends_apart end n (drop (i + 1) xs)) to_is
+      ∙ sym (at_drop_more (λ (l : List A). old ++ ends_apart end from l) xs i x within) ∙ told

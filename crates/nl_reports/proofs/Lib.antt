@@ -3,7 +3,6 @@ mod SweepLemmas
 mod SweepStepLemmas
 mod SharesLemmas
 mod LeftOverLemmas
-mod LastByteLemmas
 mod JobLemmas
 mod KindLemmas
 mod SummaryLemmas
@@ -20,9 +19,6 @@ mod PictureLemmas
 mod LaneLemmas
 mod LaneLawLemmas
 mod OutputsLemmas
-mod GraphLemmas
-mod GraphTextLemmas
-mod OrderLemmas
 mod PathsLemmas
 mod ReachesLemmas
 mod CriticalLemmas

@@ -1,18 +1,13 @@
 -- What a map by names holds, as it grows.
-use Rattle.std.proofs.Common.{◌≡◌, ◌<◌, ◌∙◌, ◌+◌, ℕ, List, [], ◌∷◌, ◌++◌, Option, None, Some, append_assoc, ap, arith, bytes_eq, cond, get_or, length, map, sym, take}
+use Rattle.std.proofs.Common.{◌≡◌, ◌<◌, ◌∙◌, ◌+◌, ℕ, List, [], ◌∷◌, ◌++◌, Option, Some, append_assoc, ap, arith, bytes_eq, cond, get_or, length, map, sym, take}
 use Rattle.std.proofs.lemmas.List.{length-map, length-take, map-append, take_more}
-use Rattle.std.proofs.lemmas.List.Sums.{fold-append}
 use Rattle.std.specs.Borrow.{Bor}
 use Rattle.std.specs.Map.{lookup}
 use Rattle.nl_fields.specs.declared.entry.Entry.{Entry}
 use Rattle.nl_reports.specs.Jobs.{Job, seen}
-use Rattle.nl_reports.specs.Outputs.{HoldPlaces, last_at, later, outputs_at, places_from}
+use Rattle.nl_tool_texts.proofs.GraphLemmas.{last_at-push}
+use Rattle.nl_reports.specs.Outputs.{HoldPlaces, outputs_at, places_from}
 use Rattle.nl_reports.specs.declared.job.Job.{Job as HeldJob}
-
--- a pair more is what its key says from then on
-pub last_at-push : {V : Type 0} (ps : List (List ℕ × V)) (p : List ℕ × V) (key : List ℕ)
-    → last_at (ps ++ p ∷ []) key ≡ cond (bytes_eq p.0 key) (Some p.1) (last_at ps key)
-last_at-push ps p key = fold-append (later key) None ps (p ∷ [])
 
 pub held_push : (ps : List (List ℕ × ℕ)) (es fs : List (Bor (List ℕ) × ℕ)) (n : Bor (List ℕ)) (place : ℕ) → HoldPlaces ps es
     → ((q : Bor (List ℕ)) → lookup (λ k. bytes_eq q.now k.now) fs ≡ cond (bytes_eq n.now q.now) (Some place) (lookup (λ k. bytes_eq q.now k.now) es))

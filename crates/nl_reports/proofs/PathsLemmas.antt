@@ -3,7 +3,8 @@ use Rattle.std.proofs.Common.{◌≡◌, ◌≤◌, ◌+◌, ℕ, List, [], ◌�
 use Rattle.std.specs.List.{All, sum_by}
 use Rattle.std.proofs.lemmas.List.Elements.{All-contains}
 use Rattle.std.proofs.lemmas.List.Sums.{sum_by-append, sum_by-cons}
-use Rattle.nl_reports.specs.Paths.{Edge, IsLongest, IsPath, Leads}
+use Rattle.nl_tool_texts.specs.Graphs.{Edge}
+use Rattle.nl_reports.specs.Paths.{IsLongest, IsPath, Leads}
 
 -- the way over an edge is no longer than how far the number reaches from which it leads
 pub record IsBounded (weight far : List ℕ → ℕ) (e : Edge) : Type 0 where

@@ -11,12 +11,14 @@ use Rattle.std.proofs.lemmas.List.Elements.{All-weaker}
 use Rattle.std.proofs.lemmas.List.Sorted.{sum_by-IsPermutation}
 use Rattle.std.proofs.lemmas.List.Sums.{sum_by-cons}
 use Rattle.nl_fields.specs.declared.entry.Entry.{Entry}
-use Rattle.nl_reports.specs.Critical.{IsFoundPath, Ran, names_of, ran_in_place, ran_named, ran_time, weight}
+use Rattle.nl_tool_texts.specs.Graphs.{names_of, Edge, Graph, Node}
+use Rattle.nl_reports.specs.Critical.{IsFoundPath, Ran, ran_in_place, ran_named, ran_time, weight}
 use Rattle.nl_reports.specs.Found.{made}
 use Rattle.nl_reports.specs.Jobs.{Job, seen}
 use Rattle.nl_reports.specs.Numbers.{total_time}
-use Rattle.nl_reports.specs.Outputs.{last_at, outputs_at, places_from, places_of}
-use Rattle.nl_reports.specs.Paths.{Edge, Graph, IsPath, Node, length_of}
+use Rattle.nl_tool_texts.specs.Lists.{last_at}
+use Rattle.nl_reports.specs.Outputs.{outputs_at, places_from, places_of}
+use Rattle.nl_reports.specs.Paths.{IsPath, length_of}
 use Rattle.nl_reports.specs.Plans.{AreBehind, AreEstimates, AreMore, HavePlan, IsEstimate, IsPlan, estimate_line, floor_of, kept}
 use Rattle.nl_reports.specs.Rows.{spans}
 use Rattle.nl_reports.specs.Spans.{began_of, closed_of, time_of}
@@ -188,17 +190,40 @@ map_twice : {A B C : Type 0} (g : B → C) (f : A → B) (xs : List A) → map g
 map_twice g f [] = refl
 map_twice g f (x ∷ xs) = ap (λ l. g (f x) ∷ l) (map_twice g f xs)
 
-kept_as : (xs : List Held) → map kept (map seen xs) ≡ map (λ (j : Held). kept (seen j)) xs
-kept_as xs = map_twice kept seen xs
+-- commands as they run in a plan, each as long as it takes
+pub in_plan : List Job → List Span → List Job
+in_plan [] ss = []
+in_plan (j ∷ js) [] = []
+in_plan (j ∷ js) (s ∷ ss) = record { span = s; hash = j.hash; outputs = j.outputs } ∷ in_plan js ss
 
--- one more command keeps what it has
-pub plan_more : (jobs plan : List Held) (i : ℕ) (d new : Held) → i < length jobs → map kept (map seen plan) ≡ map kept (map seen (take i jobs))
-    → kept (seen new) ≡ kept (seen (get_or jobs i d)) → map kept (map seen (plan ++ new ∷ [])) ≡ map kept (map seen (take (i + 1) jobs))
-plan_more jobs plan i d new inside same is =
-    let f : Held → Kept = λ j. kept (seen j) in
-    kept_as (plan ++ new ∷ []) ∙ map-append f plan (new ∷ [])
-    ∙ (λ k. (sym (kept_as plan) ∙ same ∙ kept_as (take i jobs)) k ++ is k ∷ [])
-    ∙ sym (kept_as (take (i + 1) jobs) ∙ ap (map f) (take_more jobs i d inside) ∙ map-append f (take i jobs) (get_or jobs i d ∷ []))
+pub planned_spans : (js : List Job) (ss : List Span) → map time_of ss ≡ map (λ (j : Job). time_of j.span) js → spans (in_plan js ss) ≡ ss
+unfolding in_plan
+planned_spans [] [] same = refl
+planned_spans [] (s ∷ ss) same = cc
+planned_spans (j ∷ js) [] same = cc
+planned_spans (j ∷ js) (s ∷ ss) same = let rest = planned_spans js ss (cc) in ap (λ (l : List Span). s ∷ l) rest
+
+pub planned_kept : (js : List Job) (ss : List Span) → map time_of ss ≡ map (λ (j : Job). time_of j.span) js → map kept (in_plan js ss) ≡ map kept js
+unfolding in_plan
+planned_kept [] ss same = refl
+planned_kept (j ∷ js) [] same = cc
+planned_kept (j ∷ js) (s ∷ ss) same =
+    let time : time_of s ≡ time_of j.span = cc in
+    let rest : map time_of ss ≡ map (λ (k : Job). time_of k.span) js = cc in
+    λ i. (time i, j.outputs) ∷ planned_kept js ss rest i
+
+-- one more command takes as long as it takes
+pub plan_more : (jobs : List Held) (plan : List Span) (i : ℕ) (d : Held) (s : Span) → i < length jobs
+    → map time_of plan ≡ map (λ (j : Held). time_of j.span) (take i jobs) → time_of s ≡ time_of (get_or jobs i d).span
+    → map time_of (plan ++ s ∷ []) ≡ map (λ (j : Held). time_of j.span) (take (i + 1) jobs)
+plan_more jobs plan i d s inside same is =
+    let f : Held → ℕ = λ j. time_of j.span in
+    map-append time_of plan (s ∷ []) ∙ (λ k. same k ++ is k ∷ [])
+    ∙ sym (ap (map f) (take_more jobs i d inside) ∙ map-append f (take i jobs) (get_or jobs i d ∷ []))
+
+-- the times of commands as they are held
+pub times_as : (xs : List Held) → map (λ (j : Held). time_of j.span) xs ≡ map (λ (j : Job). time_of j.span) (map seen xs)
+times_as xs = sym (map_twice (λ (j : Job). time_of j.span) seen xs)
 
 -- the spans of commands as they are held
 pub spans_as : (xs : List Held) → map (λ (j : Held). j.span) xs ≡ spans (map seen xs)

@@ -11,20 +11,21 @@ use Rattle.std.specs.Cmp.Lexicographic.{bytes_decides}
 use Rattle.std.specs.List.{All, AllByRecursion, Contains, IsDistinct, flat_map, sum_by}
 use Rattle.std.specs.Map.{keys_of, lookup}
 use Rattle.nl_reports.specs.Critical.{Ran, ran_at, ran_named, ran_time, took_time, weight}
-use Rattle.nl_reports.specs.GraphText.{HeldNode, ids_of, nodes_of, seen_edge, seen_graph}
+use Rattle.nl_tool_texts.specs.GraphText.{HeldNode, ids_of, nodes_of, seen_edge, seen_graph}
 use Rattle.nl_reports.specs.Jobs.{Job}
-use Rattle.nl_reports.specs.Paths.{Edge, IsLongest, IsPath, Leads}
+use Rattle.nl_tool_texts.specs.Graphs.{Edge}
+use Rattle.nl_reports.specs.Paths.{IsLongest, IsPath, Leads}
 use Rattle.nl_reports.specs.Plans.{HavePlan, IsPlan, kept}
 use Rattle.nl_reports.specs.Rows.{spans}
-use Rattle.nl_reports.specs.Reaches.{AreOf, IsBegun, IsFarthest, IsFollowed, IsTight, behind_at, far_at, ran_in, ran_named_in, ran_seen, rans_seen}
+use Rattle.nl_reports.specs.Reaches.{AreOf, IsBegun, IsFarthest, IsFollowed, IsTight, behind_at, far_at, ran_in, HeldPlace, place_at, place_named, place_named_in, place_seen, places_seen, ran_of, rans_in}
 use Rattle.nl_reports.specs.Sweep.{last_moment, running}
-use Rattle.nl_reports.specs.declared.critical.Ran.{Ran as HeldRan}
 use Rattle.nl_reports.specs.declared.critical.Reaches.{Reaches}
-use Rattle.nl_reports.specs.declared.graph.Edge.{Edge as HeldEdge}
-use Rattle.nl_reports.specs.declared.graph.NinjaGraph.{NinjaGraph}
-use Rattle.nl_reports.proofs.GraphLemmas.{Name, named, of_name, same}
-use Rattle.nl_reports.proofs.OrderLemmas.{edge_among}
+use Rattle.nl_tool_texts.specs.declared.graph.Edge.{Edge as HeldEdge}
+use Rattle.nl_tool_texts.specs.declared.graph.NinjaGraph.{NinjaGraph}
+use Rattle.nl_tool_texts.proofs.GraphLemmas.{Name, named, of_name, same}
+use Rattle.nl_tool_texts.proofs.OrderLemmas.{edge_among}
 use Rattle.nl_reports.proofs.PathsLemmas.{IsBounded, longest_by, path_on, sum_on}
+use Rattle.nl_reports.specs.declared.moments.Span.{Span}
 
 -- a number is that of no key, or it has a place
 pub key_or_none : (ps : List HeldNode) (id : List ℕ)
@@ -74,19 +75,19 @@ module _ (r : Reaches) where
       ap (λ b. cond b (far_at r i) (far_from ps (i + 1) id)) other
       ∙ far_there ps (i + 1) j (omega (arith, inside)) (IsDistinct-tail same p.0 (keys_of ps) distinct) ∙ ap (far_at r) place
 
-module _ (ps : List HeldNode) (js : List Job) (r : Reaches) (are : rans_seen r.ran.items ≡ map (ran_at (nodes_of ps) js) (ids_of ps)) where
+module _ (ps : List HeldNode) (js : List Job) (r : Reaches) (are : rans_in r ≡ map (ran_at (nodes_of ps) js) (ids_of ps)) where
   pub ran_is : (i : ℕ) → i < length ps → ran_in r i ≡ ran_at (nodes_of ps) js (get_or (ids_of ps) i [])
   ran_is i inside =
       let count : length (ids_of ps) ≡ length ps = length-map ps (λ (p : HeldNode). p.0.now) in
       ap (λ (l : List (Option Ran)). get_or l i None) are
       ∙ get_or-map (ran_at (nodes_of ps) js) (ids_of ps) i [] None (omega (arith, count, inside))
 
-  pub count_is : length r.ran.items ≡ length ps
-  count_is = sym (length-map r.ran.items (option_map ran_seen)) ∙ ap (λ (l : List (Option Ran)). length l) are
+  pub count_is : length r.places.now ≡ length ps
+  count_is = sym (length-map r.places.now (option_and_then (ran_of r.spans.now))) ∙ ap (λ (l : List (Option Ran)). length l) are
       ∙ length-map (ids_of ps) (ran_at (nodes_of ps) js) ∙ length-map ps (λ (p : HeldNode). p.0.now)
 
 module _ (ps : List HeldNode) (js : List Job) (r : Reaches) (distinct : IsDistinct same (keys_of ps))
-    (are : rans_seen r.ran.items ≡ map (ran_at (nodes_of ps) js) (ids_of ps)) where
+    (are : rans_in r ≡ map (ran_at (nodes_of ps) js) (ids_of ps)) where
   far : List ℕ → ℕ
   far id = far_from r ps 0 id
 
@@ -117,7 +118,7 @@ module _ (ps : List HeldNode) (js : List Job) (r : Reaches) (distinct : IsDistin
       }
 
   -- a path that is as long as it is far from any place is a longest one
-  pub longest : (hs : List HeldEdge) (most : ℕ) → All (IsTight r) hs → ((k : ℕ) → k < length r.ran.items → far_at r k ≤ most)
+  pub longest : (hs : List HeldEdge) (most : ℕ) → All (IsTight r) hs → ((k : ℕ) → k < length r.places.now → far_at r k ≤ most)
       → (path : List (List ℕ)) → IsPath (map (seen_edge (ids_of ps)) hs) path → sum_by (weight (nodes_of ps) js) path ≡ most
       → IsLongest (map (seen_edge (ids_of ps)) hs) (weight (nodes_of ps) js) path
   unfolding far
@@ -130,7 +131,7 @@ module _ (ps : List HeldNode) (js : List Job) (r : Reaches) (distinct : IsDistin
 
   -- a plan is one, if no edge is too short for it, and commands begin as it says
   pub planned : (hs : List HeldEdge) (ks : List Job) (n wall : ℕ) → map kept js ≡ map kept ks → ((t : ℕ) → running (spans js) t ≤ n)
-      → wall ≡ last_moment (spans js) → All (IsTight r) hs → ((k : ℕ) → k < length r.ran.items → IsBegun r wall k)
+      → wall ≡ last_moment (spans js) → All (IsTight r) hs → ((k : ℕ) → k < length r.places.now → IsBegun r wall k)
       → IsPlan (record { nodes = nodes_of ps; edges = map (seen_edge (ids_of ps)) hs }) ks n wall js
   unfolding far
   planned hs ks n wall same few last are_tight begun =
@@ -152,7 +153,7 @@ module _ (ps : List HeldNode) (js : List Job) (r : Reaches) (distinct : IsDistin
           | inr found ↦
               let P : List ℕ → Type 0 = λ x. IfSome (ran_at (nodes_of ps) js x) (λ (y : Ran). wall - far x ≡ y.span.began) in
               let Q : Option Ran → Type 0 = λ o. IfSome o (λ (y : Ran). wall - far (get_or (ids_of ps) found.0 []) ≡ y.span.began) in
-              let there : found.0 < length r.ran.items = omega (arith, found.1, count) in
+              let there : found.0 < length r.places.now = omega (arith, found.1, count) in
               subst P found.2 (subst Q (ran_is ps js r are found.0 found.1)
               (by (ran_in r found.0) (far_at r found.0) (far (get_or (ids_of ps) found.0 [])) (far_is found.0 found.1) (begun found.0 there).at))
         ];
@@ -175,7 +176,7 @@ by_graph g js r are P by = subst P are.graph (by (subst (λ (x : NinjaGraph). Ar
 
 pub have_plan : (g : NinjaGraph) (js ks : List Job) (n wall : ℕ) (r : Reaches) → AreOf g js r → map kept js ≡ map kept ks
     → ((t : ℕ) → running (spans js) t ≤ n) → wall ≡ last_moment (spans js) → All (IsTight r) r.graph.now.edges.items
-    → ((k : ℕ) → k < length r.ran.items → IsBegun r wall k) → HavePlan (seen_graph g) ks n wall
+    → ((k : ℕ) → k < length r.places.now → IsBegun r wall k) → HavePlan (seen_graph g) ks n wall
 have_plan g js ks n wall r are same few last are_tight begun =
     let within : All (IsTight r) g.edges.items = subst (λ (x : NinjaGraph). All (IsTight r) x.edges.items) are.graph are_tight in
     record { plan = js; is = planned g.nodes.entries js r are.distinct are.ran g.edges.items ks n wall same few last within begun }
@@ -193,47 +194,35 @@ own_value (p ∷ ps) (suc i) d inside distinct =
     ap (λ b. cond b (Some p.1) (lookup (λ (k : Name). bytes_eq id k.now) ps)) other
     ∙ own_value ps i d (omega (arith, inside)) (IsDistinct-tail same p.0 (keys_of ps) distinct)
 
-pub ran_here : (ps : List HeldNode) (js : List Job) (i : ℕ) (d : HeldNode) → i < length ps → IsDistinct same (keys_of ps)
-    → ran_named_in js (get_or ps i d).1 ≡ ran_at (nodes_of ps) js (get_or (ids_of ps) i [])
-ran_here ps js i d inside distinct =
+place_here : (ps : List HeldNode) (js : List Job) (i : ℕ) (d : HeldNode) → i < length ps → IsDistinct same (keys_of ps)
+    → place_named_in js (get_or ps i d).1 ≡ place_at (nodes_of ps) js (get_or (ids_of ps) i [])
+place_here ps js i d inside distinct =
     let id = get_or (ids_of ps) i [] in
-    sym (ap (option_and_then (ran_named js)) (named ps distinct id ∙ ap (option_and_then of_name) (own_value ps i d inside distinct))
+    sym (ap (option_and_then (place_named js)) (named ps distinct id ∙ ap (option_and_then of_name) (own_value ps i d inside distinct))
     ∙ by (get_or ps i d).1)
   where
-    by : (name : Option Name) → option_and_then (ran_named js) (of_name name) ≡ ran_named_in js name
+    by : (name : Option Name) → option_and_then (place_named js) (of_name name) ≡ place_named_in js name
     by None = refl
     by (Some n) = refl
 
 -- one more was looked at
-pub ran_more : (ps : List HeldNode) (js : List Job) (hs : List (Option HeldRan)) (h : Option HeldRan) (i : ℕ) (d : HeldNode) → i < length ps
-    → IsDistinct same (keys_of ps) → option_map ran_seen h ≡ ran_named_in js (get_or ps i d).1
-    → rans_seen hs ≡ map (ran_at (nodes_of ps) js) (take i (ids_of ps))
-    → rans_seen (hs ++ h ∷ []) ≡ map (ran_at (nodes_of ps) js) (take (i + 1) (ids_of ps))
-ran_more ps js hs h i d inside distinct is so_far =
-    let f : List ℕ → Option Ran = ran_at (nodes_of ps) js in
+pub place_more : (ps : List HeldNode) (js : List Job) (hs : List (Option HeldPlace)) (h : Option HeldPlace) (i : ℕ) (d : HeldNode) → i < length ps
+    → IsDistinct same (keys_of ps) → option_map place_seen h ≡ place_named_in js (get_or ps i d).1
+    → places_seen hs ≡ map (place_at (nodes_of ps) js) (take i (ids_of ps))
+    → places_seen (hs ++ h ∷ []) ≡ map (place_at (nodes_of ps) js) (take (i + 1) (ids_of ps))
+place_more ps js hs h i d inside distinct is so_far =
+    let f : List ℕ → Option (List ℕ × ℕ) = place_at (nodes_of ps) js in
     let ids = ids_of ps in
     let count : i < length ids = omega (arith, inside, length-map ps (λ (p : HeldNode). p.0.now)) in
-    map-append (option_map ran_seen) hs (h ∷ []) ∙ (λ j. so_far j ++ (is ∙ ran_here ps js i d inside distinct) j ∷ [])
+    map-append (option_map place_seen) hs (h ∷ []) ∙ (λ j. so_far j ++ (is ∙ place_here ps js i d inside distinct) j ∷ [])
     ∙ sym (ap (map f) (take_more ids i [] count) ∙ map-append f (take i ids) (get_or ids i [] ∷ []))
 
--- one more node was looked at
-pub ran_changed : (g : Option Ran → Option Ran) (xs hs : List (Option HeldRan)) (h : Option HeldRan) (i : ℕ) → i < length xs
-    → option_map ran_seen h ≡ g (get_or (rans_seen xs) i None)
-    → rans_seen hs ≡ map g (take i (rans_seen xs)) → rans_seen (hs ++ h ∷ []) ≡ map g (take (i + 1) (rans_seen xs))
-ran_changed g xs hs h i inside is so_far =
-    let there : i < length (rans_seen xs) = omega (arith, inside, length-map xs (option_map ran_seen)) in
-    map-append (option_map ran_seen) hs (h ∷ []) ∙ (λ k. so_far k ++ is k ∷ [])
-    ∙ sym (ap (map g) (take_more (rans_seen xs) i None there) ∙ map-append g (take i (rans_seen xs)) (get_or (rans_seen xs) i None ∷ []))
-
 -- what ran at a place, as it is held
-pub ran_found : (hs : List (Option HeldRan)) (i : ℕ) (h : Option HeldRan) → i < length hs → h ≡ get_or hs i h
-    → option_map ran_seen h ≡ get_or (rans_seen hs) i None
-ran_found hs i h inside is = ap (option_map ran_seen) is ∙ sym (get_or-map (option_map ran_seen) hs i h None inside)
-
-pub ran_none : (hs : List (Option HeldRan)) (i : ℕ) → length hs ≤ i → None ≡ get_or (rans_seen hs) i None
-ran_none [] i past = refl
-ran_none (h ∷ hs) zero past = absurd (omega (arith, past))
-ran_none (h ∷ hs) (suc i) past = ran_none hs i (omega (arith, past))
+pub ran_found : (ss : List Span) (ps : List (Option HeldPlace)) (i : ℕ)
+    → get_or (map (option_and_then (ran_of ss)) ps) i None ≡ option_and_then (ran_of ss) (get_or ps i None)
+ran_found ss [] i = refl
+ran_found ss (p ∷ ps) zero = refl
+ran_found ss (p ∷ ps) (suc i) = ran_found ss ps i
 
 -- ---- the path so far
 
@@ -261,8 +250,8 @@ so_far_as js r start n m old a b place same so_far =
     let Q : List Ran → Type 0 = λ t. SoFar js r start m old t in
     subst P (sym place) (subst Q (sym same) so_far)
 
-ran_start : (js : List Job) (r : Reaches) (ps : List HeldNode) (start : ℕ) → rans_seen r.ran.items ≡ map (ran_at (nodes_of ps) js) (ids_of ps)
-    → (0 < length r.ran.items → start < length r.ran.items) → ran_in r start ≡ ran_at (nodes_of ps) js (get_or (ids_of ps) start [])
+ran_start : (js : List Job) (r : Reaches) (ps : List HeldNode) (start : ℕ) → rans_in r ≡ map (ran_at (nodes_of ps) js) (ids_of ps)
+    → (0 < length r.places.now → start < length r.places.now) → ran_in r start ≡ ran_at (nodes_of ps) js (get_or (ids_of ps) start [])
 ran_start js r [] start are within = ap (λ (l : List (Option Ran)). get_or l start None) are
 ran_start js r (p ∷ ps) start are within =
     let count = count_is (p ∷ ps) js r are in
@@ -298,7 +287,7 @@ module _ (js : List Job) (r : Reaches) (start place : ℕ) (old mid new : List R
       more ∙ (λ i. so_far.rans_are i ++ last i) ∙ append_assoc old rans (flat_map (rans_at r js) (id_at r place ∷ []))
       ∙ ap (λ (l : List Ran). old ++ l) (sym (flat_map-append (rans_at r js) so_far.path (id_at r place ∷ [])))
 
-  pub path_more : (e : HeldEdge) → Contains r.graph.now.edges.items e → AreOf r.graph.now js r → e.from ≡ place → e.to < length r.ran.items
+  pub path_more : (e : HeldEdge) → Contains r.graph.now.edges.items e → AreOf r.graph.now js r → e.from ≡ place → e.to < length r.places.now
       → far_at r e.to ≡ behind_at r place → SoFar js r start e.to old new
   unfolding path_now
   path_more e among are from to far =

@@ -124,26 +124,7 @@ module _ (cs : List Span) (s : Shares) (are : AreSharesOf cs s) where
   ends_shares = are.swept.at_ends ∙ ap (map (shares_before s.moments.starts.items s.moments.ends.items))
       (take_all (length s.at_ends.items) s.moments.ends.items (omega (arith, are.ended)))
 
-  module _ (span : Span) (among : Contains cs span) where
-    pub start_there : Contains s.moments.starts.items span.began
-    start_there = Contains-permutation (map began_of cs) s.moments.starts.items span.began are.moments.starts (contains_map began_of cs span among)
-
-    pub end_there : span.began < span.ended → Contains s.moments.ends.items span.ended
-    end_there runs =
-        let closed : closed_of span ≡ span.ended = grind arith in
-        subst (Contains s.moments.ends.items) closed
-        (Contains-permutation (map closed_of cs) s.moments.ends.items (closed_of span) are.moments.ends (contains_map closed_of cs span among))
-
-    pub weight_is : span.began < span.ended
-        → shares_before s.moments.starts.items s.moments.ends.items span.ended - shares_before s.moments.starts.items s.moments.ends.items span.began ≡ weight cs span
-    weight_is runs =
-        let last : span.ended ≤ last_moment cs = All-contains (λ (c : Span). c.ended ≤ last_moment cs) cs span (below_last cs) among in
-        let within = before-within (λ t. share_of (running cs t)) span.began span.ended (last_moment cs) (omega arith) last in
-        let same = λ (n : ℕ). before-same (λ t. share_of (running_by s.moments.starts.items s.moments.ends.items t)) (λ t. share_of (running cs t)) n
-        (λ t. ap share_of (runs_as t)) in
-        omega (arith, within, same span.ended, same span.began)
-
-  pub no_weight : (span : Span) → span.ended ≤ span.began → 0 ≡ weight cs span
+  no_weight : (span : Span) → span.ended ≤ span.began → 0 ≡ weight cs span
   no_weight span short = sym (before-beyond (λ t. if runs_at t span then share_of (running cs t) else 0) 0 (last_moment cs) (omega arith)
       (λ t after. never t))
     where
@@ -151,6 +132,36 @@ module _ (cs : List Span) (s : Shares) (are : AreSharesOf cs s) where
       never t =
           let none : runs_at t span ≡ false = grind (arith, nat_tests) in
           rw none refl
+
+  module _ (span : Span) (among : Contains cs span) where
+    pub start_there : Contains s.moments.starts.items span.began
+    start_there = Contains-permutation (map began_of cs) s.moments.starts.items span.began are.moments.starts (contains_map began_of cs span among)
+
+    pub end_there : Contains s.moments.ends.items (closed_of span)
+    end_there = Contains-permutation (map closed_of cs) s.moments.ends.items (closed_of span) are.moments.ends (contains_map closed_of cs span among)
+
+    while_runs : span.began < span.ended
+        → shares_before s.moments.starts.items s.moments.ends.items span.ended - shares_before s.moments.starts.items s.moments.ends.items span.began ≡ weight cs span
+    while_runs runs =
+        let last : span.ended ≤ last_moment cs = All-contains (λ (c : Span). c.ended ≤ last_moment cs) cs span (below_last cs) among in
+        let within = before-within (λ t. share_of (running cs t)) span.began span.ended (last_moment cs) (omega arith) last in
+        let same = λ (n : ℕ). before-same (λ t. share_of (running_by s.moments.starts.items s.moments.ends.items t)) (λ t. share_of (running cs t)) n
+        (λ t. ap share_of (runs_as t)) in
+        omega (arith, within, same span.ended, same span.began)
+
+    -- 0 where it ended before it began
+    pub weight_is : shares_before s.moments.starts.items s.moments.ends.items (closed_of span) - shares_before s.moments.starts.items s.moments.ends.items span.began
+        ≡ weight cs span
+    weight_is =
+        let f = shares_before s.moments.starts.items s.moments.ends.items in
+        elim (cases_lt span.began span.ended) [
+          | inl runs ↦
+              let closed : closed_of span ≡ span.ended = grind arith in
+              ap (λ (n : ℕ). f n - f span.began) closed ∙ while_runs runs
+          | inr short ↦
+              let closed : closed_of span ≡ span.began = grind arith in
+              ap (λ (n : ℕ). f n - f span.began) closed ∙ omega (arith, no_weight span short)
+        ]
 
 -- ---- functions
 

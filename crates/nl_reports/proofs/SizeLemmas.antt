@@ -18,18 +18,20 @@ use Rattle.std.proofs.lemmas.List.Sums.{sum_by-append, sum_by-cons}
 use Rattle.std.proofs.lemmas.List.Sorted.{All-permutation, length_permutation}
 use Rattle.std.proofs.lemmas.Str.{utf8_valid_len_le}
 use Rattle.nl_reports.specs.Jobs.{Job, first_name}
-use Rattle.nl_reports.specs.Bars.{bar, bar_before, bars_from, base_of, drawn_width, is_short, kind_of, long_bar, more_outputs, name_text, named, no_short, opened, pixel_of, rect, room_of, short_bar, short_bars, short_in, short_text, times_text, title, width_of, with_short}
+use Rattle.nl_reports.specs.Bars.{bar, bar_before, bars_from, drawn_width, is_short, kind_of, long_bar, more_outputs, name_text, named, no_short, opened, pixel_of, rect, room_of, short_bar, short_bars, short_in, short_text, times_text, title, width_of, with_short}
 use Rattle.nl_tool_texts.specs.Escape.{cut_at, cut_name, cut_text, escaped, escaped_behind, label, piece, shown}
-use Rattle.nl_reports.specs.Frame.{frame_of, height, is_named, pitch, seconds, x_at, y_at}
+use Rattle.nl_reports.specs.Frame.{frame_of, height, is_named, pitch, x_at, y_at}
 use Rattle.nl_reports.specs.declared.frame.Frame.{Frame}
 use Rattle.nl_reports.specs.Lanes.{lanes}
 use Rattle.nl_reports.specs.Picture.{bars_of}
 use Rattle.nl_reports.specs.Rows.{by_start, lead, spans}
 use Rattle.nl_reports.specs.Spans.{IsEarly, closed_of, time_of}
-use Rattle.nl_reports.specs.Work.{place, work_of}
+use Rattle.nl_tool_texts.specs.Kind.{base_of}
+use Rattle.nl_tool_texts.specs.Texts.{seconds}
+use Rattle.nl_tool_texts.specs.Work.{place, work_of}
 use Rattle.nl_reports.specs.declared.frame.Short.{Short}
-use Rattle.nl_reports.specs.declared.kinds.Work.{Work}
-use Rattle.nl_reports.specs.declared.kinds.Work.TheVariants.{Compile, Link, Archive, Generate, Test, Other}
+use Rattle.nl_tool_texts.specs.declared.kind.Work.{Work}
+use Rattle.nl_tool_texts.specs.declared.kind.Work.TheVariants.{Compile, Link, Archive, Generate, Test, Other}
 use Rattle.nl_tool_texts.proofs.FallingLemmas.{falling_moves}
 use Rattle.nl_reports.proofs.FitLemmas.{lanes_few}
 use Rattle.nl_tool_texts.proofs.EscapeLemmas.{cut_within}

@@ -3,11 +3,11 @@ use Rattle.std.proofs.Common.{◌≡◌, ◌∙◌, ℕ, List, [], ◌∷◌, �
 use Rattle.std.specs.Prelude.{slice_get}
 use Rattle.nl_builds.specs.Builds.{Told as BuildsTold}
 use Rattle.nl_builds.specs.declared.build.Build.{Build}
-use Rattle.nl_reports.specs.Rows.{Told, told_command}
+use Rattle.nl_reports.specs.Rows.{Told, told_row}
 use Rattle.nl_reports.specs.Summary.{again_in, builds_told, first_of, no_totals, rows_from, text_of, title, totals_from, unfinished_line}
 use Rattle.nl_reports.specs.declared.choice.Scope.{Scope}
 use Rattle.nl_reports.specs.declared.rows.Lists.{Lists}
-use Rattle.nl_reports.specs.declared.rows.Weighed.{Weighed}
+use Rattle.nl_reports.specs.declared.rows.Row.{Row}
 use Rattle.nl_tool_texts.specs.Falling.{falling}
 use Rattle.nl_tool_texts.proofs.FallingLemmas.{map-falling}
 use Rattle.nl_tool_texts.proofs.ListedLemmas.{map-take}
@@ -30,17 +30,17 @@ pub parts_in_order : (h n s a u l : List ℕ) → (((h ++ (n ++ s)) ++ a) ++ u) 
 parts_in_order h n s a u l = simp append_assoc
 
 -- those that rank highest, as they are told
-pub highest_are : {A : Type 0} (told : A → Told) (rank : Told → ℕ) (n : ℕ) (rows kept : List A) → kept ≡ take n (falling (λ r. rank (told r)) rows)
-    → map told kept ≡ take n (falling rank (map told rows))
-highest_are told rank n rows kept is =
-    ap (map told) is ∙ map-take told n (falling (λ r. rank (told r)) rows) ∙ ap (take n) (map-falling told rank rows)
+pub highest_are : (rank : Told → ℕ) (n : ℕ) (rows kept : List Row) → kept ≡ take n (falling (λ r. rank (told_row r)) rows)
+    → map told_row kept ≡ take n (falling rank (map told_row rows))
+highest_are rank n rows kept is =
+    ap (map told_row) is ∙ map-take told_row n (falling (λ r. rank (told_row r)) rows) ∙ ap (take n) (map-falling told_row rank rows)
 
 -- the first of them
-pub first_told : (n : ℕ) (kept : List Weighed) (ts : List Told) → 0 < n → map told_command kept ≡ take n ts
-    → option_map told_command (slice_get kept 0) ≡ first_of ts
+pub first_told : (n : ℕ) (kept : List Row) (ts : List Told) → 0 < n → map told_row kept ≡ take n ts
+    → option_map told_row (slice_get kept 0) ≡ first_of ts
 first_told n kept ts some is = first_mapped kept ∙ ap first_of is ∙ first_taken n ts some
   where
-    first_mapped : (cs : List Weighed) → option_map told_command (slice_get cs 0) ≡ first_of (map told_command cs)
+    first_mapped : (cs : List Row) → option_map told_row (slice_get cs 0) ≡ first_of (map told_row cs)
     first_mapped [] = refl
     first_mapped (c ∷ cs) = refl
 

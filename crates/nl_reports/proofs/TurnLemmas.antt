@@ -7,7 +7,8 @@ use Rattle.nl_builds.specs.Builds.{Told}
 use Rattle.nl_builds.specs.declared.build.Build.{Build}
 use Rattle.nl_reports.specs.Choice.{chosen}
 use Rattle.nl_reports.specs.Frame.{first_began}
-use Rattle.nl_reports.specs.Jobs.{Job, between, build_jobs, seen}
+use Rattle.nl_tool_texts.specs.Lists.{between}
+use Rattle.nl_reports.specs.Jobs.{Job, build_jobs, seen}
 use Rattle.nl_reports.specs.Rows.{by_start, spans}
 use Rattle.nl_reports.specs.Spans.{IsEarly, closed_of}
 use Rattle.nl_reports.specs.Turns.{clock_behind, jobs_by, jobs_in_turn, jobs_turned, turned_job, turned_jobs}

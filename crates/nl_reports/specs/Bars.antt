@@ -1,12 +1,12 @@
 -- The bars of commands.
-use Rattle.std.specs.Prelude.{ℕ, ◌+◌, ◌-◌, ◌*◌, ◌/◌, ◌==◌, Bool, min, nat_lt, List, [], ◌∷◌, ◌++◌, drop, get_or, length, set, codes, decimal, if◌then◌else◌}
+use Rattle.std.specs.Prelude.{ℕ, ◌+◌, ◌-◌, ◌*◌, ◌/◌, ◌==◌, Bool, min, nat_lt, List, [], ◌∷◌, ◌++◌, get_or, length, set, codes, decimal, if◌then◌else◌}
 use Rattle.nl_reports.specs.Spans.{closed_of, time_of}
 use Rattle.nl_reports.specs.Jobs.{Job, first_name}
-use Rattle.nl_reports.specs.Kinds.{folder_of}
 use Rattle.nl_tool_texts.specs.Escape.{cut_name, label}
-use Rattle.nl_reports.specs.Frame.{height, is_named, seconds, x_at, y_at}
-use Rattle.nl_reports.specs.Work.{place, work_of}
-use Rattle.nl_tool_texts.specs.Texts.{rest_text}
+use Rattle.nl_tool_texts.specs.Kind.{base_of}
+use Rattle.nl_reports.specs.Frame.{height, is_named, x_at, y_at}
+use Rattle.nl_tool_texts.specs.Work.{place, work_of}
+use Rattle.nl_tool_texts.specs.Texts.{rest_text, seconds}
 use Rattle.nl_tool_texts.specs.Texts.{joined as parts}
 use Rattle.nl_reports.specs.declared.frame.Frame.{Frame}
 use Rattle.nl_reports.specs.declared.frame.Short.{Short}
@@ -37,10 +37,6 @@ width_of f j = x_at f (closed_of j.span) - x_at f j.span.began
 
 abbrev pub drawn_width : ℕ → ℕ
 drawn_width width = if nat_lt width 20 then width else width - 6
-
--- the part of a name after its last `/`
-abbrev pub base_of : List ℕ → List ℕ
-base_of name = drop (length (folder_of name)) name
 
 -- so many bytes of it stand in a bar; and the name, if some do
 abbrev pub room_of : ℕ → ℕ

@@ -8,7 +8,8 @@ use Rattle.nl_versions.specs.Version.{is_rapid}
 use Rattle.nl_reports.specs.Critical.{keyed_line}
 use Rattle.nl_reports.specs.Jobs.{Job, first_name, jobs_from, seen}
 use Rattle.nl_reports.specs.Lasting.{is_among, is_held, marked}
-use Rattle.nl_reports.specs.Outputs.{last_at, places_of}
+use Rattle.nl_tool_texts.specs.Lists.{last_at}
+use Rattle.nl_reports.specs.Outputs.{places_of}
 use Rattle.nl_tool_texts.specs.Falling.{falling}
 use Rattle.nl_reports.specs.Spans.{time_of}
 use Rattle.nl_tool_texts.specs.Texts.{change_text, joined, line, took_text}
@@ -207,8 +208,8 @@ abbrev pub row_of : Bool → Class → ℕ → ℕ → List ℕ → List ℕ
 row_of screen class old new output =
     keyed_line screen (class_text class ∷ change_text screen old new ∷ took_text screen old ∷ took_text screen new ∷ output ∷ [])
 
-abbrev pub row_line : Bool → Compared → List ℕ
-row_line screen c = row_of screen c.class c.old c.new c.output
+abbrev pub row_line : Bool → Class → Compared → List ℕ
+row_line screen class c = row_of screen class c.old c.new c.output
 
 -- at a terminal a heading stands before the commands of a class, if there are some
 abbrev pub class_heading : Bool → Class → List Compared → List ℕ
@@ -216,7 +217,7 @@ class_heading screen class [] = []
 class_heading screen class (c ∷ cs) = if screen then joined (codes "\nCommands: " ∷ class_text class ∷ codes "\nChange\tOld\tNew\tOutput\n" ∷ []) else []
 
 abbrev pub listed_lines : Bool → Class → List Compared → List ℕ
-listed_lines screen class cs = class_heading screen class cs ++ flat_map (row_line screen) cs
+listed_lines screen class cs = class_heading screen class cs ++ flat_map (row_line screen class) cs
 
 -- so many commands of a class at most, the largest differences first, and equal ones in order
 abbrev pub class_lines : Bool → ℕ → List Compared → Class → List ℕ

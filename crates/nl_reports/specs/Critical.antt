@@ -5,15 +5,13 @@ use Rattle.nl_fields.specs.declared.entry.Entry.{Entry}
 use Rattle.nl_reports.specs.Jobs.{Job}
 use Rattle.std.specs.Global.{Vec}
 use Rattle.nl_reports.specs.Lasting.{is_among}
-use Rattle.nl_reports.specs.Outputs.{last_at, places_of}
-use Rattle.nl_reports.specs.Paths.{Graph, IsLongest, Node, length_of}
+use Rattle.nl_tool_texts.specs.Lists.{last_at}
+use Rattle.nl_reports.specs.Outputs.{places_of}
+use Rattle.nl_tool_texts.specs.Graphs.{Graph, Node, names_of}
+use Rattle.nl_reports.specs.Paths.{IsLongest, length_of}
 use Rattle.nl_reports.specs.Spans.{time_of}
 use Rattle.nl_tool_texts.specs.Texts.{joined, line, time_text, told_moment, took_text}
 use Rattle.nl_reports.specs.declared.moments.Span.{Span}
-
--- the names of nodes, by their numbers
-abbrev pub names_of : List Node → List (List ℕ × List ℕ)
-names_of nodes = map (λ (n : Node). (n.id, n.name)) nodes
 
 -- when a command ran, the output by which it is told, and its place
 pub record Ran : Type 0 where

@@ -1,5 +1,5 @@
--- Where things stand in a picture, in tenths of a pixel, and how moments are told.
-use Rattle.std.specs.Prelude.{ℕ, ◌+◌, ◌-◌, ◌*◌, ◌/◌, ◌%◌, ◌<◌, ◌^◌, max, min, Bool, nat_lt, if◌then◌else◌, List, [], ◌∷◌, ◌++◌, codes, decimal}
+-- Where things stand in a picture, in tenths of a pixel.
+use Rattle.std.specs.Prelude.{ℕ, ◌+◌, ◌-◌, ◌*◌, ◌/◌, ◌<◌, ◌^◌, max, min, Bool, nat_lt, if◌then◌else◌, List, [], ◌∷◌}
 use Rattle.std.specs.List.{fold}
 use Rattle.nl_reports.specs.Spans.{closed_of}
 use Rattle.nl_reports.specs.declared.moments.Span.{Span}
@@ -54,7 +54,3 @@ foot_of f = y_at f f.top + pitch f + 1200
 
 abbrev pub line_at : Frame → ℕ → ℕ
 line_at f line = foot_of f + 600 + line * 180
-
--- the milliseconds stand after the point
-abbrev pub seconds : ℕ → List ℕ
-seconds ms = decimal (ms / 1000) ++ codes "." ++ decimal (ms % 1000 / 100) ++ decimal (ms % 100 / 10) ++ decimal (ms % 10)

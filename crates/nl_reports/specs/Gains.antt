@@ -2,7 +2,8 @@
 use Rattle.std.specs.Prelude.{◌≡◌, ℕ, ◌+◌, ◌-◌, ◌/◌, ◌==◌, ◌&&◌, nat_lt, Bool, List, [], ◌∷◌, take, codes, if◌then◌else◌, ◌++◌}
 use Rattle.nl_reports.specs.Critical.{Ran, keyed_line, path_rans, weight}
 use Rattle.nl_reports.specs.Jobs.{Job}
-use Rattle.nl_reports.specs.Paths.{Graph, IsLongest, length_of}
+use Rattle.nl_tool_texts.specs.Graphs.{Graph}
+use Rattle.nl_reports.specs.Paths.{IsLongest, length_of}
 use Rattle.nl_tool_texts.specs.Falling.{falling}
 use Rattle.nl_reports.specs.Spans.{time_of}
 use Rattle.nl_tool_texts.specs.Texts.{took_text}

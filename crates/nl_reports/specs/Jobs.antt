@@ -1,10 +1,11 @@
 -- The commands of builds, with the entries of their outputs.
-use Rattle.std.specs.Prelude.{ℕ, zero, suc, ◌-◌, ◌==◌, Bool, false, List, [], ◌∷◌, drop, length, slice_get, take, Option, None, Some, if◌then◌else◌}
+use Rattle.std.specs.Prelude.{ℕ, zero, suc, ◌-◌, ◌==◌, Bool, false, List, [], ◌∷◌, length, slice_get, Option, None, Some, if◌then◌else◌}
 use Rattle.nl_fields.specs.declared.entry.Entry.{Entry}
 use Rattle.nl_builds.specs.Builds.{Told}
 use Rattle.nl_builds.specs.declared.build.Build.{Build}
 use Rattle.nl_builds.specs.declared.build.Builds.{Builds}
 use Rattle.nl_builds.specs.declared.command.Command.{Command}
+use Rattle.nl_tool_texts.specs.Lists.{between}
 use Rattle.nl_reports.specs.Spans.{span_of}
 use Rattle.nl_reports.specs.declared.job.Job.{Job as HeldJob}
 use Rattle.nl_reports.specs.declared.moments.Span.{Span}
@@ -19,10 +20,6 @@ pub record Job : Type 0 where
 abbrev pub first_name : List Entry → List ℕ
 first_name [] = []
 first_name (e ∷ es) = e.name
-
--- what stands from one place to another
-abbrev pub between : {A : Type 0} → ℕ → ℕ → List A → List A
-between from to xs = drop from (take to xs)
 
 -- how many commands the first builds have, and how many entries the first commands
 abbrev pub build_end : Option Build → ℕ

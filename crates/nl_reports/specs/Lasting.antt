@@ -10,7 +10,8 @@ use Rattle.nl_builds.specs.declared.build.How.{How}
 use Rattle.nl_builds.specs.declared.build.How.TheVariants.{AsWritten, FoundAgain}
 use Rattle.nl_builds.specs.declared.command.Command.{Command}
 use Rattle.nl_table.specs.declared.output_key.NameKey.{NameKey}
-use Rattle.nl_reports.specs.Jobs.{Job, between}
+use Rattle.nl_tool_texts.specs.Lists.{between}
+use Rattle.nl_reports.specs.Jobs.{Job}
 use Rattle.nl_reports.specs.Spans.{span_of}
 
 abbrev pub is_among : List ℕ → List (List ℕ) → Bool

@@ -18,7 +18,6 @@ pub mod Frame
 pub mod Turns
 pub mod BuildsTable
 pub mod Ticks
-pub mod Work
 pub mod Times
 pub mod Events
 pub mod Trace
@@ -29,7 +28,6 @@ pub mod Paths
 pub mod Critical
 pub mod Gains
 pub mod Picture
-pub mod GraphText
 pub mod Reaches
 pub mod Plans
 pub mod Found

@@ -1,16 +1,10 @@
 -- Which command has an output.
-use Rattle.std.specs.Prelude.{◌≡◌, ℕ, ◌+◌, bytes_eq, fold, List, [], ◌∷◌, ◌++◌, map, Option, None, Some, if◌then◌else◌}
+use Rattle.std.specs.Prelude.{◌≡◌, ℕ, ◌+◌, bytes_eq, List, [], ◌∷◌, ◌++◌, map}
 use Rattle.std.specs.Borrow.{Bor}
 use Rattle.std.specs.Map.{lookup}
 use Rattle.nl_fields.specs.declared.entry.Entry.{Entry}
+use Rattle.nl_tool_texts.specs.Lists.{last_at}
 use Rattle.nl_reports.specs.Jobs.{Job}
-
--- the last pair of a key counts
-abbrev pub later : {V : Type 0} → List ℕ → Option V → List ℕ × V → Option V
-later key found p = if bytes_eq p.0 key then Some p.1 else found
-
-abbrev pub last_at : {V : Type 0} → List (List ℕ × V) → List ℕ → Option V
-last_at pairs key = fold (later key) None pairs
 
 -- each output has the place of its command; the first command stands at `place`
 abbrev pub outputs_at : ℕ → List Entry → List (List ℕ × ℕ)

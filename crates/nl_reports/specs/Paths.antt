@@ -1,21 +1,7 @@
--- Graphs, their paths, and how long these are.
+-- The paths of graphs, and how long these are.
 use Rattle.std.specs.Prelude.{◌≡◌, ◌≤◌, ℕ, List, [], ◌∷◌}
-use Rattle.std.specs.List.{AllByRecursion, Contains, sum_by}
-
--- a node has a number, which is any bytes, and a name
-pub record Node : Type 0 where
-  pub id : List ℕ
-  pub name : List ℕ
-
--- an edge leads from one number to another, and stands on a line of the text
-pub record Edge : Type 0 where
-  pub from : List ℕ
-  pub to : List ℕ
-  pub line : ℕ
-
-pub record Graph : Type 0 where
-  pub nodes : List Node
-  pub edges : List Edge
+use Rattle.std.specs.List.{Contains, sum_by}
+use Rattle.nl_tool_texts.specs.Graphs.{Edge}
 
 -- one of these edges leads from a number to another
 pub record Leads (edges : List Edge) (a b : List ℕ) : Type 0 where
@@ -38,16 +24,3 @@ length_of weight path = sum_by weight path
 pub record IsLongest (edges : List Edge) (weight : List ℕ → ℕ) (path : List (List ℕ)) : Type 0 where
   pub is_path : IsPath edges path
   pub longest : (other : List (List ℕ)) → IsPath edges other → length_of weight other ≤ length_of weight path
-
--- each edge begins where the one before it ends, and the last one ends at `end`
-abbrev pub Follow : Edge → List Edge → List ℕ → Type 0
-Follow e [] end = e.to ≡ end
-Follow e (f ∷ fs) end = (e.to ≡ f.from) × Follow f fs end
-
--- the edges that follow the one of this line lead back to where it begins
-pub record ClosesCycle (edges : List Edge) (line : ℕ) : Type 0 where
-  pub first : Edge
-  pub more : List Edge
-  pub among : AllByRecursion (Contains edges) (first ∷ more)
-  pub closed : Follow first more first.from
-  pub line_is : first.line ≡ line

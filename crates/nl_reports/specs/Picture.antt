@@ -10,7 +10,7 @@ use Rattle.nl_tool_texts.specs.Escape.{label}
 use Rattle.nl_reports.specs.Frame.{frame_of, height, line_at, x_at, y_at}
 use Rattle.nl_reports.specs.Jobs.{Job, first_name}
 use Rattle.nl_reports.specs.Lanes.{lanes}
-use Rattle.nl_reports.specs.Paths.{Graph}
+use Rattle.nl_tool_texts.specs.Graphs.{Graph}
 use Rattle.nl_reports.specs.Rows.{spans}
 use Rattle.nl_tool_texts.specs.Falling.{falling}
 use Rattle.nl_reports.specs.Spans.{closed_of, time_of}
@@ -19,46 +19,44 @@ use Rattle.nl_tool_texts.specs.Texts.{joined, time_text}
 use Rattle.nl_reports.specs.Ticks.{ticks}
 use Rattle.nl_reports.specs.Times.{share_of, times_of, total}
 use Rattle.nl_reports.specs.Turns.{jobs_in_turn}
-use Rattle.nl_reports.specs.Work.{place, word}
+use Rattle.nl_tool_texts.specs.Work.{place, word}
 use Rattle.nl_reports.specs.declared.choice.Scope.{Scope}
 use Rattle.nl_reports.specs.declared.choice.Scope.TheVariants.{Last, Numbered, All}
 use Rattle.nl_reports.specs.declared.frame.Frame.{Frame}
-use Rattle.nl_reports.specs.declared.picture.Known.{Known}
-use Rattle.nl_reports.specs.declared.picture.Known.TheVariants.{AsWritten, FoundAgain, SomeAgain, Missing}
 use Rattle.nl_reports.specs.declared.moments.Span.{Span}
 use Rattle.nl_reports.specs.declared.kinds.Times.{Times}
-use Rattle.nl_reports.specs.declared.kinds.Work.{Work}
-use Rattle.nl_reports.specs.declared.kinds.Work.TheVariants.{Compile, Link, Archive, Generate, Test, Other}
+use Rattle.nl_tool_texts.specs.declared.kind.Work.{Work}
+use Rattle.nl_tool_texts.specs.declared.kind.Work.TheVariants.{Compile, Link, Archive, Generate, Test, Other}
 
 -- what was built: how many commands, how long it took, and how many ran at a time, with one digit after the point
-abbrev pub commands_word : ℕ → List ℕ
-commands_word n = if n == 1 then codes " command in " else codes " commands in "
+abbrev pub plural : ℕ → List ℕ
+plural n = if n == 1 then [] else codes "s"
 
 abbrev pub name_of : ℕ → ℕ → ℕ → List ℕ
-name_of commands wall tenths = joined (decimal commands ∷ commands_word commands ∷ time_text wall ∷ codes ", " ∷ decimal (tenths / 10) ∷ codes "."
+name_of commands wall tenths = joined (decimal commands ∷ codes " command" ∷ plural commands ∷ codes " in " ∷ time_text wall ∷ codes ", " ∷ decimal (tenths / 10) ∷ codes "."
     ∷ decimal (tenths % 10) ∷ codes " at a time" ∷ [])
 
 abbrev pub name : Frame → Times → ℕ → List ℕ
 name f t commands = name_of commands f.wall (total t * 10 / max 1 f.wall)
 
--- how what is drawn is known: a build, or all builds, of which some were found again; and there may be no build of that number
-abbrev pub known_by : Scope → Option ℕ → Known
-known_by scope None = AsWritten
-known_by Last (Some taken) = FoundAgain taken
-known_by (Numbered number) (Some taken) = FoundAgain taken
-known_by All (Some taken) = SomeAgain
-
-abbrev pub known_in : Scope → Told → Known
-known_in scope t = if is_some (chosen scope t) then known_by scope (taken_in scope t) else Missing (length t.builds)
-
--- a build that was found again says so, and how many of its outputs later builds may have taken
-abbrev pub known_line : Known → List ℕ
-known_line AsWritten = []
-known_line (FoundAgain taken) = joined (codes "<text class=\"m\" x=\"15400\" y=\"380\" text-anchor=\"end\">found again: later builds may have taken "
+-- how what is drawn is known, if there is more to tell than that it is as written: a build that was found again, and how many of its outputs
+-- later builds may have taken, or all builds, of which some were found again; or that there is no build of that number, but so many builds
+abbrev pub found_line : ℕ → List ℕ
+found_line taken = joined (codes "<text class=\"m\" x=\"15400\" y=\"380\" text-anchor=\"end\">found again: later builds may have taken "
     ∷ decimal taken ∷ codes " of its outputs</text>\n" ∷ [])
-known_line SomeAgain = codes "<text class=\"m\" x=\"15400\" y=\"380\" text-anchor=\"end\">builds were found again</text>\n"
-known_line (Missing builds) = joined (codes "<text class=\"m\" x=\"15400\" y=\"380\" text-anchor=\"end\">no such build; builds: " ∷ decimal builds
+
+abbrev pub again_line : Scope → Option ℕ → List ℕ
+again_line scope None = []
+again_line Last (Some taken) = found_line taken
+again_line (Numbered number) (Some taken) = found_line taken
+again_line All (Some taken) = codes "<text class=\"m\" x=\"15400\" y=\"380\" text-anchor=\"end\">builds were found again</text>\n"
+
+abbrev pub missing_line : ℕ → List ℕ
+missing_line builds = joined (codes "<text class=\"m\" x=\"15400\" y=\"380\" text-anchor=\"end\">no such build; builds: " ∷ decimal builds
     ∷ codes "</text>\n" ∷ [])
+
+abbrev pub known_in : Scope → Told → List ℕ
+known_in scope t = if is_some (chosen scope t) then again_line scope (taken_in scope t) else missing_line (length t.builds)
 
 -- the name, which a screen reader tells and which is shown too, stands first, and the colours after the name
 abbrev pub root : List ℕ
@@ -71,8 +69,8 @@ abbrev pub root_start : ℕ → List ℕ
 root_start height = joined (codes "<svg xmlns=\"http://www.w3.org/2000/svg\" width=\"1600\" height=\"" ∷ decimal (height / 10)
     ∷ codes "\" viewBox=\"0 0 16000 " ∷ decimal height ∷ root ∷ [])
 
-abbrev pub head : Frame → Times → ℕ → Known → List ℕ
-head f t commands known = root_start (line_at f (min commands 10 + 1)) ++ name f t commands ++ style ++ name f t commands ++ codes "</text>\n" ++ known_line known
+abbrev pub head : Frame → Times → ℕ → List ℕ → List ℕ
+head f t commands known = root_start (line_at f (min commands 10 + 1)) ++ name f t commands ++ style ++ name f t commands ++ codes "</text>\n" ++ known
 
 -- the colour of a kind and its part of the time; and of all
 abbrev pub legend_text : ℕ → List ℕ → ℕ → List ℕ
@@ -87,10 +85,10 @@ abbrev pub legend : Times → List ℕ
 legend t = legend_kind t Compile ++ legend_kind t Link ++ legend_kind t Archive ++ legend_kind t Generate ++ legend_kind t Test ++ legend_kind t Other
 
 -- what stands before the bars
-abbrev pub start_with : Frame → Known → Times → ℕ → List ℕ
+abbrev pub start_with : Frame → List ℕ → Times → ℕ → List ℕ
 start_with f known t commands = head f t commands known ++ legend t ++ ticks f ++ codes "<g class=\"t\" font-size=\"110\">\n"
 
-abbrev pub start : Frame → Known → List Job → List ℕ
+abbrev pub start : Frame → List ℕ → List Job → List ℕ
 start f known js = start_with f known (times_of js) (length js)
 
 -- the bars: those of commands, and those of short ones together
@@ -150,17 +148,17 @@ frame js = frame_of (spans js) (lanes (spans js))
 abbrev pub bars_of : List Job → List ℕ
 bars_of js = bars (frame js) (zip js (lanes (spans js)))
 
-abbrev pub picture : Known → Option (List Ran) → List Job → List ℕ
+abbrev pub picture : List ℕ → Option (List Ran) → List Job → List ℕ
 picture known path js = start (frame js) known js ++ bars_of js ++ end (frame js) (lanes (spans js)) path (spans js) js
 
 -- the picture of the builds that are asked for, one after another, with their critical path by a graph
-pub record IsOutlined (g : Graph) (known : Known) (js : List Job) (text : List ℕ) : Type 0 where
+pub record IsOutlined (g : Graph) (known : List ℕ) (js : List Job) (text : List ℕ) : Type 0 where
   pub length : ℕ
   pub rans : List Ran
   pub is_path : IsFoundPath g js length rans
   pub is : text ≡ picture known (Some rans) js
 
-abbrev pub IsDrawn : Option Graph → Known → List Job → List ℕ → Type 0
+abbrev pub IsDrawn : Option Graph → List ℕ → List Job → List ℕ → Type 0
 IsDrawn None known js text = text ≡ picture known None js
 IsDrawn (Some g) known js text = IsOutlined g known js text
 

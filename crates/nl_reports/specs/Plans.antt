@@ -7,7 +7,8 @@ use Rattle.nl_reports.specs.Critical.{IsCritical, Ran, keyed_line, ran_at, weigh
 use Rattle.nl_reports.specs.Gains.{AreGainsOf}
 use Rattle.nl_reports.specs.Jobs.{Job}
 use Rattle.nl_reports.specs.Numbers.{total_time}
-use Rattle.nl_reports.specs.Paths.{Edge, Graph, IsLongest, length_of}
+use Rattle.nl_tool_texts.specs.Graphs.{Edge, Graph}
+use Rattle.nl_reports.specs.Paths.{IsLongest, length_of}
 use Rattle.nl_reports.specs.Rows.{spans}
 use Rattle.nl_reports.specs.Spans.{time_of}
 use Rattle.nl_reports.specs.Sweep.{last_moment, running}

@@ -7,15 +7,17 @@ use Rattle.nl_reports.specs.Jobs.{Job, first_name}
 use Rattle.nl_reports.specs.Spans.{time_of}
 use Rattle.nl_reports.specs.Sweep.{parts, weight}
 use Rattle.nl_tool_texts.specs.Texts.{line, time_text}
-use Rattle.nl_reports.specs.declared.rows.Listed.{Listed}
-use Rattle.nl_reports.specs.declared.rows.Listed.TheVariants.{Commands, Kinds}
 use Rattle.nl_reports.specs.declared.rows.Rank.{Rank}
 use Rattle.nl_reports.specs.declared.rows.Rank.TheVariants.{Time, Weight}
 use Rattle.nl_reports.specs.declared.rows.Ranked.{Ranked}
 use Rattle.nl_reports.specs.declared.rows.Row.{Row}
-use Rattle.nl_reports.specs.declared.rows.Sums.{Sums}
-use Rattle.nl_reports.specs.declared.rows.Weighed.{Weighed}
 use Rattle.nl_reports.specs.declared.moments.Span.{Span}
+
+-- how many commands there are, the sum of their milliseconds, and that of their weighted times, in parts of a millisecond
+pub record Sums : Type 0 where
+  pub commands : ℕ
+  pub time : ℕ
+  pub weight : ℕ
 
 -- a command by its first output, or a kind
 pub record Told : Type 0 where
@@ -23,17 +25,10 @@ pub record Told : Type 0 where
   pub sums : Sums
 
 abbrev pub told_row : Row → Told
-told_row r = record { name = r.name.now; sums = r.sums }
+told_row r = record { name = r.name.now; sums = record { commands = r.commands; time = r.time; weight = r.weight } }
 
-abbrev pub told_command : Weighed → Told
-told_command c = record { name = c.name.now; sums = record { commands = 1; time = c.time; weight = c.weight } }
-
--- milliseconds, and weighted ones in parts of a millisecond
 abbrev pub weighed : ℕ → Job → Told
 weighed w j = record { name = first_name j.outputs; sums = record { commands = 1; time = time_of j.span; weight = w } }
-
-abbrev pub weights_of : List Span → List ℕ
-weights_of cs = map (weight cs) cs
 
 abbrev pub spans : List Job → List Span
 spans js = map (λ (j : Job). j.span) js
@@ -60,41 +55,41 @@ rank_key Time = codes "by-time\t"
 rank_key Weight = codes "by-weight\t"
 
 -- the line of a kind has the number of its commands
-abbrev pub list_key : Listed → Rank → ℕ → List ℕ
-list_key Commands rank commands = rank_key rank
-list_key Kinds rank commands = codes "kinds-" ++ rank_key rank ++ decimal commands ++ codes "\t"
+abbrev pub list_key : Bool → Rank → ℕ → List ℕ
+list_key false rank commands = rank_key rank
+list_key true rank commands = codes "kinds-" ++ rank_key rank ++ decimal commands ++ codes "\t"
 
 -- a kind without a name has one here
 abbrev pub named_kind : List ℕ → List ℕ
 named_kind [] = codes "(none)"
 named_kind (c ∷ cs) = c ∷ cs
 
-abbrev pub shown_name : Listed → List ℕ → List ℕ
-shown_name Commands name = name
-shown_name Kinds name = named_kind name
+abbrev pub shown_name : Bool → List ℕ → List ℕ
+shown_name false name = name
+shown_name true name = named_kind name
 
 -- at a terminal: how long it took, and its part of the time of all
-abbrev pub screen_row : Listed → ℕ → Told → List ℕ
-screen_row Commands total t = line (time_text t.sums.time ∷ (decimal (percent t.sums.time total) ++ codes "%") ∷ shown_name Commands t.name ∷ [])
-screen_row Kinds total t = line (time_text t.sums.time ∷ (decimal (percent t.sums.time total) ++ codes "%") ∷ decimal t.sums.commands
-    ∷ shown_name Kinds t.name ∷ [])
+abbrev pub screen_row : Bool → ℕ → Told → List ℕ
+screen_row false total t = line (time_text t.sums.time ∷ (decimal (percent t.sums.time total) ++ codes "%") ∷ t.name ∷ [])
+screen_row true total t = line (time_text t.sums.time ∷ (decimal (percent t.sums.time total) ++ codes "%") ∷ decimal t.sums.commands
+    ∷ named_kind t.name ∷ [])
 
-abbrev pub heading : Bool → Listed → List ℕ
-heading false listed = []
-heading true Commands = codes "\nSlowest commands\nTime\tShare\tOutput\n"
-heading true Kinds = codes "\nKinds of commands\nTime\tShare\tCommands\tKind\n"
+abbrev pub heading : Bool → Bool → List ℕ
+heading false of_kinds = []
+heading true false = codes "\nSlowest commands\nTime\tShare\tOutput\n"
+heading true true = codes "\nKinds of commands\nTime\tShare\tCommands\tKind\n"
 
 -- in a pipe: the milliseconds, the weighted ones with two digits, rounded down, and the first output or the kind
 abbrev pub list_line : Ranked → Rank → Told → List ℕ
-list_line r rank t = if r.lists.screen then screen_row r.listed r.total t else
-    list_key r.listed rank t.sums.commands ++ line (decimal t.sums.time ∷ ratio t.sums.weight parts ∷ shown_name r.listed t.name ∷ [])
+list_line r rank t = if r.lists.screen then screen_row r.of_kinds r.total t else
+    list_key r.of_kinds rank t.sums.commands ++ line (decimal t.sums.time ∷ ratio t.sums.weight parts ∷ shown_name r.of_kinds t.name ∷ [])
 
 -- the highest rank comes first
 abbrev pub highest_told : ℕ → Rank → List Told → List Told
 highest_told most rank ts = take most (falling (rank_told rank) ts)
 
 abbrev pub list_lines : Ranked → Rank → List Told → List ℕ
-list_lines r rank ts = heading r.lists.screen r.listed ++ flat_map (list_line r rank) (highest_told r.lists.most rank ts)
+list_lines r rank ts = heading r.lists.screen r.of_kinds ++ flat_map (list_line r rank) (highest_told r.lists.most rank ts)
 
 -- by time, and in a pipe also by weight
 abbrev pub both_lists : Ranked → List Told → List ℕ

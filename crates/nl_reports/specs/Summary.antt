@@ -7,7 +7,8 @@ use Rattle.nl_builds.specs.declared.build.How.{How}
 use Rattle.nl_builds.specs.declared.build.How.TheVariants.{AsWritten, FoundAgain}
 use Rattle.nl_reports.specs.Choice.{chosen}
 use Rattle.nl_tool_texts.specs.Fraction.{ratio}
-use Rattle.nl_reports.specs.Jobs.{between, build_jobs}
+use Rattle.nl_tool_texts.specs.Lists.{between}
+use Rattle.nl_reports.specs.Jobs.{build_jobs}
 use Rattle.nl_reports.specs.Kinds.{kinds}
 use Rattle.nl_reports.specs.Numbers.{numbers_of, spans_of}
 use Rattle.nl_reports.specs.Rows.{Told, both_lists, rank_told, told_jobs}
@@ -18,7 +19,6 @@ use Rattle.nl_reports.specs.declared.choice.Choice.{Choice}
 use Rattle.nl_reports.specs.declared.choice.Scope.{Scope}
 use Rattle.nl_reports.specs.declared.choice.Scope.TheVariants.{Last, Numbered, All}
 use Rattle.nl_reports.specs.declared.rows.Lists.{Lists}
-use Rattle.nl_reports.specs.declared.rows.Listed.TheVariants.{Commands, Kinds}
 use Rattle.nl_reports.specs.declared.rows.Rank.TheVariants.{Time}
 use Rattle.nl_reports.specs.declared.job.Numbers.{Numbers}
 use Rattle.nl_reports.specs.declared.moments.Span.{Span}
@@ -146,8 +146,8 @@ abbrev pub unfinished_line : Bool → ℕ → List ℕ
 unfinished_line screen count = if count == 0 then [] else count_line screen (codes "unfinished") (codes "outputs have yet to be made") (Some count)
 
 abbrev pub all_lists : Lists → ℕ → List Told → List Told → List ℕ
-all_lists lists total ts ks = both_lists (record { lists = lists; listed = Commands; total = total }) ts
-    ++ both_lists (record { lists = lists; listed = Kinds; total = total }) ks
+all_lists lists total ts ks = both_lists (record { lists = lists; of_kinds = false; total = total }) ts
+    ++ both_lists (record { lists = lists; of_kinds = true; total = total }) ks
 
 abbrev pub lists_text : Lists → List Told → List ℕ
 lists_text lists ts = if lists.most == 0 then [] else all_lists lists (total_of ts) ts (kinds lists.rule ts)

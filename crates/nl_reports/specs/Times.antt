@@ -3,10 +3,10 @@ use Rattle.std.specs.Prelude.{◌≡◌, ◌≤◌, ℕ, ◌+◌, ◌*◌, ◌/�
 use Rattle.std.specs.List.{fold}
 use Rattle.nl_reports.specs.Jobs.{Job, first_name}
 use Rattle.nl_reports.specs.Spans.{time_of}
-use Rattle.nl_reports.specs.Work.{place, work_of}
+use Rattle.nl_tool_texts.specs.Work.{place, work_of}
 use Rattle.nl_reports.specs.declared.kinds.Times.{Times}
-use Rattle.nl_reports.specs.declared.kinds.Work.{Work}
-use Rattle.nl_reports.specs.declared.kinds.Work.TheVariants.{Compile, Link, Archive, Generate, Test, Other}
+use Rattle.nl_tool_texts.specs.declared.kind.Work.{Work}
+use Rattle.nl_tool_texts.specs.declared.kind.Work.TheVariants.{Compile, Link, Archive, Generate, Test, Other}
 
 -- by the place of what they do
 abbrev pub no_times : Times

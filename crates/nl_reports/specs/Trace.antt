@@ -11,7 +11,8 @@ use Rattle.nl_builds.specs.declared.build.How.TheVariants.{AsWritten, FoundAgain
 use Rattle.nl_reports.specs.Choice.{chosen}
 use Rattle.nl_reports.specs.Events.{build_event, command_event, event_text, running_event}
 use Rattle.nl_reports.specs.Frame.{first_began}
-use Rattle.nl_reports.specs.Jobs.{Job, between, last_number}
+use Rattle.nl_tool_texts.specs.Lists.{between}
+use Rattle.nl_reports.specs.Jobs.{Job, last_number}
 use Rattle.nl_reports.specs.Lanes.{lanes}
 use Rattle.nl_reports.specs.Rows.{spans}
 use Rattle.nl_reports.specs.Spans.{closed_of}

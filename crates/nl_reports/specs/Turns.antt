@@ -5,7 +5,8 @@ use Rattle.nl_builds.specs.Builds.{Told}
 use Rattle.nl_builds.specs.declared.build.Build.{Build}
 use Rattle.nl_reports.specs.Choice.{chosen}
 use Rattle.nl_reports.specs.Frame.{first_began}
-use Rattle.nl_reports.specs.Jobs.{Job, between, build_jobs}
+use Rattle.nl_tool_texts.specs.Lists.{between}
+use Rattle.nl_reports.specs.Jobs.{Job, build_jobs}
 use Rattle.nl_reports.specs.Rows.{by_start, spans}
 use Rattle.nl_reports.specs.Spans.{closed_of}
 use Rattle.nl_reports.specs.declared.choice.Choice.{Choice}

@@ -1,6 +1,6 @@
 //! The text of `builds`, and what it tells at a terminal.
-ghost use Rattle.std.specs.Prelude.{◌≡◌, IfOk};
-ghost use Rattle.nl_reports.specs.{BuildsTable.{IsBegun, IsBuildsScreen, heading_for}, BuildsText.{border_word, builds_text}, Jobs.{told}};
+ghost use Rattle.std.specs.Prelude.{◌≡◌, ◌++◌, ℕ, List, IfOk, OnOk};
+ghost use Rattle.nl_reports.specs.{BuildsTable.{IsBegun, IsBuildsScreen}, BuildsText.{border_word, builds_text}, Jobs.{told}};
 
 use crate::job::numbers_of;
 use jiff_core::Timestamp;
@@ -18,46 +18,35 @@ const ZERO: i128 = 2_147_483_648_000_000;
 pub fn builds_screen(alloc: Global, zone: &TimeZone, from: &Builds) -> AllocResult<Vec<u8>>
     ensures value { IfOk result (λ lines. IsBuildsScreen zone.now (told from.now) lines.items) }
 {
-    let mut lines = Vec::from_slice(alloc, heading_for(zone))?;
+    let utc: &[u8] = match zone {
+        TimeZone::UTC | TimeZone::Unknown => b" (UTC)",
+        TimeZone::Fixed(_) | TimeZone::Posix(_) | TimeZone::Tzif(_) => b"",
+    };
+    let mut lines = Vec::new(alloc);
+    put!(&mut lines; b"Build\tBegan" [Part::Text(utc)] b"\tElapsed\tCommands\tOutputs\tKnown\n")?;
     for place in 0..from.builds.len() {
         let build = from.builds[place];
         let number = place + 1;
         let numbers = numbers_of(from, number);
-        let began = began_text(alloc, zone, build.began)?;
-        put!(&mut lines; {number} b"\t" [Part::Text(began.as_slice())] b"\t")?;
-        put!(&mut lines; [Part::Time(numbers.wall)] b"\t" {numbers.commands} b"\t"
+        put!(&mut lines; {number} b"\t")?;
+        append_began(zone, build.began, &mut lines)?;
+        put!(&mut lines; b"\t" [Part::Time(numbers.wall)] b"\t" {numbers.commands} b"\t"
             {numbers.outputs} b"\t" [Part::Text(border_word(&build))] b"\n")?;
     }
     Ok(lines)
 }
 
-fn heading_for(zone: &TimeZone) -> &'static [u8]
-    ensures { result.now ≡ heading_for zone.now }
+fn append_began(zone: &TimeZone, began: Option<u64>, lines: &mut Vec<u8>) -> AllocResult
+    ensures items { OnOk result ((text : List ℕ) × IsBegun zone.now began text × (lines.new.items ≡ lines.old.items ++ text)) }
 {
-    match zone {
-        TimeZone::UTC | TimeZone::Unknown => {
-            b"Build\tBegan (UTC)\tElapsed\tCommands\tOutputs\tKnown\n"
-        }
-        TimeZone::Fixed(_) | TimeZone::Posix(_) | TimeZone::Tzif(_) => {
-            b"Build\tBegan\tElapsed\tCommands\tOutputs\tKnown\n"
-        }
-    }
-}
-
-fn began_text(alloc: Global, zone: &TimeZone, began: Option<u64>) -> AllocResult<Vec<u8>>
-    ensures value { IfOk result (λ text. IsBegun zone.now began text.items) }
-{
-    let mut text = Vec::new(alloc);
     let Some(began) = began else {
-        append(b"unknown", &mut text)?;
-        return Ok(text);
+        return append(b"unknown", lines);
     };
     let nanosecond = i128::from(began) - ZERO;
     let DateTime { date, time } = zone.to_datetime(Timestamp { nanosecond });
-    put!(&mut text; {date.year.unsigned_abs()} b"-" {date.month / 10} {date.month % 10} b"-"
+    put!(lines; {date.year.unsigned_abs()} b"-" {date.month / 10} {date.month % 10} b"-"
         {date.day / 10} {date.day % 10} b" " {time.hour / 10} {time.hour % 10} b":"
-        {time.minute / 10} {time.minute % 10} b":" {time.second / 10} {time.second % 10})?;
-    Ok(text)
+        {time.minute / 10} {time.minute % 10} b":" {time.second / 10} {time.second % 10})
 }
 
 /// A line for each build: its number, how many commands and outputs it has, the milliseconds from its first START to its last END, the

@@ -1,12 +1,11 @@
 //! Which builds are told of, and their commands, one build after another on one clock.
 ghost use Rattle.std.specs.Prelude.{◌≡◌, ◌<◌, ◌^◌, map, IfOk, IfSome, All};
-ghost use Rattle.nl_reports.specs.{Jobs.{build_commands, is_manifest_alone, last_number, seen, told, build_jobs}, Choice.{chosen, chosen_jobs}, Spans.{IsEarly}, Frame.{first_began}, Rows.{by_start, spans}, Turns.{jobs_in_turn, turned}};
+ghost use Rattle.nl_reports.specs.{Jobs.{build_commands, is_manifest_alone, last_number, seen, told, build_jobs}, Choice.{chosen, chosen_jobs}, Spans.{IsEarly}, Rows.{by_start}, Turns.{jobs_in_turn, turned}};
 
-use crate::job::{
-    Job, JobsResult, between, commands_between, entries_to, jobs_by_start, jobs_from,
-};
+use crate::job::{Job, JobsResult, jobs_by_start, jobs_from, made_by};
 use crate::moments::Span;
 use nl_builds::Builds;
+use nl_tool_texts::between;
 use std::alloc::Global;
 
 /// Which builds a report tells of.
@@ -54,8 +53,7 @@ pub fn chosen_jobs<'s, 'a>(alloc: Global, scope: Scope, from: &'s Builds<'a>) ->
     let Some(Choice { first, last }) = chosen(scope, from) else {
         return Ok(Vec::new(alloc));
     };
-    let place = entries_to(first.saturating_sub(1), from);
-    let commands = commands_between(from, first, last);
+    let (commands, place) = made_by(from, first, last);
     jobs_by_start(jobs_from(alloc, place, commands, from.entries.as_slice())?)
 }
 
@@ -67,7 +65,7 @@ pub fn last_number(from: &Builds) -> usize
     let count = from.builds.as_slice().len();
     let mut number = count;
     'builds: while number > 0 {
-        let commands = commands_between(from, number, number);
+        let commands = made_by(from, number, number).0;
         if commands.len() != 1 || !commands[0].is_manifest {
             return number;
         }
@@ -93,12 +91,10 @@ pub fn jobs_in_turn<'s, 'a>(alloc: Global, scope: Scope, from: &'s Builds<'a>) -
     let mut clock = 0;
     let mut number = first;
     for _build in builds {
-        let place = entries_to(number.saturating_sub(1), from);
-        let commands = commands_between(from, number, number);
-        let unsorted = jobs_from(alloc, place, commands, from.entries.as_slice())?;
-        let sorted = jobs_by_start(unsorted)?;
+        let (commands, place) = made_by(from, number, number);
+        let sorted = jobs_by_start(jobs_from(alloc, place, commands, from.entries.as_slice())?)?;
         let jobs = sorted.as_slice();
-        let (start, began) = (clock, began_of(jobs));
+        let (start, began) = (clock, jobs.first().map_or(0, |job| job.span.began));
         for job in jobs {
             let span = Span {
                 began: turned(job.span.began, began, start),
@@ -110,12 +106,6 @@ pub fn jobs_in_turn<'s, 'a>(alloc: Global, scope: Scope, from: &'s Builds<'a>) -
         number += 1;
     }
     Ok(all)
-}
-
-fn began_of(jobs: &[Job]) -> u64
-    ensures { result ≡ first_began (spans (map seen jobs.now)) }
-{
-    jobs.first().map_or(0, |job| job.span.began)
 }
 
 fn turned(at: u64, began: u64, clock: u64) -> u64

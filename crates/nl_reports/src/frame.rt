@@ -1,11 +1,12 @@
-//! Where things stand in a picture, its axis of time and its curve, the bars of commands, and how moments are told.
+//! Where things stand in a picture, its axis of time and its curve, and the bars of commands.
 ghost use Rattle.std.specs.Prelude.{◌≡◌, ◌<◌, ◌≤◌, ◌^◌, ◌++◌, List, OnOk, All, set};
-ghost use Rattle.nl_reports.specs.{Bars.{bar, bar_before, base_of, kind_of, long_bar, name_text, opened, short_bar, short_in, width_of, with_short}, Curve.{curve}, Frame.{IsFrame, foot_of, frame_of, height, line_at, pitch, seconds, x_at, y_at}, Jobs.{seen}, Moments.{AreMoments}, Spans.{IsEarly}, Ticks.{step_of, ticks}, declared.moments.Span.{Span}};
+ghost use Rattle.nl_reports.specs.{Bars.{bar, bar_before, kind_of, long_bar, name_text, opened, short_bar, short_in, width_of, with_short}, Curve.{curve}, Frame.{IsFrame, foot_of, frame_of, height, line_at, pitch, x_at, y_at}, Jobs.{seen}, Moments.{AreMoments}, Spans.{IsEarly}, Ticks.{ticks}, declared.moments.Span.{Span}};
 
 use crate::job::Job;
-use crate::kinds::{KindRule, kind_of as kind_by, place, work_of};
 use crate::moments::{Moments, Near, Span};
-use nl_tool_texts::{AllocResult, Part, append, append_cut_name, append_label, put};
+use nl_tool_texts::{
+    AllocResult, Part, append, append_cut_name, append_label, base_of, place, put, step_of, work_of,
+};
 
 /// `wall` is in milliseconds, and `top` is the highest lane.
 #[derive(Clone, Copy, Drop)]
@@ -85,34 +86,6 @@ impl Frame {
     }
 }
 
-fn append_seconds(ms: u64, out: &mut Vec<u8>) -> AllocResult
-    ensures items { OnOk result (out.new.items ≡ out.old.items ++ seconds ms) }
-{
-    put!(out; {ms / 1000} b"." {ms % 1000 / 100} {ms % 100 / 10} {ms % 10})
-}
-
-// In milliseconds; a build has at most twelve steps.
-const STEPS: [u64; 26] = [
-    1, 2, 5, 10, 20, 50, 100, 200, 500, 1000, 2000, 5000, 10_000, 15_000, 30_000, 60_000, 120_000,
-    300_000, 900_000, 1_800_000, 3_600_000, 7_200_000, 18_000_000, 36_000_000, 72_000_000,
-    180000000,
-];
-
-const LONGEST: u64 = 360_000_000;
-
-/// The distance of two lines, in milliseconds.
-pub fn step_of(wall: u64) -> u64
-    ensures value { result ≡ step_of wall }
-    ensures some { 0 < result }
-{
-    for step in STEPS.as_slice() {
-        if wall <= *step * 12 {
-            return *step;
-        }
-    }
-    LONGEST
-}
-
 pub(crate) fn append_ticks(frame: &Frame, out: &mut Vec<u8>) -> AllocResult
     requires early { IsFrame frame.now }
     ensures items { OnOk result (out.new.items ≡ out.old.items ++ ticks frame.now) }
@@ -146,14 +119,6 @@ pub(crate) fn append_curve(frame: &Frame, moments: &Moments, out: &mut Vec<u8>) 
         b"\" text-anchor=\"end\">0</text>\n")
 }
 
-// A command whose bar would be narrower shares one with others.
-const NARROW: u64 = 5;
-
-// So wide is a letter, and so many bytes of a name stand in a bar.
-const LETTER: u64 = 70;
-
-const MOST: u64 = 22;
-
 /// Commands of one lane that begin at one pixel and are too short for a bar: the kind of the first, and how many there are.
 #[derive(Clone, Copy, Default, Drop)]
 pub struct Short {
@@ -175,21 +140,22 @@ pub(crate) fn append_bar(
     ensures items { OnOk result (out.new.items ≡ out.old.items ++ bar frame.now shorts.old.items (seen job.now, lane)) }
     ensures shorts { OnOk result (shorts.new.items ≡ opened frame.now shorts.old.items (seen job.now, lane)) }
 {
-    if width_of(frame, job) >= NARROW {
-        return append_long(frame, job, lane, out);
+    let x = frame.x_at(job.span.began);
+    let width = frame.x_at(job.span.closed()).saturating_sub(x);
+    // Half a pixel is too short for a bar.
+    if width >= 5 {
+        return append_long(frame, job, lane, width, out);
     }
-    let pixel = frame.x_at(job.span.began) / 10;
-    let at = lane as usize;
-    if at >= shorts.len() {
+    let pixel = x / 10;
+    let Some(held) = shorts.get_mut(lane as usize) else {
         return Ok(());
-    }
-    let held = shorts[at];
+    };
     if held.pixel == pixel {
-        shorts[at].count = held.count.saturating_add(1);
+        held.count = held.count.saturating_add(1);
         return Ok(());
     }
-    append_short(frame, lane, held, out)?;
-    shorts[at] = Short {
+    append_short(frame, lane, *held, out)?;
+    *held = Short {
         pixel,
         kind: kind_of(job),
         count: 1,
@@ -209,13 +175,13 @@ pub(crate) fn append_short(frame: &Frame, lane: u64, short: Short, out: &mut Vec
         b" short</title></rect>\n")
 }
 
-fn append_long(frame: &Frame, job: &Job, lane: u64, out: &mut Vec<u8>) -> AllocResult
+fn append_long(frame: &Frame, job: &Job, lane: u64, width: u64, out: &mut Vec<u8>) -> AllocResult
     requires early { IsEarly job.now.span }
+    requires width { width ≡ width_of frame.now (seen job.now) }
     ensures items { OnOk result (out.new.items ≡ out.old.items ++ long_bar frame.now (seen job.now) lane) }
 {
     let name = job.name();
     let x = frame.x_at(job.span.began);
-    let width = width_of(frame, job);
     // A bar that is wide enough has a gap behind it.
     let drawn = if width < 20 { width } else { width - 6 };
     put!(out; b"<rect class=\"k" {kind_of(job)} b"\" x=\"" {x} b"\" y=\"" {frame.y_at(lane)}
@@ -225,12 +191,10 @@ fn append_long(frame: &Frame, job: &Job, lane: u64, out: &mut Vec<u8>) -> AllocR
     if more > 0 {
         put!(out; b" and " {more} b" more")?;
     }
-    append(b"\n", out)?;
-    append_seconds(job.span.time(), out)?;
-    append(b" s from ", out)?;
-    append_seconds(job.span.began.saturating_sub(frame.began), out)?;
-    append(b" s</title></rect>\n", out)?;
-    let room = (width.saturating_sub(80) / LETTER).min(MOST);
+    put!(out; b"\n" [Part::Seconds(job.span.time())] b" s from "
+        [Part::Seconds(job.span.began.saturating_sub(frame.began))] b" s</title></rect>\n")?;
+    // So many letters of a name stand in a bar, 22 at most.
+    let room = (width.saturating_sub(80) / 70).min(22);
     if room < 4 || frame.top >= 64 {
         return Ok(());
     }
@@ -239,23 +203,8 @@ fn append_long(frame: &Frame, job: &Job, lane: u64, out: &mut Vec<u8>) -> AllocR
     append(b"</text>\n", out)
 }
 
-fn width_of(frame: &Frame, job: &Job) -> u64
-    requires early { IsEarly job.now.span }
-    ensures value { result ≡ width_of frame.now (seen job.now) }
-{
-    let x = frame.x_at(job.span.began);
-    frame.x_at(job.span.closed()).saturating_sub(x)
-}
-
 fn kind_of(job: &Job) -> u32
     ensures value { result ≡ kind_of (seen job.now) }
 {
     place(work_of(job.name()))
-}
-
-fn base_of(name: &[u8]) -> &[u8]
-    ensures { result.now ≡ base_of name.now }
-{
-    let folder = kind_by(KindRule::Folder, name);
-    &name[folder.len().min(name.len())..]
 }

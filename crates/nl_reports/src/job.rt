@@ -1,11 +1,11 @@
 //! The commands of a build, with the entries of their outputs, and its numbers.
-ghost use Rattle.std.specs.Prelude.{◌≡◌, map, IfOk, All};
-ghost use Rattle.nl_reports.specs.{Jobs.{between, commands_between, commands_to, entries_to, first_name, job_of, jobs_between, jobs_from, seen, told}, Rows.{by_start}, Spans.{IsEarly, span_of}, Numbers.{IsSmall, numbers_of, spans_of}};
+ghost use Rattle.std.specs.Prelude.{◌≡◌, map, IfOk, All, ◌-◌};
+ghost use Rattle.nl_reports.specs.{Jobs.{commands_between, commands_to, entries_to, first_name, jobs_between, jobs_from, seen, told}, Rows.{by_start}, Spans.{IsEarly}, Numbers.{IsSmall, numbers_of, spans_of}};
 
 use crate::moments::{NO_MOMENT, Span};
-use nl_builds::{Build, Builds, Command};
+use nl_builds::{Builds, Command};
 use nl_fields::EntryRef;
-use nl_tool_texts::AllocResult;
+use nl_tool_texts::{AllocResult, between};
 use std::alloc::Global;
 
 #[derive(Clone, Copy, Drop)]
@@ -20,22 +20,33 @@ impl<'a> Job<'_, 'a> {
     pub fn name(&self) -> &'a [u8]
         ensures { result.now ≡ first_name self.now.outputs.now }
     {
-        match self.outputs.first() {
-            Some(entry) => entry.name(),
-            None => b"",
-        }
+        let first = self.outputs.first();
+        first.map_or(b"".as_slice(), |entry| entry.name())
     }
 }
 
 pub type JobsResult<'s, 'a> = AllocResult<Vec<Job<'s, 'a>>>;
 
-/// Builds are numbered from 1. No commands of those that aren't there.
-pub(crate) fn commands_between<'s>(from: &'s Builds, first: usize, last: usize) -> &'s [Command]
-    ensures { result.now ≡ commands_between (told from.now) first last }
+/// The commands of builds, which are numbered from 1, and the place of their first entry. No commands of builds that aren't there.
+pub(crate) fn made_by<'s>(from: &'s Builds, first: usize, last: usize) -> (&'s [Command], usize)
+    ensures commands { result.0.now ≡ commands_between (told from.now) first last }
+    ensures place { result.1 ≡ entries_to (commands_to (first - 1) from.now.builds.items) from.now.commands.items }
 {
-    let start = commands_to(first.saturating_sub(1), from.builds.as_slice());
-    let end = commands_to(last, from.builds.as_slice());
-    between(start, end, from.commands.as_slice())
+    let (start, place) = ends_of(first.saturating_sub(1), from);
+    let (end, _) = ends_of(last, from);
+    (between(start, end, from.commands.as_slice()), place)
+}
+
+// How many commands the first builds have, and how many entries these.
+fn ends_of(count: usize, from: &Builds) -> (usize, usize)
+    ensures commands { result.0 ≡ commands_to count from.now.builds.items }
+    ensures entries { result.1 ≡ entries_to result.0 from.now.commands.items }
+{
+    let (builds, commands) = (from.builds.as_slice(), from.commands.as_slice());
+    let build = count.checked_sub(1).and_then(|at| builds.get(at));
+    let to = build.map_or(0, |build| build.to);
+    let command = to.checked_sub(1).and_then(|at| commands.get(at));
+    (to, command.map_or(0, |command| command.to))
 }
 
 /// The first command has the entries from `place` on.
@@ -51,52 +62,14 @@ pub(crate) fn jobs_from<'s, 'a>(
     let mut jobs = Vec::with_capacity(alloc, commands.len())?;
     let mut start = place;
     for command in commands {
-        jobs.push(job_of(start, command, entries))?;
+        jobs.push(Job {
+            span: Span::of(command),
+            hash: command.hash,
+            outputs: between(start, command.to, entries),
+        })?;
         start = command.to;
     }
     Ok(jobs)
-}
-
-/// The command has the entries from `place` on.
-pub(crate) fn job_of<'s, 'a>(
-    place: usize,
-    command: &Command,
-    entries: &'s [EntryRef<'a>],
-) -> Job<'s, 'a>
-    ensures value { seen result ≡ job_of entries.now place command.now }
-    ensures early { IsEarly result.span }
-{
-    Job {
-        span: Span::of(command),
-        hash: command.hash,
-        outputs: between(place, command.to, entries),
-    }
-}
-
-pub(crate) fn commands_to(count: usize, builds: &[Build]) -> usize
-    ensures { result ≡ commands_to count builds.now }
-{
-    let last = count.checked_sub(1).and_then(|at| builds.get(at));
-    last.map_or(0, |build| build.to)
-}
-
-/// How many entries the commands of so many builds have.
-pub(crate) fn entries_to(count: usize, from: &Builds) -> usize
-    ensures { result ≡ entries_to (commands_to count from.now.builds.items) from.now.commands.items }
-{
-    let (count, commands) = (
-        commands_to(count, from.builds.as_slice()),
-        from.commands.as_slice(),
-    );
-    let last = count.checked_sub(1).and_then(|at| commands.get(at));
-    last.map_or(0, |command| command.to)
-}
-
-pub(crate) fn between<T>(from: usize, to: usize, items: &[T]) -> &[T]
-    ensures { result.now ≡ between from to items.now }
-{
-    let front = &items[..to.min(items.len())];
-    &front[from.min(front.len())..]
 }
 
 /// Commands of one START keep their order.
@@ -132,17 +105,16 @@ pub fn numbers_of(from: &Builds, number: usize) -> Numbers
     let mut began = NO_MOMENT;
     let mut ended = 0;
     let mut total: u128 = 0;
-    let commands = commands_between(from, number, number);
+    let (commands, place) = made_by(from, number, number);
     for command in commands {
         let span = Span::of(command);
         began = began.min(span.began);
         ended = ended.max(span.ended);
         total += u128::from(span.time());
     }
-    let start = entries_to(number.saturating_sub(1), from);
     Numbers {
         commands: commands.len(),
-        outputs: entries_to(number, from).saturating_sub(start),
+        outputs: ends_of(number, from).1.saturating_sub(place),
         wall: ended.saturating_sub(began),
         total,
     }
@@ -157,11 +129,4 @@ pub fn spans_of(alloc: Global, jobs: &[Job]) -> AllocResult<Vec<Span>>
         spans.push(job.span)?;
     }
     Ok(spans)
-}
-
-pub(crate) fn spans_in(alloc: Global, commands: &[Command]) -> AllocResult<Vec<Span>>
-    ensures value { IfOk result (λ spans. spans.items ≡ map span_of commands.now) }
-    ensures early { IfOk result (λ spans. All IsEarly spans.items) }
-{
-    commands.iter().map(|it| Span::of(it)).collect(alloc)
 }

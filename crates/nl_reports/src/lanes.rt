@@ -62,19 +62,15 @@ impl Lanes {
         ensures ends { OnOk result (self.new.ends.items ≡ given lane end self.old.ends.items) }
         ensures low { OnOk result (AreLow self.new) }
     {
-        if lane < self.ends.len() {
-            let block = lane / BLOCK;
-            self.ends[lane] = end;
-            self.least[block] = self.least[block].min(end);
-            return Ok(());
-        }
-        let block = self.ends.len() / BLOCK;
-        if block < self.least.len() {
-            self.least[block] = self.least[block].min(end);
-        } else {
+        let block = lane / BLOCK;
+        if block == self.least.len() {
             self.least.push(end)?;
         }
-        self.ends.push(end)?;
+        if lane == self.ends.len() {
+            self.ends.push(end)?;
+        }
+        self.ends[lane] = end;
+        self.least[block] = self.least[block].min(end);
         Ok(())
     }
 }

@@ -2,8 +2,8 @@
 ghost use Rattle.std.specs.Prelude.{◌≡◌, ◌+◌, ◌*◌, ◌/◌, ◌<◌, ◌≤◌, ◌^◌, ◌++◌, ◌∷◌, [], ℕ, Bool, true, false, IfSome, List, Some, count_by, length, map, slice_index, slice_index_or, take, All, filter, flat_map, sum_by, IsPermutation};
 ghost use Rattle.serde_json.specs.{Data.{Data, array}, Read.{read}, View.{items_of}};
 ghost use Rattle.nl_builds.specs.Builds.{Told as BuildsTold};
-ghost use Rattle.nl_reports.specs.{Bars.{drawn_width, long_bar, width_of}, Compare.{Compared, Log, classes, compared, is_of, new_of, of_class, old_of, pairs, told_pair}, Frame.{x_at}, Jobs.{Job, first_name, jobs_from}, Kinds.{kinds, named, of_kind}, Lanes.{Begin, lanes}, Lasting.{Rise, has_outputs, is_among, jobs_left, last_of, lasting, marked, of_name}, Numbers.{total_time}, Critical.{weight as node_weight}, Paths.{Graph, IsPath, length_of}, Picture.{bars_of}, Plans.{IsPlan}, Reading.{FewTaken, IsEvent}, Rows.{Told, by_start, spans, told_jobs}, Shares.{AreSharesOf}, Spans.{IsEarly, time_of}, declared.moments.Span.{Span}, Sweep.{alone_time, busy_time, left_over, parts, runs_at, weight}, Ticks.{IsRound, step_of}, Times.{job_work, share_of, time_in, times_of, total}, Trace.{array_text, how_in, number_in, scoped_text, trace_events}, Turns.{jobs_in_turn}, Work.{is_same}, declared.kinds.Times.{Times}, declared.kinds.Work.{Work}, declared.kinds.Work.TheVariants.{Archive, Compile, Generate, Link, Other, Test}, declared.choice.Scope.{Scope}, declared.moments.Shares.{Shares}, declared.sides.Rules.{Rules}, declared.frame.Frame.{Frame}, declared.kinds.KindRule.{KindRule}};
-ghost use Rattle.nl_tool_texts.specs.Falling.{falling, ranked};
+ghost use Rattle.nl_reports.specs.{Bars.{drawn_width, long_bar, width_of}, Compare.{Compared, Log, classes, compared, is_of, new_of, of_class, old_of, pairs, told_pair}, Frame.{x_at}, Jobs.{Job, first_name, jobs_from}, Kinds.{kinds, named, of_kind}, Lanes.{Begin, lanes}, Lasting.{Rise, has_outputs, is_among, jobs_left, last_of, lasting, marked, of_name}, Numbers.{total_time}, Critical.{weight as node_weight}, Paths.{IsPath, length_of}, Picture.{bars_of}, Plans.{IsPlan}, Reading.{FewTaken, IsEvent}, Rows.{Told, by_start, spans, told_jobs}, Shares.{AreSharesOf}, Spans.{IsEarly, time_of}, declared.moments.Span.{Span}, Sweep.{alone_time, busy_time, left_over, parts, runs_at, weight}, Times.{job_work, share_of, time_in, times_of, total}, Trace.{array_text, how_in, number_in, scoped_text, trace_events}, Turns.{jobs_in_turn}, declared.kinds.Times.{Times}, declared.choice.Scope.{Scope}, declared.moments.Shares.{Shares}, declared.sides.Rules.{Rules}, declared.frame.Frame.{Frame}};
+ghost use Rattle.nl_tool_texts.specs.{Falling.{falling, ranked}, Graphs.{Graph}, Work.{is_same}, declared.kind.KindRule.{KindRule}, declared.kind.Work.{Work}, declared.kind.Work.TheVariants.{Archive, Compile, Generate, Link, Other, Test}};
 
 /// The weighted times of commands, and what is left over, add up to the time in which one command at least runs. What is left over is no
 /// more parts of a millisecond than the commands' own times have milliseconds. The sums of their shares are that time, and the time in which one
@@ -95,15 +95,13 @@ pub fn a_bar_takes_at_most_400_bytes()
 {}
 
 /// Each command counts for one kind of a picture; so the times of all kinds are those of all commands, and their parts are no more than a
-/// hundred. The lines of the axis stand a round time apart, and there are twelve steps at most.
+/// hundred.
 pub fn parts_add_up()
     ensures kinds { (js : List Job) (w : Work) → time_in (times_of js) w
         ≡ sum_by (λ (j : Job). time_of j.span) (filter (λ j. is_same w (job_work j)) js) }
     ensures times { (js : List Job) → total (times_of js) ≡ total_time js }
     ensures parts { (t : Times) → share_of t Compile + share_of t Link + share_of t Archive + share_of t Generate
         + share_of t Test + share_of t Other ≤ 100 }
-    ensures round { (wall : ℕ) → IsRound (step_of wall) }
-    ensures few { (wall : ℕ) → wall < 2 ^ 32 → wall / step_of wall ≤ 12 }
 {}
 
 /// No plan for so many processors ends before the critical path does, nor before so many have done all that there is to do.

@@ -1,10 +1,9 @@
 //! When commands run, begin and end, and how much of the time of a build each one counts for, by a sweep over these moments.
 ghost use Rattle.std.specs.Prelude.{◌≡◌, ◌+◌, ◌-◌, ◌*◌, ◌<◌, ◌≤◌, ◌^◌, ℕ, List, [], length, map, slice_index, IfOk, OnOk, All, Contains, IsPermutation};
-ghost use Rattle.nl_reports.specs.{Moments.{AreMoments}, Shares.{AreSharesOf}, Spans.{IsEarly, closed_of, span_of, time_of}, Sweep.{alone_time, busy_time, most_at_once, running, weight}, SweepSteps.{AreSums, IsLow, Rises}, declared.moments.Span.{Span}};
+ghost use Rattle.nl_reports.specs.{Moments.{AreMoments}, Shares.{AreSharesOf}, Spans.{IsEarly, closed_of, span_of, time_of}, Sweep.{alone_time, busy_time, most_at_once, running, weight}, SweepSteps.{Rises}, declared.moments.Span.{Span}};
 
-use crate::last_entries::item_at;
 use nl_builds::Command;
-use nl_tool_texts::AllocResult;
+use nl_tool_texts::{AllocResult, item_at};
 use std::alloc::Global;
 
 // Later than each moment.
@@ -119,11 +118,12 @@ pub struct Shares {
 }
 
 impl Shares {
-    pub fn of(alloc: Global, moments: Moments) -> AllocResult<Shares>
-        requires order { Rises moments.starts.items × Rises moments.ends.items }
-        ensures value { (cs : List Span) → AreMoments cs moments → IfOk result (AreSharesOf cs) }
-        ensures sums { (cs : List Span) → AreMoments cs moments → IfOk result (λ s. (s.sums.busy ≡ busy_time cs) × (s.sums.alone ≡ alone_time cs)) }
+    pub fn of(alloc: Global, spans: &[Span]) -> AllocResult<Shares>
+        requires early { All IsEarly spans.now }
+        ensures value { IfOk result (AreSharesOf spans.now) }
+        ensures sums { IfOk result (λ s. (s.sums.busy ≡ busy_time spans.now) × (s.sums.alone ≡ alone_time spans.now)) }
     {
+        let moments = Moments::of(alloc, spans)?;
         let starts = moments.starts.as_slice();
         let ends = moments.ends.as_slice();
         let mut sums = Sums::default();
@@ -133,14 +133,24 @@ impl Shares {
             let begun = at_starts.len();
             let ended = at_ends.len();
             let running = (begun as u64).saturating_sub(ended as u64);
-            // A start comes before an end at the same moment.
-            if begun < starts.len() && (ended >= ends.len() || starts[begun] <= ends[ended]) {
-                sums.advance(starts[begun], running);
-                at_starts.push(sums.shares)?;
-                continue;
+            let start = item_at(starts, begun, NO_MOMENT);
+            let end = item_at(ends, ended, NO_MOMENT);
+            let next = start.min(end);
+            let len = next - sums.at;
+            sums.at = next;
+            if running > 0 {
+                sums.shares += len * (PARTS / running);
+                sums.busy += len;
             }
-            sums.advance(ends[ended], running);
-            at_ends.push(sums.shares)?;
+            if running == 1 {
+                sums.alone += len;
+            }
+            // A start comes before an end at the same moment.
+            if begun < starts.len() && start <= end {
+                at_starts.push(sums.shares)?;
+            } else {
+                at_ends.push(sums.shares)?;
+            }
         }
         Ok(Shares {
             moments,
@@ -166,11 +176,8 @@ impl Shares {
     pub fn weight(&self, near: &mut Near, span: &Span) -> u64
         ensures value { (cs : List Span) → AreSharesOf cs self.now → Contains cs span.now → result ≡ weight cs span.now }
     {
-        if span.ended <= span.began {
-            return 0;
-        }
         near.begun = up_to(self.moments.starts.as_slice(), near.begun, span.began);
-        near.ended = up_to(self.moments.ends.as_slice(), near.ended, span.ended);
+        near.ended = up_to(self.moments.ends.as_slice(), near.ended, span.closed());
         let before = item_at(&self.at_starts, near.begun.saturating_sub(1), 0);
         let after = item_at(&self.at_ends, near.ended.saturating_sub(1), 0);
         after.saturating_sub(before)
@@ -187,26 +194,4 @@ pub struct Sums {
     pub shares: u64,
     pub busy: u64,
     pub alone: u64,
-}
-
-impl Sums {
-    // `running` commands run up to the next moment.
-    fn advance(&mut self, next: u64, running: u64)
-        requires order { self.old.at ≤ next }
-        requires room { next ≤ 2 ^ 32 }
-        requires fits { IsLow self.old }
-        ensures value { (k : ℕ → ℕ) → ((t : ℕ) → self.old.at ≤ t → t < next → k t ≡ running) → AreSums k self.old → AreSums k self.new }
-        ensures fits { IsLow self.new }
-        ensures at { self.new.at ≡ next }
-    {
-        let len = next - self.at;
-        self.at = next;
-        if running > 0 {
-            self.shares += len * (PARTS / running);
-            self.busy += len;
-        }
-        if running == 1 {
-            self.alone += len;
-        }
-    }
 }

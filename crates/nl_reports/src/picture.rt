@@ -1,24 +1,22 @@
 //! The text of `picture`: builds as SVG.
 ghost use Rattle.std.specs.Prelude.{◌≡◌, ℕ, ◌<◌, ◌+◌, ◌^◌, ◌++◌, ◌*◌, ◌/◌, Some, map, max, option_map, replicate, IfErr, IfOk, OnOk, All};
-ghost use Rattle.nl_reports.specs.{Bars.{no_short}, Frame.{IsFrame}, GraphText.{seen_graph}, Jobs.{seen, told}, Picture.{IsPicture, bars, end, known_in, known_line, legend_text, longest, outlined, picture, start}, Reaches.{rans_of}, Spans.{IsEarly, time_of}, Work.{place, word}};
-ghost use Rattle.nl_tool_texts.specs.Writing.{IsFoundFault, IsWriteFault, PrintsInPieces, Writes};
+ghost use Rattle.nl_reports.specs.{Bars.{no_short}, Frame.{IsFrame}, Jobs.{seen, told}, Picture.{IsPicture, bars, end, known_in, legend_text, longest, outlined, picture, start}, Reaches.{rans_of}, Spans.{IsEarly, time_of}};
+ghost use Rattle.nl_tool_texts.specs.{GraphText.{seen_graph}, Writing.{IsFoundFault, IsWriteFault, PrintsInPieces, Writes}, Work.{place, word}};
 
 use crate::choice::{LAST, Scope, chosen, jobs_in_turn};
 use crate::critical::{FoundPath, critical_of};
 use crate::frame::{Frame, Short, append_bar, append_curve, append_short, append_ticks};
-use crate::graph::NinjaGraph;
 use crate::job::{Job, spans_of};
-use crate::kinds::{Times, Work, place, word};
+use crate::kinds::Times;
 use crate::lanes::lanes_of;
-use crate::last_entries::item_at;
 use crate::moments::Moments;
 use crate::summary::taken_in;
 use crate::trace::FULL;
 use nl_builds::Builds;
 use nl_table::Secret;
 use nl_tool_texts::{
-    AllocResult, Part, Ranking, ToolFault, ToolResult, append, append_label, highest, put,
-    write_full, write_out,
+    AllocResult, NinjaGraph, Part, Ranking, ToolFault, ToolResult, Work, append, append_label,
+    highest, item_at, place, put, word, write_full, write_out,
 };
 use std::alloc::Global;
 use std::io::Write;
@@ -31,18 +29,6 @@ const STYLE: &[u8] =
 // An outline for the commands of a critical path, and what it is called.
 const OUTLINED: &[u8] =
     b"<style>.c{fill:none;stroke:#d00000;stroke-width:30;pointer-events:none}@media(prefers-color-scheme:dark){.c{stroke:#ff6b6b}}</style>\n<rect class=\"c\" x=\"11800\" y=\"540\" width=\"140\" height=\"140\"/><text x=\"12000\" y=\"655\">critical path</text>\n";
-
-/// How what is drawn is known.
-#[derive(Clone, Copy, Drop)]
-pub enum Known {
-    AsWritten,
-    /// Later builds may have taken so many of its outputs.
-    FoundAgain { taken: usize },
-    /// All builds are drawn, and some of them were found again.
-    SomeAgain,
-    /// There is no such build, but so many.
-    Missing { builds: usize },
-}
 
 /// Writes a picture of builds, one after another on one clock: each command is a bar in a lane, in which no other runs as it does, with its
 /// name where there is room for it, and with its first output, how many more it has, and its time as a title. Commands that are too short
@@ -61,40 +47,28 @@ pub fn draw_builds<W: Write>(
         (W.contents writer.old) (W.contents writer.new) result }
     ensures faults { IfErr result (IsFoundFault graph.entry) }
 {
-    let known = known_in(scope, from);
     let jobs = jobs_in_turn(alloc, scope, from)?;
     let jobs = jobs.as_slice();
     let Some(graph) = graph else {
-        return write_jobs(alloc, known, None, jobs, writer);
+        return write_jobs(alloc, scope, from, None, jobs, writer);
     };
     let Some(found) = critical_of(alloc, secret, graph, jobs)? else {
         return Err(ToolFault::OtherGraph);
     };
-    write_jobs(alloc, known, Some(&found.path), jobs, writer)
-}
-
-fn known_in(scope: Scope, from: &Builds) -> Known
-    ensures { result ≡ known_in scope (told from.now) }
-{
-    let builds = from.builds.len();
-    match (scope, chosen(scope, from), taken_in(scope, from)) {
-        (_, None, _) => Known::Missing { builds },
-        (_, Some(_), None) => Known::AsWritten,
-        (Scope::All, Some(_), Some(_)) => Known::SomeAgain,
-        (Scope::Last | Scope::Numbered(_), Some(_), Some(taken)) => Known::FoundAgain { taken },
-    }
+    write_jobs(alloc, scope, from, Some(&found.path), jobs, writer)
 }
 
 #[tactic(auto, using(crate::proofs::DrawLemmas::none_drawn))]
 fn write_jobs<W: Write>(
     alloc: Global,
-    known: Known,
+    scope: Scope,
+    from: &Builds,
     path: Option<&FoundPath>,
     jobs: &[Job],
     writer: &mut W,
 ) -> ToolResult
     requires early { All (λ j. IsEarly j.span) jobs.now }
-    ensures writes { Writes (W.contents writer.old) (W.contents writer.new) (picture known (rans_of path.entry) (map seen jobs.now)) result }
+    ensures writes { Writes (W.contents writer.old) (W.contents writer.new) (picture (known_in scope (told from.now)) (rans_of path.entry) (map seen jobs.now)) result }
     ensures faults { IfErr result IsWriteFault }
 {
     let spans = spans_of(alloc, jobs)?;
@@ -103,13 +77,10 @@ fn write_jobs<W: Write>(
     let frame = Frame::of(spans.as_slice(), lanes.as_slice());
     let lanes = lanes.as_slice();
     let mut held = Vec::new(alloc);
-    append_start(&frame, known, jobs, &mut held)?;
-    let mut end = Vec::new(alloc);
-    append(b"</g>\n", &mut end)?;
-    append_curve(&frame, &moments, &mut end)?;
-    append_outlined(&frame, lanes, path, &mut end)?;
-    append_longest(&frame, jobs, &mut end)?;
-    let mut shorts = none_short(alloc, frame.top)?;
+    append_start(&frame, scope, from, jobs, &mut held)?;
+    let mut shorts = Vec::new(alloc);
+    shorts.resize(frame.top as usize, Short::default())?;
+    shorts.push(Short::default()).or(Err(ToolFault::Memory))?;
     for i in 0..jobs.len() {
         append_bar(&frame, &jobs[i], lanes[i], &mut shorts, &mut held)?;
         write_full(FULL, &mut held, writer)?;
@@ -120,26 +91,31 @@ fn write_jobs<W: Write>(
         append_short(&frame, lane as u64, shorts[lane], &mut held)?;
         write_full(FULL, &mut held, writer)?;
     }
-    append(end.as_slice(), &mut held)?;
+    append(b"</g>\n", &mut held)?;
+    append_curve(&frame, &moments, &mut held)?;
+    append_outlined(&frame, lanes, path, &mut held)?;
+    append_longest(&frame, jobs, &mut held)?;
     write_out(held.as_slice(), writer)
 }
 
-fn append_start(frame: &Frame, known: Known, jobs: &[Job], out: &mut Vec<u8>) -> AllocResult
+fn append_start(
+    frame: &Frame,
+    scope: Scope,
+    from: &Builds,
+    jobs: &[Job],
+    out: &mut Vec<u8>,
+) -> AllocResult
     requires early { All (λ j. IsEarly j.span) jobs.now }
     requires frame { IsFrame frame.now }
-    ensures items { OnOk result (out.new.items ≡ out.old.items ++ start frame.now known (map seen jobs.now)) }
+    ensures items { OnOk result (out.new.items ≡ out.old.items ++ start frame.now (known_in scope (told from.now)) (map seen jobs.now)) }
 {
     let times = Times::of(jobs);
     let total = times.total();
     let commands = jobs.len() as u64;
     let tenths = total * 10 / u128::from(frame.wall.max(1));
-    let word: &[u8] = if commands == 1 {
-        b" command in "
-    } else {
-        b" commands in "
-    };
+    let s: &[u8] = if commands == 1 { b"" } else { b"s" };
     let mut name = Vec::new(*out.allocator());
-    put!(&mut name; {commands} [Part::Text(word)] [Part::Time(frame.wall)] b", " {tenths / 10} b"."
+    put!(&mut name; {commands} b" command" [Part::Text(s)] b" in " [Part::Time(frame.wall)] b", " {tenths / 10} b"."
         {tenths % 10} b" at a time")?;
     let name = Part::Text(name.as_slice());
     let height = frame.line_at(commands.min(LISTED) + 1);
@@ -147,7 +123,7 @@ fn append_start(frame: &Frame, known: Known, jobs: &[Job], out: &mut Vec<u8>) ->
         b"\" viewBox=\"0 0 16000 " {height}
         b"\" role=\"img\" aria-labelledby=\"t\" font-family=\"sans-serif\" font-size=\"120\">\n<title id=\"t\">"
         [name] [Part::Text(STYLE)] [name] b"</text>\n")?;
-    append_known(known, out)?;
+    append_known(scope, from, out)?;
     append_kind(total, times.by_place[0], Work::Compile, out)?;
     append_kind(total, times.by_place[1], Work::Link, out)?;
     append_kind(total, times.by_place[2], Work::Archive, out)?;
@@ -169,40 +145,31 @@ fn append_outlined(
     let Some(found) = path else {
         return Ok(());
     };
-    let commands = found.commands.as_slice();
     append(OUTLINED, out)?;
-    for i in 0..commands.len() {
-        let ran = &commands[i];
+    let commands = found.commands.as_slice();
+    for ran in commands {
         let x = frame.x_at(ran.span.began.min(LAST));
         let end = frame.x_at(ran.span.closed().min(LAST));
-        let y = frame.y_at(item_at(lanes, ran.place, 0));
-        put!(out; b"<rect class=\"c\" x=\"" {x} b"\" y=\"" {y} b"\" width=\""
-            {end.saturating_sub(x).max(10)} b"\" height=\"" {frame.height()} b"\"/>\n")?;
+        put!(out; b"<rect class=\"c\" x=\"" {x} b"\" y=\"" {frame.y_at(item_at(lanes, ran.place, 0))}
+            b"\" width=\"" {end.saturating_sub(x).max(10)} b"\" height=\"" {frame.height()} b"\"/>\n")?;
     }
     Ok(())
 }
 
-fn none_short(alloc: Global, top: u64) -> AllocResult<Vec<Short>>
-    ensures value { IfOk result (λ shorts. shorts.items ≡ replicate (top + 1) no_short) }
+fn append_known(scope: Scope, from: &Builds, out: &mut Vec<u8>) -> AllocResult
+    ensures items { OnOk result (out.new.items ≡ out.old.items ++ known_in scope (told from.now)) }
 {
-    let mut shorts = vec![in alloc; Short::default(); top as usize]?;
-    shorts.push(Short::default())?;
-    Ok(shorts)
-}
-
-fn append_known(known: Known, out: &mut Vec<u8>) -> AllocResult
-    ensures items { OnOk result (out.new.items ≡ out.old.items ++ known_line known) }
-{
-    match known {
-        Known::AsWritten => Ok(()),
-        Known::FoundAgain { taken } => put!(out;
-            b"<text class=\"m\" x=\"15400\" y=\"380\" text-anchor=\"end\">found again: later builds may have taken "
-            {taken} b" of its outputs</text>\n"),
-        Known::SomeAgain => put!(out;
-            b"<text class=\"m\" x=\"15400\" y=\"380\" text-anchor=\"end\">builds were found again</text>\n"),
-        Known::Missing { builds } => put!(out;
+    let builds = from.builds.len();
+    match (scope, chosen(scope, from), taken_in(scope, from)) {
+        (_, None, _) => put!(out;
             b"<text class=\"m\" x=\"15400\" y=\"380\" text-anchor=\"end\">no such build; builds: "
             {builds} b"</text>\n"),
+        (_, Some(_), None) => Ok(()),
+        (Scope::All, Some(_), Some(_)) => put!(out;
+            b"<text class=\"m\" x=\"15400\" y=\"380\" text-anchor=\"end\">builds were found again</text>\n"),
+        (Scope::Last | Scope::Numbered(_), Some(_), Some(taken)) => put!(out;
+            b"<text class=\"m\" x=\"15400\" y=\"380\" text-anchor=\"end\">found again: later builds may have taken "
+            {taken} b" of its outputs</text>\n"),
     }
 }
 

@@ -1,14 +1,16 @@
 //! The commands of two logs, side by side, and the text of `compare`.
 ghost use Rattle.std.specs.Prelude.{◌≡◌, ◌++◌, ℕ, List, map, option_map, IfOk, OnOk};
-ghost use Rattle.nl_reports.specs.{Compare.{are_comparable, class_text, compare_text, compared, compared_of, cost_of, head, held_side, job_at, listed_lines, new_time, of_class, old_time, or_unfinished, pair_of, partner, side_of, time_in, told_pair, total_line, waits, with_taken}, Jobs.{seen}, Outputs.{HoldPlaces}};
+ghost use Rattle.nl_reports.specs.{Compare.{are_comparable, class_lines, compare_text, compared, compared_of, cost_of, head, held_side, job_at, or_unfinished, pair_of, partner, side_of, time_in, told_pair, total_line, waits, with_taken}, Jobs.{seen}, Outputs.{HoldPlaces}};
 
 use crate::critical::append_keyed;
 use crate::job::{Job, jobs_from};
-use crate::last_entries::{Outputs, any_named, item_at, names_of, outputs_of, set_at};
+use crate::last_entries::{Outputs, any_named, names_of, outputs_of};
 use indexmap::IndexSet;
 use nl_builds::Builds;
 use nl_table::{NameKey, Secret};
-use nl_tool_texts::{AllocResult, Part, Ranking, append, append_line, highest, put};
+use nl_tool_texts::{
+    AllocResult, Part, Ranking, append, append_line, highest, item_at, put, set_at,
+};
 use nl_versions::LogVersion;
 use std::alloc::Global;
 
@@ -114,13 +116,11 @@ fn rows_of<'a>(
         let other = take_partner(&outputs, new.jobs.as_slice(), left.as_mut_slice(), job);
         rows.push(met(rules, old, new, job, other))?;
     }
-    let mut place = 0;
-    for other in &new.jobs {
+    for (place, other) in new.jobs.iter().enumerate() {
         if item_at(left.as_slice(), place, false) {
             let (waits, time) = (old.waits(other), new.time(other));
             rows.push(row(Class::New, waits, 0, time, other.name()))?;
         }
-        place += 1;
     }
     Ok(rows)
 }
@@ -187,32 +187,6 @@ fn row(class: Class, is_waiting: bool, old: u64, new: u64, output: &[u8]) -> Com
     }
 }
 
-fn of_class<'a>(
-    alloc: Global,
-    class: Class,
-    rows: &[ComparedRow<'a>],
-) -> AllocResult<Vec<ComparedRow<'a>>>
-    ensures value { IfOk result (λ kept. map compared_of kept.items ≡ of_class class (map compared_of rows.now)) }
-{
-    let mut kept = Vec::new(alloc);
-    for row in rows {
-        if row.class as u8 == class as u8 {
-            kept.push(*row)?;
-        }
-    }
-    Ok(kept)
-}
-
-/// How long commands took in the old log and in the new one, in milliseconds.
-fn times(rows: &[ComparedRow]) -> (u128, u128)
-    ensures old { result.0 ≡ old_time (map compared_of rows.now) }
-    ensures new { result.1 ≡ new_time (map compared_of rows.now) }
-{
-    let old = rows.iter().map(|row| u128::from(row.old)).sum();
-    let new = rows.iter().map(|row| u128::from(row.new)).sum();
-    (old, new)
-}
-
 #[derive(Clone, Copy, Drop)]
 struct ByCost;
 
@@ -224,15 +198,13 @@ impl<'a> Ranking<ComparedRow<'a>> for ByCost {
     }
 }
 
-// Each class; all but the last are listed.
-const CLASSES: [Class; 7] = [
+const LISTED: [Class; 6] = [
     Class::New,
     Class::Gone,
     Class::Changed,
     Class::Slower,
     Class::Faster,
     Class::Unfinished,
-    Class::Same,
 ];
 
 /// What an old log and a new one say of their commands: whether the hashes of these were compared, which logs of version 7 and of older
@@ -253,64 +225,46 @@ pub fn compare_lines(
 {
     let hashes = old.version.is_rapid() == new.version.is_rapid();
     let rows = compared(alloc, secret, Rules { hashes, least }, old, new)?;
-    let mut lines = Vec::new(alloc);
     let head: &[u8] = match (screen, hashes) {
         (false, true) => b"hashes\tcompared\n",
         (false, false) => b"hashes\tnot-compared\n",
         (true, true) => b"Commands\tChange\tOld\tNew\tClass\n",
         (true, false) => b"Hashes weren't compared\nCommands\tChange\tOld\tNew\tClass\n",
     };
+    let (mut lines, mut lists) = (Vec::new(alloc), Vec::new(alloc));
     append(head, &mut lines)?;
-    let all = CLASSES.as_slice();
-    for class in all {
-        append_total(screen, *class, rows.as_slice(), &mut lines)?;
+    let rows = rows.as_slice();
+    for class in LISTED.as_slice() {
+        append_class(screen, most, *class, rows, &mut lines, &mut lists)?;
     }
-    for class in &all[..6] {
-        let kept = of_class(alloc, *class, rows.as_slice())?;
-        let listed = highest(alloc, &ByCost, most, kept.as_slice())?;
-        append_class(screen, *class, listed.as_slice(), &mut lines)?;
-    }
+    // Equal ones aren't listed.
+    append_class(screen, 0, Class::Same, rows, &mut lines, &mut lists)?;
+    append(lists.as_slice(), &mut lines)?;
     Ok(lines)
 }
 
-fn append_total(screen: bool, class: Class, rows: &[ComparedRow], out: &mut Vec<u8>) -> AllocResult
-    ensures items { OnOk result (out.new.items ≡ out.old.items ++ total_line screen (map compared_of rows.now) class) }
+// Appends the total of a class to the lines, and so many of its commands at most to the lists.
+fn append_class(
+    screen: bool,
+    most: usize,
+    class: Class,
+    rows: &[ComparedRow],
+    lines: &mut Vec<u8>,
+    lists: &mut Vec<u8>,
+) -> AllocResult
+    ensures total { OnOk result (lines.new.items ≡ lines.old.items ++ total_line screen (map compared_of rows.now) class) }
+    ensures listed { OnOk result (lists.new.items ≡ lists.old.items ++ class_lines screen most (map compared_of rows.now) class) }
 {
-    let kept = of_class(*out.allocator(), class, rows)?;
-    let (old, new) = times(kept.as_slice());
-    let class = Part::Text(class_text(class));
-    let count = Part::Number(kept.len() as u128);
-    let change = Part::Change(screen, old, new);
-    let old = Part::Took(screen, old);
-    let new = Part::Took(screen, new);
-    if screen {
-        return append_line(&[count, change, old, new, class], out);
-    }
-    append_line(&[Part::Text(b"total"), class, count, change, old, new], out)
-}
-
-fn append_class(screen: bool, class: Class, rows: &[ComparedRow], out: &mut Vec<u8>) -> AllocResult
-    ensures items { OnOk result (out.new.items ≡ out.old.items ++ listed_lines screen class (map compared_of rows.now)) }
-{
-    if screen && !rows.is_empty() {
-        put!(out; b"\nCommands: " [Part::Text(class_text(class))]
-            b"\nChange\tOld\tNew\tOutput\n")?;
-    }
+    let mut kept = Vec::new(*lines.allocator());
+    let (mut before, mut after) = (0, 0);
     for row in rows {
-        let change = Part::Change(screen, u128::from(row.old), u128::from(row.new));
-        let old = Part::Took(screen, u128::from(row.old));
-        let new = Part::Took(screen, u128::from(row.new));
-        let class = Part::Text(class_text(row.class));
-        let output = Part::Text(row.output);
-        append_keyed(screen, &[class, change, old, new, output], out)?;
+        if row.class as u8 == class as u8 {
+            kept.push(*row)?;
+            before += u128::from(row.old);
+            after += u128::from(row.new);
+        }
     }
-    Ok(())
-}
-
-fn class_text(class: Class) -> &'static [u8]
-    ensures { result.now ≡ class_text class }
-{
-    match class {
+    let name: &[u8] = match class {
         Class::New => b"new",
         Class::Gone => b"gone",
         Class::Changed => b"changed",
@@ -318,5 +272,27 @@ fn class_text(class: Class) -> &'static [u8]
         Class::Faster => b"faster",
         Class::Unfinished => b"unfinished",
         Class::Same => b"same",
+    };
+    let (name, total) = (Part::Text(name), Part::Text(b"total"));
+    let count = Part::Number(kept.len() as u128);
+    let change = Part::Change(screen, before, after);
+    let (old, new) = (Part::Took(screen, before), Part::Took(screen, after));
+    if screen {
+        append_line(&[count, change, old, new, name], lines)?;
+    } else {
+        append_line(&[total, name, count, change, old, new], lines)?;
     }
+    let listed = highest(*lines.allocator(), &ByCost, most, kept.as_slice())?;
+    let listed = listed.as_slice();
+    if screen && !listed.is_empty() {
+        put!(lists; b"\nCommands: " [name] b"\nChange\tOld\tNew\tOutput\n")?;
+    }
+    for row in listed {
+        let (old, new) = (u128::from(row.old), u128::from(row.new));
+        let output = Part::Text(row.output);
+        let change = Part::Change(screen, old, new);
+        let (old, new) = (Part::Took(screen, old), Part::Took(screen, new));
+        append_keyed(screen, &[name, change, old, new, output], lists)?;
+    }
+    Ok(())
 }

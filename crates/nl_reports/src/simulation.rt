@@ -1,12 +1,10 @@
 //! When commands would begin, if so many ran at a time: a hint, which is checked by those who use it.
 
-use crate::critical::Reaches;
-use crate::graph::NONE;
-use crate::job::{Job, between};
-use crate::last_entries::{item_at, set_at};
+use crate::critical::{Critical, Reaches};
+use crate::job::Job;
 use crate::moments::Span;
-use nl_builds::Stamps;
-use nl_tool_texts::AllocResult;
+use nl_tool_texts::{AllocResult, NONE, between, item_at, set_at};
+use nl_versions::Stamps;
 use std::alloc::AllocError;
 use std::cmp::Reverse;
 use std::collections::BinaryHeap;
@@ -24,16 +22,16 @@ pub(crate) struct Waiting {
 }
 
 impl Waiting {
-    pub(crate) fn of(reaches: &Reaches, jobs: &[Job], stamps: Stamps) -> AllocResult<Waiting> {
-        let alloc = reaches.allocator();
+    pub(crate) fn of(found: &Critical, jobs: &[Job], stamps: Stamps) -> AllocResult<Waiting> {
+        let alloc = *found.places.allocator();
         // How far it is in commands: each takes one millisecond.
         let steps = vec![in alloc; Span { began: 0, ended: 1 }; jobs.len()]?;
-        let chains = reaches.in_plan(steps.as_slice())?;
-        let nodes = reaches.graph.nodes.len();
+        let chains = Reaches::of(found.graph, &found.places, steps.as_slice())?;
+        let nodes = found.places.len();
         let mut keys = vec![in alloc; (u128::MAX, NONE); jobs.len()]?;
         let mut parts = Vec::with_capacity(alloc, nodes)?;
-        for node in 0..nodes {
-            let command = reaches.ran_at(node).map_or(NONE, |ran| ran.place);
+        for (node, place) in found.places.iter().enumerate() {
+            let command = place.map_or(NONE, |(_, command)| command);
             parts.push(command.min(keys.len().saturating_add(node)))?;
             if command < keys.len() {
                 let (least, first) = keys[command];
@@ -47,8 +45,8 @@ impl Waiting {
             }
         }
         let mut waits = vec![in alloc; 0_usize; keys.len().saturating_add(nodes)]?;
-        let mut edges = Vec::with_capacity(alloc, reaches.graph.edges.len())?;
-        for edge in &reaches.graph.edges {
+        let mut edges = Vec::with_capacity(alloc, found.graph.edges.len())?;
+        for edge in &found.graph.edges {
             let to = item_at(&parts, edge.to, NONE);
             edges.push((item_at(&parts, edge.from, NONE), to))?;
             let count = item_at(&waits, to, 0).saturating_add(1);

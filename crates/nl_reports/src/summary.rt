@@ -1,15 +1,15 @@
 //! The text of `summary`.
 ghost use Rattle.std.specs.Prelude.{◌≡◌, ◌+◌, ◌++◌, ◌<◌, ◌^◌, ℕ, true, map, IfOk, OnOk};
-ghost use Rattle.nl_reports.specs.{Jobs.{build_jobs, told}, Numbers.{spans_of}, Rows.{rank_told, told_command, told_jobs, weights_of}, Summary.{AreTotalsOf, again_in, count_line, first_of, lists_text, most_taken, no_totals, number_lines, rows_from, slowest_line, summary_text, taken_in, title, total_of, totals_from, unfinished_line, with_build}, declared.rows.Rank.TheVariants.{Time}};
+ghost use Rattle.nl_reports.specs.{Jobs.{build_jobs, told}, Kinds.{AreSumsOf}, Numbers.{spans_of}, Rows.{rank_told, told_row, told_jobs}, Summary.{AreTotalsOf, count_line, first_of, lists_text, most_taken, no_totals, number_lines, rows_from, slowest_line, summary_text, taken_in, title, total_of, totals_from, unfinished_line, with_build}, declared.rows.Rank.TheVariants.{Time}};
 ghost use Rattle.nl_tool_texts.specs.Falling.{falling};
 
 use crate::choice::{Scope, chosen};
-use crate::job::{between, commands_between, entries_to, job_of, numbers_of, spans_in};
+use crate::job::{jobs_from, made_by, numbers_of, spans_of};
 use crate::kinds::kinds_of;
-use crate::moments::{Moments, Near, Shares, Span};
-use crate::rows::{Listed, Lists, Rank, Ranked, Weighed};
+use crate::moments::{Near, Shares};
+use crate::rows::{Lists, Rank, Ranked, Row};
 use nl_builds::{Build, Builds, How};
-use nl_tool_texts::{AllocResult, Part, append_line, highest, put, ratio};
+use nl_tool_texts::{AllocResult, Part, append_line, between, highest, put, ratio};
 use std::alloc::Global;
 
 /// The sums of the numbers of builds, one after another. Times are in milliseconds.
@@ -26,23 +26,18 @@ pub struct Totals {
 
 impl Totals {
     // Adds the numbers of a build, and puts its commands behind others.
-    fn add<'a>(
-        &mut self,
-        from: &Builds<'a>,
-        number: usize,
-        found: &mut Vec<Weighed<'a>>,
-    ) -> AllocResult
+    fn add<'a>(&mut self, from: &Builds<'a>, number: usize, found: &mut Vec<Row<'a>>) -> AllocResult
         requires few { (n : ℕ) × ((n < 2 ^ 63) × AreTotalsOf n self.old) }
         ensures totals { OnOk result (self.new ≡ with_build self.old (told from.now) number) }
         ensures few { (n : ℕ) → AreTotalsOf n self.old → OnOk result (AreTotalsOf (n + 1) self.new) }
-        ensures commands { OnOk result (map told_command found.new.items ≡ map told_command found.old.items ++ told_jobs (build_jobs (told from.now) number)) }
+        ensures commands { OnOk result (map told_row found.new.items ≡ map told_row found.old.items ++ told_jobs (build_jobs (told from.now) number)) }
+        ensures small { AreSumsOf 1 (map told_row found.old.items) → OnOk result (AreSumsOf 1 (map told_row found.new.items)) }
     {
         let alloc = *found.allocator();
-        let commands = commands_between(from, number, number);
-        // They are taken before what is given back here, so that all of that goes back to the system.
-        let mut weights = Vec::with_capacity(alloc, commands.len())?;
-        let moments = Moments::of(alloc, spans_in(alloc, commands)?.as_slice())?;
-        let shares = Shares::of(alloc, moments)?;
+        let (commands, place) = made_by(from, number, number);
+        let jobs = jobs_from(alloc, place, commands, from.entries.as_slice())?;
+        let jobs = jobs.as_slice();
+        let shares = Shares::of(alloc, spans_of(alloc, jobs)?.as_slice())?;
         let numbers = numbers_of(from, number);
         self.outputs += numbers.outputs as u128;
         self.wall += u128::from(numbers.wall);
@@ -50,41 +45,35 @@ impl Totals {
         self.alone += u128::from(shares.sums.alone);
         self.most = self.most.max(shares.most());
         let mut near = Near::default();
-        for command in commands {
-            weights.push(shares.weight(&mut near, &Span::of(command)))?;
-        }
-        drop(shares);
-        let mut start = entries_to(number.saturating_sub(1), from);
-        found.reserve(commands.len())?;
-        for place in 0..commands.len() {
-            let command = &commands[place];
-            found.push(Weighed {
-                name: job_of(start, command, from.entries.as_slice()).name(),
-                weight: weights.get(place).copied().unwrap_or(0),
-                time: command.ended.saturating_sub(command.began),
+        for job in jobs {
+            found.push(Row {
+                name: job.name(),
+                commands: 1,
+                time: u128::from(job.span.time()),
+                weight: u128::from(shares.weight(&mut near, &job.span)),
             })?;
-            start = command.to;
         }
         Ok(())
     }
 
     // The slowest command comes last. At a terminal it heads the list.
-    fn append(&self, screen: bool, commands: &[Weighed], lines: &mut Vec<u8>) -> AllocResult
+    fn append(&self, screen: bool, total: u128, rows: &[Row], lines: &mut Vec<u8>) -> AllocResult
         requires room { self.now.wall < 2 ^ 120 }
-        ensures items { OnOk result (lines.new.items ≡ lines.old.items ++ (number_lines screen self.now (map told_command commands.now)
-            ++ slowest_line screen (first_of (falling (rank_told Time) (map told_command commands.now))))) }
+        requires total { total ≡ total_of (map told_row rows.now) }
+        requires bound { total < 2 ^ 120 }
+        ensures items { OnOk result (lines.new.items ≡ lines.old.items ++ (number_lines screen self.now (map told_row rows.now)
+            ++ slowest_line screen (first_of (falling (rank_told Time) (map told_row rows.now))))) }
     {
         let alloc = *lines.allocator();
-        let count = commands.len();
-        let total = total_of(commands);
+        let count = rows.len();
         let parallel = ratio(alloc, total, self.wall)?;
         let parallel = Part::Text(parallel.as_bytes());
-        let slowest = highest(alloc, &Rank::Time, 1, commands)?;
+        let slowest = highest(alloc, &Rank::Time, 1, rows)?;
         let slowest = slowest.as_slice().first();
         if screen {
             let most = u128::from(self.most);
             // They take no less, if no more run at a time: the slowest takes as long as it takes.
-            let best = (total / most.max(1)).max(slowest.map_or(0, |it| u128::from(it.time)));
+            let best = (total / most.max(1)).max(slowest.map_or(0, |it| it.time));
             let none = self.wall.saturating_sub(self.busy);
             return put!(lines; [Part::Took(true, self.wall)] b"\telapsed\n" [Part::Took(true, total)]
                 b"\tof work\n" {count} b"\tcommands\n" {self.outputs} b"\toutputs\n" [parallel]
@@ -130,53 +119,49 @@ pub fn summary_lines(
         return Ok(lines);
     }
     let mut totals = Totals::default();
-    let mut commands = Vec::new(alloc);
+    let all = made_by(from, choice.first, choice.last).0.len();
+    let mut commands = Vec::with_capacity(alloc, all)?;
     for place in 0..told.len() {
         totals.add(from, choice.first + place, &mut commands)?;
     }
     let commands = commands.as_slice();
-    if screen {
-        append_title(scope, choice.first, from.builds.len(), &mut lines)?;
-    }
-    totals.append(screen, commands, &mut lines)?;
-    let words = b"outputs lost to later builds";
-    append_count(screen, b"again", words, again_in(scope, told), &mut lines)?;
-    append_unfinished(screen, unfinished, &mut lines)?;
-    append_lists(lists, commands, &mut lines)?;
-    Ok(lines)
-}
-
-fn append_title(scope: Scope, number: usize, count: usize, lines: &mut Vec<u8>) -> AllocResult
-    ensures items { OnOk result (lines.new.items ≡ lines.old.items ++ title true scope number count) }
-{
-    let count = Part::Number(count as u128);
-    match scope {
-        Scope::All => put!(lines; b"All " [count] b" builds, each output once\n"),
-        Scope::Last | Scope::Numbered(_) => {
-            put!(lines; b"Build " {number} b" of " [count] b"\n")
-        }
-    }
-}
-
-fn total_of(commands: &[Weighed]) -> u128
-    ensures value { result ≡ total_of (map told_command commands.now) }
-    ensures room { result < 2 ^ 120 }
-{
     let mut total = 0;
     for command in commands {
-        total += u128::from(command.time);
+        total += command.time;
     }
-    total
-}
-
-// None for all builds, because what later ones took is told of there.
-fn again_in(scope: Scope, builds: &[Build]) -> Option<usize>
-    ensures { result ≡ again_in scope builds.now }
-{
-    match scope {
+    if screen {
+        let count = Part::Number(from.builds.len() as u128);
+        match scope {
+            Scope::All => put!(&mut lines; b"All " [count] b" builds, each output once\n")?,
+            Scope::Last | Scope::Numbered(_) => {
+                put!(&mut lines; b"Build " {choice.first} b" of " [count] b"\n")?
+            }
+        }
+    }
+    totals.append(screen, total, commands, &mut lines)?;
+    let words = b"outputs lost to later builds";
+    // None for all builds, because what later ones took is told of there.
+    let taken = match scope {
         Scope::All => None,
-        Scope::Last | Scope::Numbered(_) => most_taken(builds),
+        Scope::Last | Scope::Numbered(_) => most_taken(told),
+    };
+    append_count(screen, b"again", words, taken, &mut lines)?;
+    append_unfinished(screen, unfinished, &mut lines)?;
+    if lists.most > 0 {
+        let ranked = Ranked {
+            lists,
+            of_kinds: false,
+            total,
+        };
+        ranked.append(commands, &mut lines)?;
+        let kinds = kinds_of(alloc, lists.secret, lists.rule, commands)?;
+        let ranked = Ranked {
+            of_kinds: true,
+            ..ranked
+        };
+        ranked.append(kinds.as_slice(), &mut lines)?;
     }
+    Ok(lines)
 }
 
 /// How many outputs later builds may have taken at most of one of the builds that are told of, if one was found again.
@@ -204,11 +189,9 @@ pub(crate) fn most_taken(builds: &[Build]) -> Option<usize>
 fn append_unfinished(screen: bool, count: usize, lines: &mut Vec<u8>) -> AllocResult
     ensures items { OnOk result (lines.new.items ≡ lines.old.items ++ unfinished_line screen count) }
 {
-    if count == 0 {
-        return Ok(());
-    }
+    let count = (count > 0).then_some(count);
     let words = b"outputs have yet to be made";
-    append_count(screen, b"unfinished", words, Some(count), lines)
+    append_count(screen, b"unfinished", words, count, lines)
 }
 
 fn append_count(
@@ -220,28 +203,9 @@ fn append_count(
 ) -> AllocResult
     ensures items { OnOk result (lines.new.items ≡ lines.old.items ++ count_line screen key.now words.now count) }
 {
-    let Some(count) = count else {
-        return Ok(());
-    };
-    if screen {
-        return append_line(&[Part::Number(count as u128), Part::Text(words)], lines);
+    match (count, screen) {
+        (None, _) => Ok(()),
+        (Some(it), true) => append_line(&[Part::Number(it as u128), Part::Text(words)], lines),
+        (Some(it), false) => append_line(&[Part::Text(key), Part::Number(it as u128)], lines),
     }
-    append_line(&[Part::Text(key), Part::Number(count as u128)], lines)
-}
-
-fn append_lists(lists: Lists, commands: &[Weighed], lines: &mut Vec<u8>) -> AllocResult
-    ensures items { OnOk result (lines.new.items ≡ lines.old.items ++ lists_text lists (map told_command commands.now)) }
-{
-    if lists.most == 0 {
-        return Ok(());
-    }
-    let ranked = Ranked {
-        lists,
-        listed: Listed::Commands,
-        total: total_of(commands),
-    };
-    ranked.append(commands, lines)?;
-    let kinds = kinds_of(*lines.allocator(), lists.secret, lists.rule, commands)?;
-    let listed = Listed::Kinds;
-    Ranked { listed, ..ranked }.append(kinds.as_slice(), lines)
 }

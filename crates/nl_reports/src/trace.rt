@@ -4,16 +4,16 @@ ghost use Rattle.nl_reports.specs.{Jobs.{seen, told}, Spans.{IsEarly}, Sweep.{ru
 ghost use Rattle.nl_tool_texts.specs.{Writing.{IsWriteFault, Writes}, Escape.{IsBare}};
 
 use crate::choice::{Choice, Scope, chosen, jobs_in_turn};
-use crate::job::{Job, between, spans_of};
+use crate::job::{Job, spans_of};
 use crate::lanes::lanes_of;
-use crate::last_entries::item_at;
 use crate::moments::{Moments, Near, Span};
 use crate::summary::most_taken;
 use json::Writer;
 use nl_builds::{Builds, How};
 use nl_fields::append_hex64;
 use nl_tool_texts::{
-    AllocResult, ToolResult, append, append_with, is_bare, put, write_full, write_out,
+    AllocResult, Part, ToolResult, append, append_with, between, is_bare, item_at, put, write_full,
+    write_out,
 };
 use std::alloc::Global;
 use std::io::Write;
@@ -102,12 +102,7 @@ fn append_build(build: BuildEvent, out: &mut Vec<u8>) -> AllocResult
         How::FoundAgain { taken } =>
             put!(out; b", found again\",\"rewritten\":true,\"taken\":" {taken})?,
     }
-    append_with(
-        b"},\"name\":\"process_name\",\"ph\":\"M\",\"pid\":",
-        build.number,
-        out,
-    )?;
-    append(b"}", out)
+    put!(out; b"},\"name\":\"process_name\",\"ph\":\"M\",\"pid\":" {build.number} b"}")
 }
 
 /// Appends a command in a lane, after a comma.
@@ -116,41 +111,27 @@ fn append_command(build: BuildEvent, lane: u64, job: &Job, out: &mut Vec<u8>) ->
     requires lane { lane < 2 ^ 63 }
     ensures items { OnOk result (out.new.items ≡ out.old.items ++ 44 ∷ event_text (command_event build lane (seen job.now))) }
 {
-    let ts = job.span.began.saturating_sub(build.began) * 1000;
-    let name = job.name();
-    let is_first_bare = is_bare(name);
     append(b",{\"args\":{\"hash\":\"", out)?;
     append_hex64(job.hash, out)?;
     append(b"\",\"outputs\":[", out)?;
     let mut comma: &[u8] = b"";
     for entry in job.outputs {
-        let is_bare = if comma.is_empty() {
-            is_first_bare
-        } else {
-            is_bare(entry.name())
-        };
         append(comma, out)?;
-        append_shown(is_bare, entry.name(), out)?;
+        append_shown(entry.name(), out)?;
         comma = b",";
     }
-    append_with(b"]},\"dur\":", job.span.time() * 1000, out)?;
-    append(b",\"name\":", out)?;
-    append_shown(is_first_bare, name, out)?;
-    append_with(b",\"ph\":\"X\",\"pid\":", build.number, out)?;
-    append_with(b",\"tid\":", lane + 1, out)?;
-    append_with(b",\"ts\":", ts, out)?;
-    append(b"}", out)
+    put!(out; b"]},\"dur\":" {job.span.time() * 1000} b",\"name\":")?;
+    append_shown(job.name(), out)?;
+    put!(out; b",\"ph\":\"X\",\"pid\":" {build.number} b",\"tid\":" {lane + 1} b",\"ts\":"
+        {job.span.began.saturating_sub(build.began) * 1000} b"}")
 }
 
 // A name as JSON, with U+FFFD for what isn't UTF-8.
-fn append_shown(is_bare: bool, name: &[u8], out: &mut Vec<u8>) -> AllocResult
-    requires bare { IsTrue is_bare → All IsBare name.now }
+fn append_shown(name: &[u8], out: &mut Vec<u8>) -> AllocResult
     ensures items { OnOk result (out.new.items ≡ out.old.items ++ event_text (shown name.now)) }
 {
-    if is_bare {
-        append(b"\"", out)?;
-        append(name, out)?;
-        return append(b"\"", out);
+    if is_bare(name) {
+        return put!(out; b"\"" [Part::Text(name)] b"\"");
     }
     let alloc = *out.allocator();
     let text = String::from_utf8_lossy(alloc, name)?;
@@ -165,10 +146,6 @@ fn append_running(build: BuildEvent, count: u64, at: u64, out: &mut Vec<u8>) -> 
     ensures items { (cs : List Span) → count ≡ running cs at → OnOk result
         (out.new.items ≡ out.old.items ++ 44 ∷ event_text (running_event build cs at)) }
 {
-    let number = build.number;
-    let ts = at.saturating_sub(build.began) * 1000;
-    append_with(b",{\"args\":{\"commands\":", count, out)?;
-    append_with(b"},\"name\":\"running\",\"ph\":\"C\",\"pid\":", number, out)?;
-    append_with(b",\"ts\":", ts, out)?;
-    append(b"}", out)
+    put!(out; b",{\"args\":{\"commands\":" {count} b"},\"name\":\"running\",\"ph\":\"C\",\"pid\":"
+        {build.number} b",\"ts\":" {at.saturating_sub(build.began) * 1000} b"}")
 }

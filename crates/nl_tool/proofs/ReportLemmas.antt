@@ -19,7 +19,7 @@ use Rattle.nl_tool_texts.specs.Output.{Prints}
 use Rattle.nl_tool_texts.specs.declared.fault.ToolFault.{ToolFault}
 use Rattle.nl_tool_texts.specs.declared.fault.ToolFault.TheVariants.{NotALog as NoLog, OtherVersion as Other, Read, Memory, Write, Folder, NegativeTime, BadNumber, EmptyName, BadByte, LongName, BadLine, OtherGraph, Elsewhere}
 use Rattle.nl_reports.specs.Choice.{chosen_jobs}
-use Rattle.nl_reports.specs.GraphText.{seen_graph}
+use Rattle.nl_tool_texts.specs.GraphText.{seen_graph}
 use Rattle.nl_reports.specs.Jobs.{Job, told}
 use Rattle.nl_reports.specs.Summary.{summary_text}
 use Rattle.nl_reports.specs.declared.choice.Scope.{Scope}
@@ -29,7 +29,7 @@ use Rattle.nl_reports.specs.declared.rows.Lists.{Lists}
 use Rattle.nl_reports.specs.Picture.{IsPicture}
 use Rattle.nl_reports.specs.Trace.{scoped_text}
 use Rattle.nl_tool_texts.specs.Writing.{IsFoundFault, IsWriteFault, PrintsInPieces, Writes}
-use Rattle.nl_reports.specs.declared.graph.NinjaGraph.{NinjaGraph}
+use Rattle.nl_tool_texts.specs.declared.graph.NinjaGraph.{NinjaGraph}
 use Rattle.nl_tool_texts.proofs.WritingLemmas.{pieces_of}
 use Rattle.nl_tool_print.specs.Faults.{RefusesLog}
 use Rattle.nl_tool.specs.Faults.{IsGraphFault, IsPathFault, IsReportFault, IsToldFault}

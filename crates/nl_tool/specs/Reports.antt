@@ -9,7 +9,7 @@ use Rattle.nl_table.specs.Log.{Log, log_of}
 use Rattle.nl_versions.specs.VersionOf.{as_five, version_of}
 use Rattle.nl_builds.specs.Builds.{Told, builds_of}
 use Rattle.nl_builds.specs.Recorded.{recorded, unfinished}
-use Rattle.nl_builds.specs.Stamps.{stamps_of}
+use Rattle.nl_versions.specs.Stamps.{stamps_of}
 use Rattle.nl_builds.specs.declared.reading.LogBuilds.{LogBuilds}
 use Rattle.nl_tool_texts.specs.Output.{Prints}
 use Rattle.nl_tool_change.specs.RecordWords.{IsToldOf}
@@ -24,7 +24,7 @@ use Rattle.nl_reports.specs.BuildsText.{builds_text}
 use Rattle.nl_reports.specs.Choice.{chosen_jobs}
 use Rattle.nl_tool_texts.specs.Columns.{in_columns}
 use Rattle.nl_reports.specs.declared.sides.Side.{Side}
-use Rattle.nl_reports.specs.GraphText.{seen_graph}
+use Rattle.nl_tool_texts.specs.GraphText.{seen_graph}
 use Rattle.nl_reports.specs.Jobs.{told}
 use Rattle.nl_reports.specs.Lasting.{lasting}
 use Rattle.nl_reports.specs.Picture.{IsPicture}
@@ -35,8 +35,8 @@ use Rattle.nl_tool_texts.specs.Writing.{PrintsInPieces}
 use Rattle.nl_reports.specs.declared.choice.Scope.{Scope}
 use Rattle.nl_reports.specs.declared.choice.Scope.TheVariants.{Last, Numbered, All}
 use Rattle.nl_reports.specs.declared.jobs.ByGraph.{ByGraph}
-use Rattle.nl_reports.specs.declared.kinds.KindRule.{KindRule}
-use Rattle.nl_reports.specs.declared.kinds.KindRule.TheVariants.{Extension, Folder, Top, Work}
+use Rattle.nl_tool_texts.specs.declared.kind.KindRule.{KindRule}
+use Rattle.nl_tool_texts.specs.declared.kind.KindRule.TheVariants.{Extension, Folder, Top, Work}
 use Rattle.nl_reports.specs.declared.rows.Lists.{Lists}
 use Rattle.nl_tool.specs.declared.reporting.Report.{Report}
 use Rattle.nl_tool.specs.declared.reporting.Report.TheVariants.{Builds, Picture, Summary, Trace}

@@ -13,16 +13,17 @@ use crate::desk::{Desk, Means};
 use crate::notes::NotedWriter;
 use crate::numbers::{count_of, counts_of, scope_of};
 use jiff_tz::{SystemTimeZone, TimeZone, TimeZoneDatabase};
-use nl_builds::{Builds, LogBuilds, Stamps, read_builds};
+use nl_builds::{Builds, LogBuilds, read_builds};
 use nl_reports::{
-    ByGraph, KindRule, Lists, NinjaGraph, Scope, Side, builds_lines, builds_screen, chosen_jobs,
-    compare_lines, draw_builds, graph_lines, lasting, read_graph, summary_lines, taken_in,
-    trace_builds,
+    ByGraph, Lists, Scope, Side, builds_lines, builds_screen, chosen_jobs, compare_lines,
+    draw_builds, graph_lines, lasting, summary_lines, taken_in, trace_builds,
 };
 use nl_tool_change::NumberOf;
-use nl_tool_texts::{AllocResult, ToolFault, ToolResult, in_columns, write_out};
+use nl_tool_texts::{
+    AllocResult, KindRule, NinjaGraph, ToolFault, ToolResult, in_columns, read_graph, write_out,
+};
 use nl_tool_words::Choices;
-use nl_versions::version_of;
+use nl_versions::{Stamps, version_of};
 use std::io::{self, Write};
 use std::rt::Runtime;
 

@@ -7,8 +7,8 @@ use Rattle.std.proofs.lemmas.Bool.{cond-true}
 use Rattle.std.proofs.lemmas.Bool.Decides.{leb_tells, nat_tests}
 use Rattle.std.proofs.lemmas.List.{get_or-map, length-map}
 use Rattle.nl_fields.specs.declared.entry.Entry.{Entry}
-use Rattle.nl_builds.specs.declared.reading.Stamps.{Stamps}
-use Rattle.nl_builds.specs.declared.reading.Stamps.TheVariants.{OfStart}
+use Rattle.nl_versions.specs.declared.entries.Stamps.{Stamps}
+use Rattle.nl_versions.specs.declared.entries.Stamps.TheVariants.{OfStart}
 use Rattle.nl_tool_doubt.specs.Judging.{doubt_behind, doubt_by, doubt_from, ended, is_newer, written}
 use Rattle.nl_tool_doubt.specs.Moments.{at_of, begun, bound, least_from, lo_of, m_of, nearest, tells, tick_of}
 use Rattle.nl_tool_doubt.specs.declared.judge.Doubt.{Doubt}

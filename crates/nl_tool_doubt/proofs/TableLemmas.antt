@@ -8,8 +8,8 @@ use Rattle.nl_fields.specs.declared.entry.Entry.{Entry}
 use Rattle.nl_table.specs.History.{Began, Enter, History, Then, logged, plus, table}
 use Rattle.nl_table.specs.Log.{Log, log_of}
 use Rattle.nl_versions.specs.VersionOf.{as_five}
-use Rattle.nl_builds.specs.Stamps.{stamps_of}
-use Rattle.nl_builds.specs.declared.reading.Stamps.{Stamps}
+use Rattle.nl_versions.specs.Stamps.{stamps_of}
+use Rattle.nl_versions.specs.declared.entries.Stamps.{Stamps}
 use Rattle.nl_tool_doubt.specs.Doubts.{AreDoubts, AreLooked, IsDoubts, IsSaidOf}
 use Rattle.nl_tool_doubt.specs.declared.doubts.Doubts.{Doubts}
 use Rattle.nl_tool_doubt.specs.declared.files.FileState.{FileState}

@@ -7,8 +7,8 @@ use Rattle.nl_table.specs.Log.{Log, log_of}
 use Rattle.nl_table.specs.Table.{entry_named}
 use Rattle.nl_versions.specs.VersionOf.{as_five, lines_version}
 use Rattle.nl_distrust.specs.Distrusted.{distrusted_in}
-use Rattle.nl_builds.specs.Stamps.{stamps_of}
-use Rattle.nl_builds.specs.declared.reading.Stamps.{Stamps}
+use Rattle.nl_versions.specs.Stamps.{stamps_of}
+use Rattle.nl_versions.specs.declared.entries.Stamps.{Stamps}
 use Rattle.nl_tool_doubt.specs.Judging.{doubt_of, is_present, is_written, was_moved}
 use Rattle.nl_tool_doubt.specs.Moments.{lines_that_tell}
 use Rattle.nl_tool_doubt.specs.declared.files.FileState.{FileState}

@@ -4,8 +4,8 @@ use Rattle.std.specs.Int.RustNames.{unsigned_abs}
 use Rattle.std.specs.Ordering.{int_eq}
 use Rattle.nl_fields.specs.declared.entry.Entry.{Entry}
 use Rattle.nl_builds.specs.Commands.{moment}
-use Rattle.nl_builds.specs.declared.reading.Stamps.{Stamps}
-use Rattle.nl_builds.specs.declared.reading.Stamps.TheVariants.{Unknown, OfEnd, OfStart}
+use Rattle.nl_versions.specs.declared.entries.Stamps.{Stamps}
+use Rattle.nl_versions.specs.declared.entries.Stamps.TheVariants.{Unknown, OfEnd, OfStart}
 use Rattle.nl_tool_doubt.specs.Moments.{begun, is_sure, length_of, tells, tick_of}
 use Rattle.nl_tool_doubt.specs.declared.files.FileState.{FileState}
 use Rattle.nl_tool_doubt.specs.declared.files.FileState.TheVariants.{Missing, Directory, Written, Unknown as Unseen}

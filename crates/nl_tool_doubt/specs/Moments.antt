@@ -4,8 +4,8 @@ use Rattle.std.specs.Int.RustNames.{unsigned_abs}
 use Rattle.std.specs.List.{filter, list_all, list_any}
 use Rattle.nl_fields.specs.declared.entry.Entry.{Entry}
 use Rattle.nl_builds.specs.Commands.{moment}
-use Rattle.nl_builds.specs.declared.reading.Stamps.{Stamps}
-use Rattle.nl_builds.specs.declared.reading.Stamps.TheVariants.{Unknown, OfEnd, OfStart}
+use Rattle.nl_versions.specs.declared.entries.Stamps.{Stamps}
+use Rattle.nl_versions.specs.declared.entries.Stamps.TheVariants.{Unknown, OfEnd, OfStart}
 
 -- ---- what a line tells, where MTIME is when its command started, or its output's own time
 

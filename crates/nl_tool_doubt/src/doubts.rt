@@ -8,13 +8,12 @@ ghost use Rattle.nl_tool_doubt.specs.Doubts.{IsDoubts, damaged_by, doubt_line, d
 use crate::files::{Looked, OutputFiles, look_all};
 use crate::judge::{Doubt, doubt_of};
 use crate::moments::Moments;
-use nl_builds::{Stamps, read_entries};
 use nl_distrust::laws::a_whole_log_is_trusted;
 use nl_distrust::{distrusted, is_whole};
 use nl_fields::{Entry, EntryRef};
 use nl_table::{LoadFault, Secret, Table};
 use nl_tool_texts::{AllocResult, Part, ToolResult, append_line, write_out};
-use nl_versions::lines_version;
+use nl_versions::{Stamps, lines_version, read_entries};
 use std::alloc::Global;
 use std::io::Write;
 

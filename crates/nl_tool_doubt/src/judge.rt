@@ -4,8 +4,9 @@ ghost use Rattle.nl_tool_doubt.specs.Judging.{doubt_from, doubt_of, last_of};
 
 use crate::files::{FileState, FileTimes, Looked};
 use crate::moments::{Moments, NANOSECONDS, NONE, length_of, tells};
-use nl_builds::{Stamps, moment};
+use nl_builds::moment;
 use nl_fields::EntryRef;
+use nl_versions::Stamps;
 
 #[derive(Clone, Copy, Drop)]
 pub enum Doubt {

@@ -1,7 +1,7 @@
 //! Laws of doubt, each the contract of a function that does nothing.
 ghost use Rattle.std.specs.{Prelude.{◌≡◌, ◌+◌, ◌≤◌, ℤ, List, Option, Some, None, true, false, int_lt, map, pos, if◌then◌else◌, Contains}, Ordering.{int_eq}};
 ghost use Rattle.nl_fields.specs.declared.entry.Entry.{Entry};
-ghost use Rattle.nl_builds.specs.declared.reading.Stamps.{Stamps};
+ghost use Rattle.nl_versions.specs.declared.entries.Stamps.{Stamps};
 ghost use Rattle.nl_tool_doubt.specs.{Judging.{doubt_by, ended, is_newer, written}, Moments.{begun, lo_of, m_of, tells, tick_of}, declared.judge.Doubt.{Doubt}};
 
 /// A file that isn't behind MTIME is neither newer nor unsure, whatever other lines tell. In a log of version 4 or 5 it is newer exactly if it

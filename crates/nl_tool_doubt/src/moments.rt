@@ -4,9 +4,10 @@ ghost use Rattle.nl_builds.specs.Commands.{moment};
 ghost use Rattle.nl_tool_doubt.specs.{Known.{line_of}, Moments.{begun, is_sure, is_whole, length_of, lines_that_tell, nearest, tells, tick_of}};
 
 use crate::spans::{Span, greatest_up_to, least_from, merged, rising, summed, within};
-use nl_builds::{Stamps, moment};
+use nl_builds::moment;
 use nl_fields::EntryRef;
 use nl_tool_texts::AllocResult;
+use nl_versions::Stamps;
 use std::alloc::Global;
 use std::marker::Model;
 

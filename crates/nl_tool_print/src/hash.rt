@@ -6,12 +6,11 @@ ghost use Rattle.nl_versions.specs.VersionOf.{as_five};
 ghost use Rattle.nl_tool_print.specs.{Faults.{IsHashFault, IsHashFileFault}, Output.{IsHashText}, Versions.{IsFileHashAs, hash_text_as}};
 ghost use Rattle.nl_tool_texts.specs.Output.{Prints};
 
-use nl_builds::may_be_log;
 use nl_fields::append_hex64;
 use nl_lines::{ReadSource, Source};
 use nl_table::LoadFault;
 use nl_tool_texts::{ToolResult, append, write_out};
-use nl_versions::{LogVersion, command_hash_in};
+use nl_versions::{LogVersion, command_hash_in, may_be_log};
 use std::alloc::Global;
 use std::io::{Read, Write};
 

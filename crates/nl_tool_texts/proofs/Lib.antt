@@ -11,4 +11,9 @@ mod CellLemmas
 mod ShownLemmas
 mod WidthLemmas
 mod GraphLineLemmas
+mod LastByteLemmas
+mod StepLemmas
 pub mod WritingLemmas
+pub mod GraphLemmas
+mod GraphTextLemmas
+pub mod OrderLemmas

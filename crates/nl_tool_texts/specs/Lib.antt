@@ -5,6 +5,12 @@ pub mod Writing
 pub mod Falling
 pub mod Fraction
 pub mod Texts
+pub mod Steps
+pub mod Work
+pub mod Kind
 pub mod Escape
 pub mod Columns
 pub mod GraphLine
+pub mod Lists
+pub mod Graphs
+pub mod GraphText

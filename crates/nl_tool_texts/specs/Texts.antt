@@ -2,7 +2,7 @@
 use Rattle.std.specs.Prelude.{ℕ, ◌-◌, ◌/◌, ◌%◌, ◌==◌, ◌&&◌, nat_lt, Bool, List, [], ◌∷◌, ◌++◌, codes, decimal, if◌then◌else◌}
 use Rattle.std.specs.Int.{abs_diff}
 use Rattle.nl_tool_texts.specs.declared.text.Part.{Part}
-use Rattle.nl_tool_texts.specs.declared.text.Part.TheVariants.{Text, Number, Percent, Time, Took, Change, Moment}
+use Rattle.nl_tool_texts.specs.declared.text.Part.TheVariants.{Text, Number, Percent, Time, Took, Change, Moment, Seconds}
 
 -- a rest of 0 isn't written
 abbrev pub rest_text : List ℕ → ℕ → List ℕ → List ℕ
@@ -17,6 +17,10 @@ time_text ms = if ms == 0 then codes "0 s" else (if nat_lt ms 1000 then rest_tex
     (if nat_lt ms 60000 then decimal (ms / 1000) ++ rest_text (codes ".") (ms % 1000 / 100) [] ++ codes " s" else
     (if nat_lt ms 3600000 then two_text (ms / 60000) (codes " min") (ms % 60000 / 1000) (codes " s") else
     two_text (ms / 3600000) (codes " h") (ms % 3600000 / 60000) (codes " min"))))
+
+-- in seconds, with the milliseconds after the point
+abbrev pub seconds : ℕ → List ℕ
+seconds ms = decimal (ms / 1000) ++ codes "." ++ decimal (ms % 1000 / 100) ++ decimal (ms % 100 / 10) ++ decimal (ms % 10)
 
 abbrev pub joined : List (List ℕ) → List ℕ
 joined [] = []
@@ -45,6 +49,7 @@ part_text (Time ms) = time_text ms
 part_text (Took words ms) = took_text words ms
 part_text (Change words old new) = change_text words old new
 part_text (Moment words at) = told_moment words at
+part_text (Seconds ms) = seconds ms
 
 abbrev pub parts_text : List Part → List ℕ
 parts_text [] = []

@@ -5,7 +5,7 @@ ghost use Rattle.nl_tool_texts.specs.GraphLine.{are_attributes, behind, both_now
 use memchr::memchr;
 
 #[derive(Clone, Copy, Drop)]
-pub enum Line<'a> {
+pub(crate) enum Line<'a> {
     /// It says nothing of nodes and edges.
     Passed,
     Labelled { id: &'a [u8], name: &'a [u8] },
@@ -14,7 +14,7 @@ pub enum Line<'a> {
 }
 
 /// None if the line may not stand there: the first begins the graph, and only empty lines come after its end.
-pub fn line_in(ended: bool, number: u64, line: &[u8]) -> Option<Line<'_>>
+pub(crate) fn line_in(ended: bool, number: u64, line: &[u8]) -> Option<Line<'_>>
     ensures value { option_map line_seen result ≡ line_in ended number line.now }
 {
     let is_passed = if number == 1 {

@@ -1,6 +1,6 @@
-//! Laws of names and columns, each the contract of a function that does nothing.
-ghost use Rattle.std.specs.Prelude.{◌≡◌, ◌+◌, ◌<◌, ◌≤◌, ◌++◌, ◌∷◌, ℕ, List, true, length, All};
-ghost use Rattle.nl_tool_texts.specs.{Columns.{IsQuiet, cell, cells_to, field_at, fields_of, room_behind, shown, widest, width, widths}, Escape.{IsMadeOfPieces, begins_character, cut_at, escaped, IsQuiet as IsQuietByte}};
+//! Laws of names, columns and steps, each the contract of a function that does nothing.
+ghost use Rattle.std.specs.Prelude.{◌≡◌, ◌+◌, ◌/◌, ◌<◌, ◌≤◌, ◌^◌, ◌++◌, ◌∷◌, ℕ, List, true, length, All};
+ghost use Rattle.nl_tool_texts.specs.{Columns.{IsQuiet, cell, cells_to, field_at, fields_of, room_behind, shown, widest, width, widths}, Escape.{IsMadeOfPieces, begins_character, cut_at, escaped, IsQuiet as IsQuietByte}, Steps.{IsRound, step_of}};
 
 /// No name makes a terminal do anything: what is laid out has no control character, of one byte or of two, but tabs and newlines. No escaped
 /// text has a `<`, a `>`, a `"` or a control character below 32, and each `&` in it begins an entity. A name that is cut is cut before a
@@ -23,4 +23,10 @@ pub fn columns_line_up()
         → last + 1 ≡ length (fields_of line) → 1 ≤ last
         → 1 ≤ room_behind last most (widths (length (fields_of line)) (before ++ line ∷ later))
         → width (cells_to last most (widths (length (fields_of line)) (before ++ line ∷ later)) line) ≤ most }
+{}
+
+/// The lines of the axis stand a round time apart, and there are twelve steps at most.
+pub fn steps_are_round()
+    ensures round { (wall : ℕ) → IsRound (step_of wall) }
+    ensures few { (wall : ℕ) → wall < 2 ^ 32 → wall / step_of wall ≤ 12 }
 {}

@@ -5,17 +5,22 @@
 mod columns;
 mod escape;
 mod fault;
+mod graph;
 mod graph_line;
+mod kind;
 pub mod laws;
 mod ranking;
+mod slices;
 mod text;
 
 pub use columns::{append_number, in_columns, lines_of};
 pub use escape::{append_cut_name, append_label};
 pub use fault::{ToolFault, ToolResult, status_of};
-pub use graph_line::{Line, line_in};
+pub use graph::{Edge, NONE, NinjaGraph, read_graph};
+pub use kind::{KindRule, Work, base_of, kind_of, place, word, work_of};
 pub use ranking::{Ranking, highest};
+pub use slices::{between, item_at, set_at};
 pub use text::{
     AllocResult, BEGINNING, Part, append, append_line, append_parts, append_with, is_bare, percent,
-    ratio, write_full, write_out,
+    ratio, step_of, write_full, write_out,
 };

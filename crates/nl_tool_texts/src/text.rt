@@ -1,6 +1,6 @@
 //! Texts that are appended part by part, and written in as many writes as it takes, or piece by piece, as they are made.
 ghost use Rattle.std.specs.{Prelude.{◌≡◌, ◌++◌, IsTrue, OnOk, map, All, ◌<◌, ◌^◌, IfOk, string_bytes, ◌≤◌, length, vec_capacity, OnErr, IfErr}, Io.KnownBytes.{Appends}};
-ghost use Rattle.nl_tool_texts.specs.{Escape.{IsBare}, Texts.{change_text, line, part_text, parts_text, rest_text, sign, time_text, took_text, two_text}, Fraction.{percent, ratio}, Output.{AppendsPrefixOf}, Writing.{HoldsAllBut}};
+ghost use Rattle.nl_tool_texts.specs.{Escape.{IsBare}, Texts.{change_text, line, part_text, parts_text, rest_text, sign, time_text, took_text, two_text}, Fraction.{percent, ratio}, Output.{AppendsPrefixOf}, Steps.{step_of}, Writing.{HoldsAllBut}};
 
 use crate::fault::{ToolFault, ToolResult};
 use itoa::{Buffer, Integer};
@@ -40,6 +40,8 @@ pub enum Part<'a> {
     Change(bool, u128, u128),
     /// When something ran, from the beginning of its build on.
     Moment(bool, u64),
+    /// In seconds, with three digits after the point.
+    Seconds(u64),
 }
 
 /// Appends what stands in it, one after another: texts as they are, numbers in braces, and other parts in brackets.
@@ -86,6 +88,12 @@ fn append_part(part: &Part<'_>, out: &mut Vec<u8>) -> AllocResult
             append_took(*words, u128::from(BEGINNING - *at), out)
         }
         Part::Moment(words, at) => append_took(*words, u128::from(*at - BEGINNING), out),
+        Part::Seconds(ms) => {
+            append_with(b"", *ms / 1000, out)?;
+            append_with(b".", *ms % 1000 / 100, out)?;
+            append_with(b"", *ms % 100 / 10, out)?;
+            append_with(b"", *ms % 10, out)
+        }
     }
 }
 
@@ -138,6 +146,28 @@ fn append_rest(before: &[u8], number: u128, unit: &[u8], out: &mut Vec<u8>) -> A
     }
     append_with(before, number, out)?;
     append(unit, out)
+}
+
+// In milliseconds; a build has at most twelve steps.
+const STEPS: [u64; 26] = [
+    1, 2, 5, 10, 20, 50, 100, 200, 500, 1000, 2000, 5000, 10_000, 15_000, 30_000, 60_000, 120_000,
+    300_000, 900_000, 1_800_000, 3_600_000, 7_200_000, 18_000_000, 36_000_000, 72_000_000,
+    180000000,
+];
+
+const LONGEST: u64 = 360_000_000;
+
+/// The distance of two lines, in milliseconds.
+pub fn step_of(wall: u64) -> u64
+    ensures value { result ≡ step_of wall }
+    ensures some { 0 < result }
+{
+    for step in STEPS.as_slice() {
+        if wall <= *step * 12 {
+            return *step;
+        }
+    }
+    LONGEST
 }
 
 /// Whether a name is of bytes alone that stand in JSON and in XML as they are.

@@ -1,9 +1,11 @@
-use Rattle.std.proofs.Common.{◌≡◌, ◌∙◌, ◌+◌, ◌-◌, ◌++◌, ℕ, List, [], None, false, ap, append-nil, append_assoc, arith, drop, map, max, subst, sym}
+use Rattle.std.proofs.Common.{◌≡◌, ◌∙◌, ◌+◌, ◌++◌, ◌∷◌, ℕ, List, [], None, Option, Some, false, ap, append-nil, append_assoc, arith, drop, map, max, refl, rules, subst, sym}
+use Rattle.std.specs.Prelude.{slice_get}
 use Rattle.std.proofs.lemmas.List.{at_drop_more, drop_all}
 use Rattle.nl_builds.specs.declared.build.Build.{Build}
 use Rattle.nl_builds.specs.declared.build.How.TheVariants.{AsWritten}
-use Rattle.nl_reports.specs.Jobs.{Job, build_jobs, commands_to, entries_to, jobs_from, seen, told}
-use Rattle.nl_reports.specs.Rows.{by_start}
+use Rattle.nl_reports.specs.Jobs.{Job, build_jobs, jobs_from, seen, told}
+use Rattle.nl_reports.specs.Frame.{first_began}
+use Rattle.nl_reports.specs.Rows.{by_start, spans}
 use Rattle.nl_reports.specs.Turns.{clock_behind, jobs_turned, turned_job, turned_jobs, turned_span}
 use Rattle.nl_reports.specs.Spans.{IsEarly, closed_of}
 use Rattle.nl_reports.specs.declared.moments.Span.{Span}
@@ -13,12 +15,20 @@ use Rattle.std.proofs.lemmas.List.Elements.{All-push}
 use Rattle.nl_reports.specs.declared.job.Job.{Job as Held}
 use Rattle.nl_reports.proofs.choice.jobs_in_turn.Goals as goal
 
+abbrev start_of : Option Held → ℕ
+start_of None = 0
+start_of (Some j) = j.span.began
+
+start_is : (js : List Held) → start_of (slice_get js 0) ≡ first_began (spans (map seen js))
+start_is [] = refl
+start_is (j ∷ js) = refl
+
 pub loop-job-preserved : goal.loop-job-preserved
 loop-job-preserved c =
     let xs = c.as_slice-jobs.result.now in
     let i = c.loop-job.job-index in
     let j = c.job-item.result in
-    let began = c.began_of-began.result in
+    let began = c.map_or-began.result in
     let clock = c.loop-build.clock in
     let inv = c.loop-job.invariant in
     let span : Span = record { began = c.turned.result; ended = c.turned-in-loop-job.result } in
@@ -45,21 +55,21 @@ loop-build-preserved c =
     let old = map seen c.loop-build.all.items in
     let xs = c.as_slice-jobs.result.now in
     let new = map seen c.loop-job.all.items in
-    let began = c.began_of-began.result in
+    let began = c.map_or-began.result in
+    let first : began ≡ start_of (slice_get xs 0) = search rules in
+    let began_is : began ≡ first_began (spans (map seen xs)) = first ∙ start_is xs in
     let done : drop c.loop-job.job-index xs ≡ [] = drop_all c.loop-job.job-index xs (omega (arith, c.loop-job-test.false)) in
-    let before : entries_to (commands_to c.saturating_sub-in-loop-build.result t.builds) t.commands ≡ entries_to (commands_to (n - 1) t.builds) t.commands =
-    ap (λ (m : ℕ). entries_to (commands_to m t.builds) t.commands) c.saturating_sub-in-loop-build.ensures in
     let ran : map seen xs ≡ by_start (build_jobs t n) =
-    ap (map seen) c.as_slice-jobs.ensures.value ∙ c.in_ok-sorted.ensures.value ∙ ap by_start (c.in_ok-unsorted.ensures.value
-    ∙ (λ k. jobs_from (c.as_slice-in-loop-build.ensures.value k) ((c.entries_to-place.ensures ∙ before) k) (c.commands_between-commands.ensures k))) in
+    ap (map seen) c.as_slice-jobs.ensures.value ∙ c.in_ok-sorted.ensures.value ∙ ap by_start (c.in_ok-jobs_from.ensures.value
+    ∙ (λ k. jobs_from (c.as_slice-in-loop-build.ensures.value k) (c.made_by-place.ensures.place k) (c.made_by-place.ensures.commands k))) in
     let js = turned_jobs clock (by_start (build_jobs t n)) in
     let rest : ℕ → List Job = λ k. jobs_turned k t (n + 1) (drop (i + 1) bs) in
     let now : new ≡ old ++ js = sym (append-nil new) ∙ ap (λ (l : List Held). new ++ map (turned_job began clock) (map seen l)) (sym done)
-    ∙ c.loop-job.invariant.jobs ∙ ap (λ (b : ℕ). old ++ map (turned_job b clock) (map seen xs)) c.began_of-began.ensures
+    ∙ c.loop-job.invariant.jobs ∙ ap (λ (b : ℕ). old ++ map (turned_job b clock) (map seen xs)) began_is
     ∙ ap (λ (l : List Job). old ++ turned_jobs clock l) ran in
     let then : c.loop-job.clock ≡ clock_behind clock js =
     ap (λ (l : List Held). clock_behind c.loop-job.clock (map (turned_job began clock) (map seen l))) (sym done)
-    ∙ c.loop-job.invariant.clock ∙ ap (λ (b : ℕ). clock_behind clock (map (turned_job b clock) (map seen xs))) c.began_of-began.ensures
+    ∙ c.loop-job.invariant.clock ∙ ap (λ (b : ℕ). clock_behind clock (map (turned_job b clock) (map seen xs))) began_is
     ∙ ap (λ (l : List Job). clock_behind clock (turned_jobs clock l)) ran in
     record {
       jobs = (λ k. now k ++ rest (then k)) ∙ append_assoc old js (rest (clock_behind clock js))

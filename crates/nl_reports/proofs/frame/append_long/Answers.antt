@@ -3,14 +3,15 @@ use Rattle.std.specs.Prelude.{decimal}
 use Rattle.std.proofs.lemmas.Bool.{le-ltb, lt-ltb}
 use Rattle.std.proofs.lemmas.Bool.Decides.{eqb_tells}
 use Rattle.std.proofs.lemmas.Result.{on_ok_weaker}
-use Rattle.nl_reports.specs.Bars.{base_of, drawn_width, kind_of, more_outputs, name_text, named, rect, room_of, title, width_of}
-use Rattle.nl_reports.specs.Frame.{seconds, x_at}
+use Rattle.nl_reports.specs.Bars.{drawn_width, kind_of, more_outputs, name_text, named, rect, room_of, times_text, title, width_of}
+use Rattle.nl_reports.specs.Frame.{x_at}
 use Rattle.nl_reports.specs.Jobs.{Job, first_name, seen}
 use Rattle.nl_reports.specs.Spans.{time_of}
 use Rattle.nl_reports.specs.declared.frame.Frame.{Frame}
 use Rattle.nl_tool_texts.specs.Escape.{cut_name, label}
-use Rattle.nl_tool_texts.specs.Texts.{joined}
-use Rattle.nl_tool_texts.proofs.TextLemmas.{three_parts, two_parts}
+use Rattle.nl_tool_texts.specs.Kind.{base_of}
+use Rattle.nl_tool_texts.specs.Texts.{joined, seconds}
+use Rattle.nl_tool_texts.proofs.TextLemmas.{three_parts}
 use Rattle.nl_reports.proofs.frame.append_long.Goals as goal
 use Rattle.nl_reports.proofs.frame.append_long.Goals.{then-width-lt20, else-width-lt20, then-more-gt0+in_ok-put-2, else-more-gt0, then-room-lt4-via-then-room-lt4, then-room-lt4-via-else-room-lt4+then-frame-ge64}
 
@@ -39,14 +40,9 @@ some_more n some = elim (eqb_tells n 0) [ inl h ↦ absurd (omega (arith, some, 
 no_more : (n : ℕ) → n ≤ 0 → [] ≡ more_outputs n
 no_more n none = elim (eqb_tells n 0) [ inl h ↦ rw h.0 refl | inr h ↦ absurd (h.1 (omega (arith, none))) ]
 
--- a title, part by part
-title_is : (f : Frame) (j : Job) (old name more line time from started closed : List ℕ) → name ≡ old ++ label (first_name j.outputs)
-    → more ≡ name ++ more_outputs (length j.outputs - 1) → line ≡ more ++ codes "\n" → time ≡ line ++ seconds (time_of j.span)
-    → from ≡ time ++ codes " s from " → started ≡ from ++ seconds (j.span.began - f.began) → closed ≡ started ++ codes " s</title></rect>\n"
-    → closed ≡ old ++ title f j
-title_is f j old name more line time from started closed one two three four five six seven =
-    let first = two_parts old _ _ _ _ (two_parts old _ _ _ _ (two_parts old name more _ _ one two) three) four in
-    two_parts old _ _ _ _ (two_parts old _ _ _ _ (two_parts old _ _ _ _ first five) six) seven ∙ (simp append_assoc)
+-- the times of a title
+times_told : (time start : List ℕ) → joined (codes "\n" ∷ time ∷ codes " s from " ∷ start ∷ codes " s</title></rect>\n" ∷ []) ≡ times_text time start
+times_told time start = simp (append_assoc, append-nil)
 
 pub returns-then-room-lt4 : goal.returns-then-room-lt4
 returns-then-room-lt4 c =
@@ -55,7 +51,7 @@ returns-then-room-lt4 c =
     let j = seen c.args.job.now in
     let lane = c.args.lane in
     let x = c.x_at-x.ensures.value in
-    let width = c.width_of-width.ensures.value in
+    let width = c.requires.width in
     let drawn : c.if-width-lt20.drawn ≡ drawn_width (width_of f j) = elim c.if-width-lt20.branch [
       | then-width-lt20 w ↦ drawn_narrow (width_of f j) _ (w.drawn-is ∙ width) (omega (arith, w.if-width-lt20.true, width))
       | else-width-lt20 w ↦ drawn_wide (width_of f j) _ (w.drawn-is ∙ ap (λ (n : ℕ). n - 6) width) (omega (arith, w.if-width-lt20.false, width))
@@ -69,9 +65,11 @@ returns-then-room-lt4 c =
       | else-more-gt0 w ↦ ap (λ (v : Vec ℕ Global). v.items) w.out-is ∙ sym (append-nil c.append_label.new.out.items)
           ∙ ap (λ (l : List ℕ). c.append_label.new.out.items ++ l) (no_more _ w.if-more-gt0.false ∙ ap more_outputs outputs)
     ] in
-    let told = title_is f j c.put.new.out.items _ _ _ _ _ _ c.append-3.new.out.items labelled extra c.in_ok-append.ensures.items
-    (c.in_ok-append_seconds.ensures.items ∙ ap (λ (n : ℕ). c.append.new.out.items ++ seconds n) c.time.ensures.value) c.in_ok-append-2.ensures.items
-    (c.in_ok-append_seconds-2.ensures.items ∙ ap (λ (n : ℕ). c.append-2.new.out.items ++ seconds n) c.saturating_sub.ensures) c.in_ok-append-3.ensures.items in
+    let times = c.in_ok-put-3.ensures.items
+    ∙ (λ i. c.if-more-gt0.out.items ++ joined (codes "\n" ∷ seconds (c.time.ensures.value i) ∷ codes " s from " ∷ seconds (c.saturating_sub.ensures i)
+    ∷ codes " s</title></rect>\n" ∷ []))
+    ∙ ap (λ (l : List ℕ). c.if-more-gt0.out.items ++ l) (times_told (seconds (time_of j.span)) (seconds (j.span.began - f.began))) in
+    let told = three_parts c.put.new.out.items c.append_label.new.out.items c.if-more-gt0.out.items c.put-2.new.out.items _ _ _ labelled extra times in
     let at = x_at f j.span.began in
     let name = first_name j.outputs in
     let room = room_is (width_of f j) c.saturating_sub-2.result c.min-room.result (c.saturating_sub-2.ensures ∙ ap (λ (n : ℕ). n - 80) width) c.min-room.ensures in
@@ -81,13 +79,13 @@ returns-then-room-lt4 c =
           many_lanes f lane at (width_of f j) name (omega (arith, room, w.if-room-lt4.false)) (omega (arith, w.if-frame-ge64.true))
     ] in
     record {
-      items = three_parts old c.put.new.out.items c.append-3.new.out.items c.append-3.new.out.items
+      items = three_parts old c.put.new.out.items c.put-2.new.out.items c.put-2.new.out.items
           (rect f lane at (drawn_width (width_of f j)) (kind_of j)) (title f j) (name_text f lane at (width_of f j) name)
           (c.in_ok-put.ensures.items ∙ (λ i. old ++ joined (codes "<rect class=\"k" ∷ decimal (kind i) ∷ codes "\" x=\"" ∷ decimal (x i)
           ∷ codes "\" y=\"" ∷ decimal (c.y_at.ensures.value i) ∷ codes "\" width=\"" ∷ decimal (drawn i) ∷ codes "\" height=\""
           ∷ decimal (c.height.ensures.value i) ∷ codes "\"><title>" ∷ [])))
           told
-          (sym (append-nil c.append-3.new.out.items) ∙ ap (λ (l : List ℕ). c.append-3.new.out.items ++ l) none);
+          (sym (append-nil c.put-2.new.out.items) ∙ ap (λ (l : List ℕ). c.put-2.new.out.items ++ l) none);
     }
 
 pub returns : goal.returns
@@ -97,7 +95,7 @@ returns c =
     let j = seen c.args.job.now in
     let lane = c.args.lane in
     let x = c.x_at-x.ensures.value in
-    let width = c.width_of-width.ensures.value in
+    let width = c.requires.width in
     let drawn : c.if-width-lt20.drawn ≡ drawn_width (width_of f j) = elim c.if-width-lt20.branch [
       | then-width-lt20 w ↦ drawn_narrow (width_of f j) _ (w.drawn-is ∙ width) (omega (arith, w.if-width-lt20.true, width))
       | else-width-lt20 w ↦ drawn_wide (width_of f j) _ (w.drawn-is ∙ ap (λ (n : ℕ). n - 6) width) (omega (arith, w.if-width-lt20.false, width))
@@ -111,25 +109,27 @@ returns c =
       | else-more-gt0 w ↦ ap (λ (v : Vec ℕ Global). v.items) w.out-is ∙ sym (append-nil c.append_label.new.out.items)
           ∙ ap (λ (l : List ℕ). c.append_label.new.out.items ++ l) (no_more _ w.if-more-gt0.false ∙ ap more_outputs outputs)
     ] in
-    let told = title_is f j c.put.new.out.items _ _ _ _ _ _ c.append-3.new.out.items labelled extra c.in_ok-append.ensures.items
-    (c.in_ok-append_seconds.ensures.items ∙ ap (λ (n : ℕ). c.append.new.out.items ++ seconds n) c.time.ensures.value) c.in_ok-append-2.ensures.items
-    (c.in_ok-append_seconds-2.ensures.items ∙ ap (λ (n : ℕ). c.append-2.new.out.items ++ seconds n) c.saturating_sub.ensures) c.in_ok-append-3.ensures.items in
+    let times = c.in_ok-put-3.ensures.items
+    ∙ (λ i. c.if-more-gt0.out.items ++ joined (codes "\n" ∷ seconds (c.time.ensures.value i) ∷ codes " s from " ∷ seconds (c.saturating_sub.ensures i)
+    ∷ codes " s</title></rect>\n" ∷ []))
+    ∙ ap (λ (l : List ℕ). c.if-more-gt0.out.items ++ l) (times_told (seconds (time_of j.span)) (seconds (j.span.began - f.began))) in
+    let told = three_parts c.put.new.out.items c.append_label.new.out.items c.if-more-gt0.out.items c.put-2.new.out.items _ _ _ labelled extra times in
     let at = x_at f j.span.began in
     let name = first_name j.outputs in
     let room = room_is (width_of f j) c.saturating_sub-2.result c.min-room.result (c.saturating_sub-2.ensures ∙ ap (λ (n : ℕ). n - 80) width) c.min-room.ensures in
-    let titled = c.append-3.new.out.items in
+    let titled = c.put-2.new.out.items in
     let base = c.base_of.ensures ∙ ap base_of c.name-name.ensures in
     record {
-      items = on_ok_weaker c.append-4.result (λ h. three_parts old c.put.new.out.items titled c.append-4.new.out.items
+      items = on_ok_weaker c.append.result (λ h. three_parts old c.put.new.out.items titled c.append.new.out.items
           (rect f lane at (drawn_width (width_of f j)) (kind_of j)) (title f j) (name_text f lane at (width_of f j) name)
           (c.in_ok-put.ensures.items ∙ (λ i. old ++ joined (codes "<rect class=\"k" ∷ decimal (kind i) ∷ codes "\" x=\"" ∷ decimal (x i)
           ∷ codes "\" y=\"" ∷ decimal (c.y_at.ensures.value i) ∷ codes "\" width=\"" ∷ decimal (drawn i) ∷ codes "\" height=\""
           ∷ decimal (c.height.ensures.value i) ∷ codes "\"><title>" ∷ [])))
           told
-          (three_parts titled c.put-2.new.out.items c.append_cut_name.new.out.items c.append-4.new.out.items _ _ (codes "</text>\n")
-          c.in_ok-put-3.ensures.items c.in_ok-append_cut_name.ensures.items h
+          (three_parts titled c.put-3.new.out.items c.append_cut_name.new.out.items c.append.new.out.items _ _ (codes "</text>\n")
+          c.in_ok-put-4.ensures.items c.in_ok-append_cut_name.ensures.items h
           ∙ (λ i. titled ++ (joined (codes "<text x=\"" ∷ decimal (x i + 40) ∷ codes "\" y=\"" ∷ decimal (c.y_at-2.ensures.value i + 135) ∷ codes "\">" ∷ [])
           ++ cut_name (room i) (base i) ++ codes "</text>\n"))
           ∙ ap (λ (l : List ℕ). titled ++ l) (with_name f lane at (width_of f j) name (omega (arith, room, c.if-room-lt4.false)) (omega (arith, c.if-frame-ge64.false)))))
-          c.append-4.ensures.items;
+          c.append.ensures.items;
     }

@@ -1,4 +1,4 @@
-use Rattle.std.proofs.Common.{◌≡◌, ◌∙◌, ◌-◌, ◌^◌, ◌≤◌, ap, arith, length, max, min, sym}
+use Rattle.std.proofs.Common.{◌≡◌, ◌∙◌, ◌-◌, ◌^◌, ◌≤◌, ℕ, ap, arith, length, max, min, sym}
 use Rattle.std.specs.List.{fold, sum_by}
 use Rattle.std.proofs.lemmas.List.{at_drop_all}
 use Rattle.nl_builds.specs.declared.command.Command.{Command}
@@ -12,8 +12,8 @@ pub returns-clause-value : goal.returns-clause-value
 returns-clause-value c =
     let t = told c.args.from.now in
     let n = c.args.number in
-    let cs = c.commands_between-commands.result.now in
-    let is = c.commands_between-commands.ensures in
+    let cs = c.made_by-place.result.0.now in
+    let is = c.made_by-place.ensures.commands in
     let l = c.loop-command in
     let place = entries_to (commands_to (n - 1) t.builds) t.commands in
     let all : length cs ≤ l.command-index = omega (arith, c.loop-command-test.false) in
@@ -27,15 +27,15 @@ returns-clause-value c =
     let so_far : l.total ≡ sum_by time cs = omega (arith, l.invariant.total, at_drop_all (λ ds. sum_by time ds) cs l.command-index all) in
     let total : l.total ≡ total_time (build_jobs t n) = so_far ∙ sym (total_from t.entries place cs) ∙ ap (λ ds. total_time (jobs_from t.entries place ds)) is in
     let commands : length cs ≡ length (build_jobs t n) = sym (length_from t.entries place cs) ∙ ap (λ ds. length (jobs_from t.entries place ds)) is in
-    let start = c.entries_to-start.ensures ∙ (λ i. entries_to (commands_to (c.saturating_sub.ensures i) t.builds) t.commands) in
-    let outputs = c.saturating_sub-2.ensures ∙ (λ i. c.entries_to.ensures i - start i) in
-    let wall = c.saturating_sub-3.ensures ∙ (λ i. ended i - began i) in
+    let ended_by = c.ends_of.ensures.entries ∙ ap (λ (m : ℕ). entries_to m t.commands) c.ends_of.ensures.commands in
+    let outputs = c.saturating_sub.ensures ∙ (λ i. ended_by i - c.made_by-place.ensures.place i) in
+    let wall = c.saturating_sub-2.ensures ∙ (λ i. ended i - began i) in
     λ i. record { commands = commands i; outputs = outputs i; wall = wall i; total = total i }
 
 pub returns-clause-small : goal.returns-clause-small
 returns-clause-small c = record {
   commands = omega (arith, c.loop-command.auto.command-index-end, c.loop-command-test.false);
-  outputs = omega (arith, c.saturating_sub-2.type_inv);
-  wall = omega (arith, c.saturating_sub-3.ensures, c.loop-command.invariant.early);
+  outputs = omega (arith, c.saturating_sub.type_inv);
+  wall = omega (arith, c.saturating_sub-2.ensures, c.loop-command.invariant.early);
   total = omega (arith, c.loop-command.invariant.small, c.loop-command.auto.command-index-end);
 }

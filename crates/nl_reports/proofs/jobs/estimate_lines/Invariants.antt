@@ -1,9 +1,9 @@
 use Rattle.std.proofs.Common.{ℕ, List, drop, map}
 use Rattle.nl_reports.specs.Found.{IsFound}
-use Rattle.nl_reports.specs.GraphText.{seen_graph}
+use Rattle.nl_tool_texts.specs.GraphText.{seen_graph}
 use Rattle.nl_reports.specs.Jobs.{seen}
 use Rattle.nl_reports.specs.Plans.{AreMore, heading}
-use Rattle.nl_reports.specs.declared.graph.NinjaGraph.{NinjaGraph}
+use Rattle.nl_tool_texts.specs.declared.graph.NinjaGraph.{NinjaGraph}
 use Rattle.nl_reports.proofs.jobs.estimate_lines.Given as goal
 
 -- what follows these lines makes up all of them

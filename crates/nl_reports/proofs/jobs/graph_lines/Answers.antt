@@ -1,11 +1,16 @@
 use Rattle.std.proofs.Common.{◌∙◌, ◌++◌, [], List, ℕ, Option, ap, append-nil, map, refl, subst, sym}
 use Rattle.nl_reports.specs.Found.{AreFound}
-use Rattle.nl_reports.specs.GraphText.{seen_graph}
+use Rattle.nl_tool_texts.specs.GraphText.{seen_graph}
 use Rattle.nl_reports.specs.Jobs.{seen}
 use Rattle.nl_reports.specs.Plans.{AreEstimates}
 use Rattle.nl_reports.specs.declared.critical.Critical.{Critical}
 use Rattle.nl_reports.proofs.PlanLemmas.{estimates_there, none_asked}
 use Rattle.nl_reports.proofs.jobs.graph_lines.Goals as goal
+
+pub estimate_lines-requires : goal.estimate_lines-requires
+estimate_lines-requires c =
+    let is = subst (λ (o : Option Critical). AreFound c.args.by.now.graph.now (map seen c.args.jobs.now) o) c.in-Some.is c.in_ok-found.ensures.value in
+    record { small = is.small }
 
 pub returns-then-is_empty : goal.returns-then-is_empty
 returns-then-is_empty c =

@@ -1,6 +1,6 @@
-use Rattle.std.proofs.Common.{◌≡◌, ◌∙◌, List, None, Option, Some, ap, map, option_map, subst, sym}
+use Rattle.std.proofs.Common.{◌≡◌, ◌∙◌, List, None, Option, Some, ap, map, option_map, refl, subst, sym}
 use Rattle.std.specs.Borrow.{Bor}
-use Rattle.nl_reports.specs.GraphText.{seen_graph}
+use Rattle.nl_tool_texts.specs.GraphText.{seen_graph}
 use Rattle.nl_reports.specs.Jobs.{Job, seen, told}
 use Rattle.nl_reports.specs.Picture.{IsOutlined, IsPicture, known_in, picture}
 use Rattle.nl_reports.specs.Found.{AreFound, IsFound}
@@ -8,7 +8,7 @@ use Rattle.nl_reports.specs.Reaches.{ran_seen}
 use Rattle.nl_reports.specs.declared.critical.Critical.{Critical}
 use Rattle.nl_reports.specs.Turns.{jobs_in_turn}
 use Rattle.nl_tool_texts.specs.Writing.{PrintsInPieces}
-use Rattle.nl_reports.specs.declared.graph.NinjaGraph.{NinjaGraph}
+use Rattle.nl_tool_texts.specs.declared.graph.NinjaGraph.{NinjaGraph}
 use Rattle.nl_tool_texts.proofs.WritingLemmas.{pieces_of}
 use Rattle.nl_reports.proofs.picture.draw_builds.Goals as goal
 
@@ -19,8 +19,8 @@ returns-in_default-clause-prints g c =
     let ran : map seen c.as_slice-jobs.result.now ≡ jobs_in_turn scope t = ap (map seen) c.as_slice-jobs.ensures.value ∙ c.in_ok-jobs.ensures.value in
     subst (λ (o : Option (Bor NinjaGraph)). PrintsInPieces (IsPicture scope (option_map (λ g'. seen_graph g'.now) o) t)
     (g.W.Write.contents c.args.writer.now) (g.W.Write.contents c.write_jobs.new.writer) c.write_jobs.result) (sym c.in_default.is)
-    (pieces_of (IsPicture scope None t) (picture c.known_in-known.result None (map seen c.as_slice-jobs.result.now))
-    (λ i. picture (c.known_in-known.ensures i) None (ran i)) _ _ c.write_jobs.result c.write_jobs.ensures.writes c.write_jobs.ensures.faults)
+    (pieces_of (IsPicture scope None t) (picture (known_in scope t) None (map seen c.as_slice-jobs.result.now))
+    (λ i. picture (known_in scope t) None (ran i)) _ _ c.write_jobs.result c.write_jobs.ensures.writes c.write_jobs.ensures.faults)
 
 pub returns-clause-prints : goal.returns-clause-prints
 returns-clause-prints g c =
@@ -32,12 +32,12 @@ returns-clause-prints g c =
     let rans = map ran_seen found.path.commands.items in
     let ran : js ≡ jobs_in_turn scope t = ap (map seen) c.as_slice-jobs.ensures.value ∙ c.in_ok-jobs.ensures.value in
     let is : IsFound graph js found = subst (λ (o : Option Critical). AreFound graph js o) c.in-Some-2.is c.in_ok-found.ensures.value in
-    let drawn = picture c.known_in-known.result (Some rans) js in
+    let drawn = picture (known_in scope t) (Some rans) js in
     let outlined : IsOutlined (seen_graph graph) (known_in scope t) js drawn = record {
       length = found.path.length;
       rans = rans;
       is_path = is.is_path;
-      is = λ i. picture (c.known_in-known.ensures i) (Some rans) js;
+      is = refl;
     } in
     subst (λ (o : Option (Bor NinjaGraph)). PrintsInPieces (IsPicture scope (option_map (λ g'. seen_graph g'.now) o) t)
     (g.W.Write.contents c.args.writer.now) (g.W.Write.contents c.write_jobs-2.new.writer) c.write_jobs-2.result) (sym c.in-Some.is)

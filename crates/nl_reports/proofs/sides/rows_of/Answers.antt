@@ -1,4 +1,4 @@
-use Rattle.std.proofs.Common.{◌≡◌, ◌∙◌, ◌+◌, ◌<◌, ◌≤◌, ◌++◌, ◌∷◌, [], ℕ, Bool, List, Option, ap, append-nil, append_assoc, arith, drop, get_or, length, map, option_map, refl, replicate, rules, subst, sym, take, true}
+use Rattle.std.proofs.Common.{◌≡◌, ◌∙◌, ◌+◌, ◌<◌, ◌≤◌, ◌++◌, ◌∷◌, [], ℕ, Bool, List, Option, ap, append-nil, append_assoc, arith, drop, get_or, length, map, option_map, replicate, rules, subst, sym, take, true}
 use Rattle.std.proofs.lemmas.List.{at_drop_more, drop_all, length-map, map-append}
 use Rattle.std.proofs.Math.Seq.{take-append_seam}
 use Rattle.nl_reports.specs.Compare.{Compared, compared_of, fresh, held_side, job_at, pair_of, pairs_from, partner, told_pair, with_taken}
@@ -58,8 +58,8 @@ loop-job-preserved c =
     ∙ sym (at_drop_more (λ (l : List HeldJob). map compared_of rows ++ map told (pairs_from new.jobs left (map seen l))) js i j within)
     ∙ c.loop-job.invariant
 
-pub loop-other-init : goal.loop-other-init
-loop-other-init c =
+pub loop-place-init : goal.loop-place-init
+loop-place-init c =
     let old = held_side c.args.old.now in
     let new = held_side c.args.new.now in
     let jobs = c.args.old.now.jobs.items in
@@ -68,24 +68,21 @@ loop-other-init c =
     let told = told_pair c.args.rules old new in
     let all : length jobs ≤ c.loop-job.job-index =
     omega (arith, c.loop-job-test.false, ap (λ (l : List HeldJob). length l) c.deref-job-items.ensures.value) in
-    record {
-      place = refl;
-      told = ap (λ (cs : List Compared). rows ++ cs) (fresh_told c.args.rules old new (marked left new.jobs))
-          ∙ ap (λ (js : List HeldJob). rows ++ map told (pairs_from new.jobs left (map seen js))) (sym (drop_all c.loop-job.job-index jobs all))
-          ∙ c.loop-job.invariant;
-    }
+    ap (λ (cs : List Compared). rows ++ cs) (fresh_told c.args.rules old new (marked left new.jobs))
+    ∙ ap (λ (js : List HeldJob). rows ++ map told (pairs_from new.jobs left (map seen js))) (sym (drop_all c.loop-job.job-index jobs all))
+    ∙ c.loop-job.invariant
 
 pub returns : goal.returns
 returns c =
-    let rows = map compared_of c.loop-other.rows.items in
-    let left = drop c.loop-other.place c.loop-job.left.items in
+    let rows = map compared_of c.loop-place.rows.items in
+    let left = drop c.loop-place.place c.loop-job.left.items in
     let told = fresh (held_side c.args.old.now) (held_side c.args.new.now) in
     let jobs = c.args.new.now.jobs.items in
-    let all : length jobs ≤ c.loop-other.other-index =
-    omega (arith, c.loop-other-test.false, ap (λ (l : List HeldJob). length l) c.deref-other-items.ensures.value) in
+    let all : length jobs ≤ c.loop-place.place =
+    omega (arith, c.loop-place-test.false, c.loop-place.auto.place-end, ap (λ (l : List HeldJob). length l) c.deref-other-items.ensures.value) in
     record {
       value = sym (append-nil rows)
           ∙ ap (λ cs. rows ++ map told cs)
-          (sym (ap (λ (l : List HeldJob). marked left (map seen l)) (drop_all c.loop-other.other-index jobs all) ∙ none_marked left))
-          ∙ c.loop-other.invariant.told;
+          (sym (ap (λ (l : List HeldJob). marked left (map seen l)) (drop_all c.loop-place.place jobs all) ∙ none_marked left))
+          ∙ c.loop-place.invariant;
     }

@@ -11,10 +11,7 @@ invariant-loop-job l = map compared_of l.rows.items ++ map (told_pair l.rules (h
     ≡ compared l.rules (held_side l.old) (held_side l.new)
 
 -- the commands so far, and those that only the new log has of what is left
-abbrev pub invariant-loop-other : goal.invariant-loop-other
-invariant-loop-other l = record {
-  place : l.place ≡ l.other-index;
-  told : map compared_of l.rows.items ++ map (fresh (held_side l.old) (held_side l.new))
-      (marked (drop l.place l.left.items) (map seen (drop l.other-index l.new.jobs.items)))
-      ≡ compared l.fn.rules (held_side l.old) (held_side l.new);
-}
+abbrev pub invariant-loop-place : goal.invariant-loop-place
+invariant-loop-place l = map compared_of l.rows.items ++ map (fresh (held_side l.old) (held_side l.new))
+    (marked (drop l.place l.left.items) (map seen (drop l.place l.new.jobs.items)))
+    ≡ compared l.fn.rules (held_side l.old) (held_side l.new)

@@ -8,7 +8,7 @@ use Rattle.std.proofs.lemmas.Option.{slice_get-map, slice_get_past, slice_get_re
 use Rattle.nl_fields.specs.declared.entry.Entry.{Entry}
 use Rattle.nl_reports.specs.Compare.{is_left, job_at, partner, with_taken}
 use Rattle.nl_reports.specs.Jobs.{seen}
-use Rattle.nl_reports.specs.Outputs.{last_at}
+use Rattle.nl_tool_texts.specs.Lists.{last_at}
 use Rattle.nl_reports.specs.declared.job.Job.{Job as HeldJob}
 use Rattle.nl_reports.proofs.sides.take_partner.Goals as goal
 

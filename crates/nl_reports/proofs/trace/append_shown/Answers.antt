@@ -5,7 +5,6 @@ use Rattle.json.specs.Token as token
 use Rattle.json.specs.Token.{Token}
 use Rattle.nl_reports.specs.Events.{event_text}
 use Rattle.nl_reports.proofs.BareLemmas.{bare_quoted}
-use Rattle.nl_tool_texts.proofs.TextLemmas.{three_parts}
 use Rattle.nl_reports.proofs.trace.append_shown.Goals as goal
 
 string_is : (s : List ℕ) → print (token.string s ∷ []) ≡ quoted s
@@ -17,9 +16,8 @@ returns-then-is_bare c =
     let old = c.args.out.now.items in
     let name = c.args.name.now in
     record {
-      items = on_ok_weaker c.append-then-is_bare-2.result (λ h. three_parts old c.append.new.out.items c.append-then-is_bare.new.out.items
-          c.append-then-is_bare-2.new.out.items (34 ∷ []) name (34 ∷ []) c.in_ok-append.ensures.items c.in_ok-append-2.ensures.items h
-          ∙ ap (λ (l : List ℕ). old ++ l) (bare_quoted name (c.requires.bare c.if-is_bare.true))) c.append-then-is_bare-2.ensures.items;
+      items = on_ok_weaker c.put.result (λ h. h ∙ ap (λ (l : List ℕ). old ++ l) (bare_quoted name (c.is_bare.ensures.bare c.if-is_bare.true)))
+          c.put.ensures.items;
     }
 
 pub returns : goal.returns
@@ -30,5 +28,5 @@ returns c =
     ∙ (λ i. (c.in_ok-string.ensures.room.0 ∙ c.new-json.ensures.before ∙ c.new.ensures.items) i ++ print (tokens i))
     ∙ ap (λ (s : List ℕ). print (token.string s ∷ [])) (c.as_str.ensures.value ∙ c.in_ok-text.ensures.lossy) ∙ string_is _ in
     record {
-      items = on_ok_weaker c.append-2.result (λ h. h ∙ ap (λ (l : List ℕ). c.args.out.now.items ++ l) (c.as_slice.ensures.value ∙ told)) c.append-2.ensures.items;
+      items = on_ok_weaker c.append.result (λ h. h ∙ ap (λ (l : List ℕ). c.args.out.now.items ++ l) (c.as_slice.ensures.value ∙ told)) c.append.ensures.items;
     }

@@ -1,12 +1,12 @@
-use Rattle.std.proofs.Common.{◌≡◌, ◌∙◌, [], List, ap, arith, map, refl, subst, sym}
+use Rattle.std.proofs.Common.{◌≡◌, ◌∙◌, [], ℕ, List, ap, arith, get_or, map, refl, subst, sym}
 use Rattle.std.specs.List.{Contains}
 use Rattle.nl_reports.specs.Critical.{Ran as Told}
 use Rattle.nl_reports.specs.Reaches.{IsFarthest, far_at, ran_seen}
 use Rattle.nl_reports.specs.declared.critical.Ran.{Ran}
-use Rattle.nl_reports.specs.declared.graph.Edge.{Edge}
+use Rattle.nl_tool_texts.specs.declared.graph.Edge.{Edge}
 use Rattle.nl_reports.proofs.ReachesLemmas.{SoFar, longest, path_begun, path_ended, path_more, so_far_as}
 use Rattle.nl_reports.proofs.critical.Reaches.path.Goals as goal
-use Rattle.nl_reports.proofs.critical.Reaches.path.Goals.{in-Some+then-edge-node+then-edge-len+then-far_at-behind_at+in_ok-push_ran, in-Some+else-edge-node, in_default}
+use Rattle.nl_reports.proofs.critical.Reaches.path.Goals.{in-Some+then-edge-node+then-edge-self+then-far_at-from+in_ok-push_ran, in-Some+else-edge-node, in_default}
 
 abbrev seen : List Ran → List Told
 seen rs = map ran_seen rs
@@ -24,7 +24,7 @@ loop-place-preserved c = λ js are is.
     let node = c.match-get.node in
     let rans = seen c.match-get.commands.items in
     elim c.match-get.branch [
-      | in-Some+then-edge-node+then-edge-len+then-far_at-behind_at+in_ok-push_ran w ↦
+      | in-Some+then-edge-node+then-edge-self+then-far_at-from+in_ok-push_ran w ↦
           let found = w.in-Some.ensures.lookup in
           let e = w.in-Some.edge.now in
           let new = seen w.push_ran.new.commands.items in
@@ -32,8 +32,8 @@ loop-place-preserved c = λ js are is.
           let lent : Contains c.deref.result.now e = (_, found.3.0, sym found.1) in
           let same : c.deref.result.now ≡ r.graph.now.edges.items = c.deref.ensures.value in
           let more : SoFar js r start e.to [] new = path_more js r start loop.node [] (seen loop.commands.items) new so_far w.in_ok-push_ran.ensures.items e
-          (subst P same lent) are w.if-edge-node.true (omega (arith, w.if-edge-len.true, w.len.ensures))
-          (sym w.far_at-then-edge-len.ensures ∙ w.if-far_at-behind_at.true ∙ w.behind_at.ensures.value) in
+          (subst P same lent) are w.if-edge-node.true w.if-edge-self.true
+          (sym w.far_at-then-edge-self.ensures ∙ w.if-far_at-from.true ∙ w.from.ensures ∙ w.item_at.ensures ∙ ap (λ (l : List ℕ). get_or l loop.node 0) w.deref-then-edge-self.ensures.value) in
           so_far_as js r start node e.to [] rans new w.node-is (λ i. seen (w.commands-is i).items) more
       | in-Some+else-edge-node w ↦ so_far_as js r start node loop.node [] rans (seen loop.commands.items) w.node-is (λ i. seen (w.commands-is i).items) so_far
       | in_default w ↦ so_far_as js r start node loop.node [] rans (seen loop.commands.items) w.node-is (λ i. seen (w.commands-is i).items) so_far
@@ -49,13 +49,12 @@ returns c = record {
           arith,
           c.loop-node-test.false,
           c.loop-node.auto.node-end,
-          c.len-node-end.ensures,
-          c.loop-node.invariant.within (omega (arith, some, c.loop-node-test.false, c.len-node-end.ensures)),
+          c.loop-node.invariant.within (omega (arith, some, c.loop-node-test.false)),
         );
-        farthest = λ k inside. c.loop-node.invariant.farthest k (omega (arith, inside, c.loop-node-test.false, c.len-node-end.ensures));
+        farthest = λ k inside. c.loop-node.invariant.farthest k (omega (arith, inside, c.loop-node-test.false));
       } in
       let followed = path_ended js r c.loop-node.start c.loop-place.node [] (seen c.loop-place.commands.items) (seen c.push_ran-2.new.commands.items)
-      (c.loop-place.invariant js are is) c.in_ok-push_ran-2.ensures.items (sym c.behind_at-2.ensures.value ∙ c.if-behind_at-ne0.false) in
+      (c.loop-place.invariant js are is) c.in_ok-push_ran-2.ensures.items (sym (ap (λ (l : List ℕ). get_or l c.loop-place.node 0) c.deref-2.ensures.value) ∙ sym c.item_at-2.ensures ∙ c.if-item_at-ne0.false) in
       record {
         path = followed.path;
         longest = longest ps js r are.distinct are.ran r.graph.now.edges.items (far_at r c.loop-node.start)

@@ -8,7 +8,7 @@ use Rattle.std.proofs.lemmas.List.Elements.{All-contains}
 use Rattle.nl_reports.specs.Jobs.{seen}
 use Rattle.nl_reports.specs.Spans.{IsEarly, time_of}
 use Rattle.nl_reports.specs.Times.{job_work, with_job}
-use Rattle.nl_reports.specs.Work.{place, work_of}
+use Rattle.nl_tool_texts.specs.Work.{place, work_of}
 use Rattle.nl_reports.specs.declared.job.Job.{Job}
 use Rattle.nl_reports.specs.declared.kinds.Times.{Times}
 use Rattle.nl_reports.proofs.PictureLemmas.{has_place}
