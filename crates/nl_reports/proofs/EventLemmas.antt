@@ -102,8 +102,8 @@ unfolding event_text escape_byte
 command_is b lane j = refl
 
 abbrev pub running_text : ℕ → ℕ → ℕ → List ℕ
-running_text number count ts = codes ",{\"args\":{\"commands\":" ++ (decimal count ++ (codes "},\"name\":\"running\",\"ph\":\"C\",\"pid\":"
-    ++ (decimal number ++ (codes ",\"ts\":" ++ (decimal ts ++ codes "}")))))
+running_text number count ts = codes ",{\"args\":{\"commands\":" ++ decimal count ++ codes "},\"name\":\"running\",\"ph\":\"C\",\"pid\":"
+    ++ decimal number ++ codes ",\"ts\":" ++ decimal ts ++ codes "}"
 
 pub running_is : (b : BuildEvent) (cs : List Span) (at : ℕ) → running_text b.number (running cs at) (micros (at - b.began))
     ≡ 44 ∷ event_text (running_event b cs at)

@@ -1,3 +1,4 @@
+mod CheckedLemmas
 mod MomentLemmas
 mod SweepLemmas
 mod SweepStepLemmas

@@ -13,8 +13,7 @@ use std::alloc::Global;
 // The moments of builds count from so many nanoseconds before 1970.
 const ZERO: i128 = 2_147_483_648_000_000;
 
-/// A line for each build: its number, when it began by a clock of this time zone, how long it took, how many commands and outputs it has,
-/// and how it is known. A heading stands before them. Tabs part fields.
+/// A heading, and for each build its number, when it began in this time zone, its time, commands and outputs, and how it is known, by tabs.
 pub fn builds_screen(alloc: Global, zone: &TimeZone, from: &Builds) -> AllocResult<Vec<u8>>
     ensures value { IfOk result (λ lines. IsBuildsScreen zone.now (told from.now) lines.items) }
 {

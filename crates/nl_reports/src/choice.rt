@@ -77,8 +77,7 @@ pub fn last_number(from: &Builds) -> usize
 // The last moment of the clock.
 pub(crate) const LAST: u64 = 4_294_967_295;
 
-/// The commands of these builds, on a clock on which each build begins as the one before it has ended, the first at 0; those of each in the
-/// order of START.
+/// The commands of these builds by START, on a clock on which each build begins as the one before it has ended, and the first at 0.
 pub fn jobs_in_turn<'s, 'a>(alloc: Global, scope: Scope, from: &'s Builds<'a>) -> JobsResult<'s, 'a>
     ensures value { IfOk result (λ jobs. map seen jobs.items ≡ jobs_in_turn scope (told from.now)) }
     ensures early { IfOk result (λ jobs. All (λ j. IsEarly j.span) jobs.items) }

@@ -78,8 +78,7 @@ pub(crate) fn critical_of<'g, 'a>(
     }))
 }
 
-/// How long the critical path of these commands is, its commands in order, and how many commands the graph lacks; nothing, where there is
-/// no command.
+/// How long the critical path is, its commands in order, and how many commands the graph lacks; nothing, where there is no command.
 pub(crate) fn critical_lines(screen: bool, found: &Critical, jobs: &[Job]) -> AllocResult<Vec<u8>>
     ensures value { (g : HeldGraph) → IsFound g (map seen jobs.now) found.now
         → IfOk result (λ lines. IsCritical screen (seen_graph g) (map seen jobs.now) (Some lines)) }

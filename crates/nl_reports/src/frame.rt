@@ -127,8 +127,7 @@ pub struct Short {
     pub count: u64,
 }
 
-/// Appends the bar of a command in its lane. One that is too short for a bar is put to those of its lane that aren't drawn yet, or has these
-/// drawn if they begin at another pixel.
+/// Appends the bar of a command in its lane. One too short for a bar joins those that wait in its lane, once those of another pixel are drawn.
 pub(crate) fn append_bar(
     frame: &Frame,
     job: &Job,

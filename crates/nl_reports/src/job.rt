@@ -73,18 +73,17 @@ pub(crate) fn jobs_from<'s, 'a>(
 }
 
 /// Commands of one START keep their order.
-pub fn jobs_by_start<'s, 'a>(jobs: Vec<Job<'s, 'a>>) -> JobsResult<'s, 'a>
+pub fn jobs_by_start<'s, 'a>(mut jobs: Vec<Job<'s, 'a>>) -> JobsResult<'s, 'a>
     requires early { All (λ j. IsEarly j.span) jobs.items }
     ensures value { IfOk result (λ sorted. map seen sorted.items ≡ by_start (map seen jobs.entry.items)) }
     ensures early { IfOk result (λ sorted. All (λ j. IsEarly j.span) sorted.items) }
 {
-    let mut sorted = jobs;
-    sorted.sort_by(|a, b| {
+    jobs.sort_by(|a, b| {
         NO_MOMENT
             .saturating_sub(b.span.began)
             .cmp(&NO_MOMENT.saturating_sub(a.span.began))
     })?;
-    Ok(sorted)
+    Ok(jobs)
 }
 
 /// Times are in milliseconds.

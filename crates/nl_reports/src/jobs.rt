@@ -25,8 +25,7 @@ pub struct ByGraph<'g, 't> {
 }
 
 /// What a graph tells of these commands, which stand in the order of START: the critical path, gains, and the estimates that are asked for. None,
-/// where it lacks all commands, or no plan is found: commands wait for themselves. In both cases it isn't the graph of this build. Names are
-/// hashed under a secret.
+/// where it isn't the graph of this build: it lacks all commands, or no plan is found. Names are hashed under a secret.
 pub fn graph_lines(
     alloc: Global,
     secret: Secret,

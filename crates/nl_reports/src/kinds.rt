@@ -7,9 +7,9 @@ use crate::rows::Row;
 use indexmap::IndexMap;
 use nl_table::{NameKey, Secret};
 use nl_tool_texts::{AllocResult, KindRule, kind_of, place, work_of};
-use std::alloc::Global;
+use std::alloc::{AllocError, Global};
 
-/// The kinds stand in the order in which they first appear, and are hashed under a secret.
+/// The kinds stand in the order in which they first appear, and are hashed under a secret. One of 2^64 ms is refused as memory is.
 pub(crate) fn kinds_of<'a>(
     alloc: Global,
     secret: Secret,
@@ -26,7 +26,7 @@ pub(crate) fn kinds_of<'a>(
         let mut row = Row { name, ..*command };
         if let Some(before) = rows.get(&kind) {
             row.commands += before.commands;
-            row.time += before.time;
+            row.time = row.time.checked_add(before.time).ok_or(AllocError)?;
             row.weight += before.weight;
         }
         rows.insert(kind, row)?;

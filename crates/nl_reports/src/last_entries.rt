@@ -10,8 +10,7 @@ use nl_table::{NameKey, Secret};
 use nl_tool_texts::{AllocResult, item_at};
 use std::alloc::Global;
 
-/// Only the last entry of each output is left, and none of an output that waits for a command which didn't end. Commands and builds
-/// without an entry go. Names are hashed under a secret.
+/// The last entry of each output is left, none of an output that waits, and no command or build without one. Names are hashed under a secret.
 pub fn lasting<'a>(
     alloc: Global,
     secret: Secret,

@@ -6,16 +6,14 @@ ghost use Rattle.nl_reports.specs.{Bars.{drawn_width, long_bar, width_of}, Compa
 ghost use Rattle.nl_tool_texts.specs.{Falling.{falling, ranked}, Graphs.{Graph}, Work.{is_same}, declared.kind.KindRule.{KindRule}, declared.kind.Work.{Work}, declared.kind.Work.TheVariants.{Archive, Compile, Generate, Link, Other, Test}};
 
 /// The weighted times of commands, and what is left over, add up to the time in which one command at least runs. What is left over is no
-/// more parts of a millisecond than the commands' own times have milliseconds. The sums of their shares are that time, and the time in which one
-/// command alone runs.
+/// more parts of a millisecond than the commands' times have milliseconds. Their shares tell that time, and in how much of it one alone runs.
 pub fn weights_add_up()
     ensures weights { (cs : List Span) → sum_by (weight cs) cs + left_over cs ≡ parts * busy_time cs }
     ensures left { (cs : List Span) → left_over cs ≤ sum_by time_of cs }
     ensures sums { (cs : List Span) (s : Shares) → AreSharesOf cs s → (s.sums.busy ≡ busy_time cs) × (s.sums.alone ≡ alone_time cs) }
 {}
 
-/// A list of commands or kinds is those that it is made of, each once; none is larger than one before it, by what the list goes by; and
-/// those that are equal by it stand as before.
+/// A list is the commands or kinds that it is made of, each once, the largest first, by what it goes by; equal ones stand as before.
 pub fn the_largest_come_first()
     ensures each { (rank : Told → ℕ) (ts : List Told) → IsPermutation ts (falling rank ts) }
     ensures order { (rank : Told → ℕ) (ts : List Told) (i j : ℕ) (d : Told) → i ≤ j → j < length (falling rank ts)
@@ -52,9 +50,8 @@ pub fn the_last_entry_of_each_output_is_left()
         → jobs_from (lasting names t).entries 0 (lasting names t).commands ≡ filter has_outputs (jobs_left names t.entries 0 t.commands) }
 {}
 
-/// What is compared are pairs: each command of the old log stands in one, in its order; and those of the new log that stand in pairs, with
-/// an old one or alone, are all of its commands, each once. Those of the old log come first, in its order. Each command is in one class; so
-/// the totals of all classes add up to those of all commands, whatever is summed.
+/// What is compared are pairs: first each command of the old log, in its order, with one of the new log or alone, then what is left of the new
+/// log, each command once. Each is in one class, so the totals of all classes add up to those of all commands, whatever is summed.
 pub fn each_command_is_compared_once()
     ensures rows { (rules : Rules) (old new : Log) → compared rules old new ≡ map (told_pair rules old new) (pairs old.jobs new.jobs) }
     ensures old { (js ks : List Job) → flat_map old_of (pairs js ks) ≡ js }
@@ -66,8 +63,7 @@ pub fn each_command_is_compared_once()
 {}
 
 /// No lane holds two commands that run at one moment. A command gets a new lane only if so many others run as it begins: its lane's number
-/// is at most that of the commands before it that run then. So no other choice of lanes has fewer, but for a command that took no time: it
-/// runs at no moment, and may take one lane more.
+/// is at most that of the commands before it that run then. So no other choice has fewer lanes, but for one more if a command took no time.
 pub fn no_lane_holds_two_at_once()
     ensures apart { (cs : List Span) (i j t : ℕ) (d : Span) → i < j → j < length cs
         → slice_index (lanes cs) i ≡ slice_index (lanes cs) j → runs_at t (slice_index_or cs i d) ≡ true
@@ -94,8 +90,7 @@ pub fn a_bar_takes_at_most_400_bytes()
     ensures within { (f : Frame) (j : Job) → (1000 ≤ x_at f j.span.began) × (x_at f j.span.began + drawn_width (width_of f j) ≤ 15400) }
 {}
 
-/// Each command counts for one kind of a picture; so the times of all kinds are those of all commands, and their parts are no more than a
-/// hundred.
+/// Each command counts for one kind of a picture, so the times of all kinds are those of all commands, and their parts at most a hundred.
 pub fn parts_add_up()
     ensures kinds { (js : List Job) (w : Work) → time_in (times_of js) w
         ≡ sum_by (λ (j : Job). time_of j.span) (filter (λ j. is_same w (job_work j)) js) }

@@ -80,13 +80,12 @@ impl Moments {
     }
 }
 
-pub(crate) fn rising(moments: Vec<u64>) -> Vec<u64>
+pub(crate) fn rising(mut moments: Vec<u64>) -> Vec<u64>
     ensures items { IsPermutation moments.items result.items }
     ensures order { All (λ m. m ≤ 2 ^ 32) moments.items → Rises result.items }
 {
-    let mut sorted = moments;
-    sorted.sort_unstable();
-    sorted
+    moments.sort_unstable();
+    moments
 }
 
 /// How many moments are at this one or before. `near` is where to look first.

@@ -31,10 +31,9 @@ const OUTLINED: &[u8] =
     b"<style>.c{fill:none;stroke:#d00000;stroke-width:30;pointer-events:none}@media(prefers-color-scheme:dark){.c{stroke:#ff6b6b}}</style>\n<rect class=\"c\" x=\"11800\" y=\"540\" width=\"140\" height=\"140\"/><text x=\"12000\" y=\"655\">critical path</text>\n";
 
 /// Writes a picture of builds, one after another on one clock: each command is a bar in a lane, in which no other runs as it does, with its
-/// name where there is room for it, and with its first output, how many more it has, and its time as a title. Commands that are too short
-/// for a bar have one together, by lane and pixel. By a graph, the commands of the critical path have an outline. Above is the part
-/// of each kind, below the curve of how many run, and the commands that took the longest. If a build was found again, a line of text says
-/// so. The text is written as it is made, so a part of it may stand where memory is refused. Names are hashed under a secret.
+/// name where there is room, and its first output, how many more it has, and its time as a title. Commands too short for a bar have one together,
+/// by lane and pixel. By a graph, the critical path has an outline. Above is the part of each kind, below the curve of how many run and the longest
+/// commands. A line says if a build was found again. Where memory is refused, a part of the text may stand. Names are hashed under a secret.
 pub fn draw_builds<W: Write>(
     alloc: Global,
     secret: Secret,

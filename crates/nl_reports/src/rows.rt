@@ -8,13 +8,12 @@ use nl_tool_texts::{
     AllocResult, KindRule, Part, Ranking, append, append_line, highest, percent, put, ratio,
 };
 
-/// A command by its first output, or a kind: how many commands it has, the sum of their milliseconds, and that of their weighted times, in
-/// parts of a millisecond.
+/// A command by its first output, or a kind: how many commands it has, their milliseconds, and their weighted times in parts of one.
 #[derive(Clone, Copy, Drop)]
 pub struct Row<'a> {
     pub name: &'a [u8],
-    pub commands: u128,
-    pub time: u128,
+    pub commands: usize,
+    pub time: u64,
     pub weight: u128,
 }
 
@@ -30,7 +29,7 @@ impl<'a> Ranking<Row<'a>> for Rank {
 
     fn rank(&self, row: &Row<'a>) -> u128 {
         match self {
-            Rank::Time => row.time,
+            Rank::Time => u128::from(row.time),
             Rank::Weight => row.weight,
         }
     }
@@ -73,10 +72,11 @@ impl Ranked {
         let unnamed = self.of_kinds && row.name.is_empty();
         let name = Part::Text(if unnamed { b"(none)" } else { row.name });
         if self.lists.screen {
-            let time = Part::Took(true, row.time);
-            let share = Part::Percent(percent(row.time, self.total));
+            let time = u128::from(row.time);
+            let share = Part::Percent(percent(time, self.total));
+            let time = Part::Took(true, time);
             if self.of_kinds {
-                let count = Part::Number(row.commands);
+                let count = Part::Number(row.commands as u128);
                 return append_line(&[time, share, count, name], lines);
             }
             return append_line(&[time, share, name], lines);

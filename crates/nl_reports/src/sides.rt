@@ -207,10 +207,9 @@ const LISTED: [Class; 6] = [
     Class::Unfinished,
 ];
 
-/// What an old log and a new one say of their commands: whether the hashes of these were compared, which logs of version 7 and of older
-/// ones can't; for each class how many commands it has, and how long they took; and of each class but that of equal ones so many commands
-/// at most, those with the largest differences first. A difference of fewer milliseconds than the least is none. Names are hashed under a
-/// secret. At a terminal these are tables.
+/// What an old log and a new one say of their commands: whether hashes were compared, which a log of version 7 and an older one can't be; how many
+/// commands each class has, and how long they took; and of each class but that of equal ones so many at most, the largest differences first. A
+/// difference of fewer milliseconds than the least is none. Names are hashed under a secret. At a terminal these are tables.
 pub fn compare_lines(
     alloc: Global,
     secret: Secret,

@@ -61,8 +61,7 @@ impl Waiting {
         })
     }
 
-    /// From when on each part is there, if so many run at a time at most. Each command that is ready is taken as soon as fewer run; what waits
-    /// for itself is never taken.
+    /// From when on each part is there, if so many run at a time at most. A ready one is taken as soon as fewer run, one that waits for itself never.
     pub(crate) fn run(&self, jobs: &[Job], count: usize) -> AllocResult<Vec<u64>> {
         let alloc = *self.parts.allocator();
         let mut waits = Vec::from_slice(alloc, self.waits.as_slice())?;

@@ -4,12 +4,12 @@ ghost use Rattle.nl_reports.specs.{Jobs.{build_jobs, told}, Kinds.{AreSumsOf}, N
 ghost use Rattle.nl_tool_texts.specs.Falling.{falling};
 
 use crate::choice::{Scope, chosen};
-use crate::job::{jobs_from, made_by, numbers_of, spans_of};
+use crate::job::{Job, made_by, numbers_of};
 use crate::kinds::kinds_of;
-use crate::moments::{Near, Shares};
+use crate::moments::{Near, Shares, Span};
 use crate::rows::{Lists, Rank, Ranked, Row};
 use nl_builds::{Build, Builds, How};
-use nl_tool_texts::{AllocResult, Part, append_line, between, highest, put, ratio};
+use nl_tool_texts::{AllocResult, Part, append_line, between, highest, item_at, put, ratio};
 use std::alloc::Global;
 
 /// The sums of the numbers of builds, one after another. Times are in milliseconds.
@@ -35,9 +35,12 @@ impl Totals {
     {
         let alloc = *found.allocator();
         let (commands, place) = made_by(from, number, number);
-        let jobs = jobs_from(alloc, place, commands, from.entries.as_slice())?;
-        let jobs = jobs.as_slice();
-        let shares = Shares::of(alloc, spans_of(alloc, jobs)?.as_slice())?;
+        let mut weights = Vec::with_capacity(alloc, commands.len())?;
+        let mut spans = Vec::with_capacity(alloc, commands.len())?;
+        for command in commands {
+            spans.push(Span::of(command))?;
+        }
+        let shares = Shares::of(alloc, spans.as_slice())?;
         let numbers = numbers_of(from, number);
         self.outputs += numbers.outputs as u128;
         self.wall += u128::from(numbers.wall);
@@ -45,13 +48,27 @@ impl Totals {
         self.alone += u128::from(shares.sums.alone);
         self.most = self.most.max(shares.most());
         let mut near = Near::default();
-        for job in jobs {
+        for span in &spans {
+            weights.push(shares.weight(&mut near, span))?;
+        }
+        // The rows take as much.
+        drop(shares);
+        drop(spans);
+        let mut start = place;
+        for at in 0..commands.len() {
+            let command = &commands[at];
+            let job = Job {
+                span: Span::of(command),
+                hash: command.hash,
+                outputs: between(start, command.to, from.entries.as_slice()),
+            };
             found.push(Row {
                 name: job.name(),
                 commands: 1,
-                time: u128::from(job.span.time()),
-                weight: u128::from(shares.weight(&mut near, &job.span)),
+                time: job.span.time(),
+                weight: u128::from(item_at(&weights, at, 0)),
             })?;
+            start = command.to;
         }
         Ok(())
     }
@@ -73,7 +90,7 @@ impl Totals {
         if screen {
             let most = u128::from(self.most);
             // They take no less, if no more run at a time: the slowest takes as long as it takes.
-            let best = (total / most.max(1)).max(slowest.map_or(0, |it| it.time));
+            let best = (total / most.max(1)).max(slowest.map_or(0, |it| u128::from(it.time)));
             let none = self.wall.saturating_sub(self.busy);
             return put!(lines; [Part::Took(true, self.wall)] b"\telapsed\n" [Part::Took(true, total)]
                 b"\tof work\n" {count} b"\tcommands\n" {self.outputs} b"\toutputs\n" [parallel]
@@ -127,7 +144,7 @@ pub fn summary_lines(
     let commands = commands.as_slice();
     let mut total = 0;
     for command in commands {
-        total += command.time;
+        total += u128::from(command.time);
     }
     if screen {
         let count = Part::Number(from.builds.len() as u128);
@@ -148,17 +165,14 @@ pub fn summary_lines(
     append_count(screen, b"again", words, taken, &mut lines)?;
     append_unfinished(screen, unfinished, &mut lines)?;
     if lists.most > 0 {
-        let ranked = Ranked {
+        let mut ranked = Ranked {
             lists,
             of_kinds: false,
             total,
         };
         ranked.append(commands, &mut lines)?;
         let kinds = kinds_of(alloc, lists.secret, lists.rule, commands)?;
-        let ranked = Ranked {
-            of_kinds: true,
-            ..ranked
-        };
+        ranked.of_kinds = true;
         ranked.append(kinds.as_slice(), &mut lines)?;
     }
     Ok(lines)

@@ -22,8 +22,7 @@ use std::io::Write;
 pub(crate) const FULL: usize = 16_384;
 
 /// Writes what builds did, one after another on one clock, as the events of a trace: a JSON array. Each command has a lane, in which no other
-/// runs as it does, and all its outputs; and it is told how many run as it begins and as it has ended. The text is written as it is made, so
-/// a part of it may stand where memory is refused.
+/// runs as it does, and its outputs, and tells how many run as it begins and as it has ended. Where memory is refused, a part of the text may stand.
 #[tactic(auto, using(crate::proofs::TraceLemmas::none_told))]
 pub fn trace_builds<W: Write>(
     alloc: Global,
@@ -120,10 +119,14 @@ fn append_command(build: BuildEvent, lane: u64, job: &Job, out: &mut Vec<u8>) ->
         append_shown(entry.name(), out)?;
         comma = b",";
     }
-    put!(out; b"]},\"dur\":" {job.span.time() * 1000} b",\"name\":")?;
+    append_with(b"]},\"dur\":", job.span.time() * 1000, out)?;
+    append(b",\"name\":", out)?;
     append_shown(job.name(), out)?;
-    put!(out; b",\"ph\":\"X\",\"pid\":" {build.number} b",\"tid\":" {lane + 1} b",\"ts\":"
-        {job.span.began.saturating_sub(build.began) * 1000} b"}")
+    append_with(b",\"ph\":\"X\",\"pid\":", build.number, out)?;
+    append_with(b",\"tid\":", lane + 1, out)?;
+    let ts = job.span.began.saturating_sub(build.began) * 1000;
+    append_with(b",\"ts\":", ts, out)?;
+    append(b"}", out)
 }
 
 // A name as JSON, with U+FFFD for what isn't UTF-8.
@@ -146,6 +149,9 @@ fn append_running(build: BuildEvent, count: u64, at: u64, out: &mut Vec<u8>) -> 
     ensures items { (cs : List Span) → count ≡ running cs at → OnOk result
         (out.new.items ≡ out.old.items ++ 44 ∷ event_text (running_event build cs at)) }
 {
-    put!(out; b",{\"args\":{\"commands\":" {count} b"},\"name\":\"running\",\"ph\":\"C\",\"pid\":"
-        {build.number} b",\"ts\":" {at.saturating_sub(build.began) * 1000} b"}")
+    let number = build.number;
+    append_with(b",{\"args\":{\"commands\":", count, out)?;
+    append_with(b"},\"name\":\"running\",\"ph\":\"C\",\"pid\":", number, out)?;
+    append_with(b",\"ts\":", at.saturating_sub(build.began) * 1000, out)?;
+    append(b"}", out)
 }

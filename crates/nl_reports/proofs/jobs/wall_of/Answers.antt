@@ -1,5 +1,4 @@
-use Rattle.std.proofs.Common.{◌≡◌, ◌∙◌, ◌+◌, ◌<◌, ◌≤◌, ◌^◌, ℕ, List, Option, None, Some, ap, arith, length, map, refl, rules, subst, sym}
-use Rattle.std.specs.Prelude.{SomeIff}
+use Rattle.std.proofs.Common.{◌≡◌, ◌∙◌, ◌+◌, ◌<◌, ◌≤◌, ◌^◌, ℕ, List, Some, ap, arith, length, map, refl, rules, subst, sym}
 use Rattle.std.specs.List.Sorted.{IsPermutation}
 use Rattle.std.proofs.lemmas.List.{length-map, take_all}
 use Rattle.std.proofs.lemmas.List.Sorted.{length_permutation}
@@ -12,14 +11,11 @@ use Rattle.nl_reports.specs.Sweep.{last_moment, running}
 use Rattle.nl_reports.specs.declared.critical.Reaches.{Reaches}
 use Rattle.nl_reports.specs.declared.job.Job.{Job as HeldJob}
 use Rattle.nl_reports.specs.declared.moments.Span.{Span}
+use Rattle.nl_reports.proofs.CheckedLemmas.{sum_is}
 use Rattle.nl_reports.proofs.FoundLemmas.{are_planned}
 use Rattle.nl_reports.proofs.PlanLemmas.{few_by, in_plan, made_kept, plan_more, planned_kept, planned_spans, times_as}
 use Rattle.nl_reports.proofs.ReachesLemmas.{have_plan}
 use Rattle.nl_reports.proofs.jobs.wall_of.Goals as goal
-
-sum_is : (o : Option ℕ) (P : Type 0) (x y : ℕ) → SomeIff o P x → o ≡ Some y → y ≡ x
-sum_is None P x y is some = cc
-sum_is (Some z) P x y is some = let same : z ≡ y = cc in sym same ∙ is.1
 
 pub loop-place-preserved : goal.loop-place-preserved
 loop-place-preserved c =

@@ -7,8 +7,9 @@ use Rattle.std.specs.Prelude.{IfOk}
 use Rattle.nl_reports.specs.Kinds.{AreNamed, AreSumsOf, counted, kind_pair, kinds, same_bytes}
 use Rattle.nl_reports.specs.Rows.{told_row}
 use Rattle.nl_reports.specs.declared.rows.Row.{Row}
+use Rattle.nl_reports.proofs.CheckedLemmas.{sum_is}
 use Rattle.nl_reports.proofs.KindLemmas.{counted_none, counted_some, counted_within, found_within, kinds_more, named_more, no_row, one_within, rows_are}
-use Rattle.nl_reports.proofs.kinds.kinds_of.Goals.{in-Some, in_default}
+use Rattle.nl_reports.proofs.kinds.kinds_of.Goals.{in-Some+in_ok-row, in_default}
 use Rattle.nl_reports.proofs.kinds.kinds_of.Goals as goal
 
 pub overflow_add-row : goal.overflow_add-row
@@ -21,12 +22,6 @@ pub overflow_add-row-in-Some : goal.overflow_add-row-in-Some
 overflow_add-row-in-Some c =
     let one = one_within 1 c.args.commands.now c.loop-command.command-index no_row c.requires.small c.loop-command-test.true in
     let found = found_within c.loop-command.command-index c.loop-command.rows.entries c.kind_of-name.result.now c.in-Some.before.now (sym c.in-Some.ensures.value) c.loop-command.invariant.few in
-    omega (arith, one.time, found.time)
-
-pub overflow_add-row-in-Some-2 : goal.overflow_add-row-in-Some-2
-overflow_add-row-in-Some-2 c =
-    let one = one_within 1 c.args.commands.now c.loop-command.command-index no_row c.requires.small c.loop-command-test.true in
-    let found = found_within c.loop-command.command-index c.loop-command.rows.entries c.kind_of-name.result.now c.in-Some.before.now (sym c.in-Some.ensures.value) c.loop-command.invariant.few in
     omega (arith, one.weight, found.weight)
 
 pub loop-command-preserved : goal.loop-command-preserved
@@ -36,13 +31,14 @@ loop-command-preserved c =
     let d = get_or c.args.commands.now i no_row in
     let n = c.kind_of-name.result in
     let now : map kind_pair c.insert.new.self.entries ≡ counted n.now (map kind_pair ps) (told_row d) = elim c.match-get.branch [
-      | in-Some w ↦ counted_some ps c.insert.new.self.entries (record { bytes = n }) n (told_row d) w.in-Some.before.now (sym w.in-Some.ensures.value)
-          (c.in_ok-insert.ensures.entries ∙ ap (insert_entry same_bytes ps (record { bytes = n })) w.row-is)
+      | in-Some+in_ok-row w ↦ counted_some ps c.insert.new.self.entries (record { bytes = n }) n (told_row d) w.in-Some.before.now (sym w.in-Some.ensures.value)
+          (c.in_ok-insert.ensures.entries ∙ ap (insert_entry same_bytes ps (record { bytes = n })) (w.row-is
+          ∙ (λ k. record { name = n; commands = d.commands + w.in-Some.before.now.commands; time = sum_is w.checked_add.result _ _ w.in_ok-row.field-0 w.checked_add.ensures (search rules) k; weight = d.weight + w.in-Some.before.now.weight })))
       | in_default w ↦ counted_none ps c.insert.new.self.entries (record { bytes = n }) n (told_row d) (sym w.in_default.ensures.value)
           (c.in_ok-insert.ensures.entries ∙ ap (insert_entry same_bytes ps (record { bytes = n })) w.row-is)
     ] in
     let own : n.now ≡ c.match-get.row.name.now = elim c.match-get.branch [
-      | in-Some w ↦ sym (ap (λ (r : Row). r.name.now) w.row-is)
+      | in-Some+in_ok-row w ↦ sym (ap (λ (r : Row). r.name.now) w.row-is)
       | in_default w ↦ sym (ap (λ (r : Row). r.name.now) w.row-is)
     ] in
     record {
