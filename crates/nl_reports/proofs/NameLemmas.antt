@@ -1,11 +1,12 @@
 -- The names of outputs as JSON, one by one.
-use Rattle.std.proofs.Common.{◌≡◌, ◌∙◌, ℕ, zero, suc, ◌+◌, true, false, List, [], ◌∷◌, ◌++◌, ap, append_assoc, arith, codes, map, refl, sym}
+use Rattle.std.proofs.Common.{◌≡◌, ◌∙◌, ℕ, zero, suc, ◌+◌, ◌<◌, true, false, List, [], ◌∷◌, ◌++◌, ◌==◌, All, ap, append_assoc, arith, codes, get_or, length, map, refl, subst, sym, true≢false}
 use Rattle.serde_json.specs.View.{items_of}
 use Rattle.serde_json.specs.Written.{items_text}
 use Rattle.nl_fields.specs.Digits.{digits_of}
 use Rattle.nl_fields.specs.declared.entry.Entry.{Entry}
 use Rattle.nl_reports.specs.Events.{args_of, event_text, shown}
-use Rattle.nl_reports.specs.Jobs.{Job}
+use Rattle.nl_reports.specs.Jobs.{Job, first_name}
+use Rattle.nl_tool_texts.specs.Escape.{IsBare}
 use Rattle.nl_reports.proofs.BareLemmas.{hash_quoted}
 use Rattle.json.specs.Print.{escape_byte}
 
@@ -60,3 +61,10 @@ args_told old first told more j begun named =
     sym (append_assoc told (93 ∷ []) (125 ∷ more)) ∙ ap (λ (l : List ℕ). l ++ (125 ∷ more)) (named ∙ ap (λ (l : List ℕ). l ++ names) (begun ∙ hash_told old j.hash))
     ∙ in_line old (codes "{\"hash\":") (event_text (shown (digits_of 16 j.hash))) (codes ",\"outputs\":[") names more
     ∙ ap (λ (l : List ℕ). (old ++ l) ++ more) (args_are j)
+
+-- a name before which no comma stands is the first
+pub first_bare : (es : List Entry) (i : ℕ) (comma name : List ℕ) (e d : Entry) → All IsBare (first_name es) → comma ≡ comma_before i → true ≡ (length comma == 0)
+    → i < length es → e ≡ get_or es i d → name ≡ e.name → All IsBare name
+first_bare [] i comma name e d bare before none within is named = absurd (omega (arith, within))
+first_bare (x ∷ es) zero comma name e d bare before none within is named = subst (All IsBare) (sym (named ∙ ap (λ (e : Entry). e.name) is)) bare
+first_bare (x ∷ es) (suc i) comma name e d bare before none within is named = absurd (true≢false (none ∙ ap (λ (l : List ℕ). length l == 0) before))

@@ -48,9 +48,8 @@ fn append_began(zone: &TimeZone, began: Option<u64>, lines: &mut Vec<u8>) -> All
         {time.minute / 10} {time.minute % 10} b":" {time.second / 10} {time.second % 10})
 }
 
-/// A line for each build: its number, how many commands and outputs it has, the milliseconds from its first START to its last END, the
-/// sum of the commands' times, and `sure` or `unsure` if it is as written, whether both its borders are sure. If it was found again, that
-/// is `again`, and the line ends with how many of its outputs later builds may have taken.
+/// A line for each build: its number, commands, outputs, the milliseconds from its first START to its last END, the sum of its commands' times,
+/// and `sure` or `unsure`, by its borders, or `again` if it was found again, and how many of its outputs later builds may have taken.
 pub fn builds_lines(alloc: Global, from: &Builds) -> AllocResult<Vec<u8>>
     ensures value { IfOk result (λ lines. lines.items ≡ builds_text (told from.now)) }
 {

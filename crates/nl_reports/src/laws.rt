@@ -38,8 +38,7 @@ pub fn each_kind_is_its_commands()
         → sum_by (λ (k : Told). k.sums.weight) (kinds rule (told_jobs js)) + left_over (spans js) ≡ parts * busy_time (spans js) }
 {}
 
-/// What is left of the entries of an output is its last one, and nothing where it waits; and what is left of all stands as before. Each
-/// command keeps those of its outputs that are left, and one of which none is left is gone. There places rise.
+/// Of an output its last entry is left, none where it waits, in order. Where places rise, a command keeps its outputs that are left, or goes.
 pub fn the_last_entry_of_each_output_is_left()
     ensures last { (names : List (List ℕ)) (t : BuildsTold) (name : List ℕ) → is_among name names ≡ false
         → of_name name (lasting names t).entries ≡ last_of (of_name name t.entries) }
@@ -72,8 +71,7 @@ pub fn no_lane_holds_two_at_once()
         ≤ count_by (runs_at (slice_index_or cs i d).began) (take i cs) }
 {}
 
-/// By the definition of reading of `serde_json`, the text of any events reads as their array, if each number in them has 64 bits. The text of
-/// a trace does, where there are no more commands and outputs than a memory holds.
+/// The text of any events reads as their array by `serde_json`'s definition, if each number has 64 bits, as in a trace that a memory holds.
 pub fn a_trace_reads_as_its_events()
     ensures events { (ds : List Data) → All IsEvent ds → read (array_text ds) ≡ Some (array (items_of ds)) }
     ensures trace { (scope : Scope) (t : BuildsTold) → length (jobs_in_turn scope t) < 2 ^ 63 → number_in scope t < 2 ^ 64

@@ -51,9 +51,10 @@ impl Totals {
         for span in &spans {
             weights.push(shares.weight(&mut near, span))?;
         }
-        // The rows take as much.
         drop(shares);
         drop(spans);
+        // The rows are as large, so they take their place.
+        found.reserve(commands.len())?;
         let mut start = place;
         for at in 0..commands.len() {
             let command = &commands[at];
@@ -136,8 +137,7 @@ pub fn summary_lines(
         return Ok(lines);
     }
     let mut totals = Totals::default();
-    let all = made_by(from, choice.first, choice.last).0.len();
-    let mut commands = Vec::with_capacity(alloc, all)?;
+    let mut commands = Vec::new(alloc);
     for place in 0..told.len() {
         totals.add(from, choice.first + place, &mut commands)?;
     }

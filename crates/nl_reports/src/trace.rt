@@ -110,18 +110,21 @@ fn append_command(build: BuildEvent, lane: u64, job: &Job, out: &mut Vec<u8>) ->
     requires lane { lane < 2 ^ 63 }
     ensures items { OnOk result (out.new.items ≡ out.old.items ++ 44 ∷ event_text (command_event build lane (seen job.now))) }
 {
+    let name = job.name();
+    let is_first_bare = is_bare(name);
     append(b",{\"args\":{\"hash\":\"", out)?;
     append_hex64(job.hash, out)?;
     append(b"\",\"outputs\":[", out)?;
     let mut comma: &[u8] = b"";
     for entry in job.outputs {
         append(comma, out)?;
-        append_shown(entry.name(), out)?;
+        let is_bare = comma.is_empty() && is_first_bare || is_bare(entry.name());
+        append_shown(is_bare, entry.name(), out)?;
         comma = b",";
     }
     append_with(b"]},\"dur\":", job.span.time() * 1000, out)?;
     append(b",\"name\":", out)?;
-    append_shown(job.name(), out)?;
+    append_shown(is_first_bare, name, out)?;
     append_with(b",\"ph\":\"X\",\"pid\":", build.number, out)?;
     append_with(b",\"tid\":", lane + 1, out)?;
     let ts = job.span.began.saturating_sub(build.began) * 1000;
@@ -130,10 +133,11 @@ fn append_command(build: BuildEvent, lane: u64, job: &Job, out: &mut Vec<u8>) ->
 }
 
 // A name as JSON, with U+FFFD for what isn't UTF-8.
-fn append_shown(name: &[u8], out: &mut Vec<u8>) -> AllocResult
+fn append_shown(is_bare: bool, name: &[u8], out: &mut Vec<u8>) -> AllocResult
+    requires bare { IsTrue is_bare → All IsBare name.now }
     ensures items { OnOk result (out.new.items ≡ out.old.items ++ event_text (shown name.now)) }
 {
-    if is_bare(name) {
+    if is_bare {
         return put!(out; b"\"" [Part::Text(name)] b"\"");
     }
     let alloc = *out.allocator();

@@ -43,9 +43,9 @@ loop-place-init c =
     let none : c.default-totals.result ≡ no_totals = search rules in
     record {
       totals = λ i. totals_from (none i) t (first i) bs;
-      commands = λ i. map told_row (c.in_ok-commands.ensures.items i) ++ rows_from t (first i) bs;
+      commands = λ i. map told_row (c.new-commands.ensures.items i) ++ rows_from t (first i) bs;
       few = subst (AreTotalsOf 0) (sym none) (record { outputs = omega arith; wall = omega arith; busy = omega arith; alone = omega arith });
-      small = subst (λ (l : List Row). AreSumsOf 1 (map told_row l)) (sym c.in_ok-commands.ensures.items) tt;
+      small = subst (λ (l : List Row). AreSumsOf 1 (map told_row l)) (sym c.new-commands.ensures.items) tt;
     }
 
 pub loop-place-preserved : goal.loop-place-preserved

@@ -16,7 +16,7 @@ returns-then-is_bare c =
     let old = c.args.out.now.items in
     let name = c.args.name.now in
     record {
-      items = on_ok_weaker c.put.result (λ h. h ∙ ap (λ (l : List ℕ). old ++ l) (bare_quoted name (c.is_bare.ensures.bare c.if-is_bare.true)))
+      items = on_ok_weaker c.put.result (λ h. h ∙ ap (λ (l : List ℕ). old ++ l) (bare_quoted name (c.requires.bare c.if-is_bare.true)))
           c.put.ensures.items;
     }
 

@@ -80,7 +80,7 @@ loop-at-init c =
     let t = told c.args.from.now in
     let n = c.args.number in
     record {
-      value = λ k. map told_row c.args.found.now.items ++ map (told_job (spans_of (build_jobs t n))) (jobs_from t.entries (c.made_by-place.ensures.place k) (c.made_by-place.ensures.commands k));
+      value = λ k. map told_row c.reserve.new.self.items ++ map (told_job (spans_of (build_jobs t n))) (jobs_from t.entries (c.made_by-place.ensures.place k) (c.made_by-place.ensures.commands k));
       small = λ were. were;
     }
 
