@@ -3,6 +3,7 @@
 
 mod disk_folder;
 mod failed_call;
+mod log_folder;
 mod looks;
 mod os_system;
 mod paths;
@@ -14,6 +15,7 @@ mod wait;
 
 pub use disk_folder::DiskFolder;
 pub use failed_call::{FailedCall, Failure, FileRole, SystemCall};
+pub use log_folder::LogFolder;
 pub use looks::{Look, escaped_of, look_of};
 pub use os_system::OsSystem;
 pub use paths::folder_part;
