@@ -10,6 +10,7 @@ mod ManifestLemmas
 mod DamageLawLemmas
 mod ReadLemmas
 mod RepairLemmas
+mod KeepAllLemmas
 mod SeenLemmas
 mod MendLemmas
 mod SeenLogLemmas

@@ -141,11 +141,11 @@ unlooked m old new version same failed = record {
 }
 
 -- a version for a folder, whichever is asked for
-version_for_disk : Option LogVersion → Option Disk → LogVersion
+pub version_for_disk : Option LogVersion → Option Disk → LogVersion
 version_for_disk (Some version) disk = version
 version_for_disk None disk = version_of_disk disk
 
-version_for_disk_is : (asked : Option LogVersion) (disk : Option Disk) → IsVersionFor asked disk (version_for_disk asked disk)
+pub version_for_disk_is : (asked : Option LogVersion) (disk : Option Disk) → IsVersionFor asked disk (version_for_disk asked disk)
 unfolding version_for_disk
 version_for_disk_is (Some version) disk = refl
 version_for_disk_is None disk = version_of_disk_is None disk refl

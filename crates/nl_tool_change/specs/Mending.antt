@@ -15,7 +15,7 @@ use Rattle.nl_session.specs.Mending.{IsOldOrMended, MendFaults}
 use Rattle.nl_session.specs.Opened.{IsLog}
 use Rattle.nl_tool_texts.specs.declared.fault.ToolFault.{ToolFault}
 use Rattle.nl_tool_texts.specs.declared.fault.ToolFault.TheVariants.{Folder, Memory}
-use Rattle.nl_tool_change.specs.Calls.{IsCounted, RefusesBytes}
+use Rattle.nl_tool_change.specs.Calls.{IsCounted, IsVersionFor, RefusesBytes}
 use Rattle.nl_tool_change.specs.Faults.{IsRecordFault}
 
 -- ---- a log that is read
@@ -66,3 +66,9 @@ pub record MendsSeen (version : LogVersion) (names : List (List ℕ)) (result : 
 pub record MendsLogAs (version : LogVersion) (names : List (List ℕ)) (result : Result (Unit {0}) ToolFault) (old new : FolderView) : Type 0 where
   pub seen : MendsSeen version names result old new
   pub five : version ≡ Five → MendsLog names result old new
+
+-- the log is one of the version that is asked for, or else of the one that it has
+pub record MendsLogFor (asked : Option LogVersion) (names : List (List ℕ)) (result : Result (Unit {0}) ToolFault) (old new : FolderView) : Type 0 where
+  pub version : LogVersion
+  pub chosen : IsVersionFor asked old.disk version
+  pub call : MendsLogAs version names result old new

@@ -21,5 +21,8 @@ pub use line_fault::{
 };
 pub use place::{AskedFolder, LogPlace, mend_on};
 pub use reading::read_log;
-pub use script::replay_to;
-pub use update::{recompact_on, record_command, record_on, repair_on, restat_on, retime_on};
+pub use script::{replay_telling, replay_to};
+pub use update::{
+    recompact_on, recompact_telling, record_command, record_on, repair_on, restat_on,
+    restat_telling, retime_on,
+};

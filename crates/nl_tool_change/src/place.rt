@@ -1,7 +1,7 @@
 //! Where a log stands that is changed: in a folder, as it is, or as one of the version that is asked for.
-ghost use Rattle.std.specs.Prelude.{◌≡◌, Result, IfErr, OnOk};
+ghost use Rattle.std.specs.Prelude.{◌≡◌, ℕ, [], List, Result, IfErr, OnOk};
 ghost use Rattle.nl_tool_texts.specs.declared.fault.ToolFault.{ToolFault};
-ghost use Rattle.nl_tool_change.specs.{Calls.{ChangesLog, ChangesLogAs, ChangesLogFor, IsFaultBy, IsFree, Meaning, Repairs, RepairsFor, keeping_all, Makes}, Faults.{IsRecordFault, IsOpenOrChangeRefusal, of_log_answer, of_log_fault}, Mending.{MendsLogAs}};
+ghost use Rattle.nl_tool_change.specs.{Calls.{ChangesLog, ChangesLogAs, ChangesLogFor, IsFaultBy, IsFree, Meaning, Repairs, RepairsFor, keeping_all, Makes}, Faults.{IsRecordFault, IsOpenOrChangeRefusal, of_log_answer, of_log_fault}, Mending.{MendsLog, MendsLogAs, MendsLogFor}};
 ghost use Rattle.nl_folder.specs.FolderView.{folder_view};
 ghost use Rattle.nl_session.specs.{LogView.{view_of}, declared.fault.LogState.{LogState}};
 
@@ -62,12 +62,23 @@ pub trait LogPlace: Sized {
     // What a change that drops nothing makes of the place.
     ghost repairs: { Result (Unit {0}) ToolFault → Self → Self → Type 0 };
 
+    // What a mend of these outputs makes of the place.
+    ghost mends: { List (List ℕ) → Result (Unit {0}) ToolFault → Self → Self → Type 0 };
+
     fn secret(&self) -> Secret;
 
     fn change<C: Change>(self, alloc: Global, change: &C) -> (Self, ToolResult)
         ensures call { changes (C.meaning change.now) result.1 self result.0 }
         ensures repairs { C.meaning change.now ≡ keeping_all → repairs result.1 self result.0 }
         ensures faults { IfErr result.1 (IsFaultBy (C.meaning change.now)) };
+
+    /// The scratch is written before anything of the log is cut, so a log that isn't mended is the one that was found. With no names it is
+    /// a change that keeps all.
+    fn mend(self, alloc: Global, names: &[Name]) -> (Self, ToolResult)
+        ensures call { mends names.now result.1 self result.0 }
+        ensures keeps { names.now ≡ [] → changes keeping_all result.1 self result.0 }
+        ensures repairs { names.now ≡ [] → repairs result.1 self result.0 }
+        ensures faults { IfErr result.1 IsRecordFault };
 }
 
 /// The log is one of the version that is asked for, or else of the one that its first line names. Names are hashed under the secret.
@@ -83,12 +94,18 @@ impl<F: Folder> LogPlace for F {
 
     ghost repairs = { λ result old new. Repairs result (F.disk old) (F.disk new) };
 
+    ghost mends = { λ names result old new. MendsLog names result (folder_view F.Folder old) (folder_view F.Folder new) };
+
     fn secret(&self) -> Secret {
         NO_SECRET
     }
 
     fn change<C: Change>(self, alloc: Global, change: &C) -> (F, ToolResult) {
         change_found(alloc, NO_SECRET, LogVersion::Five, self, change)
+    }
+
+    fn mend(self, alloc: Global, names: &[Name]) -> (F, ToolResult) {
+        mend_on(alloc, NO_SECRET, LogVersion::Five, self, names)
     }
 }
 
@@ -115,6 +132,9 @@ impl<F: Folder> LogPlace for AskedFolder<F> {
 
     ghost repairs = { λ result old new. RepairsFor old.asked result (F.disk old.folder) (F.disk new.folder) };
 
+    ghost mends = { λ names result old new. MendsLogFor old.asked names result
+        (folder_view F.Folder old.folder) (folder_view F.Folder new.folder) };
+
     fn secret(&self) -> Secret {
         self.secret
     }
@@ -124,6 +144,17 @@ impl<F: Folder> LogPlace for AskedFolder<F> {
         match looked {
             Ok(version) => {
                 let (folder, result) = change_found(alloc, self.secret, version, folder, change);
+                (AskedFolder { folder, ..self }, result)
+            }
+            Err(fault) => (AskedFolder { folder, ..self }, Err(of_log_fault(fault))),
+        }
+    }
+
+    fn mend(self, alloc: Global, names: &[Name]) -> (Self, ToolResult) {
+        let (folder, looked) = look_for(self.asked, self.folder);
+        match looked {
+            Ok(version) => {
+                let (folder, result) = mend_on(alloc, self.secret, version, folder, names);
                 (AskedFolder { folder, ..self }, result)
             }
             Err(fault) => (AskedFolder { folder, ..self }, Err(of_log_fault(fault))),

@@ -7,7 +7,7 @@ ghost use Rattle.nl_tool_texts.specs.{Files.{OfBytes, file_lines}, Output.{Print
 ghost use Rattle.nl_session.specs.declared.events.Event.{Event};
 
 use crate::answers::append_reply;
-use crate::line_fault::{LineFault, Told};
+use crate::line_fault::{LineFault, Told, UNTOLD};
 use nl_fields::{Entry, Name, NameFault, read_entry, read_i64};
 use nl_folder::{Call, Fuse, MemFolder};
 use nl_lines::{Line, Lines, ReadSource};
@@ -308,7 +308,15 @@ fn read_number(text: &[u8]) -> Option<u64>
 }
 
 /// Runs the script's events over a folder in memory whose log is empty, and writes the replies and the log that they leave.
-pub fn replay_to<R: Read + Drop, W: Write>(
+pub fn replay_to<R: Read + Drop, W: Write>(alloc: Global, reader: R, writer: &mut W) -> ToolResult
+    ensures prints { Prints (IsReplayText (R.remaining reader)) (W.contents writer.old) (W.contents writer.new) result }
+    ensures faults { IfErr result IsReplayFault }
+{
+    replay_telling(alloc, reader, writer, &mut { UNTOLD })
+}
+
+/// As `replay_to`, and of a bad line it says what is wrong.
+pub fn replay_telling<R: Read + Drop, W: Write>(
     alloc: Global,
     reader: R,
     writer: &mut W,

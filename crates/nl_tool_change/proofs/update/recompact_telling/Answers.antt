@@ -1,7 +1,7 @@
 use Rattle.std.proofs.Common.{◌≡◌, inl, inr, refl, ap, Err}
 use Rattle.nl_tool_texts.specs.declared.fault.ToolFault.TheVariants.{BadLine}
 use Rattle.nl_tool_change.proofs.KeepLemmas.{kept}
-use Rattle.nl_tool_change.proofs.update.recompact_on.Goals as goal
+use Rattle.nl_tool_change.proofs.update.recompact_telling.Goals as goal
 
 pub returns-in-Ok-of-clause-call : goal.returns-in-Ok-of-clause-call
 returns-in-Ok-of-clause-call g c =

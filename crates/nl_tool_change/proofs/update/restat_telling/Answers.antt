@@ -1,6 +1,6 @@
 use Rattle.std.proofs.Common.{◌≡◌, inl, inr, refl, ap, Err}
 use Rattle.nl_tool_texts.specs.declared.fault.ToolFault.TheVariants.{BadLine}
-use Rattle.nl_tool_change.proofs.update.restat_on.Goals as goal
+use Rattle.nl_tool_change.proofs.update.restat_telling.Goals as goal
 
 pub returns-in-Ok-clause-call : goal.returns-in-Ok-clause-call
 returns-in-Ok-clause-call g c = inr (record { parts = c.in-Ok.times.items; said = c.in-Ok.ensures.value; holds = c.change.ensures.call })
