@@ -4,6 +4,8 @@ pub mod FallingLemmas
 mod RankingLemmas
 pub mod ListedLemmas
 mod FractionLemmas
+pub mod LaidLemmas
+pub mod TerminalLemmas
 pub mod TextLemmas
 pub mod EscapeLemmas
 pub mod BareLemmas

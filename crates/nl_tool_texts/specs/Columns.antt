@@ -1,36 +1,82 @@
 -- A text whose fields tabs part, in columns (docs/CLI.md, "At a terminal").
-use Rattle.std.specs.Prelude.{ℕ, zero, suc, ◌-◌, ◌/◌, ◌%◌, ◌≡◌, ⊤, ◌==◌, ◌&&◌, ◌||◌, nat_le, nat_lt, not, max, Bool, false, List, [], ◌∷◌, ◌++◌, length, get_or, slice_get, replicate, count_by, if◌then◌else◌}
-use Rattle.std.specs.List.{slice_split}
+use Rattle.std.specs.Prelude.{ℕ, zero, suc, ◌-◌, ◌/◌, ◌%◌, ◌≡◌, ◌==◌, ◌&&◌, ◌||◌, nat_le, nat_lt, not, max, Bool, List, [], ◌∷◌, ◌++◌, length, get_or, slice_get, replicate, count_by, if◌then◌else◌}
+use Rattle.std.specs.List.{flat_map, list_all, slice_split}
+use Rattle.std.specs.Char.{encode_utf8}
+use Rattle.std.specs.Str.{chars, continuation_len, is_utf8}
 use Rattle.std.specs.Option.{unwrap_or}
 use Rattle.nl_fields.specs.Digits.{digit_of}
 
 -- ---- what a terminal shows
 
--- a byte that a terminal of UTF-8 takes for a control character after another byte; tabs and newlines part the text
-abbrev pub is_control : ℕ → ℕ → Bool
-is_control before b =
-    (nat_lt b 32 && (not (b == 9) && not (b == 10))) || (b == 127 || (before == 194 && (nat_le 128 b && nat_lt b 160)))
+-- a character that changes the order in which others are read: those of Unicode's Bidi_Control, and the separators of lines and paragraphs
+abbrev pub is_turning : ℕ → Bool
+is_turning c = c == 1564 || ((nat_le 8206 c && nat_le c 8207) || ((nat_le 8232 c && nat_le c 8238) || (nat_le 8294 c && nat_le c 8297)))
+
+-- a character that a terminal obeys: one of those, and each control character but tabs and newlines, which part the text
+abbrev pub is_obeyed : ℕ → Bool
+is_obeyed c = (nat_lt c 32 && (not (c == 9) && not (c == 10))) || ((nat_le 127 c && nat_lt c 160) || is_turning c)
+
+-- a byte of ASCII that isn't obeyed
+abbrev pub is_plain : ℕ → Bool
+is_plain b = nat_lt b 128 && not (is_obeyed b)
+
+-- the bytes are UTF-8, and no character of them is obeyed
+abbrev pub is_quiet : List ℕ → Bool
+is_quiet bytes = is_utf8 bytes && list_all (λ c. not (is_obeyed c)) (chars bytes)
 
 -- a byte by its number in hexadecimal
 abbrev pub by_number : ℕ → List ℕ
-by_number b = 92 ∷ 120 ∷ digit_of (b / 16) ∷ digit_of (b % 16) ∷ []
+by_number b = 92 ∷ 120 ∷ digit_of (b / 16 % 16) ∷ digit_of (b % 16) ∷ []
 
--- a control character so, and another byte as it is
-abbrev pub shown_byte : ℕ → ℕ → List ℕ
-shown_byte before b = if is_control before b then by_number b else b ∷ []
+abbrev pub by_numbers : List ℕ → List ℕ
+by_numbers bytes = flat_map by_number bytes
 
--- a text after another byte, with its control characters by their numbers
-abbrev pub shown_behind : ℕ → List ℕ → List ℕ
-shown_behind before [] = []
-shown_behind before (b ∷ text) = shown_byte before b ++ shown_behind b text
+-- the bytes of one character as they are, if it isn't obeyed; else by their numbers, and so what is no character
+abbrev pub shown_one : List ℕ → List ℕ
+shown_one bytes = if is_quiet bytes then bytes else by_numbers bytes
 
+-- a byte that only goes on with a character of UTF-8
+abbrev pub goes_on : ℕ → Bool
+goes_on b = nat_le 128 b && nat_lt b 192
+
+-- what a byte goes on with, of the beginning of a character that came before it; what it cuts off instead
+abbrev pub gone_on : List ℕ → ℕ → List ℕ
+gone_on begun b = if goes_on b then begun ++ b ∷ [] else b ∷ []
+
+abbrev pub cut_off : List ℕ → ℕ → List ℕ
+cut_off begun b = if goes_on b then [] else begun
+
+-- there are as many bytes as the first of them begins
+abbrev pub is_whole : List ℕ → Bool
+is_whole bytes = nat_lt (continuation_len (get_or bytes 0 0)) (length bytes)
+
+-- what is shown once a byte has come, and what is begun then
+abbrev pub shown_now : List ℕ → ℕ → List ℕ
+shown_now begun b = by_numbers (cut_off begun b) ++ (if is_whole (gone_on begun b) then shown_one (gone_on begun b) else [])
+
+abbrev pub begun_then : List ℕ → ℕ → List ℕ
+begun_then begun b = if is_whole (gone_on begun b) then [] else gone_on begun b
+
+-- the same of several bytes
+abbrev pub shown_of : List ℕ → List ℕ → List ℕ
+shown_of begun [] = []
+shown_of begun (b ∷ text) = shown_now begun b ++ shown_of (begun_then begun b) text
+
+abbrev pub begun_by : List ℕ → List ℕ → List ℕ
+begun_by begun [] = begun
+begun_by begun (b ∷ text) = begun_by (begun_then begun b) text
+
+-- a text is shown as it is, and ends no character in its midst
+abbrev pub Passes : List ℕ → Type 0
+Passes text = (shown_of [] text ≡ text) × (begun_by [] text ≡ [])
+
+-- a text: each character of UTF-8 that isn't obeyed as it is, and all other bytes by their numbers
 abbrev pub shown : List ℕ → List ℕ
-shown text = shown_behind 0 text
+shown text = shown_of [] text ++ by_numbers (begun_by [] text)
 
--- after a byte, a text has no control character but tabs and newlines
-abbrev pub IsQuiet : ℕ → List ℕ → Type 0
-IsQuiet before [] = ⊤
-IsQuiet before (b ∷ text) = (is_control before b ≡ false) × IsQuiet b text
+-- of a character alone
+abbrev pub shown_char : ℕ → List ℕ
+shown_char c = if is_obeyed c then by_numbers (encode_utf8 c) else encode_utf8 c
 
 -- ---- lines and fields
 

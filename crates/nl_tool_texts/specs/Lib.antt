@@ -10,6 +10,7 @@ pub mod Work
 pub mod Kind
 pub mod Escape
 pub mod Columns
+pub mod Terminal
 pub mod GraphLine
 pub mod Lists
 pub mod Graphs

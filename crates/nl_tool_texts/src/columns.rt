@@ -1,12 +1,12 @@
 //! The columns of a text at a terminal.
 ghost use Rattle.std.specs.Prelude.{◌≡◌, ◌++◌, length, map, IfOk, OnOk};
-ghost use Rattle.nl_tool_texts.specs.Columns.{begins_one, cell, cells, end_of, field_at, fields_of, in_columns, last_cell, lines_of, newline_before, row_of, rows_up_to, spaces, widest, width, widths, by_number, is_control, shown, shown_byte};
+ghost use Rattle.nl_tool_texts.specs.Columns.{begins_one, cell, cells, end_of, field_at, fields_of, in_columns, last_cell, lines_of, newline_before, row_of, rows_up_to, spaces, widest, width, widths, shown};
 
+use crate::terminal::shown;
 use crate::text::{AllocResult, append};
-use nl_fields::hex_digit;
 use std::alloc::Global;
 
-/// The text with its fields in columns, and its control characters by their numbers. Tabs part the fields of a line. Lines with as many fields
+/// The text with its fields in columns, and as a terminal may have it. Tabs part the fields of a line. Lines with as many fields
 /// share their columns, wherever they stand. Two spaces part columns; the last one stands at its left, and any other at its right. Where a
 /// line would have more characters than `most`, its last field is cut at its beginning, if others stand before it.
 ///
@@ -117,32 +117,4 @@ fn begins_one(byte: u8) -> bool
     ensures value { result ≡ begins_one byte }
 {
     !(128..192).contains(&byte)
-}
-
-/// The text without control characters.
-pub fn shown(alloc: Global, text: &[u8]) -> AllocResult<Vec<u8>>
-    ensures value { IfOk result (λ out. out.items ≡ shown text.now) }
-{
-    let mut out = Vec::new(alloc);
-    let mut before = 0;
-    for byte in text {
-        let is_control = (*byte < 32 && (*byte != b'\t' && *byte != b'\n'))
-            || (*byte == 127 || (before == 194 && (128 <= *byte && *byte < 160)));
-        if is_control {
-            append_number(*byte, &mut out)?;
-        } else {
-            out.push(*byte)?;
-        }
-        before = *byte;
-    }
-    Ok(out)
-}
-
-/// The number is hexadecimal, as in `\x1b`.
-pub fn append_number(byte: u8, out: &mut Vec<u8>) -> AllocResult
-    ensures { OnOk result (out.new.items ≡ out.old.items ++ by_number byte) }
-{
-    append(b"\\x", out)?;
-    let byte = u64::from(byte);
-    append(&[hex_digit(byte / 16), hex_digit(byte % 16)], out)
 }
