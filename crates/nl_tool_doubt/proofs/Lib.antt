@@ -3,4 +3,6 @@ pub mod OrderLemmas
 pub mod LineLemmas
 pub mod LawLemmas
 pub mod TableLemmas
-pub mod MendLemmas
+pub mod SettleLemmas
+mod KeptLemmas
+mod MendLemmas

@@ -4,4 +4,6 @@ pub mod Spans
 pub mod Known
 pub mod Doubts
 pub mod There
+pub mod Settling
+pub mod Kept
 pub mod Mending

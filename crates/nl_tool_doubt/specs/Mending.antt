@@ -23,6 +23,8 @@ use Rattle.nl_tool_doubt.specs.declared.doubts.Doubts.{Doubts}
 use Rattle.nl_tool_doubt.specs.declared.mending.How.{How}
 use Rattle.nl_tool_doubt.specs.declared.mending.Mended.{Mended}
 use Rattle.nl_tool_doubt.specs.declared.mending.Said.{Said}
+use Rattle.nl_tool_doubt.specs.declared.settling.Due.{Due}
+use Rattle.nl_tool_doubt.specs.declared.settling.Due.TheVariants.{Nothing, Mend}
 
 -- ---- which outputs are told of, and which are made anew
 
@@ -135,13 +137,33 @@ IsMendFault _ = ⊥
 abbrev pub IsUnread : List ℕ → ToolFault → Type 0
 IsUnread log NotALog = log_of (as_five log) ≡ log_reading.NotALog
 IsUnread log OtherVersion = log_of (as_five log) ≡ log_reading.OtherVersion
-IsUnread log _ = ⊤
+IsUnread log Memory = ⊤
+IsUnread log _ = ⊥
 
 -- nothing was written or changed
 pub record NoMend (from to : Option (List ℕ)) (result : Result Mended ToolFault) (fault : ToolFault) (old new : FolderView) : Type 0 where
   pub answer : result ≡ Err fault
   pub wrote : Keeps from to
   pub stays : new ≡ old
+
+-- what is said of the doubts, and what is due by it
+pub record MendsBy (how : How) (log : List ℕ) (doubts : Doubts) (says : List ℕ) (mended : Mended) (found : Due) : Type 0 where
+  pub said : Said
+  pub is : IsSaid how log doubts.named.items said
+  pub here : is_elsewhere doubts ≡ false
+  pub text : says ≡ said.text.items
+  pub told : mended.is_told ≡ said.is_told
+  pub outputs : (mended.outputs ≡ doubts.outputs) × (mended.there ≡ doubts.there)
+  pub due : found ≡ (if said.is_due then Mend (version_of log) said.names else Nothing)
+
+-- nothing is written before the log is mended
+abbrev pub FindsDoubts : How → Option (List ℕ → FileState) → Option (List ℕ) → Option (List ℕ) → List ℕ → Mended → List ℕ
+    → Result Due ToolFault → Type 0
+FindsDoubts how states from to text mended log (Ok due) =
+    (to ≡ from) × (doubts : Doubts) × IsDoubts (damaged_by true log) log states doubts × MendsBy how log doubts text mended due
+FindsDoubts how states from to text mended log (Err Elsewhere) =
+    (to ≡ from) × (doubts : Doubts) × IsDoubts (damaged_by true log) log states doubts × (is_elsewhere doubts ≡ true)
+FindsDoubts how states from to text mended log (Err fault) = (to ≡ from) × IsUnread log fault
 
 abbrev pub MendsBytes : Option (List ℕ → FileState) → How → List ℕ → Option (List ℕ) → Option (List ℕ) → Result Mended ToolFault → FolderView
     → FolderView → Type 0

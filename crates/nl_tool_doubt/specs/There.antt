@@ -1,11 +1,10 @@
 -- What is learned of the files of outputs (docs/CLI.md, "recompact", "restat").
-use Rattle.std.specs.Prelude.{if◌then◌else◌, ◌≡◌, ◌++◌, ◌∷◌, ◌<◌, ◌≤◌, ◌*◌, [], ℕ, ℤ, Bool, List, length, Option, None, Some, IfSome}
+use Rattle.std.specs.Prelude.{if◌then◌else◌, ◌≡◌, ◌++◌, ◌∷◌, ◌<◌, ◌≤◌, ◌*◌, [], ℕ, ℤ, Bool, List, length, Option, None, Some}
 use Rattle.std.specs.List.{count_by, flat_map}
 use Rattle.nl_fields.specs.declared.entry.Entry.{Entry}
 use Rattle.nl_fields.specs.Intent.{is_intent}
 use Rattle.nl_table.specs.History.{holds, logged, table}
-use Rattle.nl_table.specs.Log.{LogReading, Log, NotALog, OtherVersion, log_of}
-use Rattle.nl_versions.specs.VersionOf.{as_five}
+use Rattle.nl_table.specs.Log.{LogReading, Log, NotALog, OtherVersion}
 use Rattle.nl_tool_doubt.specs.Doubts.{AreLooked}
 use Rattle.nl_tool_doubt.specs.declared.files.FileState.{FileState}
 use Rattle.nl_tool_doubt.specs.declared.files.FileState.TheVariants.{Missing, Written}
@@ -30,15 +29,11 @@ pair_by e file = []
 abbrev pub learned : {X : Type 0} → (Entry → FileState → List X) → Looked → List X
 learned by l = by l.entry l.file
 
--- what is learned of the file of each output was added; the log is the one that a reader gave, where that is known
-pub record AddsFor {X : Type 0} (by : Entry → FileState → List X) (known : Option (List ℕ)) (states : Option (List ℕ → FileState))
+-- what is learned of the file of each output of a table was added
+pub record AddsFor {X : Type 0} (by : Entry → FileState → List X) (table : List Entry) (states : Option (List ℕ → FileState))
     (old new : List X) : Type 0 where
-  pub bytes : List ℕ
-  pub given : IfSome known (λ bs. bs ≡ bytes)
-  pub entries : List Entry
-  pub reads : table_in (log_of (as_five bytes)) ≡ Some entries
   pub looked : List Looked
-  pub looks : AreLooked entries states looked
+  pub looks : AreLooked table states looked
   pub items : new ≡ old ++ flat_map (learned by) looked
 
 -- ---- what is kept of a log: the targets of a build, and each output whose file isn't missing
@@ -46,16 +41,16 @@ pub record AddsFor {X : Type 0} (by : Entry → FileState → List X) (known : O
 abbrev pub is_kept : List (List ℕ) → Looked → Bool
 is_kept set it = holds set it.entry.name
 
-pub record IsKept (known : Option (List ℕ)) (states : Option (List ℕ → FileState)) (targets set : List (List ℕ)) : Type 0 where
+pub record IsKept (table : List Entry) (states : Option (List ℕ → FileState)) (targets set : List (List ℕ)) : Type 0 where
   pub names : List (List ℕ)
-  pub adds : AddsFor name_by known states targets names
+  pub adds : AddsFor name_by table states targets names
   pub same : (name : List ℕ) → holds set name ≡ holds names name
 
 -- no more outputs go than stay
-pub record KeepsMost (known : Option (List ℕ)) (states : Option (List ℕ → FileState)) (targets set : List (List ℕ)) : Type 0 where
-  pub is : IsKept known states targets set
+pub record KeepsMost (table : List Entry) (states : Option (List ℕ → FileState)) (targets set : List (List ℕ)) : Type 0 where
+  pub is : IsKept table states targets set
   pub most : length is.adds.looked ≤ 2 * count_by (is_kept set) is.adds.looked
 
-pub record LosesMost (known : Option (List ℕ)) (states : Option (List ℕ → FileState)) (targets set : List (List ℕ)) : Type 0 where
-  pub is : IsKept known states targets set
+pub record LosesMost (table : List Entry) (states : Option (List ℕ → FileState)) (targets set : List (List ℕ)) : Type 0 where
+  pub is : IsKept table states targets set
   pub most : 2 * count_by (is_kept set) is.adds.looked < length is.adds.looked

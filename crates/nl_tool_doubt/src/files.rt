@@ -1,17 +1,12 @@
 //! What the files of a log's outputs are: which are there, and when each was written.
 ghost use Rattle.std.specs.Prelude.{◌≡◌, ℕ, List, Option, IfOk, IfSome, ◌++◌, ◌⊎◌, [], IfErr, IsErrOf, OnOk, flat_map};
 ghost use Rattle.nl_tool_doubt.specs.{Doubts.{AreLooked}, Judging.{is_present, is_written, was_moved}, declared.files.FileState.{FileState}, There.{AddsFor, KeepsMost, LosesMost, learned, name_by, pair_by}};
-ghost use Rattle.nl_table.specs.Log.{log_of};
 ghost use Rattle.nl_tool_texts.specs.declared.fault.ToolFault.{ToolFault};
-ghost use Rattle.nl_tool_print.specs.Faults.{IsLogFault, RefusesLog};
-ghost use Rattle.nl_versions.specs.VersionOf.{as_five};
 
 use nl_fields::{Entry, EntryRef, Name, is_intent};
 use nl_table::{NameSet, Secret, Table};
-use nl_tool_print::load_read;
 use nl_tool_texts::{AllocResult, ToolFault, ToolResult};
 use std::alloc::Global;
-use std::io::Read;
 
 const SECOND: i128 = 1_000_000_000;
 
@@ -90,23 +85,21 @@ pub(crate) fn look_all<'a, F: OutputFiles>(
     Ok(looked)
 }
 
-/// The targets, and each output whose file isn't missing: the file of each is asked for, in the order of first appearance. If the log
-/// has more outputs that are neither than others, the folder is that of another build, and nothing is to be dropped (`Elsewhere`).
-pub fn names_there<R: Read + Drop, F: OutputFiles>(
+/// The targets, and each output of the table whose file isn't missing: the file of each is asked for, in the order of first appearance. If
+/// there are more outputs that are neither than others, the folder is that of another build, and nothing is to be dropped (`Elsewhere`).
+pub(crate) fn names_there<F: OutputFiles>(
     alloc: Global,
     secret: Secret,
-    reader: R,
+    table: &Table,
     files: &F,
     targets: Vec<Name>,
 ) -> ToolResult<NameSet>
-    ensures kept { IfOk result (KeepsMost (R.remaining reader) (F.states files.now) targets.items) }
+    ensures kept { IfOk result (KeepsMost table.now (F.states files.now) targets.items) }
     ensures elsewhere { IsErrOf result ToolFault.Elsewhere → (set : List (List ℕ))
-        × LosesMost (R.remaining reader) (F.states files.now) targets.items set }
-    ensures refused { RefusesLog (λ bs. log_of (as_five bs)) (R.remaining reader) result }
-    ensures faults { IfErr result (λ e. IsLogFault e ⊎ (e ≡ ToolFault.Elsewhere)) }
+        × LosesMost table.now (F.states files.now) targets.items set }
+    ensures faults { IfErr result (λ e. (e ≡ ToolFault.Memory) ⊎ (e ≡ ToolFault.Elsewhere)) }
 {
-    let (_, loaded) = load_read(alloc, secret, None, reader)?;
-    let looked = look_all(alloc, &loaded.table, files)?;
+    let looked = look_all(alloc, table, files)?;
     let mut names = targets;
     add_names(alloc, looked.as_slice(), &mut names)?;
     let set = NameSet::of(alloc, secret, names)?;
@@ -117,21 +110,17 @@ pub fn names_there<R: Read + Drop, F: OutputFiles>(
     Ok(set)
 }
 
-/// It asks for the file of each output, in the order of first appearance, and gives the time of each that has one. An output whose last entry
-/// is an intent is passed over, because with a time stamp a command passes for it.
-pub fn times_there<R: Read + Drop, F: OutputFiles>(
+/// It asks for the file of each output of the table, in the order of first appearance, and gives the time of each that has one. An output
+/// whose last entry is an intent is passed over, because with a time stamp a command passes for it.
+pub(crate) fn times_there<F: OutputFiles>(
     alloc: Global,
-    secret: Secret,
-    reader: R,
+    table: &Table,
     files: &F,
-) -> ToolResult<Vec<(Name, i64)>>
-    ensures given { IfOk result (λ times. AddsFor pair_by (R.remaining reader) (F.states files.now) [] times.items) }
-    ensures refused { RefusesLog (λ bs. log_of (as_five bs)) (R.remaining reader) result }
-    ensures faults { IfErr result IsLogFault }
+) -> AllocResult<Vec<(Name, i64)>>
+    ensures given { IfOk result (λ times. AddsFor pair_by table.now (F.states files.now) [] times.items) }
 {
-    let (_, loaded) = load_read(alloc, secret, None, reader)?;
-    let looked = look_all(alloc, &loaded.table, files)?;
-    Ok(times_of(alloc, looked.as_slice())?)
+    let looked = look_all(alloc, table, files)?;
+    times_of(alloc, looked.as_slice())
 }
 
 fn add_names(alloc: Global, looked: &[Looked], names: &mut Vec<Name>) -> AllocResult

@@ -1,8 +1,9 @@
 //! Laws of doubt, each the contract of a function that does nothing.
-ghost use Rattle.std.specs.{Prelude.{◌≡◌, ◌+◌, ◌≤◌, ℤ, List, Option, Some, None, true, false, int_lt, map, pos, if◌then◌else◌, Contains}, Ordering.{int_eq}};
+ghost use Rattle.std.specs.{Prelude.{◌≡◌, ◌+◌, ◌≤◌, ℕ, ℤ, List, Option, Some, None, Ok, true, false, int_lt, map, pos, if◌then◌else◌, Contains}, Ordering.{int_eq}};
 ghost use Rattle.nl_fields.specs.declared.entry.Entry.{Entry};
-ghost use Rattle.nl_versions.specs.declared.entries.Stamps.{Stamps};
-ghost use Rattle.nl_tool_doubt.specs.{Judging.{doubt_by, ended, is_newer, written}, Moments.{begun, lo_of, m_of, tells, tick_of}, declared.judge.Doubt.{Doubt}};
+ghost use Rattle.nl_folder.specs.FolderView.{FolderView};
+ghost use Rattle.nl_versions.specs.declared.{entries.Stamps.{Stamps}, version.LogVersion.{LogVersion}};
+ghost use Rattle.nl_tool_doubt.specs.{Judging.{doubt_by, ended, is_newer, written}, Kept.{KeepsIntents, KeepsNamed, KeepsThere, LeavesTable, LeavesText, TakesTimes}, Moments.{begun, lo_of, m_of, tells, tick_of}, Settling.{FindsKept, FindsTimes, Settles}, declared.{files.FileState.{FileState}, judge.Doubt.{Doubt}}};
 
 /// A file that isn't behind MTIME is neither newer nor unsure, whatever other lines tell. In a log of version 4 or 5 it is newer exactly if it
 /// is later than MTIME, and none is unsure. Elsewhere it is newer if it is behind its command's end by 8 ms and a tick, and MTIME is when the
@@ -24,4 +25,33 @@ pub fn the_moment_of_a_build()
     ensures late { (ls : List Entry) (e : Entry) → begun ls e ≤ m_of e }
     ensures of_a_line { (ls : List Entry) (e : Entry) → Contains ls e → Contains (map m_of ls) (begun ls e) }
     ensures early { (ls : List Entry) (e : Entry) → Contains ls e → lo_of e ≤ m_of e → lo_of e ≤ begun ls e + 5 + tick_of ls }
+{}
+
+/// The log that `prune` read is the one that it changed, if it told of no damage: the table of an honest folder's log keeps the entry of each
+/// target, and where the states of the files are known, of each output that has a file, and no other. If it told of damage, the log stays.
+pub fn a_prune_keeps_what_is_there()
+    ensures targets { (asked : Option LogVersion) (targets : List (List ℕ)) (states : Option (List ℕ → FileState)) (from to : Option (List ℕ))
+        (old new : FolderView) → Settles (FindsKept asked targets states from to) (to ≡ from) asked (Ok false) old new
+        → LeavesTable (KeepsNamed targets) old new }
+    ensures files { (asked : Option LogVersion) (targets : List (List ℕ)) (state_of : List ℕ → FileState) (from to : Option (List ℕ))
+        (old new : FolderView) → Settles (FindsKept asked targets (Some state_of) from to) (to ≡ from) asked (Ok false) old new
+        → LeavesTable (KeepsThere targets state_of) old new }
+    ensures damaged { (asked : Option LogVersion) (targets : List (List ℕ)) (states : Option (List ℕ → FileState)) (from to : Option (List ℕ))
+        (old new : FolderView) → Settles (FindsKept asked targets states from to) (to ≡ from) asked (Ok true) old new
+        → new.disk ≡ old.disk }
+{}
+
+/// The log that `retime` read is the one that it changed, if it told of no damage: it is the text of a table in which each intent stands as
+/// it was, and where the states of the files are known, each other entry has the time of its file, if that has one, and is else as it was.
+/// If it told of damage, the log stays.
+pub fn a_retime_sets_times_alone()
+    ensures intents { (asked : Option LogVersion) (states : Option (List ℕ → FileState)) (from to : Option (List ℕ)) (early : List ℕ)
+        (old new : FolderView) → Settles (FindsTimes asked states from to early) (to ≡ from) asked (Ok false) old new
+        → LeavesText KeepsIntents old new }
+    ensures files { (asked : Option LogVersion) (state_of : List ℕ → FileState) (from to : Option (List ℕ)) (early : List ℕ)
+        (old new : FolderView) → Settles (FindsTimes asked (Some state_of) from to early) (to ≡ from) asked (Ok false) old new
+        → LeavesText (TakesTimes state_of) old new }
+    ensures damaged { (asked : Option LogVersion) (states : Option (List ℕ → FileState)) (from to : Option (List ℕ)) (early : List ℕ)
+        (old new : FolderView) → Settles (FindsTimes asked states from to early) (to ≡ from) asked (Ok true) old new
+        → new.disk ≡ old.disk }
 {}

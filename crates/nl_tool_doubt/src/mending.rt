@@ -3,16 +3,17 @@ ghost use Rattle.std.specs.Prelude.{◌≡◌, ◌++◌, true, false, Ok, IfErr,
 ghost use Rattle.nl_folder.specs.FolderView.{folder_view};
 ghost use Rattle.nl_tool_change.specs.{Faults.{IsRecordFault}, Mending.{MendsLogAs}};
 ghost use Rattle.nl_versions.specs.VersionOf.{version_of};
-ghost use Rattle.nl_tool_doubt.specs.Mending.{EndsBy, IsIn, IsMendFault, IsSaid, Mends, MendsFolder, cause_of, is_elsewhere};
+ghost use Rattle.nl_tool_doubt.specs.Mending.{EndsBy, FindsDoubts, IsIn, IsMendFault, IsSaid, Mends, MendsFolder, cause_of, is_elsewhere};
 
 use crate::doubts::{Doubted, Doubts, doubts_of, word_of};
 use crate::files::OutputFiles;
 use crate::judge::Doubt;
+use crate::settling::{Due, Finds, settle};
 use nl_distrust::is_whole;
 use nl_fields::{Name, is_intent};
 use nl_folder::Folder;
 use nl_table::Secret;
-use nl_tool_change::{mend_on, read_log};
+use nl_tool_change::AskedFolder;
 use nl_tool_texts::{AllocResult, Part, ToolFault, ToolResult, append_line, write_out};
 use nl_versions::{lines_version, version_of};
 use std::alloc::Global;
@@ -37,6 +38,43 @@ pub struct Mended {
     pub there: usize,
 }
 
+#[derive(Drop)]
+struct Mending {
+    alloc: Global,
+    secret: Secret,
+    how: How,
+    text: Vec<u8>,
+    mended: Mended,
+}
+
+impl Finds for Mending {
+    ghost finds = { λ word states from to left. FindsDoubts word.how states from to left.text.items left.mended };
+
+    fn find<F: OutputFiles, W: Write>(
+        &mut self,
+        log: &[u8],
+        files: &F,
+        _writer: &mut W,
+    ) -> ToolResult<Due> {
+        let doubts = doubts_of(self.alloc, self.secret, true, log, files)?;
+        if is_elsewhere(&doubts) {
+            return Err(ToolFault::Elsewhere);
+        }
+        let said = said_of(self.alloc, log, &doubts, self.how)?;
+        self.mended = Mended {
+            is_told: said.is_told,
+            outputs: doubts.outputs,
+            there: doubts.there,
+        };
+        self.text = said.text;
+        if said.is_due {
+            Ok(Due::Mend(version_of(log), said.names))
+        } else {
+            Ok(Due::Nothing)
+        }
+    }
+}
+
 /// It mends the log, and then writes a line for each output that can't be trusted. Names are hashed under a secret.
 pub fn mend_to<D: Folder, F: OutputFiles, W: Write>(
     alloc: Global,
@@ -50,37 +88,30 @@ pub fn mend_to<D: Folder, F: OutputFiles, W: Write>(
         writer.new) result.1 (folder_view D.Folder folder) (folder_view D.Folder result.0) }
     ensures faults { IfErr result.1 IsMendFault }
 {
-    let (folder, read) = read_log(alloc, folder);
-    let log = match read {
-        Ok(log) => log,
-        Err(fault) => return (folder, Err(fault)),
+    let mut word = Mending {
+        alloc,
+        secret,
+        how,
+        text: Vec::new(alloc),
+        mended: Mended {
+            is_told: false,
+            outputs: 0,
+            there: 0,
+        },
     };
-    let log = log.as_slice();
-    let doubts = match doubts_of(alloc, secret, true, log, files) {
-        Ok(doubts) => doubts,
-        Err(fault) => return (folder, Err(ToolFault::from(fault))),
+    let place = AskedFolder {
+        secret,
+        asked: None,
+        folder,
     };
-    if is_elsewhere(&doubts) {
-        return (folder, Err(ToolFault::Elsewhere));
-    }
-    let Ok(said) = said_of(alloc, log, &doubts, how) else {
-        return (folder, Err(ToolFault::Memory));
-    };
-    let mended = Mended {
-        is_told: said.is_told,
-        outputs: doubts.outputs,
-        there: doubts.there,
-    };
-    let text = said.text.as_slice();
-    if !said.is_due {
-        return (folder, write_out(text, writer).and(Ok(mended)));
-    }
-    let names = said.names.as_slice();
-    // It comes before the text, because a change that failed must not be told as done.
-    let (folder, changed) = mend_on(alloc, secret, version_of(log), folder, names);
-    match changed {
-        Ok(()) => (folder, write_out(text, writer).and(Ok(mended))),
-        Err(fault) => (folder, Err(fault)),
+    let (place, made) = settle(alloc, place, files, writer, &mut word);
+    match made {
+        // It comes after the change, because a change that failed must not be told as done.
+        Ok(_) => {
+            let written = write_out(word.text.as_slice(), writer);
+            (place.folder, written.and(Ok(word.mended)))
+        }
+        Err(fault) => (place.folder, Err(fault)),
     }
 }
 

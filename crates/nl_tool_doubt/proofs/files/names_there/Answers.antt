@@ -8,7 +8,6 @@ use Rattle.nl_tool_doubt.proofs.files.names_there.Goals as goal
 
 pub returns-then-kept-len-clause-elsewhere : goal.returns-then-kept-len-clause-elsewhere
 returns-then-kept-len-clause-elsewhere g c = λ is.
-    let loads = c.in_ok-loaded.ensures.loaded in
     let looked = c.in_ok-looked.looked.items in
     let set = c.in_ok-set.set in
     let by : c.count-kept.result ≡ count_by (is_kept set) c.deref.result.now =
@@ -23,10 +22,6 @@ returns-then-kept-len-clause-elsewhere g c = λ is.
         is = record {
           names = c.add_names.new.names.items;
           adds = record {
-            bytes = loads.bytes;
-            given = loads.given;
-            entries = c.in_ok-loaded.loaded.table;
-            reads = search rules;
             looked = looked;
             looks = c.in_ok-looked.ensures.looked;
             items = search rules;
@@ -39,7 +34,6 @@ returns-then-kept-len-clause-elsewhere g c = λ is.
 
 pub returns-clause-kept : goal.returns-clause-kept
 returns-clause-kept g c =
-    let loads = c.in_ok-loaded.ensures.loaded in
     let looked = c.in_ok-looked.looked.items in
     let set = c.in_ok-set.set in
     let by : c.count-kept.result ≡ count_by (is_kept set) c.deref.result.now =
@@ -53,10 +47,6 @@ returns-clause-kept g c =
       is = record {
         names = c.add_names.new.names.items;
         adds = record {
-          bytes = loads.bytes;
-          given = loads.given;
-          entries = c.in_ok-loaded.loaded.table;
-          reads = search rules;
           looked = looked;
           looks = c.in_ok-looked.ensures.looked;
           items = search rules;
