@@ -1,11 +1,12 @@
 -- The status after a command line.
 use Rattle.std.proofs.Common.{◌≡◌, ℕ, List, [], ◌∷◌, Option, None, Some, Result, Ok, Err, refl, sym, inl, inr, subst}
-use Rattle.std.specs.Prelude.{IfOk}
+use Rattle.std.specs.Prelude.{◌⊎◌, IfOk, IsErrOf, OnOk}
 use Rattle.clap.specs.Words.{HasKind, Kinds, Row, Text, kind_of}
 use Rattle.clap.specs.declared.error.Error.{Error}
 use Rattle.nl_tool_texts.specs.declared.fault.ToolFault.{ToolFault}
 use Rattle.nl_tool.specs.Ending.{IsEnded, IsStatusBy, IsStatusOfKind, NamesFinding, status_after}
-use Rattle.nl_tool.specs.Faults.{CanFind}
+use Rattle.nl_tool_texts.specs.declared.fault.ToolFault.TheVariants.{Write}
+use Rattle.nl_tool.specs.Faults.{CanBeDone, CanFind}
 use Rattle.nl_tool.specs.declared.program.Verdict.{Verdict}
 use Rattle.nl_tool.specs.declared.program.Verdict.TheVariants.{Done, Found}
 use Rattle.nl_tool_words.specs.CommandLine.{IsSaid}
@@ -43,3 +44,10 @@ command_ended kinds w entered answer status none said only is =
     ended (Ok Done) only is = inl (inl is)
     ended (Ok Found) only is = inr (is, names_finding w entered said (only refl))
     ended (Err fault) only is = inl (inr is)
+
+-- what was held back of a text may fail to be written
+pub ended_so : (answer last : Result Verdict ToolFault) (w : Words) → (last ≡ answer) ⊎ IsErrOf last Write → OnOk answer (CanBeDone w)
+    → IfOk answer (λ outcome. outcome ≡ Found → CanFind w) → IfOk last (λ outcome. CanBeDone w × (outcome ≡ Found → CanFind w))
+ended_so (Ok outcome) last w (inl same) done finds = subst (λ r. IfOk r (λ outcome. CanBeDone w × (outcome ≡ Found → CanFind w))) (sym same) (done, finds)
+ended_so (Err fault) last w (inl same) done finds = subst (λ r. IfOk r (λ outcome. CanBeDone w × (outcome ≡ Found → CanFind w))) (sym same) tt
+ended_so answer last w (inr failed) done finds = subst (λ r. IfOk r (λ outcome. CanBeDone w × (outcome ≡ Found → CanFind w))) (sym failed) tt

@@ -2,3 +2,4 @@ mod CountLemmas
 mod NumberLemmas
 mod EndingLemmas
 mod ReportLemmas
+mod AnswerLemmas

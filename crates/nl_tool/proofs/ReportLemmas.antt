@@ -4,7 +4,7 @@ use Rattle.std.specs.Prelude.{IfErr, IsSome, length, option_map}
 use Rattle.std.specs.Borrow.{Bor}
 use Rattle.std.specs.Global.{Vec}
 use Rattle.std.specs.Io.KnownBytes.{Keeps}
-use Rattle.nl_table.specs.Log.{LogReading, NotALog}
+use Rattle.nl_table.specs.Log.{LogReading}
 use Rattle.nl_table.specs.declared.loader.LoadFault.{LoadFault}
 use Rattle.nl_table.specs.declared.loader.LoadFault.TheVariants as load
 use Rattle.nl_builds.specs.Builds.{IsTold, Told}

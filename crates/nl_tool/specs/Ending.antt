@@ -1,9 +1,11 @@
 -- The status with which the program ends (docs/CLI.md, "Statuses").
-use Rattle.std.specs.Prelude.{◌≡◌, ◌⊎◌, ℕ, List, [], ◌∷◌, Option, None, Some, Result, Ok, Err, codes}
+use Rattle.std.specs.Prelude.{if◌then◌else◌, ◌≡◌, ◌⊎◌, ℕ, Bool, List, [], ◌∷◌, Option, None, Some, Result, Ok, Err, IfOk, codes}
 use Rattle.clap.specs.Words.{IsAmong, Kinds, Row, Text}
 use Rattle.clap.specs.declared.error.kind.ErrorKind.{ErrorKind}
 use Rattle.clap.specs.declared.error.kind.ErrorKind.TheVariants as kind
 use Rattle.nl_tool_texts.specs.declared.fault.ToolFault.{ToolFault}
+use Rattle.nl_tool_words.specs.declared.words.Words.{Words}
+use Rattle.nl_tool.specs.Faults.{CanBeDone, CanFind}
 use Rattle.nl_tool.specs.declared.program.Verdict.{Verdict}
 use Rattle.nl_tool.specs.declared.program.Verdict.TheVariants.{Done, Found}
 
@@ -12,6 +14,14 @@ abbrev pub status_after : Result Verdict ToolFault → ℕ
 status_after (Ok Done) = 0
 status_after (Ok Found) = 3
 status_after (Err fault) = 1
+
+abbrev pub verdict_of : Bool → Verdict
+verdict_of found = if found then Found else Done
+
+-- the status is that of an answer, which these words may give
+abbrev pub EndsWords : Words → ℕ → Type 0
+EndsWords words status = (answer : Result Verdict ToolFault) × (status ≡ status_after answer)
+    × IfOk answer (λ outcome. CanBeDone words × (outcome ≡ Found → CanFind words))
 
 -- done or refused
 abbrev pub IsDoneOrRefused : ℕ → Type 0

@@ -1,7 +1,12 @@
+pub mod World
 pub mod VersionChoice
 pub mod Answers
 pub mod Reports
 pub mod Faults
 pub mod Meant
 pub mod Ending
+pub mod Changed
+pub mod Printed
+pub mod Does
 pub mod Reasons
+pub mod Said

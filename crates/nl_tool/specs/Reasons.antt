@@ -1,5 +1,5 @@
 -- What is said after a refusal where `--verbose` asks for it: docs/CLI.md, "Why something was refused".
-use Rattle.std.specs.Prelude.{⊤, ◌≡◌, ◌≢◌, pos, ◌⊎◌, ◌++◌, IsSome, IsSomeAnd, [], List, ℕ, Option, None, Some, IfSome, codes, decimal, string_bytes, ◌||◌, Bool, true, false, bytes_eq, length, flat_map, ◌∷◌, if◌then◌else◌}
+use Rattle.std.specs.Prelude.{⊤, ◌≡◌, ◌≢◌, pos, ◌⊎◌, ◌++◌, IsSome, IsSomeAnd, [], List, ℕ, Option, None, Some, IfSome, codes, decimal, string_bytes, ◌||◌, Bool, true, false, length, flat_map, ◌∷◌, if◌then◌else◌}
 use Rattle.std.specs.Borrow.{Bor}
 use Rattle.std.specs.IoError.{error_kind, raw_os_error}
 use Rattle.std.specs.declared.io.Error.{Error}
@@ -15,6 +15,7 @@ use Rattle.nl_tool_words.specs.declared.words.Changing.TheVariants.{Prune, Retim
 use Rattle.nl_tool_words.specs.declared.words.Words.{Words}
 use Rattle.nl_tool_words.specs.declared.words.Words.TheVariants.{Show, Check, Hash, HashFile, Read, Compare, Record, Recompact, Restat, Change, Mend, Replay}
 use Rattle.nl_versions.specs.Version.{is_version_read}
+use Rattle.nl_tool.specs.World.{graph_file, said_line}
 use Rattle.nl_tool.specs.declared.reason.Place.{Place}
 use Rattle.nl_tool.specs.declared.reason.Place.TheVariants as at
 use Rattle.nl_tool.specs.declared.reason.Reason.{Reason}
@@ -87,6 +88,11 @@ behind (Some why) = codes "\nnlog: " ++ why_text why
 abbrev pub refusal_text : Refusal → List ℕ
 refusal_text refusal = fault_text refusal.fault ++ behind refusal.why
 
+-- a note is a line of its own
+abbrev pub note_text : Option Why → List ℕ
+note_text None = []
+note_text (Some why) = said_line (why_text why)
+
 -- ---- which file a reason is of
 
 -- a file of the log that is mended: the one that is named, or else that of the build in the folder
@@ -139,10 +145,6 @@ log_place (Replay script) file = None
 abbrev pub IsUnsynced : Reason → Type 0
 IsUnsynced (Unsynced text) = ⊤
 IsUnsynced _ = ⊥
-
--- the file of a graph, or standard input
-abbrev pub graph_file : Bor (List ℕ) → Option (Bor (List ℕ))
-graph_file path = if bytes_eq path.now (codes "-") then None else Some path
 
 -- with two logs, the words that read the second of them, or the first; with a log and a graph, the words that read the log, or a file; else
 -- the words as they are

@@ -1,281 +1,270 @@
-//! The words that change a log, over the folder of the real file LOG: `prune` and `retime` by what a build has.
-ghost use Rattle.std.specs.Prelude.{◌≡◌, ◌<◌, ◌⊎◌, ℕ, ℤ, [], List, Option, Err, IfErr, IsErr, IsErrAnd, IsSomeAnd, OnOk, length, slice_get};
-ghost use Rattle.nl_folder.specs.FolderView.{FolderView, folder_view};
-ghost use Rattle.nl_tool_change.specs.{Applying.{IsApplied}, Calls.{ChangesLogFor, adding, hashed, keeping, keeping_all, touching}, Faults.{IsApplyFault, IsEntryFault, IsFileFault, IsRecompactFault, IsRecordFault, IsRestatFault}, Files.{keep_of, times_of}, RecordWords.{GiveEntry}, Updates.{AsSaid}};
-ghost use Rattle.nl_tool_doubt.specs.There.{AddsFor, KeepsMost, pair_by};
-ghost use Rattle.nl_tool_print.specs.Faults.{IsLogFault, RefusesLog};
-ghost use Rattle.nl_versions.specs.LogAs.{log_for};
-ghost use Rattle.nl_tool.specs.Faults.{IsPruneFault, IsRepairFault, IsSettlingFault};
+//! The words that change a log, over the folder of LOG and the files that they read.
+//!
+//! Whatever a word reads beside LOG it reads first. Then it asks the folder alone, which locks LOG, and looks at files under that lock.
+ghost use Rattle.std.specs.Prelude.{◌≡◌, Err, IfErr, IfOk, IsSomeAnd, IsTrue, OnOk, option_map, string_bytes};
+ghost use Rattle.nl_folder.specs.FolderView.{folder_view};
+ghost use Rattle.nl_tool_change.specs.{Faults.{IsApplyFault, IsEntryFault, IsRecompactFault, IsRestatFault}, RecordWords.{GiveEntry}};
+ghost use Rattle.nl_tool.specs.{Faults.{IsPruneFault, IsRepairFault, IsSettlingFault}, Changed.{AppliesAt, IsAnswerOf, IsNoLog, found_as, mended_log, MendsAt, PrunesAt, RecompactsAt, RecordsAt, RepairsAt, RestatsAt, RetimesAt}};
+ghost use Rattle.nl_tool.specs.World.{MayMiss};
+ghost use Rattle.nl_tool_doubt.specs.Mending.{IsMendFault};
 ghost use Rattle.nl_tool_texts.specs.declared.fault.ToolFault.{ToolFault};
 
-use crate::desk::{At, Desk, Disk, Host, close};
-use crate::doubting::SystemFiles;
-use crate::notes::{NotedReader, NotedWriter, Notes};
-use crate::printing::Printing;
+use crate::desk::{Desk, close, given, note_missing};
+use crate::host::{BuildFiles, Errors, Host, Logs};
+use crate::notes::{NotedReader, Notes};
 use crate::program::Verdict;
 use crate::reason::{Place, Reason, Why};
-use nl_fields::{EntryRef, Name};
-use nl_folder::Folder;
-use nl_os::{DiskFolder, Failure, FileRole};
-use nl_session::first_negative;
-use nl_table::Secret;
+use nl_os::{Failure, FileRole, LogFolder};
 use nl_tool_change::{
-    Hears, LineFault, LogPlace, apply_on, entry_of, read_manifest, recompact_on, record_command,
-    repair_on, restat_on, retime_on,
+    Hears, LineFault, apply_on, entry_of, read_manifest, recompact_telling, record_command,
+    restat_telling,
 };
-use nl_tool_doubt::{OutputFiles, names_there, times_there};
-use nl_tool_print::load_read;
-use nl_tool_texts::{ToolFault, ToolResult};
-use nl_tool_words::NewEntry;
-use nl_versions::LogVersion;
+use nl_tool_doubt::{FileState, How, mend_to, prune_to, repair_to, retime_to};
+use nl_tool_texts::{AllocResult, ToolFault, ToolResult};
+use nl_tool_words::{Choices, NewEntry};
 use std::alloc::Global;
-use std::io::{self, Read};
+use std::io::{self, ErrorKind, Write};
 
-impl<R: Host> Desk<'_, R> {
+// If fewer than one output in this many has a file, that is said.
+const FEW: usize = 10;
+
+// The number of the error of a file that is missing.
+const MISSING: i32 = 2;
+
+impl<H: Host + Logs<L>, L: LogFolder, W: Write, E: Errors> Desk<'_, H, L, W, E> {
     // It refuses bad words before it asks anything of the log.
     pub fn record_in(&mut self, given: NewEntry<'_>) -> ToolResult
         ensures accepts { OnOk result (GiveEntry given.entry.start.now given.entry.end.now given.entry.mtime.now given.entry.name.now) }
+        ensures call { RecordsAt (H.world self.old.host.now) self.old.asked given.entry self.new.notes.told.number result
+            (option_map (folder_view L.Folder) self.old.left) (option_map (folder_view L.Folder) self.new.left) }
+        ensures quiet { self.new.out ≡ self.old.out }
         ensures faults { IfErr result (IsEntryFault given.entry.start.now given.entry.end.now given.entry.mtime.now given.entry.name.now
             self.new.notes.told.number) }
     {
         let told = &mut self.notes.told;
         let entry = entry_of(given.start, given.end, given.mtime, given.name, told)?;
-        self.note_missing(given.log);
-        let at = self.log_at(given.log)?;
-        record_at(at, entry, given.command, &mut self.notes)
+        note_missing(self.host, given.log, &mut self.notes);
+        let at = self.log_at(given.log, true)?;
+        let (alloc, command) = (self.notes.alloc, given.command.as_bytes());
+        let (folder, answer) = record_command(
+            alloc, at.secret, at.asked, at.folder, entry, command,
+        );
+        close(folder, answer, &mut self.left, &mut self.notes)
     }
 
     pub fn recompact_in(&mut self, log: &str, keep: &str) -> ToolResult
+        ensures call { RecompactsAt (H.world self.old.host.now) self.old.asked log.entry keep.entry result
+            (option_map (folder_view L.Folder) self.old.left) (option_map (folder_view L.Folder) self.new.left) }
+        ensures quiet { self.new.out ≡ self.old.out }
         ensures faults { IfErr result IsRecompactFault }
     {
-        let names = self.open(keep)?;
-        self.note_missing(log);
-        recompact_at(self.log_at(log)?, names, &mut self.notes)
+        let names = given(self.host, Some(keep), false, false, &mut self.notes)?;
+        note_missing(self.host, log, &mut self.notes);
+        let at = self.log_at(log, true)?;
+        let names = NotedReader::new(names, &mut self.notes.heard);
+        let (at, answer) = recompact_telling(self.notes.alloc, at, names, &mut self.notes.told);
+        close(at.folder, answer, &mut self.left, &mut self.notes)
     }
 
     pub fn restat_in(&mut self, log: &str, times: &str) -> ToolResult
+        ensures call { RestatsAt (H.world self.old.host.now) self.old.asked log.entry times.entry result
+            (option_map (folder_view L.Folder) self.old.left) (option_map (folder_view L.Folder) self.new.left) }
+        ensures quiet { self.new.out ≡ self.old.out }
         ensures faults { IfErr result IsRestatFault }
     {
-        let pairs = self.open(times)?;
-        self.note_missing(log);
-        restat_at(self.log_at(log)?, pairs, &mut self.notes)
+        let pairs = given(self.host, Some(times), false, false, &mut self.notes)?;
+        note_missing(self.host, log, &mut self.notes);
+        let at = self.log_at(log, true)?;
+        let pairs = NotedReader::new(pairs, &mut self.notes.heard);
+        let (at, answer) = restat_telling(self.notes.alloc, at, pairs, &mut self.notes.told);
+        close(at.folder, answer, &mut self.left, &mut self.notes)
     }
 
     pub fn apply_in(&mut self, log: &str, script: Option<&str>) -> ToolResult
+        ensures call { AppliesAt (H.world self.old.host.now) self.old.asked log.entry script.entry (W.contents self.old.out) (W.contents self.new.out) result
+            (option_map (folder_view L.Folder) self.old.left) (option_map (folder_view L.Folder) self.new.left) }
         ensures faults { IfErr result IsApplyFault }
     {
-        let lines = self.given(script, false)?;
-        let place = script.map_or(Place::Input, Place::Script);
-        apply_at(self.rt, self.log_at(log)?, lines, place, &mut self.notes)
+        let reader = given(self.host, script, false, false, &mut self.notes)?;
+        let at = self.log_at(log, true)?;
+        let mut hears = Explaining {
+            errors: &mut self.errors,
+            lines: script.map_or(Place::Input, Place::Script),
+            looks: self.notes.looks,
+        };
+        let (alloc, secret, asked) = (self.notes.alloc, at.secret, at.asked);
+        let reader = NotedReader::new(reader, &mut self.notes.heard);
+        let (folder, answer) = apply_on(
+            alloc,
+            secret,
+            asked,
+            at.folder,
+            reader,
+            &mut self.out,
+            &mut hears,
+        );
+        close(folder, answer, &mut self.left, &mut self.notes)
     }
 
     pub fn repair_in(&mut self, log: &str) -> ToolResult
+        ensures call { RepairsAt (H.world self.old.host.now) self.old.asked log.entry self.new.notes.folder result
+            (option_map (folder_view L.Folder) self.old.left) (option_map (folder_view L.Folder) self.new.left) }
+        ensures quiet { self.new.out ≡ self.old.out }
         ensures faults { IfErr result IsRepairFault }
     {
-        self.look_there(log, self.missing_ok)?;
-        repair_at(self.log_at(log)?, &mut self.notes)
+        if self.missing_ok {
+            note_missing(self.host, log, &mut self.notes);
+        }
+        let at = self.log_at(log, self.missing_ok)?;
+        let (at, answer) = repair_to(self.notes.alloc, at);
+        let answer = close(at.folder, answer, &mut self.left, &mut self.notes);
+        if self.missing_ok {
+            return answer;
+        }
+        or_missing(answer, &mut self.notes)
     }
 
     // It reads all targets before it asks anything of LOG.
     pub fn prune_in(&mut self, log: &str, path: Option<&str>) -> ToolResult<Verdict>
+        ensures call { PrunesAt (H.world self.old.host.now) self.old.asked log.entry path.entry self.new.notes.folder
+            (W.contents self.old.out) (W.contents self.new.out) result
+            (option_map (folder_view L.Folder) self.old.left) (option_map (folder_view L.Folder) self.new.left) }
         ensures faults { IfErr result IsPruneFault }
     {
-        let targets = self.given(path, false)?;
+        let targets = given(self.host, path, false, false, &mut self.notes)?;
         let targets = NotedReader::new(targets, &mut self.notes.heard);
-        let targets = read_manifest(self.notes.alloc, targets, &mut self.notes.told)?;
-        // Notes of the targets are kept only if these are refused, because LOG is read next.
-        self.notes.begin(false);
-        self.notes.heard.failure = None;
-        let answer = self.settle_in(log, Some(targets));
-        // The targets were read, so it is LOG that couldn't be.
-        if let Some(error) = self.notes.heard.failure.take() {
-            let file = FileRole::Log;
-            self.notes.folder = Some(Failure { file, error });
-        }
-        answer
+        let targets = match read_manifest(self.notes.alloc, targets, &mut self.notes.told) {
+            Ok(targets) => targets,
+            Err(fault) => return Err(fault),
+        };
+        let at = self.log_at(log, false)?;
+        let (host, folder) = (self.host, None);
+        let files = BuildFiles { host, folder };
+        let (at, answer) = prune_to(self.notes.alloc, at, &files, targets, &mut self.out);
+        let answer = close(at.folder, answer, &mut self.left, &mut self.notes);
+        verdict_in(or_missing(answer, &mut self.notes))
     }
 
-    // Changes a log by the files of its outputs, and `prune` by its targets, too; `retime` has none. If the log is damaged, that is told,
-    // and nothing else is done.
-    pub fn settle_in(&mut self, log: &str, targets: Option<Vec<Name>>) -> ToolResult<Verdict>
-        ensures retimes { targets ≡ None → IfErr result IsSettlingFault }
-        ensures faults { IfErr result IsPruneFault }
+    pub fn retime_in(&mut self, log: &str) -> ToolResult<Verdict>
+        ensures call { RetimesAt (H.world self.old.host.now) self.old.asked log.entry self.new.notes.early.items self.new.notes.folder
+            (W.contents self.old.out) (W.contents self.new.out) result
+            (option_map (folder_view L.Folder) self.old.left) (option_map (folder_view L.Folder) self.new.left) }
+        ensures faults { IfErr result IsSettlingFault }
     {
-        // One of another version than that which is asked for is refused, and its damage isn't told.
-        if self.asked.is_some() {
-            let file = self.open(log)?;
-            let file = NotedReader::new(file, &mut self.notes.heard);
-            check_version(self.notes.alloc, self.notes.secret, self.asked, file)?;
+        let at = self.log_at(log, false)?;
+        let (host, folder) = (self.host, None);
+        let files = BuildFiles { host, folder };
+        let early = &mut self.notes.early;
+        let (at, answer) = retime_to(self.notes.alloc, at, &files, &mut self.out, early);
+        let answer = close(at.folder, answer, &mut self.left, &mut self.notes);
+        verdict_in(or_missing(answer, &mut self.notes))
+    }
+
+    /// Without a path, LOG is the `.ninja_log` of the build's folder.
+    pub fn mend_in(&mut self, log: Option<&str>, choices: Choices<'_>) -> ToolResult<Verdict>
+        ensures call { MendsAt (H.world self.old.host.now) log.entry choices.entry self.old.notes.screen.output self.new.notes.folder
+            (W.contents self.old.out) (W.contents self.new.out) result
+            (option_map (folder_view L.Folder) self.old.left) (option_map (folder_view L.Folder) self.new.left) }
+        ensures faults { IfErr result IsMendFault }
+    {
+        let (host, alloc, folder) = (self.host, self.notes.alloc, choices.folder);
+        // The log that is missing with its folder would be taken for a whole one.
+        if is_missing(host, folder) {
+            let (file, error) = (FileRole::Folder, io::Error::from_raw_os_error(MISSING));
+            self.notes.folder = Some(Failure { file, error });
+            return Err(ToolFault::Read);
         }
-        if let Verdict::Found = self.print_in(Printing::Damage, Some(log))? {
-            return Ok(Verdict::Found);
+        let log = mended_log(alloc, log, folder)?;
+        let how = How {
+            dry_run: choices.dry_run,
+            all: choices.all,
+            at_terminal: self.notes.screen.output,
+        };
+        let at = self.log_at(log.as_str(), false)?;
+        let files = BuildFiles { host, folder };
+        let (left, answer) = mend_to(alloc, at.secret, at.folder, &files, how, &mut self.out);
+        let answer = close(left, answer, &mut self.left, &mut self.notes);
+        // A missing log needs no mending.
+        if lacks_log(&answer, &mut self.notes) {
+            return Ok(Verdict::Done);
         }
-        let file = self.open(log)?;
-        let (rt, alloc, folder) = (self.rt, self.notes.alloc, None);
-        let files = SystemFiles { rt, alloc, folder };
-        let at = self.log_at(log)?;
-        match targets {
-            Some(targets) => prune_at(at, targets, file, &files, &mut self.notes)?,
-            None => retime_at(at, file, &files, &mut self.notes)?,
+        let mended = match answer {
+            Ok(mended) => mended,
+            Err(fault) => return Err(fault),
+        };
+        // If few outputs have a file, the folder may be that of another build.
+        let (outputs, there) = (mended.outputs, mended.there);
+        if there < outputs / FEW {
+            let few = format_args!("LOG {log}: {there} of {outputs} outputs are here");
+            self.errors.say(few);
         }
-        Ok(Verdict::Done)
+        Ok(Verdict::of(mended.is_told))
     }
 }
 
-fn record_at<D: Disk>(at: At<D>, entry: EntryRef<'_>, text: &str, notes: &mut Notes) -> ToolResult
-    ensures call { (left : FolderView) × ChangesLogFor at.asked (λ version. adding (hashed entry.entry text.now version)) result
-        (folder_view ⟦<DiskFolder<D> as Folder>⟧ at.folder) left }
-    ensures faults { IfErr result IsRecordFault }
+fn is_missing<H: Host>(host: &H, folder: Option<&str>) -> bool
+    ensures { IsTrue result → IsSomeAnd folder.entry (λ path. MayMiss (H.world host.now).states path.now) }
 {
-    let (alloc, secret, asked) = (notes.alloc, at.secret, at.asked);
-    let (folder, answer) = record_command(alloc, secret, asked, at.folder, entry, text.as_bytes());
-    close(folder, answer, notes)
+    match folder {
+        Some(path) => matches!(host.look(None, path.as_bytes()), FileState::Missing),
+        None => false,
+    }
 }
 
-fn recompact_at<D: Disk, R: Read + Drop>(at: At<D>, names: R, notes: &mut Notes) -> ToolResult
-    ensures call { IsErrAnd result IsFileFault ⊎ ((left : FolderView) × AsSaid keep_of (R.remaining names)
-        (λ kept. ChangesLogFor at.asked (λ _. keeping kept) result (folder_view ⟦<DiskFolder<D> as Folder>⟧ at.folder) left)) }
-    ensures faults { IfErr result IsRecompactFault }
+// LOG, or the `.ninja_log` of the build's folder.
+fn mended_log(alloc: Global, log: Option<&str>, folder: Option<&str>) -> AllocResult<String>
+    ensures value { IfOk result (λ path. string_bytes path ≡ mended_log log.entry folder.entry) }
 {
-    let names = NotedReader::new(names, &mut notes.heard);
-    let (left, answer) = recompact_on(notes.alloc, at, names, &mut notes.told);
-    close(left.folder, answer, notes)
+    match (log, folder) {
+        (Some(log), _) => String::from_str(alloc, log),
+        (None, Some(folder)) => format!(in alloc; "{folder}/.ninja_log"),
+        (None, None) => String::from_str(alloc, ".ninja_log"),
+    }
 }
 
-fn restat_at<D: Disk, R: Read + Drop>(at: At<D>, pairs: R, notes: &mut Notes) -> ToolResult
-    ensures call { IsErrAnd result IsFileFault ⊎ ((left : FolderView) × AsSaid times_of (R.remaining pairs)
-        (λ times. ChangesLogFor at.asked (λ _. touching times) result (folder_view ⟦<DiskFolder<D> as Folder>⟧ at.folder) left)) }
-    ensures faults { IfErr result IsRestatFault }
+fn verdict_in(answer: ToolResult<bool>) -> ToolResult<Verdict>
+    ensures { result ≡ found_as answer }
 {
-    let pairs = NotedReader::new(pairs, &mut notes.heard);
-    let (left, answer) = restat_on(notes.alloc, at, pairs, &mut notes.told);
-    close(left.folder, answer, notes)
+    Ok(Verdict::of(answer?))
+}
+
+// A log that couldn't be opened because it is missing wasn't read.
+fn or_missing<T: Drop>(answer: ToolResult<T>, notes: &mut Notes) -> ToolResult<T>
+    ensures value { IsAnswerOf notes.old.folder answer result }
+    ensures same { (notes.new.folder ≡ notes.old.folder) × (notes.new.early ≡ notes.old.early) }
+{
+    if lacks_log(&answer, notes) {
+        return Err(ToolFault::Read);
+    }
+    answer
+}
+
+fn lacks_log<T>(answer: &ToolResult<T>, notes: &mut Notes) -> bool
+    ensures value { IsTrue result → (answer.now ≡ Err ToolFault.Folder) × IsSomeAnd notes.old.folder IsNoLog }
+    ensures same { (notes.new.folder ≡ notes.old.folder) × (notes.new.early ≡ notes.old.early) }
+{
+    if let (Err(ToolFault::Folder), Some(failure)) = (answer, notes.folder) {
+        if failure.file == FileRole::Log && failure.error.kind() == ErrorKind::NotFound {
+            notes.is_missing = true;
+            return true;
+        }
+    }
+    false
 }
 
 // The lines of `apply`: of a bad one it is said why, where that is asked for.
 #[derive(Drop)]
-struct Explaining<'r, P> {
-    rt: &'r P,
-    lines: Place<'r>,
+struct Explaining<'e, E> {
+    errors: &'e mut E,
+    lines: Place<'e>,
     looks: bool,
 }
 
-impl<P: Eprint> Hears for Explaining<'_, P> {
+impl<E: Errors> Hears for Explaining<'_, E> {
     fn bad_line(&mut self, number: u64, why: LineFault) {
         if self.looks {
             let (place, reason) = (self.lines, Reason::Line(number, Some(why)));
-            let why = Why { place, reason };
-            let _ = eprintln!(self.rt; "nlog: {why}");
+            self.errors.say(Why { place, reason });
         }
     }
-}
-
-fn apply_at<P: Print + Eprint, D: Disk, R: Read + Drop>(
-    rt: &P,
-    at: At<D>,
-    reader: R,
-    lines: Place<'_>,
-    notes: &mut Notes,
-) -> ToolResult
-    ensures call { (left : FolderView) × (before : Option (List ℕ)) × (after : Option (List ℕ))
-        × IsApplied at.asked (R.remaining reader) (folder_view ⟦<DiskFolder<D> as Folder>⟧ at.folder) left before after result }
-    ensures faults { IfErr result IsApplyFault }
-{
-    let (alloc, looks) = (notes.alloc, notes.looks);
-    let mut out = NotedWriter::new(io::writer(rt));
-    let mut hears = Explaining { rt, lines, looks };
-    let reader = NotedReader::new(reader, &mut notes.heard);
-    let (secret, asked, folder) = (at.secret, at.asked, at.folder);
-    let (folder, answer) = apply_on(alloc, secret, asked, folder, reader, &mut out, &mut hears);
-    notes.written = out.failure;
-    close(folder, answer, notes)
-}
-
-fn repair_at<D: Disk>(at: At<D>, notes: &mut Notes) -> ToolResult
-    ensures call { (left : FolderView) × ChangesLogFor at.asked (λ _. keeping_all) result (folder_view ⟦<DiskFolder<D> as Folder>⟧ at.folder) left }
-    ensures faults { IfErr result IsRecordFault }
-{
-    let (left, answer) = repair_on(notes.alloc, at);
-    close(left.folder, answer, notes)
-}
-
-fn prune_at<D: Disk, R: Read + Drop, O: OutputFiles>(
-    at: At<D>,
-    targets: Vec<Name>,
-    log: R,
-    files: &O,
-    notes: &mut Notes,
-) -> ToolResult
-    ensures call { IsErr result ⊎ ((kept : List (List ℕ)) × (left : FolderView)
-        × KeepsMost (R.remaining log) (O.states files.now) targets.items kept
-        × ChangesLogFor at.asked (λ _. keeping kept) result (folder_view ⟦<DiskFolder<D> as Folder>⟧ at.folder) left) }
-    ensures faults { IfErr result IsPruneFault }
-{
-    let log = NotedReader::new(log, &mut notes.heard);
-    let (left, answer) = match names_there(notes.alloc, at.secret(), log, files, targets) {
-        Ok(set) => at.change(notes.alloc, &set),
-        Err(fault) => (at, Err(fault)),
-    };
-    close(left.folder, answer, notes)
-}
-
-fn check_version<R: Read + Drop>(
-    alloc: Global,
-    secret: Secret,
-    asked: Option<LogVersion>,
-    log: R,
-) -> ToolResult
-    ensures refused { RefusesLog (log_for asked) (R.remaining log) result }
-    ensures faults { IfErr result IsLogFault }
-{
-    load_read(alloc, secret, asked, log).and(Ok(()))
-}
-
-fn retime_at<D: Disk, R: Read + Drop, O: OutputFiles>(
-    at: At<D>,
-    log: R,
-    files: &O,
-    notes: &mut Notes,
-) -> ToolResult
-    ensures call { IsErr result ⊎ ((times : List (List ℕ × ℤ)) × (left : FolderView)
-        × AddsFor pair_by (R.remaining log) (O.states files.now) [] times
-        × ChangesLogFor at.asked (λ _. touching times) result (folder_view ⟦<DiskFolder<D> as Folder>⟧ at.folder) left) }
-    ensures faults { IfErr result IsSettlingFault }
-{
-    let log = NotedReader::new(log, &mut notes.heard);
-    let (left, answer) = retime_there(notes.alloc, at, log, files, &mut notes.early);
-    close(left.folder, answer, notes)
-}
-
-fn retime_there<P: LogPlace, R: Read + Drop, F: OutputFiles>(
-    alloc: Global,
-    place: P,
-    log: R,
-    files: &F,
-    early: &mut Vec<u8>,
-) -> (P, ToolResult)
-    ensures call { (IsErr result.1 × (result.0 ≡ place)) ⊎ ((times : List (List ℕ × ℤ))
-        × AddsFor pair_by (R.remaining log) (F.states files.now) [] times × P.changes (touching times) result.1 place result.0) }
-    ensures negative_time { (i : ℕ) → result.1 ≡ Err (ToolFault.NegativeTime i) → result.0 ≡ place }
-    ensures faults { IfErr result.1 IsSettlingFault }
-{
-    match times_there(alloc, place.secret(), log, files) {
-        Ok(times) => match first_negative(times.as_slice()) {
-            Some(at) => {
-                note_early(times.as_slice(), at, early);
-                (place, Err(ToolFault::NegativeTime(at)))
-            }
-            None => retime_on(alloc, place, &times),
-        },
-        Err(fault) => (place, Err(fault)),
-    }
-}
-
-fn note_early(times: &[(Name, i64)], at: usize, early: &mut Vec<u8>)
-    requires there { at < length times.now }
-    ensures named { (early.new.items ≡ []) ⊎ IsSomeAnd (slice_get times.now at) (λ pair. early.new.items ≡ pair.0) }
-{
-    early.clear();
-    let (name, _) = &times[at];
-    let _ = early.extend_from_slice(name.bytes());
 }

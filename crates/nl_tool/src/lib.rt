@@ -4,6 +4,7 @@
 mod changing;
 mod desk;
 mod doubting;
+mod host;
 pub mod laws;
 mod notes;
 mod numbers;
@@ -12,8 +13,9 @@ mod program;
 mod reason;
 mod reporting;
 
-pub use desk::{At, Desk, Disk, Host, Screen, number_of};
-pub use nl_os::{DiskFolder, Look, Telling, look_of};
+pub use desk::{Desk, Means, Screen, number_of};
+pub use host::{BuildFiles, Disk, Errors, Host, Logs, OsErrors, OsHost, SystemRuntime};
+pub use nl_os::{DiskFolder, LogFolder, Look, Telling, look_of};
 pub use nl_tool_change::{
     AskedFolder, LineFault, LogPlace, Nobody, NumberFault, NumberOf, Told, UNTOLD, WrongNumber,
     apply_on, entry_of, recompact_on, record_command, record_on, repair_on, replay_to, restat_on,
@@ -29,5 +31,5 @@ pub use nl_tool_words::{
 };
 pub use nl_versions::{FirstLine, LogVersion, command_hash_in, first_line_in, version_of};
 pub use notes::{Heard, NotedReader, NotedWriter, Notes};
-pub use program::{Verdict, run, run_at, run_line, run_program};
+pub use program::{Verdict, run, run_at, run_line, run_on, run_program};
 pub use reason::{Place, Reason, Refusal, Why, notes_of, refusal_of};

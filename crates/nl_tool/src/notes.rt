@@ -76,6 +76,16 @@ impl Notes {
         }
     }
 
+    /// If the first of two files was missing, and the second isn't, that is said of the first.
+    pub fn recall(&mut self, was_missing: bool)
+        ensures kept { self.new.told ≡ self.old.told }
+    {
+        if was_missing && !self.is_missing {
+            self.is_missing = true;
+            self.is_second = false;
+        }
+    }
+
     /// Of what is read next it is kept whether it is the second of two files.
     pub fn begin(&mut self, is_second: bool)
         ensures second { self.new.is_second ≡ is_second }

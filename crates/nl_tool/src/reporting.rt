@@ -7,12 +7,13 @@ ghost use Rattle.nl_versions.specs.VersionOf.{as_five};
 ghost use Rattle.nl_table.specs.Log.{log_of};
 ghost use Rattle.nl_reports.specs.{Compare.{are_comparable, compare_text, side_of}, Jobs.{told}, declared.choice.Scope.{Scope}};
 ghost use Rattle.nl_tool.specs.{Faults.{IsBuildFault, IsCompareFault, IsPictureFault, IsReportFault, IsSummaryFault, IsToldFault}, Reports.{AreCounts, IsLaidOut, IsLastOf, IsLeast, IsMost, IsReport, IsReportOf, IsScope, IsSummary, PrintsReport, asked_told, laid_out, rule_of, waiting}};
+ghost use Rattle.nl_tool.specs.Printed.{BuildsAt, CompareAt, PictureAt, ReportsAt, SummaryAt, TraceAt};
 ghost use Rattle.nl_tool_print.specs.Faults.{IsLogFault, RefusesLog};
 
-use crate::desk::{Desk, Means};
-use crate::notes::NotedWriter;
+use crate::desk::{Desk, Means, bytes_in, graph_in};
+use crate::host::Host;
 use crate::numbers::{count_of, counts_of, scope_of};
-use jiff_tz::{SystemTimeZone, TimeZone, TimeZoneDatabase};
+use jiff_tz::{TimeZone, TimeZoneDatabase};
 use nl_builds::{Builds, LogBuilds, read_builds};
 use nl_reports::{
     ByGraph, Lists, Scope, Side, builds_lines, builds_screen, chosen_jobs, compare_lines,
@@ -24,8 +25,7 @@ use nl_tool_texts::{
 };
 use nl_tool_words::Choices;
 use nl_versions::{Stamps, version_of};
-use std::io::{self, Write};
-use std::rt::Runtime;
+use std::io::Write;
 
 /// What is told of builds.
 #[derive(Clone, Copy, Drop)]
@@ -40,11 +40,14 @@ pub enum Report<'g, 't> {
     Picture(Scope, Option<&'g NinjaGraph<'t>>),
 }
 
-impl<R: Runtime> Desk<'_, R> {
+impl<H: Host, L, W: Write, E> Desk<'_, H, L, W, E> {
     pub fn summary_in(&mut self, log: Option<&str>, choices: Choices<'_>) -> ToolResult
         ensures scope { OnOk result ((scope : Scope) × IsScope choices.entry.all choices.entry.build scope) }
         ensures accepts { OnOk result ((most : ℕ) × IsMost choices.entry.lines most) }
         ensures counts { OnOk result ((counts : List ℕ) × AreCounts choices.entry.jobs counts) }
+        ensures call { SummaryAt (H.world self.old.host.now) self.old.missing_ok log.entry choices.entry self.old.columns self.new.notes.told.number
+            (W.contents self.old.out) (W.contents self.new.out) result }
+        ensures left { self.new.left ≡ self.old.left }
         ensures faults { IfErr result (IsSummaryFault choices.entry self.new.notes.told.number) }
     {
         let most = count_of(choices.lines, 10, NumberOf::Lines, &mut self.notes.told)?;
@@ -59,7 +62,7 @@ impl<R: Runtime> Desk<'_, R> {
         let Some(path) = choices.graph else {
             return self.report_in(Report::Summary(scope, lists, None), log);
         };
-        let text = self.graph_bytes(path)?;
+        let text = graph_in(self.host, path, &mut self.notes)?;
         let graph = read_graph(self.notes.alloc, lists.secret, text.as_slice())?;
         self.notes.begin(false);
         let by = ByGraph {
@@ -73,12 +76,14 @@ impl<R: Runtime> Desk<'_, R> {
 
     /// By the time zone of the system, or else by UTC.
     pub fn builds_in(&mut self, log: Option<&str>) -> ToolResult
+        ensures call { BuildsAt (H.world self.old.host.now) self.old.missing_ok log.entry self.old.columns (W.contents self.old.out) (W.contents self.new.out) result }
+        ensures left { self.new.left ≡ self.old.left }
         ensures faults { IfErr result IsLogFault }
     {
-        let (rt, alloc, columns) = (self.rt, self.notes.alloc, self.columns);
-        let zones = TimeZoneDatabase::new(alloc);
+        let columns = self.columns;
+        let zones = TimeZoneDatabase::new(self.notes.alloc);
         if columns.is_some() {
-            if let Ok(system) = SystemTimeZone::read(&(rt, alloc)) {
+            if let Some(system) = self.host.zone() {
                 if let Ok(zone) = system.time_zone(&zones) {
                     return self.report_in(Report::Builds(Some(zone)), log);
                 }
@@ -90,6 +95,9 @@ impl<R: Runtime> Desk<'_, R> {
 
     pub fn trace_in(&mut self, log: Option<&str>, choices: Choices<'_>) -> ToolResult
         ensures scope { OnOk result ((scope : Scope) × IsScope choices.entry.all choices.entry.build scope) }
+        ensures call { TraceAt (H.world self.old.host.now) self.old.missing_ok log.entry choices.entry self.old.columns self.new.notes.told.number
+            (W.contents self.old.out) (W.contents self.new.out) result }
+        ensures left { self.new.left ≡ self.old.left }
         ensures faults { IfErr result (IsBuildFault choices.entry self.new.notes.told.number) }
     {
         let scope = scope_of(choices.all, choices.build, &mut self.notes.told)?;
@@ -98,13 +106,16 @@ impl<R: Runtime> Desk<'_, R> {
 
     pub fn picture_in(&mut self, log: Option<&str>, choices: Choices<'_>) -> ToolResult
         ensures scope { OnOk result ((scope : Scope) × IsScope choices.entry.all choices.entry.build scope) }
+        ensures call { PictureAt (H.world self.old.host.now) self.old.missing_ok log.entry choices.entry self.old.columns self.new.notes.told.number
+            (W.contents self.old.out) (W.contents self.new.out) result }
+        ensures left { self.new.left ≡ self.old.left }
         ensures faults { IfErr result (IsPictureFault choices.entry self.new.notes.told.number) }
     {
         let scope = scope_of(choices.all, choices.build, &mut self.notes.told)?;
         let Some(path) = choices.graph else {
             return self.report_in(Report::Picture(scope, None), log);
         };
-        let text = self.graph_bytes(path)?;
+        let text = graph_in(self.host, path, &mut self.notes)?;
         let graph = read_graph(self.notes.alloc, self.notes.secret, text.as_slice())?;
         self.notes.begin(false);
         self.report_in(Report::Picture(scope, Some(&graph)), log)
@@ -113,38 +124,35 @@ impl<R: Runtime> Desk<'_, R> {
     pub fn compare_in(&mut self, old: &str, new: &str, choices: Choices<'_>) -> ToolResult
         ensures accepts { OnOk result ((most : ℕ) × IsMost choices.entry.lines most) }
         ensures least { OnOk result ((ms : ℕ) × IsLeast choices.entry.least ms) }
+        ensures call { CompareAt (H.world self.old.host.now) self.old.missing_ok old.entry new.entry choices.entry self.old.columns self.new.notes.told.number
+            (W.contents self.old.out) (W.contents self.new.out) result }
+        ensures left { self.new.left ≡ self.old.left }
         ensures faults { IfErr result (IsCompareFault choices.entry self.new.notes.told.number) }
     {
         let most = count_of(choices.lines, 10, NumberOf::Lines, &mut self.notes.told)?;
         let ms = count_of(choices.least, 0, NumberOf::Least, &mut self.notes.told)?;
         // Each log is closed before anything else is done.
         let means = self.means();
-        let old_text = self.log_bytes(Some(old), self.missing_ok)?;
+        let old_text = bytes_in(self.host, Some(old), true, self.missing_ok, &mut self.notes)?;
         let old = last_of(means, old_text.as_slice())?;
         let is_missing = self.notes.is_missing;
         self.notes.begin(true);
-        let new_text = self.log_bytes(Some(new), self.missing_ok)?;
+        let new_text = bytes_in(self.host, Some(new), true, self.missing_ok, &mut self.notes)?;
         let new = last_of(means, new_text.as_slice())?;
-        if is_missing && !self.notes.is_missing {
-            self.notes.is_missing = true;
-            self.notes.is_second = false;
-        }
-        let mut out = NotedWriter::new(io::writer(self.rt));
-        let answer = compare_to(means, most, ms as u64, &old, &new, &mut out);
-        self.notes.written = out.failure;
-        answer
+        self.notes.recall(is_missing);
+        compare_to(means, most, ms as u64, &old, &new, &mut self.out)
     }
 
     pub fn report_in(&mut self, report: Report<'_, '_>, log: Option<&str>) -> ToolResult
+        ensures call { ReportsAt (H.world self.old.host.now) self.old.missing_ok log.entry self.old.columns report.entry
+            (W.contents self.old.out) (W.contents self.new.out) result }
+        ensures left { self.new.left ≡ self.old.left }
         ensures faults { IfErr result (IsReportFault report.entry) }
     {
-        let text = self.log_bytes(log, self.missing_ok)?;
+        let text = bytes_in(self.host, log, true, self.missing_ok, &mut self.notes)?;
         let means = self.means();
-        let mut out = NotedWriter::new(io::writer(self.rt));
         let again = &mut self.notes.is_again;
-        let answer = report_to(means, report, text.as_slice(), &mut out, again);
-        self.notes.written = out.failure;
-        answer
+        report_to(means, report, text.as_slice(), &mut self.out, again)
     }
 }
 

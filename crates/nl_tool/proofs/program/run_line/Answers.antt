@@ -7,10 +7,11 @@ use Rattle.nl_tool.proofs.program.run_line.Goals as goal
 pub returns-after-line-clause-status : goal.returns-after-line-clause-status
 returns-after-line-clause-status g c =
     let line = map string_bytes c.args.line.now in
-    command_ended (fault_in line) c.in-Ok.said.words (entered_of line) c.run_at-answer.result c.end.result
+    let ends = c.run_over.ensures.status in
+    command_ended (fault_in line) c.in-Ok.said.words (entered_of line) ends.0 c.run_over.result
     c.in-Ok.ensures.accepts c.in-Ok.ensures.value
-    (IfOk-weaker c.run_at-answer.result _ _ (λ outcome finds is. c.meant-words.ensures.can_find (finds is)) c.run_at-answer.ensures.outcome)
-    c.end.ensures.status
+    (IfOk-weaker ends.0 _ _ (λ outcome may is. c.meant-words.ensures.can_find (may.1 is)) ends.2)
+    ends.1
 
 pub returns-in-Err : goal.returns-in-Err
 returns-in-Err g c =
