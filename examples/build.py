@@ -60,7 +60,8 @@ class Log:
 
 
 def entry(i, flag=""):
-    """The fields of an output's entry: those that start at once take turns. A build of Ninja's logs would ask for the hash by the line `hash`."""
+    """The fields of an output's entry: those that start at once take turns. A build of Ninja's logs would ask for the
+    hash by the line `hash`, and take MTIME before the command, as the time in nanoseconds of a file that is made then."""
     start = i // AT_ONCE * 100
     return str(start), str(start + 5 + i % AT_ONCE), str(1000 + i), f"out{i}", format(zlib.crc32(b"make out%d %s" % (i, os.fsencode(flag))), "x")
 

@@ -30,10 +30,9 @@
  *   writer that is open, or broken, stays the parent's. In the child each call
  *   on it that has a status answers NLOG_FORKED, and does nothing.
  *   nlog_writer_free frees the child's part, and the parent's log stays locked.
- * Units: lengths are in bytes, and start and end in milliseconds from the
- *   start of the build. Each mtime is in the writer's unit (Ninja 1.12:
- *   nanoseconds since 1970; 0 for no file). Names and commands are bytes, of no
- *   encoding, and end by their length. */
+ * Units: lengths are in bytes, start and end in milliseconds from the start of
+ *   the build, and each mtime in nanoseconds since 1970. Names and commands are
+ *   bytes, of no encoding, and end by their length. */
 #ifndef NLOG_H
 #define NLOG_H
 
@@ -119,7 +118,10 @@ typedef struct nlog {
 /* A handle without a log. Memory of zeros is one too. */
 #define NLOG_INIT {0, NULL}
 
-/* What an entry has beside its name. */
+/* What an entry has beside its name. The mtime is when the command started, by
+ * the file system's clock, as in Ninja since 1.12 (1.11: the newest output's).
+ * Take it before the command: an input that changes later is newer, and has the
+ * output made again. */
 typedef struct nlog_entry {
   int32_t start_ms;
   int32_t end_ms;
@@ -249,7 +251,7 @@ nlog_status nlog_check_name(const char *name, size_t len);
  *   and pending. It answers NLOG_LOCKED with EINTR, and can be made again.
  *   Block such a signal in all other threads. A process that limits the length
  *   of files (RLIMIT_FSIZE) must ignore SIGXFSZ.
- * Descriptors are close-on-exec, and none is a standard stream's.
+ * Descriptors are close-on-exec, and no standard stream's.
  * Files: the scratch of a rewriting is the path with `.recompact` appended. A
  *   failure may leave it there, and the next rewriting removes it. A rewritten
  *   log is a new file, and replaces a symbolic link. The open looks the path
@@ -331,6 +333,7 @@ uint64_t nlog_writer_other_version(const nlog_writer *writer);
  * within each call alone, and not from the open to the close.
  * A call that changes the log takes in what others did. But a record of planned
  * names takes no lock: if another's rewriting loses it, their intents stand.
+ * NLOG_OUT_OF_MEMORY breaks the writer if the log was read anew.
  * Calls that only read tell what the last call saw that had the lock.
  * NLOG_ALREADY_OPEN: the writer has to be closed; also of a broken one.
  * NLOG_LOCKED of a later call: nothing was done, the log is still open, and the
@@ -338,8 +341,8 @@ uint64_t nlog_writer_other_version(const nlog_writer *writer);
 nlog_status nlog_writer_set_shared(nlog_writer *writer, bool is_shared);
 
 /* A hold takes the lock of a shared log, and keeps it until the release or a
- * close, so that the calls between take none. If the log isn't shared, both do
- * nothing.
+ * close, so that the calls between take none. Holds don't nest.
+ * If the log isn't shared, both do nothing.
  * NLOG_LOCKED: nothing was done. */
 nlog_status nlog_writer_hold(nlog_writer *writer);
 nlog_status nlog_writer_release(nlog_writer *writer);

@@ -131,22 +131,26 @@ nlog_status sync_log(nlog_writer *w, bool has_folder) {
 }
 
 /* Writes bytes at the end of a log that is shared, where others may write without the lock. After
- * half a line, theirs or one of a write that was cut off, it writes all once more. */
-static bool write_shared(nlog_writer *w, size_t len) {
+ * half a line, theirs or one of a write that was cut off, it writes all once more. The call of the
+ * system that failed, or NULL. */
+static const char *write_shared(nlog_writer *w, size_t len) {
   for (int tries = 0; tries < MOST_TRIES; tries++) {
     char before = '\n';
-    ssize_t count;
+    ssize_t count, got = 1;
     AGAIN(count, write(w->log_fd, w->buffer, len));
-    const off_t end = count < 0 ? -1 : lseek(w->log_fd, 0, SEEK_CUR);
-    if (count < 0 || end < count) return false;
+    if (count < 0) return "write";
+    const off_t end = lseek(w->log_fd, 0, SEEK_CUR);
+    if (end < count) return "lseek";
     const uint64_t at = (uint64_t)(end - count);
-    if ((size_t)count == len && at == w->len) return true;
+    if ((size_t)count == len && at == w->len) return NULL;
     w->is_apart = true;
-    if (at > 0 && read_whole(w->log_fd, &before, 1, at - 1) != 1) return false;
-    if ((size_t)count == len && before == '\n') return true;
+    if (at > 0) got = read_whole(w->log_fd, &before, 1, at - 1);
+    if (got == 0) errno = ESTALE;
+    if (got != 1) return "pread";
+    if ((size_t)count == len && before == '\n') return NULL;
   }
   errno = EIO;
-  return false;
+  return "write";
 }
 
 /* Writes the lines that wait, by one write. The buffer has room for them. */
@@ -156,8 +160,10 @@ nlog_status write_new(nlog_writer *w) {
   if (len == w->len) return NLOG_OK;
   w->is_pending = true;
   const size_t more = (size_t)(len - w->len);
-  const bool ok = w->is_shared ? write_shared(w, more) : write_whole(w->log_fd, w->buffer, more);
-  TRY(done(w, ok, "write", w->path));
+  const char *failed = "write";
+  if (w->is_shared) failed = write_shared(w, more);
+  else if (write_whole(w->log_fd, w->buffer, more)) failed = NULL;
+  TRY(done(w, failed == NULL, failed, w->path));
   w->len = len;
   return carried_written(&w->log, len);
 }

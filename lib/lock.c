@@ -15,6 +15,10 @@
 #include <sys/mman.h>
 #include <time.h>
 
+/* The one of programs with threads, which lies in libpthread before glibc 2.32: so a static program
+ * without threads needs no such library, and there the other call is the same one of the system. */
+#pragma weak pthread_sigmask
+
 enum {
   MAX_PAUSE = 20000,  /* microseconds, before a lock is asked for again */
   MOST_LENT = 256,    /* descriptors, among which is one that has a lock from the start */
@@ -83,6 +87,11 @@ static bool has_lock(const nlog_writer *w) {
   return false;
 }
 
+static void mask_signals(int how, const sigset_t *set, sigset_t *before) {
+  if (pthread_sigmask != NULL) pthread_sigmask(how, set, before);
+  else sigprocmask(how, set, before);
+}
+
 /* Waits before a lock is asked for once more: a millisecond at first, and longer by and by, so that
  * of several that take turns none waits long. A signal ends the wait. All are kept back but within
  * its pauses, so that none is missed. `since`: when it waited first, or 0 before. */
@@ -94,7 +103,7 @@ static nlog_status wait_on(nlog_writer *w, uint64_t *since, sigset_t *before) {
   if (*since == 0) {
     *since = now;
     sigfillset(&set);
-    sigprocmask(SIG_BLOCK, &set, before);
+    mask_signals(SIG_BLOCK, &set, before);
   }
   const uint64_t waited = now - *since, wait = (uint64_t)w->wait * 1000;
   const uint64_t rest = wait - LEAST(waited, wait), pause = LEAST(1000 + waited / 16, MAX_PAUSE);
@@ -165,6 +174,6 @@ nlog_status lock_log(nlog_writer *w, bool *is_same) {
     status = wait_on(w, &since, &before);
     if (status != NLOG_OK) break;
   }
-  if (since != 0) sigprocmask(SIG_SETMASK, &before, NULL);
+  if (since != 0) mask_signals(SIG_SETMASK, &before, NULL);
   return status;
 }

@@ -96,13 +96,16 @@ const char *nlog_writer_failed_call(const nlog_writer *writer) {
 
 /* ---- A file ---- */
 
-/* Reads all of an open file. The bytes are the caller's to free. *error: 0 where memory ran out. */
-char *read_all(int fd, struct stat *about, size_t *len, int *error) {
+/* Reads all of an open file. The bytes are the caller's to free. *error: 0 where memory ran out, or
+ * else the errno of *call. */
+char *read_all(int fd, struct stat *about, size_t *len, const char **call, int *error) {
   size_t room;
   char *bytes, *more;
   *len = 0;
+  *call = "fstat";
   *error = ask_regular(fd, about);
   if (*error != 0) return NULL;
+  *call = "pread";
   room = size_of(about) > 0 ? size_of(about) + 1 : BLOCK; /* a byte more, so the end is seen */
   for (bytes = (char *)malloc(room); bytes != NULL; bytes = more, room *= 2) {
     ssize_t got = read_whole(fd, bytes + *len, room - *len, *len);
@@ -116,11 +119,12 @@ char *read_all(int fd, struct stat *about, size_t *len, int *error) {
 
 static nlog_status read_file(const char *path, char **bytes, size_t *len, int *error) {
   struct stat about;
+  const char *call;
   /* A pipe without a writer would keep it waiting. */
   int failed, fd = open_off_streams(AT_FDCWD, path, O_RDONLY | O_NONBLOCK, 0);
   *bytes = NULL;
   failed = fd < 0 ? errno : 0;
-  if (fd >= 0) *bytes = read_all(fd, &about, len, &failed);
+  if (fd >= 0) *bytes = read_all(fd, &about, len, &call, &failed);
   close_at(&fd);
   if (*bytes != NULL) return NLOG_OK;
   if (failed == 0) return NLOG_OUT_OF_MEMORY;

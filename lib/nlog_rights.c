@@ -1,16 +1,7 @@
 /* Who may read and write a log that is written anew: a new file gets the owner, the group, the mode, the ACL and the security labels of the one
  * before, as far as the process may give them, and where it may not, nobody has a right by the new file that he hadn't by the old one. This file
  * is tested (tests/clib_rights.py), and not proved. */
-#if !defined(_GNU_SOURCE)
-#define _GNU_SOURCE
-#endif
-#define _FILE_OFFSET_BITS 64
-#include <errno.h>
-#include <stdbool.h>
-#include <string.h>
-#include <sys/stat.h>
-#include <sys/types.h>
-#include <unistd.h>
+#include "writer.h"
 
 #ifdef __linux__
 #include <sys/xattr.h>

@@ -95,9 +95,10 @@ static nlog_status load_log(nlog_writer *w, int fd, nlog *found) {
 static nlog_status mark_distrusted(nlog_writer *w, int fd, nlog *found, bool *is_any) {
   nlog distrusted = NLOG_INIT;
   size_t len;
+  const char *call;
   int error;
-  char *bytes = read_all(fd, &w->seen.about, &len, &error);
-  if (bytes == NULL) return error == 0 ? NLOG_OUT_OF_MEMORY : fail(w, "pread", w->path, error);
+  char *bytes = read_all(fd, &w->seen.about, &len, &call, &error);
+  if (bytes == NULL) return error == 0 ? NLOG_OUT_OF_MEMORY : fail(w, call, w->path, error);
   nlog_status status = nlog_load_distrusted(&distrusted, bytes, len);
   for (size_t place = 0, name; status == NLOG_OK; place++) {
     nlog_entry entry;
@@ -349,6 +350,11 @@ static bool write_loosely(nlog_writer *w, const nlog_name *n, size_t count, cons
   ssize_t written;
   if (!w->is_shared || w->is_held || w->is_apart || w->state != OPEN || w->log_fd < 0) return false;
   if (++w->loose % LOOK_EVERY == 0 && look(w) != 0) return false;
+  /* Without room it ends no plan, so that all stand where one of them doesn't. */
+  for (size_t i = 0; count > 1 && i < count; i++) {
+    if (carried_loose_line(&w->log, n[i].bytes, n[i].len, e, w->buffer, 0, &line) != NLOG_NO_ROOM)
+      return false;
+  }
   for (size_t i = 0; i < count; i++, used += line) {
     const nlog_status status = carried_loose_line(&w->log, n[i].bytes, n[i].len, e,
         w->buffer + used, w->room - used, &line);

@@ -123,7 +123,7 @@ nlog_status load_as(nlog *log, uint32_t version, const void *bytes, size_t len);
 
 /* lib/nlog_reads.c */
 void note_block(seen *seen, const char *bytes, size_t len);
-char *read_all(int fd, struct stat *about, size_t *len, int *error);
+char *read_all(int fd, struct stat *about, size_t *len, const char **call, int *error);
 nlog_status load_blocks(nlog *log, uint32_t version, int fd, uint64_t end, char *block, seen *seen,
                         int *error);
 

@@ -8,7 +8,8 @@ the format says of each log from log_format.py. tests/clib/tool.c has the comman
 program's system calls, of writes that are cut, of a full disk, of what a crash leaves, and of `apply` are made of the library too, by the
 same rules. Writers run at once, one beside PROGRAM too, and are killed.
 
-Parts of it are clib_ends.py (how calls end where something fails, or is large), clib_looks.py (a log that is opened to read), clib_wary.py (a writer that drops what can't be trusted), clib_plans.py (plans), clib_rights.py (who may
+Parts of it are clib_ends.py (how calls end where something fails, or is large), clib_looks.py (a log that is opened to read), clib_wary.py (a writer that drops what can't be trusted), clib_plans.py (plans), clib_shared.py
+(calls by chance of three that share a log), clib_names.py (many names, and hostile ones), clib_rights.py (who may
 read and write a log that is rewritten), clib_systems.py (what a file system can't do, and what is done to a log), clib_steps.py (the steps of a
 change) and clib_packages.py (how the library is taken).
 
@@ -35,9 +36,11 @@ import apply_calls
 import between
 import clib_ends
 import clib_looks
+import clib_names
 import clib_packages
 import clib_plans
 import clib_rights
+import clib_shared
 import clib_steps
 import clib_systems
 import clib_wary
@@ -51,7 +54,7 @@ from log_format import HEADER, MAX_LINE, MAX_NAME, Log, as_version, command_hash
 from log_lines import damage_of, distrusted_of
 from trials import BUILD_SECONDS, SECONDS, Pauses, is_locked, is_within, main, read, run, until_open, write
 
-TOOL, SHARER, PLANS, READERS, RUST = (f"{TOP}/tests/clib/{it}" for it in ("tool.c", "shared.c", "plans.c", "readers.c", "safe.rs"))
+TOOL, SHARER, PLANS, READERS, NAMED, RUST = (f"{TOP}/tests/clib/{it}" for it in ("tool.c", "shared.c", "plans.c", "readers.c", "names.c", "safe.rs"))
 VERSION_OF_NAMES = "NLOG_0.2"
 # The calls which a driver writes down, or counts (clib_steps.py).
 RECORDED = ["fsync", "ftruncate64", "write", "openat64", "unlinkat", "renameat", "flock", "fchmod", "close", "fstat64", "fstatat64", "mmap64", "munmap", "malloc", "calloc", "free",
@@ -78,7 +81,9 @@ def build(trials, room):
         ("tool", ["cc", "-std=c11", "-O2", *STRICT, TOOL, archive]),
         ("sharer", ["cc", "-std=c11", "-g", *SANITIZED, *STRICT, SHARER, *parts] if sanitizes(room) else ["cc", "-std=c11", *STRICT, SHARER, archive]),
         ("plans", ["cc", "-std=c11", "-O2", *STRICT, PLANS, archive]),
-        ("readers", ["cc", "-std=c11", "-g", *STRICT, READERS, "-pthread", archive]),
+        ("names", ["cc", "-std=c11", "-O2", *STRICT, NAMED, archive]),
+        ("readers", ["cc", "-std=c11", "-g", *STRICT, "-Wl,--wrap=sigprocmask", READERS, "-pthread", archive]),
+        ("without pthread_sigmask", ["cc", "-std=c11", "-no-pie", *STRICT, "-Wl,--defsym=pthread_sigmask=0", DRIVER, archive]),
         ("readers by threads", ["cc", "-std=c11", "-g", "-fsanitize=thread", *STRICT, READERS, *parts, "-pthread"]),
         ("rust", ["rustc", "--edition", "2021", "-D", "warnings", "-L", room, "-l", "static=nlog", RUST]),
     ]
@@ -97,6 +102,15 @@ def build(trials, room):
             made[name] = f"{room}/{name}"
     made["shared"], made["archive"] = f"{room}/libnlog.so", archive
     return made
+
+
+def prototypes(trials, room):
+    """Each file of the library's C, by each compiler, with the warnings that show a function which its own header doesn't declare."""
+    warnings = ["-Wall", "-Wextra", "-Wpedantic", "-Wmissing-prototypes", "-Wstrict-prototypes", "-Werror", "-I", f"{TOP}/include"]
+    for compiler in filter(shutil.which, ("gcc", "clang", "musl-gcc", "aarch64-linux-gnu-gcc")):
+        for part in sorted(glob(f"{TOP}/lib/*.c")):
+            ran = run([compiler, "-std=c11", "-O2", *warnings, "-c", part, "-o", f"{room}/part.o"])
+            trials.check(f"{os.path.basename(part)} by {compiler}, without a warning", ran[0] == 0 and not ran[2], ran[2][-800:].decode(errors="replace"))
 
 
 def names(trials, room):
@@ -349,40 +363,6 @@ def by_ctypes(trials, made, room):
     library.nlog_writer_free(ctypes.byref(writer))
     trials.want("ctypes: the writer is gone", writer.value, None)
     trials.want("ctypes: the log", read(path), HEADER + A + B)
-    by_hostile_names(trials, library, path)
-
-
-def by_hostile_names(trials, library, path):
-    """10,000 names that have one hash in a table without a secret (bench/colliding_log.py), and as many others: each call that loads a log."""
-    size = ctypes.c_size_t
-    colliding = [b"%08d" % it + (0x9E3779B97F4A7C15).to_bytes(8, "little") for it in range(10_000)]
-
-    def by_writer():
-        writer = ctypes.c_void_p()
-        library.nlog_writer_new(ctypes.byref(writer), path.encode(), ctypes.c_uint32(0))
-        status = library.nlog_writer_open(writer)
-        library.nlog_writer_free(ctypes.byref(writer))
-        return status
-
-    calls = {
-        "nlog_load": lambda log, text: library.nlog_load(log, text, size(len(text))),
-        "nlog_load_distrusted": lambda log, text: library.nlog_load_distrusted(log, text, size(len(text))),
-        "nlog_writer_open": lambda log, text: by_writer(),
-    }
-    for name, call in calls.items():
-        statuses = set()
-
-        def taken(names, call=call, statuses=statuses):
-            text = HEADER + b"".join(line_of(it, (1, 2, 3, 0xAA)) for it in names)
-            write(path, text)
-            log, before = Handle(), time.process_time()
-            statuses.add(call(ctypes.byref(log), text))
-            spent = time.process_time() - before
-            library.nlog_free(ctypes.byref(log))
-            return spent
-
-        trials.check(f"{name} of 10,000 names that collide", *is_within(5, lambda: taken(colliding), lambda: taken([it[:-1] + b"x" for it in colliding])))
-        trials.want(f"{name} of 10,000 names", statuses, {0})
 
 
 def header(trials, program):
@@ -414,6 +394,7 @@ def header(trials, program):
 def pages(trials, room):
     """The programs in C of docs/LIBRARY.md, as they stand there: the first one is a build tool, whose log its next run reads."""
     os.mkdir(f"{room}/pages")
+    write(f"{room}/pages/in.txt", b"hello\n")
     blocks = re.findall(r"(?s)```c\n(.*?)```", read(f"{TOP}/docs/LIBRARY.md").decode())
     printed = [b"made a.txt\n", b"a.o: another command\na.o\nb.o\n", b"line 2 is no entry, distrust b.o\nline 3 is torn\n"]
     trials.want("the number of examples", len(blocks), len(printed))
@@ -426,7 +407,7 @@ def pages(trials, room):
         if shutil.which("c++"):
             ran = run(["c++", "-x", "c++", "-std=c++17", *STRICT, "-c", f"{path}.c", "-o", f"{path}.o"])
             trials.check(f"example {i} is C++ too", ran[0] == 0 and not ran[2], ran[2][-800:].decode(errors="replace"))
-    log, command = f"{room}/pages/.ninja_log", b"echo hello > a.txt"
+    log, command = f"{room}/pages/.ninja_log", b"cp in.txt a.txt"
     wants_entry_of(trials, "the first", log, b"a.txt", command)
     trials.want("it made its output", read(f"{room}/pages/a.txt"), b"hello\n")
     before = read(log)
@@ -435,15 +416,46 @@ def pages(trials, room):
     # An output whose record was lost is made again; a command that fails is told, and a file that does with its call.
     write(log, before.replace(b"\ta.txt\t", b"\t"))
     trials.want("a damaged log", run([f"{room}/page0"], cwd=f"{room}/pages"), (0, b"made a.txt\n", b""))
+    changes_meanwhile(trials, f"{room}/page0", f"{room}/pages")
     os.remove(log)
-    os.remove(f"{room}/pages/a.txt")
-    os.mkdir(f"{room}/pages/a.txt")
+    os.remove(f"{room}/pages/in.txt")
     ended = run([f"{room}/page0"], cwd=f"{room}/pages")
-    trials.want("a command that fails", (ended[0], ended[1], ended[2].endswith(b"failed: echo hello > a.txt\n")), (1, b"", True))
+    trials.want("a command that fails", (ended[0], ended[1], ended[2].endswith(b"failed: cp in.txt a.txt\n")), (1, b"", True))
     trials.want("its log has no entry that any command passes for", read(log), HEADER)
     os.remove(log)
     os.mkdir(log)
     trials.want("a file that fails", run([f"{room}/page0"], cwd=f"{room}/pages"), (1, b"", b"open: a file failed: .ninja_log: fstat: Is a directory\n"))
+
+
+def changes_meanwhile(trials, tool, folder):
+    """An input that changes while the command runs, before its output is written or later: the tool makes the output again, and so does Ninja."""
+    commands, manifest = f"{folder}/commands", b"rule cp\n  command = cp in.txt a.txt\nbuild a.txt: cp in.txt\n"
+    os.mkdir(commands)
+    write(f"{folder}/build.ninja", manifest)
+    env = {**os.environ, "PATH": f"{commands}:{os.environ.get('PATH', os.defpath)}"}
+    change = "sleep 0.05; echo later > in.txt"
+    for when, script in (("behind", f'/bin/cp "$@"; {change}'), ("before", f'/bin/cat in.txt > text; {change}; sleep 0.05; /bin/cp text a.txt')):
+        for again in (["ninja"], [tool]):
+            what = f"an input that changes {when} its command's end, and {os.path.basename(again[0])[:5]}"
+            if shutil.which(again[0]) is None:
+                trials.skip(what, "it isn't there")
+                continue
+            for it in (".ninja_log", "a.txt"):
+                if os.path.exists(f"{folder}/{it}"):
+                    os.remove(f"{folder}/{it}")
+            write(f"{folder}/in.txt", b"hello\n")
+            time.sleep(0.05)
+            trials.want(f"{what}: made", run([tool], cwd=folder)[:2], (0, b"made a.txt\n"))
+            said = run(again, cwd=folder)
+            trials.check(f"{what}: nothing to do", b"no work to do" in said[1] or said[1] == b"nothing to do\n", said)
+            write(f"{commands}/cp", f"#!/bin/sh\n{script}\n".encode())
+            os.chmod(f"{commands}/cp", 0o755)
+            os.remove(f"{folder}/a.txt")
+            trials.want(f"{what}: made beside the change", run([tool], cwd=folder, env=env)[:2], (0, b"made a.txt\n"))
+            os.remove(f"{commands}/cp")
+            trials.want(f"{what}: of the input before", (read(f"{folder}/a.txt"), read(f"{folder}/in.txt")), (b"hello\n", b"later\n"))
+            trials.want(f"{what}: it is made again", run(again, cwd=folder)[0], 0)
+            trials.want(f"{what}: of the input now", read(f"{folder}/a.txt"), b"later\n")
 
 
 def wants_entry_of(trials, about, log, name, command):
@@ -497,6 +509,11 @@ TURNS = [
                          f"plan 7 0 0 cc {hexed(b'a', NAMES[1])}", "plan 7 0 0 cc", "close"],
      ["NOT_OPEN", "OK", "OK 11 1 2 3 aa 00 11 4 5 6 bb", "OK 7 7 0 ffffffffffffff33", "OK 0", "OK", "OK 1", "OK 0", "BAD_NAME", "OK", "OK"],
      HEADER + A + B + INTENT_A + INTENT_B + b"4\t5\t6\tb\tcc\n" + A),
+    # The longest name, by each call that takes one.
+    (HEADER + line_of(LONG, (1, 2, 3, 0xAA)), 0, ["shared", "open", f"begin 7 0 0 cc {hexed(LONG)}", f"plan 8 0 0 cc {hexed(LONG)}", f"withdraw {hexed(LONG)}", f"plan 8 1 0 cc {hexed(LONG)}",
+                                                  f"record 4 5 6 bb {hexed(LONG)}", f"find {hexed(LONG)}", "sync", f"find {hexed(LONG)}", f"time 9 {hexed(LONG)}", "restat", f"edge 4 5 6 bb {hexed(LONG, b'a')}",
+                                                  f"dead {hexed(LONG)}", "recompact", "close"],
+     ["OK", "OK", "OK", "OK 11 7 7 0 ffffffffffffff33", "OK 1", "OK 11 7 7 0 ffffffffffffff33", "OK", "OK 8 8 0 ffffffffffffff33", "OK", "OK 4 5 6 bb", *["OK"] * 6], HEADER + b"4\t5\t6\ta\tbb\n"),
     # An intent is planned over too, and one is written anew where that is asked for. A rewriting ends each plan.
     (HEADER + A + INTENT_A, 0, ["open", BEGIN_A_AGAIN, f"plan 8 1 0 cc {hexed(b'a', b'none')}", "recompact", f"withdraw {hexed(b'a')}", "close"],
      ["OK", "OK", "OK 11 7 7 0 ffffffffffffff33 01", "OK", "OK 0", "OK"], HEADER + b"".join(b"8\t8\t0\t%s\tffffffffffffff33\n" % it for it in (b"a", b"none"))),
@@ -537,6 +554,9 @@ TURNS = [
     # Due logs that begin with their own rewriting: a cut in place could leave an older entry.
     (HEADER + B + (A.replace(b"a\taa", b"b\taa") + B) * 60, 0, ["open", "rewrote", f"find {hexed(b'b')}", "close"], ["OK", "OK 1", "OK 4 5 6 bb", "OK"], HEADER + B),
     (HEADER + A * 101 + b"4\t5", 0, ["open", "rewrote", "close"], ["OK", "OK 1", "OK"], HEADER + A),
+    # The number of a version is that of the last open that was refused.
+    (b"# ninja log v8\n", 0, ["other", "open", "other", "look", "other"], ["OK 0", "OTHER_VERSION 8", "OK 8", "OTHER_VERSION 8", "OK 8"], b"# ninja log v8\n"),
+    (HEADER, 0, ["other", "open", "other", "close", "other"], ["OK 0", "OK", "OK 0", "OK", "OK 0"], HEADER),
     # Many opens and closes of one writer.
     (HEADER, 0, ["open", RECORD, "close"] * 50, ["OK"] * 150, HEADER + A * 50),
 ]
@@ -767,7 +787,7 @@ def refusals(trials, made, room):
                 os.remove(log)
             write(log, held)
             ended, out, err = run([made["refused"], "refuse-call", log, str(at), str(len(lines))], input="\n".join(lines).encode() + b"\n", stdin=None)
-            first, second = out.decode().split() if len(out.split()) == 2 else ("?", "?")
+            first, second = out.decode().split()[:2] if len(out.split()) == 3 else ("?", "?")
             if first == "NLOG_OK":
                 trials.want(f"{lines[-1][:30]} with all its memory", (ended, second, err), (0, "NLOG_OK", b""))
                 break
@@ -784,6 +804,29 @@ def refusals(trials, made, room):
             trials.check(f"{lines[-1][:30]} is done at last", False)
     trials.check("memory was refused", count > 200, count)
     print(f"clib.py: memory was refused at {count} places of calls of the writer")
+
+
+def refused_anew(trials, made, room):
+    """Memory that is refused where a call of a shared log, or the first change behind a look, has to read the log anew: that breaks the writer, and no
+    entry is lost. Where the log was read before, the call can be made again."""
+    if "refused" not in made:
+        return
+    log, broken = f"{room}/refused-anew.log", 0
+    for lines in (["shared", "open", "torn", RECORD], ["wary", "shared", "open", "torn", RECORD], ["shared", "look", "torn", RECORD], ["wary", "look", "torn", "sync"],
+                  ["shared", "open", "torn", f"plan 7 0 0 cc {hexed(b'b')}"]):
+        for at in range(200):
+            write(log, HEADER + B + D)
+            ended, out, err = run([made["refused"], "refuse-call", log, str(at), str(len(lines))], input="\n".join(lines).encode() + b"\n", stdin=None)
+            said, what = out.decode().replace("NLOG_", "").split(), f"{lines} with memory refused at place {at}"
+            if said == ["OK"] * 3:
+                break
+            broken += said[1:2] == ["BROKEN"]
+            trials.check(f"{what}: {said}", (ended, err) == (0, b"") and said in (["OUT_OF_MEMORY", "OK", "OK"], ["OUT_OF_MEMORY", "BROKEN", "BROKEN"]), err)
+            left = asked([made["C11"]], "write", log, 0, ["open", f"find {hexed(b'd')}", "close"])[1]
+            trials.want(f"{what}: the log", (left, read(log).startswith(HEADER + B + D)), (["OK", "OK -1 0 -5 ffffffffffffffff", "OK"], True))
+        else:
+            trials.check(f"{lines} are done at last", False)
+    trials.check("some writers were broken", broken > 20, broken)
 
 
 def kept_memory(trials, made, room):
@@ -1002,6 +1045,12 @@ def holds(trials, made, room):
                 trials.want(f"{way}: and the first", [answers_of(writer, it) for it in (RECORD, "count", "close")], ["OK", "OK 2", "OK"])
             writer.communicate()
             trials.want(f"{way}: the log", read(log), HEADER + A + B + A * (end == "release"))
+        # Holds don't nest.
+        writer = subprocess.Popen([*driver, "write", log, "0"], stdin=subprocess.PIPE, stdout=subprocess.PIPE)
+        trials.want(f"{way}: two holds", [answers_of(writer, it) for it in ("shared", "open", "hold", "hold")], ["OK"] * 4)
+        trials.want(f"{way}: end by one release", (is_locked(log), answers_of(writer, "release"), is_locked(log)), (True, "OK", False))
+        trials.want(f"{way}: behind which another does nothing", [answers_of(writer, it) for it in ("release", "close")], ["OK", "OK"])
+        writer.communicate()
         # What stands in the log's place is seen before a sync, and a lock that another has is told.
         write(log, HEADER)
         writer = subprocess.Popen([*driver, "write", log, "0"], stdin=subprocess.PIPE, stdout=subprocess.PIPE)
@@ -1539,6 +1588,7 @@ def trial(trials, program, room):
         return
     os.mkdir(f"{room}/steps-taken")
     os.environ["NLOG_STEPS"] = f"{room}/steps-taken"
+    prototypes(trials, room)
     names(trials, room)
     linked(trials, made, room)
     reads(trials, made, room)
@@ -1553,6 +1603,7 @@ def trial(trials, program, room):
     turns(trials, made, room)
     failing(trials, made, room)
     refusals(trials, made, room)
+    refused_anew(trials, made, room)
     kept_memory(trials, made, room)
     readers(trials, made, room)
     locks(trials, made, program, room)
@@ -1578,6 +1629,8 @@ def trial(trials, program, room):
     clib_looks.trial(trials, made, room)
     clib_wary.trial(trials, made, room)
     clib_plans.trial(trials, made, program, room, may_trace(trials, room))
+    clib_shared.trial(trials, made, room)
+    clib_names.trial(trials, made, room)
     clib_rights.trial(trials, made, room)
     clib_systems.trial(trials, made, room)
     clib_packages.trial(trials, made, program, room)

@@ -73,7 +73,7 @@ def distrusted(trials, made, room):
             for at in range(300):
                 write(path, text)
                 ended, out, err = run([made["refused"], "refuse-call", path, str(at), "2"], input=f"wary\n{word}\n".encode(), stdin=None)
-                first, second = out.decode().split()
+                first, second, _ = out.decode().split()
                 refused += first != "NLOG_OK"
                 trials.check(f"a wary {word} with memory refused at place {at}", (ended, err, second) == (0, b"", "NLOG_OK") and first in ("NLOG_OK", "NLOG_OUT_OF_MEMORY"), (ended, out, err))
                 if word == "open":

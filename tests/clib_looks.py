@@ -493,8 +493,31 @@ def failing(trials, made, room):
     print(f"clib.py: {count} calls of the system failed behind a look")
 
 
+def torn_tails(trials, made, room):
+    """Whatever the length of the tail that is torn when the log is read, the last 512 bytes of its lines tell whether it begins as it did."""
+    log, whole = f"{room}/tails.log", HEADER + B * 40 + line_of(b"x" * 700, (1, 2, 3, 0xAA))
+    at = len(whole) - 512
+    other = (b"x" * 700)[: at - len(HEADER + B * 40) - 6] + b"y" + b"x" * 507
+    for torn in (0, 1, 300, 511, 512, 513, 700, 1000, 1023, 1024, 1025, 5000):
+        for way, driver in drivers(made):
+            write(log, whole + b"t" * torn)
+            writer = begun(driver, log)
+            said = [answers_of(writer, it) for it in ("look", f"find {hexed(other)}")]
+            with open(log, "r+b") as it:
+                it.truncate(len(whole))
+                it.seek(at)
+                it.write(b"y")
+                it.seek(0, os.SEEK_END)
+                it.write(D)
+            said += [answers_of(writer, it) for it in (RECORD, f"find {hexed(other)}", "count", "close")]
+            writer.communicate()
+            trials.want(f"{way}: a byte that changes behind a look at a torn tail of {torn} bytes", said, ["OK", "NOT_FOUND", "OK", "OK 1 2 3 aa", "OK 4", "OK"])
+            trials.want(f"{way}: the log then", read(log), whole[:at] + b"y" + whole[at + 1 :] + D + A)
+
+
 def trial(trials, made, room):
     looks(trials, made, room)
+    torn_tails(trials, made, room)
     between(trials, made, room)
     in_its_place(trials, made, room)
     if may_trace(trials, room):

@@ -11,6 +11,7 @@ import signal
 import subprocess
 import time
 
+import full_disk
 from clib_driver import A, B, D, FIND, RECORD, STRICT_DRIVER, answers_of, asked, drivers, hexed, may_trace
 from log_format import HEADER, line_of
 from trials import SECONDS, Pauses, is_locked, read, run, until_open, write
@@ -69,6 +70,35 @@ def no_locks(trials, made, room):
     trials.want("a lock that fails", asked(driver, "write", log, 0, ["open", "is_open"])[1], ["FAULT EIO flock log", "OK 0"])
 
 
+def only_read(trials, made, room):
+    """A file system that may only be read: a log that is missing isn't made, and what one holds is told before that it can't be changed."""
+    folder = f"{room}/only-read"
+    why = full_disk.mount(folder)
+    if why is not None:
+        trials.skip("a file system that may only be read", f"no tmpfs may be mounted here ({why})")
+        return
+    texts = {"good": HEADER + A, "due": HEADER + A * 101, "torn": HEADER + A + b"4\t5", "text": b"hello\n", "other": b"# ninja log v9\n", "empty": b""}
+    said = {"text": "NOT_A_LOG", "other": "OTHER_VERSION 9"}
+    refused = "FAULT EROFS open log"
+    for name, text in texts.items():
+        write(f"{folder}/{name}", text)
+    run(["mount", "-o", "remount,ro", folder])
+    try:
+        for name in [*texts, "missing"]:
+            status, path = said.get(name, refused), f"{folder}/{name}"
+            # (the steps that a driver writes down are those of a log which may be written)
+            for way, driver in [it for it in drivers(made) if it[0] != "steps"]:
+                for begin in ([], ["shared"]):
+                    answers = asked(driver, "write", path, 0, [*begin, "open", RECORD, "close"])[1]
+                    trials.want(f"{way}: an open of one that is {name}", answers, ["OK"] * len(begin) + [status, "NOT_OPEN", "NOT_OPEN"])
+                    looked = [status, "NOT_OPEN", "NOT_OPEN", "NOT_OPEN"] if name in said else ["OK", f"OK {int(name in ('good', 'due', 'torn'))}", refused, "BROKEN"]
+                    answers = asked(driver, "write", path, 0, [*begin, "look", "count", RECORD, "close"])[1]
+                    trials.want(f"{way}: a look at one that is {name}", answers, ["OK"] * len(begin) + looked)
+        trials.want("the files", sorted(os.listdir(folder)), sorted(texts))
+    finally:
+        run(["umount", folder])
+
+
 # ---- Locks that the process has already ----
 
 
@@ -117,8 +147,10 @@ def lent(trials, made, room):
 def interrupted(trials, made, room):
     """A signal that comes while a lock is awaited ends the wait at once, whether it is handled or kept back; and the call may be made again."""
     log, ended = f"{room}/interrupted", "LOCKED EINTR flock log"
+    # (a program without threads, over a C library that has one call of the mask for these)
+    unthreaded = [(it, [made[it]]) for it in ("without pthread_sigmask",) if it in made]
     with open(log, "ab") as held, Pauses() as clock:
-        for way, driver in drivers(made):
+        for way, driver in [*drivers(made), *unthreaded]:
             for number, is_kept in ((signal.SIGUSR1, False), (signal.SIGINT, True), (signal.SIGTERM, True), (signal.SIGHUP, True)):
                 for begin, line in (([], "open"), (["look"], RECORD), (["shared", "open"], RECORD), (["shared", "open"], "sync")):
                     write(log, HEADER + B)
@@ -335,6 +367,7 @@ def large(trials, made, room):
 
 def trial(trials, made, room):
     lent(trials, made, room)
+    only_read(trials, made, room)
     interrupted(trials, made, room)
     taken(trials, made, room)
     in_the_root(trials, made, room)

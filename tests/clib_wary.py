@@ -153,6 +153,23 @@ def reads(trials, made, room):
     })
 
 
+def failing(trials, made, room):
+    """A look at the open file, or a read of it, that fails in a wary open of a damaged log: it is told by its name."""
+    log, count = f"{room}/wary-failing", 0
+    for call, name in (("newfstatat,fstat", {"fstat", "stat"}), ("pread64", {"pread"})):
+        for line in ("open", "look"):
+            for nth in range(1, 40):
+                write(log, DAMAGED["joined"])
+                driver = ["strace", "-o", f"{room}/TRACE", "-P", log, "-e", f"trace={call}", "-e", f"inject={call}:error=EIO:when={nth}", made["C11"]]
+                said = asked(driver, "write", log, 0, ["wary", line, "close"])[1]
+                if b"INJECTED" not in read(f"{room}/TRACE"):
+                    break
+                count += 1
+                told = said[1].split()
+                trials.check(f"{call} {nth} in a wary {line}", told[:2] == ["FAULT", "EIO"] and told[2] in name and told[3:] == ["log"], said)
+    trials.check("some failed", count >= 8, str(count))
+
+
 def trial(trials, made, room):
     trials.want("the hash of version 4", opened_warily(DAMAGED["of version 4"], 0)[2], HEADER)
     trials.check("and it is one", command_hash(b"cc") > 0)
@@ -161,4 +178,5 @@ def trial(trials, made, room):
     by_others(trials, made, room)
     if may_trace(trials, room):
         reads(trials, made, room)
+        failing(trials, made, room)
         killed(trials, made, room)

@@ -944,6 +944,7 @@ static void write_log(const char *log, uint32_t version) {
     if (is(&it, "wary")) status = nlog_writer_set_wary(writer, true);
     if (is(&it, "hold")) status = nlog_writer_hold(writer);
     if (is(&it, "release")) status = nlog_writer_release(writer);
+    if (is(&it, "other")) status = NLOG_OK;
     if (is(&it, "wait")) status = nlog_writer_set_wait(writer, (uint32_t)it.number);
 #ifdef TIMELESS
     if (is(&it, "device")) {
@@ -970,7 +971,7 @@ static void write_log(const char *log, uint32_t version) {
     if ((status == NLOG_FAULT || status == NLOG_LOCKED) && !is(&it, "rival")) show_failure(writer, log);
     if (is(&it, "restat") && status == NLOG_NEGATIVE_TIME) printf(" %zu", place);
     if ((is(&it, "is_open") || is(&it, "rewrote") || is(&it, "is_due")) && status == NLOG_OK) printf(" %d", flag);
-    if (status == NLOG_OTHER_VERSION) printf(" %" PRIu64, nlog_writer_other_version(writer));
+    if (status == NLOG_OTHER_VERSION || is(&it, "other")) printf(" %" PRIu64, nlog_writer_other_version(writer));
     if (is(&it, "version") && status == NLOG_OK) printf(" %" PRIu32, number);
     if ((is(&it, "count") || is(&it, "withdraw")) && status == NLOG_OK) printf(" %zu", count);
     for (i = 0; i < it.count && is(&it, "plan") && status == NLOG_OK; i++) {
@@ -1147,8 +1148,15 @@ static int time_edges(const char *log, size_t count, int edges) {
 }
 
 #ifdef REFUSES
-/* Does what the lines of standard input say, and refuses memory at one place of the last of so many. Prints the status of that call, and that of
- * the same call again where it was refused. */
+/* Somebody else begins a line, and doesn't end it. */
+static nlog_status tear(const char *log) {
+  FILE *file = fopen(log, "ab");
+  const bool is_done = file != NULL && fputs("4\t5", file) >= 0;
+  return file != NULL && fclose(file) == 0 && is_done ? NLOG_OK : NLOG_FAULT;
+}
+
+/* Does what the lines of standard input say, and refuses memory at one place of the last of so many. Prints the status of that call, that of the
+ * same call again where it was refused, and that of a close. */
 static void refuse_call(const char *log, long at, int count) {
   static request it;
   nlog_writer *writer = NULL;
@@ -1162,6 +1170,9 @@ static void refuse_call(const char *log, long at, int count) {
       if (is(&it, "open")) status = nlog_writer_open(writer);
       if (is(&it, "look")) status = nlog_writer_open_to_read(writer);
       if (is(&it, "wary")) status = nlog_writer_set_wary(writer, true);
+      if (is(&it, "shared")) status = nlog_writer_set_shared(writer, true);
+      if (is(&it, "torn")) status = tear(log);
+      if (is(&it, "plan")) status = plan(writer, &it);
       if (is(&it, "record")) status = nlog_writer_record(writer, it.names[0].bytes, it.names[0].len, &it.entry);
       if (is(&it, "edge")) status = nlog_writer_record_edge(writer, it.names, it.count, &it.entry);
       if (is(&it, "begin")) status = nlog_writer_begin(writer, it.names, it.count, it.entry.start_ms, it.entry.hash);
@@ -1176,8 +1187,8 @@ static void refuse_call(const char *log, long at, int count) {
       if (turn == 0) first = status;
     }
   }
-  printf("%s %s\n", nlog_status_name(first), nlog_status_name(status));
-  nlog_writer_close(writer);
+  printf("%s %s", nlog_status_name(first), nlog_status_name(status));
+  printf(" %s\n", nlog_status_name(nlog_writer_close(writer)));
   nlog_writer_free(&writer);
 }
 #endif

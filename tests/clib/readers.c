@@ -12,6 +12,14 @@
 
 enum { THREADS = 4, OUTPUTS = 1000 };
 
+/* Linked with --wrap: what it does in a program with threads isn't specified. */
+int __wrap_sigprocmask(int how, const sigset_t *set, sigset_t *before);
+int __wrap_sigprocmask(int how, const sigset_t *set, sigset_t *before) {
+  (void)how, (void)set, (void)before;
+  printf("sigprocmask\n");
+  exit(1);
+}
+
 static nlog loaded = NLOG_INIT;
 static nlog_writer *writer;
 static int times;

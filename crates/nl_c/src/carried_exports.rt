@@ -1,5 +1,5 @@
 //! The calls that only the library's own C makes: they load a log in pieces, or serve a log that its caller carries to a file.
-ghost use Rattle.std.specs.Prelude.{◌≡◌, ◌≢◌, ◌⊎◌, ◌++◌, ℕ, List, None, IsSomeAnd, option_and_then};
+ghost use Rattle.std.specs.Prelude.{◌≡◌, ◌≢◌, ◌↔◌, ◌⊎◌, ◌++◌, ℕ, List, None, IsSomeAnd, option_and_then};
 ghost use Rattle.nl_c.specs.{LoadedLogs.{IsLoadedAs}, CarriedLogs.{IsNewCarried, CarriedOpened, Keeps, Anew, CarriedWritten, CarriedText, CarriedHeader, CarriedLine, Ends, Planned, Withdrawn, LooseLine, intent_stamp}, Held.{InCarried, IsCarriedAnd, all_of, loaded_in, loaded_of}, Written.{Recorded, Begun, Synced, Stopped, Recompacted, Restatted, DeadMarked, TimeMarked, Cleared}, Statuses.{ok, no_handle, out_of_memory}};
 
 use crate::carried_log::{CarriedLog, all_of};
@@ -26,6 +26,7 @@ pub extern "C" fn carried_more(handle: &mut Handle, alloc: Global, bytes: &[u8])
         → IsSomeAnd handle.old.kept.log (λ held. IsSomeAnd (loaded_of held) (IsLoadedAs asked before))
         → IsSomeAnd handle.new.kept.log (λ held. IsSomeAnd (loaded_of held) (IsLoadedAs asked (before ++ bytes.now))) }
     ensures refusals { (result ≡ ok) ⊎ (result ≡ no_handle) ⊎ (result ≡ out_of_memory) }
+    ensures absent { (result ≡ no_handle) ↔ (loaded_in handle.old.kept.log ≡ None) }
     ensures gone { result ≢ ok → handle.new.kept.log ≡ None }
 {
     let Some(mut held) = handle.take(alloc) else {

@@ -1,6 +1,6 @@
 //! What a caller asks of a table, and the line of an entry.
-ghost use Rattle.std.specs.Prelude.{◌≡◌, ◌≢◌, ◌<◌, ◌⊎◌, length};
-ghost use Rattle.nl_fields.specs.EntryLine.{line_of};
+ghost use Rattle.std.specs.Prelude.{◌≡◌, ◌≢◌, ◌<◌, ◌≤◌, ◌⊎◌, length, vec_capacity};
+ghost use Rattle.nl_fields.specs.{EntryLine.{line_of}, Limits.{max_entry_line}};
 ghost use Rattle.nl_lines.specs.Split.{with_newline};
 ghost use Rattle.nl_c.specs.{CarriedLogs.{holds_line}, Statuses.{ok, no_room, out_of_memory}, Answers.{answer_find, entry_in}};
 
@@ -46,6 +46,8 @@ pub(crate) fn spell(entry: &EntryRef, line: &mut Vec<u8>, buf: &mut [u8], len: &
     ensures short { result ≡ no_room → length buf.old < length (with_newline (line_of entry.now)) }
     ensures unchanged { result ≢ ok → (buf.new ≡ buf.old) × (len.new ≡ len.old) }
     ensures statuses { (result ≡ ok) ⊎ (result ≡ no_room) ⊎ (result ≡ out_of_memory) }
+    ensures room { max_entry_line ≤ vec_capacity line.old → result ≢ out_of_memory }
+    ensures capacity { vec_capacity line.old ≤ vec_capacity line.new }
 {
     line.clear();
     if append_entry(entry, line).is_err() {
