@@ -119,16 +119,15 @@ fi
 [[ -z $strict ]] || export NLOG_PARTS="own steps without cmake tests faults differ stale cost"
 trials=()
 if [[ -n $strict ]]; then
-    trials+=("python3 tests/targets.py" "python3 tests/system_bugs.py")
+    trials+=("python3 tests/targets.py")
 else
     skip "it takes a quarter of an hour, and --strict runs it" python3 tests/targets.py
-    skip "it takes some minutes, and --strict runs it" python3 tests/system_bugs.py
 fi
 peer trials muon-0.4.0 integrations/samurai/try.sh
-for trial in library growths refusals builds_compared lines_read host; do
+for trial in system_bugs library growths refusals builds_compared lines_read host; do
     trials+=("python3 tests/$trial.py")
 done
-for trial in stops crash_states found_builds mended large terminal system_calls short_writes fuzz rivals files commands options apply apply_calls begun_builds scripts limits clib manual damaged closed_streams completions kept real_disks full_disk two_writers between reports release with_ninja; do
+for trial in stops crash_states found_builds mended large many terminal system_calls short_writes fuzz rivals files commands options apply apply_calls begun_builds scripts limits clib manual damaged closed_streams completions kept real_disks full_disk two_writers under_lock between reports release with_ninja; do
     trials+=("python3 tests/$trial.py crates/nlog/out/nlog")
 done
 parts "${trials[@]}"

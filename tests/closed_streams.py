@@ -45,8 +45,8 @@ ROWS = [
     (["repair", "LOG"], TORN, ROOMY, 0, HEADER + b"5\t6\t30\ta\tcc\n3\t4\t20\tb\tbb\n"),
     (["repair", "--missing-ok", "LOG"], None, ROOMY, 0, HEADER),
     (["repair", "LOG"], None, ROOMY, 1, None),
-    # Its rewriting finds no room, and the torn line is cut off before that.
-    (["repair", "LOG"], TORN, 20, 1, LOG),
+    # Its rewriting finds no room, and LOG stays.
+    (["repair", "LOG"], TORN, 20, 1, TORN),
     (["repair", "LOG"], NO_LOG, ROOMY, 1, NO_LOG),
     (["mend", "LOG"], TORN, ROOMY, 1, TORN),
     (["mend", "LOG"], HEADER + b"x\n", ROOMY, 0, HEADER),

@@ -20,6 +20,7 @@ HEADER = b"# ninja log v5\n"
 NO_LOG = b"nlog: not a ninja log\n"
 OTHER_VERSION = b"nlog: log version not supported\n"
 CANNOT_READ = b"nlog: cannot read\n"
+FOLDER_FAILED = b"nlog: the folder failed\n"
 
 # What the C library says of an error of the system.
 NO_FILE = b"No such file or directory (os error 2)\n"
@@ -1186,8 +1187,8 @@ def try_settling_stops(trials, program, room):
         (["prune", "log", "missing"], (1, b"", CANNOT_READ + b"nlog: TARGETS missing: " + NO_FILE)),
         (["prune", "log", "-"], (1, b"", CANNOT_READ + b"nlog: TARGETS -: " + NO_FILE)),
         (["prune", "log", "a folder"], (1, b"", CANNOT_READ + b"nlog: TARGETS a folder: " + A_FOLDER)),
-        (["prune", "a folder", "one"], (1, b"", CANNOT_READ + b"nlog: LOG a folder: " + A_FOLDER)),
-        (["retime", "a folder"], (1, b"", CANNOT_READ + b"nlog: LOG a folder: " + A_FOLDER)),
+        (["prune", "a folder", "one"], (1, b"", FOLDER_FAILED + b"nlog: LOG a folder: " + A_FOLDER)),
+        (["retime", "a folder"], (1, b"", FOLDER_FAILED + b"nlog: LOG a folder: " + A_FOLDER)),
         (["retime", "--", "--files"], (1, b"", CANNOT_READ + b"nlog: LOG --files: " + NO_FILE)),
         # What is asked for first is refused first.
         (["prune", "missing", "missing"], (1, b"", CANNOT_READ + b"nlog: TARGETS missing: " + NO_FILE)),

@@ -5,40 +5,56 @@
 
 SAID is all that the parts printed, each behind a line `part: WORDS`. What a part tried is the sum of its last line, and what it says by itself,
 in lines `SCRIPT: tried NUMBER WHAT`, or `WHAT: NAME..`. In tests/counts is a row `NUMBER WHAT` of each: so much is tried at the least, or exactly
-that where names stand below the row. A part is named by its first words there.
+that where names stand below the row, or at most (`NUMBER at most: WHAT`). A part is named by its first words there.
 
 What a part skipped is named, and with --strict fails. Below the row of a part stands how many checks a skip leaves out, and so many fewer it then
-has to try. The last line is `N passed, M failed`.
+has to try; once, or as often as the row says (`3 x NUMBER WHAT`). A kind that is skipped more often fails. The last line is `N passed, M failed`.
 """
 import os
 import re
 import sys
+from typing import List, NamedTuple, Optional
 
 from trials import Trials, usage
 
 TOP = os.path.dirname(os.path.dirname(os.path.abspath(__file__)))
+ROW = re.compile(r"(    )?(?:(\d+) x )?(?:(\d+) (at most: )?)?(.*)")
+
+
+class Skip(NamedTuple):
+    """How many checks a skip leaves out, and how often it may come."""
+
+    number: int
+    times: int
 
 
 class Row:
-    """A row of tests/counts: how much is tried at least, the names that are just those, and how much each skip leaves out, by how it begins."""
+    """A row of tests/counts: how much is tried at least, or at most, the names that are just those, and each kind of skip, by how it begins."""
 
-    def __init__(self, number):
-        self.number, self.names, self.skips = number, [], {}
+    def __init__(self, number: int, is_most: bool):
+        self.number, self.is_most, self.names, self.skips = number, is_most, [], {}
 
-    def left_out(self, skip):
-        return next((number for begin, number in self.skips.items() if skip.startswith(begin)), None)
+    def kind_of(self, skip: str) -> Optional[str]:
+        return next((begin for begin in self.skips if skip.startswith(begin)), None)
+
+    def left_out(self, skips: List[str]) -> int:
+        """How many checks these skips leave out, each kind as often as it may come."""
+        return sum(skip.number * min(skip.times, self.often(begin, skips)) for begin, skip in self.skips.items())
+
+    def often(self, kind: str, skips: List[str]) -> int:
+        return sum(self.kind_of(skip) == kind for skip in skips)
 
 
 def rows_of(text):
     rows = {}
     for line in text.split("\n"):
-        is_below, number, what = re.fullmatch(r"(    )?(?:(\d+) )?(.*)", line.partition("#")[0].rstrip()).groups()
+        is_below, times, number, is_most, what = ROW.fullmatch(line.partition("#")[0].rstrip()).groups()
         if is_below and number:
-            row.skips[what] = int(number)
+            row.skips[what] = Skip(int(number), int(times or 1))
         elif is_below:
             row.names += what.split()
         elif number:
-            row = rows[what] = Row(int(number))
+            row = rows[what] = Row(int(number), bool(is_most))
     return rows
 
 
@@ -67,15 +83,23 @@ def judge(trials, rows, said, is_strict):
     tried, skips = told(rows, "\n" + said)
     for what, row in rows.items():
         number, names = tried.get(what, (0, []))
-        least = row.number - sum(row.left_out(it) or 0 for part, it in skips if part == what)
-        if row.names:
+        own = [skip for part, skip in skips if part == what]
+        least = row.number - row.left_out(own)
+        for kind, skip in row.skips.items():
+            often = row.often(kind, own)
+            if often > skip.times:
+                trials.check(f"{what}: {kind}", False, f"it is skipped {often} times, and tests/counts allows {skip.times}")
+        if row.is_most:
+            trials.check(what, number <= row.number, f"there are {number}, and tests/counts allows {row.number}")
+        elif row.names:
             trials.want(f"{what}: the names", (number, sorted(names)), (row.number, sorted(row.names)))
         else:
             trials.check(what, what in tried and number >= least, f"{number} were tried, and tests/counts wants {least} at the least")
     for what in tried:
         trials.check(f"{what} has a row in tests/counts", what in rows)
     for part, skip in skips:
-        number = rows[part].left_out(skip) if part in rows else None
+        kind = rows[part].kind_of(skip) if part in rows else None
+        number = None if kind is None else rows[part].skips[kind].number
         print(f"{trials.script}: skipped: {part}: {skip} ({'nobody counted how many' if number is None else number} checks)")
         if is_strict:
             trials.check(f"nothing is skipped by {part}", False, skip)

@@ -18,6 +18,7 @@ the seconds that its function took.
 
 A run over all crates ends with one of the checks, with no edit in it, where each function must be let through: else the runner refuses what it
 should not. The commit's hash says which, so that each comes round. The last line is `N passed, M failed`.
+Of each crate it says how many places its edits name, a function with a clause or a goal: copies of an edit add none.
 """
 import argparse
 import concurrent.futures
@@ -295,6 +296,10 @@ class Edit:
         """The changed lines, as they are then."""
         return "\n".join(self.texts[file].split("\n")[row] for file, rows in self.lines.items() for row in rows)
 
+    def places(self):
+        """The function with each clause, or the goal, that the first line names."""
+        return {(self.function.path, it) for it in self.clauses or [self.goal or ""]}
+
     def meets(self, goals):
         """Whether one of the goals is of what this edit names."""
         if self.goal:
@@ -542,7 +547,8 @@ def main():
     with concurrent.futures.ThreadPoolExecutor(lanes_of(given.lanes)) as pool:
         for (crate, edits, *_, how), (good, bad) in zip(tasks, pool.map(lambda it: tried(*it), tasks)):
             passed, failed = passed + good, failed + bad
-            print(f"edits.py: tried {len(edits)} edits of {crate.name}" if how is say else f"edits.py: tried 1 check with no edit in it: {len(edits)} functions of {crate.name}")
+            places = {it for edit in edits for it in edit.places()}
+            print(f"edits.py: tried {len(places)} places of edits of {crate.name}" if how is say else f"edits.py: tried 1 check with no edit in it: {len(edits)} functions of {crate.name}")
     used = resource.getrusage(resource.RUSAGE_CHILDREN)
     print(f"{len(work)} crates, {used.ru_utime + used.ru_stime:.0f} s of processors")
     print(f"{passed} passed, {failed} failed")

@@ -69,8 +69,7 @@ def try_repair(trials, program, disk, kind, start):
     before = os.stat(f"{disk}/LOG").st_ino
     fill_up(f"{disk}/fill")
     trials.want(f"{what}: ends on a full disk", run(words, cwd="/"), (1, b"", FAILED))
-    text = read(f"{disk}/LOG")
-    trials.check(f"{what}: the log on a full disk", text in (start, start[: Log(start).whole]), repr(text))
+    trials.want(f"{what}: the log on a full disk", read(f"{disk}/LOG"), start)
     trials.want(f"{what}: what is left beside it", sorted(os.listdir(disk)), ["LOG", "LOG.recompact", "fill"])
     os.remove(f"{disk}/LOG.recompact")
     os.remove(f"{disk}/fill")
@@ -91,13 +90,14 @@ REPAIRS = {
 LONG = (b"n" * 3000, (1, 2, 3, 4))
 PART = b"3\t4\t2"
 JOINED = HEADER + line_of(*LONG) + line_of(b"a", (1, 2, 10, 0xAA)) + PART + line_of(b"a", (5, 6, 30, 0xBB)) + line_of(b"edge", (1, 2, 3, 4))
+STAMP = 1_700_000_000_000_000_000
 WHOLE = JOINED.replace(PART, b"")
 
 # What the words that ask the files leave of WHOLE, in such a folder.
 SETTLED = {
     # A name that the system can't look up stays, as in Ninja.
     "prune": text_of(dict([LONG, (b"a", (5, 6, 30, 0xBB)), (b"edge", (1, 2, 3, 4))])),
-    "retime": text_of(dict([LONG, (b"a", (5, 6, 1_700_000_000_000_000_000, 0xBB)), (b"edge", (1, 2, 3, 4))])),
+    "retime": text_of(dict([LONG, (b"a", (5, 6, STAMP, 0xBB)), (b"edge", (1, 2, 3, 4))])),
     "mend": text_of(dict([LONG, (b"a", (2, 2, 0, 2**64 - 1 - 0xAA)), (b"edge", (1, 2, 3, 4))])),
 }
 # What it prints, and with which status it ends: of a name that the system can't look up nothing is known.
@@ -120,12 +120,38 @@ def try_settled(trials, program, disk, room, option):
     os.remove(f"{disk}/LOG")
 
 
+# The files, of the time STAMP, are no newer than these entries, and the torn line tells that `b` was made
+# again.
+TORN = HEADER + line_of(*LONG) + line_of(b"a", (1, 2, STAMP, 0xAA)) + line_of(b"b", (1, 2, STAMP, 0xBB)) + b"7\t9\t8\tb"
+TOLD = (3, b"unsure\t%s\ndamaged\tb\n" % LONG[0], b"")
+
+
+def try_told(trials, program, disk, room, word):
+    """What a torn line tells is there after a command that failed, and `mend` says it."""
+    write(f"{disk}/LOG", TORN)
+    fill_up(f"{disk}/fill")
+    trials.want(
+        f"{word} of a torn log on a full disk: ends", run([program, word, f"{disk}/LOG"], cwd=room),
+        (1, b"", FAILED),
+    )
+    trials.want(f"{word} of a torn log on a full disk: the log", read(f"{disk}/LOG"), TORN)
+    os.remove(f"{disk}/fill")
+    trials.want(
+        f"{word} of a torn log on a full disk: what `mend` says then",
+        run([program, "mend", f"{disk}/LOG"], cwd=room), TOLD,
+    )
+    trials.want(f"{word} of a torn log on a full disk: what is there then", os.listdir(disk), ["LOG"])
+    os.remove(f"{disk}/LOG")
+
+
 def try_by_files(trials, program, disk, room):
     for name in ("a", "b"):
         write(f"{room}/{name}", b"")
-        os.utime(f"{room}/{name}", ns=(0, 1_700_000_000_000_000_000))
+        os.utime(f"{room}/{name}", ns=(0, STAMP))
     for option in SETTLED:
         try_settled(trials, program, disk, room, option)
+    for word in ("repair", "mend"):
+        try_told(trials, program, disk, room, word)
 
 
 def mount(disk):

@@ -1,27 +1,26 @@
 #!/usr/bin/env python3
-"""Holds the table of clause labels in CONTRIBUTING.md to the code: python3 tests/labels.py
+"""Holds the table of clause labels in CONTRIBUTING.md to the code, and contracts to what each owes: python3 tests/labels.py
 
 A label that crosses crates stands in the table, in a row of its own, and each row is of such a label: one that callers meet in two crates
 or more. They meet a clause of a public function, of a method of a trait or of a type's trait, and a part of a call's relation (a field of a
 record of a `specs/Calls` of RELATIONS, whose clause is `call`); laws.rt is left out. A row has one sense: none has a label that another has,
 a semicolon, or a cell of more than CELL words. Each edit can be applied, and its first line names the function that it changes and a clause
-of it. It reads the repository's texts alone, and needs no toolchain.
+of it.
+
+Contracts are total: of a public function or a method of a trait that answers a Result, a clause has the cause of an Err, and one says of each
+parameter that it may change what an Err leaves of it. No clause at all, of whatever function, is met by any Err. Of each crate it says how many
+there are that lack this, of which tests/counts has the most. It reads the repository's texts alone, and needs no toolchain.
 """
 
 import collections
-import os
 import re
 import sys
-from glob import glob
 
+from contracts import functions_of, sources, unsaid, untold
 from edits import TOP, BadEdit, Edit, crates, text_of
 from trials import Trials
 
-CLAUSE = re.compile(r"\b(?:ensures|requires)\*?\s+([a-z]\w*)\s*\{")
-LAWS = ("laws.rt",)
-# What begins a function, and what begins that in which an indented one stands, which is at the left margin by `rt fmt`.
-FUNCTION = re.compile(r"(?m)^( *)(pub )?(?:\w+ |\w+ \"C\" |pub\(\w+\) )*fn \w+")
-OWNER = re.compile(r"(?m)^(?:pub(?:\(\w+\))? )?(?:unsafe )?(trait|impl)\b([^{]*)")
+LAWS = "laws.rt"
 # The words of a cell, at most.
 CELL = 30
 RECORD = re.compile(r"^pub record (\w+).*\n(?:    .*\n)*((?:  (?:pub|  |--).*\n)*)", re.MULTILINE)
@@ -32,11 +31,6 @@ RELATIONS = ("nl_session", "nl_tool_change")
 VALUES = {"FolderView", "Meaning"}
 
 
-def code_of(path):
-    """The file's text without its comments."""
-    return re.sub(r"//.*", "", text_of(path))
-
-
 def rows_of_table(page):
     """The rows of the table, each as its labels and the cell of what they say. Rows that name a theme have no label."""
     rows = page[page.index("| Label | Says |") :].split("\n\n")[0].split("\n")[2:]
@@ -44,28 +38,14 @@ def rows_of_table(page):
     return [(re.findall(r"`([a-z]\w*)`", it[0]), it[1]) for it in cells if "`" in it[0]]
 
 
-def is_met(text, head):
-    """Whether callers meet a function: it is public, or stands in a trait, or in what a type has of one."""
-    owners = list(OWNER.finditer(text, 0, head.start()))
-    is_of_trait = head[1] and owners and (owners[-1][1] == "trait" or re.search(r"\bfor\b", owners[-1][2]))
-    return bool(head[2] or is_of_trait)
-
-
-def met_labels(text):
-    """The labels that callers of a file meet, of its text without comments."""
-    heads = list(FUNCTION.finditer(text))
-    for head, end in zip(heads, [it.start() for it in heads[1:]] + [len(text)]):
-        if is_met(text, head):
-            yield from CLAUSE.findall(text[head.end() : end])
-
-
 def labels_in_use():
     """Each label that callers meet outside of laws, with the crates where they do."""
     found = collections.defaultdict(set)
-    for path in sorted(glob(f"{TOP}/crates/*/src/**/*.rt", recursive=True)):
-        if os.path.basename(path) not in LAWS:
-            for label in met_labels(code_of(path)):
-                found[label].add(os.path.relpath(path, f"{TOP}/crates").split(os.sep)[0])
+    for path in sources(LAWS):
+        for function in functions_of(path):
+            for clause in function.clauses if function.is_met() else ():
+                if clause.label and clause.kind in ("ensures", "requires"):
+                    found[clause.label].add(function.crate)
     for crate in RELATIONS:
         for name, fields in RECORD.findall(text_of(f"{TOP}/crates/{crate}/specs/Calls.antt")):
             for field in FIELD.findall(fields) if name not in VALUES else []:
@@ -101,8 +81,22 @@ def faults_of_edits():
                 yield f"{crate.name}/{name}: {why}"
 
 
+def lacks():
+    """What the contracts of each crate lack of being total."""
+    found = collections.defaultdict(list)
+    for path in sources(LAWS):
+        for function in functions_of(path):
+            owes = function.is_met() and function.owner != "impl .. for"
+            for lack in (*unsaid(function), *(untold(function) if owes else ())):
+                found[function.crate].append(f"{path[len(TOP) + 1 :]}: {function.name}: {lack}")
+    return found
+
+
 def main():
     trials = Trials(__file__)
+    for crate, found in lacks().items():
+        if found:
+            print("\n".join([*found, f"{trials.script}: tried {len(found)} lacks of contracts of {crate}"]))
     for fault in (*faults_of_table(rows_of_table(text_of(f"{TOP}/CONTRIBUTING.md")), labels_in_use()), *faults_of_edits()):
         trials.check(fault, not fault)
     return trials.end()

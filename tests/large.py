@@ -9,6 +9,7 @@ by a rule, and what is wanted is computed from that rule, or from `log_format`, 
 so that no more of it is held in memory. `entries` and `damage` may take no more memory than for a small log, and `trace` and `picture` no
 more than the commands take of a log whose texts are long; these end soon where nobody reads on.
 """
+import contextlib
 import hashlib
 import os
 import random
@@ -20,6 +21,7 @@ import tempfile
 import threading
 from functools import partial
 from itertools import accumulate, chain
+from typing import Iterator, Optional
 
 from log_format import HEADER, MAX_LINE, MAX_NAME, as_version, command_hash, entry_of, line_of
 from log_lines import PARTS, drawn, kinds_of, named_first, ranked_kinds
@@ -546,21 +548,28 @@ def try_hash(trials, program, room):
     large.want_printed("hash-file", [b"%x\n" % (value ^ value >> 47)])
 
 
-def trial(trials, program, room):
-    # A folder in memory may be small.
+@contextlib.contextmanager
+def roomy(trials, room: str, what: str = "all of it") -> Iterator[Optional[str]]:
+    """This folder, or another if this one, which may be in memory, has too little room; or None."""
     with tempfile.TemporaryDirectory() as other:
-        roomy = [it for it in (room, other) if shutil.disk_usage(it).free > ROOM]
-        if not roomy:
-            return trials.skip("all of it", f"there is no room for files of {ROOM:,} bytes")
+        found = [it for it in (room, other) if shutil.disk_usage(it).free > ROOM]
+        if not found:
+            trials.skip(what, f"there is no room for files of {ROOM:,} bytes")
+        yield found[0] if found else None
+
+
+def trial(trials, program, room):
+    with roomy(trials, room) as folder:
+        if folder is None:
+            return
         for part in try_many, try_script, try_long, try_damaged, try_builds, try_wide, try_hash:
-            part(trials, program, roomy[0])
-            for it in os.listdir(roomy[0]):
-                os.remove(f"{roomy[0]}/{it}")
+            part(trials, program, folder)
+            for it in os.listdir(folder):
+                os.remove(f"{folder}/{it}")
     used = [resource.getrusage(it) for it in (resource.RUSAGE_SELF, resource.RUSAGE_CHILDREN)]
     seconds = [it.ru_utime + it.ru_stime for it in used]
     print(f"large.py: {seconds[0]:.0f} s of processors here and {seconds[1]:.0f} s in the program, "
           f"{used[0].ru_maxrss // 1024} and {used[1].ru_maxrss // 1024} MB of memory")
-    return None
 
 
 if __name__ == "__main__":

@@ -6,16 +6,21 @@ test of tests/library/system.
 
 All of them are put into one copy of the crates, each behind the question whether the file `planted/NUMBER` is there. It is built once, by
 `rt try`, and there is one test for each bug, which makes its file and then calls the tests of tests/library/system. Such a test has to fail;
-without a bug each test has to pass. `./test.sh --strict` runs it. It takes some minutes, and wants `rt`, and no proof.
+without a bug each test has to pass. `rt try` runs one test after another, so the program that it built is copied, and runs them side by side. It wants `rt`, and no proof.
 """
+import contextlib
 import os
 import re
 import shutil
+import signal
+import subprocess
 import sys
 import tempfile
+import time
+from concurrent.futures import ThreadPoolExecutor
 
 from library import CRATE, LIBRARY, TEST, crates
-from trials import BUILD_SECONDS, SECONDS, Trials, read, run, write
+from trials import PAUSE, SECONDS, Trials, read, run, write
 
 USES = "nl_lines nl_folder nl_files nl_tool_texts nl_os"
 SOURCE = "nl_os/src/os_system.rt"
@@ -71,11 +76,12 @@ SITES = [
     }),
     ("if !self.locks.is_empty() &&", "!self.locks.is_empty()", {"a copy gets the rights of another file": "false"}),
     ("match self.open_or_read(!self.is_begun) {", "!self.is_begun", {"a log that was removed is made again": "true", "a missing log is not made": "false"}),
-    ("how.read(true).append(true).create(is_made);", ".append(true)", {
+    ("how.read(true).append(true).create(may_make && self.makes);", ".append(true)", {
         "a log is not appended to": ".append(!IS).write(IS)",
         "a log is emptied": ".append(!IS).write(IS)",
     }),
-    (".create(is_made);", ".create(is_made)", {"a log is emptied": ".create(is_made).truncate(IS)"}),
+    (".create(may_make && self.makes);", ".create(", {"a log is emptied": ".truncate(IS).create("}),
+    ("may_make && self.makes);", "self.makes", {"a missing log is made where none is to be": "true"}),
     ("Err(error) if self.is_begun && error.kind() == ErrorKind::NotFound => {", "self.is_begun && error.kind() == ErrorKind::NotFound", {
         "a log that is gone is a failure": "false",
         "a log that can't be opened is gone": "true",
@@ -197,6 +203,52 @@ def lay_out(room):
     return names, os.path.dirname(src)
 
 
+def built(folder, room):
+    """The words that start the program of the tests, but for a test's name, and what was said if there is none: `rt try` begins with the first
+    test once it has built the program, which is then copied."""
+    said = f"{room}/said"
+    with open(said, "wb") as out:
+        how = {"cwd": folder, "env": {**os.environ, "TMPDIR": room}, "stdin": subprocess.DEVNULL, "stdout": out, "stderr": subprocess.STDOUT}
+        ran = subprocess.Popen(["rt", "try", "--test", "--seconds", str(SECONDS)], **how)
+    found = None
+    while found is None and ran.poll() is None:
+        time.sleep(PAUSE)
+        found = next((words for words in map(words_of, below(ran.pid)) if words[-1:] and words[-1].startswith("system::bugs::")), None)
+    if found:
+        program = shutil.copy(found[-2], f"{room}/program")
+        for pid in (*below(ran.pid), ran.pid):
+            with contextlib.suppress(ProcessLookupError):
+                os.kill(pid, signal.SIGKILL)
+        found = [*found[:-2], program]
+    ran.wait()
+    return found, read(said).decode(errors="replace")
+
+
+def below(pid):
+    """The processes that this one started, and those that these did, those first that are the lowest."""
+    try:
+        tasks = [read(f"/proc/{pid}/task/{task}/children") or b"" for task in os.listdir(f"/proc/{pid}/task")]
+    except OSError:
+        return []
+    return [found for child in b" ".join(tasks).split() for found in (*below(int(child)), int(child))]
+
+
+def words_of(pid):
+    try:
+        return (read(f"/proc/{pid}/cmdline") or b"").decode(errors="surrogateescape").split("\0")[:-1]
+    except OSError:
+        return []
+
+
+def seen(words, room, name):
+    """The status of a bug's test, in a folder of its own."""
+    folder = f"{room}/bug-{name}"
+    os.mkdir(folder)
+    status = run([*words, f"system::bugs::bug_{name}"], cwd=folder, env={})[0]
+    shutil.rmtree(folder, ignore_errors=True)
+    return status
+
+
 def main():
     trials = Trials(__file__)
     if shutil.which("rt") is None:
@@ -204,14 +256,15 @@ def main():
         return trials.end()
     with tempfile.TemporaryDirectory() as room:
         names, folder = lay_out(room)
-        _, out, err = run(["rt", "try", "--test", "--seconds", str(SECONDS)], cwd=folder, timeout=BUILD_SECONDS)
-    text = (out + err).decode(errors="replace")
-    ends = dict(re.findall(r"(?m)^test system::bugs::bug_(\w+) \.\.\. (\w+)$", text))
-    if not trials.want("without a bug", ends.get("none"), "ok"):
-        print(text[-3000:])
-        return trials.end()
-    for number, name in enumerate(names):
-        trials.want(name, ends.get(str(number)), "FAILED")
+        words, said = built(folder, os.path.realpath(room))
+        if not trials.check("the tests are built", words, said[-3000:]):
+            return trials.end()
+        # (most of a test is waited for, so there are more at a time than processors)
+        with ThreadPoolExecutor(2 * (os.cpu_count() or 1)) as pool:
+            ends = [*pool.map(lambda it: seen(words, room, it), ["none", *range(len(names))])]
+    trials.want("without a bug", ends[0], 0)
+    for name, end in zip(names, ends[1:]):
+        trials.check(name, end not in (0, None), f"no test fails: status {end}")
     return trials.end()
 
 

@@ -65,6 +65,8 @@ def effects_wanted(case):
     # (a look that finds no file has no effect)
     wanted = ["make LOG"] if case.start is None else ["look LOG"]
     wanted += ["lock LOG", "look LOG", *sync]
+    if case.change.words[0] == "repair":
+        return [*wanted, *rewrite(case.done)]
     if log.torn:
         wanted += [f"cut LOG {log.whole}", *sync]
     if log.whole == 0:

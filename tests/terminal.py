@@ -14,6 +14,7 @@ import sys
 import tempfile
 import termios
 import time
+import unicodedata
 
 from examples import blocks, read_page, stripped
 from trials import main, run
@@ -83,18 +84,37 @@ All 2 builds, each output once
 """.encode()
 # One build, whose first output is the slowest: its name has three characters, of five bytes.
 WIDE = b"# ninja log v7\n0\t9\t1\t\xe2\x82\xac.o\tbb\n0\t9\t1\tlonger.o\tcc\n"
-# Names that a terminal would obey: an escape sequence, each control character of one byte that a name may have, a carriage return and
-# a backspace over what stands before, one of two bytes; and what stays as it is: umlauts, a backslash, bytes that are no UTF-8.
+# Names that a terminal would obey: an escape sequence, each control character of one byte that a name may have,
+# a carriage return and a backspace over what stands before, one of two bytes, whole and cut, bytes that are no
+# UTF-8, and what turns the order of the characters behind it; what stays: umlauts, a backslash, 0x9b within
+# characters.
 CONTROLS = bytes(it for it in range(1, 32) if it not in (9, 10)) + b"\x7f"
-HOSTILE = [b"\x1b[2J\x1b]0;owned\x07.o", b"safe\r\x08\x08evil.o", b"one" + CONTROLS + b".o", b"csi \xc2\x9b2J.o", "äß€.o".encode(), b"a\\b\x80\x9b\xff.o"]
+HOSTILE = [
+    b"\x1b[2J\x1b]0;owned\x07.o",
+    b"safe\r\x08\x08evil.o",
+    b"one" + CONTROLS + b".o",
+    b"csi \xc2\x9b2J.o",
+    "äß€Û蛛.o".encode(),
+    b"a\\b\x80\x9b\xff.o",
+    "turned \u202eo.c\u2066".encode(),
+    b"half \xc2",
+    b"\x9b2J half",
+    b"cut \xe2\x82.o",
+]
 HOSTILE_SHOWN = [
     b"\\x1b[2J\\x1b]0;owned\\x07.o",
     b"safe\\x0d\\x08\\x08evil.o",
     b"one" + b"".join(b"\\x%02x" % it for it in CONTROLS) + b".o",
-    b"csi \xc2\\x9b2J.o",
-    "äß€.o".encode(),
-    b"a\\b\x80\x9b\xff.o",
+    b"csi \\xc2\\x9b2J.o",
+    "äß€Û蛛.o".encode(),
+    b"a\\b\\x80\\x9b\\xff.o",
+    b"turned \\xe2\\x80\\xaeo.c\\xe2\\x81\\xa6",
+    b"half \\xc2",
+    b"\\x9b2J half",
+    b"cut \\xe2\\x82.o",
 ]
+# What turns the order of the characters behind it, and what ends a line.
+TURNING = {*map(chr, (0x61C, 0x200E, 0x200F, *range(0x2028, 0x202F), *range(0x2066, 0x206A)))}
 # Of the commands of both, that of `b.o` took 5 ms less, and that of `a.o` and `a.d` 10 ms.
 COMPARED = """\
 Commands  Change    Old    New  Class
@@ -334,8 +354,200 @@ def try_controls(trials, program, room):
             trials.check(f"{what}: in a pipe as it is", words[0] == "builds" or name in piped[1], repr(name))
             trials.check(f"{what}: by its number", words[0] == "builds" or by_number in shown, repr(name))
         trials.want(f"{what}: at a terminal", (status, said), (piped[0], piped[2]))
-        trials.check(f"{what}: no control character", not any(it < 32 and it != 10 or it == 127 for it in shown), repr(shown))
-        trials.want(f"{what}: with --tabs", at_terminal([program, *words, "--tabs"], True)[1], piped[1])
+        trials.check(f"{what}: no control character", is_quiet(shown), repr(shown))
+        tabs = at_terminal([program, *words, "--tabs"], True)[1]
+        trials.want(f"{what}: with --tabs", tabs, by_numbers(piped[1]))
+
+
+def by_numbers(text):
+    """A text as a terminal is to get it: each control character but a tab and a newline, what turns the
+    order, and
+    each byte that is no UTF-8, by the numbers of its bytes."""
+    shown = []
+    for character in text.decode(errors="surrogateescape"):
+        is_obeyed = unicodedata.category(character) in ("Cc", "Cs") or character in TURNING
+        in_bytes = character.encode(errors="surrogateescape")
+        is_plain = character in "\t\n" or not is_obeyed
+        shown.append(in_bytes if is_plain else b"".join(b"\\x%02x" % byte for byte in in_bytes))
+    return b"".join(shown)
+
+
+def is_quiet(text):
+    return by_numbers(text) == text
+
+
+QUIET_LOG = b"# ninja log v7\n" + b"".join(
+    b"0\t%d\t%d\t%s\t%x\n" % (4 + at, 10**18, name, at) for at, name in enumerate(HOSTILE)
+)
+# (a damaged line of each name)
+QUIET_DAMAGED = QUIET_LOG + b"".join(b"0\t5\t7\t%s\t0xx\n" % name for name in HOSTILE)
+QUIET_SCRIPT = b"open\n" + b"".join(b"record\t1\t2\t3\t%s\ta\nget\t%s\n" % (name, name) for name in HOSTILE) + b"table\nstop\n"
+QUIET_EVENTS = b"open\n" + b"".join(b"record\t1\t2\t3\t%s\ta\n" % name for name in HOSTILE) + b"stop\n"
+# The words that print the same at a terminal as in a pipe, but for what a terminal would obey; what LOG is
+# then, and the status.
+QUIET_WORDS = {
+    "show": (["show", "--log-version", "auto", "LOG"], QUIET_LOG, 0),
+    "entries": (["entries", "LOG"], QUIET_LOG, 0),
+    "damage": (["damage", "LOG"], QUIET_DAMAGED, 3),
+    "doubt": (["doubt", "LOG"], QUIET_DAMAGED, 3),
+    "mend": (["mend", "LOG"], QUIET_DAMAGED, 3),
+    "mend --dry-run": (["mend", "--dry-run", "LOG"], QUIET_DAMAGED, 3),
+    "prune": (["prune", "LOG", "FILE"], QUIET_DAMAGED, 3),
+    "retime": (["retime", "LOG"], QUIET_DAMAGED, 3),
+    "trace": (["trace", "LOG"], QUIET_LOG, 0),
+    "picture": (["picture", "LOG"], QUIET_LOG, 0),
+    "apply": (["apply", "LOG", "SCRIPT"], QUIET_LOG, 0),
+    "replay": (["replay", "EVENTS"], QUIET_LOG, 0),
+}
+
+
+def try_quiet(trials, program, room):
+    """No word lets a terminal have what it would obey, and in a pipe the bytes are as they are."""
+    here = f"{room}/quiet"
+    os.mkdir(here)
+    for name, text in {"FILE": b"a: cc\n", "SCRIPT": QUIET_SCRIPT, "EVENTS": QUIET_EVENTS, "EMPTY": b"# ninja log v7\n", **dict.fromkeys(HOSTILE, b"")}.items():
+        with open(
+            os.path.join(here.encode(), name if isinstance(name, bytes) else name.encode()), "wb"
+        ) as file:
+            file.write(text)
+
+    def both(words, text):
+        """How the words end in a pipe, and at a terminal, on a LOG of this text."""
+        for how in (lambda it: run(it, cwd=here), lambda it: at_terminal(it, True, cwd=here)):
+            with open(f"{here}/LOG", "wb") as file:
+                file.write(text)
+            yield how([program, *words])
+
+    for what, (words, text, status) in QUIET_WORDS.items():
+        piped, shown = both(words, text)
+        trials.want(
+            f"{what}: its status, and standard error", [(it[0], it[2]) for it in (piped, shown)],
+            [(status, b"")] * 2,
+        )
+        # (`trace` and `picture` have names by JSON's rules, and XML's)
+        if what not in ("trace", "picture"):
+            trials.check(
+                f"{what}: in a pipe each name as it is", all(name in piped[1] for name in HOSTILE),
+                repr(piped[1]),
+            )
+        printed = shown[1]
+        if what.startswith("mend"):
+            # (its last line says what was done)
+            printed, last = re.fullmatch(rb"(?s)(.*\n)([^\n]*\n)", printed).groups()
+            trials.check(
+                f"{what}: a last line at a terminal alone", b"outputs" in last and last not in piped[1],
+                repr(last),
+            )
+        trials.want(f"{what}: at a terminal what it would obey is by numbers", printed, by_numbers(piped[1]))
+    for columns in range(10, 50):
+        for words in (
+            ["summary", "LOG"], ["summary", "--kind", "folder", "LOG"], ["compare", "EMPTY", "LOG"],
+            ["builds", "LOG"],
+        ):
+            shown = at_terminal([program, *words], True, env=screen(columns), cwd=here)
+            trials.check(
+                f"{words[0]} in {columns} columns: nothing that a terminal would obey",
+                shown[0] == 0 and is_quiet(shown[1]), repr(shown),
+            )
+    try_quiet_refusals(trials, program, here)
+
+
+MEND_WHOLE = b"# ninja log v7\n1\t2\t%d\ta\taa\n1\t2\t%d\tb\tbb\n"
+LATER, EARLY = 4_000_000_000_000_000_000, 1_000_000_000
+MEND_UNSURE = MEND_WHOLE % (LATER, LATER) + b"1\t2\t%d\tfolder\tcc\n" % LATER
+# What `mend` says last at a terminal: the log, the options, and the line, or None where it says nothing.
+MENDED = {
+    "nothing is amiss": (MEND_WHOLE % (LATER, LATER), [], None),
+    "nothing would be": (MEND_WHOLE % (LATER, LATER), ["--dry-run"], None),
+    "one is newer": (MEND_WHOLE % (LATER, EARLY), [], "1 output will be built again; LOG was repaired"),
+    "one would be": (
+        MEND_WHOLE % (LATER, EARLY), ["--dry-run"], "1 output would be built again; LOG is as it was"
+    ),
+    "two are newer": (MEND_WHOLE % (EARLY, EARLY), [], "2 outputs will be built again; LOG was repaired"),
+    "two would be": (
+        MEND_WHOLE % (EARLY, EARLY), ["--dry-run"], "2 outputs would be built again; LOG is as it was"
+    ),
+    "a line tells of no output": (
+        MEND_WHOLE % (LATER, LATER) + b"\n", [], "0 outputs will be built again; LOG was repaired"
+    ),
+    "it would tell of none": (MEND_WHOLE % (LATER, LATER) + b"\n", ["--dry-run"], None),
+    "a line is torn": (
+        MEND_WHOLE % (LATER, LATER) + b"1\t2\t3\ta", [], "1 output will be built again; LOG was repaired"
+    ),
+    "a directory is unsure": (MEND_UNSURE, [], "0 outputs will be built again; LOG is as it was"),
+    "a directory would be unsure": (
+        MEND_UNSURE, ["--dry-run"], "0 outputs would be built again; LOG is as it was"
+    ),
+    "all that is unsure is to be": (MEND_UNSURE, ["--all"], "1 output will be built again; LOG was repaired"),
+    "all that is unsure would be": (
+        MEND_UNSURE, ["--all", "--dry-run"], "1 output would be built again; LOG is as it was"
+    ),
+}
+
+
+def try_mended(trials, program, room):
+    """What `mend` says last at a terminal is what it did."""
+    here = f"{room}/mended"
+    os.mkdir(here)
+    for name in "ab":
+        open(f"{here}/{name}", "wb").close()
+    os.mkdir(f"{here}/folder")
+    for what, (text, options, line) in MENDED.items():
+        with open(f"{here}/LOG", "wb") as file:
+            file.write(text)
+        _, shown, said = at_terminal([program, "mend", *options, "LOG"], True, cwd=here)
+        trials.want(
+            f"mend at a terminal, {what}", (shown.splitlines()[-1:], said),
+            ([] if line is None else [line.encode()], b""),
+        )
+        with open(f"{here}/LOG", "rb") as file:
+            is_other = file.read() != text
+        trials.want(
+            f"mend at a terminal, {what}: whether LOG was repaired", is_other, "was repaired" in (line or "")
+        )
+
+
+# Files with names that a terminal would obey, as far as words may have them (a word is UTF-8).
+QUIET_PATHS = [name for name in HOSTILE if name == name.decode(errors="ignore").encode()]
+
+
+def try_quiet_refusals(trials, program, here):
+    """What a refusal says on standard error."""
+    os.utime(os.path.join(here.encode(), HOSTILE[0]), ns=(0, -(10**9)))
+    early = b"# ninja log v5\n1\t2\t3\t%s\taa\n" % HOSTILE[0]
+    with open(f"{here}/LOG", "wb") as file:
+        file.write(early)
+    cases = [["retime", "LOG"]]
+    for name in QUIET_PATHS:
+        gone = f"gone {name.decode()}"
+        cases += [
+            ["builds", gone], ["recompact", "LOG", gone], ["record", f"{gone}/LOG", "1", "2", "3", "a", "c"],
+            ["record", "LOG", "1", "2", name.decode(), "a", "c"],
+        ]
+        cases += [["summary", "--graph", gone, "LOG"], ["check", name.decode()], ["mend", "-C", gone, "LOG"]]
+        words = [[gone], ["show", "LOG", gone], ["show", "--log-version", gone, "LOG"], ["show", f"--{gone}"]]
+        for wrong in words:
+            status, out, said = at_terminal([program, *wrong], False, cwd=here)
+            piped = run([program, *wrong], cwd=here)
+            trials.want(
+                f"wrong words {wrong}: at a terminal", (status, out, said), (2, b"", by_numbers(piped[2]))
+            )
+    for name in HOSTILE:
+        path = os.path.join(here.encode(), b"begins")
+        with open(path, "wb") as file:
+            file.write(name + b"\n")
+        cases.append(["check", "begins"])
+        piped = run([program, "check", "-v", "begins"], cwd=here)
+        trials.check(
+            f"check of what begins like {name}: in a pipe it is escaped, too", is_quiet(piped[2]), repr(piped)
+        )
+    for words in cases:
+        status, out, said = at_terminal([program, *words], False, cwd=here)
+        piped = run([program, words[0], "-v", *words[1:]], cwd=here)
+        trials.want(
+            f"a refusal of {words}: at a terminal", (status, out, said),
+            (piped[0], piped[1], by_numbers(piped[2])),
+        )
 
 
 def try_progress(trials, program):
@@ -373,6 +585,8 @@ def trial(trials, program, room):
     try_refusals(trials, program, room, log)
     try_typed(trials, program, room)
     try_controls(trials, program, room)
+    try_quiet(trials, program, room)
+    try_mended(trials, program, room)
     try_progress(trials, program)
 
 

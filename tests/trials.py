@@ -9,6 +9,7 @@ import sys
 import tempfile
 import threading
 import time
+from typing import Callable, Dict
 
 # After so many seconds of the clock what runs here has hung, and is ended; and what is proved or built. Neither is a bound of how long it may take.
 SECONDS, BUILD_SECONDS = 1200, 4 * 3600
@@ -59,10 +60,10 @@ def usage(script, words="PROGRAM"):
     return 2
 
 
-def main(script, trial):
+def main(script, trial, words=None):
     """Runs a trial on the program that the words name, and gives the status to end with."""
     trials = Trials(script)
-    words = sys.argv[1:]
+    words = sys.argv[1:] if words is None else words
     if len(words) != 1:
         return usage(script)
     if not os.path.isfile(words[0]):
@@ -73,6 +74,23 @@ def main(script, trial):
         os.chmod(program, 0o755)
         trial(trials, program, room)
     return trials.end()
+
+
+def main_of_parts(script: str, parts: Dict[str, Callable]) -> int:
+    """Runs the parts of a trial, each in a folder of its own, or the one that the words name; says how much each tried and how long it took, and
+    gives the status to end with."""
+    words = sys.argv[1:]
+    if len(words) not in (1, 3) or words[1:2] not in ([], ["--only"]) or words[2:] not in ([], *([name] for name in parts)):
+        return usage(script, f"PROGRAM [--only {'|'.join(parts)}]")
+
+    def trial(trials, program, room):
+        for name in words[2:] or parts:
+            before, at = trials.passed + trials.failed, time.monotonic()
+            os.mkdir(f"{room}/{name}")
+            parts[name](trials, program, f"{room}/{name}")
+            print(f"{trials.script}: {name}: {trials.passed + trials.failed - before} in {time.monotonic() - at:.1f} s", flush=True)
+
+    return main(script, trial, words[:1])
 
 
 def main_by_chance(script, cases, seed, trial):

@@ -32,6 +32,8 @@ SECOND = {
     "recompact": (["recompact", "LOG", "KEEP"], START),
     "restat": (["restat", "LOG", "/dev/null"], START),
     "repair": (["repair", "LOG"], START),
+    "prune": (["prune", "LOG", "TARGETS"], START),
+    "retime": (["retime", "LOG"], START),
     "record": (["record", "LOG", "1", "2", "3", "second", "c"], START),
     "record on a log that is due": (["record", "LOG", "1", "2", "3", "second", "c"], DUE),
 }
@@ -50,6 +52,10 @@ def fill(room, text):
     os.makedirs(room)
     write(f"{room}/LOG", text)
     write(f"{room}/KEEP", b"a\nb\nfirst\n")
+    write(f"{room}/TARGETS", b"a: cc\nb: cc\n")
+    # (what is recorded meanwhile has a file)
+    write(f"{room}/first", b"")
+    os.utime(f"{room}/first", ns=(3, 3))
     write(f"{room}/BAD", b"a\tb\n")
 
 
