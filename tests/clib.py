@@ -407,7 +407,7 @@ def pages(trials, room):
         if shutil.which("c++"):
             ran = run(["c++", "-x", "c++", "-std=c++17", *STRICT, "-c", f"{path}.c", "-o", f"{path}.o"])
             trials.check(f"example {i} is C++ too", ran[0] == 0 and not ran[2], ran[2][-800:].decode(errors="replace"))
-    log, command = f"{room}/pages/.ninja_log", b"cp in.txt a.txt"
+    log, command = f"{room}/pages/.ninja_log", b"cat in.txt > a.txt"
     wants_entry_of(trials, "the first", log, b"a.txt", command)
     trials.want("it made its output", read(f"{room}/pages/a.txt"), b"hello\n")
     before = read(log)
@@ -420,7 +420,7 @@ def pages(trials, room):
     os.remove(log)
     os.remove(f"{room}/pages/in.txt")
     ended = run([f"{room}/page0"], cwd=f"{room}/pages")
-    trials.want("a command that fails", (ended[0], ended[1], ended[2].endswith(b"failed: cp in.txt a.txt\n")), (1, b"", True))
+    trials.want("a command that fails", (ended[0], ended[1], ended[2].endswith(b"failed: cat in.txt > a.txt\n")), (1, b"", True))
     trials.want("its log has no entry that any command passes for", read(log), HEADER)
     os.remove(log)
     os.mkdir(log)
@@ -429,12 +429,12 @@ def pages(trials, room):
 
 def changes_meanwhile(trials, tool, folder):
     """An input that changes while the command runs, before its output is written or later: the tool makes the output again, and so does Ninja."""
-    commands, manifest = f"{folder}/commands", b"rule cp\n  command = cp in.txt a.txt\nbuild a.txt: cp in.txt\n"
+    commands, manifest = f"{folder}/commands", b"rule cat\n  command = cat in.txt > a.txt\nbuild a.txt: cat in.txt\n"
     os.mkdir(commands)
     write(f"{folder}/build.ninja", manifest)
     env = {**os.environ, "PATH": f"{commands}:{os.environ.get('PATH', os.defpath)}"}
     change = "sleep 0.05; echo later > in.txt"
-    for when, script in (("behind", f'/bin/cp "$@"; {change}'), ("before", f'/bin/cat in.txt > text; {change}; sleep 0.05; /bin/cp text a.txt')):
+    for when, script in (("behind", f'/bin/cat "$@"; {change}'), ("before", f'/bin/cat "$@" > text; {change}; sleep 0.05; /bin/cat text')):
         for again in (["ninja"], [tool]):
             what = f"an input that changes {when} its command's end, and {os.path.basename(again[0])[:5]}"
             if shutil.which(again[0]) is None:
@@ -448,11 +448,11 @@ def changes_meanwhile(trials, tool, folder):
             trials.want(f"{what}: made", run([tool], cwd=folder)[:2], (0, b"made a.txt\n"))
             said = run(again, cwd=folder)
             trials.check(f"{what}: nothing to do", b"no work to do" in said[1] or said[1] == b"nothing to do\n", said)
-            write(f"{commands}/cp", f"#!/bin/sh\n{script}\n".encode())
-            os.chmod(f"{commands}/cp", 0o755)
+            write(f"{commands}/cat", f"#!/bin/sh\n{script}\n".encode())
+            os.chmod(f"{commands}/cat", 0o755)
             os.remove(f"{folder}/a.txt")
             trials.want(f"{what}: made beside the change", run([tool], cwd=folder, env=env)[:2], (0, b"made a.txt\n"))
-            os.remove(f"{commands}/cp")
+            os.remove(f"{commands}/cat")
             trials.want(f"{what}: of the input before", (read(f"{folder}/a.txt"), read(f"{folder}/in.txt")), (b"hello\n", b"later\n"))
             trials.want(f"{what}: it is made again", run(again, cwd=folder)[0], 0)
             trials.want(f"{what}: of the input now", read(f"{folder}/a.txt"), b"later\n")
@@ -1491,6 +1491,8 @@ def by_the_rules_of_the_program(trials, made, room):
     system_calls.traced, crash_states.follow = traced_by_path, follow_by_path
     # (the library looks at the log's name in places of its own: `moved`, `kept_away` and `changed_between` try what that is for)
     system_calls.LOOKS_FIRST, system_calls.note = False, lambda *_: b""
+    # (its `repair` is an open and a rewriting)
+    system_calls.REPAIRS_WHOLE = False
     wanted, done = system_calls.effects_wanted, system_calls.effect
 
     def wanted_of_tool(case):

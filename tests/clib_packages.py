@@ -30,7 +30,7 @@ def makes_its_log(trials, about, words, room, **more):
     write(f"{room}/in.txt", b"hello\n")
     trials.want(f"{about} runs", run(words, cwd=room, **more), (0, b"made a.txt\n", b""))
     lines = (read(f"{room}/.ninja_log") or b"").split(b"\n")
-    trials.want(f"{about}: its log", (lines[0], lines[-2].split(b"\t")[3:]), (HEADER[:-1], [b"a.txt", b"%x" % command_hash(b"cp in.txt a.txt")]))
+    trials.want(f"{about}: its log", (lines[0], lines[-2].split(b"\t")[3:]), (HEADER[:-1], [b"a.txt", b"%x" % command_hash(b"cat in.txt > a.txt")]))
 
 
 def by_pkg_config(trials, prefix, room):

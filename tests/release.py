@@ -40,7 +40,7 @@ LICENCE = "copyright-without-copyright-notice"
 # Where chroot may be, also for who isn't root.
 PLACES = f"{os.environ.get('PATH', os.defpath)}:/usr/sbin:/sbin"
 # What the example leaves as its log: one entry, whose times are those of the clock.
-WRITTEN = re.compile(rb"%b\d+\t\d+\t\d{19}\ta\.txt\t%x\n" % (re.escape(HEADER), command_hash(b"echo hello > a.txt")))
+WRITTEN = re.compile(rb"%b\d+\t\d+\t\d{19}\ta\.txt\t%x\n" % (re.escape(HEADER), command_hash(b"cat in.txt > a.txt")))
 MISSING = re.compile(r"[\w/.-]+: (FAILED: )?rt isn't there: the command of the Rattle toolchain, [^\n]*README\.md[^\n]*\n")
 
 
@@ -174,6 +174,7 @@ def try_library(trials, tools, prefix, root, inside, room, variables=()):
             if os.path.exists(f"{root.folder}/tmp/{it}"):
                 os.remove(f"{root.folder}/tmp/{it}")
         runner = f"qemu-aarch64 -E LD_LIBRARY_PATH='{inside}/lib' " if tools == "aarch64" else f"LD_LIBRARY_PATH={inside}/{os.path.relpath(libraries, prefix)} "
+        write(f"{root.folder}/tmp/in.txt", b"hello\n")
         ran = root.run(f"{runner}./example")
         trials.want(f"the example by the {what} library, in the root", (ran, read(f"{root.folder}/tmp/a.txt")), ((0, "made a.txt\n", ""), b"hello\n"))
         log = read(f"{root.folder}/tmp/.ninja_log") or b""

@@ -41,6 +41,8 @@ LET_GO = ("close", "execve", "fchown", "flistxattr", "fremovexattr")
 # is; where that look fails, nothing is said.
 LOOKS = ("stat", "newfstatat", "statx")
 LOOKS_FIRST = True
+# Whether `repair` writes the whole log beside LOG before anything of LOG is cut.
+REPAIRS_WHOLE = True
 CALL = re.compile(r"(\w+)\((.*?)\) += (\S+)")
 # The mode of a new file here, which each LOG has; a scratch has it once it is whole.
 MASK = os.umask(0o022)
@@ -65,7 +67,7 @@ def effects_wanted(case):
     # (a look that finds no file has no effect)
     wanted = ["make LOG"] if case.start is None else ["look LOG"]
     wanted += ["lock LOG", "look LOG", *sync]
-    if case.change.words[0] == "repair":
+    if case.change.words[0] == "repair" and REPAIRS_WHOLE:
         return [*wanted, *rewrite(case.done)]
     if log.torn:
         wanted += [f"cut LOG {log.whole}", *sync]
