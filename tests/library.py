@@ -19,7 +19,7 @@ from trials import BUILD_SECONDS, SECONDS, Trials, read, run, usage, write
 TOP = os.path.dirname(os.path.dirname(os.path.abspath(__file__)))
 LIBRARY = f"{TOP}/tests/library"
 # `growths.py` runs those of `growths`.
-PARTS = ["fields", "lines", "table", "builds", "folder", "files", "system", "session", "words", "disk", "program", "reports", "doubt", "distrust"]
+PARTS = ["fields", "lines", "table", "builds", "folder", "files", "system", "session", "words", "disk", "program", "reports", "doubt", "distrust", "looks"]
 CRATE = "nl_library_tests"
 USES = "nl_fields nl_lines nl_table nl_builds nl_folder nl_versions nl_files nl_session nl_tool_words nl_tool_texts nl_os nl_tool_print nl_reports nl_tool_doubt nl_distrust nl_tool_change nl_tool clap"
 TEST = r"(?m)^#\[test\]\nfn (\w+)"
@@ -59,9 +59,9 @@ def tests(trials, room, parts):
         for module, text in modules(trials, part).items():
             files[f"{part}/{module}"] = text.encode()
             names |= {f"{part}::{module}::{it}" for it in re.findall(TEST, text)}
-    if "system" in parts:
-        import system_bugs  # (it takes the crates from here)
-        trials.want("the places of bugs that aren't in the source", system_bugs.misplaced(read(f"{TOP}/crates/{system_bugs.SOURCE}").decode()), [])
+    import system_bugs  # (it takes the crates from here)
+    for part in filter(system_bugs.PLACES.get, parts):
+        trials.want(f"the places of bugs that aren't in the source: {part}", system_bugs.misplaced(part), [])
     for file, text in files.items():
         write(f"{src}/{file}.rt", text)
     write(f"{src}/lib.rt", ("#![tactic(auto)]\n\n" + "".join(f"#[cfg(test)]\nmod {it};\n" for it in parts)).encode())

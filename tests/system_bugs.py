@@ -1,11 +1,11 @@
 #!/usr/bin/env python3
-"""Plants bugs in `OsSystem` that the prover lets through, since nothing is proved of what the system does, and wants each to be seen by a
-test of tests/library/system.
+"""Plants bugs in `OsSystem` and in `OsHost` that the prover lets through, since nothing is proved of what the system does, and wants each to
+be seen by a test of tests/library/system or tests/library/looks.
 
     python3 tests/system_bugs.py
 
 All of them are put into one copy of the crates, each behind the question whether the file `planted/NUMBER` is there. It is built once, by
-`rt try`, and there is one test for each bug, which makes its file and then calls the tests of tests/library/system. Such a test has to fail;
+`rt try`, and there is one test for each bug, which makes its file and then calls the tests of its part. Such a test has to fail;
 without a bug each test has to pass. `rt try` runs one test after another, so the program that it built is copied, and runs them side by side. It wants `rt`, and no proof.
 """
 import contextlib
@@ -19,13 +19,11 @@ import tempfile
 import time
 from concurrent.futures import ThreadPoolExecutor
 
-from library import CRATE, LIBRARY, TEST, crates
+from library import CRATE, LIBRARY, TEST, TOP, USES, crates
 from trials import PAUSE, SECONDS, Trials, read, run, write
 
-USES = "nl_lines nl_folder nl_files nl_tool_texts nl_os"
-SOURCE = "nl_os/src/os_system.rt"
 # A text that stands once in the source, the part of it that the bugs replace, and for each bug what it does and its code.
-SITES = [
+SYSTEM = [
     ("SystemCall::Sync, file.role, file.file.sync_all())", "file.file.sync_all()", {
         "a file is not synced": "Ok(())",
         "a file is synced without its length": "file.file.sync_data()",
@@ -116,36 +114,73 @@ SITES = [
     ("if error.kind() == ErrorKind::Unsupported\n", "error.kind() == ErrorKind::Unsupported", {"no lock can fail": "true", "a system call that is missing is a failure": "false"}),
     ("|| error.raw_os_error() == Some(NO_LOCKS)", "error.raw_os_error() == Some(NO_LOCKS)", {"a file system without locks is a failure": "false"}),
 ]
+
+
+def looks(path):
+    """Bugs of a look at a path, each of which would be one of all looks."""
+    found = f"fs::metadata(self.rt, {path})"
+    file = "match {} {{ Ok(it) if !it.is_dir() => FileState::Written(FileTimes {{ written: {}, changed: {} }}), it => state_of(it) }}"
+    written, changed = "time_of(it.mtime(), it.mtime_nsec())", "time_of(it.ctime(), it.ctime_nsec())"
+    return {
+        "a link is an output by itself": f"state_of(fs::symlink_metadata(self.rt, {path}))",
+        "a folder is a file": file.format(found, written, changed).replace(" if !it.is_dir()", ""),
+        "a file has the time of its change": file.format(found, changed, changed),
+        "a change has the time of the write": file.format(found, written, written),
+        "the part of a second is lost": file.format(found, "time_of(it.mtime(), 0)", changed),
+        "the first second of 1970 counts": file.format(found, "it.mtime() * NANOSECONDS + it.mtime_nsec()", changed),
+        "a file of 1970 has no time": file.format(found, "if it.mtime() == 0 { 0 } else { time_of(it.mtime(), it.mtime_nsec()) }", changed),
+        "an output below a file may be there": f"match {found} {{ Err(e) if e.kind() == ErrorKind::NotADirectory => FileState::Unknown, it => state_of(it) }}",
+        "a file that can't be looked at is missing": f"match {found} {{ Err(_) => FileState::Missing, it => state_of(it) }}",
+    }
+
+
+HOST = [
+    ("state_of(fs::metadata(self.rt, name))", "state_of(fs::metadata(self.rt, name))", looks("name")),
+    ("state_of(fs::metadata(self.rt, path.as_str()))", "state_of(fs::metadata(self.rt, path.as_str()))", {f"{it}, below a folder": bug for it, bug in looks("path.as_str()").items()}),
+    ("let Ok(name) = str::from_utf8(name) else {\n            return FileState::Unknown;", "FileState::Unknown", {"a name that isn't UTF-8 is missing": "FileState::Missing"}),
+    ("= folder else {", "folder", {"the folder of the build is passed over": "None"}),
+    ('match format!(in self.alloc; "{folder}/{name}") {', 'format!(in self.alloc; "{folder}/{name}")', {"a name is looked for beside the folder": 'format!(in self.alloc; "{folder}{name}")'}),
+    ("Telling::new(self.rt, tells, fs::open(self.rt, path)?)", "fs::open(self.rt, path)?", {"why a file can't be opened is lost": "fs::open(self.rt, path).map_err(|_| io::Error::from(ErrorKind::NotFound))?"}),
+    ("= makes;", "makes", {"each log is made": "true", "no log is made": "false"}),
+]
+# Of each part of tests/library the source whose bugs it has to see, and these.
+PLACES = {"system": ("nl_os/src/os_system.rt", SYSTEM), "looks": ("nl_tool/src/host.rt", HOST)}
 # What is left of a call of a runtime of the tests that asks for a bug.
 ASKS = ("    fn metadata(&self, path: &str) -> io::Result<Metadata> {\n", '        if path.starts_with("planted/") {\n            return self.rt.metadata(path);\n        }\n')
 
 
-def ask(number, runtime="self.rt"):
+def ask(number, runtime):
     """The code that asks for a bug."""
     return f'{runtime}.metadata("planted/{number}").is_ok()'
 
 
-def misplaced(source):
+def misplaced(part):
     """The texts that stand elsewhere than once in the source."""
-    return [text for text, _, _ in SITES if source.count(text) != 1]
+    path, sites = PLACES[part]
+    source = read(f"{TOP}/crates/{path}").decode()
+    return [text for text, _, _ in sites if source.count(text) != 1]
 
 
-def planted(source):
-    """The source with all bugs, and the name of each, whose place in the list is its number."""
+def planted(source, sites, first):
+    """The source with all bugs, and the name of each; the first of them has this number."""
     names, spans = [], []
-    for text, part, bugs in SITES:
-        assert part in text and text not in misplaced(source), f"{source.count(text)} times in {SOURCE}: {text}"
+
+    def asked(name, runtime="self.rt"):
+        return ask(first + names.index(name), runtime)
+
+    for text, part, bugs in sites:
+        assert part in text and source.count(text) == 1, f"{source.count(text)} times: {text}"
         code = f"{{ {part} }}"
         if part.startswith("."):
             # (a word of a chain is no value by itself: one text is of each of its bugs)
             names += [it for it in bugs if it not in names]
-            code, = {it.replace("IS", "(" + " || ".join(ask(names.index(name)) for name in bugs) + ")") for it in bugs.values()}
+            code, = {it.replace("IS", "(" + " || ".join(map(asked, bugs)) + ")") for it in bugs.values()}
             bugs = {}
         for name, bug in bugs.items():
             names += [name] * (name not in names)
             # (one function has the runtime alone)
             runtime = "rt" if "LAST_STREAM" in text else "self.rt"
-            code = f"if {ask(names.index(name), runtime)} {{ {bug} }} else {code}"
+            code = f"if {asked(name, runtime)} {{ {bug} }} else {code}"
         code = f"{{ {code} }}" if part == "{}" else code if part[0] == "." or part[-1] == ";" else f"({code})"
         start = source.index(text) + text.index(part)
         spans.append((start, start + len(part), code))
@@ -170,8 +205,8 @@ def without_asserts(text):
     return text
 
 
-def bug_tests(names, bodies, texts):
-    """A test for each bug, and one without, each of which calls all the others, once what another left is removed."""
+def bug_tests(numbers, bodies, texts):
+    """A test for each bug of these numbers, and one without, each of which calls all the others, once what another left is removed."""
     folders = {"planted", *re.findall(r'"(\w+)/', texts), *re.findall(r'create_dir\(&rt, "(\w+)"', texts)}
     files = {f"{it}{end}" for it in re.findall(r'"([\w.]+\.(?:log|new))"', texts) for end in ("", ".recompact")}
     begins = [f'    let _ = fs::remove_dir_all(&rt, "{it}");' for it in sorted(folders)]
@@ -179,28 +214,32 @@ def bug_tests(names, bodies, texts):
     calls = [f"    super::{it}(rt.clone()?)?;" for it in bodies]
     lines = ["use std::fs;", "use std::test::Fail;", "fn all(rt: HostRuntime, bug: &str) -> Result<(), Fail> {", *begins]
     lines += ['    fs::create_dir(&rt, "planted")?;', '    fs::write(&rt, bug, "")?;', *calls, "    Ok(())", "}"]
-    for name in ["none", *map(str, range(len(names)))]:
+    for name in ["none", *numbers]:
         lines += ["#[test]", f"fn bug_{name}(rt: HostRuntime) -> Result<(), Fail> {{", f'    all(rt, "planted/{name}")', "}"]
     return "\n".join(lines) + "\n"
 
 
 def lay_out(room):
-    """Makes the crate of the tests, with the bugs below it: the names of the bugs, and the folder of the crate."""
-    src, bodies, texts = crates(room, CRATE, USES), [], ""
-    source, names = planted(read(f"{room}/crates/{SOURCE}").decode())
-    write(f"{room}/crates/{SOURCE}", source.encode())
-    os.mkdir(f"{src}/system")
-    root = read(f"{LIBRARY}/system.rattle").decode()
-    for module in re.findall(r"(?m)^mod (\w+);$", root):
-        text = read(f"{LIBRARY}/system/{module}.rattle").decode()
-        texts += text
-        bodies += [f"{module}::{it}" for it in re.findall(TEST, text)]
-        text = without_asserts(text.replace(ASKS[0], "".join(ASKS)).replace("#[test]\nfn ", "pub fn "))
-        write(f"{src}/system/{module}.rt", text.encode())
-    write(f"{src}/system/bugs.rt", bug_tests(names, bodies, texts).encode())
-    write(f"{src}/system.rt", f"{root}mod bugs;\n".encode())
-    write(f"{src}/lib.rt", b"#![tactic(auto)]\n\n#[cfg(test)]\nmod system;\n")
-    return names, os.path.dirname(src)
+    """Makes the crate of the tests, with the bugs below it: the part and the name of each bug, and the folder of the crate."""
+    src, found = crates(room, CRATE, USES), []
+    for part, (path, sites) in PLACES.items():
+        source, names = planted(read(f"{room}/crates/{path}").decode(), sites, len(found))
+        write(f"{room}/crates/{path}", source.encode())
+        numbers = range(len(found), len(found) + len(names))
+        found += [(part, name) for name in names]
+        os.mkdir(f"{src}/{part}")
+        root, bodies, texts = read(f"{LIBRARY}/{part}.rattle").decode(), [], ""
+        for module in re.findall(r"(?m)^mod (\w+);$", root):
+            text = read(f"{LIBRARY}/{part}/{module}.rattle").decode()
+            texts += text
+            bodies += [f"{module}::{it}" for it in re.findall(TEST, text)]
+            text = without_asserts(text.replace(ASKS[0], "".join(ASKS)).replace("#[test]\nfn ", "pub fn "))
+            write(f"{src}/{part}/{module}.rt", text.encode())
+        write(f"{src}/{part}/bugs.rt", bug_tests(numbers, bodies, texts).encode())
+        write(f"{src}/{part}.rt", f"{root}mod bugs;\n".encode())
+    modules = "".join(f"#[cfg(test)]\nmod {part};\n" for part in PLACES)
+    write(f"{src}/lib.rt", f"#![tactic(auto)]\n\n{modules}".encode())
+    return found, os.path.dirname(src)
 
 
 def built(folder, room):
@@ -213,7 +252,7 @@ def built(folder, room):
     found = None
     while found is None and ran.poll() is None:
         time.sleep(PAUSE)
-        found = next((words for words in map(words_of, below(ran.pid)) if words[-1:] and words[-1].startswith("system::bugs::")), None)
+        found = next((words for words in map(words_of, below(ran.pid)) if words[-1:] and "::bugs::" in words[-1]), None)
     if found:
         program = shutil.copy(found[-2], f"{room}/program")
         for pid in (*below(ran.pid), ran.pid):
@@ -240,11 +279,11 @@ def words_of(pid):
         return []
 
 
-def seen(words, room, name):
-    """The status of a bug's test, in a folder of its own."""
-    folder = f"{room}/bug-{name}"
+def seen(words, room, part, name):
+    """The status of the test of a bug of this number, or of none, in a folder of its own."""
+    folder = f"{room}/{part}-{name}"
     os.mkdir(folder)
-    status = run([*words, f"system::bugs::bug_{name}"], cwd=folder, env={})[0]
+    status = run([*words, f"{part}::bugs::bug_{name}"], cwd=folder, env={})[0]
     shutil.rmtree(folder, ignore_errors=True)
     return status
 
@@ -255,16 +294,18 @@ def main():
         trials.skip("the bugs", "rt isn't there")
         return trials.end()
     with tempfile.TemporaryDirectory() as room:
-        names, folder = lay_out(room)
+        bugs, folder = lay_out(room)
         words, said = built(folder, os.path.realpath(room))
         if not trials.check("the tests are built", words, said[-3000:]):
             return trials.end()
         # (most of a test is waited for, so there are more at a time than processors)
         with ThreadPoolExecutor(2 * (os.cpu_count() or 1)) as pool:
-            ends = [*pool.map(lambda it: seen(words, room, it), ["none", *range(len(names))])]
-    trials.want("without a bug", ends[0], 0)
-    for name, end in zip(names, ends[1:]):
-        trials.check(name, end not in (0, None), f"no test fails: status {end}")
+            none = [*pool.map(lambda part: seen(words, room, part, "none"), PLACES)]
+            ends = [*pool.map(lambda number: seen(words, room, bugs[number][0], number), range(len(bugs)))]
+    for part, end in zip(PLACES, none):
+        trials.want(f"{part}: without a bug", end, 0)
+    for (part, name), end in zip(bugs, ends):
+        trials.check(f"{part}: {name}", end not in (0, None), f"no test fails: status {end}")
     return trials.end()
 
 
