@@ -8,8 +8,8 @@ A sentence ends at a full stop, a colon at the end of a line, a question mark, o
 a table ends. What stands in backquotes counts as one word, of a link its text alone, and what stands in an indented or a fenced block isn't
 prose. Of a header the comments are read, and of a manual page the source, whose synopsis and examples are blocks. A page is held to the
 limits of `LIMITS`: columns (of a page outside of indented blocks), words of a sentence on average, and words of the longest one. Each page that
-`PAGES` finds has a budget, of words as `wc -w` counts them or of lines, and so have all together. `--show` prints the sentences of a page, the
-longest first.
+`PAGES` finds has a budget, of words as `wc -w` counts them or of lines, and so have all together, but for those of `UNCOUNTED`. `--show` prints
+the sentences of a page, the longest first.
 
 The last line is `N passed, M failed`.
 """
@@ -27,7 +27,7 @@ TOP = os.path.dirname(os.path.dirname(os.path.abspath(__file__)))
 PAGES = ("*.md", "docs/*.md", "crates/*/README.md", "integrations/*/README.md", "tests/*/README.md", "man/*.[13]", "include/*.h")
 WORDS = {
     "README.md": 400,
-    "CHANGELOG.md": 1500,
+    "CHANGELOG.md": 2100,
     "CONTRIBUTING.md": 2500,
     "docs/ARCHITECTURE.md": 1000,
     "docs/CLI.md": 7000,
@@ -55,6 +55,8 @@ WORDS = {
     "crates/*/README.md": 3000,
 }
 WHOLE = 55_000
+# What WHOLE doesn't count: CHANGELOG.md grows with each version.
+UNCOUNTED = ("CHANGELOG.md",)
 # The lines of a crate's page, at the most.
 LINES = 12
 # Each page has: its columns; the words of a sentence on average; those of the longest.
@@ -219,7 +221,7 @@ def lengths(found):
             yield f"{page}: words", counts[page], None
         if page.startswith("crates/"):
             yield f"{page}: lines", text_of(page).count("\n"), LINES
-    yield "all pages: words", sum(counts.values()), WHOLE
+    yield "all pages: words", sum(count for it, count in counts.items() if it not in UNCOUNTED), WHOLE
 
 
 def repeated(pages):
