@@ -1,11 +1,8 @@
 /* nlog.h: Ninja's build log (.ninja_log, versions 4 to 7) for C and C++.
  * docs/LIBRARY.md has a whole program, and an example of each part.
  *
- * Part 1 reads logs that stand in memory. What each status means is proved, by
- *   the clauses of crates/nl_c/src/exports.rt. Tested alone: nlog_next_damage,
- *   and that a call which only reads leaves its handle as it is.
- * Part 2 writes a log on disk. The log's text and its table are proved, and the
- *   C code below lib/ that carries them to files is tested.
+ * Part 1 reads logs that stand in memory, and part 2 writes a log on disk. The
+ * page says what is proved of both.
  *
  * Three words: an output is distrusted if a damaged line may be about it, and
  *   no entry of it follows. A writer is wary if its open drops the entries of
@@ -18,9 +15,8 @@
  *   handle, and each thing that the call would have filled, as it was.
  * Pointers must not be NULL, except one to 0 bytes, an nlog_writer, or where a
  *   call allows it. What a call fills must not overlap anything else that is
- *   passed to it. Nothing that is passed is kept when the call returns. No
- *   pointer into the library is handed out, except by nlog_writer_failed_path
- *   and nlog_writer_failed_call.
+ *   passed to it. Nothing that is passed is kept when the call returns. Only
+ *   nlog_writer_failed_path and nlog_writer_failed_call hand out a pointer.
  * Memory: from malloc, freed by nlog_free and nlog_writer_free. If it gives
  *   none, the call answers NLOG_OUT_OF_MEMORY.
  * Threads: a call whose handle or writer is const only reads, and any number of
@@ -120,8 +116,7 @@ typedef struct nlog {
 
 /* What an entry has beside its name. The mtime is when the command started, by
  * the file system's clock, as in Ninja since 1.12 (1.11: the newest output's).
- * Take it before the command: an input that changes later is newer, and has the
- * output made again. */
+ * Take it before the command. */
 typedef struct nlog_entry {
   int32_t start_ms;
   int32_t end_ms;
@@ -142,14 +137,12 @@ typedef struct nlog_facts {
 } nlog_facts;
 
 /* Loads the log that the bytes are. Time and memory grow with their length. The
- * handle then holds this log, and one that it held before is freed. No bytes
- * are an empty log.
+ * handle then holds this log alone. No bytes are an empty log.
  * NLOG_NOT_A_LOG, NLOG_OTHER_VERSION, NLOG_OUT_OF_MEMORY: the handle holds what
  * it held. */
 nlog_status nlog_load(nlog *log, const void *bytes, size_t len);
 
-/* Frees the log. The handle is then without one, as NLOG_INIT. If it was
- * without one, nothing is done. */
+/* Frees the log, if there is one. The handle is then as NLOG_INIT. */
 void nlog_free(nlog *log);
 
 /* NLOG_NO_HANDLE of this call and the next three: the handle has no log. */
@@ -187,7 +180,7 @@ typedef enum nlog_damage_kind {
 
 /* A line that is no entry, as `nlog damage` has it. */
 typedef struct nlog_damage {
-  uint64_t number;       /* of the line. The first line is 1, and is told only
+  uint64_t number;       /* of the line, from 1. The first line is told only
                           * if it is torn. 0 before the first call */
   size_t from;           /* where it begins in the log's bytes */
   size_t len;            /* without the newline */
@@ -237,11 +230,11 @@ nlog_status nlog_check_name(const char *name, size_t len);
  *       broken
  *     open to read, open or broken --nlog_writer_close--> closed
  *
- * If a call of the system fails, the call here answers NLOG_FAULT, and the
- * writer is broken. nlog_writer_errno says why. Each call that reads or changes
- * the log then answers NLOG_BROKEN until nlog_writer_close, and the next
- * nlog_writer_open repairs the log. What a failed call was to change may be on
- * disk in part, in whole or not at all.
+ * If a call of the system fails, the call here answers NLOG_FAULT, and
+ * nlog_writer_errno says why. Each call that reads or changes the log then
+ * answers NLOG_BROKEN until nlog_writer_close. The next nlog_writer_open
+ * repairs the log. What a failed call was to change may be on disk in part, in
+ * whole or not at all.
  *
  * Lock: flock on the log's file, as each `nlog` that changes a log takes it,
  *   and no Ninja does. If the file system has no locks, there is none. The
@@ -254,8 +247,7 @@ nlog_status nlog_check_name(const char *name, size_t len);
  * Descriptors are close-on-exec, and no standard stream's.
  * Files: the scratch of a rewriting is the path with `.recompact` appended. A
  *   failure may leave it there, and the next rewriting removes it. A rewritten
- *   log is a new file, and replaces a symbolic link. The open looks the path
- *   up, and holds the folder open until the close.
+ *   log is a new file, and replaces a symbolic link.
  * Syncs: first the log's folder is synced, if it can be, and then its file.
  * Others: let nobody else write, remove or replace the log while it is open,
  *   except writers that share it. Otherwise each sync, each close that syncs
@@ -263,8 +255,8 @@ nlog_status nlog_check_name(const char *name, size_t len);
  *   and changes nothing. What was recorded since the last sync may be lost.
  * Memory: a log that is open, or open to read, takes its table, as nlog_load
  *   does, and a buffer of 327,743 bytes. An open takes no more, but a wary one
- *   of a damaged log also takes the log's bytes. Without memory, a call answers
- *   NLOG_OUT_OF_MEMORY, and no file was changed, unless it says more.
+ *   of a damaged log also takes the log's bytes. Unless a call says more,
+ *   NLOG_OUT_OF_MEMORY changed no file.
  * docs/LIBRARY.md has more on each of these.
  *
  * If the writer is NULL, every call but nlog_writer_new and nlog_writer_free
@@ -304,13 +296,12 @@ void nlog_writer_free(nlog_writer **writer);
 nlog_status nlog_writer_open(nlog_writer *writer);
 
 /* Opens the log to read it: reads it as it stands, and locks, writes and makes
- * no file. A log that is missing, or whose folder is, is an empty one.
- * nlog_writer_count, nlog_writer_at, nlog_writer_find and nlog_writer_version
- * then answer as after nlog_writer_open. Marks of dead names are used up as by
- * it.
+ * no file. A log that is missing, or whose folder is, is an empty one. Calls
+ * that read then answer as after nlog_writer_open, and marks of dead names are
+ * used up as by it.
  * The first call that changes the log, or nlog_writer_open, locks it and does
- * what an open does: it syncs, and repairs or rewrites. A log that is due is
- * rewritten without what is marked dead by then.
+ * what an open does. A log that is due is rewritten without what is marked dead
+ * by then.
  * NLOG_OK: the log was read. A close is then answered NLOG_OK, and touches no
  * file.
  * Other statuses of this call: as of nlog_writer_open, and no file was touched.
@@ -330,7 +321,7 @@ nlog_status nlog_writer_is_due(const nlog_writer *writer, bool *is_due);
 uint64_t nlog_writer_other_version(const nlog_writer *writer);
 
 /* Whether the log is shared, which it isn't at first. Then the lock is held
- * within each call alone, and not from the open to the close.
+ * within each call alone.
  * A call that changes the log takes in what others did. But a record of planned
  * names takes no lock: if another's rewriting loses it, their intents stand.
  * NLOG_OUT_OF_MEMORY breaks the writer if the log was read anew.
@@ -384,12 +375,10 @@ nlog_status nlog_writer_record(nlog_writer *writer, const char *name,
 nlog_status nlog_writer_record_edge(nlog_writer *writer, const nlog_name *names,
     size_t count, const nlog_entry *entry);
 
-/* Before a command of this hash runs: adds the intent of each of its outputs
- * that has an entry which isn't such an intent already. No command passes for
- * an intent, so none of these outputs is taken for what it was before
- * (docs/FORMAT.md, "Intents"). The moment is that of now, as the start of an
- * entry. One write adds them. If power may be lost, call nlog_writer_sync
- * afterwards.
+/* Before a command of this hash runs: adds the intent (docs/FORMAT.md,
+ * "Intents") of each of its outputs that has another entry. The moment is that
+ * of now, as the start of an entry. One write adds them. If power may be lost,
+ * call nlog_writer_sync afterwards.
  * Refused as nlog_writer_record_edge is. */
 nlog_status nlog_writer_begin(nlog_writer *writer, const nlog_name *names,
     size_t count, int32_t moment_ms, uint64_t hash);

@@ -8,8 +8,9 @@ A sentence ends at a full stop, a colon at the end of a line, a question mark, o
 a table ends. What stands in backquotes counts as one word, of a link its text alone, and what stands in an indented or a fenced block isn't
 prose. Of a header the comments are read, and of a manual page the source, whose synopsis and examples are blocks. A page is held to the
 limits of `LIMITS`: columns (of a page outside of indented blocks), words of a sentence on average, and words of the longest one. Each page that
-`PAGES` finds has a budget, of words as `wc -w` counts them or of lines, and so have all together, but for those of `UNCOUNTED`. `--show` prints
-the sentences of a page, the longest first.
+`PAGES` finds has a budget, of words as `wc -w` counts them or of lines. All together have one too, of the words that are written by hand: what a
+script makes of other texts, or compares with them word by word, stands once for whoever keeps it. `--show` prints the sentences of a page, the
+longest first.
 
 The last line is `N passed, M failed`.
 """
@@ -26,37 +27,37 @@ TOP = os.path.dirname(os.path.dirname(os.path.abspath(__file__)))
 # What the pages are, and their words at the most: of a page, of several together, and of all.
 PAGES = ("*.md", "docs/*.md", "crates/*/README.md", "integrations/*/README.md", "tests/*/README.md", "man/*.[13]", "include/*.h")
 WORDS = {
-    "README.md": 400,
-    "CHANGELOG.md": 2100,
-    "CONTRIBUTING.md": 2500,
-    "docs/ARCHITECTURE.md": 1000,
-    "docs/CLI.md": 7000,
-    "docs/DAMAGE.md": 800,
-    "docs/DECISIONS.md": 2500,
-    "docs/DESIGN.md": 1500,
-    "docs/DISK_MODEL.md": 3000,
-    "docs/FORMAT.md": 4000,
-    "docs/GATE.md": 600,
-    "docs/HELP.md": 5_100,
-    "docs/LIBRARY.md": 3000,
-    "docs/BUILDS.md": 1250,
-    "docs/RELEASE.md": 700,
-    "docs/NINJA_TIMES.md": 700,
-    "docs/PERFORMANCE.md": 1200,
-    "docs/PROMISES.md": 4000,
-    "docs/RECIPES.md": 800,
+    "README.md": 440,
+    "CHANGELOG.md": 2090,
+    "CONTRIBUTING.md": 2460,
+    "docs/ARCHITECTURE.md": 1010,
+    "docs/CLI.md": 7420,
+    "docs/DAMAGE.md": 750,
+    "docs/DECISIONS.md": 2550,
+    "docs/DESIGN.md": 1520,
+    "docs/DISK_MODEL.md": 3180,
+    "docs/FORMAT.md": 4150,
+    "docs/GATE.md": 570,
+    "docs/HELP.md": 5590,
+    "docs/LIBRARY.md": 2370,
+    "docs/BUILDS.md": 1370,
+    "docs/RELEASE.md": 540,
+    "docs/NINJA_TIMES.md": 520,
+    "docs/PERFORMANCE.md": 1010,
+    "docs/PROMISES.md": 4250,
+    "docs/RECIPES.md": 710,
     "docs/REPLAY.md": 800,
-    "docs/SECURITY.md": 900,
-    "integrations/*/README.md": 2500,
-    "tests/*/README.md": 300,
-    "include/nlog.h": 4000,
-    "man/nlog.1": 2000,
-    "man/nlog.3": 2300,
-    "crates/*/README.md": 3000,
+    "docs/SECURITY.md": 920,
+    "integrations/*/README.md": 2660,
+    "tests/*/README.md": 280,
+    "include/nlog.h": 4240,
+    "man/nlog.1": 1910,
+    "man/nlog.3": 2370,
+    "crates/*/README.md": 2560,
 }
-WHOLE = 55_000
-# What WHOLE doesn't count: CHANGELOG.md grows with each version.
-UNCOUNTED = ("CHANGELOG.md",)
+WHOLE = 48_300
+# Pages of which WHOLE counts nothing: man/make.py makes the help, and CHANGELOG.md grows with each version.
+UNCOUNTED = ("CHANGELOG.md", "docs/HELP.md")
 # The lines of a crate's page, at the most.
 LINES = 12
 # Each page has: its columns; the words of a sentence on average; those of the longest.
@@ -211,6 +212,18 @@ def pages():
     return sorted(os.path.relpath(it, TOP) for pattern in PAGES for it in glob(f"{TOP}/{pattern}"))
 
 
+def by_hand(page):
+    """The part of a page that is written by hand. Of man/nlog.1 man/make.py makes the rest, of man/nlog.3 tests/manual.py compares the synopsis with
+    the header, and the example with docs/LIBRARY.md."""
+    if page in UNCOUNTED:
+        return ""
+    if page == "man/nlog.1":
+        return text_of("man/nlog.1.in")
+    if page == "man/nlog.3":
+        return re.sub(r"(?ms)^\.(?:nf|EX)$.*?^\.(?:fi|EE)$", "", text_of(page))
+    return text_of(page)
+
+
 def lengths(found):
     """What is counted of the pages: its name, how much it is, and how much it may be, or None where no budget is of it."""
     counts = {it: len(text_of(it).split()) for it in found}
@@ -221,7 +234,7 @@ def lengths(found):
             yield f"{page}: words", counts[page], None
         if page.startswith("crates/"):
             yield f"{page}: lines", text_of(page).count("\n"), LINES
-    yield "all pages: words", sum(count for it, count in counts.items() if it not in UNCOUNTED), WHOLE
+    yield "all pages: words that are written by hand", sum(len(by_hand(it).split()) for it in found), WHOLE
 
 
 def repeated(pages):
