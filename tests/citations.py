@@ -4,8 +4,9 @@
 A citation is a link of a page, with its heading; `PAGE, "HEADING"`, or a heading of the page itself as `see "HEADING"` or `("HEADING", below)`, where
 what begins a paragraph in bold letters is a heading too; a path from the top, or from the crate of which a page or a file is; a script by its name alone;
 and in backquotes on a page a name of the code, as of a clause, a function, a definition, an edit or a trial. CHANGELOG.md tells of what was, and the
-pages of integrations/ of others' code: their names are left out. What is gone, or has another name, is a failure. It reads the texts of the repository
-alone. The last line is `N passed, M failed`.
+pages of integrations/ of others' code: their names are left out. What is gone, or has another name, is a failure. The crates that a page trusts, as
+"`itoa` and `memchr` of the kit", are those that crates.txt has for it, or for docs/PROMISES.md all of these: no more and no fewer. It reads the texts of
+the repository alone. The last line is `N passed, M failed`.
 """
 import os
 import re
@@ -24,6 +25,9 @@ FILE = r"(?<![\w./*-])[A-Za-z]\w+\.(?:py|sh|antt|rt|rattle|edit)\b"
 NAME = r"`([A-Za-z]\w*(?:::\w+)*[a-z\d])`"
 # What stands for any name, or is a folder that a run makes.
 ANY = re.compile(r"\b(NAME|PART|VERSION|TO|MOD|FN|WHAT_THE_BUG_DOES|FOLDER|out)\b")
+KIT = r"((?:`\w+`(?:, | and | ))+)of the kit\b"
+# What crates.txt names of the toolchain's standard library.
+STANDARD = {"core", "std_alloc"}
 # Names of C++'s library, and of Ninja.
 FOREIGN = {"std::unordered_map", "std::string_view", "RecomputeOutputDirty"}
 
@@ -108,8 +112,26 @@ def citations(repository, path, text):
             yield f"`{cited}`", all(it in has.words for it in cited.split("::"))
 
 
+def kit_below(lines):
+    """The crates of the toolchain's kit below each crate of crates.txt."""
+    rows = [it.partition(":") for it in lines.split("\n") if ":" in it and not it.startswith("#")]
+    stands = {crate.split()[0]: set(below.split()) for crate, _, below in rows}
+    return {crate: below - set(stands) - STANDARD for crate, below in stands.items()}
+
+
+def trusted(repository):
+    """Each page that has to say what it trusts of the kit, with what that is, and what it says."""
+    with open(f"{TOP}/crates.txt", encoding="utf-8") as it:
+        below = kit_below(it.read())
+    for path, wanted in [("docs/PROMISES.md", set().union(*below.values())), *((f"crates/{it}/README.md", below[it]) for it in below)]:
+        said = re.findall(KIT, " ".join(repository.texts[path].split()))
+        yield path, wanted, {name for names in said for name in re.findall(r"\w+", names.replace(" and ", " "))}
+
+
 def main():
     trials, repository = Trials(__file__), Repository(texts())
+    for path, wanted, said in trusted(repository):
+        trials.check(f"what {path} trusts of the kit", said == wanted, f"it lacks {sorted(wanted - said)}, and has {sorted(said - wanted)} too many")
     for path, text in sorted(repository.texts.items()):
         for cited, is_there in citations(repository, path, text):
             trials.check(f"{path} cites {cited}", is_there, "which isn't there")

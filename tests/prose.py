@@ -28,34 +28,34 @@ TOP = os.path.dirname(os.path.dirname(os.path.abspath(__file__)))
 PAGES = ("*.md", "docs/*.md", "crates/*/README.md", "integrations/*/README.md", "tests/*/README.md", "man/*.[13]", "include/*.h")
 WORDS = {
     "README.md": 440,
-    "CHANGELOG.md": 2090,
-    "CONTRIBUTING.md": 2460,
+    "CHANGELOG.md": 2100,
+    "CONTRIBUTING.md": 2480,
     "docs/ARCHITECTURE.md": 1010,
-    "docs/CLI.md": 7420,
+    "docs/CLI.md": 7480,
     "docs/DAMAGE.md": 750,
-    "docs/DECISIONS.md": 2550,
-    "docs/DESIGN.md": 1520,
-    "docs/DISK_MODEL.md": 3180,
+    "docs/DECISIONS.md": 2580,
+    "docs/DESIGN.md": 1500,
+    "docs/DISK_MODEL.md": 3190,
     "docs/FORMAT.md": 4150,
     "docs/GATE.md": 570,
     "docs/HELP.md": 5590,
-    "docs/LIBRARY.md": 2370,
+    "docs/LIBRARY.md": 2360,
     "docs/BUILDS.md": 1370,
     "docs/RELEASE.md": 540,
     "docs/NINJA_TIMES.md": 520,
-    "docs/PERFORMANCE.md": 1010,
-    "docs/PROMISES.md": 4250,
+    "docs/PERFORMANCE.md": 1020,
+    "docs/PROMISES.md": 4260,
     "docs/RECIPES.md": 710,
     "docs/REPLAY.md": 800,
-    "docs/SECURITY.md": 920,
-    "integrations/*/README.md": 2660,
+    "docs/SECURITY.md": 940,
+    "integrations/*/README.md": 2640,
     "tests/*/README.md": 280,
     "include/nlog.h": 4240,
-    "man/nlog.1": 1910,
+    "man/nlog.1": 1890,
     "man/nlog.3": 2370,
     "crates/*/README.md": 2560,
 }
-WHOLE = 48_300
+WHOLE = 48_390
 # Pages of which WHOLE counts nothing: man/make.py makes the help, and CHANGELOG.md grows with each version.
 UNCOUNTED = ("CHANGELOG.md", "docs/HELP.md")
 # The lines of a crate's page, at the most.
