@@ -15,7 +15,7 @@ import sys
 import tempfile
 
 import builds_model as model
-from trials import Trials
+from trials import Trials, main_alone
 
 TOP = os.path.dirname(os.path.dirname(os.path.abspath(__file__)))
 MS = model.MS
@@ -148,4 +148,4 @@ def main():
 
 
 if __name__ == "__main__":
-    sys.exit(main())
+    sys.exit(main_alone(__file__, main))

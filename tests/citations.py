@@ -13,7 +13,7 @@ import re
 import sys
 
 from prose import parts as prose_of
-from trials import Trials
+from trials import Trials, main_alone
 
 TOP = os.path.dirname(os.path.dirname(os.path.abspath(__file__)))
 KINDS = (".md", ".svg", ".antt", ".rt", ".rattle", ".py", ".sh", ".c", ".h", ".1", ".3", ".edit")
@@ -139,4 +139,4 @@ def main():
 
 
 if __name__ == "__main__":
-    sys.exit(main())
+    sys.exit(main_alone(__file__, main))

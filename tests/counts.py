@@ -15,7 +15,7 @@ import re
 import sys
 from typing import List, NamedTuple, Optional
 
-from trials import Trials, usage
+from trials import Trials, main_alone, usage
 
 TOP = os.path.dirname(os.path.dirname(os.path.abspath(__file__)))
 ROW = re.compile(r"(    )?(?:(\d+) x )?(?:(\d+) (at most: )?)?(.*)")
@@ -105,7 +105,8 @@ def judge(trials, rows, said, is_strict):
             trials.check(f"nothing is skipped by {part}", False, skip)
 
 
-def main(words):
+def main():
+    words = sys.argv[1:]
     is_strict = words[:1] == ["--strict"]
     if len(words) != 1 + is_strict:
         return usage(__file__, "[--strict] SAID")
@@ -118,4 +119,4 @@ def main(words):
 
 
 if __name__ == "__main__":
-    sys.exit(main(sys.argv[1:]))
+    sys.exit(main_alone(__file__, main))

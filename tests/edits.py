@@ -33,6 +33,8 @@ import threading
 import time
 from glob import glob
 
+from trials import main_alone
+
 TOP = os.path.dirname(os.path.dirname(os.path.abspath(__file__)))
 # What a check takes at the most, in bytes.
 MEMORY = 3_000_000_000
@@ -556,4 +558,4 @@ def main():
 
 
 if __name__ == "__main__":
-    sys.exit(main())
+    sys.exit(main_alone(__file__, main))

@@ -28,7 +28,7 @@ import tempfile
 from trials import SECONDS, main
 
 TOP = os.path.dirname(os.path.dirname(os.path.abspath(__file__)))
-PAGES = ("README.md", "docs/CLI.md", "docs/HELP.md", "docs/REPLAY.md", "docs/DAMAGE.md", "docs/RECIPES.md")
+PAGES = ["README.md", "docs/CLI.md", "docs/HELP.md", "docs/REPLAY.md", "docs/DAMAGE.md", "docs/RECIPES.md"]
 
 # The head of a table of messages.
 MESSAGES = "| Text | Cause | Example |"
@@ -199,4 +199,4 @@ def trial(trials, program, _):
 
 
 if __name__ == "__main__":
-    sys.exit(main(__file__, trial))
+    sys.exit(main(__file__, trial, rows=PAGES))

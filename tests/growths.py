@@ -19,7 +19,7 @@ import sys
 import tempfile
 
 from library import TEST, crates, lay_out, modules
-from trials import BUILD_SECONDS, SECONDS, Trials, run, write
+from trials import BUILD_SECONDS, SECONDS, Trials, main_alone, run, write
 
 CRATE, USES = "nl_growths", "nl_fields nl_lines nl_table nl_folder nl_session"
 # The growth that is refused, and no test asks for so many.
@@ -156,4 +156,4 @@ def main():
 
 
 if __name__ == "__main__":
-    sys.exit(main())
+    sys.exit(main_alone(__file__, main))

@@ -13,7 +13,7 @@ import sys
 import tempfile
 from errno import EBADF, ENAMETOOLONG, ENOENT, ENOTDIR
 
-from trials import Trials, run, usage
+from trials import Trials, main_alone, run, usage
 
 TOP = os.path.dirname(os.path.dirname(os.path.abspath(__file__)))
 SOURCES = [f"{TOP}/tests/clib/host.c", f"{TOP}/lib/heap.c", f"{TOP}/lib/program/host.c"]
@@ -111,4 +111,4 @@ def main():
 
 
 if __name__ == "__main__":
-    sys.exit(main())
+    sys.exit(main_alone(__file__, main))

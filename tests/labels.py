@@ -18,7 +18,7 @@ import sys
 
 from contracts import functions_of, sources, unsaid, untold
 from edits import TOP, BadEdit, Edit, crates, text_of
-from trials import Trials
+from trials import Trials, main_alone
 
 LAWS = "laws.rt"
 # The words of a cell, at most.
@@ -103,4 +103,4 @@ def main():
 
 
 if __name__ == "__main__":
-    sys.exit(main())
+    sys.exit(main_alone(__file__, main))

@@ -14,7 +14,7 @@ import shutil
 import sys
 import tempfile
 
-from trials import BUILD_SECONDS, SECONDS, Trials, read, run, usage, write
+from trials import BUILD_SECONDS, SECONDS, Trials, choose, read, run, usage, write
 
 TOP = os.path.dirname(os.path.dirname(os.path.abspath(__file__)))
 LIBRARY = f"{TOP}/tests/library"
@@ -79,6 +79,7 @@ def tests(trials, room, parts):
 
 
 def main():
+    chosen = choose(__file__, PARTS)
     trials, words = Trials(__file__), sys.argv[1:]
     if words and words not in [[it] for it in PARTS]:
         return usage(__file__, f"[{'|'.join(PARTS)}]")
@@ -86,7 +87,7 @@ def main():
         trials.skip("the tests of the libraries", "rt isn't there")
     else:
         with tempfile.TemporaryDirectory() as room:
-            tests(trials, room, words or PARTS)
+            tests(trials, room, words or chosen)
     return trials.end()
 
 

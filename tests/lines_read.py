@@ -15,7 +15,7 @@ import sys
 import tempfile
 
 import edits
-from trials import Trials, run, write
+from trials import Trials, main_alone, run, write
 
 TOP = os.path.dirname(os.path.dirname(os.path.abspath(__file__)))
 PROGRAM = """//! How many entries and builds a log of standard input has.
@@ -111,4 +111,4 @@ def main():
 
 
 if __name__ == "__main__":
-    sys.exit(main())
+    sys.exit(main_alone(__file__, main))

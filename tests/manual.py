@@ -133,13 +133,24 @@ def try_destdir(trials, script, room, env):
 
 
 def trial(trials, program, room):
+    try_formatters(trials)
+    try_library_page(trials)
+    try_help(trials, program)
+    try_install(trials, program, room)
+
+
+def try_formatters(trials):
+    """Each formatter takes both pages."""
     for name, words in FORMATTERS.items():
         if shutil.which(name) is None:
             trials.skip(f"the page as {name} formats it", f"{name} isn't there")
         else:
             for path in (PAGE, LIBRARY_PAGE):
                 trials.want(f"{name} has no warning of {os.path.basename(path)}", run([*words, path]), (0, b"", b""))
-    try_library_page(trials)
+
+
+def try_help(trials, program):
+    """The help, and the pages that are made of it."""
     screens = make.screens(program)
     trials.want("docs/HELP.md", read(make.HELP).decode(), make.help_page(screens))
     for title, words, text in screens:
@@ -165,7 +176,6 @@ def trial(trials, program, room):
         trials.check(f"the message {it!r}", it in text[text.index("Each comes as") :])
     line = "ninja -t targets all > targets && nlog prune .ninja_log targets"
     trials.check(f"{line} is there", line in text)
-    try_install(trials, program, room)
 
 
 if __name__ == "__main__":

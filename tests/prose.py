@@ -20,7 +20,7 @@ import sys
 from fnmatch import fnmatch
 from glob import glob
 
-from trials import Trials, usage
+from trials import Trials, main_alone, usage
 
 TOP = os.path.dirname(os.path.dirname(os.path.abspath(__file__)))
 
@@ -247,7 +247,8 @@ def repeated(pages):
     return {it: where for it, where in seen.items() if len(where) > 1}
 
 
-def main(given):
+def main():
+    given = sys.argv[1:]
     if given[:1] == ["--show"] and len(given) == 2:
         for it in sorted(sentences(read(given[1])), key=words, reverse=True):
             print(f"{words(it):4} {it}")
@@ -268,4 +269,4 @@ def main(given):
 
 
 if __name__ == "__main__":
-    sys.exit(main(sys.argv[1:]))
+    sys.exit(main_alone(__file__, main))

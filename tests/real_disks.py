@@ -36,7 +36,7 @@ from crash_rules import KINDS, Rules, State, Sweep, Worker, in_parts, lines_of
 from disk_model import File
 from log_format import HEADER, line_of, reading_of
 from recording_disk import LIBC, MS_RDONLY, Blocks, Recorded, RecordingDisk, Served, leave_mounts, loop_device, mount, unmount, unmount_below
-from trials import SECONDS, main, read, run, short, usage, write, writer_driver
+from trials import SECONDS, choose, main, read, run, short, usage, write, writer_driver
 
 SEED = 20240229
 # How many images are made of a mode where the words don't say.
@@ -501,8 +501,9 @@ def trial(trials, program, room, images, names):
 
 def begin_trial():
     """Takes the words behind the program: how many images, and of which modes."""
+    chosen = choose(__file__, [*MODES])
     words, sys.argv[2:] = sys.argv[2:], []
-    images, *names = words or [str(FEW), *COMMON]
+    images, *names = words or [str(FEW), *(COMMON if len(chosen) == len(MODES) else chosen)]
     if not images.isdigit() or not set(names) <= set(MODES):
         return usage(__file__, f"PROGRAM [IMAGES [MODE..]], and a MODE is one of: {'; '.join(MODES)}")
     return main(__file__, lambda *it: trial(*it, int(images), names or MODES))

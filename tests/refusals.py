@@ -17,7 +17,7 @@ import tempfile
 
 import contracts
 import counts
-from trials import Trials
+from trials import Trials, main_alone
 
 TOP = os.path.dirname(os.path.dirname(os.path.abspath(__file__)))
 
@@ -246,4 +246,4 @@ def main():
 
 
 if __name__ == "__main__":
-    sys.exit(main())
+    sys.exit(main_alone(__file__, main))

@@ -372,6 +372,11 @@ def can_enter(trials, room):
 
 def trial(trials, program, room):
     try_without_toolchain(trials, f"{room}/without")
+    try_release(trials, program, room)
+
+
+def try_release(trials, program, room):
+    """What release.sh makes, in a root without tools."""
     for it in ("rt", "cc", "ar", "objcopy", "objdump", "chroot", "ldd", *TOOLS):
         if shutil.which(it, path=PLACES) is None:
             return trials.skip("the release", f"{it} isn't there")

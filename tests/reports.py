@@ -869,6 +869,12 @@ def trial(trials, program, room):
     try_many(trials, program, room)
     try_shown(trials, program, room)
     try_browser(trials, program, room)
+    try_awks(trials, program, room)
+    return None
+
+
+def try_awks(trials, program, room):
+    """Each report by each awk."""
     for awk, words in AWKS.items():
         if shutil.which(words[0]) is None or run([*words, "BEGIN {}"])[0] != 0:
             trials.skip(f"the reports by {awk}", "it isn't there")
@@ -878,7 +884,6 @@ def trial(trials, program, room):
             reports.try_log(kind, text)
         reports.try_versions()
         reports.try_failures()
-    return None
 
 
 if __name__ == "__main__":

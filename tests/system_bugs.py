@@ -20,7 +20,7 @@ import time
 from concurrent.futures import ThreadPoolExecutor
 
 from library import CRATE, LIBRARY, TEST, TOP, USES, crates
-from trials import PAUSE, SECONDS, Trials, read, run, write
+from trials import PAUSE, SECONDS, Trials, main_alone, read, run, write
 
 # A text that stands once in the source, the part of it that the bugs replace, and for each bug what it does and its code.
 SYSTEM = [
@@ -310,4 +310,4 @@ def main():
 
 
 if __name__ == "__main__":
-    sys.exit(main())
+    sys.exit(main_alone(__file__, main))

@@ -23,7 +23,7 @@ import examples
 import system_calls
 from changes import CASES
 from clib_driver import STRICT_DRIVER
-from trials import BUILD_SECONDS, Trials, in_memory, run, usage, write
+from trials import BUILD_SECONDS, Trials, in_memory, main_alone, run, usage, write
 
 TOP = os.path.dirname(os.path.dirname(os.path.abspath(__file__)))
 FUZZED = 1000
@@ -108,4 +108,4 @@ def main():
 
 
 if __name__ == "__main__":
-    sys.exit(main())
+    sys.exit(main_alone(__file__, main))

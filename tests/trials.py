@@ -1,5 +1,13 @@
-"""What the trials of this folder share: their words, what passed and what failed, and the last line."""
+"""What the trials of this folder share: their words, what passed and what failed, and the last line.
+
+Each trial takes `--list`, which prints its cases, and beside its words `--only NAME`, which runs those with NAME in
+their name, or that NAME is a pattern of, as `dam*`. The cases of a trial are the functions that it calls one after
+another. What it does itself, between them, always runs, and a trial without cases runs as one.
+"""
+import ast
 import fcntl
+import functools
+import inspect
 import os
 import random
 import resource
@@ -7,9 +15,11 @@ import shutil
 import subprocess
 import sys
 import tempfile
+import textwrap
 import threading
 import time
-from typing import Callable, Dict
+from fnmatch import fnmatchcase
+from typing import Any, Callable, Dict, List, NamedTuple
 
 # After so many seconds of the clock what runs here has hung, and is ended; and what is proved or built. Neither is a bound of how long it may take.
 SECONDS, BUILD_SECONDS = 1200, 4 * 3600
@@ -60,12 +70,103 @@ def usage(script, words="PROGRAM"):
     return 2
 
 
-def main(script, trial, words=None):
-    """Runs a trial on the program that the words name, and gives the status to end with."""
+class Case(NamedTuple):
+    """A function that a trial calls as a step of its own: its name, and where the trial finds it."""
+
+    name: str
+    home: Dict[str, Any]
+    key: str
+
+    def leave_out(self, trial: Callable) -> None:
+        """Has the trial's own calls of the function do nothing. What else calls it still does."""
+        part = self.home[self.key]
+
+        @functools.wraps(part)
+        def run_for_others(*words, **how):
+            return 0 if sys._getframe(1).f_code is trial.__code__ else part(*words, **how)
+
+        self.home[self.key] = run_for_others
+
+
+def calls_of(trial: Callable) -> List[ast.expr]:
+    """What a trial calls without a use of the answer, or to count, and what its loops run over, in its order."""
+    found = []
+    for node in ast.walk(ast.parse(textwrap.dedent(inspect.getsource(trial)))):
+        if isinstance(node, (ast.Expr, ast.AugAssign)) and isinstance(node.value, ast.Call):
+            found.append(node.value.func)
+        elif isinstance(node, ast.For) and isinstance(node.iter, ast.Tuple):
+            found += node.iter.elts
+        elif isinstance(node, ast.For) and isinstance(node.iter, ast.Call):
+            found += [name for word in node.iter.args if isinstance(word, ast.Tuple) for name in word.elts]
+    return sorted(found, key=lambda call: (call.lineno, call.col_offset))
+
+
+def cases_of(trial: Callable) -> List[Case]:
+    """The cases of a trial: functions that begin with `try_` or take the trials first, of other modules too."""
+    found = {}
+    for call in calls_of(trial):
+        if isinstance(call, ast.Name):
+            home, key, name = trial.__globals__, call.id, call.id[4:] if call.id.startswith("try_") else call.id
+        elif isinstance(call, ast.Attribute) and isinstance(call.value, ast.Name):
+            module = trial.__globals__.get(call.value.id)
+            home, key, name = vars(module) if inspect.ismodule(module) else {}, call.attr, call.value.id
+        else:
+            continue
+        part = home.get(key)
+        first = [*inspect.signature(part).parameters][:1] if inspect.isfunction(part) else []
+        if key.startswith("try_") and part or first == ["trials"]:
+            found[name] = Case(name, home, key)
+    return [*found.values()] if len(found) > 1 else []
+
+
+def choose(script: str, cases: List[str]) -> List[str]:
+    """Takes `--only NAME` from the script's words, and gives the cases that it names. With `--list`, and where there is
+    no such case, it ends the script."""
+    if sys.argv[1:] == ["--list"]:
+        print(*cases, sep="\n")
+        sys.exit(0)
+    if "--only" not in sys.argv[1:-1]:
+        return cases
+    at = sys.argv.index("--only")
+    name, sys.argv[at : at + 2] = sys.argv[at + 1], []
+    chosen = [case for case in cases if name in case or fnmatchcase(case, name)]
+    if not chosen:
+        print(f"{os.path.basename(script)}: FAILED: no case has `{name}` in its name, and --list prints the cases")
+        print("0 passed, 1 failed")
+        sys.exit(1)
+    return chosen
+
+
+def choose_of(script: str, trial: Callable) -> None:
+    """The same of the functions that a trial calls: it then calls no others."""
+    cases = cases_of(trial)
+    chosen = choose(script, [case.name for case in cases] or [stem_of(script)])
+    for case in cases:
+        if case.name not in chosen:
+            case.leave_out(trial)
+
+
+def stem_of(script: str) -> str:
+    return os.path.splitext(os.path.basename(script))[0]
+
+
+def main_alone(script: str, trial: Callable[[], int]) -> int:
+    """Runs a trial that takes its own words, and gives the status to end with."""
+    choose_of(script, trial)
+    return trial()
+
+
+def main(script, trial, words=None, rows=None):
+    """Runs a trial on the program that the words name, and gives the status to end with. Rows are a list of names that
+    the trial goes through itself: these are its cases, and those that aren't chosen are taken from the list."""
     trials = Trials(script)
+    if rows:
+        rows[:] = choose(script, rows[:])
+    elif words is None:
+        choose_of(script, trial)
     words = sys.argv[1:] if words is None else words
     if len(words) != 1:
-        return usage(script)
+        return usage(script, "PROGRAM [--only NAME]")
     if not os.path.isfile(words[0]):
         trials.check("its one word is the path of the program", False, "it is not there")
         return trials.end()
@@ -77,24 +178,23 @@ def main(script, trial, words=None):
 
 
 def main_of_parts(script: str, parts: Dict[str, Callable]) -> int:
-    """Runs the parts of a trial, each in a folder of its own, or the one that the words name; says how much each tried and how long it took, and
-    gives the status to end with."""
-    words = sys.argv[1:]
-    if len(words) not in (1, 3) or words[1:2] not in ([], ["--only"]) or words[2:] not in ([], *([name] for name in parts)):
-        return usage(script, f"PROGRAM [--only {'|'.join(parts)}]")
+    """Runs the parts of a trial, each in a folder of its own; says how much each tried and how long it took, and gives
+    the status to end with."""
+    chosen = choose(script, [*parts])
 
     def trial(trials, program, room):
-        for name in words[2:] or parts:
+        for name in chosen:
             before, at = trials.passed + trials.failed, time.monotonic()
             os.mkdir(f"{room}/{name}")
             parts[name](trials, program, f"{room}/{name}")
             print(f"{trials.script}: {name}: {trials.passed + trials.failed - before} in {time.monotonic() - at:.1f} s", flush=True)
 
-    return main(script, trial, words[:1])
+    return main(script, trial, sys.argv[1:])
 
 
 def main_by_chance(script, cases, seed, trial):
     """Runs a trial that makes cases by chance, as many as its words say, and gives the status to end with."""
+    choose(script, [stem_of(script)])
     words, numbers = sys.argv[1:], sys.argv[2:]
     if not words or len(numbers) > 2 or not all(it.isdecimal() for it in numbers):
         return usage(script, "PROGRAM [CASES [SEED]]")

@@ -320,23 +320,19 @@ def trial(trials, program, room):
     # A minute of waiting goes on beside the others.
     with ThreadPoolExecutor(1) as pool:
         busy = pool.submit(always_busy, program, f"{room}/always")
-        try_all(trials, program, room)
+        try_library(trials, program, f"{room}/library")
+        try_rounds(trials, program, f"{room}/rounds")
+        for number, what in enumerate(SECOND):
+            try_both(trials, program, f"{room}/{number}", what)
+        try_held(trials, program, f"{room}/held")
+        try_stopped(trials, program, f"{room}/stopped")
+        try_busy(trials, program, f"{room}/busy")
+        for number, (what, line) in enumerate((what, line) for what in MOVED for line in (b"sync", b"recompact\ta\tb\tfirst\tsecond", b"restat\t9\ta")):
+            try_moved(trials, program, f"{room}/moved{number}", what, line)
+        # Where version 5 is asked for, the first line isn't looked at before an open.
+        for number, (what, words) in enumerate((what, words) for what in BETWEEN for words in ([], ["--log-version", "5"])):
+            try_between(trials, program, f"{room}/between{number}", what, words)
         try_always_busy(trials, f"{room}/always", *busy.result())
-
-
-def try_all(trials, program, room):
-    try_library(trials, program, f"{room}/library")
-    try_rounds(trials, program, f"{room}/rounds")
-    for number, what in enumerate(SECOND):
-        try_both(trials, program, f"{room}/{number}", what)
-    try_held(trials, program, f"{room}/held")
-    try_stopped(trials, program, f"{room}/stopped")
-    try_busy(trials, program, f"{room}/busy")
-    for number, (what, line) in enumerate((what, line) for what in MOVED for line in (b"sync", b"recompact\ta\tb\tfirst\tsecond", b"restat\t9\ta")):
-        try_moved(trials, program, f"{room}/moved{number}", what, line)
-    # Where version 5 is asked for, the first line isn't looked at before an open.
-    for number, (what, words) in enumerate((what, words) for what in BETWEEN for words in ([], ["--log-version", "5"])):
-        try_between(trials, program, f"{room}/between{number}", what, words)
 
 
 if __name__ == "__main__":

@@ -14,7 +14,7 @@ import tempfile
 from concurrent.futures import ThreadPoolExecutor
 
 from edits import QUIET, TOP, crates, kit_of
-from trials import Trials, write
+from trials import Trials, main_alone, write
 
 # Each part, with what is made of it.
 PARTS = {"nlog": "nlog.o", "nl_c": "libnl_c.a"}
@@ -65,4 +65,4 @@ def main():
 
 
 if __name__ == "__main__":
-    sys.exit(main())
+    sys.exit(main_alone(__file__, main))
