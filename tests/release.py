@@ -349,7 +349,7 @@ def try_without_toolchain(trials, room):
         return
     env = {**os.environ, "PATH": f"{room}/bin"}
     for words in (["install.sh", f"{room}/none"], ["lib/archive.sh", f"{room}/none.a"], ["lib/program.sh", f"{room}/none.a"],
-                  ["lib/proved.sh", "nlog", "x86_64"], ["nlog-unproved"], ["release.sh", f"{room}/none"], ["test.sh"]):
+                  ["lib/proved.sh", "nlog", "x86_64"], ["try"], ["release.sh", f"{room}/none"], ["test.sh"]):
         status, out, err = run([f"{TOP}/{words[0]}", *words[1:]], env=env)
         said, last = (out.decode(), "0 passed, 1 failed\n") if words == ["test.sh"] else (err.decode(), "")
         trials.check(f"{words[0]} without rt says so in one line", status == 1 and MISSING.fullmatch(said.removesuffix(last)) and said.endswith(last), (status, said))
