@@ -1,7 +1,7 @@
 -- What each word that changes a log does: what it reads and looks at, what becomes of LOG, and what it prints (docs/CLI.md).
-use Rattle.std.specs.Prelude.{◌≡◌, ◌⊎◌, ⊤, ℕ, Bool, false, List, [], Option, None, Some, Result, Ok, Err, IsSomeAnd, codes}
+use Rattle.std.specs.Prelude.{◌≡◌, ◌⊎◌, ◌<◌, ◌≤◌, ◌/◌, ◌++◌, ⊤, ℕ, Bool, false, List, [], Option, None, Some, Result, Ok, Err, IsSomeAnd, codes, decimal}
 use Rattle.std.specs.Borrow.{Bor}
-use Rattle.std.specs.Io.KnownBytes.{Keeps}
+use Rattle.std.specs.Io.KnownBytes.{Appends, Keeps}
 use Rattle.std.specs.IoError.{error_kind}
 use Rattle.std.specs.Result.{IsErrAnd}
 use Rattle.std.specs.declared.io.ErrorKind.TheVariants.{NotFound}
@@ -27,7 +27,7 @@ use Rattle.nl_tool_texts.specs.declared.fault.ToolFault.TheVariants.{Read, Memor
 use Rattle.nl_tool_words.specs.declared.words.Choices.{Choices}
 use Rattle.nl_tool_words.specs.declared.words.NewEntry.{NewEntry}
 use Rattle.nl_tool.specs.Ending.{verdict_of}
-use Rattle.nl_tool.specs.World.{World, GivesText, MayMiss, path_below, states_from}
+use Rattle.nl_tool.specs.World.{World, GivesText, MayMiss, path_below, said_line, states_from}
 use Rattle.nl_tool.specs.declared.program.Verdict.{Verdict}
 use Rattle.nl_tool.specs.declared.program.Verdict.TheVariants.{Done}
 
@@ -185,17 +185,33 @@ abbrev pub IsMendAnswer : Option Failure → Result Mended ToolFault → Result 
 IsMendAnswer last (Ok mended) result = result ≡ Ok (verdict_of mended.is_told)
 IsMendAnswer last (Err fault) result = (result ≡ Err fault) ⊎ ((fault ≡ Folder) × (result ≡ Ok Done) × IsSomeAnd last IsNoLog)
 
-pub record MendsBuild (w : World) (folder : Option (Bor (List ℕ))) (how : How) (last : Option Failure) (from to : Option (List ℕ))
-    (result : Result Verdict ToolFault) (found left : FolderView) : Type 0 where
+-- a line tells that fewer than one output in ten is here
+abbrev pub few_text : List ℕ → Mended → List ℕ
+few_text path mended =
+    codes "LOG " ++ (path ++ (codes ": " ++ (decimal mended.there ++ (codes " of " ++ (decimal mended.outputs ++ codes " outputs are here")))))
+
+abbrev pub SaysFew : List ℕ → Mended → Option (List ℕ) → Option (List ℕ) → Type 0
+SaysFew path mended said says =
+    ((mended.there < mended.outputs / 10) × Appends said says (said_line (few_text path mended)))
+    ⊎ ((mended.outputs / 10 ≤ mended.there) × Keeps said says)
+
+abbrev pub SaysFewOf : List ℕ → Result Mended ToolFault → Option (List ℕ) → Option (List ℕ) → Type 0
+SaysFewOf path (Ok mended) said says = SaysFew path mended said says
+SaysFewOf path (Err fault) said says = Keeps said says
+
+pub record MendsBuild (w : World) (path : List ℕ) (folder : Option (Bor (List ℕ))) (how : How) (last : Option Failure)
+    (said says from to : Option (List ℕ)) (result : Result Verdict ToolFault) (found left : FolderView) : Type 0 where
   pub answer : Result Mended ToolFault
   pub call : MendsFolder (states_from folder w.states) how from to answer found left
+  pub few : SaysFewOf path answer said says
   pub is : IsMendAnswer last answer result
 
 abbrev pub how_of : Choices → Bool → How
 how_of choices terminal = record { dry_run = choices.dry_run; all = choices.all; at_terminal = terminal }
 
-abbrev pub MendsAt : World → Option (Bor (List ℕ)) → Choices → Bool → Option Failure → Option (List ℕ) → Option (List ℕ)
-    → Result Verdict ToolFault → Option FolderView → Option FolderView → Type 0
-MendsAt w log choices terminal last from to result old new =
-    (Unasked (IsNoBuild w choices.folder) result old new × Keeps from to)
-    ⊎ IsSomeAnd new (MendsBuild w choices.folder (how_of choices terminal) last from to result (w.found (mended_log log choices.folder)))
+abbrev pub MendsAt : World → Option (Bor (List ℕ)) → Choices → Bool → Option Failure → Option (List ℕ) → Option (List ℕ) → Option (List ℕ)
+    → Option (List ℕ) → Result Verdict ToolFault → Option FolderView → Option FolderView → Type 0
+MendsAt w log choices terminal last said says from to result old new =
+    (Unasked (IsNoBuild w choices.folder) result old new × Keeps said says × Keeps from to)
+    ⊎ IsSomeAnd new (MendsBuild w (mended_log log choices.folder) choices.folder (how_of choices terminal) last said says from to result
+    (w.found (mended_log log choices.folder)))

@@ -17,14 +17,16 @@ use Rattle.nl_tool.specs.declared.printing.Printing.TheVariants as printing
 use Rattle.nl_tool.specs.declared.program.Verdict.{Verdict}
 use Rattle.nl_tool.specs.declared.program.Verdict.TheVariants.{Done}
 
--- what stands around a command: the world; what is asked for beside its words; what standard output had and has; the folder of LOG as it
--- was left, if it was asked; and what is noted of a refusal
+-- what stands around a command: the world; what is asked for beside its words; what standard error and standard output had and have; the
+-- folder of LOG as it was left, if it was asked; and what is noted of a refusal
 pub record Around : Type 0 where
   pub world : World
   pub asked : Option LogVersion
   pub missing_ok : Bool
   pub columns : Option ℕ
   pub terminal : Bool
+  pub said : Option (List ℕ)
+  pub says : Option (List ℕ)
   pub from : Option (List ℕ)
   pub to : Option (List ℕ)
   pub old : Option FolderView
@@ -71,4 +73,4 @@ IsRun a (words.Change Prune log file) result = PrunesAt a.world a.asked log file
 IsRun a (words.Change Retime log file) result = RetimesAt a.world a.asked log a.early a.last a.from a.to result a.old a.new
 IsRun a (words.Change Repair log file) result = Does (λ done. RepairsAt a.world a.asked log a.last done a.old a.new) result × (a.to ≡ a.from)
 IsRun a (words.Change Apply log file) result = Does (λ done. AppliesAt a.world a.asked log file a.from a.to done a.old a.new) result
-IsRun a (words.Mend log choices) result = MendsAt a.world log choices a.terminal a.last a.from a.to result a.old a.new
+IsRun a (words.Mend log choices) result = MendsAt a.world log choices a.terminal a.last a.said a.says a.from a.to result a.old a.new

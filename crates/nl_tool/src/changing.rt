@@ -4,7 +4,7 @@
 ghost use Rattle.std.specs.Prelude.{◌≡◌, Err, IfErr, IfOk, IsSomeAnd, IsTrue, OnOk, option_map, string_bytes};
 ghost use Rattle.nl_folder.specs.FolderView.{folder_view};
 ghost use Rattle.nl_tool_change.specs.{Faults.{IsApplyFault, IsEntryFault, IsRecompactFault, IsRestatFault}, RecordWords.{GiveEntry}};
-ghost use Rattle.nl_tool.specs.{Faults.{IsPruneFault, IsRepairFault, IsSettlingFault}, Changed.{AppliesAt, IsAnswerOf, IsNoLog, found_as, mended_log, MendsAt, PrunesAt, RecompactsAt, RecordsAt, RepairsAt, RestatsAt, RetimesAt}};
+ghost use Rattle.nl_tool.specs.{Faults.{IsPruneFault, IsRepairFault, IsSettlingFault}, Changed.{AppliesAt, IsAnswerOf, IsNoLog, found_as, mended_log, MendsAt, PrunesAt, RecompactsAt, RecordsAt, RepairsAt, RestatsAt, RetimesAt, SaysFew}};
 ghost use Rattle.nl_tool.specs.World.{MayMiss};
 ghost use Rattle.nl_tool_doubt.specs.Mending.{IsMendFault};
 ghost use Rattle.nl_tool_texts.specs.declared.fault.ToolFault.{ToolFault};
@@ -19,7 +19,7 @@ use nl_tool_change::{
     Hears, LineFault, apply_on, entry_of, read_manifest, recompact_telling, record_command,
     restat_telling,
 };
-use nl_tool_doubt::{FileState, How, mend_to, prune_to, repair_to, retime_to};
+use nl_tool_doubt::{FileState, How, Mended, mend_to, prune_to, repair_to, retime_to};
 use nl_tool_texts::{AllocResult, ToolFault, ToolResult};
 use nl_tool_words::{Choices, NewEntry};
 use std::alloc::Global;
@@ -163,7 +163,7 @@ impl<H: Host + Logs<L>, L: LogFolder, W: Write, E: Errors> Desk<'_, H, L, W, E> 
     /// Without a path, LOG is the `.ninja_log` of the build's folder.
     pub fn mend_in(&mut self, log: Option<&str>, choices: Choices<'_>) -> ToolResult<Verdict>
         ensures call { MendsAt (H.world self.old.host.now) log.entry choices.entry self.old.notes.screen.output self.new.notes.folder
-            (W.contents self.old.out) (W.contents self.new.out) result
+            (E.said self.old.errors) (E.said self.new.errors) (W.contents self.old.out) (W.contents self.new.out) result
             (option_map (folder_view L.Folder) self.old.left) (option_map (folder_view L.Folder) self.new.left) }
         ensures faults { IfErr result IsMendFault }
     {
@@ -188,17 +188,13 @@ impl<H: Host + Logs<L>, L: LogFolder, W: Write, E: Errors> Desk<'_, H, L, W, E> 
         if lacks_log(&answer, &mut self.notes) {
             return Ok(Verdict::Done);
         }
-        let mended = match answer {
-            Ok(mended) => mended,
-            Err(fault) => return Err(fault),
-        };
-        // If few outputs have a file, the folder may be that of another build.
-        let (outputs, there) = (mended.outputs, mended.there);
-        if there < outputs / FEW {
-            let few = format_args!("LOG {log}: {there} of {outputs} outputs are here");
-            self.errors.say(few);
+        match answer {
+            Ok(mended) => {
+                say_few(&mut self.errors, log.as_str(), mended);
+                Ok(Verdict::of(mended.is_told))
+            }
+            Err(fault) => Err(fault),
         }
-        Ok(Verdict::of(mended.is_told))
     }
 }
 
@@ -219,6 +215,16 @@ fn mended_log(alloc: Global, log: Option<&str>, folder: Option<&str>) -> AllocRe
         (Some(log), _) => String::from_str(alloc, log),
         (None, Some(folder)) => format!(in alloc; "{folder}/.ninja_log"),
         (None, None) => String::from_str(alloc, ".ninja_log"),
+    }
+}
+
+// If few outputs have a file, the folder may be that of another build.
+fn say_few<E: Errors>(errors: &mut E, log: &str, mended: Mended)
+    ensures says { SaysFew log.now mended (E.said errors.old) (E.said errors.new) }
+{
+    let (outputs, there) = (mended.outputs, mended.there);
+    if there < outputs / FEW {
+        errors.say(format_args!("LOG {log}: {there} of {outputs} outputs are here"));
     }
 }
 

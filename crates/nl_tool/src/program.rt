@@ -172,6 +172,8 @@ pub fn run_at<H: Host + Logs<L>, L: LogFolder, W: Write, E: Errors>(
       missing_ok = desk.old.missing_ok;
       columns = desk.old.columns;
       terminal = desk.old.notes.screen.output;
+      said = E.said desk.old.errors;
+      says = E.said desk.new.errors;
       from = W.contents desk.old.out;
       to = W.contents desk.new.out;
       old = option_map (folder_view L.Folder) desk.old.left;
