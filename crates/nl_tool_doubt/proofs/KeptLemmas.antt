@@ -1,6 +1,6 @@
 -- What is left of the log that was read.
 use Rattle.std.proofs.Common.{◌≡◌, ◌∙◌, ◌++◌, ◌≤◌, ℕ, ℤ, Bool, true, false, cond, not, List, [], ◌∷◌, length, Option, None, Some, refl, sym, ap, subst, arith, inl, inr}
-use Rattle.std.proofs.Common.{Result, Ok, Err, bytes_eq, map}
+use Rattle.std.proofs.Common.{FitsSigned, Result, Ok, Err, bytes_eq, map, w64}
 use Rattle.std.specs.Prelude.{IfOk, IfSome, IsSomeAnd, ◌||◌, ◌&&◌}
 use Rattle.std.specs.Global.{Vec}
 use Rattle.std.specs.List.{All, flat_map}
@@ -24,11 +24,12 @@ use Rattle.nl_table.specs.History.{History, Then, Update, holds, last_mtime, log
 use Rattle.nl_table.specs.Log.{Log, LogReading, NotALog, OtherVersion, history_of, history_of_log, log_of}
 use Rattle.nl_table.specs.LogText.{lines_of_entries, text_of}
 use Rattle.nl_table.specs.LogUser.{forget_dead}
-use Rattle.nl_table.specs.Table.{AreDistinct, entry_named, entry_names, touched_table}
+use Rattle.nl_table.specs.Table.{AreDistinct, IsTable, entry_named, entry_names, touched_table}
 use Rattle.nl_table.proofs.HistoryLemmas.{same_bytes}
 use Rattle.nl_table.proofs.LogLemmas.{log_fits, log_of-version}
 use Rattle.nl_table.proofs.LogTextLemmas.{log_of-text, table-logged}
-use Rattle.nl_table.proofs.NameLemmas.{bytes_eq_comm, distinct-table, named-touched}
+use Rattle.nl_table.proofs.NameLemmas.{bytes_eq_comm, distinct-table, named-touched, without_mtimes-touched}
+use Rattle.nl_table.proofs.TouchLemmas.{IsTable-touched}
 use Rattle.nl_table.proofs.ValidLemmas.{forget_valid, logged_valid}
 use Rattle.nl_folder.specs.CrashImages.{IsDisk}
 use Rattle.nl_folder.specs.DiskState.{Disk, File, durable_disk}
@@ -52,9 +53,9 @@ use Rattle.nl_tool_change.specs.Calls.{ChangesLogFor, keeping, touching}
 use Rattle.nl_tool_change.specs.Updates.{IsUpdated, dead_but, none_dead}
 use Rattle.nl_tool_doubt.specs.Doubts.{AreLooked, IsSaidOf}
 use Rattle.nl_tool_doubt.specs.Judging.{is_present}
-use Rattle.nl_tool_doubt.specs.Kept.{KeepsIntents, KeepsNamed, KeepsThere, TakesTimes, table_read, timed}
+use Rattle.nl_tool_doubt.specs.Kept.{IsTextWith, KeepsButTimes, KeepsIntents, KeepsNamed, KeepsThere, TakesTimes, table_read, timed}
 use Rattle.nl_tool_doubt.specs.Settling.{AreTimes, FindsKept, FindsTimes, IsMade, MakesFound, Settles, SettlesRead, is_nothing}
-use Rattle.nl_tool_doubt.specs.There.{KeepsMost, learned, name_by, pair_by, table_in}
+use Rattle.nl_tool_doubt.specs.There.{FitEntries, KeepsMost, learned, name_by, pair_by, table_in}
 use Rattle.nl_tool_doubt.specs.declared.files.FileState.{FileState}
 use Rattle.nl_tool_doubt.specs.declared.files.FileState.TheVariants.{Missing, Directory, Written, Unknown}
 use Rattle.nl_tool_doubt.specs.declared.files.Looked.{Looked}
@@ -174,6 +175,18 @@ changed made old new d n gs there call reads = go (log_of seen) refl (left_text 
         let same : logged m fs ≡ logged n gs = cc tables in
         subst (λ (h : History). IsSomeAnd new.disk (λ e. as_five e.visible ≡ text_of (made (table h)))) same
         (back new.disk (made (table (logged m fs))) (shown new.disk (text_of (made (table (logged m fs)))) left.scratch left.is))
+
+-- a load finds the table whose text the log is
+module _ (Holds : List Entry → Type 0) (fs : List Entry) (valid : All IsEntry fs) (apart : IsTable fs) (holds : Holds fs) where
+  text_left : (disk : Option Disk) → IsSomeAnd disk (λ e. as_five e.visible ≡ text_of fs) → IsSomeAnd disk (IsTextWith Holds)
+  text_left None text = absurd text
+  text_left (Some e) text = record { table = fs; text = text; reads = reads; holds = holds }
+    where
+      reads : IsDisk e → table_read e.visible ≡ Some fs
+      reads honest =
+          let fits : length (text_of fs) ≤ max_log =
+          omega (arith, ap length text, length-as_version_from (version_of e.visible) 0 e.visible, visible_fits e honest) in
+          ap (λ (bs : List ℕ). table_in (log_of bs)) text ∙ ap table_in (log_of-text fs valid fits) ∙ ap Some (table-logged 5 fs apart)
 
 -- ---- who is kept
 
@@ -393,48 +406,35 @@ module _ {asked : Option LogVersion} {targets : List (List ℕ)} {states : Optio
   -- and what is left holds by what was kept
   pruned_leaves : (Holds : List Entry → List Entry → Type 0)
       → ((es : List Entry) (set : List (List ℕ)) → KeepsMost es states targets set → Holds es (survivors (dead_but set) es))
-      → IfSome new.disk IsDisk
-      → IsSomeAnd (table_read d.visible) (λ es. IsSomeAnd new.disk (λ e. IsSomeAnd (table_read e.visible) (λ fs. Holds es fs)))
-  pruned_leaves Holds keeps honest = go (log_of (as_five d.visible)) refl pruned_by.reads
+      → IsSomeAnd (table_read d.visible) (λ es. IsSomeAnd new.disk (IsTextWith (Holds es)))
+  pruned_leaves Holds keeps = go (log_of (as_five d.visible)) refl pruned_by.reads
     where
-      left : (n : ℕ) (gs : List Entry) (set : List (List ℕ)) → log_of (as_five d.visible) ≡ Log n gs → (disk : Option Disk) → IfSome disk IsDisk
-          → IsSomeAnd disk (λ e. as_five e.visible ≡ text_of (survivors (dead_but set) (table (logged n gs))))
-          → IsSomeAnd disk (λ e. table_read e.visible ≡ Some (survivors (dead_but set) (table (logged n gs))))
-      left n gs set reads None honest text = absurd text
-      left n gs set reads (Some e) honest text =
+      left : (n : ℕ) (gs : List Entry) (set : List (List ℕ)) → log_of (as_five d.visible) ≡ Log n gs
+          → All IsEntry (survivors (dead_but set) (table (logged n gs))) × IsTable (survivors (dead_but set) (table (logged n gs)))
+      left n gs set reads =
           let h : History = logged n gs in
-          let fs : List Entry = survivors (dead_but set) (table h) in
-          let made : fs ≡ table (Then h (forget_dead (dead_but set) h)) = kept_is (dead_but set) h in
-          let valid : All IsEntry fs = subst (All IsEntry) (sym made) (forget_valid (dead_but set) h (logged_valid (as_five d.visible) n gs reads)) in
-          let apart : AreDistinct (entry_names fs) = subst (λ (es : List Entry). AreDistinct (entry_names es)) (sym made)
-          (distinct-table (Then h (forget_dead (dead_but set) h))) in
-          let fits : length (text_of fs) ≤ max_log =
-          omega (arith, ap length text, length-as_version_from (version_of e.visible) 0 e.visible, visible_fits e honest) in
-          ap (λ (bs : List ℕ). table_in (log_of bs)) text ∙ ap table_in (log_of-text fs valid fits) ∙ ap Some (table-logged 5 fs apart)
-
-      held : (es : List Entry) (fs : List Entry) → Holds es fs → (disk : Option Disk) → IsSomeAnd disk (λ e. table_read e.visible ≡ Some fs)
-          → IsSomeAnd disk (λ e. IsSomeAnd (table_read e.visible) (λ fs. Holds es fs))
-      held es fs holds None is = absurd is
-      held es fs holds (Some e) is = subst (λ (t : Option (List Entry)). IsSomeAnd t (λ fs. Holds es fs)) (sym is) holds
+          let made : survivors (dead_but set) (table h) ≡ table (Then h (forget_dead (dead_but set) h)) = kept_is (dead_but set) h in (
+            subst (All IsEntry) (sym made) (forget_valid (dead_but set) h (logged_valid (as_five d.visible) n gs reads)),
+            subst IsTable (sym made) (distinct-table (Then h (forget_dead (dead_but set) h))),
+          )
 
       go : (r : LogReading) → log_of (as_five d.visible) ≡ r → table_in r ≡ Some pruned_by.es
-          → IsSomeAnd (table_in r) (λ es. IsSomeAnd new.disk (λ e. IsSomeAnd (table_read e.visible) (λ fs. Holds es fs)))
+          → IsSomeAnd (table_in r) (λ es. IsSomeAnd new.disk (IsTextWith (Holds es)))
       go NotALog reads none = absurd (cc none)
       go OtherVersion reads none = absurd (cc none)
       go (Log n gs) reads is =
           let same : table (logged n gs) ≡ pruned_by.es = cc is in
-          held (table (logged n gs)) (survivors (dead_but pruned_by.set) (table (logged n gs)))
+          let fits = left n gs pruned_by.set reads in
+          text_left (Holds (table (logged n gs))) (survivors (dead_but pruned_by.set) (table (logged n gs))) fits.0 fits.1
           (keeps (table (logged n gs)) pruned_by.set
           (subst (λ (es : List Entry). KeepsMost es states targets pruned_by.set) (sym same) pruned_by.most)) new.disk
-          (left n gs pruned_by.set reads new.disk honest
-          (changed (survivors (dead_but pruned_by.set)) pruned_by.between new d n gs pruned_by.there pruned_by.call reads))
+          (changed (survivors (dead_but pruned_by.set)) pruned_by.between new d n gs pruned_by.there pruned_by.call reads)
 
-  pub targets_stay : IfSome new.disk IsDisk
-      → IsSomeAnd (table_read d.visible) (λ es. IsSomeAnd new.disk (λ e. IsSomeAnd (table_read e.visible) (λ fs. KeepsNamed targets es fs)))
+  pub targets_stay : IsSomeAnd (table_read d.visible) (λ es. IsSomeAnd new.disk (IsTextWith (KeepsNamed targets es)))
   targets_stay = pruned_leaves (KeepsNamed targets) (λ es set most. keeps_targets most)
 
-  pub there_stay : (state_of : List ℕ → FileState) → states ≡ Some state_of → IfSome new.disk IsDisk
-      → IsSomeAnd (table_read d.visible) (λ es. IsSomeAnd new.disk (λ e. IsSomeAnd (table_read e.visible) (λ fs. KeepsThere targets state_of es fs)))
+  pub there_stay : (state_of : List ℕ → FileState) → states ≡ Some state_of
+      → IsSomeAnd (table_read d.visible) (λ es. IsSomeAnd new.disk (IsTextWith (KeepsThere targets state_of es)))
   there_stay state_of known = pruned_leaves (KeepsThere targets state_of) (λ es set most. keeps_there most state_of known)
 
 -- ---- `retime`
@@ -499,6 +499,29 @@ retimed_intents states times es apart are name e first intent =
     ∙ no_pair are.looked name (subst (All (IsIntentOf name)) (sym are.looks.are) all) in
     named-touched times es name ∙ ap (λ (o : Option ℤ). option_map (with_mtime o) (entry_named es name)) none
     ∙ ap (option_map (with_mtime None)) first
+
+-- the last time of a name is one of the times
+last_fits : (times : List (List ℕ × ℤ)) → FitEntries times → (name : List ℕ) → IfSome (last_mtime times name) (λ time. FitsSigned w64 time)
+last_fits [] fit name = tt
+last_fits (pair ∷ times) fit name =
+    go (last_mtime times name) (bytes_eq pair.0 name) (last_fits times (All-tail (λ (p : List ℕ × ℤ). FitsSigned w64 p.1) pair times fit) name)
+  where
+    go : (later : Option ℤ) (b : Bool) → IfSome later (λ time. FitsSigned w64 time)
+        → IfSome (option_or later (cond b (Some pair.1) None)) (λ time. FitsSigned w64 time)
+    go (Some time) b rest = rest
+    go None true rest = All-head (λ (p : List ℕ × ℤ). FitsSigned w64 p.1) pair times fit
+    go None false rest = tt
+
+touched_valid : (times : List (List ℕ × ℤ)) → FitEntries times → (es : List Entry) → All IsEntry es → All IsEntry (touched_table times es)
+touched_valid times fit [] valid = All-nil IsEntry
+touched_valid times fit (e ∷ es) valid =
+    All-cons IsEntry (with_mtime (last_mtime times e.name) e) (touched_table times es)
+    (one (last_mtime times e.name) (last_fits times fit e.name) (All-head IsEntry e es valid))
+    (touched_valid times fit es (All-tail IsEntry e es valid))
+  where
+    one : (time : Option ℤ) → IfSome time (λ time. FitsSigned w64 time) → IsEntry e → IsEntry (with_mtime time e)
+    one None fits is = is
+    one (Some time) fits is = record { start_ms = is.start_ms; end_ms = is.end_ms; mtime = fits; name = is.name; hash = is.hash }
 
 -- the time that an output gets, if it does
 abbrev time_in : FileState → Entry → Option ℤ
@@ -600,42 +623,41 @@ module _ {asked : Option LogVersion} {states : Option (List ℕ → FileState)} 
     {Stays : Type 0} {old new : FolderView} (s : Settles (FindsTimes asked states from to early) Stays asked (Ok false) old new)
     (d : Disk) (is : old.disk ≡ Some d) where
   retimed_leaves : (Holds : List Entry → List Entry → Type 0)
-      → ((es : List Entry) (times : List (List ℕ × ℤ)) → AreDistinct (entry_names es) → AreTimes states es times → Holds es (touched_table times es))
-      → IsSomeAnd (table_read d.visible) (λ es. IsSomeAnd new.disk (λ e. (fs : List Entry) × (as_five e.visible ≡ text_of fs) × Holds es fs))
+      → ((es : List Entry) (times : List (List ℕ × ℤ)) → IsTable es → AreTimes states es times → Holds es (touched_table times es))
+      → IsSomeAnd (table_read d.visible) (λ es. IsSomeAnd new.disk (IsTextWith (Holds es)))
   retimed_leaves Holds takes = by_due m.due m.some m.finds m.is
     where
       m : Made (FindsTimes asked states from to early) asked old new d
       m = made_by s d is
 
-      held : (es fs : List Entry) → Holds es fs → (disk : Option Disk) → IsSomeAnd disk (λ e. as_five e.visible ≡ text_of fs)
-          → IsSomeAnd disk (λ e. (fs : List Entry) × (as_five e.visible ≡ text_of fs) × Holds es fs)
-      held es fs holds None is = absurd is
-      held es fs holds (Some e) is = (fs, is, holds)
-
       go : (times : List (List ℕ × ℤ)) (es : List Entry) → ChangesLogFor asked (λ _. touching times) (Ok tt) m.between new
-          → AreTimes states es times → (r : LogReading) → log_of (as_five d.visible) ≡ r → table_in r ≡ Some es
-          → IsSomeAnd (table_in r) (λ es. IsSomeAnd new.disk (λ e. (fs : List Entry) × (as_five e.visible ≡ text_of fs) × Holds es fs))
-      go times es call are NotALog reads none = absurd (cc none)
-      go times es call are OtherVersion reads none = absurd (cc none)
-      go times es call are (Log n gs) reads is =
+          → AreTimes states es times → FitEntries times → (r : LogReading) → log_of (as_five d.visible) ≡ r → table_in r ≡ Some es
+          → IsSomeAnd (table_in r) (λ es. IsSomeAnd new.disk (IsTextWith (Holds es)))
+      go times es call are fit NotALog reads none = absurd (cc none)
+      go times es call are fit OtherVersion reads none = absurd (cc none)
+      go times es call are fit (Log n gs) reads is =
           let same : table (logged n gs) ≡ es = cc is in
-          held (table (logged n gs)) (touched_table times (table (logged n gs)))
-          (takes (table (logged n gs)) times (distinct-table (logged n gs))
-          (subst (λ (es : List Entry). AreTimes states es times) (sym same) are)) new.disk
+          let apart : IsTable (table (logged n gs)) = distinct-table (logged n gs) in
+          text_left (Holds (table (logged n gs))) (touched_table times (table (logged n gs)))
+          (touched_valid times fit (table (logged n gs)) (logged_valid (as_five d.visible) n gs reads))
+          (IsTable-touched times (table (logged n gs)) apart)
+          (takes (table (logged n gs)) times apart (subst (λ (es : List Entry). AreTimes states es times) (sym same) are)) new.disk
           (changed (touched_table times) m.between new d n gs m.there call reads)
 
       by_due : (due : Due) → is_nothing due ≡ false → FindsTimes asked states from to early d.visible (Ok due)
           → IsMade asked due (Ok tt) m.between new
-          → IsSomeAnd (table_read d.visible) (λ es. IsSomeAnd new.disk (λ e. (fs : List Entry) × (as_five e.visible ≡ text_of fs) × Holds es fs))
+          → IsSomeAnd (table_read d.visible) (λ es. IsSomeAnd new.disk (IsTextWith (Holds es)))
       by_due Nothing some finds made = absurd (cc some)
       by_due (Keep set) some finds made = absurd finds.2
-      by_due (Touch times) some finds made = go times.items finds.0 made finds.2.0 (log_of (as_five d.visible)) refl finds.1.reads
+      by_due (Touch times) some finds made = go times.items finds.0 made finds.2.0 finds.2.2 (log_of (as_five d.visible)) refl finds.1.reads
       by_due (Mend version names) some finds made = absurd finds.2
 
-  pub intents_stay : IsSomeAnd (table_read d.visible)
-      (λ es. IsSomeAnd new.disk (λ e. (fs : List Entry) × (as_five e.visible ≡ text_of fs) × KeepsIntents es fs))
+  pub entries_stay : IsSomeAnd (table_read d.visible) (λ es. IsSomeAnd new.disk (IsTextWith (KeepsButTimes es)))
+  entries_stay = retimed_leaves KeepsButTimes (λ es times apart are. without_mtimes-touched times es)
+
+  pub intents_stay : IsSomeAnd (table_read d.visible) (λ es. IsSomeAnd new.disk (IsTextWith (KeepsIntents es)))
   intents_stay = retimed_leaves KeepsIntents (λ es times. retimed_intents states times es)
 
-  pub times_taken : (state_of : List ℕ → FileState) → states ≡ Some state_of → IsSomeAnd (table_read d.visible)
-      (λ es. IsSomeAnd new.disk (λ e. (fs : List Entry) × (as_five e.visible ≡ text_of fs) × TakesTimes state_of es fs))
+  pub times_taken : (state_of : List ℕ → FileState) → states ≡ Some state_of
+      → IsSomeAnd (table_read d.visible) (λ es. IsSomeAnd new.disk (IsTextWith (TakesTimes state_of es)))
   times_taken state_of known = retimed_leaves (TakesTimes state_of) (λ es times. retimed_times states state_of known times es)

@@ -1,11 +1,11 @@
 -- What `prune` and `retime` leave of the log that they read: docs/PROMISES.md.
-use Rattle.std.specs.Prelude.{◌≡◌, ◌||◌, ℕ, true, List, Option, None, Some, IfSome, IsSomeAnd, option_map, if◌then◌else◌}
+use Rattle.std.specs.Prelude.{◌≡◌, ◌||◌, ℕ, true, List, Option, None, Some, IsSomeAnd, option_map, if◌then◌else◌}
 use Rattle.nl_fields.specs.declared.entry.Entry.{Entry}
 use Rattle.nl_fields.specs.Intent.{is_intent}
 use Rattle.nl_table.specs.History.{holds}
 use Rattle.nl_table.specs.Log.{log_of}
 use Rattle.nl_table.specs.LogText.{text_of}
-use Rattle.nl_table.specs.Table.{entry_named}
+use Rattle.nl_table.specs.Table.{entry_named, without_mtimes}
 use Rattle.nl_folder.specs.CrashImages.{IsDisk}
 use Rattle.nl_folder.specs.DiskState.{Disk}
 use Rattle.nl_folder.specs.FolderView.{FolderView}
@@ -19,15 +19,16 @@ use Rattle.nl_tool_doubt.specs.declared.files.FileState.TheVariants.{Written}
 abbrev pub table_read : List ℕ → Option (List Entry)
 table_read bytes = table_in (log_of (as_five bytes))
 
--- in an honest folder there was a table and there is one, and this holds of both
-abbrev pub LeavesTable : (List Entry → List Entry → Type 0) → FolderView → FolderView → Type 0
-LeavesTable Holds old new = (d : Disk) → old.disk ≡ Some d → IfSome new.disk IsDisk
-    → IsSomeAnd (table_read d.visible) (λ es. IsSomeAnd new.disk (λ e. IsSomeAnd (table_read e.visible) (λ fs. Holds es fs)))
+-- the log is the text of a table, which is what a load of it finds, and this holds of that table
+pub record IsTextWith (Holds : List Entry → Type 0) (d : Disk) : Type 0 where
+  pub table : List Entry
+  pub text : as_five d.visible ≡ text_of table
+  pub reads : IsDisk d → table_read d.visible ≡ Some table
+  pub holds : Holds table
 
--- in an honest folder there was a table, the log is the text of one, and this holds of both
-abbrev pub LeavesText : (List Entry → List Entry → Type 0) → FolderView → FolderView → Type 0
-LeavesText Holds old new = (d : Disk) → old.disk ≡ Some d
-    → IsSomeAnd (table_read d.visible) (λ es. IsSomeAnd new.disk (λ e. (fs : List Entry) × (as_five e.visible ≡ text_of fs) × Holds es fs))
+-- in an honest folder there was a table and there is the text of one, and this holds of both
+abbrev pub LeavesTable : (List Entry → List Entry → Type 0) → FolderView → FolderView → Type 0
+LeavesTable Holds old new = (d : Disk) → old.disk ≡ Some d → IsSomeAnd (table_read d.visible) (λ es. IsSomeAnd new.disk (IsTextWith (Holds es)))
 
 abbrev pub KeepsNamed : List (List ℕ) → List Entry → List Entry → Type 0
 KeepsNamed names es fs = (name : List ℕ) → holds names name ≡ true → entry_named fs name ≡ entry_named es name
@@ -45,6 +46,10 @@ KeepsIntents es fs = (name : List ℕ) (e : Entry) → entry_named es name ≡ S
 abbrev pub timed : FileState → Entry → Entry
 timed (Written t) e = if is_intent e then e else record e { mtime = t.written }
 timed file e = e
+
+-- the entries in their order, each as it was but for its time
+abbrev pub KeepsButTimes : List Entry → List Entry → Type 0
+KeepsButTimes es fs = without_mtimes fs ≡ without_mtimes es
 
 -- an entry of an output whose file has a time has that time, if it is no intent, and every other stays as it is
 abbrev pub TakesTimes : (List ℕ → FileState) → List Entry → List Entry → Type 0

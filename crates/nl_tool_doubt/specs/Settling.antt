@@ -16,7 +16,7 @@ use Rattle.nl_tool_texts.specs.declared.fault.ToolFault.TheVariants.{NotALog, Ot
 use Rattle.nl_tool_print.specs.Streams.{IsSoFar, damage_text_of}
 use Rattle.nl_tool_change.specs.Calls.{ChangesLogFor, IsFree, keeping, touching}
 use Rattle.nl_tool_change.specs.Mending.{MendsLogAs, ReadsWhole}
-use Rattle.nl_tool_doubt.specs.There.{AddsFor, KeepsMost, LosesMost, pair_by, table_in}
+use Rattle.nl_tool_doubt.specs.There.{AddsFor, FitEntries, KeepsMost, LosesMost, pair_by, table_in}
 use Rattle.nl_tool_doubt.specs.declared.files.FileState.{FileState}
 use Rattle.nl_tool_doubt.specs.declared.settling.Due.{Due}
 use Rattle.nl_tool_doubt.specs.declared.settling.Due.TheVariants.{Nothing, Keep, Touch, Mend}
@@ -123,7 +123,7 @@ abbrev pub AreTimes : Option (List ℕ → FileState) → List Entry → List (L
 AreTimes states table times = AddsFor pair_by table states [] times
 
 abbrev pub TimesFound : Option (List ℕ → FileState) → List Entry → Due → Type 0
-TimesFound states table (Touch times) = AreTimes states table times.items × NoneNegative times.items
+TimesFound states table (Touch times) = AreTimes states table times.items × NoneNegative times.items × FitEntries times.items
 TimesFound states table _ = ⊥
 
 -- the first of the times that is negative, and its output

@@ -1,6 +1,7 @@
 -- What is learned of the files of outputs (docs/CLI.md, "recompact", "restat").
-use Rattle.std.specs.Prelude.{if◌then◌else◌, ◌≡◌, ◌++◌, ◌∷◌, ◌<◌, ◌≤◌, ◌*◌, [], ℕ, ℤ, Bool, List, length, Option, None, Some}
-use Rattle.std.specs.List.{count_by, flat_map}
+use Rattle.std.specs.Prelude.{if◌then◌else◌, ◌≡◌, ◌++◌, ◌∷◌, ◌<◌, ◌≤◌, ◌*◌, [], ℕ, ℤ, Bool, FitsSigned, List, length, Option, None, Some}
+use Rattle.std.specs.Int.{w64}
+use Rattle.std.specs.List.{All, count_by, flat_map}
 use Rattle.nl_fields.specs.declared.entry.Entry.{Entry}
 use Rattle.nl_fields.specs.Intent.{is_intent}
 use Rattle.nl_table.specs.History.{holds, logged, table}
@@ -25,6 +26,10 @@ name_by e file = e.name ∷ []
 abbrev pub pair_by : Entry → FileState → List (List ℕ × ℤ)
 pair_by e (Written t) = if is_intent e then [] else (e.name, t.written) ∷ []
 pair_by e file = []
+
+-- the time of each is one that an entry can have
+abbrev pub FitEntries : List (List ℕ × ℤ) → Type 0
+FitEntries pairs = All (λ (pair : List ℕ × ℤ). FitsSigned w64 pair.1) pairs
 
 abbrev pub learned : {X : Type 0} → (Entry → FileState → List X) → Looked → List X
 learned by l = by l.entry l.file

@@ -1,6 +1,6 @@
 //! What the files of a log's outputs are: which are there, and when each was written.
-ghost use Rattle.std.specs.Prelude.{◌≡◌, ℕ, List, Option, IfOk, IfSome, ◌++◌, ◌⊎◌, [], IfErr, IsErrOf, OnOk, flat_map};
-ghost use Rattle.nl_tool_doubt.specs.{Doubts.{AreLooked}, Judging.{is_present, is_written, was_moved}, declared.files.FileState.{FileState}, There.{AddsFor, KeepsMost, LosesMost, learned, name_by, pair_by}};
+ghost use Rattle.std.specs.{Prelude.{◌≡◌, ℕ, List, Option, IfOk, IfSome, ◌++◌, ◌⊎◌, [], FitsSigned, IfErr, IsErrOf, OnOk, flat_map}, Int.{w64}};
+ghost use Rattle.nl_tool_doubt.specs.{Doubts.{AreLooked}, Judging.{is_present, is_written, was_moved}, declared.files.FileState.{FileState}, There.{AddsFor, FitEntries, KeepsMost, LosesMost, learned, name_by, pair_by}};
 ghost use Rattle.nl_tool_texts.specs.declared.fault.ToolFault.{ToolFault};
 
 use nl_fields::{Entry, EntryRef, Name, is_intent};
@@ -118,6 +118,7 @@ pub(crate) fn times_there<F: OutputFiles>(
     files: &F,
 ) -> AllocResult<Vec<(Name, i64)>>
     ensures given { IfOk result (λ times. AddsFor pair_by table.now (F.states files.now) [] times.items) }
+    ensures fit { IfOk result (λ times. FitEntries times.items) }
 {
     let looked = look_all(alloc, table, files)?;
     times_of(alloc, looked.as_slice())
@@ -136,6 +137,7 @@ fn add_names(alloc: Global, looked: &[Looked], names: &mut Vec<Name>) -> AllocRe
 
 fn times_of(alloc: Global, looked: &[Looked]) -> AllocResult<Vec<(Name, i64)>>
     ensures items { IfOk result (λ times. times.items ≡ flat_map (learned pair_by) looked.now) }
+    ensures fit { IfOk result (λ times. FitEntries times.items) }
 {
     let mut times = Vec::new(alloc);
     for it in looked {
@@ -143,8 +145,15 @@ fn times_of(alloc: Global, looked: &[Looked]) -> AllocResult<Vec<(Name, i64)>>
             continue;
         };
         if !is_intent(&it.entry) {
-            times.push((Entry::of(alloc, &it.entry)?.name, at.written))?;
+            times.push(timed(Entry::of(alloc, &it.entry)?.name, at.written))?;
         }
     }
     Ok(times)
+}
+
+fn timed(name: Name, mtime: i64) -> (Name, i64)
+    ensures value { result ≡ (name, mtime) }
+    ensures fits { FitsSigned w64 mtime }
+{
+    (name, mtime)
 }

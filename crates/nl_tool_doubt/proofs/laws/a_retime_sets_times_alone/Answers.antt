@@ -1,6 +1,9 @@
 use Rattle.std.proofs.Common.{refl}
-use Rattle.nl_tool_doubt.proofs.KeptLemmas.{intents_stay, times_taken, told_stays}
+use Rattle.nl_tool_doubt.proofs.KeptLemmas.{entries_stay, intents_stay, times_taken, told_stays}
 use Rattle.nl_tool_doubt.proofs.laws.a_retime_sets_times_alone.Goals as goal
+
+pub returns-clause-entries : goal.returns-clause-entries
+returns-clause-entries c = λ asked states from to early old new s d is. entries_stay s d is
 
 pub returns-clause-intents : goal.returns-clause-intents
 returns-clause-intents c = λ asked states from to early old new s d is. intents_stay s d is
