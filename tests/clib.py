@@ -1541,7 +1541,8 @@ def by_the_rules_of_the_program(trials, made, room):
                 for end in full_disk.ENDS:
                     full_disk.try_full(trials, made["tool"], f"{folder}/disk", command, end)
             for kind, start in full_disk.REPAIRS.items():
-                full_disk.try_repair(trials, made["tool"], f"{folder}/disk", kind, start)
+                # (its open cuts a torn line before the rewriting)
+                full_disk.try_repair(trials, made["tool"], f"{folder}/disk", kind, start, start[: full_disk.Log(start).whole])
         finally:
             run(["umount", f"{folder}/disk"])
 

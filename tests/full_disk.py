@@ -61,15 +61,16 @@ def repair():
     return re.search(r"repeat `nlog (repair LOG)`", read(f"{TOP}/docs/DAMAGE.md").decode())[1].split()
 
 
-def try_repair(trials, program, disk, kind, start):
-    """The repair that the pages name, on a full disk and then on one with room: no entry is lost, and the log is a new file."""
+def try_repair(trials, program, disk, kind, start, left):
+    """The repair that the pages name, on a full disk, which has so much left of the log, and then on one with room: no entry is lost, and the
+    log is a new file."""
     what = f"the repair of {kind}"
     words = [program, *(f"{disk}/LOG" if it == "LOG" else it for it in repair())]
     write(f"{disk}/LOG", start)
     before = os.stat(f"{disk}/LOG").st_ino
     fill_up(f"{disk}/fill")
     trials.want(f"{what}: ends on a full disk", run(words, cwd="/"), (1, b"", FAILED))
-    trials.want(f"{what}: the log on a full disk", read(f"{disk}/LOG"), start)
+    trials.want(f"{what}: the log on a full disk", read(f"{disk}/LOG"), left)
     trials.want(f"{what}: what is left beside it", sorted(os.listdir(disk)), ["LOG", "LOG.recompact", "fill"])
     os.remove(f"{disk}/LOG.recompact")
     os.remove(f"{disk}/fill")
@@ -171,7 +172,7 @@ def trial(trials, program, room):
             for end in ENDS:
                 try_full(trials, program, disk, command, end)
         for kind, start in REPAIRS.items():
-            try_repair(trials, program, disk, kind, start)
+            try_repair(trials, program, disk, kind, start, start)
         try_by_files(trials, program, disk, room)
     finally:
         run(["umount", disk])
